@@ -1,0 +1,24 @@
+-- To whom a message is sent.
+use Rattle.std.specs.Prelude.{ℕ, ◌==◌, Bool, false}
+use Rattle.lock_messages.specs.declared.messages.Message.{Message}
+use Rattle.lock_messages.specs.declared.messages.Message.TheVariants.{Request, Release, Grant, Busy, Over, Done, Muddled}
+
+-- a request or a release, to the node that it names
+abbrev pub is_for_node : Message → ℕ → Bool
+is_for_node (Request n t) node = n == node
+is_for_node (Release n c a) node = n == node
+is_for_node (Grant n t) node = false
+is_for_node (Busy n t) node = false
+is_for_node (Over n c a) node = false
+is_for_node (Done n c a) node = false
+is_for_node (Muddled n c a) node = false
+
+-- any other message, to the client that it names
+abbrev pub is_for_client : Message → ℕ → Bool
+is_for_client (Request n t) client = false
+is_for_client (Release n c a) client = false
+is_for_client (Grant n t) client = t.client == client
+is_for_client (Busy n t) client = t.client == client
+is_for_client (Over n c a) client = c == client
+is_for_client (Done n c a) client = c == client
+is_for_client (Muddled n c a) client = c == client

@@ -1,0 +1,81 @@
+// Messages: everything that nodes and clients say to each other.
+
+ghost use Rattle.std.specs.Prelude.{◌≡◌};
+ghost use Rattle.lock_messages.specs.Messages.{is_for_node, is_for_client};
+
+use crate::{Attempt, ClientId, NodeId, Ticket};
+use std::fmt;
+
+/// What nodes and clients say to each other. The node that a message names is the one that it
+/// goes to or comes from; a message to or from a node of another service can't be told apart.
+///
+/// Prints as `request n1 c1 1 read a` or, with no ticket, as `release n1 c1 1`.
+#[derive(Clone, Copy, Debug, PartialEq, Eq, Hash, PartialOrd, Ord)]
+pub enum Message {
+    /// To a node: the client asks for its vote.
+    Request(NodeId, Ticket),
+    /// To a node: the client's attempts up to this one are over.
+    Release(NodeId, ClientId, Attempt),
+    /// To a client: the node gives its vote to the ticket.
+    Grant(NodeId, Ticket),
+    /// To a client: the ticket waits at the node.
+    Busy(NodeId, Ticket),
+    /// To a client: the attempt was over when its request came.
+    Over(NodeId, ClientId, Attempt),
+    /// To a client: the node took its release.
+    Done(NodeId, ClientId, Attempt),
+    /// To a client: the attempt has another mode or resource at the node.
+    Muddled(NodeId, ClientId, Attempt),
+}
+
+impl Message {
+    /// Whether this is for that node: a `Request` or a `Release` that names it.
+    pub fn is_for_node(&self, node: NodeId) -> bool
+        ensures { result ≡ is_for_node self.now node }
+    {
+        match *self {
+            Message::Request(to, _) | Message::Release(to, _, _) => to == node,
+            Message::Grant(..)
+            | Message::Busy(..)
+            | Message::Over(..)
+            | Message::Done(..)
+            | Message::Muddled(..) => false,
+        }
+    }
+
+    /// Whether this is for that client: any other message that names it.
+    pub fn is_for_client(&self, client: ClientId) -> bool
+        ensures { result ≡ is_for_client self.now client }
+    {
+        match *self {
+            Message::Grant(_, ticket) | Message::Busy(_, ticket) => ticket.client == client,
+            Message::Over(_, to, _) | Message::Done(_, to, _) | Message::Muddled(_, to, _) => {
+                to == client
+            }
+            Message::Request(..) | Message::Release(..) => false,
+        }
+    }
+}
+
+impl fmt::Display for Message {
+    ghost use Rattle.std.specs.Prelude.{Some};
+    ghost use Rattle.lock_messages.specs.Texts.{message_text};
+
+    ghost output = { λ m. Some (message_text m) };
+
+    fn fmt<W: fmt::Write>(&self, f: &mut fmt::Formatter<W>) -> fmt::Result {
+        match self {
+            Message::Request(node, ticket) => write!(f, "request {node} {ticket}"),
+            Message::Release(node, client, attempt) => {
+                write!(f, "release {node} {client} {attempt}")
+            }
+            Message::Grant(node, ticket) => write!(f, "grant {node} {ticket}"),
+            Message::Busy(node, ticket) => write!(f, "busy {node} {ticket}"),
+            Message::Over(node, client, attempt) => write!(f, "over {node} {client} {attempt}"),
+            Message::Done(node, client, attempt) => write!(f, "done {node} {client} {attempt}"),
+            Message::Muddled(node, client, attempt) => {
+                write!(f, "muddled {node} {client} {attempt}")
+            }
+        }
+    }
+}
