@@ -1,0 +1,77 @@
+-- What a node may decide on a message: a relation between the station before, the message, the
+-- station after, and the replies as a set.
+use Rattle.std.specs.Prelude.{◌≡◌, ◌≢◌, ◌↔◌, ℕ, ◌+◌, ◌-◌, ◌<◌, ◌≤◌, ◌⊎◌, List, [], ◌∷◌}
+use Rattle.lock_messages.specs.declared.tickets.Mode.{Mode}
+use Rattle.lock_messages.specs.declared.tickets.Ticket.{Ticket}
+use Rattle.lock_messages.specs.declared.messages.Message.{Message}
+use Rattle.lock_messages.specs.declared.messages.Message.TheVariants.{Request, Release, Grant, Busy, Over, Done, Muddled}
+use Rattle.lock_model.specs.declared.entries.Status.{Status}
+use Rattle.lock_model.specs.declared.entries.Status.TheVariants.{Waiting, Holding}
+use Rattle.lock_model.specs.Stations.{Station, Standing, Free, Has, Cause, Puts, Ends, Settles, Becomes, ticket_at}
+
+-- x is one of the list
+abbrev pub Among : {A : Type 0} → A → List A → Type 0
+Among x [] = ⊥
+Among x (y ∷ ys) = (x ≡ y) ⊎ Among x ys
+
+-- the replies are this one alone
+abbrev pub IsOnly : Message → List Message → Type 0
+IsOnly first replies = (r : Message) → Among r replies ↔ (r ≡ first)
+
+-- the Grant by which node n tells a ticket that settling from s to t made it a holder
+abbrev pub TellsGrant : ℕ → Station → Station → Message → Type 0
+TellsGrant n s t r = (c : ℕ) × (m : Mode) × (x : List ℕ) × Becomes s t c m x × (r ≡ Grant n (ticket_at t c m x))
+
+-- the replies are the first one, and a Grant for each ticket that settling made a holder
+abbrev pub AreReplies : ℕ → Message → Station → Station → List Message → Type 0
+AreReplies n first s t replies = (r : Message) → Among r replies ↔ ((r ≡ first) ⊎ TellsGrant n s t r)
+
+-- The attempt is one that the node hasn't met: it is above the attempt of the client's claim, or is
+-- just above the floor and the client has no claim.
+abbrev pub IsNew : Standing → ℕ → Type 0
+IsNew standing a = (standing.floor + 1 < a) ⊎ ((a ≡ standing.floor + 1) × (standing.claim ≡ Free))
+
+-- where the client of the ticket stands once the node has taken it up
+abbrev pub taken_up : Ticket → Status → Standing
+taken_up t status = record { floor = t.attempt - 1; claim = Has t.mode t.resource status }
+
+-- Node n, at s, is asked with the ticket t. The cases of a new ticket first end the attempts before
+-- it (ended), and then settle (settled).
+pub data IsAsked (n : ℕ) (s : Station) (t : Ticket) (after : Station) (replies : List Message) : Type 0 where
+  -- the attempt is ended
+  over : t.attempt ≤ (s.at t.client).floor → after ≡ s → IsOnly (Over n t.client t.attempt) replies → IsAsked n s t after replies
+  -- the attempt's claim is for another mode or resource
+  muddled : (m : Mode) (x : List ℕ) (status : Status) → t.attempt ≡ (s.at t.client).floor + 1 →
+      (s.at t.client).claim ≡ Has m x status → ((m ≢ t.mode) ⊎ (x ≢ t.resource)) → after ≡ s →
+      IsOnly (Muddled n t.client t.attempt) replies → IsAsked n s t after replies
+  -- the ticket holds already
+  held : t.attempt ≡ (s.at t.client).floor + 1 → (s.at t.client).claim ≡ Has t.mode t.resource Holding → after ≡ s →
+      IsOnly (Grant n t) replies → IsAsked n s t after replies
+  -- the ticket waits already
+  waited : t.attempt ≡ (s.at t.client).floor + 1 → (s.at t.client).claim ≡ Has t.mode t.resource Waiting → after ≡ s →
+      IsOnly (Busy n t) replies → IsAsked n s t after replies
+  -- the ticket is new, and nothing stands in its way
+  granted : IsNew (s.at t.client) t.attempt → (ended settled : Station) → Ends s t.client (t.attempt - 1) ended → Settles ended settled →
+      ¬ (Cause settled t.mode t.resource) → Puts settled t.client (taken_up t Holding) after →
+      AreReplies n (Grant n t) ended settled replies → IsAsked n s t after replies
+  -- the ticket is new, and has to wait
+  queued : IsNew (s.at t.client) t.attempt → (ended settled : Station) → Ends s t.client (t.attempt - 1) ended → Settles ended settled →
+      Cause settled t.mode t.resource → Puts settled t.client (taken_up t Waiting) after →
+      AreReplies n (Busy n t) ended settled replies → IsAsked n s t after replies
+
+-- Node n, at s, is told that the client's attempts up to a are over.
+pub record IsReleased (n : ℕ) (s : Station) (c a : ℕ) (after : Station) (replies : List Message) : Type 0 where
+  pub ended : Station
+  pub ends : Ends s c a ended
+  pub settles : Settles ended after
+  pub replies_are : AreReplies n (Done n c a) ended after replies
+
+-- a node may decide so on a message; on what is neither a request nor a release it decides nothing
+abbrev pub Decides : Station → Message → Station → List Message → Type 0
+Decides s (Request n t) after replies = IsAsked n s t after replies
+Decides s (Release n c a) after replies = IsReleased n s c a after replies
+Decides s (Grant n t) after replies = ⊥
+Decides s (Busy n t) after replies = ⊥
+Decides s (Over n c a) after replies = ⊥
+Decides s (Done n c a) after replies = ⊥
+Decides s (Muddled n c a) after replies = ⊥

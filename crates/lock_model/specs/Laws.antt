@@ -1,0 +1,55 @@
+-- What follows from the definitions, as statements; each is proved as the contract of a function of
+-- `laws`.
+use Rattle.std.specs.Prelude.{◌≡◌, ℕ, ◌≤◌, Bool, true, List}
+use Rattle.lock_messages.specs.declared.tickets.Mode.{Mode}
+use Rattle.lock_messages.specs.declared.tickets.Mode.TheVariants.{Write}
+use Rattle.lock_messages.specs.declared.messages.Message.{Message}
+use Rattle.lock_messages.specs.Messages.{is_for_node}
+use Rattle.lock_model.specs.declared.entries.Entry.{Entry}
+use Rattle.lock_model.specs.declared.problems.Problem.{Problem}
+use Rattle.lock_model.specs.Ballots.{Ballot, Crosses, IsEnough, IsShared}
+use Rattle.lock_model.specs.Stations.{Station, IsLawful, IsCaused, IsEnded}
+use Rattle.lock_model.specs.Decisions.{Decides}
+use Rattle.lock_model.specs.ExactStations.{EachOnce, IsWellFormed, meaning, IsSettling, with_holders, settled, new_holders}
+use Rattle.lock_model.specs.ExactDecisions.{decision}
+
+-- where a ballot crosses, two sets that are enough, one of them for a writer, share a node of the
+-- ballot that has votes
+abbrev pub EnoughSetsShareANode : Type 0
+EnoughSetsShareANode = (b : Ballot) (mode : Mode) (writers others : ℕ → Bool) → Crosses b →
+    IsEnough b Write writers → IsEnough b mode others → (n : ℕ) × IsShared b writers others n
+
+-- settling makes holders of a set of clients that is as it must be, and leaves the entries in which
+-- these hold
+abbrev pub SettlingIsExact : Type 0
+SettlingIsExact = (p : Problem) (entries : List Entry) → EachOnce entries →
+    IsSettling p entries (new_holders entries (settled p entries))
+    × (settled p entries ≡ with_holders (new_holders entries (settled p entries)) entries)
+
+-- no other set of clients is as it must be
+abbrev pub SettlingIsUnique : Type 0
+SettlingIsUnique = (p : Problem) (entries : List Entry) (chosen others : ℕ → Bool) → EachOnce entries →
+    IsSettling p entries chosen → IsSettling p entries others → (c : ℕ) → chosen c ≡ others c
+
+-- From a lawful and caused station, the exact decision on a message for the node is one that the
+-- node may take, and leaves the entries of a lawful and caused station.
+pub record IsAllowed (p : Problem) (entries : List Entry) (message : Message) : Type 0 where
+  pub decides : Decides (meaning p entries) message (meaning p (decision p entries message).entries) (decision p entries message).replies
+  pub well_formed : IsWellFormed (decision p entries message).entries
+  pub lawful : IsLawful (meaning p (decision p entries message).entries)
+  pub caused : IsCaused (meaning p (decision p entries message).entries)
+
+abbrev pub ExactDecisionIsAllowed : Type 0
+ExactDecisionIsAllowed = (p : Problem) (entries : List Entry) (message : Message) (n : ℕ) → is_for_node message n ≡ true →
+    IsWellFormed entries → IsLawful (meaning p entries) → IsCaused (meaning p entries) →
+    IsAllowed p entries message
+
+-- a decision never lowers a floor
+abbrev pub FloorsNeverFall : Type 0
+FloorsNeverFall = (s t : Station) (message : Message) (replies : List Message) → Decides s message t replies →
+    (c : ℕ) → (s.at c).floor ≤ (t.at c).floor
+
+-- an attempt that is ended stays ended
+abbrev pub EndedStaysEnded : Type 0
+EndedStaysEnded = (s t : Station) (message : Message) (replies : List Message) → Decides s message t replies →
+    (c a : ℕ) → IsEnded s c a → IsEnded t c a

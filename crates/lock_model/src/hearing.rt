@@ -1,0 +1,16 @@
+// What a client makes of a message.
+
+/// What a client makes of a message that it hears.
+#[derive(Clone, Copy, Debug, PartialEq, Eq, Hash, PartialOrd, Ord)]
+pub enum Heard {
+    /// A vote for the present ticket, from a node that had not given it yet.
+    Counted,
+    /// The same from a node that had.
+    Known,
+    /// The present ticket waits at the node.
+    Busy,
+    /// The node took the release of the last attempt.
+    Done,
+    /// Nothing of this.
+    NotMine,
+}
