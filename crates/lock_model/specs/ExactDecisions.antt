@@ -66,10 +66,18 @@ abbrev pub reply_of_live : ℕ → Ticket → Option Live → Option Message
 reply_of_live n t None = None
 reply_of_live n t (Some l) = if l.attempt == t.attempt then Some (live_reply n t l) else None
 
+-- the floor and the live ticket of the client that has this entry, or none
+abbrev pub floor_in : Option Entry → ℕ
+floor_in None = 0
+floor_in (Some e) = e.floor
+
+abbrev pub live_in : Option Entry → Option Live
+live_in None = None
+live_in (Some e) = e.live
+
 -- the reply to a ticket that the node has met before, by its client's entry; none for a new one
 abbrev pub reply_to_known : ℕ → Ticket → Option Entry → Option Message
-reply_to_known n t None = None
-reply_to_known n t (Some e) = if nat_le t.attempt e.floor then Some (Over n t.client t.attempt) else reply_of_live n t e.live
+reply_to_known n t found = if nat_le t.attempt (floor_in found) then Some (Over n t.client t.attempt) else reply_of_live n t (live_in found)
 
 -- the entry of a ticket that is taken up, which holds where it is admitted
 abbrev pub new_entry : Ticket → Bool → Entry
