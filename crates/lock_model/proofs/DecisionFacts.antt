@@ -1,8 +1,8 @@
 -- The exact decision is one that the node may take, and floors never fall.
-use Rattle.std.proofs.Common.{◌≡◌, ◌≢◌, ◌↔◌, ℕ, ◌+◌, ◌-◌, ◌<◌, ◌≤◌, ◌==◌, ◌⊎◌, Bool, true, false, not, ◌&&◌, cond, leb, List, [], ◌∷◌, ◌++◌, Option, Some, None, IfSome, refl, sym, ◌∙◌, ap, subst, inl, inr, arith}
+use Rattle.std.proofs.Common.{◌≡◌, ◌≢◌, ℕ, ◌+◌, ◌-◌, ◌<◌, ◌≤◌, ◌==◌, ◌⊎◌, Bool, true, false, ◌&&◌, cond, leb, List, [], ◌∷◌, Option, Some, None, IfSome, refl, sym, ◌∙◌, ap, subst, inl, inr, arith}
 use Rattle.std.specs.Str.{bytes_eq}
 use Rattle.std.specs.List.{AllByRecursion}
-use Rattle.std.proofs.lemmas.Bool.{eqb-true, eqb-false, eq-eqb, cases_Bool, cases_eq, and_parts, and_cases, leb-true, leb-false, cases_lt}
+use Rattle.std.proofs.lemmas.Bool.{eqb-true, eqb-false, cases_Bool, cases_eq, and_parts, and_cases, leb-true, leb-false, cases_lt}
 use Rattle.std.proofs.lemmas.Slice.Eq.{bytes_eq-Decides}
 use Rattle.lock_messages.specs.declared.tickets.Mode.{Mode}
 use Rattle.lock_messages.specs.declared.tickets.Mode.TheVariants.{Read, Write}
@@ -15,14 +15,12 @@ use Rattle.lock_model.specs.declared.entries.Live.{Live}
 use Rattle.lock_model.specs.declared.entries.Status.{Status}
 use Rattle.lock_model.specs.declared.entries.Status.TheVariants.{Waiting, Holding}
 use Rattle.lock_model.specs.declared.problems.Problem.{Problem}
-use Rattle.lock_model.specs.declared.problems.Problem.TheVariants.{First, Second}
-use Rattle.lock_model.specs.Stations.{Claim, Free, Has, Standing, Station, Holds, Waits, IsLawful, Cause, IsCaused, Puts, IsEnded, EndsAt, Ends, Becomes, Settles}
-use Rattle.lock_model.specs.Decisions.{Among, IsOnly, AreReplies, IsNew, taken_up, IsAsked, over, muddled, held, waited, granted, queued, IsReleased, Decides}
-use Rattle.lock_model.specs.ExactStations.{is_holding, entry_of, standing_of, claim_of, meaning, EachOnce, IsAboveFloor, IsWellFormed, admits, settled}
-use Rattle.lock_model.specs.ExactDecisions.{Outcome, ended, grants, same_mode, live_reply, reply_of_live, reply_to_known, floor_in, live_in, new_entry, moved_last, takes_up, answered, releases, decision}
+use Rattle.lock_model.specs.Stations.{Free, Has, Standing, Station, Holds, Waits, IsLawful, Cause, IsCaused, Puts, IsEnded, EndsAt, Ends, Becomes, Settles}
+use Rattle.lock_model.specs.Decisions.{AreReplies, IsNew, taken_up, IsAsked, over, muddled, held, waited, granted, queued, IsReleased, Decides}
+use Rattle.lock_model.specs.ExactStations.{is_holding, entry_of, standing_of, claim_of, meaning, IsAboveFloor, IsWellFormed, admits, settled}
+use Rattle.lock_model.specs.ExactDecisions.{Outcome, ended, grants, same_mode, live_reply, reply_of_live, reply_to_known, floor_in, live_in, new_entry, moved_last, takes_up, answered, decision}
 use Rattle.lock_model.specs.Laws.{IsAllowed}
-use Rattle.lock_model.proofs.EntryFacts.{entry_of-found}
-use Rattle.lock_model.proofs.StationFacts.{not-both, writer-causes}
+use Rattle.lock_model.proofs.StationFacts.{writer-causes}
 use Rattle.lock_model.proofs.SettlingFacts.{refused-cause, admitted-free, settled-settles}
 use Rattle.lock_model.proofs.EntryEdits.{ended-ends, ended-well, settled-well, moved-puts, moved-well}
 use Rattle.lock_model.proofs.GrantFacts.{settle-in-step, replies-are, only-reply, attempt-at}

@@ -1,17 +1,16 @@
 -- What ending attempts and moving an entry last do to the list, and to the station that it stands for.
-use Rattle.std.proofs.Common.{◌≡◌, ◌≢◌, ℕ, ◌+◌, ◌-◌, ◌<◌, ◌≤◌, ◌==◌, ◌⊎◌, Bool, true, false, not, ◌&&◌, ◌||◌, cond, ltb, List, [], ◌∷◌, ◌++◌, Option, Some, None, IfSome, map, filter, refl, sym, ◌∙◌, ap, subst, inl, inr, arith}
-use Rattle.std.specs.List.{list_any, AllByRecursion}
+use Rattle.std.proofs.Common.{◌≡◌, ◌≢◌, ℕ, ◌+◌, ◌<◌, ◌≤◌, ◌==◌, ◌⊎◌, Bool, true, false, not, ◌&&◌, ◌||◌, cond, ltb, List, [], ◌∷◌, ◌++◌, Option, Some, None, IfSome, map, filter, refl, sym, ◌∙◌, ap, subst, inl, inr, arith}
+use Rattle.std.specs.List.{AllByRecursion}
 use Rattle.std.specs.Option.{option_map}
-use Rattle.std.proofs.lemmas.Bool.{eqb-true, eq-eqb, ne_eqb, cases_Bool, ltb-true, ltb-false, cases_lt}
-use Rattle.std.proofs.lemmas.List.{append_assoc, append-nil}
+use Rattle.std.proofs.lemmas.Bool.{eqb-true, ne_eqb, ltb-true, ltb-false, cases_lt}
+use Rattle.std.proofs.lemmas.List.{append-nil}
 use Rattle.lock_model.specs.declared.entries.Entry.{Entry}
 use Rattle.lock_model.specs.declared.entries.Live.{Live}
 use Rattle.lock_model.specs.declared.problems.Problem.{Problem}
-use Rattle.lock_model.specs.Stations.{Free, Standing, Station, stranger, EndsAt, Ends, Puts}
-use Rattle.lock_model.specs.Decisions.{Among}
-use Rattle.lock_model.specs.ExactStations.{is_of, knows, entry_of, standing_of, claim_of, meaning, EachOnce, IsAboveFloor, IsWellFormed, admits, promoted, settled_live, settled_entry, settle, settled, is_waiting}
+use Rattle.lock_model.specs.Stations.{Free, stranger, EndsAt, Ends, Puts}
+use Rattle.lock_model.specs.ExactStations.{is_of, knows, entry_of, standing_of, meaning, EachOnce, IsAboveFloor, IsWellFormed, admits, promoted, settled_live, settled_entry, settle, settled, is_waiting}
 use Rattle.lock_model.specs.ExactDecisions.{ended_entry, ended, moved_last}
-use Rattle.lock_model.proofs.EntryFacts.{or-none, any-found, any-none, Middle, once-middle, once-put, entry_of-middle, entry_of-here, entry_of-other, entry_of-found, entry_of-among, knows-middle}
+use Rattle.lock_model.proofs.EntryFacts.{or-none, any-found, Middle, once-put, entry_of-here, entry_of-other, entry_of-found, entry_of-among}
 use Rattle.lock_model.proofs.SettlingSets.{settle-once}
 
 -- a change of each entry that keeps its client

@@ -1,7 +1,7 @@
 -- The Grants that settling adds are those of the tickets that it made holders.
-use Rattle.std.proofs.Common.{◌≡◌, ◌≢◌, ◌↔◌, ℕ, ◌+◌, ◌==◌, ◌⊎◌, Bool, true, false, ◌&&◌, cond, List, [], ◌∷◌, ◌++◌, Option, Some, None, IfSome, refl, sym, ◌∙◌, ap, subst, inl, inr, arith}
+use Rattle.std.proofs.Common.{◌≡◌, ◌≢◌, ℕ, ◌+◌, ◌==◌, ◌⊎◌, Bool, true, false, ◌&&◌, cond, List, [], ◌∷◌, ◌++◌, Option, Some, None, IfSome, refl, sym, ◌∙◌, ap, subst, inl, inr}
 use Rattle.std.specs.List.{AllByRecursion}
-use Rattle.std.proofs.lemmas.Bool.{eqb-true, eq-eqb, ne_eqb, cases_Bool, and_parts, and_from}
+use Rattle.std.proofs.lemmas.Bool.{eq-eqb, ne_eqb, and_parts, and_from}
 use Rattle.std.proofs.lemmas.Bool.Decides.{eqb_tells}
 use Rattle.lock_messages.specs.declared.tickets.Mode.{Mode}
 use Rattle.lock_messages.specs.declared.messages.Message.{Message}
@@ -11,11 +11,11 @@ use Rattle.lock_model.specs.declared.entries.Live.{Live}
 use Rattle.lock_model.specs.declared.entries.Status.{Status}
 use Rattle.lock_model.specs.declared.entries.Status.TheVariants.{Waiting, Holding}
 use Rattle.lock_model.specs.declared.problems.Problem.{Problem}
-use Rattle.lock_model.specs.Stations.{Claim, Has, Standing, Station, Holds, Waits, Becomes, Settles, ticket_at}
+use Rattle.lock_model.specs.Stations.{Has, Station, Holds, Waits, Becomes, Settles}
 use Rattle.lock_model.specs.Decisions.{Among, IsOnly, TellsGrant, AreReplies}
-use Rattle.lock_model.specs.ExactStations.{is_of, knows, entry_of, standing_of, claim_of, meaning, EachOnce, IsAboveFloor, is_waiting, is_holding, if_live, settled_entry, settle, settled, waits_in, holds_in}
+use Rattle.lock_model.specs.ExactStations.{is_of, knows, entry_of, standing_of, claim_of, meaning, EachOnce, IsAboveFloor, is_waiting, is_holding, if_live, settled_entry, settle, waits_in, holds_in}
 use Rattle.lock_model.specs.ExactDecisions.{grant_of, told, grants}
-use Rattle.lock_model.proofs.EntryFacts.{any-none, entry_of-found, Found, has-found, if_live-found}
+use Rattle.lock_model.proofs.EntryFacts.{any-none, entry_of-found, has-found, if_live-found}
 use Rattle.lock_model.proofs.StationFacts.{not-both}
 use Rattle.lock_model.proofs.SettlingFacts.{waiting-true, holding-true}
 

@@ -6,3 +6,5 @@ pub mod SettlingSets
 pub mod EntryEdits
 pub mod GrantFacts
 pub mod DecisionFacts
+pub mod PassFacts
+pub mod EntryTests

@@ -1,9 +1,8 @@
 -- Settling over entries is a settling of the station that they stand for.
-use Rattle.std.proofs.Common.{◌≡◌, ◌≢◌, ℕ, ◌+◌, ◌==◌, ◌⊎◌, Bool, true, false, not, ◌&&◌, ◌||◌, cond, List, [], ◌∷◌, ◌++◌, Option, Some, None, refl, sym, ◌∙◌, ap, subst, inl, inr, arith}
-use Rattle.std.specs.List.{list_any, AllByRecursion}
+use Rattle.std.proofs.Common.{◌≡◌, ℕ, ◌⊎◌, Bool, true, false, not, ◌&&◌, cond, List, [], ◌∷◌, ◌++◌, Option, Some, None, refl, sym, ◌∙◌, ap, subst, inl, inr}
 use Rattle.std.specs.Option.{option_map}
 use Rattle.std.specs.Str.{bytes_eq}
-use Rattle.std.proofs.lemmas.Bool.{eqb-true, eq-eqb, cases_Bool, and_parts, and_cases, and_from, not-true, not-false}
+use Rattle.std.proofs.lemmas.Bool.{eq-eqb, and_parts, and_cases, and_from, not-false}
 use Rattle.std.proofs.lemmas.List.{append_assoc}
 use Rattle.std.proofs.lemmas.Slice.Eq.{bytes_eq-Decides}
 use Rattle.lock_messages.specs.declared.tickets.Mode.{Mode}
@@ -14,10 +13,9 @@ use Rattle.lock_model.specs.declared.entries.Status.{Status}
 use Rattle.lock_model.specs.declared.entries.Status.TheVariants.{Waiting, Holding}
 use Rattle.lock_model.specs.declared.problems.Problem.{Problem}
 use Rattle.lock_model.specs.declared.problems.Problem.TheVariants.{First, Second}
-use Rattle.lock_model.specs.Stations.{Claim, Free, Has, Standing, Station, stranger, Holds, Waits, IsLawful, Cause, IsCaused, Puts, Settles}
-use Rattle.lock_model.specs.Decisions.{Among}
-use Rattle.lock_model.specs.ExactStations.{is_of, knows, entry_of, claim_of, standing_of, meaning, EachOnce, is_write, is_waiting, is_holding, if_live, any_live, holds, writer_holds, writer_waits, admits_reader, admits, promoted, settled_live, settled_entry, settle, settled}
-use Rattle.lock_model.proofs.EntryFacts.{or-none, Middle, once-middle, once-put, once-same, entry_of-middle, entry_of-here, entry_of-other, entry_of-found, Found, has-found, found-has, any-of, any_live-found, any_live-of, knows-middle}
+use Rattle.lock_model.specs.Stations.{Free, Has, Standing, Holds, Waits, IsLawful, Cause, Settles}
+use Rattle.lock_model.specs.ExactStations.{is_of, knows, entry_of, claim_of, standing_of, meaning, EachOnce, is_write, is_waiting, is_holding, any_live, holds, writer_holds, writer_waits, admits, promoted, settled_live, settled_entry, settle, settled}
+use Rattle.lock_model.proofs.EntryFacts.{Middle, once-middle, once-same, entry_of-here, entry_of-other, entry_of-found, has-found, found-has, any-of, any_live-found, any_live-of}
 use Rattle.lock_model.proofs.StationFacts as Station
 use Rattle.lock_model.proofs.StationFacts.{Turn, stays, Processed, none-processed, turn-processed, processed-settles}
 

@@ -1,7 +1,7 @@
 -- The one set of clients that settling makes holders.
-use Rattle.std.proofs.Common.{◌≡◌, ◌≢◌, ℕ, ◌+◌, ◌==◌, ◌⊎◌, Bool, true, false, not, ◌&&◌, cond, List, [], ◌∷◌, ◌++◌, Option, Some, None, map, refl, sym, ◌∙◌, ap, subst, inl, inr, arith}
+use Rattle.std.proofs.Common.{◌≡◌, ℕ, ◌==◌, ◌⊎◌, Bool, true, false, ◌&&◌, cond, List, [], ◌∷◌, ◌++◌, Option, Some, None, refl, sym, ◌∙◌, ap, subst, inl, inr}
 use Rattle.std.specs.Option.{option_map}
-use Rattle.std.proofs.lemmas.Bool.{eqb-true, eq-eqb, cases_Bool, and_parts}
+use Rattle.std.proofs.lemmas.Bool.{cases_Bool, and_parts}
 use Rattle.std.proofs.lemmas.List.{append_assoc, append-nil, map-append}
 use Rattle.lock_model.specs.declared.entries.Entry.{Entry}
 use Rattle.lock_model.specs.declared.entries.Live.{Live}
@@ -9,7 +9,7 @@ use Rattle.lock_model.specs.declared.entries.Status.{Status}
 use Rattle.lock_model.specs.declared.entries.Status.TheVariants.{Waiting, Holding}
 use Rattle.lock_model.specs.declared.problems.Problem.{Problem}
 use Rattle.lock_model.specs.Decisions.{Among}
-use Rattle.lock_model.specs.ExactStations.{is_of, knows, entry_of, EachOnce, is_waiting, is_holding, if_live, admits, promoted, settled_live, settled_entry, settle, settled, with_choice, with_holders, IsSettling, waits_in, holds_in, new_holders}
+use Rattle.lock_model.specs.ExactStations.{is_of, entry_of, EachOnce, is_waiting, is_holding, if_live, admits, promoted, settled_live, settled_entry, settle, settled, with_choice, with_holders, IsSettling, waits_in, holds_in, new_holders}
 use Rattle.lock_model.proofs.EntryFacts.{once-middle, once-same, entry_of-here, entry_of-found, entry_of-among}
 
 -- an entry whose ticket waits, and one whose ticket doesn't

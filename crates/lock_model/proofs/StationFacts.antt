@@ -1,13 +1,11 @@
 -- Stations that only move tickets from waiting to holding, and settling one client after the other.
-use Rattle.std.proofs.Common.{◌≡◌, ◌≢◌, ℕ, ◌==◌, ◌<◌, ◌≤◌, ◌⊎◌, Bool, true, false, ◌||◌, List, refl, sym, ◌∙◌, ap, subst, inl, inr, arith}
+use Rattle.std.proofs.Common.{◌≡◌, ◌≢◌, ℕ, ◌==◌, ◌⊎◌, Bool, true, false, ◌||◌, List, refl, sym, ◌∙◌, ap, subst, inl, inr}
 use Rattle.std.proofs.lemmas.Bool.{eqb-true, or_cases, cases_eq}
 use Rattle.lock_messages.specs.declared.tickets.Mode.{Mode}
 use Rattle.lock_messages.specs.declared.tickets.Mode.TheVariants.{Read, Write}
-use Rattle.lock_model.specs.declared.entries.Status.{Status}
 use Rattle.lock_model.specs.declared.entries.Status.TheVariants.{Waiting, Holding}
-use Rattle.lock_model.specs.declared.problems.Problem.{Problem}
-use Rattle.lock_model.specs.declared.problems.Problem.TheVariants.{First, Second}
-use Rattle.lock_model.specs.Stations.{Claim, Free, Has, Standing, Station, Holds, Waits, IsLawful, Cause, IsCaused, Puts, Becomes, Settles}
+use Rattle.lock_model.specs.declared.problems.Problem.TheVariants.{Second}
+use Rattle.lock_model.specs.Stations.{Claim, Has, Standing, Station, Holds, Waits, IsLawful, Cause, Puts, Becomes, Settles}
 
 -- t is s with some waiting tickets holding
 pub record Advances (s t : Station) : Type 0 where

@@ -1,5 +1,9 @@
 // What a node keeps of each client.
 
+ghost use Rattle.std.specs.Prelude.{◌≡◌, if◌then◌else◌};
+ghost use Rattle.lock_model.specs.ExactStations.{is_of, is_waiting, is_holding, if_live, holds, writer_holds, writer_waits};
+ghost use Rattle.lock_model.specs.ExactDecisions.{ended_entry};
+
 use lock_messages::{Attempt, ClientId, Mode, ResourceName};
 
 /// Whether a live ticket has the node's vote.
@@ -29,4 +33,121 @@ pub struct Entry {
     pub client: ClientId,
     pub floor: u64,
     pub live: Option<Live>,
+}
+
+impl Live {
+    /// Whether it waits.
+    pub(crate) fn waits(&self) -> bool
+        ensures { result ≡ is_waiting self.now.status }
+    {
+        match self.status {
+            Status::Waiting => true,
+            Status::Holding => false,
+        }
+    }
+
+    /// Whether it holds the resource.
+    fn holds(&self, resource: &ResourceName) -> bool
+        ensures { result ≡ holds resource.now self.now }
+    {
+        match self.status {
+            Status::Waiting => false,
+            Status::Holding => self.resource == *resource,
+        }
+    }
+
+    /// Whether it is a writer's that holds the resource.
+    fn writer_holds(&self, resource: &ResourceName) -> bool
+        ensures { result ≡ writer_holds resource.now self.now }
+    {
+        match self.mode {
+            Mode::Read => false,
+            Mode::Write => self.holds(resource),
+        }
+    }
+
+    /// Whether it is a writer's that waits for the resource.
+    fn writer_waits(&self, resource: &ResourceName) -> bool
+        ensures { result ≡ writer_waits resource.now self.now }
+    {
+        match self.mode {
+            Mode::Read => false,
+            Mode::Write => self.waits() && self.resource == *resource,
+        }
+    }
+}
+
+impl Entry {
+    /// Whether it is this client's.
+    pub(crate) fn is_of(&self, client: ClientId) -> bool
+        ensures { result ≡ is_of client self.now }
+    {
+        self.client == client
+    }
+
+    /// The entry with its attempts up to this one ended.
+    fn ended(self, attempt: u64) -> Entry
+        ensures { result ≡ ended_entry attempt self }
+    {
+        if self.floor < attempt {
+            Entry {
+                client: self.client,
+                floor: attempt,
+                live: None,
+            }
+        } else {
+            self
+        }
+    }
+
+    /// The entry with these attempts ended, if it is this client's.
+    pub(crate) fn ended_for(&self, client: ClientId, attempt: u64) -> Entry
+        ensures { result ≡ (if is_of client self.now then ended_entry attempt self.now else self.now) }
+    {
+        if self.is_of(client) {
+            self.ended(attempt)
+        } else {
+            *self
+        }
+    }
+
+    /// Whether its ticket waits.
+    pub(crate) fn waits(&self) -> bool
+        ensures { result ≡ if_live (λ l. is_waiting l.status) self.now.live }
+    {
+        match self.live {
+            None => false,
+            Some(live) => live.waits(),
+        }
+    }
+
+    /// Whether its ticket holds the resource.
+    pub(crate) fn holds(&self, resource: &ResourceName) -> bool
+        ensures { result ≡ if_live (holds resource.now) self.now.live }
+    {
+        match self.live {
+            None => false,
+            Some(live) => live.holds(resource),
+        }
+    }
+
+    /// Whether its ticket is a writer's that holds the resource.
+    pub(crate) fn writer_holds(&self, resource: &ResourceName) -> bool
+        ensures { result ≡ if_live (writer_holds resource.now) self.now.live }
+    {
+        match self.live {
+            None => false,
+            Some(live) => live.writer_holds(resource),
+        }
+    }
+
+    /// Whether its ticket is a writer's that waits for the resource.
+    pub(crate) fn writer_waits(&self, resource: &ResourceName) -> bool
+        ensures { result ≡ if_live (writer_waits resource.now) self.now.live }
+    {
+        match self.live {
+            None => false,
+            Some(live) => live.writer_waits(resource),
+        }
+    }
 }

@@ -7,3 +7,22 @@ ghost use Rattle.lock_model.specs.Laws.{EnoughSetsShareANode, SettlingIsExact, S
 pub fn enough_sets_share_a_node()
     ensures { EnoughSetsShareANode }
 {}
+
+/// Settling makes holders of the one set of clients in which each waiting ticket stands exactly
+/// where it is admitted.
+pub fn one_settling()
+    ensures exact { SettlingIsExact }
+    ensures unique { SettlingIsUnique }
+{}
+
+/// From a lawful and caused station, under both problems, the exact decision is one that the node
+/// may take, and the station after it is lawful and caused.
+pub fn decision_is_allowed()
+    ensures { ExactDecisionIsAllowed }
+{}
+
+/// A decision lowers no floor, so an attempt that is ended stays ended.
+pub fn ended_stays_ended()
+    ensures floors { FloorsNeverFall }
+    ensures ended { EndedStaysEnded }
+{}

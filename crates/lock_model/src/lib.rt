@@ -10,11 +10,14 @@
 //! `decide` answers exactly this, and the laws. It stands on `lock_messages`.
 #![tactic(auto)]
 
+mod decision;
 mod entries;
 mod hearing;
 pub mod laws;
 mod problems;
+mod settling;
 
+pub use decision::{Decision, decide};
 pub use entries::{Entry, Live, Status};
 pub use hearing::Heard;
 pub use problems::Problem;

@@ -1,0 +1,89 @@
+-- What == says of entries.
+use Rattle.std.proofs.Common.{◌≡◌, ◌≢◌, ◌↔◌, ◌==◌, Bool, true, false, not, ◌&&◌, List, Option, Some, None, IsTrue, refl, sym, ◌∙◌, ap, Decides}
+use Rattle.std.specs.Option.{option_eq}
+use Rattle.std.specs.Str.{bytes_eq}
+use Rattle.std.specs.Cmp.Lexicographic.{pointwise}
+use Rattle.std.proofs.lemmas.Bool.{and_parts, and_from}
+use Rattle.std.proofs.lemmas.Bool.Decides.{Decides-eqb}
+use Rattle.std.proofs.lemmas.Slice.Eq.{bytes_eq-Decides, slice_eq-Decides}
+use denote.Enum.Bare.{sameb}
+use Rattle.lock_messages.specs.contracts.tickets.Mode.{the_type as mode_type}
+use Rattle.lock_model.specs.contracts.entries.Status.{the_type as status_type}
+use Rattle.lock_messages.specs.declared.tickets.Mode.{Mode}
+use Rattle.lock_messages.specs.declared.tickets.Mode.TheVariants.{Read, Write}
+use Rattle.lock_model.specs.declared.entries.Entry.{Entry}
+use Rattle.lock_model.specs.declared.entries.Live.{Live}
+use Rattle.lock_model.specs.declared.entries.Status.{Status}
+use Rattle.lock_model.specs.declared.entries.Status.TheVariants.{Waiting, Holding}
+
+mode-decides : (a b : Mode) → Decides (sameb mode_type a b) (a ≡ b)
+mode-decides Read Read = (λ h. refl, λ h. refl)
+mode-decides Read Write = (λ h. cc, λ h. cc)
+mode-decides Write Read = (λ h. cc, λ h. cc)
+mode-decides Write Write = (λ h. refl, λ h. refl)
+
+status-decides : (a b : Status) → Decides (sameb status_type a b) (a ≡ b)
+status-decides Waiting Waiting = (λ h. refl, λ h. refl)
+status-decides Waiting Holding = (λ h. cc, λ h. cc)
+status-decides Holding Waiting = (λ h. cc, λ h. cc)
+status-decides Holding Holding = (λ h. refl, λ h. refl)
+
+abbrev pub live_test : Live → Live → Bool
+live_test x y = (x.attempt == y.attempt) && (sameb mode_type x.mode y.mode && (bytes_eq x.resource y.resource && sameb status_type x.status y.status))
+
+live-decides : (x y : Live) → Decides (live_test x y) (x ≡ y)
+live-decides x y = (to, from)
+  where
+    to : live_test x y ≡ true → x ≡ y
+    to h =
+        let p = and_parts (x.attempt == y.attempt) (sameb mode_type x.mode y.mode && (bytes_eq x.resource y.resource && sameb status_type x.status y.status)) h in
+        let q = and_parts (sameb mode_type x.mode y.mode) (bytes_eq x.resource y.resource && sameb status_type x.status y.status) p.1 in
+        let r = and_parts (bytes_eq x.resource y.resource) (sameb status_type x.status y.status) q.1 in
+        ap (λ a. record { attempt = a; mode = x.mode; resource = x.resource; status = x.status }) ((Decides-eqb x.attempt y.attempt).0 p.0)
+        ∙ ap (λ m. record { attempt = y.attempt; mode = m; resource = x.resource; status = x.status }) ((mode-decides x.mode y.mode).0 q.0)
+        ∙ ap (λ n. record { attempt = y.attempt; mode = y.mode; resource = n; status = x.status }) ((bytes_eq-Decides x.resource y.resource).0 r.0)
+        ∙ ap (λ s. record { attempt = y.attempt; mode = y.mode; resource = y.resource; status = s }) ((status-decides x.status y.status).0 r.1)
+
+    from : x ≡ y → live_test x y ≡ true
+    from e =
+        and_from (x.attempt == y.attempt) (sameb mode_type x.mode y.mode && (bytes_eq x.resource y.resource && sameb status_type x.status y.status))
+        ((Decides-eqb x.attempt y.attempt).1 (ap (λ (l : Live). l.attempt) e))
+        (and_from (sameb mode_type x.mode y.mode) (bytes_eq x.resource y.resource && sameb status_type x.status y.status) ((mode-decides x.mode y.mode).1 (ap (λ (l : Live). l.mode) e))
+        (and_from (bytes_eq x.resource y.resource) (sameb status_type x.status y.status) ((bytes_eq-Decides x.resource y.resource).1 (ap (λ (l : Live). l.resource) e)) ((status-decides x.status y.status).1 (ap (λ (l : Live). l.status) e))))
+
+option-decides : (a b : Option Live) → Decides (option_eq live_test a b) (a ≡ b)
+option-decides None None = (λ h. refl, λ h. refl)
+option-decides None (Some y) = (λ h. cc, λ h. cc)
+option-decides (Some x) None = (λ h. cc, λ h. cc)
+option-decides (Some x) (Some y) = (λ h. ap Some ((live-decides x y).0 h), λ h. (live-decides x y).1 cc)
+
+-- the test that == makes of two entries
+abbrev pub entry_test : Entry → Entry → Bool
+entry_test a b = (a.client == b.client) && ((a.floor == b.floor) && option_eq live_test a.live b.live)
+
+pub entry-decides : (a b : Entry) → Decides (entry_test a b) (a ≡ b)
+entry-decides a b = (to, from)
+  where
+    to : entry_test a b ≡ true → a ≡ b
+    to h =
+        let p = and_parts (a.client == b.client) ((a.floor == b.floor) && option_eq live_test a.live b.live) h in
+        let q = and_parts (a.floor == b.floor) (option_eq live_test a.live b.live) p.1 in
+        ap (λ c. record { client = c; floor = a.floor; live = a.live }) ((Decides-eqb a.client b.client).0 p.0)
+        ∙ ap (λ f. record { client = b.client; floor = f; live = a.live }) ((Decides-eqb a.floor b.floor).0 q.0)
+        ∙ ap (λ l. record { client = b.client; floor = b.floor; live = l }) ((option-decides a.live b.live).0 q.1)
+
+    from : a ≡ b → entry_test a b ≡ true
+    from e =
+        and_from (a.client == b.client) ((a.floor == b.floor) && option_eq live_test a.live b.live) ((Decides-eqb a.client b.client).1 (ap (λ (k : Entry). k.client) e))
+        (and_from (a.floor == b.floor) (option_eq live_test a.live b.live) ((Decides-eqb a.floor b.floor).1 (ap (λ (k : Entry). k.floor) e)) ((option-decides a.live b.live).1 (ap (λ (k : Entry). k.live) e)))
+
+-- what == and != say of two lists of entries
+pub differ-iff : (before after : List Entry) (r : Bool) → r ≡ not (pointwise entry_test before after) → IsTrue r ↔ (after ≢ before)
+differ-iff before after r h = go (pointwise entry_test before after) refl
+  where
+    d : Decides (pointwise entry_test before after) (before ≡ after)
+    d = slice_eq-Decides entry-decides before after (pointwise entry_test before after) refl
+
+    go : (b : Bool) → pointwise entry_test before after ≡ b → IsTrue r ↔ (after ≢ before)
+    go true e = let no_change : r ≡ false = h ∙ ap not e in (λ t. absurd (let z : false ≡ true = sym no_change ∙ t in cc), λ apart. absurd (apart (sym (d.0 e))))
+    go false e = (λ t same. let z : false ≡ true = sym e ∙ d.1 (sym same) in cc, λ apart. h ∙ ap not e)
