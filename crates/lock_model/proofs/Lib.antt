@@ -8,3 +8,4 @@ pub mod GrantFacts
 pub mod DecisionFacts
 pub mod PassFacts
 pub mod EntryTests
+pub mod HearingFacts

@@ -1,15 +1,19 @@
 -- What follows from the definitions, as statements; each is proved as the contract of a function of
 -- `laws`.
-use Rattle.std.specs.Prelude.{◌≡◌, ℕ, ◌≤◌, Bool, true, List}
+use Rattle.std.specs.Prelude.{◌≡◌, ◌↔◌, ℕ, ◌≤◌, Bool, true, List, length}
 use Rattle.lock_messages.specs.declared.tickets.Mode.{Mode}
 use Rattle.lock_messages.specs.declared.tickets.Mode.TheVariants.{Write}
+use Rattle.lock_messages.specs.declared.tickets.Ticket.{Ticket}
 use Rattle.lock_messages.specs.declared.messages.Message.{Message}
 use Rattle.lock_messages.specs.Messages.{is_for_node}
 use Rattle.lock_model.specs.declared.entries.Entry.{Entry}
+use Rattle.lock_model.specs.declared.hearing.Heard.{Heard}
 use Rattle.lock_model.specs.declared.problems.Problem.{Problem}
 use Rattle.lock_model.specs.Ballots.{Ballot, Crosses, IsEnough, IsShared}
 use Rattle.lock_model.specs.Stations.{Station, IsLawful, IsCaused, IsEnded}
 use Rattle.lock_model.specs.Decisions.{Decides}
+use Rattle.lock_model.specs.Hearing.{HearsOfTicket, HearsAtRest}
+use Rattle.lock_model.specs.ExactHearing.{heard_of_ticket, heard_at_rest}
 use Rattle.lock_model.specs.ExactStations.{EachOnce, IsWellFormed, meaning, IsSettling, with_holders, settled, new_holders}
 use Rattle.lock_model.specs.ExactDecisions.{decision}
 
@@ -53,3 +57,12 @@ FloorsNeverFall = (s t : Station) (message : Message) (replies : List Message) �
 abbrev pub EndedStaysEnded : Type 0
 EndedStaysEnded = (s t : Station) (message : Message) (replies : List Message) → Decides s message t replies →
     (c a : ℕ) → IsEnded s c a → IsEnded t c a
+
+-- what a client hears is the one answer that the relation allows
+abbrev pub HearingOfTicketIsExact : Type 0
+HearingOfTicketIsExact = (b : Ballot) (t : Ticket) (granted : ℕ → Bool) (message : Message) (heard : Heard) →
+    HearsOfTicket b t granted message heard ↔ (heard ≡ heard_of_ticket (length b.votes) t granted message)
+
+abbrev pub HearingAtRestIsExact : Type 0
+HearingAtRestIsExact = (b : Ballot) (client attempt : ℕ) (message : Message) (heard : Heard) →
+    HearsAtRest b client attempt message heard ↔ (heard ≡ heard_at_rest (length b.votes) client attempt message)

@@ -4,4 +4,6 @@ pub mod Decisions
 pub mod Hearing
 pub mod ExactStations
 pub mod ExactDecisions
+pub mod ExactHearing
 pub mod Laws
+pub mod Examples

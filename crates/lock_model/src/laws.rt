@@ -1,6 +1,7 @@
 //! Laws of the definitions. Each function computes nothing: its contract is a theorem.
 
-ghost use Rattle.lock_model.specs.Laws.{EnoughSetsShareANode, SettlingIsExact, SettlingIsUnique, ExactDecisionIsAllowed, FloorsNeverFall, EndedStaysEnded};
+ghost use Rattle.lock_model.specs.Examples.{FirstReader, RepeatedRequest, WriterBehindReader, ReleasedReader, LateRequest, ReleasedStranger, ReaderPasses, ReaderWaits, ReleaseSettles, MuddledRequest, NextAttempt, WeightedVotes};
+ghost use Rattle.lock_model.specs.Laws.{EnoughSetsShareANode, SettlingIsExact, SettlingIsUnique, ExactDecisionIsAllowed, FloorsNeverFall, EndedStaysEnded, HearingOfTicketIsExact, HearingAtRestIsExact};
 
 /// Where a ballot crosses, two sets of nodes that are enough, one of them for a writer, share a
 /// node of the ballot that has votes.
@@ -25,4 +26,27 @@ pub fn decision_is_allowed()
 pub fn ended_stays_ended()
     ensures floors { FloorsNeverFall }
     ensures ended { EndedStaysEnded }
+{}
+
+/// What a client hears is the one answer that the relation allows, while it has a ticket and while
+/// it rests.
+pub fn hearing_is_exact()
+    ensures of_ticket { HearingOfTicketIsExact }
+    ensures at_rest { HearingAtRestIsExact }
+{}
+
+/// What the definitions give on small examples, each under the name of what it shows.
+pub fn worked_examples()
+    ensures first_reader { FirstReader }
+    ensures repeated_request { RepeatedRequest }
+    ensures writer_behind_reader { WriterBehindReader }
+    ensures released_reader { ReleasedReader }
+    ensures late_request { LateRequest }
+    ensures released_stranger { ReleasedStranger }
+    ensures reader_passes { ReaderPasses }
+    ensures reader_waits { ReaderWaits }
+    ensures release_settles { ReleaseSettles }
+    ensures muddled_request { MuddledRequest }
+    ensures next_attempt { NextAttempt }
+    ensures weighted_votes { WeightedVotes }
 {}

@@ -21,3 +21,6 @@ pub use decision::{Decision, decide};
 pub use entries::{Entry, Live, Status};
 pub use hearing::Heard;
 pub use problems::Problem;
+
+#[cfg(test)]
+mod tests;

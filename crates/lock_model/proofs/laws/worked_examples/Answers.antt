@@ -1,0 +1,19 @@
+use Rattle.std.proofs.Common.{refl}
+use Rattle.lock_model.proofs.laws.worked_examples.Goals as goal
+
+-- each by computing
+pub returns : goal.returns
+returns c = record {
+  first_reader = refl;
+  repeated_request = refl;
+  writer_behind_reader = refl;
+  released_reader = refl;
+  late_request = refl;
+  released_stranger = refl;
+  reader_passes = refl;
+  reader_waits = refl;
+  release_settles = refl;
+  muddled_request = refl;
+  next_attempt = refl;
+  weighted_votes = (refl, refl, refl, refl);
+}

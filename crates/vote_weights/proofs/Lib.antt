@@ -1,0 +1,2 @@
+pub mod SetFacts
+pub mod VoteFacts
