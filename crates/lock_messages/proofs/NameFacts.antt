@@ -1,6 +1,7 @@
 -- A name in its room, and as text.
-use Rattle.std.proofs.Common.{◌≡◌, ℕ, ◌-◌, ◌<◌, Bool, true, false, ◌&&◌, List, [], ◌∷◌, length, take, replicate, refl, arith}
-use Rattle.std.proofs.Math.Seq.{take-append_seam}
+use Rattle.std.proofs.Common.{◌≡◌, ℕ, suc, ◌+◌, ◌-◌, ◌<◌, ◌≤◌, Bool, true, false, ◌&&◌, List, [], ◌∷◌, ◌++◌, length, get_or, take, set, replicate, refl, subst, append_assoc, arith}
+use Rattle.std.proofs.Math.Seq.{take-append_seam, set-append_seam}
+use Rattle.std.proofs.lemmas.List.{length-append, length-take, take_more}
 use Rattle.std.proofs.lemmas.Bool.Decides.{nat_tests}
 use Rattle.std.proofs.lemmas.Str.Ascii.{IsAscii-cons, IsAscii-nil}
 use Rattle.std.proofs.lemmas.Str.{IsUtf8-from_ascii}
@@ -18,6 +19,19 @@ HoldsName-padded xs h =
     record { named = rw e h; within = rw e refl; rest = rw e refl }
 
 pub ruleset name_facts = (take-padded, HoldsName-padded)
+
+-- one more byte of the name stands where the zeros began
+set_first_zero : (front : List ℕ) (b : ℕ) → length front < MAX_NAME_LEN → set (padded front) (length front) b ≡ padded (front ++ b ∷ [])
+set_first_zero front b h =
+    let zeros : MAX_NAME_LEN - length front ≡ suc (MAX_NAME_LEN - (length front + 1)) = omega arith in
+    let longer : length (front ++ b ∷ []) ≡ length front + 1 = omega (arith, length-append front (b ∷ [])) in
+    rw (zeros, longer, append_assoc) (set-append_seam front 0 (replicate (MAX_NAME_LEN - (length front + 1)) 0) b)
+
+pub set-padded : (xs : List ℕ) (i : ℕ) → i < length xs → length xs ≤ MAX_NAME_LEN → set (padded (take i xs)) i (get_or xs i 0) ≡ padded (take (i + 1) xs)
+set-padded xs i h fits =
+    let len : length (take i xs) ≡ i = omega (arith, length-take i xs) in
+    let P : ℕ → Type 0 = λ n. set (padded (take i xs)) n (get_or xs i 0) ≡ padded (take i xs ++ get_or xs i 0 ∷ []) in
+    rw (take_more xs i 0 h) (subst P len (set_first_zero (take i xs) (get_or xs i 0) (omega (arith, len))))
 
 name_byte_ascii : (b : ℕ) → is_name_byte b ≡ true → b < 128
 name_byte_ascii b h = grind (arith, nat_tests)

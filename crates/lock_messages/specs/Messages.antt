@@ -1,7 +1,26 @@
--- To whom a message is sent.
+-- Which messages there are, and to whom one is sent.
 use Rattle.std.specs.Prelude.{ℕ, ◌==◌, Bool, false}
+use Rattle.lock_messages.specs.declared.tickets.Ticket.{Ticket}
 use Rattle.lock_messages.specs.declared.messages.Message.{Message}
 use Rattle.lock_messages.specs.declared.messages.Message.TheVariants.{Request, Release, Grant, Busy, Over, Done, Muddled}
+use Rattle.lock_messages.specs.Ids.{IsNode, IsClient, IsAttempt}
+use Rattle.lock_messages.specs.Names.{IsName}
+
+-- each part of the ticket is in its range
+pub record IsTicket (t : Ticket) : Type 0 where
+  pub client : IsClient t.client
+  pub attempt : IsAttempt t.attempt
+  pub resource : IsName t.resource
+
+-- each part of the message is in its range
+abbrev pub IsMessage : Message → Type 0
+IsMessage (Request n t) = IsNode n × IsTicket t
+IsMessage (Release n c a) = IsNode n × IsClient c × IsAttempt a
+IsMessage (Grant n t) = IsNode n × IsTicket t
+IsMessage (Busy n t) = IsNode n × IsTicket t
+IsMessage (Over n c a) = IsNode n × IsClient c × IsAttempt a
+IsMessage (Done n c a) = IsNode n × IsClient c × IsAttempt a
+IsMessage (Muddled n c a) = IsNode n × IsClient c × IsAttempt a
 
 -- a request or a release, to the node that it names
 abbrev pub is_for_node : Message → ℕ → Bool

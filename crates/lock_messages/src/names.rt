@@ -41,28 +41,26 @@ fn is_name_byte(byte: u8) -> bool
     matches!(byte, b'a'..=b'z' | b'0'..=b'9' | b'-')
 }
 
-/// The bytes, and zeros up to the greatest length.
-fn padded(bytes: &[u8]) -> [u8; MAX_NAME_LEN]
+/// The bytes, and zeros up to the greatest length; `None` where a name may not have one of them.
+fn room_of(bytes: &[u8]) -> Option<[u8; MAX_NAME_LEN]>
     requires { length bytes.now ≤ MAX_NAME_LEN }
-    ensures { result ≡ padded bytes.now }
+    ensures { SomeIff result (IsTrue (list_all is_name_byte bytes.now)) (padded bytes.now) }
 {
     let mut room = [0; MAX_NAME_LEN];
-    room[..bytes.len()].copy_from_slice(bytes);
-    room
+    for (i, byte) in bytes.iter().enumerate() {
+        if !is_name_byte(*byte) {
+            return None;
+        }
+        room[i] = *byte;
+    }
+    Some(room)
 }
 
 /// Whether a name may have each of these bytes.
-fn has_name_bytes(bytes: &[u8]) -> bool
+pub(crate) fn has_name_bytes(bytes: &[u8]) -> bool
     ensures { result ≡ list_all is_name_byte bytes.now }
 {
     bytes.iter().all(|b| is_name_byte(*b))
-}
-
-/// Whether the bytes name a resource.
-fn is_name(bytes: &[u8]) -> bool
-    ensures { IsTrue result ↔ IsName bytes.now }
-{
-    !bytes.is_empty() && bytes.len() <= MAX_NAME_LEN && has_name_bytes(bytes)
 }
 
 impl ResourceName {
@@ -71,11 +69,11 @@ impl ResourceName {
     pub fn of(bytes: &[u8]) -> Option<ResourceName>
         ensures { SomeIff result (IsName bytes.now) bytes.now }
     {
-        if !is_name(bytes) {
+        let size = bytes.len();
+        if size == 0 || size > MAX_NAME_LEN {
             return None;
         }
-        let room = padded(bytes);
-        let size = bytes.len();
+        let room = room_of(bytes)?;
         Some(ResourceName { room, size })
     }
 

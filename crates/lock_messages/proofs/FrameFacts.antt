@@ -1,0 +1,167 @@
+-- What is read is spelled so, and what is spelled so is read.
+use Rattle.std.proofs.Common.{◌≡◌, ℕ, ◌^◌, cond, eqb, List, [], ◌∷◌, ◌++◌, length, Result, Ok, Err, refl, sym, ap, subst, ◌∙◌, append_assoc, arith}
+use Rattle.std.specs.Prelude.{IfOk}
+use Rattle.std.specs.Int.{w32, w64, to_be_bytes}
+use Rattle.std.proofs.lemmas.Bool.{eqb-true}
+use Rattle.std.proofs.lemmas.List.{append-nil, nil_from_length}
+use Rattle.lock_messages.specs.declared.ids.TheConstants.{MAX_NODES, MAX_CLIENTS, MAX_ATTEMPT}
+use Rattle.lock_messages.specs.declared.kinds.TheConstants.{VERSION}
+use Rattle.lock_messages.specs.declared.kinds.Kind.{Kind}
+use Rattle.lock_messages.specs.declared.kinds.Kind.TheVariants as kinds
+use Rattle.lock_messages.specs.declared.faults.FrameFault.{FrameFault}
+use Rattle.lock_messages.specs.declared.faults.FrameFault.TheVariants as faults
+use Rattle.lock_messages.specs.declared.tickets.Ticket.{Ticket}
+use Rattle.lock_messages.specs.declared.messages.Message.{Message}
+use Rattle.lock_messages.specs.declared.messages.Message.TheVariants.{Request, Release, Grant, Busy, Over, Done, Muddled}
+use Rattle.lock_messages.specs.Ids.{IsNode, IsClient, IsAttempt}
+use Rattle.lock_messages.specs.Messages.{IsTicket, IsMessage}
+use Rattle.lock_messages.specs.Frames.{kind_number, head, wish, with_ticket, frame_of}
+use Rattle.lock_messages.specs.Reading.{◌>>=◌, version_at, kind_at, node_at, client_at, attempt_at, ticket_at, body_at, message_at, reading}
+use Rattle.lock_messages.specs.Laws.{OneSpelling}
+use Rattle.lock_messages.proofs.FieldFacts.{IsBytes, bind_ok, bind_again, passed, ok_is, Takes, Takes-then, byte_takes, byte_again, wide32, wide64, number_takes, number_again, kind_takes, kind_again, ticket_takes, ticket_again}
+
+-- the reading from each field on
+abbrev at_attempt : Kind → ℕ → ℕ → List ℕ → Result (Message × List ℕ) FrameFault
+at_attempt k n c bytes = attempt_at bytes >>= λ attempt. body_at k n c attempt.0 attempt.1
+
+abbrev at_client : Kind → ℕ → List ℕ → Result (Message × List ℕ) FrameFault
+at_client k n bytes = client_at bytes >>= λ client. at_attempt k n client.0 client.1
+
+abbrev at_node : Kind → List ℕ → Result (Message × List ℕ) FrameFault
+at_node k bytes = node_at bytes >>= λ node. at_client k node.0 node.1
+
+abbrev at_kind : List ℕ → Result (Message × List ℕ) FrameFault
+at_kind bytes = kind_at bytes >>= λ kind. at_node kind.0 kind.1
+
+-- ---- what is read is spelled so
+
+-- a message whose frame is this head and what was taken from the bytes
+record TakesBody (k : Kind) (n c a : ℕ) (bytes : List ℕ) (m : Message) (rest : List ℕ) : Type 0 where
+  pub text : List ℕ
+  pub taken : Takes bytes text rest
+  pub spelled : head k n c a ++ text ≡ frame_of m
+  pub fits : IsMessage m
+
+abbrev Carries : Kind → (ℕ → Ticket → Message) → Type 0
+Carries k message = (n : ℕ) (t : Ticket) → IsNode n → IsTicket t → IsMessage (message n t) × (with_ticket k n t ≡ frame_of (message n t))
+
+ticket_body : (k : Kind) (message : ℕ → Ticket → Message) (carries : Carries k message) (n c a : ℕ) (bytes : List ℕ) (x : Message × List ℕ) → IsBytes bytes → IsNode n → IsClient c → IsAttempt a
+    → (ticket_at c a bytes >>= λ t. Ok (message n t.0, t.1)) ≡ Ok x → TakesBody k n c a bytes x.0 x.1
+ticket_body k message carries n c a bytes x fits hn hc ha e =
+    let b = bind_ok (ticket_at c a bytes) (λ t. Ok (message n t.0, t.1)) x e in
+    let t = ticket_takes c a bytes b.0 fits b.1 in
+    let in_range : IsTicket b.0.0 = record { client = rw t.client hc; attempt = rw t.attempt ha; resource = t.named } in
+    let law = carries n b.0.0 hn in_range in
+    let same : head k n c a ++ wish b.0.0.mode b.0.0.resource ≡ with_ticket k n b.0.0 = rw (t.client, t.attempt) refl in
+    let made : Message × List ℕ = (message n b.0.0, b.0.1) in
+    subst (λ (y : Message × List ℕ). TakesBody k n c a bytes y.0 y.1) (ok_is made x b.2)
+    (record { text = wish b.0.0.mode b.0.0.resource; taken = t.taken; spelled = same ∙ law.1; fits = law.0 })
+
+plain_body : (k : Kind) (m : Message) (n c a : ℕ) (bytes : List ℕ) (x : Message × List ℕ) → IsBytes bytes → IsMessage m → head k n c a ≡ frame_of m
+    → (m, bytes) ≡ x → TakesBody k n c a bytes x.0 x.1
+plain_body k m n c a bytes x fits in_range spelled e =
+    subst (λ (y : Message × List ℕ). TakesBody k n c a bytes y.0 y.1) e
+    (record { text = []; taken = record { parts = refl; rest_fits = fits }; spelled = append-nil (head k n c a) ∙ spelled; fits = in_range })
+
+body_takes : (k : Kind) (n c a : ℕ) (bytes : List ℕ) (x : Message × List ℕ) → IsBytes bytes → IsNode n → IsClient c → IsAttempt a
+    → body_at k n c a bytes ≡ Ok x → TakesBody k n c a bytes x.0 x.1
+body_takes kinds.Request n c a bytes x fits hn hc ha e = ticket_body kinds.Request Request (λ n t p q. ((p, q), refl)) n c a bytes x fits hn hc ha e
+body_takes kinds.Release n c a bytes x fits hn hc ha e = plain_body kinds.Release (Release n c a) n c a bytes x fits (hn, hc, ha) refl (ok_is (Release n c a, bytes) x e)
+body_takes kinds.Grant n c a bytes x fits hn hc ha e = ticket_body kinds.Grant Grant (λ n t p q. ((p, q), refl)) n c a bytes x fits hn hc ha e
+body_takes kinds.Busy n c a bytes x fits hn hc ha e = ticket_body kinds.Busy Busy (λ n t p q. ((p, q), refl)) n c a bytes x fits hn hc ha e
+body_takes kinds.Over n c a bytes x fits hn hc ha e = plain_body kinds.Over (Over n c a) n c a bytes x fits (hn, hc, ha) refl (ok_is (Over n c a, bytes) x e)
+body_takes kinds.Done n c a bytes x fits hn hc ha e = plain_body kinds.Done (Done n c a) n c a bytes x fits (hn, hc, ha) refl (ok_is (Done n c a, bytes) x e)
+body_takes kinds.Muddled n c a bytes x fits hn hc ha e = plain_body kinds.Muddled (Muddled n c a) n c a bytes x fits (hn, hc, ha) refl (ok_is (Muddled n c a, bytes) x e)
+
+version_takes : (bytes : List ℕ) (x : ℕ × List ℕ) → IsBytes bytes → version_at bytes ≡ Ok x → Takes bytes (VERSION ∷ []) x.1
+version_takes bytes x fits e =
+    let t = byte_takes VERSION VERSION faults.Version bytes x fits e in
+    let is : x.0 ≡ VERSION = omega (arith, t.1, t.2) in
+    subst (λ (b : ℕ). Takes bytes (b ∷ []) x.1) is t.0
+
+-- the message that was taken, in its range
+record TakesMessage (bytes : List ℕ) (m : Message) (rest : List ℕ) : Type 0 where
+  pub taken : Takes bytes (frame_of m) rest
+  pub fits : IsMessage m
+
+fields_take : (bytes r1 r2 r3 r4 r5 rest : List ℕ) (k : Kind) (n c a : ℕ) (m : Message)
+    → Takes bytes (VERSION ∷ []) r1 → Takes r1 (kind_number k ∷ []) r2 → Takes r2 (n ∷ []) r3 → Takes r3 (to_be_bytes w32 c) r4 → Takes r4 (to_be_bytes w64 a) r5
+    → TakesBody k n c a r5 m rest → TakesMessage bytes m rest
+fields_take bytes r1 r2 r3 r4 r5 rest k n c a m version kind node client attempt body =
+    let from_attempt = Takes-then r4 (to_be_bytes w64 a) r5 body.text rest attempt body.taken in
+    let from_client = Takes-then r3 (to_be_bytes w32 c) r4 (to_be_bytes w64 a ++ body.text) rest client from_attempt in
+    let from_node = Takes-then r2 (n ∷ []) r3 (to_be_bytes w32 c ++ (to_be_bytes w64 a ++ body.text)) rest node from_client in
+    let from_kind = Takes-then r1 (kind_number k ∷ []) r2 (n ∷ (to_be_bytes w32 c ++ (to_be_bytes w64 a ++ body.text))) rest kind from_node in
+    let whole : Takes bytes (head k n c a ++ body.text) rest = Takes-then bytes (VERSION ∷ []) r1 (kind_number k ∷ n ∷ (to_be_bytes w32 c ++ (to_be_bytes w64 a ++ body.text))) rest version from_kind in
+    record { taken = subst (λ (t : List ℕ). Takes bytes t rest) body.spelled whole; fits = body.fits }
+
+message_takes : (bytes : List ℕ) (x : Message × List ℕ) → IsBytes bytes → message_at bytes ≡ Ok x → TakesMessage bytes x.0 x.1
+unfolding message_at
+message_takes bytes x fits e =
+    let v = bind_ok (version_at bytes) (λ version. at_kind version.1) x e in
+    let k = bind_ok (kind_at v.0.1) (λ kind. at_node kind.0 kind.1) x v.2 in
+    let n = bind_ok (node_at k.0.1) (λ node. at_client k.0.0 node.0 node.1) x k.2 in
+    let c = bind_ok (client_at n.0.1) (λ client. at_attempt k.0.0 n.0.0 client.0 client.1) x n.2 in
+    let a = bind_ok (attempt_at c.0.1) (λ attempt. body_at k.0.0 n.0.0 c.0.0 attempt.0 attempt.1) x c.2 in
+    let tv = version_takes bytes v.0 fits v.1 in
+    let tk = kind_takes v.0.1 k.0 tv.rest_fits k.1 in
+    let tn = byte_takes 1 MAX_NODES faults.Node k.0.1 n.0 tk.rest_fits n.1 in
+    let tc = number_takes w32 (2 ^ 32) wide32 MAX_CLIENTS faults.Client n.0.1 c.0 tn.0.rest_fits c.1 in
+    let ta = number_takes w64 (2 ^ 64) wide64 MAX_ATTEMPT faults.Attempt c.0.1 a.0 tc.0.rest_fits a.1 in
+    let tb = body_takes k.0.0 n.0.0 c.0.0 a.0.0 a.0.1 x ta.0.rest_fits (tn.1, tn.2) (tc.1, tc.2) (ta.1, ta.2) a.2 in
+    fields_take bytes v.0.1 k.0.1 n.0.1 c.0.1 a.0.1 x.1 k.0.0 n.0.0 c.0.0 a.0.0 x.0 tv tk tn.0 tc.0 ta.0 tb
+
+reading_takes : (bytes : List ℕ) (m : Message) → IsBytes bytes → reading bytes ≡ Ok m → IsMessage m × (bytes ≡ frame_of m)
+unfolding reading
+reading_takes bytes m fits e =
+    let b = bind_ok (message_at bytes) (λ x. cond (eqb (length x.1) 0) (Ok x.0) (Err faults.Trailing)) m e in
+    let g = passed (eqb (length b.0.1) 0) faults.Trailing b.0.0 m b.2 in
+    let t = message_takes bytes b.0 fits b.1 in
+    let nothing : b.0.1 ≡ [] = nil_from_length b.0.1 (eqb-true _ _ g.0) in
+    let whole : bytes ≡ frame_of b.0.0 = t.taken.parts ∙ ap (λ (r : List ℕ). frame_of b.0.0 ++ r) nothing ∙ append-nil (frame_of b.0.0) in
+    subst (λ (y : Message). IsMessage y × (bytes ≡ frame_of y)) g.1 (t.fits, whole)
+
+pub is_found : (bytes : List ℕ) (r : Result Message FrameFault) → IsBytes bytes → r ≡ reading bytes → IfOk r (λ m. IsMessage m × (bytes ≡ frame_of m))
+is_found bytes (Ok m) fits e = reading_takes bytes m fits (sym e)
+is_found bytes (Err d) fits e = tt
+
+-- ---- what is spelled so is read
+
+head_again : (k : Kind) (n c a : ℕ) (rest : List ℕ) → IsNode n → IsClient c → IsAttempt a → message_at (head k n c a ++ rest) ≡ body_at k n c a rest
+unfolding message_at
+head_again k n c a rest hn hc ha =
+    let b4 = to_be_bytes w64 a ++ rest in
+    let b3 = to_be_bytes w32 c ++ b4 in
+    let b2 = n ∷ b3 in
+    let b1 = kind_number k ∷ b2 in
+    bind_again (version_at (VERSION ∷ b1)) (λ version. at_kind version.1) (VERSION, b1) refl
+    ∙ bind_again (kind_at b1) (λ kind. at_node kind.0 kind.1) (k, b2) (kind_again k b2)
+    ∙ bind_again (node_at b2) (λ node. at_client k node.0 node.1) (n, b3) (byte_again 1 MAX_NODES faults.Node n b3 hn.0 hn.1)
+    ∙ bind_again (client_at b3) (λ client. at_attempt k n client.0 client.1) (c, b4) (number_again w32 (2 ^ 32) wide32 MAX_CLIENTS faults.Client c b4 (omega arith) hc.0 hc.1)
+    ∙ bind_again (attempt_at b4) (λ attempt. body_at k n c attempt.0 attempt.1) (a, rest) (number_again w64 (2 ^ 64) wide64 MAX_ATTEMPT faults.Attempt a rest (omega arith) ha.0 ha.1)
+
+ticket_frame_again : (k : Kind) (n : ℕ) (t : Ticket) (rest : List ℕ) → IsNode n → IsTicket t
+    → message_at (with_ticket k n t ++ rest) ≡ body_at k n t.client t.attempt (wish t.mode t.resource ++ rest)
+ticket_frame_again k n t rest hn ht =
+    ap message_at (append_assoc (head k n t.client t.attempt) (wish t.mode t.resource) rest)
+    ∙ head_again k n t.client t.attempt (wish t.mode t.resource ++ rest) hn ht.client ht.attempt
+
+message_again : (m : Message) (rest : List ℕ) → IsMessage m → message_at (frame_of m ++ rest) ≡ Ok (m, rest)
+message_again (Request n t) rest fits = ticket_frame_again kinds.Request n t rest fits.0 fits.1 ∙ bind_again _ (λ t. Ok (Request n t.0, t.1)) (t, rest) (ticket_again t rest fits.1.resource)
+message_again (Release n c a) rest fits = head_again kinds.Release n c a rest fits.0 fits.1 fits.2
+message_again (Grant n t) rest fits = ticket_frame_again kinds.Grant n t rest fits.0 fits.1 ∙ bind_again _ (λ t. Ok (Grant n t.0, t.1)) (t, rest) (ticket_again t rest fits.1.resource)
+message_again (Busy n t) rest fits = ticket_frame_again kinds.Busy n t rest fits.0 fits.1 ∙ bind_again _ (λ t. Ok (Busy n t.0, t.1)) (t, rest) (ticket_again t rest fits.1.resource)
+message_again (Over n c a) rest fits = head_again kinds.Over n c a rest fits.0 fits.1 fits.2
+message_again (Done n c a) rest fits = head_again kinds.Done n c a rest fits.0 fits.1 fits.2
+message_again (Muddled n c a) rest fits = head_again kinds.Muddled n c a rest fits.0 fits.1 fits.2
+
+pub reading_again : (m : Message) → IsMessage m → reading (frame_of m) ≡ Ok m
+unfolding reading
+reading_again m fits =
+    let e : message_at (frame_of m) ≡ Ok (m, []) = ap message_at (sym (append-nil (frame_of m))) ∙ message_again m [] fits in
+    bind_again (message_at (frame_of m)) (λ x. cond (eqb (length x.1) 0) (Ok x.0) (Err faults.Trailing)) (m, []) e
+
+pub one_spelling : OneSpelling
+one_spelling m n xs ys hm hn e =
+    let both = ok_is (m, xs) (n, ys) (sym (message_again m xs hm) ∙ ap message_at e ∙ message_again n ys hn) in
+    (ap (λ (p : Message × List ℕ). p.0) both, ap (λ (p : Message × List ℕ). p.1) both)
