@@ -1,8 +1,8 @@
 // Names of resources.
 
-ghost use Rattle.std.specs.Prelude.{◌≡◌, ◌≤◌, ◌↔◌, List, length, take, SomeIff, IsTrue};
+ghost use Rattle.std.specs.Prelude.{◌≡◌, ◌≤◌, length, SomeIff, IsTrue};
 ghost use Rattle.std.specs.List.{list_all};
-ghost use Rattle.lock_messages.specs.Names.{IsName, HoldsName, padded, is_name_byte};
+ghost use Rattle.lock_messages.specs.Names.{IsName, padded, is_name_byte};
 
 use std::cmp::Ordering;
 use std::hash::{Hash, Hasher};

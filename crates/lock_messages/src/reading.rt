@@ -1,7 +1,6 @@
 // Reading a message from its frame, field by field from the front.
 
-ghost use Rattle.std.specs.Prelude.{◌≡◌, ◌≤◌, IfOk, Ok};
-ghost use Rattle.std.specs.Int.{w32, w64};
+ghost use Rattle.std.specs.Prelude.{◌≡◌, ◌≤◌, IfOk};
 ghost use Rattle.lock_messages.specs.declared.messages.Message.{Message};
 ghost use Rattle.lock_messages.specs.Messages.{IsMessage};
 ghost use Rattle.lock_messages.specs.Frames.{frame_of};

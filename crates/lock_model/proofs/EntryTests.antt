@@ -1,5 +1,5 @@
 -- What == says of entries.
-use Rattle.std.proofs.Common.{◌≡◌, ◌≢◌, ◌↔◌, ◌==◌, Bool, true, false, not, ◌&&◌, List, Option, Some, None, IsTrue, refl, sym, ◌∙◌, ap, Decides}
+use Rattle.std.proofs.Common.{◌≡◌, ◌≢◌, ◌↔◌, ◌==◌, Bool, true, false, not, ◌&&◌, List, [], ◌∷◌, Option, Some, None, IsTrue, refl, sym, ◌∙◌, ap, Decides}
 use Rattle.std.specs.Option.{option_eq}
 use Rattle.std.specs.Str.{bytes_eq}
 use Rattle.std.specs.Cmp.Lexicographic.{pointwise}
@@ -15,6 +15,7 @@ use Rattle.lock_model.specs.declared.entries.Entry.{Entry}
 use Rattle.lock_model.specs.declared.entries.Live.{Live}
 use Rattle.lock_model.specs.declared.entries.Status.{Status}
 use Rattle.lock_model.specs.declared.entries.Status.TheVariants.{Waiting, Holding}
+use Rattle.lock_model.specs.ExactDecisions.{same_mode, same_status, same_live, same_entry, same_entries}
 
 mode-decides : (a b : Mode) → Decides (sameb mode_type a b) (a ≡ b)
 mode-decides Read Read = (λ h. refl, λ h. refl)
@@ -76,6 +77,43 @@ entry-decides a b = (to, from)
     from e =
         and_from (a.client == b.client) ((a.floor == b.floor) && option_eq live_test a.live b.live) ((Decides-eqb a.client b.client).1 (ap (λ (k : Entry). k.client) e))
         (and_from (a.floor == b.floor) (option_eq live_test a.live b.live) ((Decides-eqb a.floor b.floor).1 (ap (λ (k : Entry). k.floor) e)) ((option-decides a.live b.live).1 (ap (λ (k : Entry). k.live) e)))
+
+-- the plain tests say the same
+
+mode-same : (a b : Mode) → sameb mode_type a b ≡ same_mode a b
+mode-same Read Read = refl
+mode-same Read Write = refl
+mode-same Write Read = refl
+mode-same Write Write = refl
+
+status-same : (a b : Status) → sameb status_type a b ≡ same_status a b
+status-same Waiting Waiting = refl
+status-same Waiting Holding = refl
+status-same Holding Waiting = refl
+status-same Holding Holding = refl
+
+live-same : (x y : Live) → live_test x y ≡ same_live x y
+live-same x y =
+    ap (λ m. (x.attempt == y.attempt) && (m && (bytes_eq x.resource y.resource && sameb status_type x.status y.status))) (mode-same x.mode y.mode)
+    ∙ ap (λ s. (x.attempt == y.attempt) && (same_mode x.mode y.mode && (bytes_eq x.resource y.resource && s))) (status-same x.status y.status)
+
+option-same : (a b : Option Live) → option_eq live_test a b ≡ option_eq same_live a b
+option-same None None = refl
+option-same None (Some y) = refl
+option-same (Some x) None = refl
+option-same (Some x) (Some y) = live-same x y
+
+entry-same : (a b : Entry) → entry_test a b ≡ same_entry a b
+entry-same a b = ap (λ o. (a.client == b.client) && ((a.floor == b.floor) && o)) (option-same a.live b.live)
+
+entries-same : (xs ys : List Entry) → pointwise entry_test xs ys ≡ same_entries xs ys
+entries-same [] [] = refl
+entries-same [] (y ∷ ys) = refl
+entries-same (x ∷ xs) [] = refl
+entries-same (x ∷ xs) (y ∷ ys) = ap (λ b. b && pointwise entry_test xs ys) (entry-same x y) ∙ ap (λ b. same_entry x y && b) (entries-same xs ys)
+
+pub differ-is : (before after : List Entry) (r : Bool) → r ≡ not (pointwise entry_test before after) → r ≡ not (same_entries before after)
+differ-is before after r h = h ∙ ap not (entries-same before after)
 
 -- what == and != say of two lists of entries
 pub differ-iff : (before after : List Entry) (r : Bool) → r ≡ not (pointwise entry_test before after) → IsTrue r ↔ (after ≢ before)

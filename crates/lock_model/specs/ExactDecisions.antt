@@ -1,6 +1,8 @@
 -- The decision of a node, exactly: the entries after a message, and the replies in their order.
 use Rattle.std.specs.Prelude.{◌≢◌, ℕ, ◌-◌, ◌==◌, ◌&&◌, Bool, true, false, not, nat_le, nat_lt, List, [], ◌∷◌, ◌++◌, Option, Some, None, map, filter, if◌then◌else◌}
+use Rattle.std.specs.Option.{option_eq}
 use Rattle.std.specs.Str.{bytes_eq}
+use Rattle.std.specs.Cmp.Lexicographic.{pointwise}
 use Rattle.lock_messages.specs.declared.tickets.Mode.{Mode}
 use Rattle.lock_messages.specs.declared.tickets.Mode.TheVariants.{Read, Write}
 use Rattle.lock_messages.specs.declared.tickets.Ticket.{Ticket}
@@ -8,6 +10,7 @@ use Rattle.lock_messages.specs.declared.messages.Message.{Message}
 use Rattle.lock_messages.specs.declared.messages.Message.TheVariants.{Request, Release, Grant, Busy, Over, Done, Muddled}
 use Rattle.lock_model.specs.declared.entries.Entry.{Entry}
 use Rattle.lock_model.specs.declared.entries.Live.{Live}
+use Rattle.lock_model.specs.declared.entries.Status.{Status}
 use Rattle.lock_model.specs.declared.entries.Status.TheVariants.{Waiting, Holding}
 use Rattle.lock_model.specs.declared.problems.Problem.{Problem}
 use Rattle.lock_model.specs.ExactStations.{is_of, knows, entry_of, is_waiting, is_holding, if_live, admits, settled}
@@ -123,3 +126,22 @@ decision p entries (Muddled n c a) = record { entries = entries; replies = [] }
 -- the decision changes the record: the entries, or their order
 abbrev pub Changes : Problem → List Entry → Message → Type 0
 Changes p entries message = (decision p entries message).entries ≢ entries
+
+-- the same as a test, which compares the entries one by one
+abbrev pub same_status : Status → Status → Bool
+same_status Waiting Waiting = true
+same_status Waiting Holding = false
+same_status Holding Waiting = false
+same_status Holding Holding = true
+
+abbrev pub same_live : Live → Live → Bool
+same_live a b = (a.attempt == b.attempt) && (same_mode a.mode b.mode && (bytes_eq a.resource b.resource && same_status a.status b.status))
+
+abbrev pub same_entry : Entry → Entry → Bool
+same_entry a b = (a.client == b.client) && ((a.floor == b.floor) && option_eq same_live a.live b.live)
+
+abbrev pub same_entries : List Entry → List Entry → Bool
+same_entries = pointwise same_entry
+
+abbrev pub changes : Problem → List Entry → Message → Bool
+changes p entries message = not (same_entries entries (decision p entries message).entries)

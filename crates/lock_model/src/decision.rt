@@ -3,7 +3,7 @@
 ghost use Rattle.std.specs.Prelude.{◌≡◌, ◌≢◌, ◌+◌, ◌∷◌, [], ◌↔◌, IfOk, OnOk, IsTrue, map, filter, not, if◌then◌else◌, option_to_list};
 ghost use Rattle.std.specs.Option.{option_copied};
 ghost use Rattle.lock_model.specs.ExactStations.{is_of, knows, entry_of, settled, admits};
-ghost use Rattle.lock_model.specs.ExactDecisions.{ended_entry, ended, moved_last, same_mode, live_reply, reply_of_live, floor_in, live_in, reply_to_known, new_entry, grants, takes_up, releases, decision, Changes};
+ghost use Rattle.lock_model.specs.ExactDecisions.{ended_entry, ended, moved_last, same_mode, live_reply, reply_of_live, floor_in, live_in, reply_to_known, new_entry, grants, takes_up, releases, decision, Changes, same_entries, changes};
 
 use crate::settling::{admits, settle};
 use crate::{Entry, Live, Problem, Status};
@@ -281,7 +281,8 @@ fn answer(
 
 /// Whether the entries, or their order, differ.
 fn differ(before: &[Entry], after: &[Entry]) -> bool
-    ensures { IsTrue result ↔ (after.now ≢ before.now) }
+    ensures differ { IsTrue result ↔ (after.now ≢ before.now) }
+    ensures test { result ≡ not (same_entries before.now after.now) }
 {
     before != after
 }
@@ -304,6 +305,7 @@ pub fn decide(
     ensures entries { IfOk result (λ d. d.entries.items ≡ (decision problem entries.now message.now).entries) }
     ensures replies { IfOk result (λ d. d.replies.items ≡ (decision problem entries.now message.now).replies) }
     ensures changed { IfOk result (λ d. IsTrue d.changed ↔ Changes problem entries.now message.now) }
+    ensures changes { IfOk result (λ d. d.changed ≡ changes problem entries.now message.now) }
 {
     let outcome = answer(alloc, problem, entries, message)?;
     let changed = differ(entries, &outcome.entries);
