@@ -1,5 +1,5 @@
 -- Sums of votes over the nodes of a ballot.
-use Rattle.std.proofs.Common.{◌≡◌, ℕ, ◌+◌, ◌-◌, ◌<◌, ◌≤◌, Bool, true, false, List, [], ◌∷◌, ◌++◌, length, get_or, slice_index, Fits, w8, sum, sum_by, take, map, replicate, refl, arith, if◌then◌else◌}
+use Rattle.std.proofs.Common.{◌≡◌, ◌≢◌, ℕ, ◌+◌, ◌-◌, ◌<◌, ◌≤◌, Bool, true, false, List, [], ◌∷◌, ◌++◌, length, get_or, slice_index, Fits, w8, sum, sum_by, take, map, replicate, refl, arith, if◌then◌else◌}
 use Rattle.std.proofs.Math.Seq.{take-append_seam}
 use Rattle.std.proofs.lemmas.List.{map-id}
 use Rattle.std.proofs.lemmas.List.Elements.{All-from_get_or}
@@ -7,7 +7,7 @@ use Rattle.std.proofs.lemmas.List.FromFn.{map-range_with_len_more}
 use Rattle.std.proofs.lemmas.List.Sums.{sum_by_push, sum_by-le}
 use Rattle.std.specs.List.{All, range_with_len}
 use Rattle.lock_messages.specs.declared.ids.TheConstants.{MAX_NODES}
-use Rattle.lock_model.specs.Ballots.{Ballot, total}
+use Rattle.lock_model.specs.Ballots.{Ballot, total, IsShared}
 use Rattle.vote_weights.specs.Ballots.{IsBallot, HoldsBallot, ballot_of, room_of}
 use Rattle.vote_weights.specs.Sets.{has_node, marks_of}
 use Rattle.vote_weights.proofs.SetFacts.{get_or-marks_of}
@@ -70,3 +70,35 @@ pub needs_in_range : (room : List ℕ) (size : ℕ) (b : Ballot) → HoldsBallot
 needs_in_range room size b h =
     let r = total_in_range room size b h in
     (omega (arith, h.ballot.crosses.reads_fit), omega (arith, h.ballot.crosses.writes_fit))
+
+-- the node at an index is shared exactly where both sets have its mark and it has votes
+pub record IsSharedAt (votes left right : List ℕ) (i : ℕ) : Type 0 where
+  pub in_left : get_or (marks_of left) i false ≡ true
+  pub in_right : get_or (marks_of right) i false ≡ true
+  pub has_votes : 0 < get_or votes i 0
+
+pub IsShared-at : (b : Ballot) (left right : List ℕ) (i n : ℕ) → n ≡ i + 1 → i < length b.votes → i < MAX_NODES →
+    IsSharedAt b.votes left right i → IsShared b (has_node left) (has_node right) n
+IsShared-at b left right i n e within few h =
+    let l = get_or-marks_of left i few in
+    let r = get_or-marks_of right i few in
+    let in_left = h.in_left in
+    let in_right = h.in_right in
+    let k : i + 1 - 1 ≡ i = omega arith in
+    rw e (record {
+      node = (omega arith, omega arith);
+      in_left = cc;
+      in_right = cc;
+      has_votes = rw k h.has_votes;
+    })
+
+pub IsShared-only : (b : Ballot) (left right : List ℕ) (i n : ℕ) → i < MAX_NODES → (IsSharedAt b.votes left right i → ⊥) →
+    IsShared b (has_node left) (has_node right) n → n ≢ i + 1
+IsShared-only b left right i n few not_here h e =
+    let l = get_or-marks_of left i few in
+    let r = get_or-marks_of right i few in
+    let k : i + 1 - 1 ≡ i = omega arith in
+    let s : IsShared b (has_node left) (has_node right) (i + 1) = rw e at h in
+    let in_left = s.in_left in
+    let in_right = s.in_right in
+    not_here (record { in_left = cc; in_right = cc; has_votes = rw k at s.has_votes })

@@ -1,14 +1,15 @@
 // Ballots: how many votes each node has, and how many a reader and a writer need.
 
-ghost use Rattle.std.specs.Prelude.{◌≡◌, ◌≤◌, ◌*◌, ◌↔◌, length, sum, IsTrue};
+ghost use Rattle.std.specs.Prelude.{◌≡◌, ℕ, ◌≤◌, ◌*◌, ◌↔◌, length, sum, IsTrue};
 ghost use Rattle.std.specs.Result.{OkIff};
-ghost use Rattle.lock_model.specs.Ballots.{Crosses, IsEnough, votes_of, total, needed};
+ghost use Rattle.lock_model.specs.Ballots.{Crosses, IsEnough, IsShared, votes_of, total, needed};
 ghost use Rattle.vote_weights.specs.Ballots.{IsBallot, ballot_of, room_of};
 ghost use Rattle.vote_weights.specs.Faults.{fault_of, ballot_unless};
 ghost use Rattle.vote_weights.specs.Sets.{has_node};
 
 use crate::{BallotFault, NodeSet};
-use lock_messages::{MAX_NODES, Mode};
+use lock_messages::{MAX_NODES, Mode, NodeId};
+use lock_model::laws;
 use std::marker::Model;
 
 /// How many votes each node has, and how many a reader and a writer collect (Gifford 1979).
@@ -187,5 +188,25 @@ impl Ballot {
         ensures crosses { Crosses self.now }
     {
         self.votes_in(set) >= self.needed(mode)
+    }
+
+    /// The lowest node that is in both sets and has votes.
+    ///
+    /// The caller owes that `a` is enough for a writer and `b` for the mode; `enough` tells. Such a
+    /// node is always there, since the ballot crosses (Gifford 1979; of two writers our own rule).
+    pub fn shared_node(&self, a: NodeSet, b: NodeSet, mode: Mode) -> NodeId
+        requires writers { IsEnough self.now Mode.Write (has_node a) }
+        requires others { IsEnough self.now mode (has_node b) }
+        ensures shared { IsShared self.now (has_node a) (has_node b) result }
+        ensures lowest { (n : ℕ) → IsShared self.now (has_node a) (has_node b) n → result ≤ n }
+    {
+        laws::enough_sets_share_a_node();
+        let (left, right) = (a.marks(), b.marks());
+        for (i, votes) in self.votes().iter().enumerate() {
+            if left[i] && right[i] && *votes > 0 {
+                return NodeId::of(i as u8 + 1).unwrap();
+            }
+        }
+        unreachable!()
     }
 }

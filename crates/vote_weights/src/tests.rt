@@ -146,3 +146,32 @@ fn node_sets(rt: HostRuntime) -> Result<(), Fail> {
     }
     Ok(())
 }
+
+#[test]
+fn shared_nodes(rt: HostRuntime) -> Result<(), Fail> {
+    // A ballot, a set that is enough for a writer, one that is enough for the mode, and the lowest
+    // node with votes in both.
+    let weighted = Ballot::of(&[3, 1, 1, 0], 2, 4)?;
+    let even = Ballot::of(&[1, 1, 1], 2, 2)?;
+    let silent = Ballot::of(&[0, 1, 1], 2, 2)?;
+    let rows: [(Ballot, &[u8], &[u8], Mode, u8); 6] = [
+        (weighted, &[1, 2], &[1], Mode::Read, 1),
+        (weighted, &[1, 2], &[2, 3], Mode::Read, 2),
+        (even, &[1, 3], &[2, 3], Mode::Write, 3),
+        (even, &[1, 2, 3], &[2, 3], Mode::Read, 2),
+        (silent, &[1, 2, 3], &[1, 2, 3], Mode::Write, 2),
+        (even, &[9, 2, 3], &[9, 2, 3], Mode::Read, 2),
+    ];
+    for (ballot, writers, others, mode, want) in rows {
+        let a = set_of(writers).ok_or("a node")?;
+        let b = set_of(others).ok_or("a node")?;
+        assert!(rt; ballot.enough(Mode::Write, a), "enough at {writers:?}");
+        assert!(rt; ballot.enough(mode, b), "enough at {others:?}");
+        assert_eq!(rt;
+            ballot.shared_node(a, b, mode).get(),
+            want,
+            "of {writers:?} and {others:?}"
+        );
+    }
+    Ok(())
+}
