@@ -1,0 +1,10 @@
+use Rattle.std.proofs.Common.{arith}
+use Rattle.stable_record.specs.Reading.{IsGoodSoFar}
+use Rattle.stable_record.proofs.RecordFacts.{is_found, is_read}
+use Rattle.stable_record.proofs.reading.read_node.Goals as goal
+
+pub returns-clause-found : goal.returns-clause-found
+returns-clause-found c = is_found (IsGoodSoFar c.args.bytes.now) c.args.bytes.now c.whole.result (λ i. omega (arith, c.type_inv.bytes i)) c.whole.ensures
+
+pub returns-clause-only : goal.returns-clause-only
+returns-clause-only c = is_read (IsGoodSoFar c.args.bytes.now) c.args.bytes.now c.whole.result c.whole.ensures

@@ -1,0 +1,10 @@
+-- Entries as a map from clients in the order of arrival, seen as a list.
+use Rattle.std.specs.Prelude.{ℕ, List, map}
+use Rattle.lock_model.specs.declared.entries.Entry.{Entry}
+use Rattle.stable_record.specs.declared.kept.Kept.{Kept}
+
+abbrev pub entry_of_pair : ℕ × Kept → Entry
+entry_of_pair p = record { client = p.0; floor = p.1.floor; live = p.1.live }
+
+abbrev pub entries_in : List (ℕ × Kept) → List Entry
+entries_in pairs = map entry_of_pair pairs

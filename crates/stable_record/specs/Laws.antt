@@ -1,0 +1,18 @@
+-- What follows from the definitions, as statements; each is proved as the contract of a function of
+-- `laws`.
+use Rattle.std.specs.Prelude.{◌≡◌, ℕ, ◌≤◌, List, ◌++◌}
+use Rattle.lock_messages.specs.declared.ids.TheConstants.{MAX_ATTEMPT}
+use Rattle.stable_record.specs.declared.node_records.NodeRecord.{NodeRecord}
+use Rattle.stable_record.specs.Records.{IsNodeRecord, node_record_of, client_record_of}
+
+-- Where the spellings of two records, each followed by any bytes, are the same bytes, the records
+-- are the same, and so is what follows. So each record has one spelling, and no spelling begins
+-- another.
+abbrev pub OneSpelling : Type 0
+OneSpelling = (r s : NodeRecord) (xs ys : List ℕ) → IsNodeRecord r → IsNodeRecord s →
+    node_record_of r ++ xs ≡ node_record_of s ++ ys → (r ≡ s) × (xs ≡ ys)
+
+-- the same of the records of clients
+abbrev pub OneClientSpelling : Type 0
+OneClientSpelling = (a b : ℕ) (xs ys : List ℕ) → a ≤ MAX_ATTEMPT → b ≤ MAX_ATTEMPT →
+    client_record_of a ++ xs ≡ client_record_of b ++ ys → (a ≡ b) × (xs ≡ ys)

@@ -1,0 +1,193 @@
+// Entries in the order of arrival, each client once.
+
+ghost use Rattle.std.specs.Prelude.{◌≡◌, ◌==◌, ◌||◌, ◌<◌, ◌↔◌, ◌++◌, ◌∷◌, [], length, false, not, is_ok, IsTrue, slice_get, if◌then◌else◌};
+ghost use Rattle.std.specs.List.{list_any, list_all};
+ghost use Rattle.lock_messages.specs.declared.tickets.Mode.{Mode};
+ghost use Rattle.lock_model.specs.ExactStations.{knows, EachOnce, if_live, holds, writer_holds, writer_waits, admits};
+ghost use Rattle.stable_record.specs.EntryLists.{entries_in};
+ghost use Rattle.stable_record.specs.Judgement.{leaves_alone, is_lawful, has_cause, is_caused};
+
+use crate::Entry;
+use crate::kept::{Kept, is_writing, waits};
+use indexmap::IndexMap;
+use lock_messages::{ClientId, Mode, ResourceName};
+use lock_model::Problem;
+use std::alloc::{AllocError, Global};
+use std::marker::Model;
+
+type Map = IndexMap<ClientId, Kept>;
+
+/// A node's entries, in the order in which tickets arrived, each client once. Contracts see them as
+/// the list of entries. Whether a client has one takes one look-up.
+#[derive(Debug, Drop)]
+pub struct Entries {
+    map: Map,
+}
+
+impl Model for Entries {
+    ghost use Rattle.std.specs.Prelude.{List};
+    ghost use Rattle.lock_model.specs.declared.entries.Entry.{Entry};
+    ghost use Rattle.stable_record.specs.EntryLists.{entries_in};
+
+    ghost Value = { List Entry };
+
+    ghost view = { λ s. entries_in s.map.entries };
+}
+
+fn any_holds(map: &Map, resource: &ResourceName) -> bool
+    ensures { result ≡ list_any (λ p. if_live (holds resource.now) p.1.live) map.now.entries }
+{
+    map.iter().any(|(_, kept)| kept.holds(resource))
+}
+
+fn any_writer_holds(map: &Map, resource: &ResourceName) -> bool
+    ensures { result ≡ list_any (λ p. if_live (writer_holds resource.now) p.1.live) map.now.entries }
+{
+    map.iter().any(|(_, kept)| kept.writer_holds(resource))
+}
+
+fn any_writer_waits(map: &Map, resource: &ResourceName) -> bool
+    ensures { result ≡ list_any (λ p. if_live (writer_waits resource.now) p.1.live) map.now.entries }
+{
+    map.iter().any(|(_, kept)| kept.writer_waits(resource))
+}
+
+#[tactic(auto, using(crate::proofs::MapFacts::map_facts))]
+fn admits(map: &Map, problem: Problem, mode: Mode, resource: &ResourceName) -> bool
+    ensures { result ≡ admits problem mode resource.now (entries_in map.now.entries) }
+{
+    match mode {
+        Mode::Write => !any_holds(map, resource),
+        Mode::Read => {
+            problem.admits_reader(
+                any_writer_holds(map, resource),
+                any_writer_waits(map, resource),
+            )
+        }
+    }
+}
+
+fn is_only_holder(map: &Map, client: ClientId, resource: &ResourceName) -> bool
+    ensures { result ≡ list_all (λ p. (p.0 == client) || not (if_live (holds resource.now) p.1.live)) map.now.entries }
+{
+    map.iter()
+        .all(|(other, kept)| *other == client || !kept.holds(resource))
+}
+
+#[tactic(auto, using(crate::proofs::MapFacts::map_facts))]
+fn leaves_alone(map: &Map, client: ClientId, kept: &Kept) -> bool
+    ensures { result ≡ leaves_alone (entries_in map.now.entries) client kept.now.live }
+{
+    match kept.live {
+        None => true,
+        Some(live) => !is_writing(&live) || is_only_holder(map, client, &live.resource),
+    }
+}
+
+fn is_lawful(map: &Map) -> bool
+    ensures { result ≡ list_all (λ p. leaves_alone (entries_in map.now.entries) p.0 p.1.live) map.now.entries }
+{
+    map.iter()
+        .all(|(client, kept)| leaves_alone(map, *client, kept))
+}
+
+fn has_cause(map: &Map, problem: Problem, kept: &Kept) -> bool
+    ensures { result ≡ has_cause problem (entries_in map.now.entries) kept.now.live }
+{
+    match kept.live {
+        None => true,
+        Some(live) => !waits(&live) || !admits(map, problem, live.mode, &live.resource),
+    }
+}
+
+fn is_caused(map: &Map, problem: Problem) -> bool
+    ensures { result ≡ list_all (λ p. has_cause problem (entries_in map.now.entries) p.1.live) map.now.entries }
+{
+    map.iter().all(|(_, kept)| has_cause(map, problem, kept))
+}
+
+impl Entries {
+    /// No entries. It takes no memory until the first is pushed.
+    pub fn new(alloc: Global) -> Entries
+        ensures { result ≡ [] }
+    {
+        Entries {
+            map: IndexMap::new(alloc),
+        }
+    }
+
+    /// How many entries there are.
+    pub fn len(&self) -> usize
+        ensures len { result ≡ length self.now }
+        ensures once { EachOnce self.now }
+    {
+        self.map.len()
+    }
+
+    /// Whether there are none.
+    pub fn is_empty(&self) -> bool
+        ensures { IsTrue result ↔ (self.now ≡ []) }
+    {
+        self.map.is_empty()
+    }
+
+    /// The entry at a place, counted from 0.
+    pub fn at(&self, place: usize) -> Entry
+        requires { place < length self.now }
+        ensures { slice_get self.now place ≡ Some result }
+    {
+        let (client, kept) = self.map.get_index(place).unwrap();
+        Entry {
+            client: *client,
+            floor: kept.floor,
+            live: kept.live,
+        }
+    }
+
+    /// Whether the client has an entry.
+    pub fn knows(&self, client: ClientId) -> bool
+        ensures { result ≡ knows client self.now }
+    {
+        self.map.contains_key(&client)
+    }
+
+    /// Puts an entry behind the others. Its client has none yet: `knows` tells. The only error is
+    /// want of memory, and then nothing has changed.
+    pub fn push(&mut self, entry: Entry) -> Result<(), AllocError>
+        requires { knows entry.client self.old ≡ false }
+        ensures { self.new ≡ (if is_ok result then self.old ++ entry ∷ [] else self.old) }
+    {
+        let kept = Kept {
+            floor: entry.floor,
+            live: entry.live,
+        };
+        match self.map.insert(entry.client, kept) {
+            Ok(_) => Ok(()),
+            Err(_) => Err(AllocError),
+        }
+    }
+
+    /// Whether a ticket in this mode for this resource is admitted among the entries. It takes no
+    /// memory.
+    pub fn admits(&self, problem: Problem, mode: Mode, resource: &ResourceName) -> bool
+        ensures { result ≡ admits problem mode resource.now self.now }
+    {
+        admits(&self.map, problem, mode, resource)
+    }
+
+    pub(crate) fn is_lawful(&self) -> bool
+        ensures test { result ≡ is_lawful self.now }
+        ensures once { EachOnce self.now }
+    {
+        let _len = self.len();
+        is_lawful(&self.map)
+    }
+
+    pub(crate) fn is_caused(&self, problem: Problem) -> bool
+        ensures test { result ≡ is_caused problem self.now }
+        ensures once { EachOnce self.now }
+    {
+        let _len = self.len();
+        is_caused(&self.map, problem)
+    }
+}

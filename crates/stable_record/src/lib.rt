@@ -1,0 +1,48 @@
+//! Node and client records, and what a restart finds.
+//!
+//! A node keeps its problem and its entries, a client the number of its last attempt. `node_bytes`
+//! and `client_bytes` write the one spelling of a record; `read_node` and `read_client` answer the
+//! record exactly where the whole input is its spelling, else the first fault from the front
+//! (`RecordFault`). What `read_node` answers is lawful and caused. `laws::one_spelling` says that no
+//! spelling begins another. `client_bytes`, `read_client`, `lawful` and `caused` take no memory.
+//!
+//! `StableRecord` says what it means to keep a record: which byte strings, one or two, a restart now
+//! may find, whether the record is stuck, and how often its device has failed. Code above is generic
+//! in it. `MemoryRecord` never fails but for memory; `FaultyRecord` fails when a test wants it.
+//!
+//! The crate stands on `lock_messages`, `lock_model`, `indexmap` and `thiserror`.
+#![tactic(auto)]
+
+mod client_records;
+mod entries;
+mod faults;
+mod faulty_records;
+mod formats;
+mod kept;
+pub mod laws;
+mod leaves;
+mod memory_records;
+mod node_records;
+mod reading;
+mod stable;
+mod writing;
+
+pub use client_records::{client_bytes, read_client};
+pub use entries::Entries;
+pub use faults::RecordFault;
+pub use faulty_records::FaultyRecord;
+pub use formats::MAX_RECORD_LEN;
+pub use leaves::Leaves;
+pub use lock_model::{Entry, Live, Status};
+pub use memory_records::MemoryRecord;
+pub use node_records::NodeRecord;
+pub use reading::read_node;
+pub use stable::StableRecord;
+pub use writing::node_bytes;
+
+#[cfg(test)]
+mod record_tests;
+#[cfg(test)]
+mod stable_tests;
+#[cfg(test)]
+mod table_tests;

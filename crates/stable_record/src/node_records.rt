@@ -1,0 +1,34 @@
+// What a node keeps.
+
+ghost use Rattle.std.specs.Prelude.{◌↔◌, IsTrue};
+ghost use Rattle.lock_model.specs.Stations.{IsLawful, IsCaused};
+ghost use Rattle.lock_model.specs.ExactStations.{meaning};
+
+use crate::Entries;
+use lock_model::Problem;
+
+/// What a node keeps: the problem that it solves, and its entries.
+#[derive(Debug, Drop)]
+pub struct NodeRecord {
+    pub policy: Problem,
+    pub entries: Entries,
+}
+
+impl NodeRecord {
+    /// Whether each writer that holds a resource is its only holder (Courtois, Heymans and Parnas
+    /// 1971). It takes no memory, and time of the square of the number of entries at most.
+    pub fn lawful(&self) -> bool
+        ensures { IsTrue result ↔ IsLawful (meaning self.now.policy self.now.entries) }
+    {
+        self.entries.is_lawful()
+    }
+
+    /// Whether each ticket that waits has a cause: a writer, that someone holds the resource; a
+    /// reader, that a writer holds it or, under problem 2, waits for it. It takes no memory, and
+    /// time of the square of the number of entries at most.
+    pub fn caused(&self) -> bool
+        ensures { IsTrue result ↔ IsCaused (meaning self.now.policy self.now.entries) }
+    {
+        self.entries.is_caused(self.policy)
+    }
+}
