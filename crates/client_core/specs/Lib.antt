@@ -1,0 +1,3 @@
+pub mod Clients
+pub mod Calls
+pub mod Faults

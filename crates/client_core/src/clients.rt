@@ -1,0 +1,274 @@
+// One client's attempts.
+
+ghost use Rattle.std.specs.Prelude.{◌≡◌, ◌≢◌, ℕ, ◌≤◌, ◌+◌, ◌==◌, ◌&&◌, ◌||◌, ◌↔◌, ◌⊎◌, length, IsTrue, IsNone, IfSome, IfOk, OnOk, OnErr};
+ghost use Rattle.lock_model.specs.Ballots.{HasNode};
+ghost use Rattle.vote_weights.specs.Sets.{has_node};
+ghost use Rattle.client_core.specs.Clients.{phase_of, ticket_of, granted_of, skipped_of, IsLawfulClient};
+ghost use Rattle.client_core.specs.Calls.{at_rest, begun, begin_answer, asking, entered, MayEnter, MayLeave, left, release_of, message_for, ReleasesAll, heard_by, node_of, counted, is_counted, AddsVote, after_hearing, Hears, IsOpen, skipping};
+
+use crate::hearing::{heard_at_rest, heard_of_ticket, is_node_of, node_of};
+use crate::phases::State;
+use crate::{ClientFault, Phase};
+use lock_messages::{Attempt, ClientId, MAX_ATTEMPT, Message, Mode, NodeId, ResourceName, Ticket};
+use lock_model::{Heard, laws};
+use std::marker::Model;
+use vote_weights::Ballot;
+
+/// One client's attempts to use resources, one at a time.
+///
+/// Contracts see the client's number, its ballot, the number of its latest attempt, and what it
+/// does with what it has then.
+#[derive(Debug, PartialEq, Eq, Drop)]
+pub struct ClientCore {
+    client: ClientId,
+    ballot: Ballot,
+    attempt: u64,
+    state: State,
+}
+
+impl Model for ClientCore {
+    ghost use Rattle.client_core.specs.Clients.{Client, client_of, IsLawfulClient};
+
+    ghost Value = { Client };
+
+    ghost view = { λ c. client_of c.client c.ballot c.attempt c.state };
+
+    ghost invariant = { λ c. IsLawfulClient (client_of c.client c.ballot c.attempt c.state) };
+
+    ghost inverse = { λ c. record {
+      client = c.client;
+      ballot = c.ballot;
+      attempt = c.attempt;
+      state = c.state;
+    } };
+}
+
+impl ClientCore {
+    /// The client with this number, at rest after the attempt that its record has: 0 for none yet,
+    /// else that attempt is over.
+    ///
+    /// The caller owes an attempt of at most `MAX_ATTEMPT`.
+    pub fn rise(client: ClientId, attempt: u64, ballot: Ballot) -> ClientCore
+        requires { attempt ≤ MAX_ATTEMPT }
+        ensures { result ≡ at_rest client ballot attempt }
+    {
+        let state = State::Idle;
+        ClientCore {
+            client,
+            ballot,
+            attempt,
+            state,
+        }
+    }
+
+    /// What the client does.
+    pub fn phase(&self) -> Phase
+        ensures phase { result ≡ phase_of self.now }
+        ensures lawful { IsLawfulClient self.now }
+    {
+        self.state.phase()
+    }
+
+    /// The number of the latest attempt that was begun, also while it is chosen and not kept; 0 for
+    /// none. At most `MAX_ATTEMPT`.
+    pub fn attempt(&self) -> u64
+        ensures attempt { result ≡ self.now.attempt }
+        ensures in_range { result ≤ MAX_ATTEMPT }
+    {
+        let ClientCore { attempt, .. } = self;
+        *attempt
+    }
+
+    /// The present ticket: that of the latest attempt while it is chosen, asked with or inside.
+    /// `None` while the client is idle.
+    pub fn ticket(&self) -> Option<Ticket>
+        ensures ticket { result ≡ ticket_of self.now }
+        ensures own { IfSome result (λ t. t.client ≡ self.now.client) }
+        ensures latest { IfSome result (λ t. t.attempt ≡ self.now.attempt) }
+    {
+        self.state.ticket()
+    }
+
+    /// Begins the next attempt, whose number it answers: a new ticket, with nothing granted or
+    /// skipped. The client has then chosen it.
+    ///
+    /// The caller keeps the number in the client's record, and then calls `kept`.
+    ///
+    /// # Errors
+    ///
+    /// `NotIdle` (701) while an attempt is under way, else `AttemptsSpent` (702) after the attempt
+    /// `MAX_ATTEMPT`. Nothing changes then.
+    pub fn begin(&mut self, resource: ResourceName, mode: Mode) -> Result<Attempt, ClientFault>
+        ensures answer { result ≡ begin_answer self.old }
+        ensures begun { OnOk result (self.new ≡ begun self.old resource mode) }
+        ensures number { IfOk result (λ a. a ≡ self.old.attempt + 1) }
+        ensures refused { OnErr result (self.new ≡ self.old) }
+        ensures not_idle { (result ≡ Err ClientFault.NotIdle) ↔ (phase_of self.old ≢ Phase.Idle) }
+        ensures spent { (result ≡ Err ClientFault.AttemptsSpent) ↔ ((phase_of self.old ≡ Phase.Idle) × (self.old.attempt ≡ MAX_ATTEMPT)) }
+    {
+        let State::Idle = self.state else {
+            return Err(ClientFault::NotIdle);
+        };
+        let Some(attempt) = Attempt::of(self.attempt + 1) else {
+            return Err(ClientFault::AttemptsSpent);
+        };
+        self.attempt = attempt.get();
+        self.state = State::Chosen(Ticket {
+            client: self.client,
+            attempt,
+            mode,
+            resource,
+        });
+        Ok(attempt)
+    }
+
+    /// The chosen number is kept: the client asks with its ticket.
+    ///
+    /// The caller owes that the phase is `Chosen`.
+    pub fn kept(&mut self)
+        requires { phase_of self.old ≡ Phase.Chosen }
+        ensures exact { self.new ≡ asking self.old }
+        ensures asks { phase_of self.new ≡ Phase.Asking }
+    {
+        self.state = self.state.asks();
+    }
+
+    /// The release of the latest attempt, if there was one.
+    fn release(&self, node: NodeId) -> Option<Message>
+        ensures { result ≡ release_of node self.now.client self.now.attempt }
+    {
+        let attempt = Attempt::of(self.attempt)?;
+        Some(Message::Release(node, self.client, attempt))
+    }
+
+    /// What there is to say to the node: the request of the present ticket while the client asks or
+    /// is inside, the release of the latest attempt while it is idle, if there was one. `None` else,
+    /// and for a node outside the ballot.
+    pub fn message_for(&self, node: NodeId) -> Option<Message>
+        ensures { result ≡ message_for self.now node }
+    {
+        if !is_node_of(self.ballot.nodes(), node) {
+            return None;
+        }
+        match self.state {
+            State::Idle => self.release(node),
+            State::Chosen(_) => None,
+            State::Asking(ticket, ..) | State::Inside(ticket, ..) => {
+                Some(Message::Request(node, ticket))
+            }
+        }
+    }
+
+    /// What the client makes of the message.
+    fn heard(&self, message: &Message) -> Heard
+        ensures heard { result ≡ heard_by self.now message.now }
+        ensures allowed { Hears self.now message.now result }
+    {
+        laws::hearing_is_exact();
+        let nodes = self.ballot.nodes();
+        match self.state {
+            State::Idle => heard_at_rest(nodes, self.client, self.attempt, message),
+            State::Chosen(_) => Heard::NotMine,
+            State::Asking(ticket, granted, _) | State::Inside(ticket, granted, _) => {
+                heard_of_ticket(nodes, &ticket, granted, message)
+            }
+        }
+    }
+
+    /// Counts the node's vote.
+    fn count(&mut self, node: NodeId)
+        requires { HasNode self.old.ballot node }
+        ensures exact { self.new ≡ counted self.old node }
+        ensures adds { AddsVote self.old.state node }
+    {
+        self.state = self.state.counts(node);
+    }
+
+    /// Hears a message, and answers what the client makes of it.
+    ///
+    /// `Counted` is a vote: while the client asks or is inside, a Grant of the present ticket, from
+    /// a node of the ballot whose Grant was not counted yet (Gifford 1979: a node's votes count
+    /// once). Its node is then among the granted ones; every other answer changes nothing. `Known`
+    /// is the same from a node that was counted, `Busy` a Busy of the present ticket, `Done`, while
+    /// the client is idle, a Done of its latest attempt, and `NotMine` everything else: what names
+    /// another client, a node outside the ballot, or another ticket or attempt.
+    pub fn hear(&mut self, message: &Message) -> Heard
+        ensures heard { result ≡ heard_by self.old message.now }
+        ensures allowed { Hears self.old message.now result }
+        ensures exact { self.new ≡ after_hearing self.old message.now }
+        ensures unchanged { result ≢ Heard.Counted → self.new ≡ self.old }
+        ensures granted { (n : ℕ) → has_node (granted_of self.new) n ≡ ((is_counted result && (node_of message.now == n)) || has_node (granted_of self.old) n) }
+    {
+        let heard = self.heard(message);
+        if let Heard::Counted = heard {
+            self.count(node_of(message));
+        }
+        heard
+    }
+
+    /// Whether the client may enter: it asks, and the nodes that granted its ticket have enough
+    /// votes for its mode (Gifford 1979).
+    pub fn may_enter(&self) -> bool
+        ensures { IsTrue result ↔ MayEnter self.now }
+    {
+        match self.state {
+            State::Asking(ticket, granted, _) => self.ballot.enough(ticket.mode, granted),
+            State::Idle | State::Chosen(_) | State::Inside(..) => false,
+        }
+    }
+
+    /// Enters: the client is inside, with the same ticket and the same votes.
+    ///
+    /// The caller owes that it may; `may_enter` tells.
+    pub fn enter(&mut self)
+        requires { MayEnter self.old }
+        ensures exact { self.new ≡ entered self.old }
+        ensures inside { phase_of self.new ≡ Phase.Inside }
+        ensures ticket { ticket_of self.new ≡ ticket_of self.old }
+    {
+        self.state = self.state.enters();
+    }
+
+    /// Leaves, or gives up asking: the client is idle and its attempt over. `message_for` has then
+    /// the release of the attempt for each node of the ballot.
+    ///
+    /// The caller owes that the phase is `Asking` or `Inside`.
+    pub fn leave(&mut self)
+        requires { MayLeave self.old }
+        ensures exact { self.new ≡ left self.old }
+        ensures idle { phase_of self.new ≡ Phase.Idle }
+        ensures same_attempt { self.new.attempt ≡ self.old.attempt }
+        ensures releases { ReleasesAll self.new self.old.attempt }
+    {
+        self.state = State::Idle;
+    }
+
+    /// The node to ask next: while the client asks, the lowest of its ballot whose Grant was not
+    /// counted and that was not skipped. `None` where there is none, and in every other phase.
+    pub fn next_ask(&self) -> Option<NodeId>
+        ensures open { IfSome result (λ n. IsOpen self.now n) }
+        ensures lowest { IfSome result (λ n. (m : ℕ) → IsOpen self.now m → n ≤ m) }
+        ensures none { IsNone result → (m : ℕ) → IsOpen self.now m → ⊥ }
+    {
+        let State::Asking(_, granted, skipped) = self.state else {
+            return None;
+        };
+        for number in 1..=self.ballot.nodes() {
+            let node = NodeId::of(number)?;
+            if !granted.has(node) && !skipped.has(node) {
+                return Some(node);
+            }
+        }
+        None
+    }
+
+    /// While the client asks, the node is not to be asked again in this attempt. In every other
+    /// phase nothing changes.
+    pub fn skip(&mut self, node: NodeId)
+        ensures exact { self.new ≡ skipping self.old node }
+        ensures same_votes { granted_of self.new ≡ granted_of self.old }
+        ensures same_phase { phase_of self.new ≡ phase_of self.old }
+    {
+        self.state = self.state.skips(node);
+    }
+}

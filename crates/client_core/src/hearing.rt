@@ -1,0 +1,96 @@
+// What a client makes of a message.
+
+ghost use Rattle.std.specs.Prelude.{◌≡◌};
+ghost use Rattle.lock_model.specs.ExactHearing.{is_node_of, same_ticket, heard_of_ticket, heard_at_rest};
+ghost use Rattle.vote_weights.specs.Sets.{has_node};
+ghost use Rattle.client_core.specs.Calls.{node_of};
+
+use lock_messages::{ClientId, Message, NodeId, Ticket};
+use lock_model::Heard;
+use vote_weights::NodeSet;
+
+/// Whether the node is one of a ballot that has so many.
+pub(crate) fn is_node_of(nodes: u8, node: NodeId) -> bool
+    ensures { result ≡ is_node_of nodes node }
+{
+    let number = node.get();
+    1 <= number && number <= nodes
+}
+
+/// Whether both tickets are one.
+fn same_ticket(a: &Ticket, b: &Ticket) -> bool
+    ensures { result ≡ same_ticket a.now b.now }
+{
+    a.client == b.client
+        && a.attempt == b.attempt
+        && a.mode == b.mode
+        && a.resource.bytes() == b.resource.bytes()
+}
+
+/// The node that the message names.
+pub(crate) fn node_of(message: &Message) -> NodeId
+    ensures { result ≡ node_of message.now }
+{
+    match *message {
+        Message::Request(node, _) | Message::Grant(node, _) | Message::Busy(node, _) => node,
+        Message::Release(node, _, _)
+        | Message::Over(node, _, _)
+        | Message::Done(node, _, _)
+        | Message::Muddled(node, _, _) => node,
+    }
+}
+
+/// What a client makes of the message while it asks with the ticket, or is inside with it.
+pub(crate) fn heard_of_ticket(
+    nodes: u8,
+    ticket: &Ticket,
+    granted: NodeSet,
+    message: &Message,
+) -> Heard
+    ensures { result ≡ heard_of_ticket nodes ticket.now (has_node granted) message.now }
+{
+    match message {
+        Message::Grant(node, of) => {
+            if !is_node_of(nodes, *node) || !same_ticket(of, ticket) {
+                Heard::NotMine
+            } else if granted.has(*node) {
+                Heard::Known
+            } else {
+                Heard::Counted
+            }
+        }
+        Message::Busy(node, of) => {
+            if is_node_of(nodes, *node) && same_ticket(of, ticket) {
+                Heard::Busy
+            } else {
+                Heard::NotMine
+            }
+        }
+        Message::Request(..)
+        | Message::Release(..)
+        | Message::Over(..)
+        | Message::Done(..)
+        | Message::Muddled(..) => Heard::NotMine,
+    }
+}
+
+/// What a client makes of the message while it rests after the attempt.
+pub(crate) fn heard_at_rest(nodes: u8, client: ClientId, attempt: u64, message: &Message) -> Heard
+    ensures { result ≡ heard_at_rest nodes client attempt message.now }
+{
+    match message {
+        Message::Done(node, to, of) => {
+            if is_node_of(nodes, *node) && *to == client && of.get() == attempt {
+                Heard::Done
+            } else {
+                Heard::NotMine
+            }
+        }
+        Message::Request(..)
+        | Message::Release(..)
+        | Message::Grant(..)
+        | Message::Busy(..)
+        | Message::Over(..)
+        | Message::Muddled(..) => Heard::NotMine,
+    }
+}

@@ -1,0 +1,29 @@
+//! One client's attempts to use a resource, as a core that decides and neither sends nor keeps.
+//!
+//! A client begins an attempt, keeps its number in its record, asks the nodes of its ballot for
+//! their votes, enters once the votes are enough for its mode, and leaves; then it tells each node
+//! that the attempt is over. `ClientCore` says at each point what there is to send and to whom, and
+//! what to make of what is heard. The caller carries the messages, and keeps the number between
+//! `begin` and `kept`.
+//!
+//! The crate promises that the votes of an attempt are those of the nodes whose Grant of the very
+//! ticket was heard, each counted once (Gifford 1979); that a client which is inside has enough of
+//! them; and that no attempt's number is begun twice by one core (our own rule). No call takes
+//! memory or waits.
+//!
+//! Contracts see a core as a `Client` of `specs/Clients`, and what each call does is defined in
+//! `specs/Calls`. The crate stands on `lock_messages`, `lock_model`, `vote_weights` and `thiserror`.
+#![tactic(auto)]
+
+mod clients;
+mod faults;
+mod hearing;
+mod phases;
+
+pub use clients::ClientCore;
+pub use faults::ClientFault;
+pub use lock_model::Heard;
+pub use phases::Phase;
+
+#[cfg(test)]
+mod tests;
