@@ -1,0 +1,90 @@
+// A guard over a borrowed door.
+
+ghost use Rattle.std.specs.Prelude.{◌≡◌, ◌↔◌, true, false, Some, IsSome, IfSome};
+ghost use Rattle.std.specs.Borrow.{sem, RestsIfNone};
+ghost use Rattle.client_core.specs.contracts.clients.ClientCore.{the_row as client_row};
+ghost use Rattle.client_core.specs.Clients.{ticket_of as client_ticket};
+ghost use Rattle.client_core.specs.Calls.{MayEnter, entered};
+ghost use Rattle.entry_guard.specs.Guards.{door_of, lender_of, guard_ticket};
+
+use crate::Door;
+use client_core::ClientCore;
+use lock_messages::Ticket;
+
+/// A borrowed door that is inside, and leaves when the guard is dropped: on every path out of its
+/// scope, at its end, at a `?`, at a return in the middle. It takes no memory and does not wait.
+///
+/// A guard that is forgotten leaves its door inside.
+pub struct EntryGuard<'a, D: Door> {
+    door: &'a mut D,
+    ticket: Ticket,
+}
+
+impl<'a, D: Door> EntryGuard<'a, D> {
+    /// The guard of a door that enters.
+    fn of(door: &'a mut D) -> EntryGuard<'a, D>
+        requires { D.can_enter door.old }
+        ensures same_door { lender_of result ≡ door.entry.ghost_name }
+        ensures enters { D.enters door.old (door_of result) }
+        ensures inside { D.is_inside (door_of result) ≡ true }
+        ensures ticket { D.ticket_of door.old ≡ Some (guard_ticket result) }
+    {
+        door.enter();
+        let ticket = door.ticket().unwrap();
+        EntryGuard { door, ticket }
+    }
+
+    /// Enters, where the door may. `None` exactly where it may not; the door is then only asked, and
+    /// unchanged.
+    ///
+    /// What a door of any type ends as after a `None` is no clause here. A caller that has to know it
+    /// asks `may_enter` first, or calls `enter_client`.
+    pub fn enter(door: &'a mut D) -> Option<EntryGuard<'a, D>>
+        ensures entered { IsSome result ↔ D.can_enter door.old }
+        ensures same_door { IfSome result (λ guard. lender_of guard ≡ door.entry.ghost_name) }
+        ensures enters { IfSome result (λ guard. D.enters door.old (door_of guard)) }
+        ensures inside { IfSome result (λ guard. D.is_inside (door_of guard) ≡ true) }
+        ensures ticket { IfSome result (λ guard. D.ticket_of door.old ≡ Some (guard_ticket guard)) }
+    {
+        if door.may_enter() {
+            Some(EntryGuard::of(door))
+        } else {
+            None
+        }
+    }
+
+    /// The ticket with which the door entered.
+    pub fn ticket(&self) -> Ticket
+        ensures { result ≡ guard_ticket self.now }
+    {
+        self.ticket
+    }
+}
+
+impl<D: Door> Drop for EntryGuard<'_, D> {
+    fn drop(self)
+        ensures leaves { D.is_inside (door_of self.entry) ≡ true → D.leaves (door_of self.entry) self.exit.0.now }
+        ensures outside { D.is_inside self.exit.0.now ≡ false }
+    {
+        let EntryGuard { door, ticket: _ } = self;
+        if door.inside() {
+            door.leave();
+        }
+    }
+}
+
+/// Enters, where the client may: `EntryGuard::enter` of a client core, with the clause that the core
+/// is unchanged at `None`.
+pub fn enter_client(core: &mut ClientCore) -> Option<EntryGuard<'_, ClientCore>>
+    ensures* unchanged_at_none { sem 𝓛 (RestsIfNone client_row core.entry lender_of result (λ last. last ≡ core.old)) }
+    ensures entered { IsSome result ↔ MayEnter core.old }
+    ensures same_door { IfSome result (λ guard. lender_of guard ≡ core.entry.ghost_name) }
+    ensures inside { IfSome result (λ guard. door_of guard ≡ entered core.old) }
+    ensures ticket { IfSome result (λ guard. client_ticket core.old ≡ Some (guard_ticket guard)) }
+{
+    if core.may_enter() {
+        Some(EntryGuard::of(core))
+    } else {
+        None
+    }
+}

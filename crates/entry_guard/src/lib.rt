@@ -1,0 +1,26 @@
+//! Guards over doors: what is entered by a guard is left when the guard goes.
+//!
+//! A `Door` is what can be entered and left; a `ClientCore` is one. `EntryGuard` enters a borrowed
+//! door, `OwnedEntry` one of its own, and each leaves when it is dropped, on every path out of its
+//! scope.
+//!
+//! The crate promises that a guard is made exactly where the door may enter, and that the door is
+//! outside after the guard was dropped. A client core is then idle after the same attempt, and has
+//! the release of that attempt to say to each node of its ballot. No call takes memory or waits. A
+//! guard that is forgotten (`std::mem::forget`) leaves its door inside.
+//!
+//! What a door is, is in the ghost members of `Door`; for a client core these are the words of
+//! `client_core`, and `specs/Doors` says what leaving makes of it. The crate stands on `client_core`,
+//! `lock_messages`, `lock_model` and `vote_weights`.
+#![tactic(auto)]
+
+mod doors;
+mod guards;
+mod owned;
+
+pub use doors::Door;
+pub use guards::{EntryGuard, enter_client};
+pub use owned::OwnedEntry;
+
+#[cfg(test)]
+mod tests;

@@ -1,0 +1,77 @@
+// A guard over a door of its own.
+
+ghost use Rattle.std.specs.Prelude.{◌≡◌, ◌↔◌, true, false, Some, IsOk, IfOk, IfErr};
+ghost use Rattle.entry_guard.specs.Guards.{entry_door, entry_ticket};
+
+use crate::Door;
+use lock_messages::Ticket;
+
+/// A door of its own that is inside. It leaves, and is handed back, by `leave`; an entry that is
+/// dropped unspent leaves too, and its door is dropped with it. It takes no memory and does not wait.
+///
+/// An entry that is forgotten leaves its door inside.
+pub struct OwnedEntry {
+    door: Box<dyn Door + Send>,
+    ticket: Ticket,
+}
+
+/// The door, outside.
+fn left(door: Box<dyn Door + Send>) -> Box<dyn Door + Send>
+    requires { Unit {0} }
+    ensures outside { is_inside result ≡ false }
+{
+    let mut door = door;
+    if door.inside() {
+        door.leave();
+    }
+    door
+}
+
+/// Drops the door, which has to be outside.
+fn discard(door: Box<dyn Door + Send>)
+    requires { is_inside door ≡ false }
+{
+    drop(door);
+}
+
+impl OwnedEntry {
+    /// Enters, where the door may; else hands it back, unchanged.
+    pub fn enter(door: Box<dyn Door + Send>) -> Result<OwnedEntry, Box<dyn Door + Send>>
+        requires { Unit {0} }
+        ensures entered { IsOk result ↔ can_enter door }
+        ensures inside { IfOk result (λ entry. is_inside (entry_door entry) ≡ true) }
+        ensures ticket { IfOk result (λ entry. ticket_of door ≡ Some (entry_ticket entry)) }
+        ensures refused { IfErr result (λ back. back ≡ door) }
+    {
+        let mut door = door;
+        if !door.may_enter() {
+            return Err(door);
+        }
+        door.enter();
+        let ticket = door.ticket().unwrap();
+        Ok(OwnedEntry { door, ticket })
+    }
+
+    /// The ticket with which the door entered.
+    pub fn ticket(&self) -> Ticket
+        ensures { result ≡ entry_ticket self.now }
+    {
+        self.ticket
+    }
+
+    /// The door, outside.
+    pub fn leave(self) -> Box<dyn Door + Send>
+        requires { Unit {0} }
+        ensures { is_inside result ≡ false }
+    {
+        let OwnedEntry { door, ticket: _ } = self;
+        left(door)
+    }
+}
+
+impl Drop for OwnedEntry {
+    fn drop(self) {
+        let OwnedEntry { ticket: _, door } = self;
+        discard(left(door));
+    }
+}
