@@ -1,0 +1,2 @@
+mod RunFacts
+pub mod WorldFacts
