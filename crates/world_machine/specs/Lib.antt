@@ -1,4 +1,5 @@
 pub mod Faults
+pub mod Examples
 pub mod Events
 pub mod Worlds
 pub mod ExactWorlds

@@ -15,6 +15,7 @@
 mod clients;
 mod events;
 mod exact;
+pub mod laws;
 mod nodes;
 #[cfg(test)]
 mod tests;
