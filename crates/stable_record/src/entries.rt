@@ -1,6 +1,6 @@
 // Entries in the order of arrival, each client once.
 
-ghost use Rattle.std.specs.Prelude.{◌≡◌, ◌==◌, ◌||◌, ◌<◌, ◌↔◌, ◌++◌, ◌∷◌, [], length, false, not, is_ok, IsTrue, slice_get, if◌then◌else◌};
+ghost use Rattle.std.specs.Prelude.{◌≡◌, ◌==◌, ◌||◌, ◌<◌, ◌↔◌, ◌++◌, ◌∷◌, [], length, false, Some, not, is_ok, IsOk, IfOk, IsTrue, ◌&&◌, slice_get, if◌then◌else◌};
 ghost use Rattle.std.specs.List.{list_any, list_all};
 ghost use Rattle.lock_messages.specs.declared.tickets.Mode.{Mode};
 ghost use Rattle.lock_model.specs.ExactStations.{knows, EachOnce, if_live, holds, writer_holds, writer_waits, admits};
@@ -131,8 +131,19 @@ impl Entries {
         self.map.is_empty()
     }
 
-    /// The entry at a place, counted from 0.
-    pub fn at(&self, place: usize) -> Entry
+    /// The entry at a place, counted from 0; `None` exactly where there is none.
+    pub fn get(&self, place: usize) -> Option<Entry>
+        ensures { result ≡ slice_get self.now place }
+    {
+        if place < self.len() {
+            Some(self.at(place))
+        } else {
+            None
+        }
+    }
+
+    /// The entry at a place where there is one.
+    pub(crate) fn at(&self, place: usize) -> Entry
         requires { place < length self.now }
         ensures { slice_get self.now place ≡ Some result }
     {
@@ -151,9 +162,33 @@ impl Entries {
         self.map.contains_key(&client)
     }
 
-    /// Puts an entry behind the others. Its client has none yet: `knows` tells. The only error is
-    /// want of memory, and then nothing has changed.
-    pub fn push(&mut self, entry: Entry) -> Result<(), AllocError>
+    /// Puts an entry behind the others, unless its client has one, and answers whether it did. The
+    /// only error is want of memory, where it would have; then nothing has changed.
+    pub fn push(&mut self, entry: Entry) -> Result<bool, AllocError>
+        ensures answer { IfOk result (λ is_new. is_new ≡ not (knows entry.client self.old)) }
+        ensures pushed { self.new ≡ (if is_ok result && not (knows entry.client self.old) then self.old ++ entry ∷ [] else self.old) }
+        ensures memory { IsTrue (knows entry.client self.old) → IsOk result }
+    {
+        let Entry {
+            client,
+            floor,
+            live,
+        } = entry;
+        if self.knows(client) {
+            return Ok(false);
+        }
+        match self.put_last(Entry {
+            client,
+            floor,
+            live,
+        }) {
+            Ok(()) => Ok(true),
+            Err(fault) => Err(fault),
+        }
+    }
+
+    /// Puts an entry behind the others. Its client has none yet.
+    pub(crate) fn put_last(&mut self, entry: Entry) -> Result<(), AllocError>
         requires { knows entry.client self.old ≡ false }
         ensures { self.new ≡ (if is_ok result then self.old ++ entry ∷ [] else self.old) }
     {

@@ -240,7 +240,7 @@ impl Unread<'_> {
             floor,
             live,
         } = self.entry(entries)?;
-        match entries.push(Entry {
+        match entries.put_last(Entry {
             client,
             floor,
             live,

@@ -149,17 +149,19 @@ fn entries_in_order(rt: HostRuntime) -> Result<(), Fail> {
     };
     for (number, live) in [(7, Some(live)), (3, None)] {
         let client = ClientId::of(number).ok_or("a client")?;
-        if !entries.knows(client) {
-            entries.push(Entry {
-                client,
-                floor: 0,
-                live,
-            })?;
-        }
+        let entry = Entry {
+            client,
+            floor: 0,
+            live,
+        };
+        assert_eq!(rt; entries.push(entry)?, true);
         assert!(rt; entries.knows(client));
+        assert_eq!(rt; entries.push(entry)?, false);
     }
     assert_eq!(rt; entries.len(), 2);
-    assert_eq!(rt; entries.at(1).client.get(), 3);
+    let last = entries.get(1).ok_or("an entry")?;
+    assert_eq!(rt; last.client.get(), 3);
+    assert!(rt; entries.get(2).is_none());
     assert!(rt; entries.admits(Problem::First, Mode::Read, &resource));
     assert!(rt; !entries.admits(Problem::First, Mode::Write, &resource));
     Ok(())

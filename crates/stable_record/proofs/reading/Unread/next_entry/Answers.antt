@@ -11,8 +11,8 @@ returns-in_err-client c =
     let p = err_from_is_err_and c.from_residual.result c.from_residual.ensures.1 in
     rw (p.1, p.2) (inr (one_fails c.args.entries.now c.args.self.now.bytes.now c.in_err-client.field-0.0 c.in_err-client.ensures))
 
-pub push-requires : goal.push-requires
-push-requires c = entry_new c.args.entries.now c.args.self.now.bytes.now (c.in_ok-client.field-0, c.entry.new.self.bytes.now) c.in_ok-client.ensures
+pub put_last-requires : goal.put_last-requires
+put_last-requires c = entry_new c.args.entries.now c.args.self.now.bytes.now (c.in_ok-client.field-0, c.entry.new.self.bytes.now) c.in_ok-client.ensures
 
 pub returns-in-Ok : goal.returns-in-Ok
 returns-in-Ok c =

@@ -3,8 +3,8 @@ use Rattle.lock_model.specs.declared.entries.Entry.{Entry}
 use Rattle.lock_model.specs.ExactStations.{knows}
 use Rattle.stable_record.specs.EntryLists.{entries_in}
 use Rattle.stable_record.proofs.MapFacts.{inserted-last}
-use Rattle.stable_record.proofs.entries.Entries.push.Goals.{in-Ok, in-Err}
-use Rattle.stable_record.proofs.entries.Entries.push.Goals as goal
+use Rattle.stable_record.proofs.entries.Entries.put_last.Goals.{in-Ok, in-Err}
+use Rattle.stable_record.proofs.entries.Entries.put_last.Goals as goal
 
 pub returns : goal.returns
 returns c =
