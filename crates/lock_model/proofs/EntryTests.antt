@@ -125,3 +125,14 @@ differ-iff before after r h = go (pointwise entry_test before after) refl
     go : (b : Bool) → pointwise entry_test before after ≡ b → IsTrue r ↔ (after ≢ before)
     go true e = let no_change : r ≡ false = h ∙ ap not e in (λ t. absurd (let z : false ≡ true = sym no_change ∙ t in cc), λ apart. absurd (apart (sym (d.0 e))))
     go false e = (λ t same. let z : false ≡ true = sym e ∙ d.1 (sym same) in cc, λ apart. h ∙ ap not e)
+
+-- whether the test of two lists of entries fails
+pub no-change-iff : (before after : List Entry) → (not (same_entries before after) ≡ false) ↔ (after ≡ before)
+no-change-iff before after = go (same_entries before after) refl
+  where
+    d : Decides (pointwise entry_test before after) (before ≡ after)
+    d = slice_eq-Decides entry-decides before after (pointwise entry_test before after) refl
+
+    go : (b : Bool) → same_entries before after ≡ b → (not b ≡ false) ↔ (after ≡ before)
+    go true e = (λ z. sym (d.0 (entries-same before after ∙ e)), λ z. refl)
+    go false e = (λ z. absurd (let q : true ≡ false = z in cc), λ z. let q : true ≡ false = sym (d.1 (sym z)) ∙ entries-same before after ∙ e in cc)

@@ -1,6 +1,6 @@
 -- What follows from the definitions, as statements; each is proved as the contract of a function of
 -- `laws`.
-use Rattle.std.specs.Prelude.{◌≡◌, ◌↔◌, ℕ, ◌≤◌, Bool, true, List, length}
+use Rattle.std.specs.Prelude.{◌≡◌, ◌↔◌, ℕ, ◌≤◌, Bool, true, false, List, length}
 use Rattle.lock_messages.specs.declared.tickets.Mode.{Mode}
 use Rattle.lock_messages.specs.declared.tickets.Mode.TheVariants.{Write}
 use Rattle.lock_messages.specs.declared.tickets.Ticket.{Ticket}
@@ -15,7 +15,7 @@ use Rattle.lock_model.specs.Decisions.{Decides}
 use Rattle.lock_model.specs.Hearing.{HearsOfTicket, HearsAtRest}
 use Rattle.lock_model.specs.ExactHearing.{heard_of_ticket, heard_at_rest}
 use Rattle.lock_model.specs.ExactStations.{EachOnce, IsWellFormed, meaning, IsSettling, with_holders, settled, new_holders}
-use Rattle.lock_model.specs.ExactDecisions.{decision}
+use Rattle.lock_model.specs.ExactDecisions.{decision, changes}
 
 -- where a ballot crosses, two sets that are enough, one of them for a writer, share a node of the
 -- ballot that has votes
@@ -47,6 +47,10 @@ abbrev pub ExactDecisionIsAllowed : Type 0
 ExactDecisionIsAllowed = (p : Problem) (entries : List Entry) (message : Message) (n : ℕ) → is_for_node message n ≡ true →
     IsWellFormed entries → IsLawful (meaning p entries) → IsCaused (meaning p entries) →
     IsAllowed p entries message
+
+-- the test by which a change is seen fails exactly where the entries stay
+abbrev pub ChangesAreSeen : Type 0
+ChangesAreSeen = (p : Problem) (entries : List Entry) (message : Message) → (changes p entries message ≡ false) ↔ ((decision p entries message).entries ≡ entries)
 
 -- a decision never lowers a floor
 abbrev pub FloorsNeverFall : Type 0

@@ -1,2 +1,7 @@
 mod RunFacts
 pub mod WorldFacts
+pub mod ActorFacts
+pub mod ClientSteps
+pub mod NodeSteps
+pub mod StepFacts
+pub mod TakenFacts

@@ -21,7 +21,7 @@ use Rattle.world_machine.specs.declared.nodes.NodePhase.TheVariants as phase
 use Rattle.world_machine.specs.Events.{Outcome, outcome_of, Sent, Said, SayTo, Say}
 use Rattle.world_machine.specs.ExactWorlds.{Turn, Turns, numbered, Steps, has_room, with_client, with_node_turn, client_finishes, node_finishes, by_client, by_node, client_steps, node_steps, tells_in, says_one, says_in, tells_node, next_number, node_in, step}
 use Rattle.world_machine.specs.Clients.{client_view}
-use Rattle.world_machine.specs.Nodes.{node_view, NodeAnswers, IsRefusal}
+use Rattle.world_machine.specs.Nodes.{node_view, NodeAnswers, IsQuiet, IsRefusal}
 use Rattle.world_machine.specs.WorldViews.{world_view}
 use Rattle.world_machine.specs.StepsOf.{IsRefused, Does, sends_one}
 
@@ -33,7 +33,7 @@ numbered-map {A} {B} f xs k = go (k == 0)
     go false = slice_get-map f xs (k - 1)
 
 pub refused : (steps : Steps) (e : StepFault) → steps ≡ Err e → IsRefused steps e
-refused steps fault.Memory h = tt
+refused steps fault.Memory h = λ e z. let q : Err fault.Memory ≡ Err e = sym h ∙ z in cc
 refused steps fault.UnknownActor h = h
 refused steps fault.Down h = h
 refused steps fault.Up h = h
@@ -79,9 +79,18 @@ same-node b ns cs sent i v a at same =
     ap (λ (l : List ExactNode). record { ballot = b; nodes = l; clients = map client_view cs; sent = sent })
     (map-set node_view ns i a ∙ ap (set (map node_view ns) i) (same ∙ ap node_view at) ∙ sym (map-set node_view ns i (get_or ns i v)) ∙ ap (map node_view) (set-get_or ns i v))
 
+-- a turn that says nothing is taken
+quiet-taken : (b : Ballot) (ns : List Node) (cs : List Client) (sent : List Message) (n : ℕ) (turn : Turns ExactNode) → IsQuiet turn → (e : StepFault) →
+    node_finishes (world_view b ns cs sent) n turn ≡ Err e → e ≡ fault.Memory
+quiet-taken b ns cs sent n (Err d) quiet e z = absurd quiet
+quiet-taken b ns cs sent n (Ok t) quiet e z =
+    let w = world_view b ns cs sent in
+    let there : has_room w t.says ≡ true = ap (has_room w) quiet ∙ room-nothing w in
+    absurd (let q : Ok (record { world = with_node_turn w n t; outcome = t.outcome }) ≡ Err e = sym (ap (λ room. cond room (Ok (record { world = with_node_turn w n t; outcome = t.outcome })) (Err fault.SentListFull)) there) ∙ z in cc)
+
 refusal-steps : (b : Ballot) (ns : List Node) (cs : List Client) (sent : List Message) (n : ℕ) (v : Node) (f : ExactNode → Turns ExactNode) → numbered ns n ≡ Some v → (e : StepFault) →
     IsRefusal (f (node_view v)) e → IsRefused (node_steps (world_view b ns cs sent) n f) e
-refusal-steps b ns cs sent n v f h fault.Memory r = tt
+refusal-steps b ns cs sent n v f h fault.Memory r = λ e z. quiet-taken b ns cs sent n (f (node_view v)) r e (sym (node-turn b ns cs sent n v f h) ∙ z)
 refusal-steps b ns cs sent n v f h fault.UnknownActor r = node-turn b ns cs sent n v f h ∙ ap (node_finishes (world_view b ns cs sent) n) r
 refusal-steps b ns cs sent n v f h fault.Down r = node-turn b ns cs sent n v f h ∙ ap (node_finishes (world_view b ns cs sent) n) r
 refusal-steps b ns cs sent n v f h fault.Up r = node-turn b ns cs sent n v f h ∙ ap (node_finishes (world_view b ns cs sent) n) r
@@ -214,6 +223,12 @@ says-ok b ns cs sent n v replies h t none room =
     ∙ ap (λ r. cond r (Ok (record { world = with_node_turn w n turn; outcome = turn.outcome })) (Err fault.SentListFull)) (le-leb (length replies) (MAX_MESSAGES - length sent) room)
     ∙ ap (λ (l : List ExactNode). Ok (record { world = record { ballot = b; nodes = l; clients = map client_view cs; sent = sent ++ replies }; outcome = Said (length sent + 1) (length replies) }))
     (ap (set (map node_view ns) (n - 1)) is ∙ sym (map-set node_view ns (n - 1) idle))
+
+-- where there is room nothing refuses it
+pub says-not-refused : (b : Ballot) (ns : List Node) (cs : List Client) (sent : List Message) (n : ℕ) (v : Node) (replies : List Message) → numbered ns n ≡ Some v → SaysAll v replies → (node_view v).tried ≡ None →
+    length replies ≤ MAX_MESSAGES - length sent → IsRefused (step (world_view b ns cs sent) (Say n)) fault.Memory
+says-not-refused b ns cs sent n v replies h t none room e z =
+    absurd (let q : Ok (record { world = world_view b (slice_set ns (n - 1) (record { entries = v.entries; phase = phase.Idle })) cs (sent ++ replies); outcome = Said (length sent + 1) (length replies) }) ≡ Err e = sym (says-ok b ns cs sent n v replies h t none room) ∙ z in cc)
 
 pub node-there : (ns : List Node) (n : ℕ) → 1 ≤ n → n - 1 < length ns → (v : Node) × (numbered ns n ≡ Some v)
 node-there [] n one within = absurd (omega arith)

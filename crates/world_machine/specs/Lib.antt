@@ -3,6 +3,7 @@ pub mod Examples
 pub mod Events
 pub mod Worlds
 pub mod ExactWorlds
+pub mod Forgetting
 pub mod Clients
 pub mod Nodes
 pub mod WorldViews

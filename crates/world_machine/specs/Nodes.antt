@@ -41,9 +41,14 @@ node_turn n act.Try v = tries_station_in v v.phase
 node_turn n act.Kept v = keeps_station_in v v.phase
 node_turn n (act.Take found) v = takes_in n found v v.phase
 
--- the turn is refused so, or memory was
+-- the turn is one that may be taken, and says nothing
+abbrev pub IsQuiet : Turns ExactNode → Type 0
+IsQuiet (Err e) = ⊥
+IsQuiet (Ok t) = t.says ≡ []
+
+-- the turn is refused so; memory only where nothing else refuses it
 abbrev pub IsRefusal : Turns ExactNode → StepFault → Type 0
-IsRefusal turn fault.Memory = Unit {0}
+IsRefusal turn fault.Memory = IsQuiet turn
 IsRefusal turn fault.UnknownActor = turn ≡ Err fault.UnknownActor
 IsRefusal turn fault.Down = turn ≡ Err fault.Down
 IsRefusal turn fault.Up = turn ≡ Err fault.Up

@@ -8,9 +8,9 @@ use Rattle.world_machine.specs.declared.exact.ExactWorld.{ExactWorld}
 use Rattle.world_machine.specs.Events.{Action, outcome_of, Sent}
 use Rattle.world_machine.specs.ExactWorlds.{Steps, Ran, has_room, next_number, ran, step}
 
--- the step is refused so, or memory was
+-- The step is refused so. Memory is refused only where nothing else is: whatever refusal the step has, it is this.
 abbrev pub IsRefused : Steps → StepFault → Type 0
-IsRefused steps fault.Memory = Unit {0}
+IsRefused steps fault.Memory = (e : StepFault) → steps ≡ Err e → e ≡ fault.Memory
 IsRefused steps fault.UnknownActor = steps ≡ Err fault.UnknownActor
 IsRefused steps fault.Down = steps ≡ Err fault.Down
 IsRefused steps fault.Up = steps ≡ Err fault.Up
@@ -25,7 +25,7 @@ IsRefused steps fault.NothingTried = steps ≡ Err fault.NothingTried
 IsRefused steps fault.SentListFull = steps ≡ Err fault.SentListFull
 
 -- The call took the step: on Ok the world after and the effect are the step's; on a fault the step is
--- refused so, or memory was, and the world is as it was.
+-- refused so, and the world is as it was.
 abbrev pub Does : Steps → ExactWorld → Result Effect StepFault → ExactWorld → Type 0
 Does steps before (Ok e) after = steps ≡ Ok (record { world = after; outcome = outcome_of e })
 Does steps before (Err e) after = IsRefused steps e × (after ≡ before)

@@ -7,9 +7,10 @@
 //! The definitions stand in `specs/`: `Worlds` has the world as sets and maps, and what may happen
 //! next as a relation; `ExactWorlds` has it exactly, with entries in order and messages numbered
 //! from 1, and `step` as a function. The crate promises that `step` and `run` are these exactly:
-//! the world after, the effect, or the lowest refusal that applies, with nothing changed. That each
-//! exact step is one that may happen is not proved yet. It stands on `lock_messages`, `lock_model`,
-//! `vote_weights` and `thiserror`.
+//! the world after, the effect, or the lowest refusal that applies, with nothing changed. That the
+//! exact steps are just those that may happen is a law (`laws::exact_steps_are_allowed`), over
+//! `Forgetting`, which says what world an exact one stands for. It stands on `lock_messages`,
+//! `lock_model`, `vote_weights` and `thiserror`.
 #![tactic(auto)]
 
 mod clients;

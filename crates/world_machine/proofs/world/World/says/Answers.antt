@@ -8,7 +8,7 @@ use Rattle.world_machine.specs.Events.{Say, Said}
 use Rattle.world_machine.specs.ExactWorlds.{numbered, step}
 use Rattle.world_machine.specs.StepsOf.{IsRefused}
 use Rattle.world_machine.specs.WorldViews.{world_view}
-use Rattle.world_machine.proofs.WorldFacts.{numbered-at, refused, says-unknown, says-err, says-full, says-ok}
+use Rattle.world_machine.proofs.WorldFacts.{numbered-at, refused, says-unknown, says-err, says-full, says-ok, says-not-refused}
 use Rattle.world_machine.proofs.world.World.says.Goals as goal
 
 pub returns-then-index-len : goal.returns-then-index-len
@@ -54,3 +54,12 @@ returns c =
     ∙ ap (λ (g : Node). Ok (record { world = world_view s.ballot (slice_set s.nodes.items (c.get.result - 1) (record { entries = g.entries; phase = phase.Idle })) s.clients.items (s.sent.items ++ replies); outcome = Said (length s.sent.items + 1) (length replies) })) same
     ∙ ap (λ (l : List Message). Ok (record { world = world_view s.ballot (slice_set s.nodes.items (c.get.result - 1) (record { entries = u.entries; phase = phase.Idle })) s.clients.items l; outcome = Said (length s.sent.items + 1) (length replies) })) said
     ∙ ap (λ k. Ok (record { world = world_view s.ballot (slice_set s.nodes.items (c.get.result - 1) (record { entries = u.entries; phase = phase.Idle })) s.clients.items c.extend_from_slice.new.self.items; outcome = Said k (length replies) })) first)
+
+pub returns-in_default : goal.returns-in_default
+returns-in_default c =
+    let s = c.self.inside in
+    let at : numbered s.nodes.items c.get.result ≡ Some c.index.result.now = numbered-at s.nodes.items c.get.result c.index.result.now (omega (arith, c.get.ensures.in_range)) (omega (arith, s.nodes.ok.0)) c.index.ensures in (
+      subst (λ w. IsRefused (step w (Say c.args.id)) fault.Memory) c.self.view_is
+          (says-not-refused s.ballot s.nodes.items s.clients.items s.sent.items c.args.id c.index.result.now c.in-Ok.replies.now (subst (λ k. numbered s.nodes.items k ≡ Some c.index.result.now) c.get.ensures.number at) c.in-Ok.ensures.1 c.in-Ok.ensures.0 (omega (arith, s.sent.ok.0, c.len-first.ensures))),
+      ap (λ (l : List Message). world_view s.ballot s.nodes.items s.clients.items l) c.in_default.ensures.items ∙ c.self.view_is,
+    )
