@@ -10,7 +10,7 @@ use Rattle.world_machine.specs.declared.exact.ExactNode.{ExactNode}
 use Rattle.world_machine.specs.declared.exact.ExactClient.{ExactClient}
 use Rattle.world_machine.specs.declared.exact.ExactWorld.{ExactWorld}
 use Rattle.world_machine.specs.Worlds.{OfNode, OfClient}
-use Rattle.world_machine.specs.ExactWorlds.{Turn, Turns, numbered, Stepped, has_room, with_client, with_node_turn, client_finishes, node_finishes, by_client, by_node, client_steps, node_steps}
+use Rattle.world_machine.specs.ExactWorlds.{Turn, Turns, numbered, Stepped, has_room, with_client, with_node_turn, finishes, by_actor, client_steps, node_steps}
 use Rattle.world_machine.specs.Forgetting.{node_of, client_of, node_at, client_at, forget, setting_of, IsSoundNode, IsSound}
 
 -- what is put into a list, and what it leaves
@@ -89,33 +89,41 @@ numbered-got xs k x h = sym (past-zero xs k (numbered-one xs k x h).0) ∙ h
 pub numbered-among : {A : Type 0} (xs : List A) (k : ℕ) (x : A) → numbered xs k ≡ Some x → Among x xs
 numbered-among xs k x h = got-among xs (k - 1) x (numbered-got xs k x h)
 
--- a client's turn
-
-pub record ClientTook (w : ExactWorld) (c : ℕ) (f : ExactClient → Turns ExactClient) (v : ExactWorld) : Type 0 where
-  pub before : ExactClient
-  pub turn : Turn ExactClient
-  pub was : numbered w.clients c ≡ Some before
+-- an actor that was there took its turn
+pub record TookTurn (A : Type 0) (w : ExactWorld) (into : Turn A → ExactWorld) (found : Option A) (f : A → Turns A) (v : ExactWorld) : Type 0 where
+  pub before : A
+  pub turn : Turn A
+  pub was : found ≡ Some before
   pub does : f before ≡ Ok turn
-  pub is : v ≡ with_client w c turn
+  pub is : v ≡ into turn
 
-client-finished : (w : ExactWorld) (c : ℕ) (f : ExactClient → Turns ExactClient) (s : Stepped) (k : ExactClient) → numbered w.clients c ≡ Some k →
-    (turns : Turns ExactClient) → f k ≡ turns → client_finishes w c turns ≡ Ok s → ClientTook w c f s.world
-client-finished w c f s k was (Err e) does h = absurd (let q : Err e ≡ Ok s = h in cc)
-client-finished w c f s k was (Ok t) does h = go (has_room w t.says) h
+finished : {A : Type 0} (w : ExactWorld) (into : Turn A → ExactWorld) (found : Option A) (f : A → Turns A) (s : Stepped) (a : A) → found ≡ Some a →
+    (turns : Turns A) → f a ≡ turns → finishes w into turns ≡ Ok s → TookTurn A w into found f s.world
+finished w into found f s a was (Err e) does h = absurd (let q : Err e ≡ Ok s = h in cc)
+finished {A} w into found f s a was (Ok t) does h = go (has_room w t.says) h
   where
-    go : (room : Bool) → cond room (Ok (record { world = with_client w c t; outcome = t.outcome })) (Err fault.SentListFull) ≡ Ok s → ClientTook w c f s.world
+    go : (room : Bool) → cond room (Ok (record { world = into t; outcome = t.outcome })) (Err fault.SentListFull) ≡ Ok s → TookTurn A w into found f s.world
     go true z =
-        let q : Ok (record { world = with_client w c t; outcome = t.outcome }) ≡ Ok s = z in
-        let e : record { world = with_client w c t; outcome = t.outcome } ≡ s = cc in
-        record { before = k; turn = t; was = was; does = does; is = sym (ap (λ (x : Stepped). x.world) e) }
+        let q : Ok (record { world = into t; outcome = t.outcome }) ≡ Ok s = z in
+        let e : record { world = into t; outcome = t.outcome } ≡ s = cc in
+        record { before = a; turn = t; was = was; does = does; is = sym (ap (λ (x : Stepped). x.world) e) }
     go false z = absurd (let q : Err fault.SentListFull ≡ Ok s = z in cc)
 
+took-turn : {A : Type 0} (w : ExactWorld) (into : Turn A → ExactWorld) (found : Option A) (f : A → Turns A) (s : Stepped) → by_actor w into found f ≡ Ok s → TookTurn A w into found f s.world
+took-turn w into None f s h = absurd (let q : Err fault.UnknownActor ≡ Ok s = h in cc)
+took-turn w into (Some a) f s h = finished w into (Some a) f s a refl (f a) refl h
+
+abbrev pub ClientTook : (w : ExactWorld) (c : ℕ) (f : ExactClient → Turns ExactClient) (v : ExactWorld) → Type 0
+ClientTook w c f v = TookTurn ExactClient w (with_client w c) (numbered w.clients c) f v
+
 pub client-took : (w : ExactWorld) (c : ℕ) (f : ExactClient → Turns ExactClient) (s : Stepped) → client_steps w c f ≡ Ok s → ClientTook w c f s.world
-client-took w c f s h = go (numbered w.clients c) refl h
-  where
-    go : (o : Option ExactClient) → numbered w.clients c ≡ o → by_client w c o f ≡ Ok s → ClientTook w c f s.world
-    go None e z = absurd (let q : Err fault.UnknownActor ≡ Ok s = z in cc)
-    go (Some k) e z = client-finished w c f s k e (f k) refl z
+client-took w c f s h = took-turn w (with_client w c) (numbered w.clients c) f s h
+
+abbrev pub NodeTook : (w : ExactWorld) (n : ℕ) (f : ExactNode → Turns ExactNode) (v : ExactWorld) → Type 0
+NodeTook w n f v = TookTurn ExactNode w (with_node_turn w n) (numbered w.nodes n) f v
+
+pub node-took : (w : ExactWorld) (n : ℕ) (f : ExactNode → Turns ExactNode) (s : Stepped) → node_steps w n f ≡ Ok s → NodeTook w n f s.world
+node-took w n f s h = took-turn w (with_node_turn w n) (numbered w.nodes n) f s h
 
 pub of-client : (w : ExactWorld) (c : ℕ) (k : ExactClient) (t : Turn ExactClient) → numbered w.clients c ≡ Some k →
     OfClient (setting_of w) c (forget w) (client_of k) (client_of t.after) t.says (forget (with_client w c t))
@@ -128,34 +136,6 @@ of-client w c k t was =
       nodes = λ n. refl;
       sends = λ m. appended m w.sent t.says;
     }
-
--- a node's turn
-
-pub record NodeTook (w : ExactWorld) (n : ℕ) (f : ExactNode → Turns ExactNode) (v : ExactWorld) : Type 0 where
-  pub before : ExactNode
-  pub turn : Turn ExactNode
-  pub was : numbered w.nodes n ≡ Some before
-  pub does : f before ≡ Ok turn
-  pub is : v ≡ with_node_turn w n turn
-
-node-finished : (w : ExactWorld) (n : ℕ) (f : ExactNode → Turns ExactNode) (s : Stepped) (v : ExactNode) → numbered w.nodes n ≡ Some v →
-    (turns : Turns ExactNode) → f v ≡ turns → node_finishes w n turns ≡ Ok s → NodeTook w n f s.world
-node-finished w n f s v was (Err e) does h = absurd (let q : Err e ≡ Ok s = h in cc)
-node-finished w n f s v was (Ok t) does h = go (has_room w t.says) h
-  where
-    go : (room : Bool) → cond room (Ok (record { world = with_node_turn w n t; outcome = t.outcome })) (Err fault.SentListFull) ≡ Ok s → NodeTook w n f s.world
-    go true z =
-        let q : Ok (record { world = with_node_turn w n t; outcome = t.outcome }) ≡ Ok s = z in
-        let e : record { world = with_node_turn w n t; outcome = t.outcome } ≡ s = cc in
-        record { before = v; turn = t; was = was; does = does; is = sym (ap (λ (x : Stepped). x.world) e) }
-    go false z = absurd (let q : Err fault.SentListFull ≡ Ok s = z in cc)
-
-pub node-took : (w : ExactWorld) (n : ℕ) (f : ExactNode → Turns ExactNode) (s : Stepped) → node_steps w n f ≡ Ok s → NodeTook w n f s.world
-node-took w n f s h = go (numbered w.nodes n) refl h
-  where
-    go : (o : Option ExactNode) → numbered w.nodes n ≡ o → by_node w n o f ≡ Ok s → NodeTook w n f s.world
-    go None e z = absurd (let q : Err fault.UnknownActor ≡ Ok s = z in cc)
-    go (Some v) e z = node-finished w n f s v e (f v) refl z
 
 -- nodes of a sound world are those of its ballot
 pub known-node : (w : ExactWorld) (n : ℕ) (v : ExactNode) → IsSound w → numbered w.nodes n ≡ Some v → (1 ≤ n) × (n ≤ length w.ballot.votes)

@@ -10,6 +10,7 @@ use Rattle.lock_messages.specs.Messages.{is_for_client}
 use Rattle.lock_model.specs.declared.hearing.Heard.{Heard}
 use Rattle.lock_model.specs.declared.hearing.Heard.TheVariants as heard
 use Rattle.lock_model.specs.Ballots.{Ballot, needed, votes_of}
+use Rattle.lock_model.specs.Hearing.{HearsOfTicket}
 use Rattle.lock_model.specs.ExactHearing.{heard_of_ticket, heard_at_rest}
 use Rattle.lock_model.specs.Laws.{HearingOfTicketIsExact, HearingAtRestIsExact}
 use Rattle.vote_weights.specs.Sets.{has_node, with_node}
@@ -218,41 +219,28 @@ pub record HearingLaws : Type 1 where
   pub of_ticket : HearingOfTicketIsExact
   pub at_rest : HearingAtRestIsExact
 
-hears-asking : HearingLaws → (b : Ballot) (c : ℕ) (m : Message) (k : ExactClient) (u : Ticket) (granted : List ℕ) (t : Turn ExactClient) →
-    hears_message (length b.votes) c (client_in k (exact.Asking u granted)) m (exact.Asking u granted) ≡ Ok t → ClientDoes (Hears b c m) (client_in k (exact.Asking u granted)) t
-hears-asking laws b c m k u granted t h = go (heard_of_ticket (length b.votes) u (has_node granted) m) refl h
+-- with a ticket, asking or inside: into puts a granted set into the phase
+hears-with-ticket : HearingLaws → (b : Ballot) (c : ℕ) (m : Message) (k : ExactClient) (into : List ℕ → ExactClientPhase) (seen : (ℕ → Bool) → Client) → ((set : List ℕ) → client_of (client_in k (into set)) ≡ seen (has_node set)) →
+    (u : Ticket) (granted : List ℕ) (t : Turn ExactClient) →
+    (HearsOfTicket b u (has_node granted) m heard.Counted → Hears b c m (seen (has_node granted)) (seen (gained m (has_node granted)))) →
+    ((h : Heard) → HearsOfTicket b u (has_node granted) m h → h ≢ heard.Counted → Hears b c m (seen (has_node granted)) (seen (has_node granted))) →
+    (let h = heard_of_ticket (length b.votes) u (has_node granted) m in quietly (client_in k (into (granted_after h m granted))) (HeardIt m h)) ≡ Ok t → ClientDoes (Hears b c m) (client_in k (into granted)) t
+hears-with-ticket laws b c m k into seen are u granted t counted passed h = go (heard_of_ticket (length b.votes) u (has_node granted) m) refl h
   where
     before : ExactClient
-    before = client_in k (exact.Asking u granted)
+    before = client_in k (into granted)
+
+    from : (x : Heard) → heard_of_ticket (length b.votes) u (has_node granted) m ≡ x → HearsOfTicket b u (has_node granted) m x
+    from x e = (laws.of_ticket b u (has_node granted) m x).1 (sym e)
 
     same : (x : Heard) → heard_of_ticket (length b.votes) u (has_node granted) m ≡ x → x ≢ heard.Counted → quietly before (HeardIt m x) ≡ Ok t → ClientDoes (Hears b c m) before t
-    same x e apart z = quiet (Hears b c m) before before (HeardIt m x) t z (passes k.kept k.tried u (has_node granted) x ((laws.of_ticket b u (has_node granted) m x).1 (sym e)) apart)
+    same x e apart z = quiet (Hears b c m) before before (HeardIt m x) t z (subst (λ d. Hears b c m d d) (sym (are granted)) (passed x (from x e) apart))
 
-    go : (x : Heard) → heard_of_ticket (length b.votes) u (has_node granted) m ≡ x → quietly (client_in k (exact.Asking u (granted_after x m granted))) (HeardIt m x) ≡ Ok t → ClientDoes (Hears b c m) before t
+    go : (x : Heard) → heard_of_ticket (length b.votes) u (has_node granted) m ≡ x → quietly (client_in k (into (granted_after x m granted))) (HeardIt m x) ≡ Ok t → ClientDoes (Hears b c m) before t
     go heard.Counted e z =
-        quiet (Hears b c m) before (client_in k (exact.Asking u (with_sender m granted))) (HeardIt m heard.Counted) t z
-        (subst (λ set. Hears b c m (client_of before) (record { kept = k.kept; tried = k.tried; phase = Asking u set })) (sym (sender-joins m granted))
-        (counts k.kept k.tried u (has_node granted) ((laws.of_ticket b u (has_node granted) m heard.Counted).1 (sym e))))
-    go heard.Known e z = same heard.Known e (λ q. let p : heard.Known ≡ heard.Counted = q in cc) z
-    go heard.Busy e z = same heard.Busy e (λ q. let p : heard.Busy ≡ heard.Counted = q in cc) z
-    go heard.Done e z = same heard.Done e (λ q. let p : heard.Done ≡ heard.Counted = q in cc) z
-    go heard.NotMine e z = same heard.NotMine e (λ q. let p : heard.NotMine ≡ heard.Counted = q in cc) z
-
-hears-inside : HearingLaws → (b : Ballot) (c : ℕ) (m : Message) (k : ExactClient) (u : Ticket) (granted : List ℕ) (t : Turn ExactClient) →
-    hears_message (length b.votes) c (client_in k (exact.Inside u granted)) m (exact.Inside u granted) ≡ Ok t → ClientDoes (Hears b c m) (client_in k (exact.Inside u granted)) t
-hears-inside laws b c m k u granted t h = go (heard_of_ticket (length b.votes) u (has_node granted) m) refl h
-  where
-    before : ExactClient
-    before = client_in k (exact.Inside u granted)
-
-    same : (x : Heard) → heard_of_ticket (length b.votes) u (has_node granted) m ≡ x → x ≢ heard.Counted → quietly before (HeardIt m x) ≡ Ok t → ClientDoes (Hears b c m) before t
-    same x e apart z = quiet (Hears b c m) before before (HeardIt m x) t z (passes_inside k.kept k.tried u (has_node granted) x ((laws.of_ticket b u (has_node granted) m x).1 (sym e)) apart)
-
-    go : (x : Heard) → heard_of_ticket (length b.votes) u (has_node granted) m ≡ x → quietly (client_in k (exact.Inside u (granted_after x m granted))) (HeardIt m x) ≡ Ok t → ClientDoes (Hears b c m) before t
-    go heard.Counted e z =
-        quiet (Hears b c m) before (client_in k (exact.Inside u (with_sender m granted))) (HeardIt m heard.Counted) t z
-        (subst (λ set. Hears b c m (client_of before) (record { kept = k.kept; tried = k.tried; phase = IsIn u set })) (sym (sender-joins m granted))
-        (counts_inside k.kept k.tried u (has_node granted) ((laws.of_ticket b u (has_node granted) m heard.Counted).1 (sym e))))
+        let after : seen (gained m (has_node granted)) ≡ client_of (client_in k (into (with_sender m granted))) = ap seen (sym (sender-joins m granted)) ∙ sym (are (with_sender m granted)) in
+        quiet (Hears b c m) before (client_in k (into (with_sender m granted))) (HeardIt m heard.Counted) t z
+        (subst (Hears b c m (client_of before)) after (subst (λ d. Hears b c m d (seen (gained m (has_node granted)))) (sym (are granted)) (counted (from heard.Counted e))))
     go heard.Known e z = same heard.Known e (λ q. let p : heard.Known ≡ heard.Counted = q in cc) z
     go heard.Busy e z = same heard.Busy e (λ q. let p : heard.Busy ≡ heard.Counted = q in cc) z
     go heard.Done e z = same heard.Done e (λ q. let p : heard.Done ≡ heard.Counted = q in cc) z
@@ -268,8 +256,12 @@ hears-message laws b c m k t h = go k.phase h
         let x = heard_at_rest (length b.votes) c k.kept m in
         quiet (Hears b c m) (client_in k exact.Idle) (client_in k exact.Idle) (HeardIt m x) t z (passes_idle k.kept k.tried x ((laws.at_rest b c k.kept m x).1 refl))
     go (exact.Chosen u) z = quiet (Hears b c m) (client_in k (exact.Chosen u)) (client_in k (exact.Chosen u)) (HeardIt m heard.NotMine) t z (passes_chosen k.kept k.tried u)
-    go (exact.Asking u granted) z = hears-asking laws b c m k u granted t z
-    go (exact.Inside u granted) z = hears-inside laws b c m k u granted t z
+    go (exact.Asking u granted) z =
+        hears-with-ticket laws b c m k (exact.Asking u) (λ set. record { kept = k.kept; tried = k.tried; phase = Asking u set }) (λ set. refl) u granted t
+        (counts k.kept k.tried u (has_node granted)) (passes k.kept k.tried u (has_node granted)) z
+    go (exact.Inside u granted) z =
+        hears-with-ticket laws b c m k (exact.Inside u) (λ set. record { kept = k.kept; tried = k.tried; phase = IsIn u set }) (λ set. refl) u granted t
+        (counts_inside k.kept k.tried u (has_node granted)) (passes_inside k.kept k.tried u (has_node granted)) z
 
 -- the message that was found is for the client, which hears it
 pub record ClientHears (b : Ballot) (c : ℕ) (found : Option Message) (k : ExactClient) (t : Turn ExactClient) : Type 0 where

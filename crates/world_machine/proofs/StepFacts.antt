@@ -13,12 +13,12 @@ use Rattle.world_machine.specs.declared.exact.ExactNode.{ExactNode}
 use Rattle.world_machine.specs.declared.exact.ExactClient.{ExactClient}
 use Rattle.world_machine.specs.declared.exact.ExactWorld.{ExactWorld}
 use Rattle.world_machine.specs.Events.{Action, Begin, Try, Kept, SayTo, Say, Take, Hear, Enter, Leave, Fall, Rise, Outcome}
-use Rattle.world_machine.specs.Worlds.{Client, Tells, OfClient, Setting, Happens, Run, Begins, TriesAttempt, TriesStation, KeepsAttempt, KeepsStation, Takes, Hears, Enters, Leaves, ClientFalls, NodeFalls, ClientRises, NodeRises}
-use Rattle.world_machine.specs.ExactWorlds.{Turns, Steps, numbered, next_number, ran_on, ran, opening, new_node, begins_in, tries_attempt_in, tries_station_in, keeps_attempt_in, keeps_station_in, tells_in, tells_node, says_in, takes_in, hears_in, enters_in, leaves_in, client_falls_in, node_falls_in, client_rises_in, node_rises_in, with_client, step}
+use Rattle.world_machine.specs.Worlds.{Client, Node, ByClient, ByNode, Tells, OfClient, Setting, Happens, Run, Begins, TriesAttempt, TriesStation, KeepsAttempt, KeepsStation, Takes, Hears, Enters, Leaves, ClientFalls, NodeFalls, ClientRises, NodeRises}
+use Rattle.world_machine.specs.ExactWorlds.{Turn, Turns, client_steps, node_steps, Steps, numbered, next_number, ran_on, ran, opening, new_node, begins_in, tries_attempt_in, tries_station_in, keeps_attempt_in, keeps_station_in, tells_in, tells_node, says_in, takes_in, hears_in, enters_in, leaves_in, client_falls_in, node_falls_in, client_rises_in, node_rises_in, with_client, step}
 use Rattle.world_machine.specs.Forgetting.{node_of, client_of, forget, setting_of, IsSoundStation, IsSoundNode, IsSound, IsAllowedStep, IsAllowedRun}
 use Rattle.world_machine.proofs.ActorFacts.{ClientTook, client-took, of-client, NodeTook, node-took, of-node, known-node, sound-client, sound-node, numbered-got, numbered-among}
-use Rattle.world_machine.proofs.ClientSteps.{HearingLaws, by-client, begins-do, tries-attempt-do, keeps-attempt-do, tells-do, hears-do, enters-do, leaves-do, client-falls-do, client-rises-do}
-use Rattle.world_machine.proofs.NodeSteps.{DecisionLaws, by-node, tries-station-do, keeps-station-do, says-do, takes-do, node-falls-do, node-rises-do}
+use Rattle.world_machine.proofs.ClientSteps.{HearingLaws, ClientDoes, by-client, begins-do, tries-attempt-do, keeps-attempt-do, tells-do, hears-do, enters-do, leaves-do, client-falls-do, client-rises-do}
+use Rattle.world_machine.proofs.NodeSteps.{DecisionLaws, NodeDoes, by-node, tries-station-do, keeps-station-do, says-do, takes-do, node-falls-do, node-rises-do}
 
 client-step : (w v : ExactWorld) (a : Action) (c : ℕ) (f : ExactClient → Turns ExactClient) → ClientTook w c f v → IsSound w → Happens (setting_of w) (forget w) a (forget v) → IsAllowedStep w a v
 client-step w v a c f took sound happens =
@@ -35,6 +35,21 @@ node-step w v a n f took sound after happens =
       setting = subst (λ (u : ExactWorld). setting_of u ≡ setting_of w) (sym took.is) refl;
       sound = subst IsSound (sym took.is) (sound-node w n took.before took.turn sound took.was after);
     }
+
+-- what a client, or a node, does and says nothing
+
+client-action : (R : Client → Client → Type 0) (w v : ExactWorld) (a : Action) (c : ℕ) (f : ExactClient → Turns ExactClient) (o : Outcome) → IsSound w → client_steps w c f ≡ Ok (record { world = v; outcome = o }) →
+    ((k : ExactClient) (t : Turn ExactClient) → f k ≡ Ok t → ClientDoes R k t) → (ByClient (setting_of w) (forget w) (forget v) c R → Happens (setting_of w) (forget w) a (forget v)) → IsAllowedStep w a v
+client-action R w v a c f o sound h does happens =
+    let took = client-took w c f (record { world = v; outcome = o }) h in
+    client-step w v a c f took sound (happens (by-client R w c f v took (does took.before took.turn took.does)))
+
+node-action : (R : Node → Node → Type 0) (w v : ExactWorld) (a : Action) (n : ℕ) (f : ExactNode → Turns ExactNode) (o : Outcome) → IsSound w → node_steps w n f ≡ Ok (record { world = v; outcome = o }) →
+    ((u : ExactNode) (t : Turn ExactNode) → IsSoundNode u → f u ≡ Ok t → NodeDoes R u t) → (ByNode (setting_of w) (forget w) (forget v) n R → Happens (setting_of w) (forget w) a (forget v)) → IsAllowedStep w a v
+node-action R w v a n f o sound h does happens =
+    let took = node-took w n f (record { world = v; outcome = o }) h in
+    let d = does took.before took.turn (sound.each n took.before took.was) took.does in
+    node-step w v a n f took sound d.sound (happens (by-node R w n f v sound took d))
 
 -- a client speaks to a node that is there
 tells-step : (w v : ExactWorld) (c n : ℕ) (o : Outcome) → IsSound w → (found : Option ExactNode) → numbered w.nodes n ≡ found → tells_node w c n found ≡ Ok (record { world = v; outcome = o }) → IsAllowedStep w (SayTo c n) v
@@ -54,28 +69,11 @@ tells-step w v c n o sound (Some u) e h =
 
 pub step-allowed : DecisionLaws → HearingLaws → (w v : ExactWorld) (a : Action) (o : Outcome) → IsSound w → step w a ≡ Ok (record { world = v; outcome = o }) → IsAllowedStep w a v
 unfolding step
-step-allowed deciding hearing w v (Begin c m x) o sound h =
-    let f : ExactClient → Turns ExactClient = λ k. begins_in c m x k k.phase in
-    let took = client-took w c f (record { world = v; outcome = o }) h in
-    client-step w v (Begin c m x) c f took sound (by-client (Begins c m x) w c f v took (begins-do c m x took.before took.turn took.does))
-step-allowed deciding hearing w v (Try (actor.Node n)) o sound h =
-    let f : ExactNode → Turns ExactNode = λ u. tries_station_in u u.phase in
-    let took = node-took w n f (record { world = v; outcome = o }) h in
-    let d = tries-station-do took.before took.turn (sound.each n took.before took.was) took.does in
-    node-step w v (Try (actor.Node n)) n f took sound d.sound (by-node TriesStation w n f v sound took d)
-step-allowed deciding hearing w v (Try (actor.Client c)) o sound h =
-    let f : ExactClient → Turns ExactClient = λ k. tries_attempt_in k k.phase in
-    let took = client-took w c f (record { world = v; outcome = o }) h in
-    client-step w v (Try (actor.Client c)) c f took sound (by-client TriesAttempt w c f v took (tries-attempt-do took.before took.turn took.does))
-step-allowed deciding hearing w v (Kept (actor.Node n)) o sound h =
-    let f : ExactNode → Turns ExactNode = λ u. keeps_station_in u u.phase in
-    let took = node-took w n f (record { world = v; outcome = o }) h in
-    let d = keeps-station-do took.before took.turn (sound.each n took.before took.was) took.does in
-    node-step w v (Kept (actor.Node n)) n f took sound d.sound (by-node KeepsStation w n f v sound took d)
-step-allowed deciding hearing w v (Kept (actor.Client c)) o sound h =
-    let f : ExactClient → Turns ExactClient = λ k. keeps_attempt_in k k.phase in
-    let took = client-took w c f (record { world = v; outcome = o }) h in
-    client-step w v (Kept (actor.Client c)) c f took sound (by-client KeepsAttempt w c f v took (keeps-attempt-do took.before took.turn took.does))
+step-allowed deciding hearing w v (Begin c m x) o sound h = client-action (Begins c m x) w v (Begin c m x) c (λ k. begins_in c m x k k.phase) o sound h (begins-do c m x) (λ b. b)
+step-allowed deciding hearing w v (Try (actor.Node n)) o sound h = node-action TriesStation w v (Try (actor.Node n)) n (λ u. tries_station_in u u.phase) o sound h tries-station-do (λ b. b)
+step-allowed deciding hearing w v (Try (actor.Client c)) o sound h = client-action TriesAttempt w v (Try (actor.Client c)) c (λ k. tries_attempt_in k k.phase) o sound h tries-attempt-do (λ b. b)
+step-allowed deciding hearing w v (Kept (actor.Node n)) o sound h = node-action KeepsStation w v (Kept (actor.Node n)) n (λ u. keeps_station_in u u.phase) o sound h keeps-station-do (λ b. b)
+step-allowed deciding hearing w v (Kept (actor.Client c)) o sound h = client-action KeepsAttempt w v (Kept (actor.Client c)) c (λ k. keeps_attempt_in k k.phase) o sound h keeps-attempt-do (λ b. b)
 step-allowed deciding hearing w v (SayTo c n) o sound h = tells-step w v c n o sound (numbered w.nodes n) refl h
 step-allowed deciding hearing w v (Say n) o sound h =
     let f : ExactNode → Turns ExactNode = λ u. says_in (next_number w) u u.phase in
@@ -94,32 +92,12 @@ step-allowed deciding hearing w v (Hear c k) o sound h =
     let took = client-took w c f (record { world = v; outcome = o }) h in
     let d = hears-do hearing w.ballot c (numbered w.sent k) took.before took.turn took.does in
     client-step w v (Hear c k) c f took sound (d.message, numbered-among w.sent k d.message d.is_found, d.is_for, by-client (Hears w.ballot c d.message) w c f v took d.hears)
-step-allowed deciding hearing w v (Enter c) o sound h =
-    let f : ExactClient → Turns ExactClient = λ k. enters_in w.ballot k k.phase in
-    let took = client-took w c f (record { world = v; outcome = o }) h in
-    client-step w v (Enter c) c f took sound (by-client (Enters w.ballot) w c f v took (enters-do w.ballot took.before took.turn took.does))
-step-allowed deciding hearing w v (Leave c) o sound h =
-    let f : ExactClient → Turns ExactClient = λ k. leaves_in k k.phase in
-    let took = client-took w c f (record { world = v; outcome = o }) h in
-    client-step w v (Leave c) c f took sound (by-client Leaves w c f v took (leaves-do took.before took.turn took.does))
-step-allowed deciding hearing w v (Fall (actor.Node n)) o sound h =
-    let f : ExactNode → Turns ExactNode = λ u. node_falls_in u u.phase in
-    let took = node-took w n f (record { world = v; outcome = o }) h in
-    let d = node-falls-do took.before took.turn (sound.each n took.before took.was) took.does in
-    node-step w v (Fall (actor.Node n)) n f took sound d.sound (by-node NodeFalls w n f v sound took d)
-step-allowed deciding hearing w v (Fall (actor.Client c)) o sound h =
-    let f : ExactClient → Turns ExactClient = λ k. client_falls_in k k.phase in
-    let took = client-took w c f (record { world = v; outcome = o }) h in
-    client-step w v (Fall (actor.Client c)) c f took sound (by-client ClientFalls w c f v took (client-falls-do took.before took.turn took.does))
-step-allowed deciding hearing w v (Rise (actor.Node n) age) o sound h =
-    let f : ExactNode → Turns ExactNode = λ u. node_rises_in age u u.phase in
-    let took = node-took w n f (record { world = v; outcome = o }) h in
-    let d = node-rises-do age took.before took.turn (sound.each n took.before took.was) took.does in
-    node-step w v (Rise (actor.Node n) age) n f took sound d.sound (by-node (NodeRises age) w n f v sound took d)
-step-allowed deciding hearing w v (Rise (actor.Client c) age) o sound h =
-    let f : ExactClient → Turns ExactClient = λ k. client_rises_in age k k.phase in
-    let took = client-took w c f (record { world = v; outcome = o }) h in
-    client-step w v (Rise (actor.Client c) age) c f took sound (by-client (ClientRises age) w c f v took (client-rises-do age took.before took.turn took.does))
+step-allowed deciding hearing w v (Enter c) o sound h = client-action (Enters w.ballot) w v (Enter c) c (λ k. enters_in w.ballot k k.phase) o sound h (enters-do w.ballot) (λ b. b)
+step-allowed deciding hearing w v (Leave c) o sound h = client-action Leaves w v (Leave c) c (λ k. leaves_in k k.phase) o sound h leaves-do (λ b. b)
+step-allowed deciding hearing w v (Fall (actor.Node n)) o sound h = node-action NodeFalls w v (Fall (actor.Node n)) n (λ u. node_falls_in u u.phase) o sound h node-falls-do (λ b. b)
+step-allowed deciding hearing w v (Fall (actor.Client c)) o sound h = client-action ClientFalls w v (Fall (actor.Client c)) c (λ k. client_falls_in k k.phase) o sound h client-falls-do (λ b. b)
+step-allowed deciding hearing w v (Rise (actor.Node n) age) o sound h = node-action (NodeRises age) w v (Rise (actor.Node n) age) n (λ u. node_rises_in age u u.phase) o sound h (node-rises-do age) (λ b. b)
+step-allowed deciding hearing w v (Rise (actor.Client c) age) o sound h = client-action (ClientRises age) w v (Rise (actor.Client c) age) c (λ k. client_rises_in age k k.phase) o sound h (client-rises-do age) (λ b. b)
 
 pub run-allowed : DecisionLaws → HearingLaws → (actions : List Action) (w : ExactWorld) → IsSound w → IsAllowedRun w actions
 run-allowed deciding hearing [] w sound = record { run = refl; sound = sound }

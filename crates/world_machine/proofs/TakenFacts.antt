@@ -26,7 +26,7 @@ use Rattle.world_machine.specs.declared.exact.ExactClientPhase.TheVariants as cl
 use Rattle.world_machine.specs.declared.exact.ExactWorld.{ExactWorld}
 use Rattle.world_machine.specs.Events.{Age, Old, New, Action, Begin, Try, Kept, SayTo, Say, Take, Hear, Enter, Leave, Fall, Rise, Outcome, Chose, Tried, WasKept, Sent, Said, Took, Inside, Outside, Rose}
 use Rattle.world_machine.specs.Worlds.{NodeDown, NodeIdle, Decided, Stored, Node, ClientDown, ClientIdle, Chosen, Asking, IsIn, Client, World, OfNode, OfClient, ByNode, ByClient, Happens, Begins, begins, TriesAttempt, tries_attempt, TriesStation, tries_station, KeepsAttempt, keeps_attempt, KeepsStation, keeps_station, Tells, asks, asks_inside, releases, Says, says, Takes, takes, takes_same, Hears, counts, counts_inside, passes, passes_inside, passes_idle, passes_chosen, Enters, enters, Leaves, gives_up, leaves, NodeFalls, node_falls, ClientFalls, client_falls, NodeRises, node_rises_old, node_rises_new, ClientRises, client_rises_old, client_rises_new}
-use Rattle.world_machine.specs.ExactWorlds.{Turn, Turns, numbered, quietly, node_in, client_in, begins_in, tries_attempt_with, tries_attempt_in, tries_station_with, tries_station_in, keeps_attempt_with, keeps_attempt_in, keeps_station_with, keeps_station_in, tells_in, says_in, decides_on, takes_message, takes_in, hears_message, is_down, hears_found, hears_in, enters_in, leaves_in, node_falls_in, client_falls_in, node_rises_with, node_rises_in, client_rises_with, client_rises_in, has_room, next_number, with_client, with_node_turn, client_finishes, node_finishes, by_client, by_node, client_steps, node_steps, tells_node, step}
+use Rattle.world_machine.specs.ExactWorlds.{Turn, Turns, numbered, quietly, node_in, client_in, begins_in, tries_attempt_with, tries_attempt_in, tries_station_with, tries_station_in, keeps_attempt_with, keeps_attempt_in, keeps_station_with, keeps_station_in, tells_in, says_in, decides_on, takes_message, takes_in, hears_message, is_down, hears_found, hears_in, enters_in, leaves_in, node_falls_in, client_falls_in, node_rises_with, node_rises_in, client_rises_with, client_rises_in, has_room, next_number, with_client, with_node_turn, finishes, by_actor, client_steps, node_steps, tells_node, step}
 use Rattle.world_machine.specs.Forgetting.{station_of, node_phase_of, node_of, client_phase_of, client_of, node_at, client_at, forget, setting_of, IsSound, NamesItsMessage, IsTakenUnlessFull}
 
 -- the turn may be taken
@@ -52,17 +52,10 @@ there {A} xs k one within = go xs refl
     go [] e = absurd (let long : length xs ≡ 0 = sym (ap length e) in omega (arith, one, within, long))
     go (y ∷ ys) e = at y (y ∷ ys) e
 
-client-taken : (w : ExactWorld) (c : ℕ) (f : ExactClient → Turns ExactClient) (k : ExactClient) → numbered w.clients c ≡ Some k → MayTurn ExactClient (f k) → IsTakenUnlessFull (client_steps w c f)
-client-taken w c f k was may = subst IsTakenUnlessFull (sym (ap (λ o. by_client w c o f) was ∙ ap (client_finishes w c) may.does)) (go (has_room w may.turn.says))
+actor-taken : {A : Type 0} (w : ExactWorld) (into : Turn A → ExactWorld) (found : Option A) (f : A → Turns A) (a : A) → found ≡ Some a → MayTurn A (f a) → IsTakenUnlessFull (by_actor w into found f)
+actor-taken w into found f a was may = subst IsTakenUnlessFull (sym (ap (λ o. by_actor w into o f) was ∙ ap (finishes w into) may.does)) (go (has_room w may.turn.says))
   where
-    go : (room : Bool) → IsTakenUnlessFull (cond room (Ok (record { world = with_client w c may.turn; outcome = may.turn.outcome })) (Err fault.SentListFull))
-    go true = tt
-    go false = refl
-
-node-taken : (w : ExactWorld) (n : ℕ) (f : ExactNode → Turns ExactNode) (v : ExactNode) → numbered w.nodes n ≡ Some v → MayTurn ExactNode (f v) → IsTakenUnlessFull (node_steps w n f)
-node-taken w n f v was may = subst IsTakenUnlessFull (sym (ap (λ o. by_node w n o f) was ∙ ap (node_finishes w n) may.does)) (go (has_room w may.turn.says))
-  where
-    go : (room : Bool) → IsTakenUnlessFull (cond room (Ok (record { world = with_node_turn w n may.turn; outcome = may.turn.outcome })) (Err fault.SentListFull))
+    go : (room : Bool) → IsTakenUnlessFull (cond room (Ok (record { world = into may.turn; outcome = may.turn.outcome })) (Err fault.SentListFull))
     go true = tt
     go false = refl
 
@@ -91,13 +84,13 @@ pub by-client-taken : (R : Client → Client → Type 0) (w : ExactWorld) (c : �
     ((k : ExactClient) (after : Client) → R (client_of k) after → MayTurn ExactClient (f k)) → IsTakenUnlessFull (client_steps w c f)
 by-client-taken R w c f u h may =
     let k = client-there w c h.0 h.1 [] u h.3 in
-    client-taken w c f k.client k.was (may k.client h.1 (subst (λ b. R b h.1) (sym k.seen) h.2))
+    actor-taken w (with_client w c) (numbered w.clients c) f k.client k.was (may k.client h.1 (subst (λ b. R b h.1) (sym k.seen) h.2))
 
 by-node-taken : (R : Node → Node → Type 0) (w : ExactWorld) (n : ℕ) (f : ExactNode → Turns ExactNode) (u : World) → IsSound w → ByNode (setting_of w) (forget w) u n R →
     ((v : ExactNode) (after : Node) → R (node_of v) after → MayTurn ExactNode (f v)) → IsTakenUnlessFull (node_steps w n f)
 by-node-taken R w n f u sound h may =
     let v = node-there w n h.0 h.1 [] u sound h.3 in
-    node-taken w n f v.node v.was (may v.node h.1 (subst (λ b. R b h.1) (sym v.seen) h.2))
+    actor-taken w (with_node_turn w n) (numbered w.nodes n) f v.node v.was (may v.node h.1 (subst (λ b. R b h.1) (sym v.seen) h.2))
 
 -- which exact phase stands for a phase
 
@@ -406,7 +399,7 @@ tells-taken w c n u sound h =
     let said = h.1 in
     let k = client-there w c said.0 said.0 said.1 u said.3 in
     subst IsTakenUnlessFull (sym (ap (tells_node w c n) v.1))
-    (client-taken w c (λ j. tells_in (next_number w) c n j j.phase) k.client k.was (tells-may (next_number w) c n k.client said.1 (subst (λ b. Tells c n b said.1) (sym k.seen) said.2)))
+    (actor-taken w (with_client w c) (numbered w.clients c) (λ j. tells_in (next_number w) c n j j.phase) k.client k.was (tells-may (next_number w) c n k.client said.1 (subst (λ b. Tells c n b said.1) (sym k.seen) said.2)))
 
 pub step-taken : (w : ExactWorld) (a : Action) (u : World) → IsSound w → Happens (setting_of w) (forget w) a u → NamesItsMessage w a → IsTakenUnlessFull (step w a)
 unfolding step
@@ -418,7 +411,7 @@ step-taken w (Kept (actor.Client c)) u sound h named = by-client-taken KeepsAtte
 step-taken w (SayTo c n) u sound h named = tells-taken w c n u sound h
 step-taken w (Say n) u sound h named =
     let v = node-there w n h.0 h.1 h.2 u sound h.4 in
-    node-taken w n (λ x. says_in (next_number w) x x.phase) v.node v.was (says-may (next_number w) v.node h.1 h.2 (subst (λ b. Says b h.1 h.2) (sym v.seen) h.3))
+    actor-taken w (with_node_turn w n) (numbered w.nodes n) (λ x. says_in (next_number w) x x.phase) v.node v.was (says-may (next_number w) v.node h.1 h.2 (subst (λ b. Says b h.1 h.2) (sym v.seen) h.3))
 step-taken w (Take n k) u sound h named =
     by-node-taken (Takes h.0) w n (λ v. takes_in n (numbered w.sent k) v v.phase) u sound h.3 (λ v after r. takes-may n k w.sent v h.0 named (takes-needs r))
 step-taken w (Hear c k) u sound h named =

@@ -19,7 +19,7 @@ use Rattle.world_machine.specs.declared.nodes.Node.{Node}
 use Rattle.world_machine.specs.declared.exact.ExactNodePhase.TheVariants as exact
 use Rattle.world_machine.specs.declared.nodes.NodePhase.TheVariants as phase
 use Rattle.world_machine.specs.Events.{Outcome, outcome_of, Sent, Said, SayTo, Say}
-use Rattle.world_machine.specs.ExactWorlds.{Turn, Turns, numbered, Steps, has_room, with_client, with_node_turn, client_finishes, node_finishes, by_client, by_node, client_steps, node_steps, tells_in, says_one, says_in, tells_node, next_number, node_in, step}
+use Rattle.world_machine.specs.ExactWorlds.{Turn, Turns, numbered, Steps, has_room, with_client, with_node_turn, finishes, by_actor, client_steps, node_steps, tells_in, says_one, says_in, tells_node, next_number, node_in, step}
 use Rattle.world_machine.specs.Clients.{client_view}
 use Rattle.world_machine.specs.Nodes.{node_view, NodeAnswers, IsQuiet, IsRefusal}
 use Rattle.world_machine.specs.WorldViews.{world_view}
@@ -52,26 +52,26 @@ room-nothing : (w : ExactWorld) → has_room w [] ≡ true
 room-nothing w = le-leb 0 (MAX_MESSAGES - length w.sent) (omega arith)
 
 client-turn : (b : Ballot) (ns : List Node) (cs : List Client) (sent : List Message) (c : ℕ) (k : Client) (f : ExactClient → Turns ExactClient) → numbered cs c ≡ Some k →
-    client_steps (world_view b ns cs sent) c f ≡ client_finishes (world_view b ns cs sent) c (f (client_view k))
-client-turn b ns cs sent c k f h = ap (λ o. by_client (world_view b ns cs sent) c o f) (numbered-map client_view cs c ∙ ap (option_map client_view) h)
+    client_steps (world_view b ns cs sent) c f ≡ finishes (world_view b ns cs sent) (with_client (world_view b ns cs sent) c) (f (client_view k))
+client-turn b ns cs sent c k f h = ap (λ o. by_actor (world_view b ns cs sent) (with_client (world_view b ns cs sent) c) o f) (numbered-map client_view cs c ∙ ap (option_map client_view) h)
 
 pub client-steps-err : (b : Ballot) (ns : List Node) (cs : List Client) (sent : List Message) (c : ℕ) (k : Client) (f : ExactClient → Turns ExactClient) (e : StepFault) → numbered cs c ≡ Some k →
     f (client_view k) ≡ Err e → IsRefused (client_steps (world_view b ns cs sent) c f) e
-client-steps-err b ns cs sent c k f e h t = refused (client_steps (world_view b ns cs sent) c f) e (client-turn b ns cs sent c k f h ∙ ap (client_finishes (world_view b ns cs sent) c) t)
+client-steps-err b ns cs sent c k f e h t = refused (client_steps (world_view b ns cs sent) c f) e (client-turn b ns cs sent c k f h ∙ ap (finishes (world_view b ns cs sent) (with_client (world_view b ns cs sent) c)) t)
 
 pub client-steps-ok : (b : Ballot) (ns : List Node) (cs : List Client) (sent : List Message) (c : ℕ) (k a : Client) (f : ExactClient → Turns ExactClient) (o : Outcome) → numbered cs c ≡ Some k →
     f (client_view k) ≡ Ok (record { after = client_view a; says = []; outcome = o }) →
     client_steps (world_view b ns cs sent) c f ≡ Ok (record { world = world_view b ns (slice_set cs (c - 1) a) sent; outcome = o })
 client-steps-ok b ns cs sent c k a f o h t =
     let w = world_view b ns cs sent in
-    client-turn b ns cs sent c k f h ∙ ap (client_finishes w c) t
+    client-turn b ns cs sent c k f h ∙ ap (finishes w (with_client w c)) t
     ∙ ap (λ room. cond room (Ok (record { world = with_client w c (record { after = client_view a; says = []; outcome = o }); outcome = o })) (Err fault.SentListFull)) (room-nothing w)
     ∙ ap (λ (l : List ExactClient). Ok (record { world = record { ballot = b; nodes = map node_view ns; clients = l; sent = sent ++ [] }; outcome = o })) (sym (map-set client_view cs (c - 1) a))
     ∙ ap (λ (l : List Message). Ok (record { world = record { ballot = b; nodes = map node_view ns; clients = map client_view (slice_set cs (c - 1) a); sent = l }; outcome = o })) (append-nil sent)
 
 node-turn : (b : Ballot) (ns : List Node) (cs : List Client) (sent : List Message) (n : ℕ) (v : Node) (f : ExactNode → Turns ExactNode) → numbered ns n ≡ Some v →
-    node_steps (world_view b ns cs sent) n f ≡ node_finishes (world_view b ns cs sent) n (f (node_view v))
-node-turn b ns cs sent n v f h = ap (λ o. by_node (world_view b ns cs sent) n o f) (numbered-map node_view ns n ∙ ap (option_map node_view) h)
+    node_steps (world_view b ns cs sent) n f ≡ finishes (world_view b ns cs sent) (with_node_turn (world_view b ns cs sent) n) (f (node_view v))
+node-turn b ns cs sent n v f h = ap (λ o. by_actor (world_view b ns cs sent) (with_node_turn (world_view b ns cs sent) n) o f) (numbered-map node_view ns n ∙ ap (option_map node_view) h)
 
 -- a node in its place again
 same-node : (b : Ballot) (ns : List Node) (cs : List Client) (sent : List Message) (i : ℕ) (v a : Node) → v ≡ get_or ns i v → node_view a ≡ node_view v → world_view b (slice_set ns i a) cs sent ≡ world_view b ns cs sent
@@ -81,7 +81,7 @@ same-node b ns cs sent i v a at same =
 
 -- a turn that says nothing is taken
 quiet-taken : (b : Ballot) (ns : List Node) (cs : List Client) (sent : List Message) (n : ℕ) (turn : Turns ExactNode) → IsQuiet turn → (e : StepFault) →
-    node_finishes (world_view b ns cs sent) n turn ≡ Err e → e ≡ fault.Memory
+    finishes (world_view b ns cs sent) (with_node_turn (world_view b ns cs sent) n) turn ≡ Err e → e ≡ fault.Memory
 quiet-taken b ns cs sent n (Err d) quiet e z = absurd quiet
 quiet-taken b ns cs sent n (Ok t) quiet e z =
     let w = world_view b ns cs sent in
@@ -91,18 +91,18 @@ quiet-taken b ns cs sent n (Ok t) quiet e z =
 refusal-steps : (b : Ballot) (ns : List Node) (cs : List Client) (sent : List Message) (n : ℕ) (v : Node) (f : ExactNode → Turns ExactNode) → numbered ns n ≡ Some v → (e : StepFault) →
     IsRefusal (f (node_view v)) e → IsRefused (node_steps (world_view b ns cs sent) n f) e
 refusal-steps b ns cs sent n v f h fault.Memory r = λ e z. quiet-taken b ns cs sent n (f (node_view v)) r e (sym (node-turn b ns cs sent n v f h) ∙ z)
-refusal-steps b ns cs sent n v f h fault.UnknownActor r = node-turn b ns cs sent n v f h ∙ ap (node_finishes (world_view b ns cs sent) n) r
-refusal-steps b ns cs sent n v f h fault.Down r = node-turn b ns cs sent n v f h ∙ ap (node_finishes (world_view b ns cs sent) n) r
-refusal-steps b ns cs sent n v f h fault.Up r = node-turn b ns cs sent n v f h ∙ ap (node_finishes (world_view b ns cs sent) n) r
-refusal-steps b ns cs sent n v f h fault.WrongPhase r = node-turn b ns cs sent n v f h ∙ ap (node_finishes (world_view b ns cs sent) n) r
-refusal-steps b ns cs sent n v f h fault.NotStored r = node-turn b ns cs sent n v f h ∙ ap (node_finishes (world_view b ns cs sent) n) r
-refusal-steps b ns cs sent n v f h fault.NothingToSay r = node-turn b ns cs sent n v f h ∙ ap (node_finishes (world_view b ns cs sent) n) r
-refusal-steps b ns cs sent n v f h fault.NoSuchMessage r = node-turn b ns cs sent n v f h ∙ ap (node_finishes (world_view b ns cs sent) n) r
-refusal-steps b ns cs sent n v f h fault.NotAddressed r = node-turn b ns cs sent n v f h ∙ ap (node_finishes (world_view b ns cs sent) n) r
-refusal-steps b ns cs sent n v f h fault.NoQuorum r = node-turn b ns cs sent n v f h ∙ ap (node_finishes (world_view b ns cs sent) n) r
-refusal-steps b ns cs sent n v f h fault.AttemptsSpent r = node-turn b ns cs sent n v f h ∙ ap (node_finishes (world_view b ns cs sent) n) r
-refusal-steps b ns cs sent n v f h fault.NothingTried r = node-turn b ns cs sent n v f h ∙ ap (node_finishes (world_view b ns cs sent) n) r
-refusal-steps b ns cs sent n v f h fault.SentListFull r = node-turn b ns cs sent n v f h ∙ ap (node_finishes (world_view b ns cs sent) n) r
+refusal-steps b ns cs sent n v f h fault.UnknownActor r = node-turn b ns cs sent n v f h ∙ ap (finishes (world_view b ns cs sent) (with_node_turn (world_view b ns cs sent) n)) r
+refusal-steps b ns cs sent n v f h fault.Down r = node-turn b ns cs sent n v f h ∙ ap (finishes (world_view b ns cs sent) (with_node_turn (world_view b ns cs sent) n)) r
+refusal-steps b ns cs sent n v f h fault.Up r = node-turn b ns cs sent n v f h ∙ ap (finishes (world_view b ns cs sent) (with_node_turn (world_view b ns cs sent) n)) r
+refusal-steps b ns cs sent n v f h fault.WrongPhase r = node-turn b ns cs sent n v f h ∙ ap (finishes (world_view b ns cs sent) (with_node_turn (world_view b ns cs sent) n)) r
+refusal-steps b ns cs sent n v f h fault.NotStored r = node-turn b ns cs sent n v f h ∙ ap (finishes (world_view b ns cs sent) (with_node_turn (world_view b ns cs sent) n)) r
+refusal-steps b ns cs sent n v f h fault.NothingToSay r = node-turn b ns cs sent n v f h ∙ ap (finishes (world_view b ns cs sent) (with_node_turn (world_view b ns cs sent) n)) r
+refusal-steps b ns cs sent n v f h fault.NoSuchMessage r = node-turn b ns cs sent n v f h ∙ ap (finishes (world_view b ns cs sent) (with_node_turn (world_view b ns cs sent) n)) r
+refusal-steps b ns cs sent n v f h fault.NotAddressed r = node-turn b ns cs sent n v f h ∙ ap (finishes (world_view b ns cs sent) (with_node_turn (world_view b ns cs sent) n)) r
+refusal-steps b ns cs sent n v f h fault.NoQuorum r = node-turn b ns cs sent n v f h ∙ ap (finishes (world_view b ns cs sent) (with_node_turn (world_view b ns cs sent) n)) r
+refusal-steps b ns cs sent n v f h fault.AttemptsSpent r = node-turn b ns cs sent n v f h ∙ ap (finishes (world_view b ns cs sent) (with_node_turn (world_view b ns cs sent) n)) r
+refusal-steps b ns cs sent n v f h fault.NothingTried r = node-turn b ns cs sent n v f h ∙ ap (finishes (world_view b ns cs sent) (with_node_turn (world_view b ns cs sent) n)) r
+refusal-steps b ns cs sent n v f h fault.SentListFull r = node-turn b ns cs sent n v f h ∙ ap (finishes (world_view b ns cs sent) (with_node_turn (world_view b ns cs sent) n)) r
 
 -- what is at a place that is in the list
 pub numbered-at : {A : Type 0} (xs : List A) (k : ℕ) (x : A) → 1 ≤ k → k - 1 < length xs → x ≡ get_or xs (k - 1) x → numbered xs k ≡ Some x
@@ -114,7 +114,7 @@ node-does b ns cs sent n v a f (Err e) one within at h = (refusal-steps b ns cs 
 node-does b ns cs sent n v a f (Ok e) one within at h =
     let w = world_view b ns cs sent in
     let o = outcome_of e in
-    node-turn b ns cs sent n v f (numbered-at ns n v one within at) ∙ ap (node_finishes w n) h
+    node-turn b ns cs sent n v f (numbered-at ns n v one within at) ∙ ap (finishes w (with_node_turn w n)) h
     ∙ ap (λ room. cond room (Ok (record { world = with_node_turn w n (record { after = node_view a; says = []; outcome = o }); outcome = o })) (Err fault.SentListFull)) (room-nothing w)
     ∙ ap (λ (l : List ExactNode). Ok (record { world = record { ballot = b; nodes = l; clients = map client_view cs; sent = sent ++ [] }; outcome = o })) (sym (map-set node_view ns (n - 1) a))
     ∙ ap (λ (l : List Message). Ok (record { world = record { ballot = b; nodes = map node_view (slice_set ns (n - 1) a); clients = map client_view cs; sent = l }; outcome = o })) (append-nil sent)
@@ -126,7 +126,7 @@ numbered-past xs k one past = ap (λ b. cond b None (slice_get xs (k - 1))) (ne_
 
 pub node-unknown : (b : Ballot) (ns : List Node) (cs : List Client) (sent : List Message) (n : ℕ) (f : ExactNode → Turns ExactNode) → 1 ≤ n → length ns ≤ n - 1 →
     node_steps (world_view b ns cs sent) n f ≡ Err fault.UnknownActor
-node-unknown b ns cs sent n f one past = ap (λ o. by_node (world_view b ns cs sent) n o f) (numbered-map node_view ns n ∙ ap (option_map node_view) (numbered-past ns n one past))
+node-unknown b ns cs sent n f one past = ap (λ o. by_actor (world_view b ns cs sent) (with_node_turn (world_view b ns cs sent) n) o f) (numbered-map node_view ns n ∙ ap (option_map node_view) (numbered-past ns n one past))
 
 -- sending one message
 
@@ -156,7 +156,7 @@ unfolding step
 tells-sends b ns cs sent c n v k m hn hc t =
     let w = world_view b ns cs sent in
     ap (tells_node w c n) (numbered-map node_view ns n ∙ ap (option_map node_view) hn)
-    ∙ client-turn b ns cs sent c k (λ j. tells_in (next_number w) c n j j.phase) hc ∙ ap (client_finishes w c) (t (next_number w))
+    ∙ client-turn b ns cs sent c k (λ j. tells_in (next_number w) c n j j.phase) hc ∙ ap (finishes w (with_client w c)) (t (next_number w))
     ∙ ap (λ (l : List ExactClient). cond (has_room w (m ∷ [])) (Ok (record { world = record { ballot = b; nodes = map node_view ns; clients = l; sent = sent ++ m ∷ [] }; outcome = Sent (next_number w) m })) (Err fault.SentListFull))
     (sym (map-set client_view cs (c - 1) k) ∙ ap (map client_view) (same-place cs c k hc))
 
@@ -167,7 +167,7 @@ unfolding step
 tells-err b ns cs sent c n v k e hn hc t =
     let w = world_view b ns cs sent in
     ap (tells_node w c n) (numbered-map node_view ns n ∙ ap (option_map node_view) hn)
-    ∙ client-turn b ns cs sent c k (λ j. tells_in (next_number w) c n j j.phase) hc ∙ ap (client_finishes w c) (t (next_number w))
+    ∙ client-turn b ns cs sent c k (λ j. tells_in (next_number w) c n j j.phase) hc ∙ ap (finishes w (with_client w c)) (t (next_number w))
 
 pub tells-no-node : (b : Ballot) (ns : List Node) (cs : List Client) (sent : List Message) (c n : ℕ) → 1 ≤ n → length ns ≤ n - 1 →
     step (world_view b ns cs sent) (SayTo c n) ≡ Err fault.UnknownActor
@@ -177,7 +177,7 @@ tells-no-node b ns cs sent c n one past = ap (tells_node (world_view b ns cs sen
 -- whatever node there is, a client that isn't there is unknown
 either-unknown : (w : ExactWorld) (c n : ℕ) (o : Option ExactNode) → numbered w.clients c ≡ None → tells_node w c n o ≡ Err fault.UnknownActor
 either-unknown w c n None h = refl
-either-unknown w c n (Some v) h = ap (λ o. by_client w c o (λ k. tells_in (next_number w) c n k k.phase)) h
+either-unknown w c n (Some v) h = ap (λ o. by_actor w (with_client w c) o (λ k. tells_in (next_number w) c n k k.phase)) h
 
 pub tells-no-client : (b : Ballot) (ns : List Node) (cs : List Client) (sent : List Message) (c n : ℕ) → numbered cs c ≡ None →
     step (world_view b ns cs sent) (SayTo c n) ≡ Err fault.UnknownActor
@@ -195,7 +195,7 @@ pub says-err : (b : Ballot) (ns : List Node) (cs : List Client) (sent : List Mes
 unfolding step
 says-err b ns cs sent n v e h t =
     let w = world_view b ns cs sent in
-    node-turn b ns cs sent n v (λ u. says_in (next_number w) u u.phase) h ∙ ap (node_finishes w n) (t (next_number w))
+    node-turn b ns cs sent n v (λ u. says_in (next_number w) u u.phase) h ∙ ap (finishes w (with_node_turn w n)) (t (next_number w))
 
 -- the turn in which a node says its replies
 abbrev pub SaysAll : Node → List Message → Type 0
@@ -207,7 +207,7 @@ unfolding step
 says-full b ns cs sent n v replies h t full =
     let w = world_view b ns cs sent in
     let turn : Turn ExactNode = record { after = node_in (node_view v) exact.Idle; says = replies; outcome = Said (next_number w) (length replies) } in
-    node-turn b ns cs sent n v (λ u. says_in (next_number w) u u.phase) h ∙ ap (node_finishes w n) (t (next_number w))
+    node-turn b ns cs sent n v (λ u. says_in (next_number w) u u.phase) h ∙ ap (finishes w (with_node_turn w n)) (t (next_number w))
     ∙ ap (λ r. cond r (Ok (record { world = with_node_turn w n turn; outcome = turn.outcome })) (Err fault.SentListFull)) (lt-leb (length replies) (MAX_MESSAGES - length sent) full)
 
 pub says-ok : (b : Ballot) (ns : List Node) (cs : List Client) (sent : List Message) (n : ℕ) (v : Node) (replies : List Message) → numbered ns n ≡ Some v → SaysAll v replies → (node_view v).tried ≡ None →
@@ -219,7 +219,7 @@ says-ok b ns cs sent n v replies h t none room =
     let turn : Turn ExactNode = record { after = node_in (node_view v) exact.Idle; says = replies; outcome = Said (next_number w) (length replies) } in
     let idle : Node = record { entries = v.entries; phase = phase.Idle } in
     let is : node_in (node_view v) exact.Idle ≡ node_view idle = ap (λ o. record { kept = (node_view v).kept; tried = o; phase = exact.Idle }) none in
-    node-turn b ns cs sent n v (λ u. says_in (next_number w) u u.phase) h ∙ ap (node_finishes w n) (t (next_number w))
+    node-turn b ns cs sent n v (λ u. says_in (next_number w) u u.phase) h ∙ ap (finishes w (with_node_turn w n)) (t (next_number w))
     ∙ ap (λ r. cond r (Ok (record { world = with_node_turn w n turn; outcome = turn.outcome })) (Err fault.SentListFull)) (le-leb (length replies) (MAX_MESSAGES - length sent) room)
     ∙ ap (λ (l : List ExactNode). Ok (record { world = record { ballot = b; nodes = l; clients = map client_view cs; sent = sent ++ replies }; outcome = Said (length sent + 1) (length replies) }))
     (ap (set (map node_view ns) (n - 1)) is ∙ sym (map-set node_view ns (n - 1) idle))

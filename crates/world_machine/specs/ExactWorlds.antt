@@ -269,27 +269,21 @@ with_client w c t = record { ballot = w.ballot; nodes = w.nodes; clients = slice
 abbrev pub with_node_turn : ExactWorld → ℕ → Turn ExactNode → ExactWorld
 with_node_turn w n t = record { ballot = w.ballot; nodes = slice_set w.nodes (n - 1) t.after; clients = w.clients; sent = w.sent ++ t.says }
 
-abbrev pub client_finishes : ExactWorld → ℕ → Turns ExactClient → Steps
-client_finishes w c (Err e) = Err e
-client_finishes w c (Ok t) = if has_room w t.says then Ok (record { world = with_client w c t; outcome = t.outcome }) else Err fault.SentListFull
+-- an actor's turn, where the world after it is the one that is given
+abbrev pub finishes : {A : Type 0} → ExactWorld → (Turn A → ExactWorld) → Turns A → Steps
+finishes w into (Err e) = Err e
+finishes w into (Ok t) = if has_room w t.says then Ok (record { world = into t; outcome = t.outcome }) else Err fault.SentListFull
 
-abbrev pub node_finishes : ExactWorld → ℕ → Turns ExactNode → Steps
-node_finishes w n (Err e) = Err e
-node_finishes w n (Ok t) = if has_room w t.says then Ok (record { world = with_node_turn w n t; outcome = t.outcome }) else Err fault.SentListFull
-
-abbrev pub by_client : ExactWorld → ℕ → Option ExactClient → (ExactClient → Turns ExactClient) → Steps
-by_client w c None f = Err fault.UnknownActor
-by_client w c (Some k) f = client_finishes w c (f k)
-
-abbrev pub by_node : ExactWorld → ℕ → Option ExactNode → (ExactNode → Turns ExactNode) → Steps
-by_node w n None f = Err fault.UnknownActor
-by_node w n (Some v) f = node_finishes w n (f v)
+-- what the actor does, if there is one
+abbrev pub by_actor : {A : Type 0} → ExactWorld → (Turn A → ExactWorld) → Option A → (A → Turns A) → Steps
+by_actor w into None f = Err fault.UnknownActor
+by_actor w into (Some a) f = finishes w into (f a)
 
 abbrev pub client_steps : ExactWorld → ℕ → (ExactClient → Turns ExactClient) → Steps
-client_steps w c f = by_client w c (numbered w.clients c) f
+client_steps w c f = by_actor w (with_client w c) (numbered w.clients c) f
 
 abbrev pub node_steps : ExactWorld → ℕ → (ExactNode → Turns ExactNode) → Steps
-node_steps w n f = by_node w n (numbered w.nodes n) f
+node_steps w n f = by_actor w (with_node_turn w n) (numbered w.nodes n) f
 
 -- a client speaks to a node, which has to be one of the ballot's
 abbrev pub tells_node : ExactWorld → ℕ → ℕ → Option ExactNode → Steps
