@@ -1,5 +1,5 @@
 -- An actor's turn, put into the world.
-use Rattle.std.proofs.Common.{◌≡◌, ℕ, ◌+◌, ◌-◌, ◌<◌, ◌≤◌, ◌==◌, Bool, true, false, cond, List, [], ◌∷◌, ◌++◌, length, map, set, get_or, Option, Some, None, Result, Ok, Err, refl, sym, ◌∙◌, ap, arith}
+use Rattle.std.proofs.Common.{◌≡◌, ℕ, ◌+◌, ◌-◌, ◌<◌, ◌≤◌, ◌==◌, Bool, true, false, cond, List, [], ◌∷◌, ◌++◌, length, map, set, get_or, Option, Some, None, Result, Ok, Err, IsOk, refl, sym, ◌∙◌, ap, subst, inl, inr, arith}
 use Rattle.std.specs.Prelude.{slice_get, slice_set}
 use Rattle.std.specs.Option.{option_map}
 use Rattle.std.proofs.lemmas.Bool.{le-leb, lt-leb, ne_eqb}
@@ -33,19 +33,7 @@ numbered-map {A} {B} f xs k = go (k == 0)
     go false = slice_get-map f xs (k - 1)
 
 pub refused : (steps : Steps) (e : StepFault) → steps ≡ Err e → IsRefused steps e
-refused steps fault.Memory h = λ e z. let q : Err fault.Memory ≡ Err e = sym h ∙ z in cc
-refused steps fault.UnknownActor h = h
-refused steps fault.Down h = h
-refused steps fault.Up h = h
-refused steps fault.WrongPhase h = h
-refused steps fault.NotStored h = h
-refused steps fault.NothingToSay h = h
-refused steps fault.NoSuchMessage h = h
-refused steps fault.NotAddressed h = h
-refused steps fault.NoQuorum h = h
-refused steps fault.AttemptsSpent h = h
-refused steps fault.NothingTried h = h
-refused steps fault.SentListFull h = h
+refused steps e h = inl h
 
 -- there is room for nothing
 room-nothing : (w : ExactWorld) → has_room w [] ≡ true
@@ -80,29 +68,16 @@ same-node b ns cs sent i v a at same =
     (map-set node_view ns i a ∙ ap (set (map node_view ns) i) (same ∙ ap node_view at) ∙ sym (map-set node_view ns i (get_or ns i v)) ∙ ap (map node_view) (set-get_or ns i v))
 
 -- a turn that says nothing is taken
-quiet-taken : (b : Ballot) (ns : List Node) (cs : List Client) (sent : List Message) (n : ℕ) (turn : Turns ExactNode) → IsQuiet turn → (e : StepFault) →
-    finishes (world_view b ns cs sent) (with_node_turn (world_view b ns cs sent) n) turn ≡ Err e → e ≡ fault.Memory
-quiet-taken b ns cs sent n (Err d) quiet e z = absurd quiet
-quiet-taken b ns cs sent n (Ok t) quiet e z =
-    let w = world_view b ns cs sent in
-    let there : has_room w t.says ≡ true = ap (has_room w) quiet ∙ room-nothing w in
-    absurd (let q : Ok (record { world = with_node_turn w n t; outcome = t.outcome }) ≡ Err e = sym (ap (λ room. cond room (Ok (record { world = with_node_turn w n t; outcome = t.outcome })) (Err fault.SentListFull)) there) ∙ z in cc)
+quiet-taken : (w : ExactWorld) (n : ℕ) (turn : Turns ExactNode) → IsQuiet turn → IsOk (finishes w (with_node_turn w n) turn)
+quiet-taken w n (Err d) quiet = absurd quiet
+quiet-taken w n (Ok t) quiet =
+    let taken : Bool → Steps = λ room. cond room (Ok (record { world = with_node_turn w n t; outcome = t.outcome })) (Err fault.SentListFull) in
+    subst (λ room. IsOk (taken room)) (sym (ap (has_room w) quiet ∙ room-nothing w)) refl
 
 refusal-steps : (b : Ballot) (ns : List Node) (cs : List Client) (sent : List Message) (n : ℕ) (v : Node) (f : ExactNode → Turns ExactNode) → numbered ns n ≡ Some v → (e : StepFault) →
     IsRefusal (f (node_view v)) e → IsRefused (node_steps (world_view b ns cs sent) n f) e
-refusal-steps b ns cs sent n v f h fault.Memory r = λ e z. quiet-taken b ns cs sent n (f (node_view v)) r e (sym (node-turn b ns cs sent n v f h) ∙ z)
-refusal-steps b ns cs sent n v f h fault.UnknownActor r = node-turn b ns cs sent n v f h ∙ ap (finishes (world_view b ns cs sent) (with_node_turn (world_view b ns cs sent) n)) r
-refusal-steps b ns cs sent n v f h fault.Down r = node-turn b ns cs sent n v f h ∙ ap (finishes (world_view b ns cs sent) (with_node_turn (world_view b ns cs sent) n)) r
-refusal-steps b ns cs sent n v f h fault.Up r = node-turn b ns cs sent n v f h ∙ ap (finishes (world_view b ns cs sent) (with_node_turn (world_view b ns cs sent) n)) r
-refusal-steps b ns cs sent n v f h fault.WrongPhase r = node-turn b ns cs sent n v f h ∙ ap (finishes (world_view b ns cs sent) (with_node_turn (world_view b ns cs sent) n)) r
-refusal-steps b ns cs sent n v f h fault.NotStored r = node-turn b ns cs sent n v f h ∙ ap (finishes (world_view b ns cs sent) (with_node_turn (world_view b ns cs sent) n)) r
-refusal-steps b ns cs sent n v f h fault.NothingToSay r = node-turn b ns cs sent n v f h ∙ ap (finishes (world_view b ns cs sent) (with_node_turn (world_view b ns cs sent) n)) r
-refusal-steps b ns cs sent n v f h fault.NoSuchMessage r = node-turn b ns cs sent n v f h ∙ ap (finishes (world_view b ns cs sent) (with_node_turn (world_view b ns cs sent) n)) r
-refusal-steps b ns cs sent n v f h fault.NotAddressed r = node-turn b ns cs sent n v f h ∙ ap (finishes (world_view b ns cs sent) (with_node_turn (world_view b ns cs sent) n)) r
-refusal-steps b ns cs sent n v f h fault.NoQuorum r = node-turn b ns cs sent n v f h ∙ ap (finishes (world_view b ns cs sent) (with_node_turn (world_view b ns cs sent) n)) r
-refusal-steps b ns cs sent n v f h fault.AttemptsSpent r = node-turn b ns cs sent n v f h ∙ ap (finishes (world_view b ns cs sent) (with_node_turn (world_view b ns cs sent) n)) r
-refusal-steps b ns cs sent n v f h fault.NothingTried r = node-turn b ns cs sent n v f h ∙ ap (finishes (world_view b ns cs sent) (with_node_turn (world_view b ns cs sent) n)) r
-refusal-steps b ns cs sent n v f h fault.SentListFull r = node-turn b ns cs sent n v f h ∙ ap (finishes (world_view b ns cs sent) (with_node_turn (world_view b ns cs sent) n)) r
+refusal-steps b ns cs sent n v f h e (inl r) = inl (node-turn b ns cs sent n v f h ∙ ap (finishes (world_view b ns cs sent) (with_node_turn (world_view b ns cs sent) n)) r)
+refusal-steps b ns cs sent n v f h e (inr r) = let w = world_view b ns cs sent in inr (r.0, subst IsOk (sym (node-turn b ns cs sent n v f h)) (quiet-taken w n (f (node_view v)) r.1))
 
 -- what is at a place that is in the list
 pub numbered-at : {A : Type 0} (xs : List A) (k : ℕ) (x : A) → 1 ≤ k → k - 1 < length xs → x ≡ get_or xs (k - 1) x → numbered xs k ≡ Some x
@@ -227,8 +202,7 @@ says-ok b ns cs sent n v replies h t none room =
 -- where there is room nothing refuses it
 pub says-not-refused : (b : Ballot) (ns : List Node) (cs : List Client) (sent : List Message) (n : ℕ) (v : Node) (replies : List Message) → numbered ns n ≡ Some v → SaysAll v replies → (node_view v).tried ≡ None →
     length replies ≤ MAX_MESSAGES - length sent → IsRefused (step (world_view b ns cs sent) (Say n)) fault.Memory
-says-not-refused b ns cs sent n v replies h t none room e z =
-    absurd (let q : Ok (record { world = world_view b (slice_set ns (n - 1) (record { entries = v.entries; phase = phase.Idle })) cs (sent ++ replies); outcome = Said (length sent + 1) (length replies) }) ≡ Err e = sym (says-ok b ns cs sent n v replies h t none room) ∙ z in cc)
+says-not-refused b ns cs sent n v replies h t none room = inr (refl, subst IsOk (sym (says-ok b ns cs sent n v replies h t none room)) refl)
 
 pub node-there : (ns : List Node) (n : ℕ) → 1 ≤ n → n - 1 < length ns → (v : Node) × (numbered ns n ≡ Some v)
 node-there [] n one within = absurd (omega arith)

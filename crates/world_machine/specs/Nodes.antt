@@ -1,5 +1,5 @@
 -- A node of the first world, seen as a node of the exact world, and its own part in events.
-use Rattle.std.specs.Prelude.{◌≡◌, ℕ, List, [], length, Option, Some, None, Result, Ok, Err, if◌then◌else◌}
+use Rattle.std.specs.Prelude.{◌≡◌, ℕ, ◌⊎◌, List, [], length, Option, Some, None, Result, Ok, Err, if◌then◌else◌}
 use Rattle.lock_messages.specs.declared.messages.Message.{Message}
 use Rattle.lock_model.specs.declared.problems.Problem.TheVariants.{First}
 use Rattle.lock_model.specs.declared.entries.Entry.{Entry}
@@ -46,21 +46,9 @@ abbrev pub IsQuiet : Turns ExactNode → Type 0
 IsQuiet (Err e) = ⊥
 IsQuiet (Ok t) = t.says ≡ []
 
--- the turn is refused so; memory only where nothing else refuses it
+-- the turn is refused so; or memory was, where nothing else refuses it
 abbrev pub IsRefusal : Turns ExactNode → StepFault → Type 0
-IsRefusal turn fault.Memory = IsQuiet turn
-IsRefusal turn fault.UnknownActor = turn ≡ Err fault.UnknownActor
-IsRefusal turn fault.Down = turn ≡ Err fault.Down
-IsRefusal turn fault.Up = turn ≡ Err fault.Up
-IsRefusal turn fault.WrongPhase = turn ≡ Err fault.WrongPhase
-IsRefusal turn fault.NotStored = turn ≡ Err fault.NotStored
-IsRefusal turn fault.NothingToSay = turn ≡ Err fault.NothingToSay
-IsRefusal turn fault.NoSuchMessage = turn ≡ Err fault.NoSuchMessage
-IsRefusal turn fault.NotAddressed = turn ≡ Err fault.NotAddressed
-IsRefusal turn fault.NoQuorum = turn ≡ Err fault.NoQuorum
-IsRefusal turn fault.AttemptsSpent = turn ≡ Err fault.AttemptsSpent
-IsRefusal turn fault.NothingTried = turn ≡ Err fault.NothingTried
-IsRefusal turn fault.SentListFull = turn ≡ Err fault.SentListFull
+IsRefusal turn e = (turn ≡ Err e) ⊎ ((e ≡ fault.Memory) × IsQuiet turn)
 
 -- the answer is the turn's: the node after and the effect, with nothing said, or the refusal, and then
 -- the node is as it was

@@ -1,5 +1,5 @@
 -- What a call that takes a step has done.
-use Rattle.std.specs.Prelude.{◌≡◌, ℕ, Result, Ok, Err, Some, None, List, [], ◌∷◌, ◌++◌, length, take, slice_get, if◌then◌else◌}
+use Rattle.std.specs.Prelude.{◌≡◌, ℕ, ◌⊎◌, IsOk, Result, Ok, Err, Some, None, List, [], ◌∷◌, ◌++◌, length, take, slice_get, if◌then◌else◌}
 use Rattle.lock_messages.specs.declared.messages.Message.{Message}
 use Rattle.world_machine.specs.declared.events.Effect.{Effect}
 use Rattle.world_machine.specs.declared.events.StepFault.{StepFault}
@@ -8,21 +8,9 @@ use Rattle.world_machine.specs.declared.exact.ExactWorld.{ExactWorld}
 use Rattle.world_machine.specs.Events.{Action, outcome_of, Sent}
 use Rattle.world_machine.specs.ExactWorlds.{Steps, Ran, has_room, next_number, ran, step}
 
--- The step is refused so. Memory is refused only where nothing else is: whatever refusal the step has, it is this.
+-- the step is refused so; or memory was, which nothing else comes behind: the step would be taken
 abbrev pub IsRefused : Steps → StepFault → Type 0
-IsRefused steps fault.Memory = (e : StepFault) → steps ≡ Err e → e ≡ fault.Memory
-IsRefused steps fault.UnknownActor = steps ≡ Err fault.UnknownActor
-IsRefused steps fault.Down = steps ≡ Err fault.Down
-IsRefused steps fault.Up = steps ≡ Err fault.Up
-IsRefused steps fault.WrongPhase = steps ≡ Err fault.WrongPhase
-IsRefused steps fault.NotStored = steps ≡ Err fault.NotStored
-IsRefused steps fault.NothingToSay = steps ≡ Err fault.NothingToSay
-IsRefused steps fault.NoSuchMessage = steps ≡ Err fault.NoSuchMessage
-IsRefused steps fault.NotAddressed = steps ≡ Err fault.NotAddressed
-IsRefused steps fault.NoQuorum = steps ≡ Err fault.NoQuorum
-IsRefused steps fault.AttemptsSpent = steps ≡ Err fault.AttemptsSpent
-IsRefused steps fault.NothingTried = steps ≡ Err fault.NothingTried
-IsRefused steps fault.SentListFull = steps ≡ Err fault.SentListFull
+IsRefused steps e = (steps ≡ Err e) ⊎ ((e ≡ fault.Memory) × IsOk steps)
 
 -- The call took the step: on Ok the world after and the effect are the step's; on a fault the step is
 -- refused so, and the world is as it was.

@@ -1,4 +1,4 @@
-use Rattle.std.proofs.Common.{◌≡◌, ◌<◌, ◌+◌, ◌-◌, ◌++◌, Ok, Err, Some, List, length, refl, sym, ◌∙◌, ap, subst, slice_set, arith}
+use Rattle.std.proofs.Common.{◌≡◌, ◌<◌, ◌+◌, ◌-◌, ◌++◌, Ok, Err, Some, List, length, refl, sym, ◌∙◌, ap, subst, inl, slice_set, arith}
 use Rattle.std.proofs.lemmas.List.{get_or_read}
 use Rattle.lock_messages.specs.declared.messages.Message.{Message}
 use Rattle.world_machine.specs.declared.nodes.Node.{Node}
@@ -14,8 +14,8 @@ use Rattle.world_machine.proofs.world.World.says.Goals as goal
 pub returns-then-index-len : goal.returns-then-index-len
 returns-then-index-len c =
     let s = c.self.inside in (
-      subst (λ w. step w (Say c.args.id) ≡ Err fault.UnknownActor) c.self.view_is
-          (says-unknown s.ballot s.nodes.items s.clients.items s.sent.items c.args.id (omega (arith, c.get.ensures.number, c.get.ensures.in_range)) (omega (arith, c.get.ensures.number, s.nodes.ok.0))),
+      inl (subst (λ w. step w (Say c.args.id) ≡ Err fault.UnknownActor) c.self.view_is
+          (says-unknown s.ballot s.nodes.items s.clients.items s.sent.items c.args.id (omega (arith, c.get.ensures.number, c.get.ensures.in_range)) (omega (arith, c.get.ensures.number, s.nodes.ok.0)))),
       refl,
     )
 
@@ -32,8 +32,8 @@ pub returns-then-count-first : goal.returns-then-count-first
 returns-then-count-first c =
     let s = c.self.inside in
     let at : numbered s.nodes.items c.get.result ≡ Some c.index.result.now = numbered-at s.nodes.items c.get.result c.index.result.now (omega (arith, c.get.ensures.in_range)) (omega (arith, s.nodes.ok.0)) c.index.ensures in (
-      subst (λ w. step w (Say c.args.id) ≡ Err fault.SentListFull) c.self.view_is
-          (says-full s.ballot s.nodes.items s.clients.items s.sent.items c.args.id c.index.result.now c.in-Ok.replies.now (subst (λ k. numbered s.nodes.items k ≡ Some c.index.result.now) c.get.ensures.number at) c.in-Ok.ensures.1 (omega (arith, s.sent.ok.0))),
+      inl (subst (λ w. step w (Say c.args.id) ≡ Err fault.SentListFull) c.self.view_is
+          (says-full s.ballot s.nodes.items s.clients.items s.sent.items c.args.id c.index.result.now c.in-Ok.replies.now (subst (λ k. numbered s.nodes.items k ≡ Some c.index.result.now) c.get.ensures.number at) c.in-Ok.ensures.1 (omega (arith, s.sent.ok.0)))),
       refl,
     )
 

@@ -1,4 +1,4 @@
-use Rattle.std.proofs.Common.{◌≡◌, Err, Some, None, refl, sym, ◌∙◌, ap, subst, arith}
+use Rattle.std.proofs.Common.{◌≡◌, Err, Some, None, refl, sym, ◌∙◌, ap, subst, inl, arith}
 use Rattle.world_machine.specs.declared.events.StepFault.TheVariants as fault
 use Rattle.world_machine.specs.Events.{SayTo}
 use Rattle.world_machine.specs.ExactWorlds.{numbered, step}
@@ -9,8 +9,8 @@ use Rattle.world_machine.proofs.world.World.tells.Goals as goal
 pub returns-then-get-len : goal.returns-then-get-len
 returns-then-get-len c =
     let s = c.self.inside in (
-      subst (λ w. step w (SayTo c.args.id c.args.node) ≡ Err fault.UnknownActor) c.self.view_is
-          (tells-no-node s.ballot s.nodes.items s.clients.items s.sent.items c.args.id c.args.node (omega (arith, c.get.ensures.number, c.get.ensures.in_range)) (omega (arith, c.get.ensures.number, s.nodes.ok.0))),
+      inl (subst (λ w. step w (SayTo c.args.id c.args.node) ≡ Err fault.UnknownActor) c.self.view_is
+          (tells-no-node s.ballot s.nodes.items s.clients.items s.sent.items c.args.id c.args.node (omega (arith, c.get.ensures.number, c.get.ensures.in_range)) (omega (arith, c.get.ensures.number, s.nodes.ok.0)))),
       refl,
     )
 
@@ -18,8 +18,8 @@ pub returns-in_default : goal.returns-in_default
 returns-in_default c =
     let s = c.self.inside in
     let absent : numbered s.clients.items c.args.id ≡ None = ap (λ xs. numbered xs c.args.id) (sym c.deref.ensures.value) ∙ sym c.client_at.ensures ∙ c.in_default.is in (
-      subst (λ w. step w (SayTo c.args.id c.args.node) ≡ Err fault.UnknownActor) c.self.view_is
-          (tells-no-client s.ballot s.nodes.items s.clients.items s.sent.items c.args.id c.args.node absent),
+      inl (subst (λ w. step w (SayTo c.args.id c.args.node) ≡ Err fault.UnknownActor) c.self.view_is
+          (tells-no-client s.ballot s.nodes.items s.clients.items s.sent.items c.args.id c.args.node absent)),
       refl,
     )
 
