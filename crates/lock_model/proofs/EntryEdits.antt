@@ -2,7 +2,7 @@
 use Rattle.std.proofs.Common.{◌≡◌, ◌≢◌, ℕ, ◌+◌, ◌<◌, ◌≤◌, ◌==◌, ◌⊎◌, Bool, true, false, not, ◌&&◌, ◌||◌, cond, ltb, List, [], ◌∷◌, ◌++◌, Option, Some, None, IfSome, map, filter, refl, sym, ◌∙◌, ap, subst, inl, inr, arith}
 use Rattle.std.specs.List.{AllByRecursion}
 use Rattle.std.specs.Option.{option_map}
-use Rattle.std.proofs.lemmas.Bool.{eqb-true, ne_eqb, ltb-true, ltb-false, cases_lt}
+use Rattle.std.proofs.lemmas.Bool.{eqb-true, ne_eqb, ltb-true, ltb-false, cases_lt, or_parts}
 use Rattle.std.proofs.lemmas.List.{append-nil}
 use Rattle.lock_model.specs.declared.entries.Entry.{Entry}
 use Rattle.lock_model.specs.declared.entries.Live.{Live}
@@ -10,7 +10,7 @@ use Rattle.lock_model.specs.declared.problems.Problem.{Problem}
 use Rattle.lock_model.specs.Stations.{Free, stranger, EndsAt, Ends, Puts}
 use Rattle.lock_model.specs.ExactStations.{is_of, knows, entry_of, standing_of, meaning, EachOnce, IsAboveFloor, IsWellFormed, admits, promoted, settled_live, settled_entry, settle, settled, is_waiting}
 use Rattle.lock_model.specs.ExactDecisions.{ended_entry, ended, moved_last}
-use Rattle.lock_model.proofs.EntryFacts.{or-none, any-found, Middle, once-put, entry_of-here, entry_of-other, entry_of-found, entry_of-among}
+use Rattle.lock_model.proofs.EntryFacts.{any-found, Middle, once-put, entry_of-here, entry_of-other, entry_of-found, entry_of-among}
 use Rattle.lock_model.proofs.SettlingSets.{settle-once}
 
 -- a change of each entry that keeps its client
@@ -45,7 +45,7 @@ attempts-append (x ∷ xs) ys a b = (a.0, attempts-append xs ys a.1 b)
 pub unknown-none : (es : List Entry) (c : ℕ) → knows c es ≡ false → entry_of es c ≡ None
 unknown-none [] c h = refl
 unknown-none (e ∷ es) c h =
-    let k = or-none (is_of c e) (knows c es) h in
+    let k = or_parts (is_of c e) (knows c es) h in
     ap (λ b. cond b (Some e) (entry_of es c)) k.0 ∙ unknown-none es c k.1
 
 known-some : (es : List Entry) (c : ℕ) → EachOnce es → knows c es ≡ true → (e : Entry) × (entry_of es c ≡ Some e) × (is_of c e ≡ true)
@@ -210,11 +210,11 @@ kept-unknown c (e ∷ es) = go (kept-unknown c es) (is_of c e) refl
 kept-knows : (c d : ℕ) (es : List Entry) → knows d es ≡ false → knows d (kept c es) ≡ false
 unfolding kept
 kept-knows c d [] h = refl
-kept-knows c d (e ∷ es) h = go (kept-knows c d es (or-none (is_of d e) (knows d es) h).1) (is_of c e)
+kept-knows c d (e ∷ es) h = go (kept-knows c d es (or_parts (is_of d e) (knows d es) h).1) (is_of c e)
   where
     go : knows d (kept c es) ≡ false → (b : Bool) → knows d (cond (not b) (e ∷ kept c es) (kept c es)) ≡ false
     go ih true = ih
-    go ih false = ap (λ b. b || knows d (kept c es)) (or-none (is_of d e) (knows d es) h).0 ∙ ih
+    go ih false = ap (λ b. b || knows d (kept c es)) (or_parts (is_of d e) (knows d es) h).0 ∙ ih
 
 kept-once : (c : ℕ) (es : List Entry) → EachOnce es → EachOnce (kept c es)
 unfolding kept

@@ -1,7 +1,7 @@
 -- Looking up entries: what a list of entries, each client once, says of its clients.
 use Rattle.std.proofs.Common.{◌≡◌, ◌≢◌, ℕ, ◌==◌, ◌⊎◌, Bool, true, false, ◌||◌, cond, List, [], ◌∷◌, ◌++◌, Option, Some, None, refl, sym, ◌∙◌, ap, inl, inr}
 use Rattle.std.specs.List.{list_any}
-use Rattle.std.proofs.lemmas.Bool.{eqb-true, eq-eqb, cases_Bool, or_cases}
+use Rattle.std.proofs.lemmas.Bool.{eqb-true, eq-eqb, cases_Bool, or_cases, or_parts, or_left, or_right}
 use Rattle.std.proofs.lemmas.Bool.Decides.{eqb_tells}
 use Rattle.lock_messages.specs.declared.tickets.Mode.{Mode}
 use Rattle.lock_model.specs.declared.entries.Entry.{Entry}
@@ -21,27 +21,15 @@ any-found {A} p (x ∷ xs) h = go (or_cases (p x) (list_any p xs) h) (any-found 
     go (inl e) ih = (x, inl refl, e)
     go (inr e) ih = let f = ih e in (f.0, inr f.1, f.2)
 
-or-left : (a b : Bool) → a ≡ true → (a || b) ≡ true
-or-left true b h = refl
-or-left false b h = cc
-
-or-right : (a b : Bool) → b ≡ true → (a || b) ≡ true
-or-right true b h = refl
-or-right false b h = h
-
-pub or-none : (a b : Bool) → (a || b) ≡ false → (a ≡ false) × (b ≡ false)
-or-none true b h = cc
-or-none false b h = (refl, h)
-
 pub any-of : {A : Type 0} (p : A → Bool) (xs : List A) (x : A) → Among x xs → p x ≡ true → list_any p xs ≡ true
 any-of p [] x m h = absurd m
-any-of p (y ∷ ys) x (inl e) h = or-left (p y) (list_any p ys) (ap p (sym e) ∙ h)
-any-of p (y ∷ ys) x (inr m) h = or-right (p y) (list_any p ys) (any-of p ys x m h)
+any-of p (y ∷ ys) x (inl e) h = or_left (p y) (list_any p ys) (ap p (sym e) ∙ h)
+any-of p (y ∷ ys) x (inr m) h = or_right (p y) (list_any p ys) (any-of p ys x m h)
 
 pub any-none : {A : Type 0} (p : A → Bool) (xs : List A) (x : A) → list_any p xs ≡ false → Among x xs → p x ≡ false
 any-none p [] x h m = absurd m
-any-none p (y ∷ ys) x h (inl e) = ap p e ∙ (or-none (p y) (list_any p ys) h).0
-any-none p (y ∷ ys) x h (inr m) = any-none p ys x (or-none (p y) (list_any p ys) h).1 m
+any-none p (y ∷ ys) x h (inl e) = ap p e ∙ (or_parts (p y) (list_any p ys) h).0
+any-none p (y ∷ ys) x h (inr m) = any-none p ys x (or_parts (p y) (list_any p ys) h).1 m
 
 -- whose entry it is
 
@@ -70,7 +58,7 @@ pub once-middle : (xs : List Entry) (e : Entry) (ys : List Entry) → EachOnce (
 once-middle [] e ys h = record { new = h.0; rest = h.1 }
 once-middle (x ∷ xs) e ys h =
     let m = once-middle xs e ys h.1 in
-    let k = or-none (is_of x.client e) (knows x.client (xs ++ ys)) (sym (knows-middle x.client xs e ys) ∙ h.0) in
+    let k = or_parts (is_of x.client e) (knows x.client (xs ++ ys)) (sym (knows-middle x.client xs e ys) ∙ h.0) in
     record {
       new = go (is_of e.client x) (knows e.client (xs ++ ys)) (eqb-swap e.client x.client k.0) m.new;
       rest = (k.1, m.rest);
@@ -83,7 +71,7 @@ once-middle (x ∷ xs) e ys h =
 pub once-put : (xs : List Entry) (e : Entry) (ys : List Entry) → Middle xs e ys → EachOnce (xs ++ e ∷ ys)
 once-put [] e ys m = (m.new, m.rest)
 once-put (x ∷ xs) e ys m =
-    let k = or-none (is_of e.client x) (knows e.client (xs ++ ys)) m.new in (
+    let k = or_parts (is_of e.client x) (knows e.client (xs ++ ys)) m.new in (
       knows-middle x.client xs e ys ∙ go (is_of x.client e) (knows x.client (xs ++ ys)) (eqb-swap x.client e.client k.0) m.rest.0,
       once-put xs e ys (record { new = k.1; rest = m.rest.1 }),
     )
@@ -108,7 +96,7 @@ pub entry_of-middle : (xs : List Entry) (e : Entry) (ys : List Entry) → knows 
     entry_of (xs ++ e ∷ ys) d ≡ cond (is_of d e) (Some e) (entry_of (xs ++ ys) d)
 entry_of-middle [] e ys k d = refl
 entry_of-middle (x ∷ xs) e ys k d =
-    let parts = or-none (is_of e.client x) (knows e.client (xs ++ ys)) k in
+    let parts = or_parts (is_of e.client x) (knows e.client (xs ++ ys)) k in
     let apart : is_of d x ≡ true → is_of d e ≡ false = λ h. ap (λ n. e.client == n) (sym (eqb-true x.client d h)) ∙ eqb-swap x.client e.client parts.0 in
     ap (λ r. cond (is_of d x) (Some x) r) (entry_of-middle xs e ys parts.1 d) ∙ turn-choice (is_of d x) (is_of d e) (Some x) (Some e) (entry_of (xs ++ ys) d) apart
 

@@ -8,4 +8,5 @@ pub mod GrantFacts
 pub mod DecisionFacts
 pub mod PassFacts
 pub mod EntryTests
+pub mod JudgementFacts
 pub mod HearingFacts

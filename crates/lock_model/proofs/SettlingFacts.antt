@@ -33,7 +33,7 @@ pub write-true : (m : Mode) → is_write m ≡ true → m ≡ Write
 write-true Read h = cc
 write-true Write h = refl
 
-holds-from : (x : List ℕ) (l : Live) → l.status ≡ Holding → l.resource ≡ x → holds x l ≡ true
+pub holds-from : (x : List ℕ) (l : Live) → l.status ≡ Holding → l.resource ≡ x → holds x l ≡ true
 holds-from x l s r = and_from (is_holding l.status) (bytes_eq l.resource x) (ap is_holding s) ((bytes_eq-Decides l.resource x).1 r)
 
 -- a client of the entries whose ticket is a holder, or a writer's

@@ -1,6 +1,6 @@
 -- What follows from the definitions, as statements; each is proved as the contract of a function of
 -- `laws`.
-use Rattle.std.specs.Prelude.{◌≡◌, ◌↔◌, ℕ, ◌≤◌, Bool, true, false, List, length}
+use Rattle.std.specs.Prelude.{◌≡◌, ◌↔◌, ℕ, ◌≤◌, Bool, true, false, IsTrue, List, length}
 use Rattle.lock_messages.specs.declared.tickets.Mode.{Mode}
 use Rattle.lock_messages.specs.declared.tickets.Mode.TheVariants.{Write}
 use Rattle.lock_messages.specs.declared.tickets.Ticket.{Ticket}
@@ -16,12 +16,21 @@ use Rattle.lock_model.specs.Hearing.{HearsOfTicket, HearsAtRest}
 use Rattle.lock_model.specs.ExactHearing.{heard_of_ticket, heard_at_rest}
 use Rattle.lock_model.specs.ExactStations.{EachOnce, IsWellFormed, meaning, IsSettling, with_holders, settled, new_holders}
 use Rattle.lock_model.specs.ExactDecisions.{decision, changes}
+use Rattle.lock_model.specs.Judgement.{is_lawful, is_caused}
 
 -- where a ballot crosses, two sets that are enough, one of them for a writer, share a node of the
 -- ballot that has votes
 abbrev pub EnoughSetsShareANode : Type 0
 EnoughSetsShareANode = (b : Ballot) (mode : Mode) (writers others : ℕ → Bool) → Crosses b →
     IsEnough b Write writers → IsEnough b mode others → (n : ℕ) × IsShared b writers others n
+
+-- entries, each client once, are those of a lawful station, or of a caused one, exactly where the test
+-- on them passes
+abbrev pub LawfulIsSeen : Type 0
+LawfulIsSeen = (p : Problem) (entries : List Entry) → EachOnce entries → IsTrue (is_lawful entries) ↔ IsLawful (meaning p entries)
+
+abbrev pub CausedIsSeen : Type 0
+CausedIsSeen = (p : Problem) (entries : List Entry) → EachOnce entries → IsTrue (is_caused p entries) ↔ IsCaused (meaning p entries)
 
 -- settling makes holders of a set of clients that is as it must be, and leaves the entries in which
 -- these hold

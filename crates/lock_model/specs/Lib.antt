@@ -3,6 +3,7 @@ pub mod Stations
 pub mod Decisions
 pub mod Hearing
 pub mod ExactStations
+pub mod Judgement
 pub mod ExactDecisions
 pub mod ExactHearing
 pub mod Laws

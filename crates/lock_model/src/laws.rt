@@ -1,12 +1,18 @@
 //! Laws of the definitions. Each function computes nothing: its contract is a theorem.
 
 ghost use Rattle.lock_model.specs.Examples.{FirstReader, RepeatedRequest, WriterBehindReader, ReleasedReader, LateRequest, ReleasedStranger, ReaderPasses, ReaderWaits, ReleaseSettles, MuddledRequest, NextAttempt, WeightedVotes};
-ghost use Rattle.lock_model.specs.Laws.{EnoughSetsShareANode, SettlingIsExact, SettlingIsUnique, ExactDecisionIsAllowed, ChangesAreSeen, FloorsNeverFall, EndedStaysEnded, HearingOfTicketIsExact, HearingAtRestIsExact};
+ghost use Rattle.lock_model.specs.Laws.{EnoughSetsShareANode, LawfulIsSeen, CausedIsSeen, SettlingIsExact, SettlingIsUnique, ExactDecisionIsAllowed, ChangesAreSeen, FloorsNeverFall, EndedStaysEnded, HearingOfTicketIsExact, HearingAtRestIsExact};
 
 /// Where a ballot crosses, two sets of nodes that are enough, one of them for a writer, share a
 /// node of the ballot that has votes.
 pub fn enough_sets_share_a_node()
     ensures { EnoughSetsShareANode }
+{}
+
+/// Whether entries are those of a lawful station, and of a caused one, is seen by a test on them.
+pub fn judgement_is_exact()
+    ensures lawful { LawfulIsSeen }
+    ensures caused { CausedIsSeen }
 {}
 
 /// Settling makes holders of the one set of clients in which each waiting ticket stands exactly

@@ -1,9 +1,9 @@
 -- What is read is spelled so, and what is spelled so is read: node records.
-use Rattle.std.proofs.Common.{◌≡◌, ◌⊎◌, inl, inr, ℕ, zero, suc, ◌+◌, ◌-◌, ◌^◌, ◌<◌, ◌≤◌, ◌==◌, Bool, true, false, ◌||◌, cond, eqb, List, [], ◌∷◌, ◌++◌, length, take, slice_get, Some, Result, Ok, Err, refl, sym, ap, subst, ◌∙◌, append_assoc, arith}
+use Rattle.std.proofs.Common.{◌≡◌, ◌⊎◌, inl, inr, ℕ, zero, suc, ◌+◌, ◌-◌, ◌^◌, ◌<◌, ◌≤◌, ◌==◌, Bool, true, false, cond, eqb, List, [], ◌∷◌, ◌++◌, length, take, slice_get, Some, Result, Ok, Err, refl, sym, ap, subst, ◌∙◌, append_assoc, arith}
 use Rattle.std.specs.Prelude.{IfOk, IsOk}
 use Rattle.std.specs.Int.{w16, to_be_bytes}
 use Rattle.std.specs.List.{flat_map, AllByRecursion}
-use Rattle.std.proofs.lemmas.Bool.{eqb-true}
+use Rattle.std.proofs.lemmas.Bool.{eqb-true, or_parts, or_from}
 use Rattle.std.proofs.lemmas.List.{append-nil, nil_from_length, take_more}
 use Rattle.std.proofs.lemmas.Option.{get_or_from_slice_get}
 use Rattle.std.proofs.lemmas.Grind.{flat_map-append}
@@ -15,41 +15,36 @@ use Rattle.lock_model.specs.ExactStations.{is_of, knows, EachOnce, IsAboveFloor,
 use Rattle.stable_record.specs.declared.faults.RecordFault.{RecordFault}
 use Rattle.stable_record.specs.declared.faults.RecordFault.TheVariants as faults
 use Rattle.stable_record.specs.declared.formats.TheConstants.{VERSION}
+use Rattle.lock_model.specs.Laws.{LawfulIsSeen, CausedIsSeen}
 use Rattle.stable_record.specs.declared.node_records.NodeRecord.{NodeRecord}
-use Rattle.stable_record.specs.Judgement.{is_lawful, is_caused}
+use Rattle.lock_model.specs.Judgement.{is_lawful, is_caused}
 use Rattle.stable_record.specs.Records.{policy_number, entry_bytes, head_bytes, node_record_of, IsEntry, IsNodeRecord}
 use Rattle.stable_record.specs.Reading.{◌>>=◌, IsOrRefused, AreGood, version_at, policy_at, count_at, entry_at, entries_at, head_at, record_at, judged, reading}
 use Rattle.stable_record.specs.Laws.{OneSpelling}
 use Rattle.stable_record.proofs.MapFacts.{same-turned}
-use Rattle.stable_record.proofs.StationFacts.{or-none}
-use Rattle.stable_record.proofs.JudgementFacts.{lawful-iff, caused-iff}
 use Rattle.stable_record.proofs.FieldFacts.{IsBytes, bind_ok, bind_again, went_on, done, ok_is, Takes, Takes-then, byte_takes, wide16, number_takes, number_again, policy_takes, policy_again, entry_takes, entry_again}
 
 -- ---- each client once
 
-either-none : (a b : Bool) → a ≡ false → b ≡ false → (a || b) ≡ false
-either-none true b p q = p
-either-none false b p q = q
-
 knows-push : (c : ℕ) (es : List Entry) (e : Entry) → knows c es ≡ false → (e.client == c) ≡ false → knows c (es ++ e ∷ []) ≡ false
-knows-push c [] e h k = either-none (e.client == c) false k refl
+knows-push c [] e h k = or_from (e.client == c) false k refl
 knows-push c (x ∷ es) e h k =
-    let p = or-none (is_of c x) (knows c es) h in
-    either-none (is_of c x) (knows c (es ++ e ∷ [])) p.0 (knows-push c es e p.1 k)
+    let p = or_parts (is_of c x) (knows c es) h in
+    or_from (is_of c x) (knows c (es ++ e ∷ [])) p.0 (knows-push c es e p.1 k)
 
 once-push : (es : List Entry) (e : Entry) → EachOnce es → knows e.client es ≡ false → EachOnce (es ++ e ∷ [])
 once-push [] e o h = (refl, tt)
 once-push (x ∷ es) e o h =
-    let p = or-none (is_of e.client x) (knows e.client es) h in
+    let p = or_parts (is_of e.client x) (knows e.client es) h in
     (knows-push x.client es e o.0 (same-turned e.client x.client ∙ p.0), once-push es e o.1 p.1)
 
 apart-from : (c : ℕ) (xs : List Entry) (e : Entry) (ys : List Entry) → knows c (xs ++ e ∷ ys) ≡ false → (e.client == c) ≡ false
-apart-from c [] e ys h = (or-none (is_of c e) (knows c ys) h).0
-apart-from c (x ∷ xs) e ys h = apart-from c xs e ys (or-none (is_of c x) (knows c (xs ++ e ∷ ys)) h).1
+apart-from c [] e ys h = (or_parts (is_of c e) (knows c ys) h).0
+apart-from c (x ∷ xs) e ys h = apart-from c xs e ys (or_parts (is_of c x) (knows c (xs ++ e ∷ ys)) h).1
 
 once-new : (xs : List Entry) (e : Entry) (ys : List Entry) → EachOnce (xs ++ e ∷ ys) → knows e.client xs ≡ false
 once-new [] e ys o = refl
-once-new (x ∷ xs) e ys o = either-none (is_of e.client x) (knows e.client xs) (same-turned x.client e.client ∙ apart-from x.client xs e ys o.0) (once-new xs e ys o.1)
+once-new (x ∷ xs) e ys o = or_from (is_of e.client x) (knows e.client xs) (same-turned x.client e.client ∙ apart-from x.client xs e ys o.0) (once-new xs e ys o.1)
 
 -- ---- so many entries
 
@@ -167,9 +162,9 @@ record_again r rest fits =
     ∙ bind_again (entries_at (length r.entries) [] body) (λ entries. Ok (record { policy = r.policy; entries = entries.0 }, entries.1)) (r.entries, rest)
     (entries_again r.entries [] rest fits.entries fits.well_formed.attempts fits.well_formed.once)
 
-reading_takes : (bytes : List ℕ) (r : NodeRecord) → IsBytes bytes → reading bytes ≡ Ok r → IsNodeRecord r × (bytes ≡ node_record_of r)
+reading_takes : LawfulIsSeen → CausedIsSeen → (bytes : List ℕ) (r : NodeRecord) → IsBytes bytes → reading bytes ≡ Ok r → IsNodeRecord r × (bytes ≡ node_record_of r)
 unfolding reading
-reading_takes bytes r fits e =
+reading_takes lawful_seen caused_seen bytes r fits e =
     let b = bind_ok (record_at bytes) judged r e in
     let x = b.0 in
     let g1 = went_on (eqb (length x.1) 0) faults.Trailing (cond (is_lawful x.0.entries) (cond (is_caused x.0.policy x.0.entries) (Ok x.0) (Err faults.NoCause)) (Err faults.WriterNotAlone)) r b.2 in
@@ -183,30 +178,30 @@ reading_takes bytes r fits e =
         few = t.few;
         entries = t.entries;
         well_formed = t.well_formed;
-        lawful = (lawful-iff x.0.policy x.0.entries t.well_formed.once).0 g2.0;
-        caused = (caused-iff x.0.policy x.0.entries t.well_formed.once).0 g3.0;
+        lawful = (lawful_seen x.0.policy x.0.entries t.well_formed.once).0 g2.0;
+        caused = (caused_seen x.0.policy x.0.entries t.well_formed.once).0 g3.0;
       },
       whole,
     )
 
-reading_again : (r : NodeRecord) → IsNodeRecord r → reading (node_record_of r) ≡ Ok r
+reading_again : LawfulIsSeen → CausedIsSeen → (r : NodeRecord) → IsNodeRecord r → reading (node_record_of r) ≡ Ok r
 unfolding reading
-reading_again r fits =
+reading_again lawful_seen caused_seen r fits =
     let e : record_at (node_record_of r) ≡ Ok (r, []) = ap record_at (sym (append-nil (node_record_of r))) ∙ record_again r [] fits in
-    let lawful : is_lawful r.entries ≡ true = (lawful-iff r.policy r.entries fits.well_formed.once).1 fits.lawful in
-    let caused : is_caused r.policy r.entries ≡ true = (caused-iff r.policy r.entries fits.well_formed.once).1 fits.caused in
+    let lawful : is_lawful r.entries ≡ true = (lawful_seen r.policy r.entries fits.well_formed.once).1 fits.lawful in
+    let caused : is_caused r.policy r.entries ≡ true = (caused_seen r.policy r.entries fits.well_formed.once).1 fits.caused in
     bind_again (record_at (node_record_of r)) judged (r, []) e
     ∙ ap (λ (b : Bool). cond b (cond (is_caused r.policy r.entries) (done r) (Err faults.NoCause)) (Err faults.WriterNotAlone)) lawful
     ∙ ap (λ (b : Bool). cond b (done r) (Err faults.NoCause)) caused
 
-pub is_found : (good : Type 0) (bytes : List ℕ) (r : Result NodeRecord RecordFault) → IsBytes bytes → IsOrRefused good r (reading bytes) → IfOk r (λ n. IsNodeRecord n × (bytes ≡ node_record_of n))
-is_found good bytes (Ok n) fits (inl h) = absurd (let z : done n ≡ Err faults.NoMemory = h.0 in cc)
-is_found good bytes (Ok n) fits (inr h) = reading_takes bytes n fits (sym h)
-is_found good bytes (Err d) fits h = tt
+pub is_found : LawfulIsSeen → CausedIsSeen → (good : Type 0) (bytes : List ℕ) (r : Result NodeRecord RecordFault) → IsBytes bytes → IsOrRefused good r (reading bytes) → IfOk r (λ n. IsNodeRecord n × (bytes ≡ node_record_of n))
+is_found lawful_seen caused_seen good bytes (Ok n) fits (inl h) = absurd (let z : done n ≡ Err faults.NoMemory = h.0 in cc)
+is_found lawful_seen caused_seen good bytes (Ok n) fits (inr h) = reading_takes lawful_seen caused_seen bytes n fits (sym h)
+is_found lawful_seen caused_seen good bytes (Err d) fits h = tt
 
-pub is_read : (good : Type 0) (bytes : List ℕ) (r : Result NodeRecord RecordFault) → IsOrRefused good r (reading bytes) → (n : NodeRecord) → IsNodeRecord n → bytes ≡ node_record_of n → (r ≡ Err faults.NoMemory) ⊎ (r ≡ Ok n)
-is_read good bytes r (inl h) n fits e = inl h.0
-is_read good bytes r (inr h) n fits e = inr (h ∙ ap reading e ∙ reading_again n fits)
+pub is_read : LawfulIsSeen → CausedIsSeen → (good : Type 0) (bytes : List ℕ) (r : Result NodeRecord RecordFault) → IsOrRefused good r (reading bytes) → (n : NodeRecord) → IsNodeRecord n → bytes ≡ node_record_of n → (r ≡ Err faults.NoMemory) ⊎ (r ≡ Ok n)
+is_read lawful_seen caused_seen good bytes r (inl h) n fits e = inl h.0
+is_read lawful_seen caused_seen good bytes r (inr h) n fits e = inr (h ∙ ap reading e ∙ reading_again lawful_seen caused_seen n fits)
 
 pub one_spelling : OneSpelling
 one_spelling r s xs ys hr hs e =

@@ -1,6 +1,5 @@
 pub mod Faults
 pub mod EntryLists
-pub mod Judgement
 pub mod Records
 pub mod Reading
 pub mod Laws

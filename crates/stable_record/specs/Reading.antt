@@ -19,7 +19,7 @@ use Rattle.stable_record.specs.declared.faults.RecordFault.{RecordFault}
 use Rattle.stable_record.specs.declared.faults.RecordFault.TheVariants as faults
 use Rattle.stable_record.specs.declared.formats.TheConstants.{VERSION}
 use Rattle.stable_record.specs.declared.node_records.NodeRecord.{NodeRecord}
-use Rattle.stable_record.specs.Judgement.{is_lawful, is_caused}
+use Rattle.lock_model.specs.Judgement.{is_lawful, is_caused}
 
 infixl 10 ◌>>=◌
 -- the next field is read where no fault was met

@@ -5,7 +5,7 @@ ghost use Rattle.std.specs.List.{list_any, list_all};
 ghost use Rattle.lock_messages.specs.declared.tickets.Mode.{Mode};
 ghost use Rattle.lock_model.specs.ExactStations.{knows, EachOnce, if_live, holds, writer_holds, writer_waits, admits};
 ghost use Rattle.stable_record.specs.EntryLists.{entries_in};
-ghost use Rattle.stable_record.specs.Judgement.{leaves_alone, is_lawful, has_cause, is_caused};
+ghost use Rattle.lock_model.specs.Judgement.{leaves_alone, is_lawful, has_cause, is_caused};
 
 use crate::Entry;
 use crate::kept::{Kept, is_writing, waits};

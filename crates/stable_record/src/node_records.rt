@@ -20,6 +20,7 @@ impl NodeRecord {
     pub fn lawful(&self) -> bool
         ensures { IsTrue result ↔ IsLawful (meaning self.now.policy self.now.entries) }
     {
+        lock_model::laws::judgement_is_exact();
         self.entries.is_lawful()
     }
 
@@ -29,6 +30,7 @@ impl NodeRecord {
     pub fn caused(&self) -> bool
         ensures { IsTrue result ↔ IsCaused (meaning self.now.policy self.now.entries) }
     {
+        lock_model::laws::judgement_is_exact();
         self.entries.is_caused(self.policy)
     }
 }

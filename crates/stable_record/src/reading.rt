@@ -316,5 +316,6 @@ pub fn read_node(alloc: Global, bytes: &[u8]) -> Result<NodeRecord, RecordFault>
     // Which fault it is. Memory is refused only behind an entry without fault.
     ensures exact { IsOrRefused (IsGoodSoFar bytes.now) result (reading bytes.now) }
 {
+    lock_model::laws::judgement_is_exact();
     whole(alloc, bytes)
 }

@@ -1,5 +1,6 @@
 -- What a client does by itself in the exact world is what the relations allow.
 use Rattle.std.proofs.Common.{◌≡◌, ◌≢◌, ℕ, ◌+◌, ◌==◌, ◌||◌, Bool, true, false, cond, nat_lt, nat_le, List, [], ◌∷◌, length, Option, Some, None, Ok, Err, refl, sym, ◌∙◌, ap, subst, arith}
+use Rattle.std.proofs.Math.Bool.{or_self_left}
 use Rattle.std.proofs.lemmas.Bool.Decides.{nat_tests}
 use Rattle.lock_messages.specs.declared.ids.TheConstants.{MAX_ATTEMPT}
 use Rattle.lock_messages.specs.declared.tickets.Mode.{Mode}
@@ -184,10 +185,6 @@ client-rises-do age k t h = go k.phase h
 
 -- Hear: a vote that counts joins the set
 
-or-again : (a b : Bool) → a || b ≡ a || (a || b)
-or-again true b = refl
-or-again false b = refl
-
 or-swap : (a b c : Bool) → a || (b || c) ≡ b || (a || c)
 or-swap true true c = refl
 or-swap true false c = refl
@@ -202,7 +199,7 @@ with-node-has (m ∷ set) n k = go (nat_lt n m) (n == m) refl (with-node-has set
     go true same e more = refl
     go false true e more =
         let one : n ≡ m = grind (arith, nat_tests) in
-        or-again (m == k) (has_node set k) ∙ ap (λ j. (j == k) || ((m == k) || has_node set k)) (sym one)
+        sym (or_self_left (m == k) (has_node set k)) ∙ ap (λ j. (j == k) || ((m == k) || has_node set k)) (sym one)
     go false false e more = ap (λ b. (m == k) || b) more ∙ or-swap (m == k) (n == k) (has_node set k)
 
 sender-joins : (m : Message) (granted : List ℕ) → has_node (with_sender m granted) ≡ gained m (has_node granted)

@@ -1,6 +1,6 @@
 use Rattle.std.proofs.Common.{ap, sym, ◌∙◌}
 use Rattle.stable_record.specs.EntryLists.{entry_of_pair, entries_in}
-use Rattle.stable_record.specs.Judgement.{has_cause, is_caused}
+use Rattle.lock_model.specs.Judgement.{has_cause, is_caused}
 use Rattle.stable_record.proofs.MapFacts.{all-map}
 use Rattle.stable_record.proofs.entries.Entries.is_caused.Goals as goal
 

@@ -1,10 +1,9 @@
 use Rattle.std.proofs.Common.{◌↔◌, Bool, IsTrue, subst, sym}
 use Rattle.lock_model.specs.Stations.{IsLawful}
 use Rattle.lock_model.specs.ExactStations.{meaning}
-use Rattle.stable_record.proofs.JudgementFacts.{lawful-iff}
 use Rattle.stable_record.proofs.node_records.NodeRecord.lawful.Goals as goal
 
 pub returns : goal.returns
 returns c =
     let r = c.args.self.now in
-    subst (λ (b : Bool). IsTrue b ↔ IsLawful (meaning r.policy r.entries)) (sym c.is_lawful.ensures.test) (lawful-iff r.policy r.entries c.is_lawful.ensures.once)
+    subst (λ (b : Bool). IsTrue b ↔ IsLawful (meaning r.policy r.entries)) (sym c.is_lawful.ensures.test) (c.judgement_is_exact.ensures.lawful r.policy r.entries c.is_lawful.ensures.once)

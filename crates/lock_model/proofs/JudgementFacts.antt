@@ -1,7 +1,7 @@
 -- The tests on entries say what they are meant to say of the station.
 use Rattle.std.proofs.Common.{◌≡◌, ◌↔◌, ℕ, ◌⊎◌, Bool, true, false, not, ◌&&◌, ◌||◌, List, [], ◌∷◌, Option, Some, None, IsTrue, refl, sym, ◌∙◌, ap, subst, inl, inr}
 use Rattle.std.specs.List.{list_all}
-use Rattle.std.proofs.lemmas.Bool.{eqb-true, eq-eqb, cases_Bool, and_parts, and_from}
+use Rattle.std.proofs.lemmas.Bool.{eqb-true, eq-eqb, cases_Bool, and_parts, and_from, or_left, or_right}
 use Rattle.lock_messages.specs.declared.tickets.Mode.{Mode}
 use Rattle.lock_messages.specs.declared.tickets.Mode.TheVariants.{Write}
 use Rattle.lock_model.specs.declared.entries.Entry.{Entry}
@@ -11,8 +11,9 @@ use Rattle.lock_model.specs.declared.problems.Problem.{Problem}
 use Rattle.lock_model.specs.Stations.{Holds, Waits, Cause, IsLawful, IsCaused}
 use Rattle.lock_model.specs.Decisions.{Among}
 use Rattle.lock_model.specs.ExactStations.{is_of, meaning, EachOnce, is_write, is_waiting, is_holding, if_live, holds, admits}
-use Rattle.stable_record.specs.Judgement.{is_only_holder, leaves_alone, is_lawful, has_cause, is_caused}
-use Rattle.stable_record.proofs.StationFacts.{or-left, or-right, entry_of-found, entry_of-among, Found, has-found, found-has, waiting-true, holding-true, write-true, holds-from, refused-cause, admitted-free}
+use Rattle.lock_model.specs.Judgement.{is_only_holder, leaves_alone, is_lawful, has_cause, is_caused}
+use Rattle.lock_model.proofs.EntryFacts.{entry_of-found, entry_of-among, Found, has-found, found-has}
+use Rattle.lock_model.proofs.SettlingFacts.{waiting-true, holding-true, write-true, holds-from, refused-cause, admitted-free}
 use Rattle.std.proofs.lemmas.Slice.Eq.{bytes_eq-Decides}
 use Rattle.std.specs.Str.{bytes_eq}
 
@@ -56,25 +57,25 @@ lawful-from p es o l = all-from (λ e. leaves_alone es e.client e.live) es (λ e
   where
     beside : (e : Entry) (k : Live) → Among e es → e.live ≡ Some k → (is_write k.mode && is_holding k.status) ≡ true → (f : Entry) → Among f es →
         (o : Option Live) → f.live ≡ o → (is_of e.client f || not (if_live (holds k.resource) o)) ≡ true
-    beside e k m s w f n None t = or-right (is_of e.client f) true refl
+    beside e k m s w f n None t = or_right (is_of e.client f) true refl
     beside e k m s w f n (Some j) t = go (cases_Bool (holds k.resource j))
       where
         go : (holds k.resource j ≡ true) ⊎ (holds k.resource j ≡ false) → (is_of e.client f || not (holds k.resource j)) ≡ true
-        go (inr h) = or-right (is_of e.client f) (not (holds k.resource j)) (ap not h)
+        go (inr h) = or_right (is_of e.client f) (not (holds k.resource j)) (ap not h)
         go (inl h) =
             let parts = and_parts (is_holding j.status) (bytes_eq j.resource k.resource) h in
             let wparts = and_parts (is_write k.mode) (is_holding k.status) w in
             let mine : Holds (meaning p es) e.client Write k.resource = found-has es e.client Write k.resource Holding (record { entry = e; live = k; entry_is = entry_of-among es e o m; live_is = s; mode_is = write-true k.mode wparts.0; resource_is = refl; status_is = holding-true k.status wparts.1 }) in
             let other : Holds (meaning p es) f.client j.mode k.resource = found-has es f.client j.mode k.resource Holding (record { entry = f; live = j; entry_is = entry_of-among es f o n; live_is = t; mode_is = refl; resource_is = (bytes_eq-Decides j.resource k.resource).0 parts.1; status_is = holding-true j.status parts.0 }) in
-            or-left (is_of e.client f) (not (holds k.resource j)) (eq-eqb f.client e.client (l.alone e.client f.client j.mode k.resource mine other))
+            or_left (is_of e.client f) (not (holds k.resource j)) (eq-eqb f.client e.client (l.alone e.client f.client j.mode k.resource mine other))
 
     at : (e : Entry) → Among e es → (o : Option Live) → e.live ≡ o → leaves_alone es e.client o ≡ true
     at e m None s = refl
     at e m (Some k) s = go (cases_Bool (is_write k.mode && is_holding k.status))
       where
         go : ((is_write k.mode && is_holding k.status) ≡ true) ⊎ ((is_write k.mode && is_holding k.status) ≡ false) → leaves_alone es e.client (Some k) ≡ true
-        go (inr h) = or-left (not (is_write k.mode && is_holding k.status)) (is_only_holder es e.client k.resource) (ap not h)
-        go (inl h) = or-right (not (is_write k.mode && is_holding k.status)) (is_only_holder es e.client k.resource)
+        go (inr h) = or_left (not (is_write k.mode && is_holding k.status)) (is_only_holder es e.client k.resource) (ap not h)
+        go (inl h) = or_right (not (is_write k.mode && is_holding k.status)) (is_only_holder es e.client k.resource)
             (all-from (λ f. is_of e.client f || not (if_live (holds k.resource) f.live)) es (λ f n. beside e k m s h f n f.live refl))
 
 pub lawful-iff : (p : Problem) (es : List Entry) → EachOnce es → IsTrue (is_lawful es) ↔ IsLawful (meaning p es)
@@ -101,8 +102,8 @@ caused-from p es o l = all-from (λ e. has_cause p es e.live) es (λ e m. at e m
     at e m (Some k) s = go (cases_Bool (is_waiting k.status)) (cases_Bool (admits p k.mode k.resource es))
       where
         go : (is_waiting k.status ≡ true) ⊎ (is_waiting k.status ≡ false) → (admits p k.mode k.resource es ≡ true) ⊎ (admits p k.mode k.resource es ≡ false) → has_cause p es (Some k) ≡ true
-        go (inr h) a = or-left (not (is_waiting k.status)) (not (admits p k.mode k.resource es)) (ap not h)
-        go (inl h) (inr a) = or-right (not (is_waiting k.status)) (not (admits p k.mode k.resource es)) (ap not a)
+        go (inr h) a = or_left (not (is_waiting k.status)) (not (admits p k.mode k.resource es)) (ap not h)
+        go (inl h) (inr a) = or_right (not (is_waiting k.status)) (not (admits p k.mode k.resource es)) (ap not a)
         go (inl h) (inl a) =
             let waits : Waits (meaning p es) e.client k.mode k.resource = found-has es e.client k.mode k.resource Waiting (record { entry = e; live = k; entry_is = entry_of-among es e o m; live_is = s; mode_is = refl; resource_is = refl; status_is = waiting-true k.status h }) in
             absurd (admitted-free p es k.mode k.resource a (l.cause e.client k.mode k.resource waits))
