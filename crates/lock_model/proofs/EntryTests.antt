@@ -125,3 +125,7 @@ differ-iff before after r h = go (pointwise entry_test before after) refl
     go : (b : Bool) → pointwise entry_test before after ≡ b → IsTrue r ↔ (after ≢ before)
     go true e = let no_change : r ≡ false = h ∙ ap not e in (λ t. absurd (let z : false ≡ true = sym no_change ∙ t in cc), λ apart. absurd (apart (sym (d.0 e))))
     go false e = (λ t same. let z : false ≡ true = sym e ∙ d.1 (sym same) in cc, λ apart. h ∙ ap not e)
+
+-- the test that compares entries one by one is true exactly where they differ
+pub not-same-iff : (before after : List Entry) → IsTrue (not (same_entries before after)) ↔ (after ≢ before)
+not-same-iff before after = differ-iff before after (not (same_entries before after)) (sym (ap not (entries-same before after)))

@@ -1,6 +1,6 @@
 -- What follows from the definitions, as statements; each is proved as the contract of a function of
 -- `laws`.
-use Rattle.std.specs.Prelude.{◌≡◌, ◌↔◌, ℕ, ◌≤◌, Bool, true, List, length}
+use Rattle.std.specs.Prelude.{◌≡◌, ◌↔◌, ℕ, ◌≤◌, Bool, true, IsTrue, List, length}
 use Rattle.lock_messages.specs.declared.tickets.Mode.{Mode}
 use Rattle.lock_messages.specs.declared.tickets.Mode.TheVariants.{Write}
 use Rattle.lock_messages.specs.declared.tickets.Ticket.{Ticket}
@@ -15,7 +15,7 @@ use Rattle.lock_model.specs.Decisions.{Decides}
 use Rattle.lock_model.specs.Hearing.{HearsOfTicket, HearsAtRest}
 use Rattle.lock_model.specs.ExactHearing.{heard_of_ticket, heard_at_rest}
 use Rattle.lock_model.specs.ExactStations.{EachOnce, IsWellFormed, meaning, IsSettling, with_holders, settled, new_holders}
-use Rattle.lock_model.specs.ExactDecisions.{decision}
+use Rattle.lock_model.specs.ExactDecisions.{decision, Changes, changes}
 
 -- where a ballot crosses, two sets that are enough, one of them for a writer, share a node of the
 -- ballot that has votes
@@ -47,6 +47,11 @@ abbrev pub ExactDecisionIsAllowed : Type 0
 ExactDecisionIsAllowed = (p : Problem) (entries : List Entry) (message : Message) (n : ℕ) → is_for_node message n ≡ true →
     IsWellFormed entries → IsLawful (meaning p entries) → IsCaused (meaning p entries) →
     IsAllowed p entries message
+
+-- the test whether a decision changes the record, which compares the entries one by one, answers
+-- true exactly where it does
+abbrev pub ChangingIsSeen : Type 0
+ChangingIsSeen = (p : Problem) (entries : List Entry) (message : Message) → IsTrue (changes p entries message) ↔ Changes p entries message
 
 -- a decision never lowers a floor
 abbrev pub FloorsNeverFall : Type 0

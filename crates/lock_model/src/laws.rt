@@ -1,7 +1,7 @@
 //! Laws of the definitions. Each function computes nothing: its contract is a theorem.
 
 ghost use Rattle.lock_model.specs.Examples.{FirstReader, RepeatedRequest, WriterBehindReader, ReleasedReader, LateRequest, ReleasedStranger, ReaderPasses, ReaderWaits, ReleaseSettles, MuddledRequest, NextAttempt, WeightedVotes};
-ghost use Rattle.lock_model.specs.Laws.{EnoughSetsShareANode, SettlingIsExact, SettlingIsUnique, ExactDecisionIsAllowed, FloorsNeverFall, EndedStaysEnded, HearingOfTicketIsExact, HearingAtRestIsExact};
+ghost use Rattle.lock_model.specs.Laws.{EnoughSetsShareANode, SettlingIsExact, SettlingIsUnique, ExactDecisionIsAllowed, ChangingIsSeen, FloorsNeverFall, EndedStaysEnded, HearingOfTicketIsExact, HearingAtRestIsExact};
 
 /// Where a ballot crosses, two sets of nodes that are enough, one of them for a writer, share a
 /// node of the ballot that has votes.
@@ -20,6 +20,11 @@ pub fn one_settling()
 /// may take, and the station after it is lawful and caused.
 pub fn decision_is_allowed()
     ensures { ExactDecisionIsAllowed }
+{}
+
+/// A decision changes the record exactly where the test that compares the entries says so.
+pub fn changing_is_seen()
+    ensures { ChangingIsSeen }
 {}
 
 /// A decision lowers no floor, so an attempt that is ended stays ended.
