@@ -4,3 +4,4 @@ pub mod JudgementFacts
 pub mod FieldFacts
 pub mod RecordFacts
 pub mod ClientFacts
+pub mod CountFacts
