@@ -136,3 +136,7 @@ no-change-iff before after = go (same_entries before after) refl
     go : (b : Bool) → same_entries before after ≡ b → (not b ≡ false) ↔ (after ≡ before)
     go true e = (λ z. sym (d.0 (entries-same before after ∙ e)), λ z. refl)
     go false e = (λ z. absurd (let q : true ≡ false = z in cc), λ z. let q : true ≡ false = sym (d.1 (sym z)) ∙ entries-same before after ∙ e in cc)
+
+-- the test that compares entries one by one is true exactly where they differ
+pub not-same-iff : (before after : List Entry) → IsTrue (not (same_entries before after)) ↔ (after ≢ before)
+not-same-iff before after = differ-iff before after (not (same_entries before after)) (sym (ap not (entries-same before after)))

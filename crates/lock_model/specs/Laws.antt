@@ -15,7 +15,7 @@ use Rattle.lock_model.specs.Decisions.{Decides}
 use Rattle.lock_model.specs.Hearing.{HearsOfTicket, HearsAtRest}
 use Rattle.lock_model.specs.ExactHearing.{heard_of_ticket, heard_at_rest}
 use Rattle.lock_model.specs.ExactStations.{EachOnce, IsWellFormed, meaning, IsSettling, with_holders, settled, new_holders}
-use Rattle.lock_model.specs.ExactDecisions.{decision, changes}
+use Rattle.lock_model.specs.ExactDecisions.{decision, Changes, changes}
 use Rattle.lock_model.specs.Judgement.{is_lawful, is_caused}
 
 -- where a ballot crosses, two sets that are enough, one of them for a writer, share a node of the
@@ -57,9 +57,13 @@ ExactDecisionIsAllowed = (p : Problem) (entries : List Entry) (message : Message
     IsWellFormed entries → IsLawful (meaning p entries) → IsCaused (meaning p entries) →
     IsAllowed p entries message
 
--- the test by which a change is seen fails exactly where the entries stay
+-- the test on entries by which a change is seen passes exactly where they change, and fails exactly
+-- where they stay
 abbrev pub ChangesAreSeen : Type 0
-ChangesAreSeen = (p : Problem) (entries : List Entry) (message : Message) → (changes p entries message ≡ false) ↔ ((decision p entries message).entries ≡ entries)
+ChangesAreSeen = (p : Problem) (entries : List Entry) (message : Message) → IsTrue (changes p entries message) ↔ Changes p entries message
+
+abbrev pub StayingIsSeen : Type 0
+StayingIsSeen = (p : Problem) (entries : List Entry) (message : Message) → (changes p entries message ≡ false) ↔ ((decision p entries message).entries ≡ entries)
 
 -- a decision never lowers a floor
 abbrev pub FloorsNeverFall : Type 0

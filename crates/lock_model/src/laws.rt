@@ -1,7 +1,7 @@
 //! Laws of the definitions. Each function computes nothing: its contract is a theorem.
 
 ghost use Rattle.lock_model.specs.Examples.{FirstReader, RepeatedRequest, WriterBehindReader, ReleasedReader, LateRequest, ReleasedStranger, ReaderPasses, ReaderWaits, ReleaseSettles, MuddledRequest, NextAttempt, WeightedVotes};
-ghost use Rattle.lock_model.specs.Laws.{EnoughSetsShareANode, LawfulIsSeen, CausedIsSeen, SettlingIsExact, SettlingIsUnique, ExactDecisionIsAllowed, ChangesAreSeen, FloorsNeverFall, EndedStaysEnded, HearingOfTicketIsExact, HearingAtRestIsExact};
+ghost use Rattle.lock_model.specs.Laws.{EnoughSetsShareANode, LawfulIsSeen, CausedIsSeen, SettlingIsExact, SettlingIsUnique, ExactDecisionIsAllowed, ChangesAreSeen, StayingIsSeen, FloorsNeverFall, EndedStaysEnded, HearingOfTicketIsExact, HearingAtRestIsExact};
 
 /// Where a ballot crosses, two sets of nodes that are enough, one of them for a writer, share a
 /// node of the ballot that has votes.
@@ -30,7 +30,8 @@ pub fn decision_is_allowed()
 
 /// The exact decision tells whether it changes the entries, by a test that compares them.
 pub fn changes_are_seen()
-    ensures { ChangesAreSeen }
+    ensures changed { ChangesAreSeen }
+    ensures same { StayingIsSeen }
 {}
 
 /// A decision lowers no floor, so an attempt that is ended stays ended.

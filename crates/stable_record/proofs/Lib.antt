@@ -2,3 +2,4 @@ pub mod MapFacts
 pub mod FieldFacts
 pub mod RecordFacts
 pub mod ClientFacts
+pub mod CountFacts

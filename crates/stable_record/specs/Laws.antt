@@ -1,9 +1,12 @@
 -- What follows from the definitions, as statements; each is proved as the contract of a function of
 -- `laws`.
-use Rattle.std.specs.Prelude.{◌≡◌, ℕ, ◌≤◌, List, ◌++◌}
-use Rattle.lock_messages.specs.declared.ids.TheConstants.{MAX_ATTEMPT}
+use Rattle.std.specs.Prelude.{◌≡◌, ℕ, ◌≤◌, List, ◌++◌, length}
+use Rattle.std.specs.List.{AllByRecursion}
+use Rattle.lock_messages.specs.declared.ids.TheConstants.{MAX_CLIENTS, MAX_ATTEMPT}
+use Rattle.lock_model.specs.declared.entries.Entry.{Entry}
+use Rattle.lock_model.specs.ExactStations.{EachOnce}
 use Rattle.stable_record.specs.declared.node_records.NodeRecord.{NodeRecord}
-use Rattle.stable_record.specs.Records.{IsNodeRecord, node_record_of, client_record_of}
+use Rattle.stable_record.specs.Records.{IsEntry, IsNodeRecord, node_record_of, client_record_of}
 
 -- Where the spellings of two records, each followed by any bytes, are the same bytes, the records
 -- are the same, and so is what follows. So each record has one spelling, and no spelling begins
@@ -16,3 +19,7 @@ OneSpelling = (r s : NodeRecord) (xs ys : List ℕ) → IsNodeRecord r → IsNod
 abbrev pub OneClientSpelling : Type 0
 OneClientSpelling = (a b : ℕ) (xs ys : List ℕ) → a ≤ MAX_ATTEMPT → b ≤ MAX_ATTEMPT →
     client_record_of a ++ xs ≡ client_record_of b ++ ys → (a ≡ b) × (xs ≡ ys)
+
+-- entries in range, of each client one at most, are no more than there are clients
+abbrev pub EntriesAreFew : Type 0
+EntriesAreFew = (entries : List Entry) → EachOnce entries → AllByRecursion IsEntry entries → length entries ≤ MAX_CLIENTS

@@ -1,10 +1,11 @@
 // Entries in the order of arrival, each client once.
 
-ghost use Rattle.std.specs.Prelude.{◌≡◌, ◌==◌, ◌||◌, ◌<◌, ◌↔◌, ◌++◌, ◌∷◌, [], length, false, Some, not, is_ok, IsOk, IfOk, IsTrue, ◌&&◌, slice_get, if◌then◌else◌};
+ghost use Rattle.std.specs.Prelude.{◌≡◌, ◌==◌, ◌||◌, ◌<◌, ◌↔◌, ◌++◌, ◌∷◌, [], length, true, false, Some, not, is_ok, IsOk, IfOk, IsTrue, ◌&&◌, slice_get, if◌then◌else◌};
 ghost use Rattle.std.specs.List.{list_any, list_all};
 ghost use Rattle.lock_messages.specs.declared.tickets.Mode.{Mode};
-ghost use Rattle.lock_model.specs.ExactStations.{knows, EachOnce, if_live, holds, writer_holds, writer_waits, admits};
-ghost use Rattle.stable_record.specs.EntryLists.{entries_in};
+ghost use Rattle.lock_model.specs.ExactStations.{knows, entry_of, EachOnce, if_live, any_live, holds, writer_holds, writer_waits, admits};
+ghost use Rattle.lock_model.specs.ExactDecisions.{moved_last};
+ghost use Rattle.stable_record.specs.EntryLists.{entries_in, replaced};
 ghost use Rattle.lock_model.specs.Judgement.{leaves_alone, is_lawful, has_cause, is_caused};
 
 use crate::Entry;
@@ -162,6 +163,52 @@ impl Entries {
         self.map.contains_key(&client)
     }
 
+    /// The client's entry, if it has one. It takes one look-up.
+    pub fn entry_of(&self, client: ClientId) -> Option<Entry>
+        ensures found { result ≡ entry_of self.now client }
+        ensures once { EachOnce self.now }
+    {
+        let _len = self.len();
+        let Kept { floor, live } = *self.map.get(&client)?;
+        Some(Entry {
+            client,
+            floor,
+            live,
+        })
+    }
+
+    /// Puts an entry in the place of its client's. The caller owes that the client has one; `knows`
+    /// tells. It takes no memory.
+    pub fn replace(&mut self, entry: Entry)
+        requires { knows entry.client self.old ≡ true }
+        ensures { self.new ≡ replaced entry self.old }
+    {
+        let _len = self.len();
+        let Entry {
+            client,
+            floor,
+            live,
+        } = entry;
+        // Memory is asked for a new client alone.
+        match self.map.insert(client, Kept { floor, live }) {
+            Ok(_) => {}
+            Err(_) => {}
+        }
+    }
+
+    /// Puts an entry behind the others, in place of its client's. The caller owes that the client
+    /// has one; `knows` tells. It takes no memory.
+    pub fn move_last(&mut self, entry: Entry)
+        requires { knows entry.client self.old ≡ true }
+        ensures { self.new ≡ moved_last entry self.old }
+    {
+        let client = entry.client;
+        let place = self.map.get_index_of(&client).unwrap();
+        let last = self.map.len() - 1;
+        self.map.move_index(place, last);
+        self.replace(entry);
+    }
+
     /// Puts an entry behind the others, unless its client has one, and answers whether it did. The
     /// only error is want of memory, where it would have; then nothing has changed.
     pub fn push(&mut self, entry: Entry) -> Result<bool, AllocError>
@@ -200,6 +247,28 @@ impl Entries {
             Ok(_) => Ok(()),
             Err(_) => Err(AllocError),
         }
+    }
+
+    /// Whether a ticket holds the resource, by one scan of the entries. It takes no memory, nor do
+    /// the next two.
+    pub fn has_holder(&self, resource: &ResourceName) -> bool
+        ensures { result ≡ any_live (holds resource.now) self.now }
+    {
+        any_holds(&self.map, resource)
+    }
+
+    /// Whether a writer's ticket holds the resource.
+    pub fn has_writing_holder(&self, resource: &ResourceName) -> bool
+        ensures { result ≡ any_live (writer_holds resource.now) self.now }
+    {
+        any_writer_holds(&self.map, resource)
+    }
+
+    /// Whether a writer's ticket waits for the resource.
+    pub fn has_waiting_writer(&self, resource: &ResourceName) -> bool
+        ensures { result ≡ any_live (writer_waits resource.now) self.now }
+    {
+        any_writer_waits(&self.map, resource)
     }
 
     /// Whether a ticket in this mode for this resource is admitted among the entries. It takes no

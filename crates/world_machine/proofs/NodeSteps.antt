@@ -7,7 +7,7 @@ use Rattle.lock_model.specs.declared.entries.Entry.{Entry}
 use Rattle.lock_model.specs.Decisions.{Decides}
 use Rattle.lock_model.specs.ExactStations.{meaning}
 use Rattle.lock_model.specs.ExactDecisions.{decision, changes}
-use Rattle.lock_model.specs.Laws.{IsAllowed, ExactDecisionIsAllowed, ChangesAreSeen}
+use Rattle.lock_model.specs.Laws.{IsAllowed, ExactDecisionIsAllowed, StayingIsSeen}
 use Rattle.world_machine.specs.declared.events.StepFault.{StepFault}
 use Rattle.world_machine.specs.declared.events.StepFault.TheVariants as fault
 use Rattle.world_machine.specs.declared.exact.ExactStation.{ExactStation}
@@ -110,7 +110,7 @@ says-do first v t sound h = go v.phase sound h
 -- the laws of deciding, as they are used here
 pub record DecisionLaws : Type 1 where
   pub allowed : ExactDecisionIsAllowed
-  pub seen : ChangesAreSeen
+  pub seen : StayingIsSeen
 
 -- the message that was found is for the node, which decides on it
 pub record NodeTakes (n : ℕ) (found : Option Message) (v : ExactNode) (t : Turn ExactNode) : Type 0 where

@@ -1,0 +1,26 @@
+//! Policies: which readers a node admits to a resource that a writer holds or waits for.
+//!
+//! `Admission` is what a policy is: the problem that it solves (Courtois, Heymans and Parnas 1971),
+//! its answer by that problem's rule, and a tally of the answers that were put to use. What it means
+//! is in ghost members and in the clauses of its methods, so code over a `&dyn Admission` or a
+//! `Box<dyn Admission + Send>` is proved once, for every policy; such a box is a policy too.
+//! `FirstProblem` and `SecondProblem` are the two rules, and `Counted` counts what another policy is
+//! told. No call takes memory.
+//!
+//! The crate promises that each policy answers by the rule of its problem, and that a note changes no
+//! answer. It stands on `lock_model`, which has the two problems and their rule.
+#![tactic(auto)]
+
+mod admission;
+mod boxes;
+mod counted;
+mod first;
+mod second;
+
+pub use admission::Admission;
+pub use counted::Counted;
+pub use first::FirstProblem;
+pub use second::SecondProblem;
+
+#[cfg(test)]
+mod tests;
