@@ -1,21 +1,21 @@
 -- How many entries there can be.
 use Rattle.std.proofs.Common.{◌≡◌, ◌⊎◌, inl, inr, ℕ, suc, ◌+◌, ◌<◌, ◌≤◌, ◌==◌, Bool, true, false, ◌||◌, List, [], ◌∷◌, length, map, refl, sym, ap, ◌∙◌, arith}
 use Rattle.std.specs.List.{list_any, IsDistinct, AllByRecursion}
-use Rattle.std.proofs.lemmas.Bool.{eqb-true, eq-eqb, cases_Bool}
+use Rattle.std.proofs.lemmas.Bool.{eqb-true, eq-eqb, cases_Bool, or_parts}
 use Rattle.std.proofs.lemmas.Map.Steps.{length-le_from_distinct_below}
 use Rattle.lock_messages.specs.declared.ids.TheConstants.{MAX_CLIENTS}
 use Rattle.lock_messages.specs.Ids.{IsClient}
 use Rattle.lock_model.specs.declared.entries.Entry.{Entry}
 use Rattle.lock_model.specs.ExactStations.{is_of, knows, EachOnce}
 use Rattle.stable_record.specs.Records.{IsEntry}
-use Rattle.stable_record.proofs.MapFacts.{same-turned, or-none}
+use Rattle.stable_record.proofs.MapFacts.{same-turned}
 
 abbrev pub clients : List Entry → List ℕ
 clients es = map (λ e. e.client) es
 
 apart : (c : ℕ) (es : List Entry) → knows c es ≡ false → AllByRecursion (λ k. (c == k) ≡ false) (clients es)
 apart c [] h = tt
-apart c (e ∷ es) h = let k = or-none (is_of c e) (knows c es) h in (same-turned c e.client ∙ k.0, apart c es k.1)
+apart c (e ∷ es) h = let k = or_parts (is_of c e) (knows c es) h in (same-turned c e.client ∙ k.0, apart c es k.1)
 
 distinct : (es : List Entry) → EachOnce es → IsDistinct (λ a b. a == b) (clients es)
 unfolding IsDistinct

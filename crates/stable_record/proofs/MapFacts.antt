@@ -3,7 +3,7 @@ use Rattle.std.proofs.Common.{◌≡◌, ◌⊎◌, inl, inr, ℕ, zero, suc, �
 use Rattle.std.specs.List.{list_any, list_all, IsDistinct, AllByRecursion}
 use Rattle.std.specs.Map.{lookup, keys_of}
 use Rattle.std.specs.Option.{option_map_or}
-use Rattle.std.proofs.lemmas.Bool.{eqb-true, eq-eqb, cases_Bool}
+use Rattle.std.proofs.lemmas.Bool.{eqb-true, eq-eqb, cases_Bool, or_parts}
 use Rattle.std.proofs.lemmas.List.{take_all, drop_all, map-append}
 use Rattle.std.proofs.lemmas.List.Edits.{length-remove}
 use Rattle.std.proofs.lemmas.List.Quantifiers.{position-Some}
@@ -46,16 +46,12 @@ knows-found c (e ∷ es) =
     ap (λ b. is_some (cond b (Some e.1) (lookup (λ k. c == k) es))) (same-turned c e.0)
     ∙ one-known c e (lookup (λ k. c == k) es) (knows c (entries_in es)) (knows-found c es) (e.0 == c)
 
-pub or-none : (a b : Bool) → (a || b) ≡ false → (a ≡ false) × (b ≡ false)
-or-none true b h = cc
-or-none false b h = (refl, h)
-
 -- a client that isn't known goes last
 pub inserted-last : (c : ℕ) (v : Kept) (es : List (ℕ × Kept)) → knows c (entries_in es) ≡ false →
     entries_in (insert_entry (λ a b. a == b) es c v) ≡ entries_in es ++ entry_of_pair (c, v) ∷ []
 inserted-last c v [] h = refl
 inserted-last c v (e ∷ es) h =
-    let k = or-none (e.0 == c) (knows c (entries_in es)) h in
+    let k = or_parts (e.0 == c) (knows c (entries_in es)) h in
     ap (λ b. entries_in (cond b ((e.0, v) ∷ es) (e ∷ insert_entry (λ a b. a == b) es c v))) (same-turned c e.0 ∙ k.0)
     ∙ ap (λ (l : List Entry). entry_of_pair e ∷ l) (inserted-last c v es k.1)
 
@@ -92,10 +88,10 @@ entry-found c (e ∷ es) =
     ∙ ap (λ b. cond b (Some (entry_of_pair e)) (entry_of (entries_in es) c)) (same-turned c e.0)
 
 -- an entry of a client that isn't known replaces none
-replaced-unknown : (f : Entry) (es : List Entry) → knows f.client es ≡ false → replaced f es ≡ es
+pub replaced-unknown : (f : Entry) (es : List Entry) → knows f.client es ≡ false → replaced f es ≡ es
 replaced-unknown f [] h = refl
 replaced-unknown f (e ∷ es) h =
-    let k = or-none (is_of f.client e) (knows f.client es) h in
+    let k = or_parts (is_of f.client e) (knows f.client es) h in
     ap (λ b. cond b f e ∷ replaced f es) k.0 ∙ ap (λ (l : List Entry). e ∷ l) (replaced-unknown f es k.1)
 
 -- a client that is known keeps its place
@@ -141,7 +137,7 @@ others c es = filter (λ e. not (is_of c e)) es
 others-unknown : (c : ℕ) (es : List Entry) → knows c es ≡ false → others c es ≡ es
 others-unknown c [] h = refl
 others-unknown c (e ∷ es) h =
-    let k = or-none (is_of c e) (knows c es) h in
+    let k = or_parts (is_of c e) (knows c es) h in
     ap (λ b. cond (not b) (e ∷ others c es) (others c es)) k.0 ∙ ap (λ (l : List Entry). e ∷ l) (others-unknown c es k.1)
 
 pub unknown-others : (c : ℕ) (es : List Entry) → knows c (others c es) ≡ false

@@ -177,9 +177,27 @@ impl Entries {
         })
     }
 
-    /// Puts an entry in the place of its client's. The caller owes that the client has one; `knows`
-    /// tells. It takes no memory.
+    /// Puts an entry in the place of its client's; that of a client that has none is put nowhere. It
+    /// takes no memory.
     pub fn replace(&mut self, entry: Entry)
+        ensures { self.new ≡ replaced entry self.old }
+    {
+        let Entry {
+            client,
+            floor,
+            live,
+        } = entry;
+        if self.knows(client) {
+            self.put_in_place(Entry {
+                client,
+                floor,
+                live,
+            });
+        }
+    }
+
+    /// Puts an entry in the place of its client's, which there is.
+    fn put_in_place(&mut self, entry: Entry)
         requires { knows entry.client self.old ≡ true }
         ensures { self.new ≡ replaced entry self.old }
     {
@@ -196,9 +214,27 @@ impl Entries {
         }
     }
 
-    /// Puts an entry behind the others, in place of its client's. The caller owes that the client
-    /// has one; `knows` tells. It takes no memory.
+    /// Puts an entry behind the others, in place of its client's; that of a client that has none is
+    /// put nowhere. It takes no memory.
     pub fn move_last(&mut self, entry: Entry)
+        ensures { self.new ≡ (if knows entry.client self.old then moved_last entry self.old else self.old) }
+    {
+        let Entry {
+            client,
+            floor,
+            live,
+        } = entry;
+        if self.knows(client) {
+            self.put_behind(Entry {
+                client,
+                floor,
+                live,
+            });
+        }
+    }
+
+    /// Puts an entry behind the others, in place of its client's, which there is.
+    fn put_behind(&mut self, entry: Entry)
         requires { knows entry.client self.old ≡ true }
         ensures { self.new ≡ moved_last entry self.old }
     {
@@ -206,7 +242,7 @@ impl Entries {
         let place = self.map.get_index_of(&client).unwrap();
         let last = self.map.len() - 1;
         self.map.move_index(place, last);
-        self.replace(entry);
+        self.put_in_place(entry);
     }
 
     /// Puts an entry behind the others, unless its client has one, and answers whether it did. The
