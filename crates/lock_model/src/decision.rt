@@ -103,8 +103,11 @@ fn live_reply(node: NodeId, ticket: &Ticket, live: &Live) -> Message
     }
 }
 
-/// The reply to a ticket that the node has met before; none for a new one.
-fn reply_to_known(node: NodeId, ticket: &Ticket, found: Option<Entry>) -> Option<Message>
+/// A node's reply to a ticket that it has met before, by its client's entry; none for a new one.
+///
+/// `Over` where the attempt has ended, `Muddled` where the live ticket of this attempt has another
+/// mode or resource, else `Grant` where it holds and `Busy` where it waits (our own rules).
+pub fn reply_to_known(node: NodeId, ticket: &Ticket, found: Option<Entry>) -> Option<Message>
     ensures { result ≡ reply_to_known node ticket.now found }
 {
     let (floor, live) = match found {
@@ -122,8 +125,9 @@ fn reply_to_known(node: NodeId, ticket: &Ticket, found: Option<Entry>) -> Option
     }
 }
 
-/// The entry of a ticket that is taken up.
-fn new_entry(ticket: &Ticket, admitted: bool) -> Entry
+/// The entry of a ticket that is taken up: it holds where it is admitted, else it waits, and the
+/// attempts before it have ended.
+pub fn new_entry(ticket: &Ticket, admitted: bool) -> Entry
     ensures { result ≡ new_entry ticket.now admitted }
 {
     Entry {

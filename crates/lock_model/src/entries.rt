@@ -37,7 +37,7 @@ pub struct Entry {
 
 impl Live {
     /// Whether it waits.
-    pub(crate) fn waits(&self) -> bool
+    pub fn waits(&self) -> bool
         ensures { result ≡ is_waiting self.now.status }
     {
         match self.status {

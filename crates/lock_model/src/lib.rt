@@ -6,8 +6,9 @@
 //! exact level is a case of the relations.
 //!
 //! The crate has the plain data that these speak of (`Problem`, `Entry`, `Live`, `Status`, `Heard`)
-//! and `decide`, a slow and obvious function whose contract is the exact decision. It promises that
-//! `decide` answers exactly this, and the laws. It stands on `lock_messages`.
+//! and `decide`, a slow and obvious function whose contract is the exact decision; `reply_to_known`
+//! and `new_entry` are parts of it that every decision needs. It promises that these answer exactly
+//! this, and the laws. It stands on `lock_messages`.
 #![tactic(auto)]
 
 mod decision;
@@ -17,7 +18,7 @@ pub mod laws;
 mod problems;
 mod settling;
 
-pub use decision::{Decision, decide};
+pub use decision::{Decision, decide, new_entry, reply_to_known};
 pub use entries::{Entry, Live, Status};
 pub use hearing::Heard;
 pub use problems::Problem;

@@ -134,7 +134,8 @@ impl Entries {
 
     /// The entry at a place, counted from 0; `None` exactly where there is none.
     pub fn get(&self, place: usize) -> Option<Entry>
-        ensures { result ≡ slice_get self.now place }
+        ensures found { result ≡ slice_get self.now place }
+        ensures once { EachOnce self.now }
     {
         if place < self.len() {
             Some(self.at(place))

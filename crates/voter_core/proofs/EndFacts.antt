@@ -1,0 +1,230 @@
+-- Ending a client's attempts, in place.
+use Rattle.std.proofs.Common.{◌≡◌, ◌≢◌, ◌⊎◌, inl, inr, ℕ, suc, ◌+◌, ◌<◌, ◌≤◌, ◌==◌, Bool, true, false, not, ◌||◌, ◌&&◌, cond, nat_lt, List, [], ◌∷◌, ◌++◌, length, filter, map, Option, Some, None, refl, sym, ap, ◌∙◌, arith}
+use Rattle.std.proofs.lemmas.Bool.{eqb-true, eq-eqb, cases_Bool}
+use Rattle.std.proofs.lemmas.Bool.Decides.{Decides-ltb}
+use Rattle.lock_model.specs.declared.entries.Entry.{Entry}
+use Rattle.lock_model.specs.ExactStations.{is_of, knows, entry_of, EachOnce}
+use Rattle.lock_model.specs.ExactDecisions.{ended_entry, ended, moved_last}
+use Rattle.stable_record.specs.EntryLists.{replaced}
+use Rattle.voter_core.specs.Voters.{ends_something}
+use Rattle.voter_core.proofs.EntryFacts.{or-none, or-right, replaced-unknown}
+
+pub none-entry : (o : Option Entry) → ((x : Entry) → o ≡ Some x → ⊥) → o ≡ None
+none-entry None h = refl
+none-entry (Some x) h = absurd (h x refl)
+
+pub unknown-entry : (c : ℕ) (es : List Entry) → entry_of es c ≡ None → knows c es ≡ false
+unknown-entry c [] h = refl
+unknown-entry c (e ∷ es) h = go (λ k. unknown-entry c es k) (is_of c e) refl
+  where
+    go : (entry_of es c ≡ None → knows c es ≡ false) → (b : Bool) → is_of c e ≡ b → knows c (e ∷ es) ≡ false
+    go more true is = let z : Some e ≡ None = sym (ap (λ b. cond b (Some e) (entry_of es c)) is) ∙ h in cc
+    go more false is = ap (λ b. b || knows c es) is ∙ more (sym (ap (λ b. cond b (Some e) (entry_of es c)) is) ∙ h)
+
+pub known-entry : (c : ℕ) (es : List Entry) (e : Entry) → entry_of es c ≡ Some e → (knows c es ≡ true) × (e.client ≡ c)
+known-entry c [] e h = cc
+known-entry c (d ∷ es) e h = go (λ k. known-entry c es e k) (is_of c d) refl
+  where
+    go : (entry_of es c ≡ Some e → (knows c es ≡ true) × (e.client ≡ c)) → (b : Bool) → is_of c d ≡ b → (knows c (d ∷ es) ≡ true) × (e.client ≡ c)
+    go more true is =
+        let z : Some d ≡ Some e = sym (ap (λ b. cond b (Some d) (entry_of es c)) is) ∙ h in
+        let same : d ≡ e = cc in
+        (ap (λ b. b || knows c es) is, sym (ap (λ (x : Entry). x.client) same) ∙ eqb-true d.client c is)
+    go more false is =
+        let m = more (sym (ap (λ b. cond b (Some d) (entry_of es c)) is) ∙ h) in
+        (or-right (is_of c d) (knows c es) m.0, m.1)
+
+-- the client's entry, ended where it stands
+abbrev pub ends_in : ℕ → ℕ → List Entry → List Entry
+ends_in c a es = map (λ e. cond (is_of c e) (ended_entry a e) e) es
+
+ends-unknown : (c a : ℕ) (es : List Entry) → knows c es ≡ false → ends_in c a es ≡ es
+ends-unknown c a [] h = refl
+ends-unknown c a (e ∷ es) h =
+    let k = or-none (is_of c e) (knows c es) h in
+    ap (λ b. cond b (ended_entry a e) e ∷ ends_in c a es) k.0 ∙ ap (λ (l : List Entry). e ∷ l) (ends-unknown c a es k.1)
+
+-- where the entry becomes f, the entries have f in its place
+ends-replaces : (c a : ℕ) (es : List Entry) (e f : Entry) → EachOnce es → entry_of es c ≡ Some e → ended_entry a e ≡ f → f.client ≡ c → ends_in c a es ≡ replaced f es
+ends-replaces c a [] e f once h is client = refl
+ends-replaces c a (d ∷ es) e f once h is client = go (λ k. ends-replaces c a es e f once.1 k is client) (is_of c d) refl
+  where
+    turned : is_of f.client d ≡ is_of c d
+    turned = ap (λ k. d.client == k) client
+
+    go : (entry_of es c ≡ Some e → ends_in c a es ≡ replaced f es) → (b : Bool) → is_of c d ≡ b → ends_in c a (d ∷ es) ≡ replaced f (d ∷ es)
+    go more true here =
+        let z : Some d ≡ Some e = sym (ap (λ b. cond b (Some d) (entry_of es c)) here) ∙ h in
+        let same : d ≡ e = cc in
+        let none : knows c es ≡ false = ap (λ k. knows k es) (sym (eqb-true d.client c here)) ∙ once.0 in
+        ap (λ b. cond b (ended_entry a d) d ∷ ends_in c a es) here ∙ ap (λ x. ended_entry a x ∷ ends_in c a es) same ∙ ap (λ x. x ∷ ends_in c a es) is
+        ∙ ap (λ (l : List Entry). f ∷ l) (ends-unknown c a es none ∙ sym (replaced-unknown f es (ap (λ k. knows k es) client ∙ none)))
+        ∙ sym (ap (λ b. cond b f d ∷ replaced f es) (turned ∙ here))
+    go more false here =
+        ap (λ b. cond b (ended_entry a d) d ∷ ends_in c a es) here
+        ∙ ap (λ (l : List Entry). d ∷ l) (more (sym (ap (λ b. cond b (Some d) (entry_of es c)) here) ∙ h))
+        ∙ sym (ap (λ b. cond b f d ∷ replaced f es) (turned ∙ here))
+
+-- where the floor is high enough nothing ends
+ends-nothing : (c a : ℕ) (es : List Entry) (e : Entry) → EachOnce es → entry_of es c ≡ Some e → nat_lt e.floor a ≡ false → ends_in c a es ≡ es
+ends-nothing c a [] e once h low = refl
+ends-nothing c a (d ∷ es) e once h low = go (λ k. ends-nothing c a es e once.1 k low) (is_of c d) refl
+  where
+    go : (entry_of es c ≡ Some e → ends_in c a es ≡ es) → (b : Bool) → is_of c d ≡ b → ends_in c a (d ∷ es) ≡ d ∷ es
+    go more true here =
+        let z : Some d ≡ Some e = sym (ap (λ b. cond b (Some d) (entry_of es c)) here) ∙ h in
+        let same : d ≡ e = cc in
+        let none : knows c es ≡ false = ap (λ k. knows k es) (sym (eqb-true d.client c here)) ∙ once.0 in
+        ap (λ b. cond b (ended_entry a d) d ∷ ends_in c a es) here
+        ∙ ap (λ (x : Entry). cond (nat_lt x.floor a) (record { client = d.client; floor = a; live = None }) d ∷ ends_in c a es) same
+        ∙ ap (λ b. cond b (record { client = d.client; floor = a; live = None }) d ∷ ends_in c a es) low
+        ∙ ap (λ (l : List Entry). d ∷ l) (ends-unknown c a es none)
+    go more false here =
+        ap (λ b. cond b (ended_entry a d) d ∷ ends_in c a es) here
+        ∙ ap (λ (l : List Entry). d ∷ l) (more (sym (ap (λ b. cond b (Some d) (entry_of es c)) here) ∙ h))
+
+abbrev pub fresh : ℕ → ℕ → Entry
+fresh c a = record { client = c; floor = a; live = None }
+
+ended-known : (c a : ℕ) (es : List Entry) → knows c es ≡ true → ended c a es ≡ ends_in c a es
+ended-known c a es h = ap (λ b. cond b (ends_in c a es) (es ++ fresh c a ∷ [])) h
+
+ended-unknown : (c a : ℕ) (es : List Entry) → knows c es ≡ false → ended c a es ≡ es ++ fresh c a ∷ []
+ended-unknown c a es h = ap (λ b. cond b (ends_in c a es) (es ++ fresh c a ∷ [])) h
+
+-- a stranger's entry is pushed, where memory is there
+pub pushed-ends : (c a : ℕ) (es new : List Entry) (ok : Bool) → entry_of es c ≡ None → new ≡ cond (ok && not (knows c es)) (es ++ fresh c a ∷ []) es → new ≡ cond ok (ended c a es) es
+pushed-ends c a es new ok none h = h ∙ ap (λ b. cond (ok && not b) (es ++ fresh c a ∷ []) es) (unknown-entry c es none) ∙ go ok
+  where
+    go : (b : Bool) → cond (b && true) (es ++ fresh c a ∷ []) es ≡ cond b (ended c a es) es
+    go true = sym (ended-unknown c a es (unknown-entry c es none))
+    go false = refl
+
+pub pushed-changes : (c a : ℕ) (es : List Entry) (b : Bool) → entry_of es c ≡ None → b ≡ not (knows c es) → b ≡ ends_something a (entry_of es c)
+pushed-changes c a es b none h = h ∙ ap not (unknown-entry c es none) ∙ sym (ap (ends_something a) none)
+
+not-below : (m n : ℕ) → n ≤ m → nat_lt m n ≡ false
+not-below m n h = go (cases_Bool (nat_lt m n))
+  where
+    go : (nat_lt m n ≡ true) ⊎ (nat_lt m n ≡ false) → nat_lt m n ≡ false
+    go (inl p) = let q = (Decides-ltb m n).0 p in absurd (omega arith)
+    go (inr p) = p
+
+-- an entry whose floor is high enough stays
+pub stays-ended : (c a : ℕ) (es : List Entry) (e : Entry) → EachOnce es → Some e ≡ entry_of es c → a ≤ e.floor → es ≡ ended c a es
+stays-ended c a es e once h low = sym (ended-known c a es (known-entry c es e (sym h)).0 ∙ ends-nothing c a es e once (sym h) (not-below e.floor a low))
+
+-- any other one is replaced
+pub replaced-ends : (c a : ℕ) (es : List Entry) (e : Entry) → EachOnce es → Some e ≡ entry_of es c → e.floor < a → replaced (fresh c a) es ≡ ended c a es
+replaced-ends c a es e once h low =
+    let known = known-entry c es e (sym h) in
+    let is : ended_entry a e ≡ fresh c a = ap (λ b. cond b (record { client = e.client; floor = a; live = None }) e) ((Decides-ltb e.floor a).1 low) ∙ ap (λ k. fresh k a) known.1 in
+    sym (ended-known c a es known.0 ∙ ends-replaces c a es e (fresh c a) once (sym h) is refl)
+
+-- with nothing to end, ended entries are the same
+pub ended-same : (c a : ℕ) (es : List Entry) → EachOnce es → ends_something a (entry_of es c) ≡ false → ended c a es ≡ es
+ended-same c a es once h = go (entry_of es c) refl
+  where
+    go : (o : Option Entry) → entry_of es c ≡ o → ended c a es ≡ es
+    go None is = let z : true ≡ false = sym (ap (ends_something a) is) ∙ h in cc
+    go (Some e) is = ended-known c a es (known-entry c es e is).0 ∙ ends-nothing c a es e once is (sym (ap (ends_something a) is) ∙ h)
+
+knows-ends : (c a : ℕ) (es : List Entry) (d : ℕ) → knows d (ends_in c a es) ≡ knows d es
+knows-ends c a [] d = refl
+knows-ends c a (e ∷ es) d = ap (λ b. b || knows d (ends_in c a es)) (go (is_of c e) (nat_lt e.floor a)) ∙ ap (λ b. (e.client == d) || b) (knows-ends c a es d)
+  where
+    go : (b l : Bool) → is_of d (cond b (cond l (record { client = e.client; floor = a; live = None }) e) e) ≡ is_of d e
+    go true true = refl
+    go true false = refl
+    go false l = refl
+
+known-last : (c : ℕ) (es : List Entry) (f : Entry) → f.client ≡ c → knows c (es ++ f ∷ []) ≡ true
+known-last c [] f h = ap (λ b. b || false) (eq-eqb f.client c h)
+known-last c (e ∷ es) f h = or-right (is_of c e) (knows c (es ++ f ∷ [])) (known-last c es f h)
+
+-- a client whose attempts ended is known
+pub knows-ended : (c a : ℕ) (es : List Entry) → knows c (ended c a es) ≡ true
+knows-ended c a es = go (knows c es) refl
+  where
+    go : (b : Bool) → knows c es ≡ b → knows c (ended c a es) ≡ true
+    go true is = ap (knows c) (ended-known c a es is) ∙ knows-ends c a es c ∙ is
+    go false is = ap (knows c) (ended-unknown c a es is) ∙ known-last c es (fresh c a) refl
+
+length-ends : (c a : ℕ) (es : List Entry) → length (ends_in c a es) ≡ length es
+length-ends c a [] = refl
+length-ends c a (e ∷ es) = ap (λ n. suc n) (length-ends c a es)
+
+length-last : (es : List Entry) (f : Entry) → length (es ++ f ∷ []) ≡ length es + 1
+length-last [] f = refl
+length-last (e ∷ es) f = let h = length-last es f in omega arith
+
+-- ending adds one entry at most
+pub length-ended : (c a : ℕ) (es : List Entry) → length (ended c a es) ≤ length es + 1
+length-ended c a es = go (knows c es) refl
+  where
+    go : (b : Bool) → knows c es ≡ b → length (ended c a es) ≤ length es + 1
+    go true is = let h = ap length (ended-known c a es is) in let k = length-ends c a es in omega (arith, h, k)
+    go false is = let h = ap length (ended-unknown c a es is) in let k = length-last es (fresh c a) in omega (arith, h, k)
+
+-- the floor of a client's entry, if it has one
+abbrev pub floor_seen : Option Entry → Option ℕ
+floor_seen None = None
+floor_seen (Some e) = Some e.floor
+
+find-last : (c : ℕ) (es : List Entry) (f : Entry) → knows c es ≡ false → f.client ≡ c → entry_of (es ++ f ∷ []) c ≡ Some f
+find-last c [] f none h = ap (λ b. cond b (Some f) None) (eq-eqb f.client c h)
+find-last c (e ∷ es) f none h =
+    let k = or-none (is_of c e) (knows c es) none in
+    ap (λ b. cond b (Some e) (entry_of (es ++ f ∷ []) c)) k.0 ∙ find-last c es f k.1 h
+
+unknown-others : (c : ℕ) (es : List Entry) → knows c (filter (λ e. not (is_of c e)) es) ≡ false
+unknown-others c [] = refl
+unknown-others c (e ∷ es) = go (unknown-others c es) (is_of c e) refl
+  where
+    go : knows c (filter (λ e. not (is_of c e)) es) ≡ false → (b : Bool) → is_of c e ≡ b → knows c (filter (λ e. not (is_of c e)) (e ∷ es)) ≡ false
+    go rest true is = ap (λ b. knows c (cond (not b) (e ∷ filter (λ e. not (is_of c e)) es) (filter (λ e. not (is_of c e)) es))) is ∙ rest
+    go rest false is = ap (λ b. knows c (cond (not b) (e ∷ filter (λ e. not (is_of c e)) es) (filter (λ e. not (is_of c e)) es))) is ∙ ap (λ b. b || knows c (filter (λ e. not (is_of c e)) es)) is ∙ rest
+
+-- what was moved to the end is found
+pub found-moved : (f : Entry) (es : List Entry) → entry_of (moved_last f es) f.client ≡ Some f
+found-moved f es = find-last f.client (filter (λ e. not (is_of f.client e)) es) f (unknown-others f.client es) refl
+
+floor-ends : (c a : ℕ) (es : List Entry) (e : Entry) → entry_of es c ≡ Some e → nat_lt e.floor a ≡ true → floor_seen (entry_of (ends_in c a es) c) ≡ Some a
+floor-ends c a [] e h low = cc
+floor-ends c a (d ∷ es) e h low = go (λ k. floor-ends c a es e k low) (is_of c d) refl
+  where
+    go : (entry_of es c ≡ Some e → floor_seen (entry_of (ends_in c a es) c) ≡ Some a) → (b : Bool) → is_of c d ≡ b → floor_seen (entry_of (ends_in c a (d ∷ es)) c) ≡ Some a
+    go more true here =
+        let z : Some d ≡ Some e = sym (ap (λ b. cond b (Some d) (entry_of es c)) here) ∙ h in
+        let same : d ≡ e = cc in
+        let lower : nat_lt d.floor a ≡ true = ap (λ (x : Entry). nat_lt x.floor a) same ∙ low in
+        ap (λ b. floor_seen (entry_of (cond b (cond (nat_lt d.floor a) (record { client = d.client; floor = a; live = None }) d) d ∷ ends_in c a es) c)) here
+        ∙ ap (λ b. floor_seen (entry_of (cond b (record { client = d.client; floor = a; live = None }) d ∷ ends_in c a es) c)) lower
+        ∙ ap (λ b. floor_seen (cond b (Some (record { client = d.client; floor = a; live = None })) (entry_of (ends_in c a es) c))) here
+    go more false here =
+        ap (λ b. floor_seen (entry_of (cond b (ended_entry a d) d ∷ ends_in c a es) c)) here
+        ∙ ap (λ b. floor_seen (cond b (Some d) (entry_of (ends_in c a es) c))) here
+        ∙ more (sym (ap (λ b. cond b (Some d) (entry_of es c)) here) ∙ h)
+
+-- where something ended, the floor is the attempt
+pub floor-ended : (c a : ℕ) (es : List Entry) → ends_something a (entry_of es c) ≡ true → floor_seen (entry_of (ended c a es) c) ≡ Some a
+floor-ended c a es h = go (entry_of es c) refl
+  where
+    go : (o : Option Entry) → entry_of es c ≡ o → floor_seen (entry_of (ended c a es) c) ≡ Some a
+    go None is =
+        let none = unknown-entry c es is in
+        ap (λ l. floor_seen (entry_of l c)) (ended-unknown c a es none) ∙ ap floor_seen (find-last c es (fresh c a) none refl)
+    go (Some e) is =
+        ap (λ l. floor_seen (entry_of l c)) (ended-known c a es (known-entry c es e is).0) ∙ floor-ends c a es e is (sym (ap (ends_something a) is) ∙ h)
+
+-- and wasn't before
+pub floor-before : (c a : ℕ) (es : List Entry) → ends_something a (entry_of es c) ≡ true → floor_seen (entry_of es c) ≢ Some a
+floor-before c a es h = go (entry_of es c) refl
+  where
+    go : (o : Option Entry) → entry_of es c ≡ o → floor_seen (entry_of es c) ≢ Some a
+    go None is same = let z : None ≡ Some a = sym (ap floor_seen is) ∙ same in cc
+    go (Some e) is same =
+        let z : Some e.floor ≡ Some a = sym (ap floor_seen is) ∙ same in
+        let y : e.floor ≡ a = cc in
+        let low : e.floor < a = (Decides-ltb e.floor a).0 (sym (ap (ends_something a) is) ∙ h) in
+        omega (arith, y, low)

@@ -1,0 +1,2 @@
+pub mod Voters
+pub mod Faults

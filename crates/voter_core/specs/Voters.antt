@@ -1,0 +1,108 @@
+-- One node: its station as it keeps it, and what it is about.
+use Rattle.std.specs.Prelude.{◌≡◌, ◌≢◌, ℕ, Bool, true, false, ◌&&◌, List, [], Option, Some, None, Err, nat_lt, if◌then◌else◌}
+use Rattle.lock_messages.specs.declared.messages.Message.{Message}
+use Rattle.lock_model.specs.declared.entries.Entry.{Entry}
+use Rattle.lock_model.specs.declared.entries.Live.{Live}
+use Rattle.lock_model.specs.declared.problems.Problem.{Problem}
+use Rattle.lock_model.specs.Stations.{IsLawful, IsCaused}
+use Rattle.lock_model.specs.Decisions.{Decides}
+use Rattle.lock_model.specs.ExactStations.{is_waiting, admits, promoted, meaning}
+use Rattle.lock_model.specs.ExactDecisions.{decision, changes}
+use Rattle.stable_record.specs.declared.node_records.NodeRecord.{NodeRecord}
+use Rattle.stable_record.specs.declared.faults.RecordFault.{RecordFault}
+use Rattle.stable_record.specs.declared.faults.RecordFault.TheVariants as record_fault
+use Rattle.stable_record.specs.Records.{IsNodeRecord, node_record_of}
+use Rattle.stable_record.specs.Reading.{reading}
+use Rattle.voter_core.specs.declared.phases.Phase.{Phase}
+use Rattle.voter_core.specs.declared.phases.Phase.TheVariants as phase
+use Rattle.voter_core.specs.declared.faults.VoterFault.{VoterFault}
+use Rattle.voter_core.specs.declared.faults.VoterFault.TheVariants as fault
+
+-- What a node is about, with what it has then: nothing; a decision that changed the record, and its
+-- replies, which have to wait until the record is kept; replies that may be said.
+pub data State : Type 0 where
+  Idle : State
+  Decided : (replies : List Message) → State
+  Stored : (replies : List Message) → State
+
+-- a node: its number, its station as problem and entries in order, and what it is about
+pub record Voter : Type 0 where
+  pub node : ℕ
+  pub problem : Problem
+  pub entries : List Entry
+  pub state : State
+
+-- the state of this phase, with these replies
+abbrev pub state_of : Phase → List Message → State
+state_of phase.Idle replies = Idle
+state_of phase.Decided replies = Decided replies
+state_of phase.Stored replies = Stored replies
+
+abbrev pub phase_in : State → Phase
+phase_in Idle = phase.Idle
+phase_in (Decided replies) = phase.Decided
+phase_in (Stored replies) = phase.Stored
+
+abbrev pub replies_in : State → List Message
+replies_in Idle = []
+replies_in (Decided replies) = replies
+replies_in (Stored replies) = replies
+
+-- the node's record
+abbrev pub record_of : Voter → NodeRecord
+record_of v = record { policy = v.problem; entries = v.entries }
+
+-- a node that rises with this record
+abbrev pub risen : ℕ → NodeRecord → Voter
+risen n r = record { node = n; problem = r.policy; entries = r.entries; state = Idle }
+
+-- the state after a decision that changes the record, or doesn't
+abbrev pub state_after : Bool → List Message → State
+state_after true replies = Decided replies
+state_after false replies = Stored replies
+
+-- the node after it took a message: the exact decision
+abbrev pub taken : Voter → Message → Voter
+taken v m = record {
+  node = v.node;
+  problem = v.problem;
+  entries = (decision v.problem v.entries m).entries;
+  state = state_after (changes v.problem v.entries m) (decision v.problem v.entries m).replies;
+}
+
+-- the decision that led from one node to the other is one that it may take
+pub record Allows (before : Voter) (m : Message) (after : Voter) : Type 0 where
+  pub decides : Decides (meaning before.problem before.entries) m (meaning after.problem after.entries) (replies_in after.state)
+  pub lawful : IsLawful (meaning after.problem after.entries)
+  pub caused : IsCaused (meaning after.problem after.entries)
+
+-- the node after its decision was kept
+abbrev pub kept : Voter → Voter
+kept v = record { node = v.node; problem = v.problem; entries = v.entries; state = Stored (replies_in v.state) }
+
+-- the node after its replies were said
+abbrev pub spoken : Voter → Voter
+spoken v = record { node = v.node; problem = v.problem; entries = v.entries; state = Idle }
+
+-- bytes that are the record of a lawful and caused station of this problem
+pub record IsRecordOf (p : Problem) (bytes : List ℕ) (r : NodeRecord) : Type 0 where
+  pub good : IsNodeRecord r
+  pub spelled : bytes ≡ node_record_of r
+  pub problem : r.policy ≡ p
+
+-- Why a node can't rise with these bytes under this problem: reading them meets this fault, or they
+-- are a record of the other problem. Memory may be refused at any time.
+abbrev pub IsRefusedFor : Problem → List ℕ → VoterFault → Type 0
+IsRefusedFor p bytes (fault.Unreadable f) = (reading bytes ≡ Err f) × (f ≢ record_fault.NoMemory)
+IsRefusedFor p bytes fault.OtherProblem = (r : NodeRecord) × IsNodeRecord r × (bytes ≡ node_record_of r) × (r.policy ≢ p)
+IsRefusedFor p bytes fault.Memory = Unit {0}
+
+-- the ticket, holding, where it waits and is admitted among the entries
+abbrev pub admitted_now : Problem → List Entry → Option Live → Option Live
+admitted_now p entries None = None
+admitted_now p entries (Some l) = if is_waiting l.status && admits p l.mode l.resource entries then Some (promoted l) else None
+
+-- ending the client's attempts up to a changes its entry, or adds one
+abbrev pub ends_something : ℕ → Option Entry → Bool
+ends_something a None = true
+ends_something a (Some e) = nat_lt e.floor a

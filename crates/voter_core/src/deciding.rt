@@ -1,0 +1,235 @@
+// A node's decision on a message, made in its entries.
+
+ghost use Rattle.std.specs.Prelude.{◌≡◌, ◌≢◌, ◌≤◌, ◌<◌, ◌+◌, ◌↔◌, [], length, Bool, true, nat_lt, is_ok, IfOk, OnOk, OnErr, IsTrue, slice_set, if◌then◌else◌};
+ghost use Rattle.std.specs.Vec.{vec_len, vec_capacity};
+ghost use Rattle.lock_messages.specs.declared.ids.TheConstants.{MAX_CLIENTS};
+ghost use Rattle.lock_messages.specs.declared.messages.Message.{Message};
+ghost use Rattle.lock_messages.specs.declared.tickets.Mode.{Mode};
+ghost use Rattle.lock_messages.specs.Messages.{IsTicket, IsMessage, is_for_node};
+ghost use Rattle.lock_model.specs.Laws.{IsAllowed};
+ghost use Rattle.stable_record.specs.Records.{IsNodeRecord};
+ghost use Rattle.lock_model.specs.ExactStations.{EachOnce, entry_of, knows};
+ghost use Rattle.lock_model.specs.ExactDecisions.{ended, moved_last, takes_up, releases, decision, Changes, changes};
+ghost use Rattle.voter_core.specs.Voters.{ends_something};
+
+use crate::asking::note;
+use crate::settling::{admits, settle};
+use admission_policy::Admission;
+use lock_messages::{Attempt, ClientId, Message, Mode, NodeId, Ticket};
+use lock_model::laws::{changes_are_seen, decision_is_allowed};
+use lock_model::{Entry, Problem, new_entry, reply_to_known};
+use stable_record::laws::entries_are_few;
+use stable_record::{Entries, NodeRecord};
+use std::alloc::{AllocError, Global};
+
+/// No replies yet, with room for the sender's and for a Grant to each client that has an entry then.
+pub fn room_for(alloc: Global, entries: &Entries) -> Result<Vec<Message>, AllocError>
+    requires { length entries.now ≤ MAX_CLIENTS }
+    ensures { IfOk result (λ replies. (replies.items ≡ []) × (vec_len replies ≡ 0) × (length entries.now + 2 ≤ vec_capacity replies)) }
+{
+    let mut replies = Vec::new(alloc);
+    replies.reserve(entries.len() + 2)?;
+    Ok(replies)
+}
+
+/// Ends the client's attempts up to this one, and answers whether that changed an entry, or added
+/// one. Memory is refused for a stranger's entry alone, and then nothing has changed.
+fn end(entries: &mut Entries, client: ClientId, attempt: u64) -> Result<bool, AllocError>
+    ensures ended { entries.new ≡ (if is_ok result then ended client attempt entries.old else entries.old) }
+    ensures changed { IfOk result (λ b. b ≡ ends_something attempt (entry_of entries.old client)) }
+    ensures once { EachOnce entries.old }
+{
+    let entry = Entry {
+        client,
+        floor: attempt,
+        live: None,
+    };
+    let Some(Entry { floor, .. }) = entries.entry_of(client) else {
+        return entries.push(entry);
+    };
+    if floor >= attempt {
+        return Ok(false);
+    }
+    entries.replace(entry);
+    Ok(true)
+}
+
+/// Whether there are more replies than the sender's.
+fn tells_grants(replies: &[Message]) -> bool
+    ensures { result ≡ nat_lt 1 (length replies.now) }
+{
+    replies.len() > 1
+}
+
+/// Takes a release: the client's attempts end, and the others settle. It answers whether the entries
+/// changed.
+fn release(
+    policy: &(dyn Admission + Send),
+    problem: Problem,
+    node: NodeId,
+    entries: &mut Entries,
+    client: ClientId,
+    attempt: Attempt,
+    replies: &mut Vec<Message>,
+) -> Result<bool, AllocError>
+    requires none { (replies.old.items ≡ []) × (vec_len replies.old ≡ 0) }
+    requires room { length entries.old + 2 ≤ vec_capacity replies.old }
+    ensures entries { entries.new ≡ (if is_ok result then (releases node problem entries.old client attempt).entries else entries.old) }
+    ensures replies { OnOk result (replies.new.items ≡ (releases node problem entries.old client attempt).replies) }
+    ensures changed { IfOk result (λ b. IsTrue b ↔ ((releases node problem entries.old client attempt).entries ≢ entries.old)) }
+{
+    let ended = end(entries, client, attempt.get())?;
+    replies.push_reserved(Message::Done(node, client, attempt));
+    settle(policy, problem, node, entries, replies);
+    Ok(ended || tells_grants(replies))
+}
+
+/// Writes over the first reply.
+fn set_first(replies: &mut Vec<Message>, first: Message)
+    requires { 0 < vec_len replies.old }
+    ensures { replies.new.items ≡ slice_set replies.old.items 0 first }
+{
+    replies[0] = first;
+}
+
+/// Moves a client's entry behind the others, as this one.
+fn put_last(entries: &mut Entries, entry: Entry)
+    requires { knows entry.client entries.old ≡ true }
+    ensures { entries.new ≡ moved_last entry entries.old }
+{
+    entries.move_last(entry);
+}
+
+/// Takes up a new ticket: the attempts before it end, the others settle, and then it is admitted or
+/// waits. The policy is told once of a reader, and never of a writer.
+fn take_up(
+    policy: &mut (dyn Admission + Send),
+    problem: Problem,
+    node: NodeId,
+    entries: &mut Entries,
+    ticket: &Ticket,
+    replies: &mut Vec<Message>,
+) -> Result<(), AllocError>
+    requires none { (replies.old.items ≡ []) × (vec_len replies.old ≡ 0) }
+    requires room { length entries.old + 2 ≤ vec_capacity replies.old }
+    ensures entries { entries.new ≡ (if is_ok result then (takes_up node problem entries.old ticket.now).entries else entries.old) }
+    ensures replies { OnOk result (replies.new.items ≡ (takes_up node problem entries.old ticket.now).replies) }
+    ensures reader { OnOk result (ticket.now.mode ≡ Mode.Read → (admitted : Bool) × (after : _) × notes policy.old admitted after × (policy.new ≡ (policy.old.0, after))) }
+    ensures writer { OnOk result (ticket.now.mode ≡ Mode.Write → policy.new ≡ policy.old) }
+    ensures refused { OnErr result (policy.new ≡ policy.old) }
+{
+    end(entries, ticket.client, ticket.attempt.get() - 1)?;
+    replies.push_reserved(Message::Busy(node, *ticket));
+    settle(policy, problem, node, entries, replies);
+    let admitted = admits(policy, problem, entries, ticket.mode, &ticket.resource);
+    if admitted {
+        set_first(replies, Message::Grant(node, *ticket));
+    }
+    note(policy, ticket.mode, admitted);
+    put_last(entries, new_entry(ticket, admitted));
+    Ok(())
+}
+
+/// Answers a request, and whether the entries changed.
+fn request(
+    policy: &mut (dyn Admission + Send),
+    problem: Problem,
+    node: NodeId,
+    entries: &mut Entries,
+    ticket: &Ticket,
+    replies: &mut Vec<Message>,
+) -> Result<bool, AllocError>
+    requires none { (replies.old.items ≡ []) × (vec_len replies.old ≡ 0) }
+    requires room { length entries.old + 2 ≤ vec_capacity replies.old }
+    ensures entries { entries.new ≡ (if is_ok result then (decision problem entries.old (Message.Request node ticket.now)).entries else entries.old) }
+    ensures replies { OnOk result (replies.new.items ≡ (decision problem entries.old (Message.Request node ticket.now)).replies) }
+    ensures changed { IfOk result (λ b. IsTrue b ↔ Changes problem entries.old (Message.Request node ticket.now)) }
+{
+    match reply_to_known(node, ticket, entries.entry_of(ticket.client)) {
+        Some(reply) => {
+            replies.push_reserved(reply);
+            Ok(false)
+        }
+        None => {
+            take_up(policy, problem, node, entries, ticket, replies)?;
+            Ok(true)
+        }
+    }
+}
+
+/// Decides on a message: the entries after it, the replies behind none yet, and whether the entries
+/// changed. Memory is refused before anything has changed.
+pub fn decide(
+    policy: &mut (dyn Admission + Send),
+    problem: Problem,
+    entries: &mut Entries,
+    message: &Message,
+    replies: &mut Vec<Message>,
+) -> Result<bool, AllocError>
+    requires none { (replies.old.items ≡ []) × (vec_len replies.old ≡ 0) }
+    requires room { length entries.old + 2 ≤ vec_capacity replies.old }
+    ensures entries { entries.new ≡ (if is_ok result then (decision problem entries.old message.now).entries else entries.old) }
+    ensures replies { OnOk result (replies.new.items ≡ (decision problem entries.old message.now).replies) }
+    ensures changed { IfOk result (λ b. IsTrue b ↔ Changes problem entries.old message.now) }
+{
+    match message {
+        Message::Request(node, ticket) => {
+            request(policy, problem, *node, entries, ticket, replies)
+        }
+        Message::Release(node, client, attempt) => {
+            release(policy, problem, *node, entries, *client, *attempt, replies)
+        }
+        Message::Grant(..)
+        | Message::Busy(..)
+        | Message::Over(..)
+        | Message::Done(..)
+        | Message::Muddled(..) => Ok(false),
+    }
+}
+
+/// Computes nothing: the parts of a ticket are in range, by their types.
+fn is_ticket(ticket: &Ticket)
+    ensures { IsTicket ticket.now }
+{
+    ticket.client.get();
+    ticket.attempt.get();
+    ticket.resource.bytes();
+}
+
+/// Computes nothing: the parts of a message are in range, by their types.
+fn is_message(message: &Message)
+    ensures { IsMessage message.now }
+{
+    match message {
+        Message::Request(node, ticket)
+        | Message::Grant(node, ticket)
+        | Message::Busy(node, ticket) => {
+            node.get();
+            is_ticket(ticket);
+        }
+        Message::Release(node, client, attempt)
+        | Message::Over(node, client, attempt)
+        | Message::Done(node, client, attempt)
+        | Message::Muddled(node, client, attempt) => {
+            node.get();
+            client.get();
+            attempt.get();
+        }
+    }
+}
+
+/// Computes nothing: after the decision on a message for this node the station is one that can be
+/// kept and read again, and the decision is one that the node may take.
+pub fn stays_a_record(station: &NodeRecord, node: NodeId, message: &Message)
+    requires record { IsNodeRecord station.now }
+    requires for_node { is_for_node message.now node ≡ true }
+    ensures record { IsNodeRecord (record { policy = station.now.policy; entries = (decision station.now.policy station.now.entries message.now).entries }) }
+    ensures allowed { IsAllowed station.now.policy station.now.entries message.now }
+    ensures changes { (b : Bool) → IsTrue b ↔ Changes station.now.policy station.now.entries message.now → b ≡ changes station.now.policy station.now.entries message.now }
+{
+    let _policy = station.policy;
+    is_message(message);
+    decision_is_allowed();
+    changes_are_seen();
+    entries_are_few();
+}

@@ -1,0 +1,28 @@
+//! One node's decisions.
+//!
+//! A `NodeCore` has a node's number, its station (a problem and the entries in the order in which
+//! tickets arrived), a policy, and what it is about: nothing, a decision that has to be kept, or
+//! replies that may be said. It rises from its record, takes a message, gives the bytes of its record
+//! to be kept and, once they are, the replies.
+//!
+//! The crate promises that `take` is the exact decision of `lock_model`, so that it is one that a node
+//! may take, and that every station is lawful and caused: no writer that holds is beside another
+//! holder, and who waits has a cause (Courtois, Heymans and Parnas 1971, for the node's own vote). Its
+//! only refusal is want of memory, and then nothing has changed. It stands on `lock_messages`,
+//! `lock_model`, `stable_record` and `admission_policy`, by their public contracts alone.
+#![tactic(auto)]
+
+mod asking;
+mod deciding;
+mod faults;
+mod phases;
+mod rising;
+mod settling;
+mod voters;
+
+pub use faults::VoterFault;
+pub use phases::Phase;
+pub use voters::NodeCore;
+
+#[cfg(test)]
+mod tests;

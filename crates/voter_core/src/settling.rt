@@ -1,0 +1,118 @@
+// Settling, by one pass over the entries.
+
+ghost use Rattle.std.specs.Prelude.{◌≡◌, ◌≤◌, ◌<◌, ◌+◌, ◌++◌, length, Some, slice_get, slice_set};
+ghost use Rattle.std.specs.Vec.{vec_len, vec_capacity};
+ghost use Rattle.lock_messages.specs.declared.messages.Message.{Message};
+ghost use Rattle.lock_model.specs.declared.entries.Entry.{Entry};
+ghost use Rattle.lock_model.specs.ExactStations.{admits, settled_entry, settled};
+ghost use Rattle.lock_model.specs.ExactDecisions.{told, grants};
+ghost use Rattle.voter_core.specs.Voters.{admitted_now};
+
+use crate::asking::admits_reader;
+use admission_policy::Admission;
+use lock_messages::{ClientId, Message, Mode, NodeId, ResourceName, Ticket};
+use lock_model::{Entry, Live, Problem, Status};
+use stable_record::Entries;
+
+/// Whether a ticket in this mode for this resource is admitted among the entries.
+pub fn admits(
+    policy: &(dyn Admission + Send),
+    problem: Problem,
+    entries: &Entries,
+    mode: Mode,
+    resource: &ResourceName,
+) -> bool
+    ensures { result ≡ admits problem mode resource.now entries.now }
+{
+    match mode {
+        Mode::Write => !entries.has_holder(resource),
+        Mode::Read => {
+            let writer_holds = entries.has_writing_holder(resource);
+            let writer_waits = entries.has_waiting_writer(resource);
+            admits_reader(policy, problem, writer_holds, writer_waits)
+        }
+    }
+}
+
+/// The ticket, holding, where it waits and is admitted among the entries.
+fn admitted_now(
+    policy: &(dyn Admission + Send),
+    problem: Problem,
+    entries: &Entries,
+    live: Option<Live>,
+) -> Option<Live>
+    ensures { result ≡ admitted_now problem entries.now live }
+{
+    let live = live?;
+    if live.waits() && admits(policy, problem, entries, live.mode, &live.resource) {
+        let status = Status::Holding;
+        Some(Live { status, ..live })
+    } else {
+        None
+    }
+}
+
+/// The Grant of a client's ticket.
+fn grant(node: NodeId, client: ClientId, live: &Live) -> Message
+    ensures { result ≡ Message.Grant node (record { client = client; attempt = live.now.attempt; mode = live.now.mode; resource = live.now.resource }) }
+{
+    let ticket = Ticket {
+        client,
+        attempt: live.attempt,
+        mode: live.mode,
+        resource: live.resource,
+    };
+    Message::Grant(node, ticket)
+}
+
+/// Settles the entry at this place, and tells a Grant where it became a holder.
+fn settle_at(
+    policy: &(dyn Admission + Send),
+    problem: Problem,
+    node: NodeId,
+    entries: &mut Entries,
+    place: usize,
+    replies: &mut Vec<Message>,
+)
+    requires room { vec_len replies.old < vec_capacity replies.old }
+    ensures entries { (e : Entry) → slice_get entries.old place ≡ Some e → entries.new ≡ slice_set entries.old place (settled_entry problem entries.old e) }
+    ensures replies { (e : Entry) → slice_get entries.old place ≡ Some e → replies.new.items ≡ replies.old.items ++ told node e (settled_entry problem entries.old e) }
+    ensures room { (vec_len replies.new ≤ vec_len replies.old + 1) × (vec_capacity replies.new ≡ vec_capacity replies.old) }
+{
+    let Some(
+        Entry {
+            client,
+            floor,
+            live,
+        },
+    ) = entries.get(place)
+    else {
+        return;
+    };
+    let Some(live) = admitted_now(policy, problem, entries, live) else {
+        return;
+    };
+    replies.push_reserved(grant(node, client, &live));
+    entries.replace(Entry {
+        client,
+        floor,
+        live: Some(live),
+    });
+}
+
+/// Settles the entries, and adds the Grants of those that became holders.
+pub fn settle(
+    policy: &(dyn Admission + Send),
+    problem: Problem,
+    node: NodeId,
+    entries: &mut Entries,
+    replies: &mut Vec<Message>,
+)
+    requires room { vec_len replies.old + length entries.old ≤ vec_capacity replies.old }
+    ensures entries { entries.new ≡ settled problem entries.old }
+    ensures replies { replies.new.items ≡ replies.old.items ++ grants node entries.old entries.new }
+{
+    for place in 0..entries.len() {
+        settle_at(policy, problem, node, entries, place, replies);
+    }
+}

@@ -1,0 +1,200 @@
+// One node.
+
+ghost use Rattle.std.specs.Prelude.{◌≡◌, ◌↔◌, true, length, IsTrue, IfOk, IfErr, OnOk, OnErr, IsOkUnless};
+ghost use Rattle.lock_messages.specs.Messages.{is_for_node};
+ghost use Rattle.lock_model.specs.ExactDecisions.{Changes, changes};
+ghost use Rattle.stable_record.specs.declared.node_records.NodeRecord.{NodeRecord};
+ghost use Rattle.stable_record.specs.Records.{IsNodeRecord, node_record_of};
+ghost use Rattle.voter_core.specs.Voters.{phase_in, replies_in, record_of, risen, taken, Allows, kept, spoken, IsRecordOf, IsRefusedFor};
+
+use crate::asking::problem_of;
+use crate::deciding::{decide, room_for, stays_a_record};
+use crate::phases::phase_after;
+use crate::rising::read_record;
+use crate::{Phase, VoterFault};
+use admission_policy::Admission;
+use lock_messages::{Message, NodeId};
+use stable_record::{NodeRecord, node_bytes};
+use std::alloc::Global;
+use std::marker::Model;
+use std::mem;
+
+/// One node: its number, its station, its policy, and what it is about.
+///
+/// Contracts see the number, the station as a problem and entries in order, and the phase with its
+/// replies. They do not see the policy, which decides nothing: it answers by the station's problem,
+/// and is told what became of readers.
+#[derive(Drop)]
+pub struct NodeCore {
+    alloc: Global,
+    id: NodeId,
+    station: NodeRecord,
+    policy: Box<dyn Admission + Send>,
+    about: Phase,
+    told: Vec<Message>,
+}
+
+impl Model for NodeCore {
+    ghost use Rattle.stable_record.specs.Records.{IsNodeRecord};
+    ghost use Rattle.voter_core.specs.Voters.{Voter, state_of};
+
+    ghost Value = { Voter };
+
+    ghost view = { λ c. record { node = c.id; problem = c.station.policy; entries = c.station.entries; state = state_of c.about c.told.items } };
+
+    ghost invariant = { λ c. IsNodeRecord c.station };
+}
+
+impl NodeCore {
+    /// The node with this number, at rest, with the station that its record has.
+    ///
+    /// A refusal hands the policy back: 501 where the bytes are no node record, with the first fault
+    /// that reading them meets; 502 where the record is of the other problem than the policy; 503
+    /// where memory was refused, which may come before both.
+    pub fn rise(
+        alloc: Global,
+        node: NodeId,
+        bytes: &[u8],
+        policy: Box<dyn Admission + Send>,
+    ) -> Result<NodeCore, (Box<dyn Admission + Send>, VoterFault)>
+        requires { Unit {0} }
+        // The station is the record's.
+        ensures risen { IfOk result (λ core. (r : NodeRecord) × IsRecordOf (problem_of policy) bytes.now r × (core ≡ risen node r)) }
+        ensures refused { IfErr result (λ back. (back.0 ≡ policy) × IsRefusedFor (problem_of policy) bytes.now back.1) }
+        // A record of the policy's problem is refused for memory alone.
+        ensures only { (r : NodeRecord) → IsRecordOf (problem_of policy) bytes.now r → IfErr result (λ back. back.1 ≡ VoterFault.Memory) }
+    {
+        match read_record(alloc, bytes, problem_of(&*policy)) {
+            Ok(station) => Ok(NodeCore {
+                alloc,
+                id: node,
+                station,
+                policy,
+                about: Phase::Idle,
+                told: Vec::new(alloc),
+            }),
+            Err(fault) => Err((policy, fault)),
+        }
+    }
+
+    /// Puts the node back at rest with the station that its record has, as a restart does; the policy
+    /// stays. What it was about is lost.
+    ///
+    /// A refusal changes nothing: 501, 502 (the record is of the other problem than the station) and
+    /// 503 as in `rise`.
+    pub fn restart(&mut self, bytes: &[u8]) -> Result<(), VoterFault>
+        requires { Unit {0} }
+        ensures risen { OnOk result ((r : NodeRecord) × IsRecordOf self.old.problem bytes.now r × (self.new ≡ risen self.old.node r)) }
+        ensures refused { IfErr result (λ fault. (self.new ≡ self.old) × IsRefusedFor self.old.problem bytes.now fault) }
+        ensures only { (r : NodeRecord) → IsRecordOf self.old.problem bytes.now r → IfErr result (λ fault. fault ≡ VoterFault.Memory) }
+    {
+        let station = read_record(self.alloc, bytes, self.station.policy)?;
+        self.station = station;
+        self.about = Phase::Idle;
+        self.told = Vec::new(self.alloc);
+        Ok(())
+    }
+
+    /// The node's number.
+    pub fn node(&self) -> NodeId
+        ensures { result ≡ self.now.node }
+    {
+        self.id
+    }
+
+    /// What the node is about.
+    pub fn phase(&self) -> Phase
+        ensures phase { result ≡ phase_in self.now.state }
+        ensures station { IsNodeRecord (record_of self.now) }
+    {
+        let _station = &self.station;
+        self.about
+    }
+
+    /// Takes a message, and answers whether it changes the node's record. If it does, the record has
+    /// to be kept before the node replies (Decided); else the replies may be said at once (Stored).
+    ///
+    /// The caller owes that the node is idle (`phase`) and that the message is for it
+    /// (`Message::is_for_node`, of `node`). The rules are those of problems 1 and 2 (Courtois, Heymans and
+    /// Parnas 1971), for the node's own vote; attempts, floors and the order of entries are our own.
+    /// The policy is told once of each new reader's ticket, and of nothing else. The only error is
+    /// want of memory (503), and then nothing has changed. It takes time of the square of the number
+    /// of entries at most.
+    pub fn take(&mut self, message: &Message) -> Result<bool, VoterFault>
+        requires idle { phase_in self.old.state ≡ Phase.Idle }
+        requires for_node { is_for_node message.now self.old.node ≡ true }
+        ensures exact { OnOk result (self.new ≡ taken self.old message.now) }
+        ensures changes { IfOk result (λ b. b ≡ changes self.old.problem self.old.entries message.now) }
+        ensures changed { IfOk result (λ b. IsTrue b ↔ Changes self.old.problem self.old.entries message.now) }
+        // It is a decision that the node may take, and the station after it is lawful and caused.
+        ensures allowed { OnOk result (Allows self.old message.now self.new) }
+        ensures memory { IsOkUnless result VoterFault.Memory }
+        ensures unchanged { OnErr result (self.new ≡ self.old) }
+    {
+        stays_a_record(&self.station, self.id, message);
+        let Ok(mut replies) = room_for(self.alloc, &self.station.entries) else {
+            return Err(VoterFault::Memory);
+        };
+        let problem = self.station.policy;
+        let entries = &mut self.station.entries;
+        let Ok(changed) = decide(&mut *self.policy, problem, entries, message, &mut replies) else {
+            return Err(VoterFault::Memory);
+        };
+        self.told = replies;
+        self.about = phase_after(changed);
+        Ok(changed)
+    }
+
+    /// The bytes of the node's record; from `take` on of the decided one. The only error is want of
+    /// memory (503).
+    pub fn next_bytes(&self, alloc: Global) -> Result<Vec<u8>, VoterFault>
+        ensures bytes { IfOk result (λ bytes. bytes.items ≡ node_record_of (record_of self.now)) }
+        ensures memory { IsOkUnless result VoterFault.Memory }
+    {
+        match node_bytes(alloc, &self.station) {
+            Ok(bytes) => Ok(bytes),
+            Err(_) => Err(VoterFault::Memory),
+        }
+    }
+
+    /// The decided record is kept, and the replies may be said. It takes no memory.
+    ///
+    /// The caller owes that the node is Decided (`phase`), and that the bytes of `next_bytes` are
+    /// kept.
+    pub fn kept(&mut self)
+        requires { phase_in self.old.state ≡ Phase.Decided }
+        ensures { self.new ≡ kept self.old }
+    {
+        self.about = Phase::Stored;
+    }
+
+    /// How many replies `speak` will give; 0 while the node is idle. It takes no memory.
+    pub fn replies(&self) -> usize
+        ensures { result ≡ length (replies_in self.now.state) }
+    {
+        match self.about {
+            Phase::Idle => 0,
+            Phase::Decided | Phase::Stored => self.told.as_slice().len(),
+        }
+    }
+
+    /// The replies, the sender's first, and the node is idle again. It takes no memory.
+    ///
+    /// The caller owes that the node is Stored (`phase`).
+    pub fn speak(&mut self) -> Vec<Message>
+        requires { phase_in self.old.state ≡ Phase.Stored }
+        ensures replies { result.items ≡ replies_in self.old.state }
+        ensures idle { self.new ≡ spoken self.old }
+    {
+        self.about = Phase::Idle;
+        mem::replace(&mut self.told, Vec::new(self.alloc))
+    }
+
+    /// The policy, where the node falls: all but its record is lost. It takes no memory.
+    pub fn fall(self) -> Box<dyn Admission + Send>
+        requires { Unit {0} }
+    {
+        let NodeCore { policy, .. } = self;
+        policy
+    }
+}
