@@ -39,6 +39,15 @@ const SETTLED: [u8; 65] = [
     0x00, 0x00, 0x00, 0x00, 0x01, 0x00, 0x01, 0x61,
 ];
 
+/// c2 holds `a` as a reader; then c1, whose attempt 1 has ended, holds `b` as a reader.
+const NEXT_ATTEMPT: [u8; 52] = [
+    0x01, 0x01, 0x00, 0x02, //
+    0x00, 0x00, 0x00, 0x02, 0x00, 0x00, 0x00, 0x00, 0x00, 0x00, 0x00, 0x00, 0x02, 0x00, 0x00, 0x00,
+    0x00, 0x00, 0x00, 0x00, 0x01, 0x00, 0x01, 0x61, //
+    0x00, 0x00, 0x00, 0x01, 0x00, 0x00, 0x00, 0x00, 0x00, 0x00, 0x00, 0x01, 0x02, 0x00, 0x00, 0x00,
+    0x00, 0x00, 0x00, 0x00, 0x02, 0x00, 0x01, 0x62,
+];
+
 fn client(number: u32) -> Result<ClientId, Fail> {
     Ok(ClientId::of(number).ok_or("a client's number")?)
 }
@@ -195,12 +204,7 @@ fn next_attempt_settles_the_last(rt: HostRuntime) -> Result<(), Fail> {
         "grant n1 c1 2 read b, grant n1 c2 1 read a; changed"
     );
     let bytes = core.next_bytes(alloc)?;
-    let record = read_node(alloc, &bytes)?;
-    let order = [record.entries.get(0), record.entries.get(1)];
-    assert_eq!(rt;
-        order.map(|entry| entry.map(|e| (e.client, e.floor))),
-        [Some((client(2)?, 0)), Some((client(1)?, 1))]
-    );
+    assert_eq!(rt; bytes.as_slice(), NEXT_ATTEMPT.as_slice());
     Ok(())
 }
 
@@ -217,35 +221,51 @@ fn release_then_late_request(rt: HostRuntime) -> Result<(), Fail> {
     Ok(())
 }
 
+/// A policy of problem 2 that was told of one reader.
+fn told_once() -> Counted<SecondProblem> {
+    let mut policy = Counted::of(SecondProblem);
+    policy.note(true);
+    policy
+}
+
 #[test]
-fn refused_rises(rt: HostRuntime) -> Result<(), Fail> {
+fn unreadable_record(rt: HostRuntime) -> Result<(), Fail> {
     let alloc = rt.alloc();
-    let mut counted = Counted::of(SecondProblem);
-    counted.note(true);
-    let policy: Box<dyn Admission + Send> = Box::new(alloc, counted)?;
+    let policy: Box<dyn Admission + Send> = Box::new(alloc, told_once())?;
     let Err((policy, fault)) = NodeCore::rise(alloc, node()?, &[1, 2, 0], policy) else {
         return Err("three bytes are no record".into());
     };
     assert_eq!(rt; fault, VoterFault::Unreadable(RecordFault::Short));
-    assert_eq!(rt; fault.number(), 501);
-    let Err((policy, fault)) = NodeCore::rise(alloc, node()?, &FIRST, policy) else {
-        return Err("the record is of problem 1".into());
-    };
-    assert_eq!(rt; fault, VoterFault::OtherProblem);
-    assert_eq!(rt; fault.number(), 502);
     assert_eq!(rt; policy.tally(), (1, 0));
-    let core = risen(alloc, &SECOND, policy)?;
-    assert_eq!(rt; core.phase(), Phase::Idle);
-    assert_eq!(rt; core.replies(), 0);
-    assert_eq!(rt; core.fall().tally(), (1, 0));
-    assert_eq!(rt; VoterFault::Memory.number(), 503);
     Ok(())
 }
 
 #[test]
-fn restarted_node(rt: HostRuntime) -> Result<(), Fail> {
+fn record_of_the_other_problem(rt: HostRuntime) -> Result<(), Fail> {
     let alloc = rt.alloc();
-    let policy: Box<dyn Admission + Send> = Box::new(alloc, Counted::of(SecondProblem))?;
+    let policy: Box<dyn Admission + Send> = Box::new(alloc, told_once())?;
+    let Err((policy, fault)) = NodeCore::rise(alloc, node()?, &FIRST, policy) else {
+        return Err("the record is of problem 1".into());
+    };
+    assert_eq!(rt; fault, VoterFault::OtherProblem);
+    let core = risen(alloc, &SECOND, policy)?;
+    assert_eq!(rt; core.phase(), Phase::Idle);
+    assert_eq!(rt; core.replies(), 0);
+    assert_eq!(rt; core.fall().tally(), (1, 0));
+    Ok(())
+}
+
+#[test]
+fn faults_by_number(rt: HostRuntime) {
+    assert_eq!(rt; VoterFault::Unreadable(RecordFault::NoCause).number(), 501);
+    assert_eq!(rt; VoterFault::OtherProblem.number(), 502);
+    assert_eq!(rt; VoterFault::Memory.number(), 503);
+}
+
+#[test]
+fn refused_restarts(rt: HostRuntime) -> Result<(), Fail> {
+    let alloc = rt.alloc();
+    let policy: Box<dyn Admission + Send> = Box::new(alloc, SecondProblem)?;
     let mut core = risen(alloc, &WRITER_WAITS, policy)?;
     assert_eq!(rt; core.restart(&FIRST), Err(VoterFault::OtherProblem));
     assert_eq!(rt;
@@ -254,20 +274,35 @@ fn restarted_node(rt: HostRuntime) -> Result<(), Fail> {
     );
     let bytes = core.next_bytes(alloc)?;
     assert_eq!(rt; bytes.as_slice(), WRITER_WAITS.as_slice());
+    Ok(())
+}
+
+/// Takes a message, and neither keeps the record nor replies.
+fn takes(core: &mut NodeCore, message: &Message) -> Result<bool, Fail> {
     let Phase::Idle = core.phase() else {
-        return Err("it has risen".into());
+        return Err("it is idle".into());
     };
-    let message = release(2, 1)?;
     if !message.is_for_node(core.node()) {
-        return Err("the message is for n1".into());
+        return Err("the message is for the node".into());
     }
-    assert!(rt; core.take(&message)?);
+    Ok(core.take(message)?)
+}
+
+#[test]
+fn restarted_node(rt: HostRuntime) -> Result<(), Fail> {
+    let alloc = rt.alloc();
+    let policy: Box<dyn Admission + Send> = Box::new(alloc, SecondProblem)?;
+    let mut core = risen(alloc, &WRITER_WAITS, policy)?;
+    assert!(rt; takes(&mut core, &release(2, 1)?)?);
     assert_eq!(rt; core.phase(), Phase::Decided);
     assert_eq!(rt; core.replies(), 2);
-    core.restart(&SETTLED)?;
-    assert_eq!(rt; core.phase(), Phase::Idle);
     let bytes = core.next_bytes(alloc)?;
     assert_eq!(rt; bytes.as_slice(), SETTLED.as_slice());
+    core.restart(&WRITER_WAITS)?;
+    assert_eq!(rt; core.phase(), Phase::Idle);
+    assert_eq!(rt; core.replies(), 0);
+    let bytes = core.next_bytes(alloc)?;
+    assert_eq!(rt; bytes.as_slice(), WRITER_WAITS.as_slice());
     Ok(())
 }
 
@@ -302,8 +337,48 @@ fn some_message(words: &mut Pcg32, last: u64) -> Result<Message, Fail> {
     request(number, attempt, mode, name)
 }
 
-/// A core and the plain decision on the same 2,000 messages.
-fn as_plain(
+/// The entries that the node has are these.
+fn has_entries(
+    rt: &impl Abort,
+    alloc: Global,
+    core: &NodeCore,
+    entries: &[Entry],
+) -> Result<(), Fail> {
+    let bytes = core.next_bytes(alloc)?;
+    let record = read_node(alloc, &bytes)?;
+    assert_eq!(rt; record.entries.len(), entries.len(), "seed {SEED}");
+    for (place, entry) in entries.iter().enumerate() {
+        assert!(rt;
+            record.entries.get(place) == Some(*entry),
+            "at {place}, seed {SEED}"
+        );
+    }
+    Ok(())
+}
+
+/// The entries after a message by the plain decision, from which the core does not differ.
+fn same_step(
+    rt: &impl Abort,
+    alloc: Global,
+    problem: Problem,
+    core: &mut NodeCore,
+    entries: &[Entry],
+    message: &Message,
+) -> Result<Vec<Entry>, Fail> {
+    let plain = decide(alloc, problem, entries, message)?;
+    let (changed, replies) = answers(core, message)?;
+    assert_eq!(rt; changed, plain.changed, "on {message}, seed {SEED}");
+    assert_eq!(rt;
+        replies.as_slice(),
+        plain.replies.as_slice(),
+        "on {message}, seed {SEED}"
+    );
+    has_entries(rt, alloc, core, &plain.entries)?;
+    Ok(plain.entries)
+}
+
+/// The core and the plain decision on the same 2,000 messages.
+fn same_as_plain(
     rt: &impl Abort,
     alloc: Global,
     problem: Problem,
@@ -313,41 +388,23 @@ fn as_plain(
     let mut entries: Vec<Entry> = Vec::new(alloc);
     for turn in 0..2_000 {
         let message = some_message(&mut words, turn / 100)?;
-        let plain = decide(alloc, problem, &entries, &message)?;
-        let (changed, replies) = answers(core, &message)?;
-        assert_eq!(rt; changed, plain.changed, "on {message}, seed {SEED}");
-        assert_eq!(rt;
-            replies.as_slice(),
-            plain.replies.as_slice(),
-            "on {message}, seed {SEED}"
-        );
-        let bytes = core.next_bytes(alloc)?;
-        let record = read_node(alloc, &bytes)?;
-        assert_eq!(rt;
-            record.entries.len(),
-            plain.entries.len(),
-            "on {message}, seed {SEED}"
-        );
-        for place in 0..plain.entries.len() {
-            assert_eq!(rt;
-                record.entries.get(place),
-                plain.entries.get(place).copied(),
-                "on {message}, seed {SEED}"
-            );
-        }
-        entries = plain.entries;
+        entries = same_step(rt, alloc, problem, core, &entries, &message)?;
     }
     Ok(())
 }
 
 #[test]
-fn same_as_the_plain_decision(rt: HostRuntime) -> Result<(), Fail> {
+fn first_problem_as_plain(rt: HostRuntime) -> Result<(), Fail> {
     let alloc = rt.alloc();
     let policy: Box<dyn Admission + Send> = Box::new(alloc, FirstProblem)?;
     let mut core = risen(alloc, &FIRST, policy)?;
-    as_plain(&rt, alloc, Problem::First, &mut core)?;
+    same_as_plain(&rt, alloc, Problem::First, &mut core)
+}
+
+#[test]
+fn second_problem_as_plain(rt: HostRuntime) -> Result<(), Fail> {
+    let alloc = rt.alloc();
     let policy: Box<dyn Admission + Send> = Box::new(alloc, SecondProblem)?;
     let mut core = risen(alloc, &SECOND, policy)?;
-    as_plain(&rt, alloc, Problem::Second, &mut core)?;
-    Ok(())
+    same_as_plain(&rt, alloc, Problem::Second, &mut core)
 }
