@@ -1,6 +1,6 @@
 // A guard over a borrowed door.
 
-ghost use Rattle.std.specs.Prelude.{◌≡◌, ◌↔◌, true, false, Some, IsSome, IfSome};
+ghost use Rattle.std.specs.Prelude.{◌≡◌, ◌↔◌, true, false, Some, IsSome, IfSome, IfNone};
 ghost use Rattle.std.specs.Borrow.{sem, RestsIfNone};
 ghost use Rattle.client_core.specs.contracts.clients.ClientCore.{the_row as client_row};
 ghost use Rattle.client_core.specs.Clients.{ticket_of as client_ticket};
@@ -34,23 +34,33 @@ impl<'a, D: Door> EntryGuard<'a, D> {
         EntryGuard { door, ticket }
     }
 
+    /// The guard, where the door may enter; else the door back, unchanged.
+    fn guard_or_door(door: &'a mut D) -> (Option<EntryGuard<'a, D>>, Option<&'a mut D>)
+        ensures entered { IsSome result.0 ↔ D.can_enter door.old }
+        ensures same_door { IfSome result.0 (λ guard. lender_of guard ≡ door.entry.ghost_name) }
+        ensures enters { IfSome result.0 (λ guard. D.enters door.old (door_of guard)) }
+        ensures inside { IfSome result.0 (λ guard. D.is_inside (door_of guard) ≡ true) }
+        ensures ticket { IfSome result.0 (λ guard. D.ticket_of door.old ≡ Some (guard_ticket guard)) }
+        ensures back { IfNone result.0 (result.1 ≡ Some door.entry) }
+    {
+        if door.may_enter() {
+            (Some(EntryGuard::of(door)), None)
+        } else {
+            (None, Some(door))
+        }
+    }
+
     /// Enters, where the door may. `None` exactly where it may not; the door is then only asked, and
     /// unchanged.
-    ///
-    /// What a door of any type ends as after a `None` is no clause here. A caller that has to know it
-    /// asks `may_enter` first, or calls `enter_client`.
     pub fn enter(door: &'a mut D) -> Option<EntryGuard<'a, D>>
+        ensures* unchanged_at_none { sem 𝓛 (RestsIfNone D.row door.entry lender_of result (λ last. last ≡ door.old)) }
         ensures entered { IsSome result ↔ D.can_enter door.old }
         ensures same_door { IfSome result (λ guard. lender_of guard ≡ door.entry.ghost_name) }
         ensures enters { IfSome result (λ guard. D.enters door.old (door_of guard)) }
         ensures inside { IfSome result (λ guard. D.is_inside (door_of guard) ≡ true) }
         ensures ticket { IfSome result (λ guard. D.ticket_of door.old ≡ Some (guard_ticket guard)) }
     {
-        if door.may_enter() {
-            Some(EntryGuard::of(door))
-        } else {
-            None
-        }
+        EntryGuard::guard_or_door(door).0
     }
 
     /// The ticket with which the door entered.
