@@ -1,0 +1,6 @@
+pub mod SplitFacts
+pub mod NumberFacts
+pub mod PieceFacts
+pub mod SettingsFacts
+pub mod TextFacts
+pub mod StepFacts

@@ -1,0 +1,12 @@
+//! What the operator's program does with its input: from the bytes that come in to the bytes that
+//! go out.
+#![tactic(auto)]
+
+mod answers;
+mod faults;
+mod lines;
+mod pieces;
+mod settings;
+mod texts;
+
+pub use faults::{LineFault, ServeFault, SettingsFault};
