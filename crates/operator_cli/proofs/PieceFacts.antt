@@ -19,11 +19,12 @@ ends_at_feed limit (Some xs) (Some ys) None piece taken plain fed = absurd fed
 ends_at_feed limit (Some xs) (Some ys) (Some zs) piece taken plain fed =
     ap pieces (taken ∙ ap (λ (bs : List ℕ). piece ++ bs) fed) ∙ slice_split_at is_line_feed piece 10 zs plain refl
 
-pub ends_at_end : (limit : ℕ) (old mid new : Option (List ℕ)) (piece : List ℕ) → Consumes old mid piece → IsPlain piece → IsAtEnd mid → ReadsPiece limit old new piece (Ok Input)
+pub ends_at_end : (limit : ℕ) (old mid new : Option (List ℕ)) (piece : List ℕ) → Consumes old mid piece → IsPlain piece → Keeps mid new × IsAtEnd mid → ReadsPiece limit old new piece (Ok Input)
 ends_at_end limit None mid new piece taken plain over = tt
 ends_at_end limit (Some xs) None new piece taken plain over = absurd taken
-ends_at_end limit (Some xs) (Some ys) new piece taken plain over =
-    ap pieces (taken ∙ ap (λ (bs : List ℕ). piece ++ bs) over ∙ append-nil piece) ∙ slice_split_none is_line_feed piece plain
+ends_at_end limit (Some xs) (Some ys) None piece taken plain over = absurd over.0
+ends_at_end limit (Some xs) (Some ys) (Some zs) piece taken plain over =
+    (ap pieces (taken ∙ ap (λ (bs : List ℕ). piece ++ bs) over.1 ∙ append-nil piece) ∙ slice_split_none is_line_feed piece plain, over.0 ∙ over.1)
 
 pub is_too_long : (limit : ℕ) (old new : Option (List ℕ)) (piece : List ℕ) → Consumes old new piece → IsPlain piece → limit < length piece → ReadsPiece limit old new piece (Ok Limit)
 is_too_long limit None new piece taken plain long = tt
@@ -47,8 +48,8 @@ puts_more text front rest behind n old mid new e f p q =
     appends_both old mid new front (take n rest) p q)
 
 -- what a call for the next byte did
-pub at_end : (old new : Option (List ℕ)) (o : Option ℕ) → TakesNext old new (Ok o) → o ≡ None → IsAtEnd old
-at_end old new o h e = let t = subst (λ (x : Option ℕ). TakesNext old new (Ok x)) e h in t.1
+pub at_end : (old new : Option (List ℕ)) (o : Option ℕ) → TakesNext old new (Ok o) → o ≡ None → Keeps old new × IsAtEnd old
+at_end old new o h e = subst (λ (x : Option ℕ). TakesNext old new (Ok x)) e h
 
 pub next_is : (old new : Option (List ℕ)) (o : Option ℕ) (b c : ℕ) → TakesNext old new (Ok o) → o ≡ Some b → b ≡ c → Consumes old new (c ∷ [])
 next_is old new o b c h e f = subst (λ (x : Option ℕ). TakesNext old new (Ok x)) (e ∙ ap Some f) h

@@ -34,7 +34,7 @@ KnownLeft (Some xs) P = P xs
 -- to the end; or it is longer than the limit.
 abbrev pub EndsPiece : ℕ → List ℕ → Option (List ℕ) → List ℕ → End → Type 0
 EndsPiece limit xs new piece LineFeed = KnownLeft new (λ ys. pieces xs ≡ piece ∷ pieces ys)
-EndsPiece limit xs new piece Input = pieces xs ≡ piece ∷ []
+EndsPiece limit xs new piece Input = (pieces xs ≡ piece ∷ []) × KnownLeft new (λ ys. ys ≡ [])
 EndsPiece limit xs new piece Limit = (whole : List ℕ) × (more : List (List ℕ)) × (pieces xs ≡ whole ∷ more) × (limit < length whole)
 
 abbrev pub ReadsPiece : ℕ → Option (List ℕ) → Option (List ℕ) → List ℕ → Result End ServeFault → Type 0

@@ -4,9 +4,13 @@
 
 mod answers;
 mod faults;
+mod heads;
 mod lines;
 mod pieces;
+mod script;
+mod serving;
 mod settings;
 mod texts;
 
 pub use faults::{LineFault, ServeFault, SettingsFault};
+pub use serving::{Order, serve};
