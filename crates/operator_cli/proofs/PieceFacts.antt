@@ -1,5 +1,5 @@
 -- Reading a piece, and writing a text, a part at a time.
-use Rattle.std.proofs.Common.{◌≡◌, ℕ, ◌+◌, ◌<◌, ◌≤◌, Bool, true, false, List, [], ◌∷◌, ◌++◌, length, take, drop, Option, Some, None, Ok, Err, refl, sym, ap, subst, ◌∙◌, arith, append_assoc, length-append}
+use Rattle.std.proofs.Common.{◌≡◌, ℕ, ◌<◌, false, List, [], ◌∷◌, ◌++◌, length, take, drop, Option, Some, None, Ok, refl, sym, ap, subst, ◌∙◌, arith, append_assoc, length-append}
 use Rattle.std.specs.List.{All}
 use Rattle.std.specs.Io.KnownBytes.{Consumes, Keeps, Appends, IsAtEnd}
 use Rattle.std.proofs.lemmas.List.{append-nil, take-append-drop}
@@ -42,10 +42,11 @@ appends_both (Some xs) (Some ys) (Some zs) a b p q = q ∙ ap (λ (bs : List ℕ
 -- one more part of a text was written
 pub puts_more : (text front rest behind : List ℕ) (n : ℕ) (old mid new : Option (List ℕ)) → text ≡ front ++ rest → behind ≡ drop n rest → Appends old mid front → Appends mid new (take n rest)
     → (x : List ℕ) × (text ≡ x ++ behind) × Appends old new x
-puts_more text front rest behind n old mid new e f p q =
-    (front ++ take n rest,
-    e ∙ ap (λ (bs : List ℕ). front ++ bs) (sym (take-append-drop n rest) ∙ ap (λ (bs : List ℕ). take n rest ++ bs) (sym f)) ∙ sym (append_assoc front (take n rest) behind),
-    appends_both old mid new front (take n rest) p q)
+puts_more text front rest behind n old mid new e f p q = (
+  front ++ take n rest,
+  e ∙ ap (λ (bs : List ℕ). front ++ bs) (sym (take-append-drop n rest) ∙ ap (λ (bs : List ℕ). take n rest ++ bs) (sym f)) ∙ sym (append_assoc front (take n rest) behind),
+  appends_both old mid new front (take n rest) p q,
+)
 
 -- what a call for the next byte did
 pub at_end : (old new : Option (List ℕ)) (o : Option ℕ) → TakesNext old new (Ok o) → o ≡ None → Keeps old new × IsAtEnd old

@@ -11,10 +11,9 @@ use Rattle.operator_cli.specs.declared.lines.Line.{Line}
 use Rattle.operator_cli.specs.declared.lines.TheConstants.{MAX_LINE_LEN}
 use Rattle.operator_cli.specs.declared.pieces.End.{End}
 use Rattle.operator_cli.specs.declared.pieces.End.TheVariants.{LineFeed, Input, Limit}
-use Rattle.operator_cli.specs.declared.script.Judged.{Judged}
 use Rattle.operator_cli.specs.declared.script.Judged.TheVariants as judged
 use Rattle.operator_cli.specs.Faults.{line_fault_number}
-use Rattle.operator_cli.specs.Lines.{line_of, line_words, words}
+use Rattle.operator_cli.specs.Lines.{line_of}
 use Rattle.operator_cli.specs.Pieces.{is_line_feed, pieces, KnownLeft, EndsPiece, ReadsPiece, AppendsBeginning}
 use Rattle.operator_cli.specs.Outputs.{Told, Output, told, before, line_output, lines_output, lines_in, judged_line, judged_piece, is_last, status_of, Puts, Writes, WritesLines}
 use Rattle.operator_cli.specs.Texts.{line_fault_text}
@@ -130,9 +129,10 @@ always_one false = refl
 
 ends_with : (o : Output) (old out new : Option (List ℕ)) (text last : List ℕ) (refused : Bool) (r : Result ℕ ServeFault) → Appends old out text → o ≡ onto text refused (record { text = last; status = 1 })
     → Writes (record { text = last; status = 1 }) out new r → Writes o old new r
-ends_with o old out new text last refused (Ok status) a e h =
-    (subst (λ (bs : List ℕ). Appends old new bs) (sym (ap (λ (p : Output). p.text) e)) (appends_both old out new text last a h.0),
-    h.1 ∙ sym (always_one refused) ∙ sym (ap (λ (p : Output). p.status) e))
+ends_with o old out new text last refused (Ok status) a e h = (
+  subst (λ (bs : List ℕ). Appends old new bs) (sym (ap (λ (p : Output). p.text) e)) (appends_both old out new text last a h.0),
+  h.1 ∙ sym (always_one refused) ∙ sym (ap (λ (p : Output). p.status) e),
+)
 ends_with o old out new text last refused (Err f) a e h =
     let (front, back, cut, b) = h in
     (text ++ front, back, ap (λ (p : Output). p.text) e ∙ ap (λ (bs : List ℕ). text ++ bs) cut ∙ sym (append_assoc text front back), appends_both old out new text front a b)
@@ -141,10 +141,12 @@ ends_with o old out new text last refused (Err f) a e h =
 breaks_off : (o : Output) (old out new : Option (List ℕ)) (text next : List ℕ) (refused : Bool) (rest : Output) → Appends old out text → o.text ≡ text ++ (next ++ rest.text) → AppendsBeginning out new next
     → AppendsBeginning old new o.text
 breaks_off o old out new text next refused rest a e h =
-    let (front, back, cut, b) = h in
-    (text ++ front, back ++ rest.text,
-    e ∙ ap (λ (bs : List ℕ). text ++ (bs ++ rest.text)) cut ∙ ap (λ (bs : List ℕ). text ++ bs) (append_assoc front back rest.text) ∙ sym (append_assoc text front (back ++ rest.text)),
-    appends_both old out new text front a b)
+    let (front, back, cut, b) = h in (
+      text ++ front,
+      back ++ rest.text,
+      e ∙ ap (λ (bs : List ℕ). text ++ (bs ++ rest.text)) cut ∙ ap (λ (bs : List ℕ). text ++ bs) (append_assoc front back rest.text) ∙ sym (append_assoc text front (back ++ rest.text)),
+      appends_both old out new text front a b,
+    )
 
 -- what the loop does
 
@@ -208,11 +210,13 @@ told_one : (w v u : ExactWorld) (xs : List ℕ) (out mid new : Option (List ℕ)
 told_one w v u xs out mid new refused now number lines l more x h g k p =
     let (text, a, e) = h in
     let t = told v x in
-    let o = lines_output w 1 (lines_in (pieces xs)) in
-    (text ++ t.text, appends_both out mid new text t.text a p.0,
-    good_output o text refused v number lines l more x e g k ∙ onto_before text refused t (lines_output t.world (number + 1) more)
-    ∙ ap (λ (b : Bool). onto (text ++ t.text) (refused || b) (lines_output t.world (number + 1) more)) (sym p.1)
-    ∙ ap (λ (z : ExactWorld). onto (text ++ t.text) (refused || now) (lines_output z (number + 1) more)) (sym p.2))
+    let o = lines_output w 1 (lines_in (pieces xs)) in (
+      text ++ t.text,
+      appends_both out mid new text t.text a p.0,
+      good_output o text refused v number lines l more x e g k ∙ onto_before text refused t (lines_output t.world (number + 1) more)
+          ∙ ap (λ (b : Bool). onto (text ++ t.text) (refused || b) (lines_output t.world (number + 1) more)) (sym p.1)
+          ∙ ap (λ (z : ExactWorld). onto (text ++ t.text) (refused || now) (lines_output z (number + 1) more)) (sym p.2),
+    )
 
 pub goes_on : (w v u : ExactWorld) (old left next out mid new : Option (List ℕ)) (refused now both : Bool) (number : ℕ) (piece : List ℕ) (end : End) (x : Line)
     → SoFar w old left out mid refused v number → ReadsPiece MAX_LINE_LEN left next piece (Ok end) → judged_piece end piece ≡ judged.Says x

@@ -1,5 +1,5 @@
 -- From the settings to the whole output.
-use Rattle.std.proofs.Common.{◌≡◌, ◌⊎◌, inl, inr, ℕ, Vec, List, [], ◌∷◌, ◌++◌, Option, Some, None, Result, Ok, Err, refl, sym, ap, subst, ◌∙◌}
+use Rattle.std.proofs.Common.{◌≡◌, ◌⊎◌, inl, inr, ℕ, Vec, List, [], Option, Some, None, Result, Ok, Err, refl, sym, ap, subst, ◌∙◌}
 use Rattle.std.specs.Global.{Global}
 use Rattle.std.specs.Io.KnownBytes.{Appends}
 use Rattle.world_machine.specs.declared.exact.ExactWorld.{ExactWorld}
@@ -12,7 +12,7 @@ use Rattle.operator_cli.specs.declared.heads.StartFault.{StartFault}
 use Rattle.operator_cli.specs.declared.heads.StartFault.TheVariants as start
 use Rattle.operator_cli.specs.declared.settings.Settings.{Settings}
 use Rattle.operator_cli.specs.Settings.{settings_of, Refuses}
-use Rattle.operator_cli.specs.Pieces.{pieces, KnownLeft, AppendsBeginning}
+use Rattle.operator_cli.specs.Pieces.{pieces, AppendsBeginning}
 use Rattle.operator_cli.specs.Outputs.{Output, output_of, head_of, lines_in, lines_output, parts_output, settings_output, refusal_output, IsRefusal, FindsHead, Starts, RefusesStart, Writes, WritesLines, Serves}
 use Rattle.operator_cli.proofs.ScriptFacts.{appends_nothing}
 

@@ -1,18 +1,16 @@
 -- Tables of settings, and the lists in them.
-use Rattle.std.proofs.Common.{◌≡◌, ℕ, ◌+◌, ◌<◌, Bool, true, false, ◌&&◌, List, [], ◌∷◌, ◌++◌, length, drop, get_or, Option, Some, None, option_map, Result, Ok, Err, String, Global, string_bytes, refl, sym, ap, ◌∙◌, append_assoc}
+use Rattle.std.proofs.Common.{◌≡◌, ℕ, Bool, true, false, ◌&&◌, List, [], ◌∷◌, ◌++◌, Option, Some, None, option_map, Err, string_bytes, refl, ap, ◌∙◌, append_assoc}
 use Rattle.std.specs.List.{list_all}
 use Rattle.std.specs.Map.{keys_of}
-use Rattle.std.specs.Option.{ok_or}
-use Rattle.toml.specs.View.{view, items_view, members_view}
+use Rattle.toml.specs.View.{members_view}
 use Rattle.std.specs.Str.{IsUtf8, is_utf8}
 use Rattle.std.proofs.lemmas.Str.{IsUtf8-from_is_utf8, is_utf8-from_IsUtf8}
 use Rattle.std.proofs.lemmas.Bool.{false_from_ne_true}
 use Rattle.toml.specs.Data.{Members}
 use Rattle.toml.specs.Parse.{parse_document}
-use Rattle.toml.specs.declared.value.Value.{Value}
-use Rattle.toml.proofs.Views.{Entry, items_view-drop}
+use Rattle.toml.proofs.Views.{Entry}
 use Rattle.operator_cli.specs.declared.faults.SettingsFault.TheVariants as fault
-use Rattle.operator_cli.specs.Settings.{is_known, all_known, put_first, vote_list, values_of, document_settings, settings_of}
+use Rattle.operator_cli.specs.Settings.{is_known, all_known, put_first, values_of, document_settings, settings_of}
 
 pub known_view : (es : List Entry) → list_all (λ k. is_known (string_bytes k)) (keys_of es) ≡ all_known (members_view es)
 known_view [] = refl

@@ -1,5 +1,5 @@
 -- What a step says has numbers that messages can have.
-use Rattle.std.proofs.Common.{◌≡◌, ℕ, ◌+◌, ◌-◌, ◌<◌, ◌≤◌, Bool, true, false, cond, List, [], ◌∷◌, length, Option, Some, None, Result, Ok, Err, nat_le, nat_lt, ◌==◌, refl, sym, ap, ◌∙◌, subst, arith}
+use Rattle.std.proofs.Common.{◌≡◌, ℕ, ◌+◌, ◌-◌, ◌≤◌, Bool, true, false, cond, List, length, Option, Some, None, Ok, Err, nat_le, nat_lt, ◌==◌, refl, subst, arith}
 use Rattle.std.proofs.lemmas.Bool.Decides.{nat_tests}
 use Rattle.lock_messages.specs.declared.ids.Actor.TheVariants as actor
 use Rattle.lock_messages.specs.declared.messages.Message.{Message}
@@ -25,7 +25,7 @@ use Rattle.world_machine.specs.declared.exact.ExactClientPhase.{ExactClientPhase
 use Rattle.world_machine.specs.declared.exact.ExactClientPhase.TheVariants as client
 use Rattle.world_machine.specs.declared.exact.ExactStation.{ExactStation}
 use Rattle.world_machine.specs.Events.{action_of, Chose, Took, Inside}
-use Rattle.world_machine.specs.ExactWorlds.{numbered, quietly, client_in, node_in, next_ticket, says_one, Turn, Turns, Stepped, Steps, has_room, next_number, begins_in, tries_attempt_with, tries_attempt_in, tries_station_with, tries_station_in, keeps_attempt_with, keeps_attempt_in, keeps_station_with, keeps_station_in, tells_in, says_in, decides_on, takes_message, takes_in, hears_message, hears_found, is_down, hears_in, enters_in, leaves_in, client_finishes, node_finishes, by_client, by_node, client_steps, node_steps, tells_node, step}
+use Rattle.world_machine.specs.ExactWorlds.{numbered, quietly, client_in, node_in, next_ticket, says_one, Turns, Stepped, Steps, has_room, next_number, begins_in, tries_attempt_with, tries_attempt_in, tries_station_with, tries_station_in, keeps_attempt_with, keeps_attempt_in, keeps_station_with, keeps_station_in, tells_in, says_in, decides_on, takes_message, takes_in, hears_message, hears_found, is_down, hears_in, enters_in, leaves_in, client_finishes, node_finishes, by_client, by_node, tells_node, step}
 use Rattle.operator_cli.specs.Texts.{SaidFits}
 
 -- an actor's turn says what fits, where there is room for it

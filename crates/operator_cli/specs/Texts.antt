@@ -7,7 +7,6 @@ use Rattle.lock_messages.specs.declared.messages.Message.{Message}
 use Rattle.lock_messages.specs.declared.tickets.Ticket.{Ticket}
 use Rattle.lock_model.specs.declared.hearing.Heard.{Heard}
 use Rattle.lock_model.specs.declared.hearing.Heard.TheVariants as heard
-use Rattle.world_machine.specs.declared.exact.ExactWorld.{ExactWorld}
 use Rattle.world_machine.specs.Events.{Outcome, Chose, Tried, WasKept, Sent, Said, Took, HeardIt, Inside, Outside, Fell, Rose}
 use Rattle.world_machine.specs.declared.TheConstants.{MAX_MESSAGES}
 use Rattle.world_machine.specs.ExactWorlds.{numbered}

@@ -110,11 +110,7 @@ impl<R: Read> Source<R> {
 }
 
 /// One read, made again where a signal interrupts it, while reads are left. A fault is `Read`.
-fn fill<R: Read>(
-    reader: &mut R,
-    reads_left: &mut u32,
-    room: &mut [u8],
-) -> Result<usize, ServeFault>
+fn fill<R: Read>(reader: &mut R, reads_left: &mut u32, room: &mut [u8]) -> Result<usize, ServeFault>
     ensures bound { ReadsAtMost result room.new }
     ensures bytes { ReadConsumes (R.remaining reader.old) (R.remaining reader.new) result room.new }
     ensures fault { IfErr result (λ e. e ≡ ServeFault.Read) }

@@ -69,6 +69,23 @@ where
 }
 
 /// Does what the order says with the bytes of the reader, and answers the status of the program.
+///
+/// The bytes begin with settings, a TOML document with the keys `votes`, `read`, `write`, `problem`
+/// and `clients`. The first line that is exactly `---` ends them. Each line behind it is an event or
+/// the query `inside NAME`, and prints its effect, one line for each reply that a node says, or
+/// `refused N`; a line that is neither prints `line L fault N` (lines count from 1) and is the last.
+/// Refused settings print `settings fault N` and nothing else. The status is 0; 1 where an event was
+/// refused or a line was bad; 2 where the settings were refused.
+///
+/// Contracts speak of what the reader has left and of what the writer holds, where these are known.
+/// What is written is the output of the bytes that were left, or `settings fault 925` where memory
+/// was refused for the settings. The caller owes nothing. The texts are our own.
+///
+/// # Errors
+///
+/// `Read` (931) where the reader fails or 600,000,000 reads were made, `Write` (932) where the writer
+/// fails or takes nothing, `Memory` (933) where memory was refused. A read or a write that a signal
+/// interrupts is made again. After a fault a beginning of the output was written.
 pub fn serve<R: Read, W: Write>(
     alloc: Global,
     order: Order,

@@ -39,12 +39,7 @@ fn push_found(text: &mut String, world: &World, number: u32) -> Result<(), Alloc
 
 /// The lines of so many messages, from this number on.
 #[tactic(auto, unfolding(crate::specs::Texts::said_text))]
-fn said_text(
-    alloc: Global,
-    world: &World,
-    first: u32,
-    count: u32,
-) -> Result<String, AllocError>
+fn said_text(alloc: Global, world: &World, first: u32, count: u32) -> Result<String, AllocError>
     requires { 0 < count → first + count ≤ MAX_MESSAGES + 1 }
     ensures { IfOk result (λ s. string_bytes s ≡ said_text world.now.sent first count) }
 {

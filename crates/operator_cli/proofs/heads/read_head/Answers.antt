@@ -1,7 +1,7 @@
-use Rattle.std.proofs.Common.{◌≡◌, ◌∙◌, List, ℕ, sym, ap, arith}
+use Rattle.std.proofs.Common.{◌∙◌, List, ℕ, sym, ap, arith}
 use Rattle.std.specs.Str.{bytes_eq}
 use Rattle.operator_cli.specs.Outputs.{dashes}
-use Rattle.operator_cli.proofs.HeadFacts.{at_piece, head_goes_on, dashes_then_feed, dashes_at_end, never_dashes, line_too_long, head_too_long}
+use Rattle.operator_cli.proofs.HeadFacts.{at_piece, dashes_then_feed, dashes_at_end, never_dashes, line_too_long, head_too_long}
 use Rattle.operator_cli.proofs.heads.read_head.Goals as goal
 
 pub returns-in-Limit : goal.returns-in-Limit

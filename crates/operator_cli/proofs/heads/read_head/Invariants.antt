@@ -1,4 +1,4 @@
-use Rattle.std.proofs.Common.{◌≡◌, ◌-◌, vec_len}
+use Rattle.std.proofs.Common.{◌-◌, vec_len}
 use Rattle.operator_cli.specs.declared.heads.TheConstants.{HEAD_ROOM}
 use Rattle.operator_cli.proofs.HeadFacts.{HeadSoFar}
 use Rattle.operator_cli.proofs.heads.read_head.Given as goal

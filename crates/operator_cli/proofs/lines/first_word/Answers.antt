@@ -1,4 +1,4 @@
-use Rattle.std.proofs.Common.{◌≡◌, ◌+◌, ◌∙◌, sym, ap, ◌∷◌, List, ℕ, take, drop}
+use Rattle.std.proofs.Common.{◌+◌, ◌∙◌, sym, ap, ◌∷◌, List, ℕ, take}
 use Rattle.std.proofs.lemmas.List.{take_rest}
 use Rattle.operator_cli.specs.Lines.{is_space, words}
 use Rattle.operator_cli.proofs.SplitFacts.{split_none, split_some}

@@ -1,4 +1,4 @@
-use Rattle.std.proofs.Common.{◌≡◌, ◌<◌, ◌≤◌, ◌^◌, ℕ, List, true, false, ◌∙◌, sym, arith, get_or}
+use Rattle.std.proofs.Common.{◌∙◌, sym, arith, get_or}
 use Rattle.operator_cli.proofs.NumberFacts.{IsDigits, utf8, no_other_byte, no_leading_zero, out_of_range, spelled_so, is_zero_digit, is_no_zero_digit, unparsed, parsed}
 use Rattle.operator_cli.proofs.lines.number_of.Goals as goal
 use Rattle.operator_cli.proofs.lines.number_of.Goals.{then-not-has_digits-via-then-not-has_digits, then-not-has_digits-via-else-not-has_digits+then-begins_with_zero, then-number-lt1-via-then-number-lt1, then-number-lt1-via-else-number-lt1+then-number-most}
@@ -8,7 +8,7 @@ returns-then-not-has_digits-clause-number c =
     elim c.then-not-has_digits.branch [
       | then-not-has_digits-via-then-not-has_digits w ↦ no_other_byte c.args.most c.args.word.now (omega arith) (sym c.has_digits.ensures ∙ w.if-not-has_digits.true)
       | then-not-has_digits-via-else-not-has_digits+then-begins_with_zero w ↦
-        no_leading_zero c.args.most c.args.word.now (omega arith) (is_zero_digit (get_or c.args.word.now 0 0) w.begins_with_zero.result w.begins_with_zero.ensures w.if-begins_with_zero.true)
+          no_leading_zero c.args.most c.args.word.now (omega arith) (is_zero_digit (get_or c.args.word.now 0 0) w.begins_with_zero.result w.begins_with_zero.ensures w.if-begins_with_zero.true)
     ]
 
 pub returns-in_default-clause-number : goal.returns-in_default-clause-number

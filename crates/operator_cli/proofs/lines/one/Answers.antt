@@ -1,4 +1,4 @@
-use Rattle.std.proofs.Common.{◌≡◌, List, ℕ, ◌∷◌, Option, Some, None, Err, true, Bor, rules, ap, sym, ◌∙◌}
+use Rattle.std.proofs.Common.{◌≡◌, List, ℕ, ◌∷◌, Option, Some, None, Err, true, Bor, ap, sym, ◌∙◌}
 use Rattle.std.specs.Option.{is_some}
 use Rattle.operator_cli.specs.declared.faults.LineFault.TheVariants.{Words}
 use Rattle.operator_cli.specs.Lines.{is_space, words, words_behind, one_word}

@@ -1,4 +1,4 @@
-use Rattle.std.proofs.Common.{◌≡◌, ◌∙◌, List, ℕ, sym, ap}
+use Rattle.std.proofs.Common.{◌∙◌, List, ℕ, sym, ap}
 use Rattle.operator_cli.specs.Outputs.{judged_piece}
 use Rattle.operator_cli.proofs.ScriptFacts.{is_over, is_bad, breaks, goes_on, is_over_now}
 use Rattle.operator_cli.proofs.script.tell_lines.Goals as goal

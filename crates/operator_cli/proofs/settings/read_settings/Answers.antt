@@ -1,4 +1,4 @@
-use Rattle.std.proofs.Common.{◌≡◌, true, false, List, ℕ, Result, ◌∙◌, sym, subst}
+use Rattle.std.proofs.Common.{◌≡◌, true, false, Result, ◌∙◌, sym, subst}
 use Rattle.operator_cli.specs.declared.settings.Settings.{Settings}
 use Rattle.operator_cli.specs.declared.faults.SettingsFault.{SettingsFault}
 use Rattle.operator_cli.specs.Settings.{Judges}
