@@ -1,0 +1,9 @@
+pub mod SplitFacts
+pub mod NumberFacts
+pub mod PieceFacts
+pub mod SettingsFacts
+pub mod TextFacts
+pub mod StepFacts
+pub mod HeadFacts
+pub mod ScriptFacts
+pub mod ServeFacts

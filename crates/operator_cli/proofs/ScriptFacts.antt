@@ -1,0 +1,245 @@
+-- The lines of a script, one after another.
+use Rattle.std.proofs.Common.{◌≡◌, ℕ, ◌+◌, ◌<◌, ◌==◌, Bool, true, false, cond, nat_lt, ◌||◌, List, [], ◌∷◌, ◌++◌, length, Option, Some, None, Result, Ok, Err, refl, sym, ap, subst, ◌∙◌, arith, append_assoc}
+use Rattle.std.specs.Io.KnownBytes.{Appends}
+use Rattle.std.proofs.lemmas.List.{append-nil}
+use Rattle.std.proofs.lemmas.Bool.Decides.{nat_tests}
+use Rattle.world_machine.specs.declared.exact.ExactWorld.{ExactWorld}
+use Rattle.operator_cli.specs.declared.faults.LineFault.{LineFault}
+use Rattle.operator_cli.specs.declared.faults.LineFault.TheVariants as bad
+use Rattle.operator_cli.specs.declared.faults.ServeFault.{ServeFault}
+use Rattle.operator_cli.specs.declared.lines.Line.{Line}
+use Rattle.operator_cli.specs.declared.lines.TheConstants.{MAX_LINE_LEN}
+use Rattle.operator_cli.specs.declared.pieces.End.{End}
+use Rattle.operator_cli.specs.declared.pieces.End.TheVariants.{LineFeed, Input, Limit}
+use Rattle.operator_cli.specs.declared.script.Judged.TheVariants as judged
+use Rattle.operator_cli.specs.Faults.{line_fault_number}
+use Rattle.operator_cli.specs.Lines.{line_of}
+use Rattle.operator_cli.specs.Pieces.{is_line_feed, pieces, KnownLeft, EndsPiece, ReadsPiece, AppendsBeginning}
+use Rattle.operator_cli.specs.Outputs.{Told, Output, told, before, line_output, lines_output, lines_in, judged_line, judged_piece, is_last, status_of, Puts, Writes, WritesLines}
+use Rattle.operator_cli.specs.Texts.{line_fault_text}
+use Rattle.operator_cli.proofs.SplitFacts.{some_part}
+use Rattle.operator_cli.proofs.PieceFacts.{appends_both}
+
+-- what was written before the rest, and whether anything was refused
+abbrev pub onto : List ℕ → Bool → Output → Output
+onto text refused rest = record { text = text ++ rest.text; status = cond refused 1 rest.status }
+
+-- what was written so far of the output of these bytes' lines, where these lines are left
+abbrev pub After : ExactWorld → List ℕ → Option (List ℕ) → Option (List ℕ) → Bool → ExactWorld → ℕ → List (List ℕ) → Type 0
+After w xs old out refused v number lines = (text : List ℕ) × Appends old out text × (lines_output w 1 (lines_in (pieces xs)) ≡ onto text refused (lines_output v number lines))
+
+-- the same, where bytes are left
+abbrev pub SoFar : ExactWorld → Option (List ℕ) → Option (List ℕ) → Option (List ℕ) → Option (List ℕ) → Bool → ExactWorld → ℕ → Type 0
+SoFar w None left old out refused v number = Unit {0}
+SoFar w (Some xs) left old out refused v number = KnownLeft left (λ ys. After w xs old out refused v number (lines_in (pieces ys)))
+
+pub appends_nothing : (o : Option (List ℕ)) → Appends o o []
+appends_nothing None = tt
+appends_nothing (Some xs) = sym (append-nil xs)
+
+pub begins : (w : ExactWorld) (left out : Option (List ℕ)) → SoFar w left left out out false w 1
+begins w None out = tt
+begins w (Some xs) out = ([], appends_nothing out, refl)
+
+-- the lines that pieces are
+line_and_more : (p : List ℕ) (more : List (List ℕ)) → (length p == 0) ≡ false → lines_in (p ∷ more) ≡ p ∷ lines_in more
+line_and_more p [] h = rw h
+line_and_more p (q ∷ qs) h = refl
+
+line_then_bytes : (p zs : List ℕ) → lines_in (p ∷ pieces zs) ≡ p ∷ lines_in (pieces zs)
+line_then_bytes p zs = let (q, qs, e) = some_part is_line_feed zs in ap (λ ps. lines_in (p ∷ ps)) e ∙ ap (λ ps. p ∷ lines_in ps) (sym e)
+
+-- what a judgement tells of the line
+says_line : (r : Result Line LineFault) (l : Line) → judged_line r ≡ judged.Says l → r ≡ Ok l
+says_line (Ok k) l h = cc
+says_line (Err e) l h = cc
+
+is_bad_line : (r : Result Line LineFault) (f : LineFault) → judged_line r ≡ judged.Bad f → r ≡ Err f
+is_bad_line (Ok k) f h = cc
+is_bad_line (Err e) f h = cc
+
+is_no_end : (r : Result Line LineFault) → judged_line r ≡ judged.End → ⊥
+is_no_end (Ok k) h = cc
+is_no_end (Err e) h = cc
+
+-- no line is left
+unless_empty : (b : Bool) (r : Result Line LineFault) (p : List ℕ) → cond b judged.End (judged_line r) ≡ judged.End → cond b [] (p ∷ []) ≡ []
+unless_empty true r p h = refl
+unless_empty false r p h = absurd (is_no_end r h)
+
+nothing_left : (limit : ℕ) (ys : List ℕ) (new : Option (List ℕ)) (piece : List ℕ) (end : End) → EndsPiece limit ys new piece end → judged_piece end piece ≡ judged.End → lines_in (pieces ys) ≡ []
+nothing_left limit ys new piece LineFeed r h = absurd (is_no_end (line_of piece) h)
+nothing_left limit ys new piece Input r h = ap lines_in r.0 ∙ unless_empty (length piece == 0) (line_of piece) piece h
+nothing_left limit ys new piece Limit r h = cc
+
+-- a bad line comes
+abbrev BadLine : List (List ℕ) → LineFault → Type 0
+BadLine lines f = (l : List ℕ) × (more : List (List ℕ)) × (lines ≡ l ∷ more) × (line_of l ≡ Err f)
+
+bad_last : (b : Bool) (piece : List ℕ) (f : LineFault) → (length piece == 0) ≡ b → cond b judged.End (judged_line (line_of piece)) ≡ judged.Bad f → BadLine (lines_in (piece ∷ [])) f
+bad_last true piece f e h = let clash : judged.End ≡ judged.Bad f = h in absurd (cc)
+bad_last false piece f e h = (piece, [], line_and_more piece [] e, is_bad_line (line_of piece) f h)
+
+too_long : (whole : List ℕ) → MAX_LINE_LEN < length whole → line_of whole ≡ Err bad.Words
+unfolding line_of
+too_long whole h = let t : nat_lt MAX_LINE_LEN (length whole) ≡ true = grind (arith, nat_tests) in rw t
+
+bad_comes : (ys : List ℕ) (new : Option (List ℕ)) (piece : List ℕ) (end : End) (f : LineFault) → EndsPiece MAX_LINE_LEN ys new piece end → judged_piece end piece ≡ judged.Bad f → BadLine (lines_in (pieces ys)) f
+bad_comes ys None piece LineFeed f r h = absurd r
+bad_comes ys (Some zs) piece LineFeed f r h = (piece, lines_in (pieces zs), ap lines_in r ∙ line_then_bytes piece zs, is_bad_line (line_of piece) f h)
+bad_comes ys new piece Input f r h =
+    let (l, more, e, j) = bad_last (length piece == 0) piece f refl h in (l, more, ap lines_in r.0 ∙ e, j)
+bad_comes ys new piece Limit f r h =
+    let (whole, more, e, long) = r in
+    let some : (length whole == 0) ≡ false = grind (arith, nat_tests) in
+    let same : bad.Words ≡ f = cc in
+    (whole, lines_in more, ap lines_in e ∙ line_and_more whole more some, too_long whole long ∙ ap Err same)
+
+-- a good line comes, and what is behind it
+abbrev pub Behind : End → Option (List ℕ) → List (List ℕ) → Type 0
+Behind LineFeed new more = KnownLeft new (λ zs. more ≡ lines_in (pieces zs))
+Behind Input new more = more ≡ []
+Behind Limit new more = ⊥
+
+abbrev GoodLine : List (List ℕ) → Line → End → Option (List ℕ) → Type 0
+GoodLine lines x end new = (l : List ℕ) × (more : List (List ℕ)) × (lines ≡ l ∷ more) × (line_of l ≡ Ok x) × Behind end new more
+
+good_last : (b : Bool) (piece : List ℕ) (x : Line) (new : Option (List ℕ)) → (length piece == 0) ≡ b → cond b judged.End (judged_line (line_of piece)) ≡ judged.Says x → GoodLine (lines_in (piece ∷ [])) x Input new
+good_last true piece x new e h = let clash : judged.End ≡ judged.Says x = h in absurd (cc)
+good_last false piece x new e h = (piece, [], line_and_more piece [] e, says_line (line_of piece) x h, refl)
+
+good_comes : (limit : ℕ) (ys : List ℕ) (new : Option (List ℕ)) (piece : List ℕ) (end : End) (x : Line) → EndsPiece limit ys new piece end → judged_piece end piece ≡ judged.Says x → GoodLine (lines_in (pieces ys)) x end new
+good_comes limit ys None piece LineFeed x r h = absurd r
+good_comes limit ys (Some zs) piece LineFeed x r h = (piece, lines_in (pieces zs), ap lines_in r ∙ line_then_bytes piece zs, says_line (line_of piece) x h, refl)
+good_comes limit ys new piece Input x r h =
+    let (l, more, e, j, k) = good_last (length piece == 0) piece x new refl h in (l, more, ap lines_in r.0 ∙ e, j, k)
+good_comes limit ys new piece Limit x r h = let clash : judged.Bad bad.Words ≡ judged.Says x = h in absurd (cc)
+
+-- Putting outputs together.
+
+-- the output is whole
+finish : (o : Output) (old out : Option (List ℕ)) (text : List ℕ) (refused : Bool) (status : ℕ) → Appends old out text → o ≡ onto text refused (record { text = []; status = 0 }) → status ≡ status_of refused → Writes o old out (Ok status)
+finish o old out text refused status a e s =
+    (subst (λ (bs : List ℕ). Appends old out bs) (sym (append-nil text) ∙ sym (ap (λ (p : Output). p.text) e)) a, s ∙ sym (ap (λ (p : Output). p.status) e))
+
+-- it ends with a text and the status 1
+always_one : (b : Bool) → let one : ℕ = 1 in cond b one one ≡ one
+always_one true = refl
+always_one false = refl
+
+ends_with : (o : Output) (old out new : Option (List ℕ)) (text last : List ℕ) (refused : Bool) (r : Result ℕ ServeFault) → Appends old out text → o ≡ onto text refused (record { text = last; status = 1 })
+    → Writes (record { text = last; status = 1 }) out new r → Writes o old new r
+ends_with o old out new text last refused (Ok status) a e h = (
+  subst (λ (bs : List ℕ). Appends old new bs) (sym (ap (λ (p : Output). p.text) e)) (appends_both old out new text last a h.0),
+  h.1 ∙ sym (always_one refused) ∙ sym (ap (λ (p : Output). p.status) e),
+)
+ends_with o old out new text last refused (Err f) a e h =
+    let (front, back, cut, b) = h in
+    (text ++ front, back, ap (λ (p : Output). p.text) e ∙ ap (λ (bs : List ℕ). text ++ bs) cut ∙ sym (append_assoc text front back), appends_both old out new text front a b)
+
+-- it ends before its time
+breaks_off : (o : Output) (old out new : Option (List ℕ)) (text next : List ℕ) (refused : Bool) (rest : Output) → Appends old out text → o.text ≡ text ++ (next ++ rest.text) → AppendsBeginning out new next
+    → AppendsBeginning old new o.text
+breaks_off o old out new text next refused rest a e h =
+    let (front, back, cut, b) = h in (
+      text ++ front,
+      back ++ rest.text,
+      e ∙ ap (λ (bs : List ℕ). text ++ (bs ++ rest.text)) cut ∙ ap (λ (bs : List ℕ). text ++ bs) (append_assoc front back rest.text) ∙ sym (append_assoc text front (back ++ rest.text)),
+      appends_both old out new text front a b,
+    )
+
+-- what the loop does
+
+pub stops : (w v : ExactWorld) (old left out new : Option (List ℕ)) (refused : Bool) (number : ℕ) (f : ServeFault) → SoFar w old left out new refused v number → WritesLines w old out new (Err f)
+stops w v None left out new refused number f h = tt
+stops w v (Some xs) None out new refused number f h = absurd h
+stops w v (Some xs) (Some ys) out new refused number f h =
+    let (text, a, e) = h in (text, (lines_output v number (lines_in (pieces ys))).text, ap (λ (p : Output). p.text) e, a)
+
+pub is_over : (w v : ExactWorld) (old left next out new : Option (List ℕ)) (refused : Bool) (number : ℕ) (piece : List ℕ) (end : End) (status : ℕ)
+    → SoFar w old left out new refused v number → ReadsPiece MAX_LINE_LEN left next piece (Ok end) → judged_piece end piece ≡ judged.End → status ≡ status_of refused → WritesLines w old out new (Ok status)
+is_over w v None left next out new refused number piece end status h r j s = tt
+is_over w v (Some xs) None next out new refused number piece end status h r j s = absurd h
+is_over w v (Some xs) (Some ys) next out new refused number piece end status h r j s =
+    let (text, a, e) = h in
+    finish (lines_output w 1 (lines_in (pieces xs))) out new text refused status a
+    (e ∙ ap (λ ls. onto text refused (lines_output v number ls)) (nothing_left MAX_LINE_LEN ys next piece end r j)) s
+
+pub is_bad : (w v : ExactWorld) (old left next out mid new : Option (List ℕ)) (refused : Bool) (number : ℕ) (piece : List ℕ) (end : End) (f : LineFault) (result : Result ℕ ServeFault)
+    → SoFar w old left out mid refused v number → ReadsPiece MAX_LINE_LEN left next piece (Ok end) → judged_piece end piece ≡ judged.Bad f
+    → Writes (record { text = line_fault_text number (line_fault_number f); status = 1 }) mid new result → WritesLines w old out new result
+is_bad w v None left next out mid new refused number piece end f result h r j p = tt
+is_bad w v (Some xs) None next out mid new refused number piece end f result h r j p = absurd h
+is_bad w v (Some xs) (Some ys) next out mid new refused number piece end f result h r j p =
+    let (text, a, e) = h in
+    let (l, more, g, k) = bad_comes ys next piece end f r j in
+    ends_with (lines_output w 1 (lines_in (pieces xs))) out mid new text (line_fault_text number (line_fault_number f)) refused result a
+    (e ∙ ap (λ ls. onto text refused (lines_output v number ls)) g ∙ ap (λ q. onto text refused (line_output v number q (λ u. lines_output u (number + 1) more))) k) p
+
+-- the output where a good line is next
+good_output : (o : Output) (text : List ℕ) (refused : Bool) (v : ExactWorld) (number : ℕ) (lines : List (List ℕ)) (l : List ℕ) (more : List (List ℕ)) (x : Line)
+    → o ≡ onto text refused (lines_output v number lines) → lines ≡ l ∷ more → line_of l ≡ Ok x → o ≡ onto text refused (before (told v x) (lines_output (told v x).world (number + 1) more))
+good_output o text refused v number lines l more x e g k =
+    e ∙ ap (λ ls. onto text refused (lines_output v number ls)) g ∙ ap (λ q. onto text refused (line_output v number q (λ u. lines_output u (number + 1) more))) k
+
+pub breaks : (w v : ExactWorld) (old left next out mid new : Option (List ℕ)) (refused : Bool) (number : ℕ) (piece : List ℕ) (end : End) (x : Line) (u : ExactWorld) (f g : ServeFault)
+    → SoFar w old left out mid refused v number → ReadsPiece MAX_LINE_LEN left next piece (Ok end) → judged_piece end piece ≡ judged.Says x
+    → Puts (told v x) mid new (Err f) u → WritesLines w old out new (Err g)
+breaks w v None left next out mid new refused number piece end x u f g h r j p = tt
+breaks w v (Some xs) None next out mid new refused number piece end x u f g h r j p = absurd h
+breaks w v (Some xs) (Some ys) next out mid new refused number piece end x u f g h r j p =
+    let (text, a, e) = h in
+    let (l, more, m, k, b) = good_comes MAX_LINE_LEN ys next piece end x r j in
+    let o = lines_output w 1 (lines_in (pieces xs)) in
+    breaks_off o out mid new text (told v x).text refused (lines_output (told v x).world (number + 1) more) a
+    (ap (λ (q : Output). q.text) (good_output o text refused v number (lines_in (pieces ys)) l more x e m k)) p
+
+-- two parts are one
+both_refused : (a b : Bool) (n : ℕ) → cond a 1 (cond b 1 n) ≡ cond (a || b) 1 n
+both_refused true b n = refl
+both_refused false b n = refl
+
+onto_before : (text : List ℕ) (refused : Bool) (t : Told) (rest : Output) → onto text refused (before t rest) ≡ onto (text ++ t.text) (refused || t.refused) rest
+onto_before text refused t rest =
+    ap (λ (bs : List ℕ). record { text = bs; status = cond refused 1 (cond t.refused 1 rest.status) }) (sym (append_assoc text t.text rest.text))
+    ∙ ap (λ (n : ℕ). record { text = (text ++ t.text) ++ rest.text; status = n }) (both_refused refused t.refused rest.status)
+
+-- a good line was told: what is so after it
+told_one : (w v u : ExactWorld) (xs : List ℕ) (out mid new : Option (List ℕ)) (refused now : Bool) (number : ℕ) (lines : List (List ℕ)) (l : List ℕ) (more : List (List ℕ)) (x : Line)
+    → After w xs out mid refused v number lines → lines ≡ l ∷ more → line_of l ≡ Ok x → Puts (told v x) mid new (Ok now) u → After w xs out new (refused || now) u (number + 1) more
+told_one w v u xs out mid new refused now number lines l more x h g k p =
+    let (text, a, e) = h in
+    let t = told v x in
+    let o = lines_output w 1 (lines_in (pieces xs)) in (
+      text ++ t.text,
+      appends_both out mid new text t.text a p.0,
+      good_output o text refused v number lines l more x e g k ∙ onto_before text refused t (lines_output t.world (number + 1) more)
+          ∙ ap (λ (b : Bool). onto (text ++ t.text) (refused || b) (lines_output t.world (number + 1) more)) (sym p.1)
+          ∙ ap (λ (z : ExactWorld). onto (text ++ t.text) (refused || now) (lines_output z (number + 1) more)) (sym p.2),
+    )
+
+pub goes_on : (w v u : ExactWorld) (old left next out mid new : Option (List ℕ)) (refused now both : Bool) (number : ℕ) (piece : List ℕ) (end : End) (x : Line)
+    → SoFar w old left out mid refused v number → ReadsPiece MAX_LINE_LEN left next piece (Ok end) → judged_piece end piece ≡ judged.Says x
+    → Puts (told v x) mid new (Ok now) u → both ≡ (refused || now) → is_last end ≡ false → SoFar w old next out new both u (number + 1)
+goes_on w v u None left next out mid new refused now both number piece end x h r j p b z = tt
+goes_on w v u (Some xs) None next out mid new refused now both number piece end x h r j p b z = absurd h
+goes_on w v u (Some xs) (Some ys) None out mid new refused now both number piece LineFeed x h r j p b z = absurd r
+goes_on w v u (Some xs) (Some ys) (Some zs) out mid new refused now both number piece LineFeed x h r j p b z =
+    let (l, more, m, k, e) = good_comes MAX_LINE_LEN ys (Some zs) piece LineFeed x r j in
+    let t = told_one w v u xs out mid new refused now number (lines_in (pieces ys)) l more x h m k p in
+    subst (λ ls. After w xs out new both u (number + 1) ls) e (subst (λ (c : Bool). After w xs out new c u (number + 1) more) (sym b) t)
+goes_on w v u (Some xs) (Some ys) next out mid new refused now both number piece Input x h r j p b z = cc
+goes_on w v u (Some xs) (Some ys) next out mid new refused now both number piece Limit x h r j p b z =
+    let (l, more, m, k, e) = good_comes MAX_LINE_LEN ys next piece Limit x r j in absurd e
+
+pub is_over_now : (w v u : ExactWorld) (old left next out mid new : Option (List ℕ)) (refused now both : Bool) (number : ℕ) (piece : List ℕ) (end : End) (x : Line) (status : ℕ)
+    → SoFar w old left out mid refused v number → ReadsPiece MAX_LINE_LEN left next piece (Ok end) → judged_piece end piece ≡ judged.Says x
+    → Puts (told v x) mid new (Ok now) u → both ≡ (refused || now) → is_last end ≡ true → status ≡ status_of both → WritesLines w old out new (Ok status)
+is_over_now w v u None left next out mid new refused now both number piece end x status h r j p b z s = tt
+is_over_now w v u (Some xs) None next out mid new refused now both number piece end x status h r j p b z s = absurd h
+is_over_now w v u (Some xs) (Some ys) next out mid new refused now both number piece LineFeed x status h r j p b z s = let clash : false ≡ true = z in absurd (cc)
+is_over_now w v u (Some xs) (Some ys) next out mid new refused now both number piece Limit x status h r j p b z s = let clash : false ≡ true = z in absurd (cc)
+is_over_now w v u (Some xs) (Some ys) next out mid new refused now both number piece Input x status h r j p b z s =
+    let (l, more, m, k, e) = good_comes MAX_LINE_LEN ys next piece Input x r j in
+    let (text, a, q) = told_one w v u xs out mid new refused now number (lines_in (pieces ys)) l more x h m k p in
+    finish (lines_output w 1 (lines_in (pieces xs))) out new text (refused || now) status a (q ∙ ap (λ ls. onto text (refused || now) (lines_output u (number + 1) ls)) e) (s ∙ ap status_of b)

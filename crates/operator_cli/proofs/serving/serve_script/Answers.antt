@@ -1,0 +1,10 @@
+use Rattle.std.proofs.Common.{List, ℕ, Option, Err, subst}
+use Rattle.operator_cli.specs.Outputs.{Starts}
+use Rattle.operator_cli.proofs.ServeFacts.{serves_refusal}
+use Rattle.operator_cli.proofs.serving.serve_script.Goals as goal
+
+pub returns-in-Err : goal.returns-in-Err
+returns-in-Err g c =
+    let out = g.W.Write.contents in
+    let h = subst (λ (s : Option (List ℕ)). Starts s c.read_start.new.source (Err c.in-Err.fault)) c.new-source.ensures c.in-Err.ensures.settings in
+    serves_refusal (g.R.Read.remaining c.args.reader) c.read_start.new.source (out c.args.writer.now) (out c.refuse_start.new.writer) c.in-Err.fault c.refuse_start.result h c.refuse_start.ensures

@@ -1,0 +1,29 @@
+-- The numbers of faults.
+use Rattle.std.specs.Prelude.{ℕ}
+use Rattle.vote_weights.specs.Faults.{fault_number}
+use Rattle.operator_cli.specs.declared.faults.LineFault.{LineFault}
+use Rattle.operator_cli.specs.declared.faults.LineFault.TheVariants as line
+use Rattle.operator_cli.specs.declared.faults.SettingsFault.{SettingsFault}
+use Rattle.operator_cli.specs.declared.faults.SettingsFault.TheVariants as settings
+use Rattle.operator_cli.specs.declared.faults.ServeFault.{ServeFault}
+use Rattle.operator_cli.specs.declared.faults.ServeFault.TheVariants as serving
+
+abbrev pub line_fault_number : LineFault → ℕ
+line_fault_number line.Word = 801
+line_fault_number line.Actor = 802
+line_fault_number line.Number = 803
+line_fault_number line.Name = 804
+line_fault_number line.Words = 805
+
+abbrev pub settings_fault_number : SettingsFault → ℕ
+settings_fault_number settings.NoEnd = 924
+settings_fault_number settings.NoDocument = 921
+settings_fault_number settings.UnknownKey = 923
+settings_fault_number settings.Value = 922
+settings_fault_number (settings.Ballot fault) = fault_number fault
+settings_fault_number settings.Memory = 925
+
+abbrev pub serve_fault_number : ServeFault → ℕ
+serve_fault_number serving.Read = 931
+serve_fault_number serving.Write = 932
+serve_fault_number serving.Memory = 933

@@ -1,0 +1,108 @@
+// What may be wrong with a line, with settings, and with a whole run, each with its number.
+
+ghost use Rattle.std.specs.Prelude.{◌≡◌};
+ghost use Rattle.operator_cli.specs.Faults.{line_fault_number, settings_fault_number, serve_fault_number};
+
+use thiserror::Error;
+use vote_weights::BallotFault;
+
+/// Why a line is no event and no query. Programs print the number.
+#[derive(Clone, Copy, Debug, PartialEq, Eq, Hash, Error)]
+pub enum LineFault {
+    /// 801: the first word, or a word that is one of a few, is another.
+    #[error("no event or query has this word")]
+    Word,
+    /// 802: a word isn't a node or a client of the kind that is wanted.
+    #[error("no node or client is spelled so")]
+    Actor,
+    /// 803: a word isn't the number of a message.
+    #[error("no message has this number")]
+    Number,
+    /// 804: a word isn't a resource's name.
+    #[error("no resource has this name")]
+    Name,
+    /// 805: words are missing or left over, or the line is too long.
+    #[error("words are missing or left over, or the line is too long")]
+    Words,
+}
+
+impl LineFault {
+    /// The number by which programs print the fault: 801 to 805.
+    pub fn number(self) -> u16
+        ensures { result ≡ line_fault_number self }
+    {
+        match self {
+            LineFault::Word => 801,
+            LineFault::Actor => 802,
+            LineFault::Number => 803,
+            LineFault::Name => 804,
+            LineFault::Words => 805,
+        }
+    }
+}
+
+/// Why settings are refused. Programs print the number.
+#[derive(Clone, Copy, Debug, PartialEq, Eq, Hash, Error)]
+pub enum SettingsFault {
+    /// 924: no line that is exactly `---` begins within the first 65,536 bytes.
+    #[error("the settings don't end with a line `---`")]
+    NoEnd,
+    /// 921: they aren't a TOML document.
+    #[error("the settings aren't a TOML document")]
+    NoDocument,
+    /// 923: a key isn't one of those that settings have.
+    #[error("the settings have a key that isn't known")]
+    UnknownKey,
+    /// 922: a key that is needed is missing, or a value is of the wrong kind or out of range.
+    #[error("a value of the settings is missing or wrong")]
+    Value,
+    /// 201 to 205: the votes make no ballot.
+    #[error("the votes make no ballot: {0}")]
+    Ballot(BallotFault),
+    /// 925: memory was refused.
+    #[error("there was no memory for the settings")]
+    Memory,
+}
+
+impl SettingsFault {
+    /// The number by which programs print the fault: 921 to 925, or the ballot's 201 to 205.
+    pub fn number(self) -> u16
+        ensures { result ≡ settings_fault_number self }
+    {
+        match self {
+            SettingsFault::NoEnd => 924,
+            SettingsFault::NoDocument => 921,
+            SettingsFault::UnknownKey => 923,
+            SettingsFault::Value => 922,
+            SettingsFault::Ballot(fault) => fault.number(),
+            SettingsFault::Memory => 925,
+        }
+    }
+}
+
+/// Why a run ended before its output was whole. What was written is a beginning of it.
+#[derive(Clone, Copy, Debug, PartialEq, Eq, Hash, Error)]
+pub enum ServeFault {
+    /// 931: the reader failed, or 600,000,000 reads were made.
+    #[error("the input couldn't be read")]
+    Read,
+    /// 932: the writer failed.
+    #[error("the output couldn't be written")]
+    Write,
+    /// 933: memory was refused.
+    #[error("there was no memory")]
+    Memory,
+}
+
+impl ServeFault {
+    /// The number by which programs print the fault: 931 to 933.
+    pub fn number(self) -> u16
+        ensures { result ≡ serve_fault_number self }
+    {
+        match self {
+            ServeFault::Read => 931,
+            ServeFault::Write => 932,
+            ServeFault::Memory => 933,
+        }
+    }
+}

@@ -1,0 +1,98 @@
+// The head of an input: the settings, up to the line of dashes.
+
+ghost use Rattle.std.specs.Prelude.{◌≡◌, ◌++◌, ◌≤◌, IfOk, OnOk, codes};
+ghost use Rattle.lock_messages.specs.declared.ids.TheConstants.{MAX_CLIENTS};
+ghost use Rattle.std.specs.Str.{bytes_eq};
+ghost use Rattle.operator_cli.specs.Outputs.{HeadPiece, FindsHead, Starts, dashes};
+
+use crate::pieces::{End, Source};
+use crate::settings::{Settings, read_settings};
+use crate::{ServeFault, SettingsFault};
+use std::alloc::{AllocError, Global};
+use std::io::Read;
+
+/// The line of dashes begins within this many bytes.
+pub const HEAD_ROOM: usize = 65_536;
+
+/// Why there are no settings.
+#[derive(Clone, Copy, Debug, PartialEq, Eq)]
+pub enum StartFault {
+    /// The reader failed.
+    Read,
+    /// The settings are refused.
+    Settings(SettingsFault),
+}
+
+/// Adds a line with its line feed.
+fn push_line(head: &mut Vec<u8>, line: &[u8]) -> Result<(), AllocError>
+    ensures { OnOk result (head.new.items ≡ head.old.items ++ line.now ++ codes "\n") }
+{
+    head.extend_from_slice(line)?;
+    head.push(b'\n')?;
+    Ok(())
+}
+
+/// Reads the next piece of the head.
+fn next_piece<R: Read>(source: &mut Source<R>, piece: &mut Vec<u8>) -> Result<End, StartFault>
+    ensures { HeadPiece source.old source.new piece.new.items result }
+{
+    match source.read_piece(piece, HEAD_ROOM) {
+        Ok(end) => Ok(end),
+        Err(ServeFault::Memory) => Err(StartFault::Settings(SettingsFault::Memory)),
+        Err(_) => Err(StartFault::Read),
+    }
+}
+
+/// Whether the piece is the line of dashes.
+fn is_dashes(piece: &[u8]) -> bool
+    ensures { result ≡ bytes_eq piece.now dashes }
+{
+    piece == b"---".as_slice()
+}
+
+/// Reads up to the line of dashes, and answers what stands before it.
+fn read_head<R: Read>(alloc: Global, source: &mut Source<R>) -> Result<Vec<u8>, StartFault>
+    ensures { FindsHead source.old source.new result }
+{
+    let mut head = Vec::new(alloc);
+    let mut piece = Vec::new(alloc);
+    while head.len() < HEAD_ROOM {
+        let end = match next_piece(source, &mut piece) {
+            Ok(end) => end,
+            Err(fault) => return Err(fault),
+        };
+        match end {
+            End::Limit => return Err(StartFault::Settings(SettingsFault::NoEnd)),
+            End::Input => {
+                if is_dashes(piece.as_slice()) {
+                    return Ok(head);
+                }
+                return Err(StartFault::Settings(SettingsFault::NoEnd));
+            }
+            End::LineFeed => {
+                if is_dashes(piece.as_slice()) {
+                    return Ok(head);
+                }
+                if push_line(&mut head, piece.as_slice()).is_err() {
+                    return Err(StartFault::Settings(SettingsFault::Memory));
+                }
+            }
+        }
+    }
+    Err(StartFault::Settings(SettingsFault::NoEnd))
+}
+
+/// Reads the settings.
+pub fn read_start<R: Read>(alloc: Global, source: &mut Source<R>) -> Result<Settings, StartFault>
+    ensures settings { Starts source.old source.new result }
+    ensures in_range { IfOk result (λ s. (1 ≤ s.clients) × (s.clients ≤ MAX_CLIENTS)) }
+{
+    let head = match read_head(alloc, source) {
+        Ok(head) => head,
+        Err(fault) => return Err(fault),
+    };
+    match read_settings(alloc, head.as_slice()) {
+        Ok(settings) => Ok(settings),
+        Err(fault) => Err(StartFault::Settings(fault)),
+    }
+}

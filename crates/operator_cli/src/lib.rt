@@ -1,0 +1,37 @@
+//! What the operator's program does: from the bytes that come in to the bytes that go out.
+//!
+//! An input begins with settings in TOML, which a line `---` ends; behind it each line is an event
+//! of a world of voting nodes and clients, or the query who is inside a resource. `serve` takes the
+//! events one after another, prints what each did or why it was refused, and answers the status of
+//! the program.
+//!
+//! The crate promises that what `serve` writes is, byte for byte, a stated function of the bytes
+//! that it reads, and so is the status; after a fault a beginning of that output was written. The
+//! function stands in `specs/`: `Lines` (which line is which event, and what is wrong with any
+//! other), `Settings` (what a TOML document says, and what is wrong with it), `Texts` (how effects
+//! are written) and `Outputs`, which puts them together over the exact world of `world_machine`
+//! (`output_of`). Want of memory alone may put `settings fault 925` in its place. The input is
+//! streamed: beside the world, the settings and one line are all that is kept of it.
+//!
+//! It stands on `lock_messages`, `lock_model`, `vote_weights`, `world_machine`, `toml` and
+//! `thiserror`.
+#![tactic(auto)]
+
+mod answers;
+#[cfg(test)]
+mod examples;
+mod faults;
+mod heads;
+mod lines;
+mod pieces;
+mod script;
+mod serving;
+#[cfg(test)]
+mod serving_tests;
+mod settings;
+#[cfg(test)]
+mod stream_tests;
+mod texts;
+
+pub use faults::{LineFault, ServeFault, SettingsFault};
+pub use serving::{Order, serve};
