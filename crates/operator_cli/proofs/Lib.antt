@@ -3,7 +3,6 @@ pub mod NumberFacts
 pub mod PieceFacts
 pub mod SettingsFacts
 pub mod TextFacts
-pub mod StepFacts
 pub mod HeadFacts
 pub mod ScriptFacts
 pub mod ServeFacts

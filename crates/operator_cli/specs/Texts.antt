@@ -77,17 +77,3 @@ line_fault_text line number = codes "line " ++ decimal line ++ codes " fault " +
 -- `settings fault 924`
 abbrev pub settings_fault_text : ℕ → List ℕ
 settings_fault_text number = codes "settings fault " ++ decimal number ++ codes "\n"
-
--- what was said has numbers that messages can have
-abbrev pub SaidFits : Outcome → Type 0
-SaidFits (Said first count) = 0 < count → first + count ≤ MAX_MESSAGES + 1
-SaidFits (Chose a) = Unit {0}
-SaidFits Tried = Unit {0}
-SaidFits WasKept = Unit {0}
-SaidFits (Sent k m) = Unit {0}
-SaidFits (Took m changed) = Unit {0}
-SaidFits (HeardIt m heard) = Unit {0}
-SaidFits Inside = Unit {0}
-SaidFits Outside = Unit {0}
-SaidFits Fell = Unit {0}
-SaidFits Rose = Unit {0}

@@ -10,6 +10,7 @@ use crate::lines::Line;
 use crate::texts::{effect_text, inside_text, refused_text};
 use lock_messages::ResourceName;
 use std::alloc::Global;
+use world_machine::laws::said_numbers_fit;
 use world_machine::{Event, StepFault, World};
 
 /// What an event or a query prints, and whether it was refused.
@@ -23,6 +24,7 @@ pub struct Answer {
 fn take_event(alloc: Global, world: &mut World, event: &Event) -> Result<Answer, ServeFault>
     ensures { Tells (told_step world.old (step world.old (action_of event.now))) result world.new }
 {
+    said_numbers_fit();
     match world.step(event) {
         Err(StepFault::Memory) => Err(ServeFault::Memory),
         Err(fault) => {

@@ -3,7 +3,8 @@
 ghost use Rattle.std.specs.Prelude.{◌≡◌, ◌+◌, ◌<◌, ◌≤◌, ◌++◌, IfOk, OnOk, string_bytes};
 ghost use Rattle.std.specs.List.{flat_map};
 ghost use Rattle.world_machine.specs.Events.{outcome_of};
-ghost use Rattle.operator_cli.specs.Texts.{sent_text, found_text, said_text, took_text, heard_text, outcome_text, SaidFits, refused_text, member_text, other_text, members_text, inside_text, line_fault_text, settings_fault_text};
+ghost use Rattle.world_machine.specs.Numbers.{SaidFits};
+ghost use Rattle.operator_cli.specs.Texts.{sent_text, found_text, said_text, took_text, heard_text, outcome_text, refused_text, member_text, other_text, members_text, inside_text, line_fault_text, settings_fault_text};
 ghost use Rattle.world_machine.specs.ExactWorlds.{numbered};
 
 use lock_messages::{Message, ResourceName, Ticket};

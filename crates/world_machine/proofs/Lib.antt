@@ -5,3 +5,4 @@ pub mod ClientSteps
 pub mod NodeSteps
 pub mod StepFacts
 pub mod TakenFacts
+pub mod NumberFacts

@@ -4,6 +4,7 @@ pub mod Events
 pub mod Worlds
 pub mod ExactWorlds
 pub mod Forgetting
+pub mod Numbers
 pub mod Clients
 pub mod Nodes
 pub mod WorldViews

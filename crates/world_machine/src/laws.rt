@@ -1,6 +1,7 @@
 //! Laws of the definitions. Each function computes nothing: its contract is a theorem.
 
 ghost use Rattle.world_machine.specs.Examples.{FirstReader, OneGrantIsTooFew};
+ghost use Rattle.world_machine.specs.Numbers.{SaidNumbersFit};
 ghost use Rattle.world_machine.specs.Forgetting.{ExactStepsAreAllowed, AllowedStepsAreTaken, ExactRunsAreRuns, OpeningIsSound};
 
 /// Each step of the exact world, its order and numbers forgotten, is one that may happen, and so is
@@ -16,6 +17,11 @@ pub fn exact_steps_are_allowed()
     lock_model::laws::changes_are_seen();
     lock_model::laws::hearing_is_exact();
 }
+
+/// The messages that a node says in a step have numbers that messages can have.
+pub fn said_numbers_fit()
+    ensures { SaidNumbersFit }
+{}
 
 /// What the exact world does in a worked run: a reader with the votes of two nodes of three is
 /// inside, and with the vote of one its entering is refused.

@@ -12,8 +12,6 @@ use Rattle.lock_model.specs.Ballots.{Ballot, needed, votes_of}
 use Rattle.vote_weights.specs.Sets.{has_node}
 use Rattle.lock_model.specs.ExactDecisions.{decision, changes}
 use Rattle.world_machine.specs.declared.TheConstants.{MAX_MESSAGES}
-use Rattle.world_machine.specs.declared.events.Event as code
-use Rattle.world_machine.specs.declared.events.Event.TheVariants as event
 use Rattle.world_machine.specs.declared.events.StepFault.{StepFault}
 use Rattle.world_machine.specs.declared.events.StepFault.TheVariants as fault
 use Rattle.world_machine.specs.declared.exact.ExactWorld.{ExactWorld}
@@ -24,9 +22,9 @@ use Rattle.world_machine.specs.declared.exact.ExactClient.{ExactClient}
 use Rattle.world_machine.specs.declared.exact.ExactClientPhase.{ExactClientPhase}
 use Rattle.world_machine.specs.declared.exact.ExactClientPhase.TheVariants as client
 use Rattle.world_machine.specs.declared.exact.ExactStation.{ExactStation}
-use Rattle.world_machine.specs.Events.{action_of, Chose, Took, Inside}
-use Rattle.world_machine.specs.ExactWorlds.{numbered, quietly, client_in, node_in, next_ticket, says_one, Turns, Stepped, Steps, has_room, next_number, begins_in, tries_attempt_with, tries_attempt_in, tries_station_with, tries_station_in, keeps_attempt_with, keeps_attempt_in, keeps_station_with, keeps_station_in, tells_in, says_in, decides_on, takes_message, takes_in, hears_message, hears_found, is_down, hears_in, enters_in, leaves_in, client_finishes, node_finishes, by_client, by_node, tells_node, step}
-use Rattle.operator_cli.specs.Texts.{SaidFits}
+use Rattle.world_machine.specs.Events.{Age, Old, New, Action, Begin, Try, Kept, SayTo, Say, Take, Hear, Enter, Leave, Fall, Rise, Chose, Took, Inside}
+use Rattle.world_machine.specs.ExactWorlds.{Turn, numbered, quietly, client_in, node_in, next_ticket, says_one, Turns, Stepped, Steps, has_room, next_number, begins_in, tries_attempt_with, tries_attempt_in, tries_station_with, tries_station_in, keeps_attempt_with, keeps_attempt_in, keeps_station_with, keeps_station_in, tells_in, says_in, decides_on, takes_message, takes_in, hears_message, hears_found, is_down, hears_in, enters_in, leaves_in, node_falls_in, client_falls_in, node_rises_with, node_rises_in, client_rises_with, client_rises_in, finishes, by_actor, with_client, with_node_turn, tells_node, step}
+use Rattle.world_machine.specs.Numbers.{SaidFits, SaidNumbersFit}
 
 -- an actor's turn says what fits, where there is room for it
 abbrev Fits : {A : Type 0} → ExactWorld → Turns A → Type 0
@@ -146,6 +144,42 @@ leaves w k (client.Chosen t) = tt
 leaves w k (client.Asking t granted) = λ _. tt
 leaves w k (client.Inside t granted) = λ _. tt
 
+node_falls : (w : ExactWorld) (v : ExactNode) (p : ExactNodePhase) → Fits w (node_falls_in v p)
+node_falls w v node.Down = tt
+node_falls w v node.Idle = λ _. tt
+node_falls w v (node.Decided s replies) = λ _. tt
+node_falls w v (node.Stored replies) = λ _. tt
+
+client_falls : (w : ExactWorld) (k : ExactClient) (p : ExactClientPhase) → Fits w (client_falls_in k p)
+client_falls w k client.Down = tt
+client_falls w k client.Idle = λ _. tt
+client_falls w k (client.Chosen t) = λ _. tt
+client_falls w k (client.Asking t granted) = λ _. tt
+client_falls w k (client.Inside t granted) = λ _. tt
+
+node_rises_so : (w : ExactWorld) (age : Age) (s : ExactStation) (o : Option ExactStation) → Fits w (node_rises_with age s o)
+node_rises_so w Old s o = λ _. tt
+node_rises_so w New s None = tt
+node_rises_so w New s (Some u) = λ _. tt
+
+node_rises : (w : ExactWorld) (age : Age) (v : ExactNode) (p : ExactNodePhase) → Fits w (node_rises_in age v p)
+node_rises w age v node.Down = node_rises_so w age v.kept v.tried
+node_rises w age v node.Idle = tt
+node_rises w age v (node.Decided s replies) = tt
+node_rises w age v (node.Stored replies) = tt
+
+client_rises_so : (w : ExactWorld) (age : Age) (a : ℕ) (o : Option ℕ) → Fits w (client_rises_with age a o)
+client_rises_so w Old a o = λ _. tt
+client_rises_so w New a None = tt
+client_rises_so w New a (Some b) = λ _. tt
+
+client_rises : (w : ExactWorld) (age : Age) (k : ExactClient) (p : ExactClientPhase) → Fits w (client_rises_in age k p)
+client_rises w age k client.Down = client_rises_so w age k.kept k.tried
+client_rises w age k client.Idle = tt
+client_rises w age k (client.Chosen t) = tt
+client_rises w age k (client.Asking t granted) = tt
+client_rises w age k (client.Inside t granted) = tt
+
 -- what a whole step says fits
 abbrev StepFits : Steps → Type 0
 StepFits (Err e) = Unit {0}
@@ -158,39 +192,35 @@ with_room : (b : Bool) (s : Stepped) (e : StepFault) → (b ≡ true → SaidFit
 with_room true s e h = h refl
 with_room false s e h = tt
 
-client_fits : (w : ExactWorld) (c : ℕ) (t : Turns ExactClient) → Fits w t → StepFits (client_finishes w c t)
-client_fits w c (Err e) h = tt
-client_fits w c (Ok t) h = with_room (has_room w t.says) _ _ (λ room. h (fits_in _ _ room))
+finished_fits : {A : Type 0} (w : ExactWorld) (into : Turn A → ExactWorld) (t : Turns A) → Fits w t → StepFits (finishes w into t)
+finished_fits w into (Err e) h = tt
+finished_fits w into (Ok t) h = with_room (has_room w t.says) _ _ (λ room. h (fits_in _ _ room))
 
-node_fits : (w : ExactWorld) (n : ℕ) (t : Turns ExactNode) → Fits w t → StepFits (node_finishes w n t)
-node_fits w n (Err e) h = tt
-node_fits w n (Ok t) h = with_room (has_room w t.says) _ _ (λ room. h (fits_in _ _ room))
-
-by_client_fits : (w : ExactWorld) (c : ℕ) (o : Option ExactClient) (f : ExactClient → Turns ExactClient) → ((k : ExactClient) → Fits w (f k)) → StepFits (by_client w c o f)
-by_client_fits w c None f h = tt
-by_client_fits w c (Some k) f h = client_fits w c (f k) (h k)
-
-by_node_fits : (w : ExactWorld) (n : ℕ) (o : Option ExactNode) (f : ExactNode → Turns ExactNode) → ((v : ExactNode) → Fits w (f v)) → StepFits (by_node w n o f)
-by_node_fits w n None f h = tt
-by_node_fits w n (Some v) f h = node_fits w n (f v) (h v)
+actor_fits : {A : Type 0} (w : ExactWorld) (into : Turn A → ExactWorld) (o : Option A) (f : A → Turns A) → ((a : A) → Fits w (f a)) → StepFits (by_actor w into o f)
+actor_fits w into None f h = tt
+actor_fits w into (Some a) f h = finished_fits w into (f a) (h a)
 
 tells_fits : (w : ExactWorld) (c n : ℕ) (o : Option ExactNode) → StepFits (tells_node w c n o)
 tells_fits w c n None = tt
-tells_fits w c n (Some v) = by_client_fits w c (numbered w.clients c) _ (λ k. tells w (next_number w) c n k k.phase)
+tells_fits w c n (Some v) = actor_fits w (with_client w c) (numbered w.clients c) _ (λ k. tells w (next_number w) c n k k.phase)
 
-step_fits : (w : ExactWorld) (e : code.Event) → StepFits (step w (action_of e))
+step_fits : (w : ExactWorld) (a : Action) → StepFits (step w a)
 unfolding step
-step_fits w (event.Begin c m x) = by_client_fits w c (numbered w.clients c) _ (λ k. begins w c m x k k.phase)
-step_fits w (event.Try (actor.Node n)) = by_node_fits w n (numbered w.nodes n) _ (λ v. tries_station w v v.phase)
-step_fits w (event.Try (actor.Client c)) = by_client_fits w c (numbered w.clients c) _ (λ k. tries_attempt w k k.phase)
-step_fits w (event.Kept (actor.Node n)) = by_node_fits w n (numbered w.nodes n) _ (λ v. keeps_station w v v.phase)
-step_fits w (event.Kept (actor.Client c)) = by_client_fits w c (numbered w.clients c) _ (λ k. keeps_attempt w k k.phase)
-step_fits w (event.SayTo c n) = tells_fits w c n (numbered w.nodes n)
-step_fits w (event.Say n) = by_node_fits w n (numbered w.nodes n) _ (λ v. says w v v.phase)
-step_fits w (event.Take n k) = by_node_fits w n (numbered w.nodes n) _ (λ v. takes w n (numbered w.sent k) v v.phase)
-step_fits w (event.Hear c k) = by_client_fits w c (numbered w.clients c) _ (λ v. hears w (length w.ballot.votes) c (numbered w.sent k) v)
-step_fits w (event.Enter c) = by_client_fits w c (numbered w.clients c) _ (λ k. enters w w.ballot k k.phase)
-step_fits w (event.Leave c) = by_client_fits w c (numbered w.clients c) _ (λ k. leaves w k k.phase)
+step_fits w (Begin c m x) = actor_fits w (with_client w c) (numbered w.clients c) _ (λ k. begins w c m x k k.phase)
+step_fits w (Try (actor.Node n)) = actor_fits w (with_node_turn w n) (numbered w.nodes n) _ (λ v. tries_station w v v.phase)
+step_fits w (Try (actor.Client c)) = actor_fits w (with_client w c) (numbered w.clients c) _ (λ k. tries_attempt w k k.phase)
+step_fits w (Kept (actor.Node n)) = actor_fits w (with_node_turn w n) (numbered w.nodes n) _ (λ v. keeps_station w v v.phase)
+step_fits w (Kept (actor.Client c)) = actor_fits w (with_client w c) (numbered w.clients c) _ (λ k. keeps_attempt w k k.phase)
+step_fits w (SayTo c n) = tells_fits w c n (numbered w.nodes n)
+step_fits w (Say n) = actor_fits w (with_node_turn w n) (numbered w.nodes n) _ (λ v. says w v v.phase)
+step_fits w (Take n k) = actor_fits w (with_node_turn w n) (numbered w.nodes n) _ (λ v. takes w n (numbered w.sent k) v v.phase)
+step_fits w (Hear c k) = actor_fits w (with_client w c) (numbered w.clients c) _ (λ v. hears w (length w.ballot.votes) c (numbered w.sent k) v)
+step_fits w (Enter c) = actor_fits w (with_client w c) (numbered w.clients c) _ (λ k. enters w w.ballot k k.phase)
+step_fits w (Leave c) = actor_fits w (with_client w c) (numbered w.clients c) _ (λ k. leaves w k k.phase)
+step_fits w (Fall (actor.Node n)) = actor_fits w (with_node_turn w n) (numbered w.nodes n) _ (λ v. node_falls w v v.phase)
+step_fits w (Fall (actor.Client c)) = actor_fits w (with_client w c) (numbered w.clients c) _ (λ k. client_falls w k k.phase)
+step_fits w (Rise (actor.Node n) age) = actor_fits w (with_node_turn w n) (numbered w.nodes n) _ (λ v. node_rises w age v v.phase)
+step_fits w (Rise (actor.Client c) age) = actor_fits w (with_client w c) (numbered w.clients c) _ (λ k. client_rises w age k k.phase)
 
-pub said_fits : (w : ExactWorld) (e : code.Event) (s : Stepped) → step w (action_of e) ≡ Ok s → SaidFits s.outcome
-said_fits w e s h = subst StepFits h (step_fits w e)
+pub said-numbers-fit : SaidNumbersFit
+said-numbers-fit w a s h = subst StepFits h (step_fits w a)
