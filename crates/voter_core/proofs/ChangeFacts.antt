@@ -1,9 +1,12 @@
 -- Whether a decision changes the entries.
-use Rattle.std.proofs.Common.{◌≡◌, ◌≢◌, ◌↔◌, ◌⊎◌, inl, inr, ℕ, suc, ◌+◌, ◌-◌, ◌<◌, ◌≤◌, ◌==◌, Bool, true, false, not, ◌||◌, ◌&&◌, cond, nat_le, nat_lt, List, [], ◌∷◌, ◌++◌, length, Option, Some, None, IsTrue, refl, sym, ap, ◌∙◌, subst, arith}
+use Rattle.std.proofs.Common.{◌≡◌, ◌≢◌, ◌↔◌, ◌⊎◌, inl, inr, ℕ, suc, ◌+◌, ◌-◌, ◌<◌, ◌≤◌, ◌==◌, Bool, true, false, not, ◌||◌, ◌&&◌, cond, nat_le, nat_lt, List, [], ◌∷◌, ◌++◌, length, Option, Some, None, Result, Ok, Err, IsTrue, refl, sym, ap, ◌∙◌, subst, arith}
+use Rattle.std.specs.Prelude.{OnOk, OnErr}
 use Rattle.std.proofs.lemmas.Bool.{eq-eqb, ltb-false, cases_Bool}
 use Rattle.std.proofs.lemmas.Bool.Decides.{Decides-ltb}
 use Rattle.lock_messages.specs.declared.messages.Message.{Message}
 use Rattle.lock_messages.specs.declared.messages.Message.TheVariants.{Over}
+use Rattle.lock_messages.specs.declared.tickets.Mode.{Mode}
+use Rattle.lock_messages.specs.declared.tickets.Mode.TheVariants.{Read, Write}
 use Rattle.lock_messages.specs.declared.tickets.Ticket.{Ticket}
 use Rattle.lock_model.specs.declared.entries.Entry.{Entry}
 use Rattle.lock_model.specs.declared.entries.Live.{Live}
@@ -12,7 +15,7 @@ use Rattle.lock_model.specs.declared.entries.Status.TheVariants.{Waiting, Holdin
 use Rattle.lock_model.specs.declared.problems.Problem.{Problem}
 use Rattle.lock_model.specs.ExactStations.{is_of, knows, entry_of, EachOnce, is_waiting, is_holding, if_live, admits, promoted, settled_live, settled_entry, settle, settled}
 use Rattle.lock_model.specs.ExactDecisions.{ended, moved_last, grant_of, told, grants, live_reply, reply_of_live, reply_to_known, new_entry, answered, takes_up, decision, changes}
-use Rattle.voter_core.specs.Voters.{State, taken, state_after, ends_something}
+use Rattle.voter_core.specs.Voters.{State, taken, state_after, ends_something, is_admitted, note_for}
 use Rattle.voter_core.proofs.EndFacts.{ended-same, floor_seen, floor-ended, floor-before, found-moved}
 
 -- ---- settling keeps clients and floors
@@ -174,3 +177,26 @@ pub taken-is : (n : ℕ) (p : Problem) (es : List Entry) (s : State) (m : Messag
     state ≡ state_after (changes p es m) (decision p es m).replies →
     record { node = n; problem = p; entries = entries; state = state } ≡ taken (record { node = n; problem = p; entries = es; state = s }) m
 taken-is n p es s m entries state e f = λ i. record { node = n; problem = p; entries = e i; state = f i }
+
+-- ---- what the policy is told
+
+pub note-reader : (m : Mode) (a b : Bool) → note_for m a ≡ Some b → (m ≡ Read) × (a ≡ b)
+note-reader Read a b h = (refl, cc)
+note-reader Write a b h = cc
+
+pub note-writer : (m : Mode) (a : Bool) → note_for m a ≡ None → m ≡ Write
+note-writer Read a h = cc
+note-writer Write a h = refl
+
+-- whether the ticket was admitted, from what was asked
+pub asked-is : (p : Problem) (t : Ticket) (es ended_entries after : List Entry) (a b : Bool) → ended_entries ≡ ended t.client (t.attempt - 1) es → after ≡ settled p ended_entries →
+    a ≡ admits p t.mode t.resource after → is_admitted p es t ≡ b → a ≡ b
+asked-is p t es ended_entries after a b e f g h = g ∙ ap (admits p t.mode t.resource) (f ∙ ap (settled p) e) ∙ h
+
+pub on-ok-map : {A E : Type 0} (r : Result A E) (X Y : Type 0) → (X → Y) → OnOk r X → OnOk r Y
+on-ok-map (Ok a) X Y f x = f x
+on-ok-map (Err e) X Y f x = tt
+
+pub on-err-as : {A E : Type 0} (r : Result A E) (X : Type 0) → X → OnErr r X
+on-err-as (Ok a) X x = tt
+on-err-as (Err e) X x = x

@@ -1,13 +1,17 @@
 -- One node: its station as it keeps it, and what it is about.
-use Rattle.std.specs.Prelude.{◌≡◌, ◌≢◌, ℕ, Bool, true, false, ◌&&◌, List, [], Option, Some, None, Err, nat_lt, if◌then◌else◌}
+use Rattle.std.specs.Prelude.{◌≡◌, ◌≢◌, ℕ, ◌-◌, Bool, true, false, ◌&&◌, List, [], Option, Some, None, Err, nat_lt, if◌then◌else◌}
 use Rattle.lock_messages.specs.declared.messages.Message.{Message}
+use Rattle.lock_messages.specs.declared.messages.Message.TheVariants.{Request, Release, Grant, Busy, Over, Done, Muddled}
+use Rattle.lock_messages.specs.declared.tickets.Mode.{Mode}
+use Rattle.lock_messages.specs.declared.tickets.Mode.TheVariants.{Read, Write}
+use Rattle.lock_messages.specs.declared.tickets.Ticket.{Ticket}
 use Rattle.lock_model.specs.declared.entries.Entry.{Entry}
 use Rattle.lock_model.specs.declared.entries.Live.{Live}
 use Rattle.lock_model.specs.declared.problems.Problem.{Problem}
 use Rattle.lock_model.specs.Stations.{IsLawful, IsCaused}
 use Rattle.lock_model.specs.Decisions.{Decides}
-use Rattle.lock_model.specs.ExactStations.{is_waiting, admits, promoted, meaning}
-use Rattle.lock_model.specs.ExactDecisions.{decision, changes}
+use Rattle.lock_model.specs.ExactStations.{is_waiting, admits, promoted, meaning, entry_of, settled}
+use Rattle.lock_model.specs.ExactDecisions.{decision, changes, ended, reply_to_known}
 use Rattle.stable_record.specs.declared.node_records.NodeRecord.{NodeRecord}
 use Rattle.stable_record.specs.declared.faults.RecordFault.{RecordFault}
 use Rattle.stable_record.specs.declared.faults.RecordFault.TheVariants as record_fault
@@ -106,3 +110,28 @@ admitted_now p entries (Some l) = if is_waiting l.status && admits p l.mode l.re
 abbrev pub ends_something : ℕ → Option Entry → Bool
 ends_something a None = true
 ends_something a (Some e) = nat_lt e.floor a
+
+-- whether a new ticket is admitted, once the attempts before it have ended and the others settled
+abbrev pub is_admitted : Problem → List Entry → Ticket → Bool
+is_admitted p entries t = admits p t.mode t.resource (settled p (ended t.client (t.attempt - 1) entries))
+
+-- what the policy is told of a new ticket in this mode: of a reader's, whether it is admitted
+abbrev pub note_for : Mode → Bool → Option Bool
+note_for Read admitted = Some admitted
+note_for Write admitted = None
+
+-- the same, unless the node has a reply to the ticket already
+abbrev pub note_unless : Option Message → Problem → List Entry → Ticket → Option Bool
+note_unless None p entries t = note_for t.mode (is_admitted p entries t)
+note_unless (Some reply) p entries t = None
+
+-- what the policy is told, once, where a message is taken: of each new reader's ticket whether it is
+-- admitted, and of nothing else
+abbrev pub note_of : Problem → List Entry → Message → Option Bool
+note_of p entries (Request n t) = note_unless (reply_to_known n t (entry_of entries t.client)) p entries t
+note_of p entries (Release n c a) = None
+note_of p entries (Grant n t) = None
+note_of p entries (Busy n t) = None
+note_of p entries (Over n c a) = None
+note_of p entries (Done n c a) = None
+note_of p entries (Muddled n c a) = None

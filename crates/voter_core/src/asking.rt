@@ -9,7 +9,7 @@ use lock_messages::Mode;
 use lock_model::Problem;
 
 /// The problem that the policy solves.
-pub fn problem_of(policy: &(dyn Admission + Send)) -> Problem
+pub(crate) fn problem_of(policy: &(dyn Admission + Send)) -> Problem
     ensures { result ≡ problem_of policy.now }
 {
     if policy.problem() == 1 {
@@ -20,7 +20,7 @@ pub fn problem_of(policy: &(dyn Admission + Send)) -> Problem
 }
 
 /// Whether both are the same problem.
-pub fn same_problem(a: Problem, b: Problem) -> bool
+pub(crate) fn same_problem(a: Problem, b: Problem) -> bool
     ensures { IsTrue result ↔ (a ≡ b) }
 {
     a == b
@@ -28,7 +28,7 @@ pub fn same_problem(a: Problem, b: Problem) -> bool
 
 /// Whether a reader is admitted, by the rule of the station's problem. The policy says so. No core
 /// has a policy of the other problem; such a one would not be asked.
-pub fn admits_reader(
+pub(crate) fn admits_reader(
     policy: &(dyn Admission + Send),
     problem: Problem,
     writer_holds: bool,
@@ -44,7 +44,7 @@ pub fn admits_reader(
 }
 
 /// Tells the policy what became of a new ticket: of a reader's once, of a writer's nothing.
-pub fn note(policy: &mut (dyn Admission + Send), mode: Mode, admitted: bool)
+pub(crate) fn note(policy: &mut (dyn Admission + Send), mode: Mode, admitted: bool)
     ensures reader { mode ≡ Mode.Read → (after : _) × notes policy.old admitted after × (policy.new ≡ (policy.old.0, after)) }
     ensures writer { mode ≡ Mode.Write → policy.new ≡ policy.old }
 {

@@ -1,21 +1,20 @@
 // A node's decision on a message, made in its entries.
 
-ghost use Rattle.std.specs.Prelude.{◌≡◌, ◌≢◌, ◌≤◌, ◌<◌, ◌+◌, ◌↔◌, [], length, Bool, true, nat_lt, is_ok, IfOk, OnOk, OnErr, IsTrue, slice_set, if◌then◌else◌};
+ghost use Rattle.std.specs.Prelude.{◌≡◌, ◌≢◌, ◌≤◌, ◌<◌, ◌+◌, ◌↔◌, [], length, Bool, true, Some, None, nat_lt, is_ok, IfOk, OnOk, OnErr, IsTrue, slice_set, if◌then◌else◌};
 ghost use Rattle.std.specs.Vec.{vec_len, vec_capacity};
 ghost use Rattle.lock_messages.specs.declared.ids.TheConstants.{MAX_CLIENTS};
 ghost use Rattle.lock_messages.specs.declared.messages.Message.{Message};
-ghost use Rattle.lock_messages.specs.declared.tickets.Mode.{Mode};
 ghost use Rattle.lock_messages.specs.Messages.{IsTicket, IsMessage, is_for_node};
 ghost use Rattle.lock_model.specs.Laws.{IsAllowed};
 ghost use Rattle.stable_record.specs.Records.{IsNodeRecord};
 ghost use Rattle.lock_model.specs.ExactStations.{EachOnce, entry_of, knows};
 ghost use Rattle.lock_model.specs.ExactDecisions.{ended, moved_last, takes_up, releases, decision, Changes, changes};
-ghost use Rattle.voter_core.specs.Voters.{ends_something};
+ghost use Rattle.voter_core.specs.Voters.{ends_something, is_admitted, note_for, note_of};
 
 use crate::asking::note;
 use crate::settling::{admits, settle};
 use admission_policy::Admission;
-use lock_messages::{Attempt, ClientId, Message, Mode, NodeId, Ticket};
+use lock_messages::{Attempt, ClientId, Message, NodeId, Ticket};
 use lock_model::laws::{changes_are_seen, decision_is_allowed};
 use lock_model::{Entry, Problem, new_entry, reply_to_known};
 use stable_record::laws::entries_are_few;
@@ -23,7 +22,7 @@ use stable_record::{Entries, NodeRecord};
 use std::alloc::{AllocError, Global};
 
 /// No replies yet, with room for the sender's and for a Grant to each client that has an entry then.
-pub fn room_for(alloc: Global, entries: &Entries) -> Result<Vec<Message>, AllocError>
+pub(crate) fn room_for(alloc: Global, entries: &Entries) -> Result<Vec<Message>, AllocError>
     requires { length entries.now ≤ MAX_CLIENTS }
     ensures { IfOk result (λ replies. (replies.items ≡ []) × (vec_len replies ≡ 0) × (length entries.now + 2 ≤ vec_capacity replies)) }
 {
@@ -114,8 +113,8 @@ fn take_up(
     requires room { length entries.old + 2 ≤ vec_capacity replies.old }
     ensures entries { entries.new ≡ (if is_ok result then (takes_up node problem entries.old ticket.now).entries else entries.old) }
     ensures replies { OnOk result (replies.new.items ≡ (takes_up node problem entries.old ticket.now).replies) }
-    ensures reader { OnOk result (ticket.now.mode ≡ Mode.Read → (admitted : Bool) × (after : _) × notes policy.old admitted after × (policy.new ≡ (policy.old.0, after))) }
-    ensures writer { OnOk result (ticket.now.mode ≡ Mode.Write → policy.new ≡ policy.old) }
+    ensures told { OnOk result ((b : Bool) → note_for ticket.now.mode (is_admitted problem entries.old ticket.now) ≡ Some b → (after : _) × notes policy.old b after × (policy.new ≡ (policy.old.0, after))) }
+    ensures untold { OnOk result (note_for ticket.now.mode (is_admitted problem entries.old ticket.now) ≡ None → policy.new ≡ policy.old) }
     ensures refused { OnErr result (policy.new ≡ policy.old) }
 {
     end(entries, ticket.client, ticket.attempt.get() - 1)?;
@@ -144,6 +143,9 @@ fn request(
     ensures entries { entries.new ≡ (if is_ok result then (decision problem entries.old (Message.Request node ticket.now)).entries else entries.old) }
     ensures replies { OnOk result (replies.new.items ≡ (decision problem entries.old (Message.Request node ticket.now)).replies) }
     ensures changed { IfOk result (λ b. IsTrue b ↔ Changes problem entries.old (Message.Request node ticket.now)) }
+    ensures told { OnOk result ((b : Bool) → note_of problem entries.old (Message.Request node ticket.now) ≡ Some b → (after : _) × notes policy.old b after × (policy.new ≡ (policy.old.0, after))) }
+    ensures untold { OnOk result (note_of problem entries.old (Message.Request node ticket.now) ≡ None → policy.new ≡ policy.old) }
+    ensures refused { OnErr result (policy.new ≡ policy.old) }
 {
     match reply_to_known(node, ticket, entries.entry_of(ticket.client)) {
         Some(reply) => {
@@ -159,7 +161,7 @@ fn request(
 
 /// Decides on a message: the entries after it, the replies behind none yet, and whether the entries
 /// changed. Memory is refused before anything has changed.
-pub fn decide(
+pub(crate) fn decide(
     policy: &mut (dyn Admission + Send),
     problem: Problem,
     entries: &mut Entries,
@@ -171,6 +173,10 @@ pub fn decide(
     ensures entries { entries.new ≡ (if is_ok result then (decision problem entries.old message.now).entries else entries.old) }
     ensures replies { OnOk result (replies.new.items ≡ (decision problem entries.old message.now).replies) }
     ensures changed { IfOk result (λ b. IsTrue b ↔ Changes problem entries.old message.now) }
+    // The policy is told once of a new reader's ticket, and of nothing else.
+    ensures told { OnOk result ((b : Bool) → note_of problem entries.old message.now ≡ Some b → (after : _) × notes policy.old b after × (policy.new ≡ (policy.old.0, after))) }
+    ensures untold { OnOk result (note_of problem entries.old message.now ≡ None → policy.new ≡ policy.old) }
+    ensures refused { OnErr result (policy.new ≡ policy.old) }
 {
     match message {
         Message::Request(node, ticket) => {
@@ -220,7 +226,7 @@ fn is_message(message: &Message)
 
 /// Computes nothing: after the decision on a message for this node the station is one that can be
 /// kept and read again, and the decision is one that the node may take.
-pub fn stays_a_record(station: &NodeRecord, node: NodeId, message: &Message)
+pub(crate) fn stays_a_record(station: &NodeRecord, node: NodeId, message: &Message)
     requires record { IsNodeRecord station.now }
     requires for_node { is_for_node message.now node ≡ true }
     ensures record { IsNodeRecord (record { policy = station.now.policy; entries = (decision station.now.policy station.now.entries message.now).entries }) }

@@ -11,7 +11,11 @@ use stable_record::{NodeRecord, RecordFault, read_node};
 use std::alloc::Global;
 
 /// The record of this problem that the bytes are.
-pub fn read_record(alloc: Global, bytes: &[u8], problem: Problem) -> Result<NodeRecord, VoterFault>
+pub(crate) fn read_record(
+    alloc: Global,
+    bytes: &[u8],
+    problem: Problem,
+) -> Result<NodeRecord, VoterFault>
     ensures found { IfOk result (λ r. IsRecordOf problem bytes.now r) }
     ensures refused { IfErr result (λ fault. IsRefusedFor problem bytes.now fault) }
     ensures only { (r : NodeRecord) → IsRecordOf problem bytes.now r → IfErr result (λ fault. fault ≡ VoterFault.Memory) }

@@ -15,7 +15,7 @@ use lock_model::{Entry, Live, Problem, Status};
 use stable_record::Entries;
 
 /// Whether a ticket in this mode for this resource is admitted among the entries.
-pub fn admits(
+pub(crate) fn admits(
     policy: &(dyn Admission + Send),
     problem: Problem,
     entries: &Entries,
@@ -101,7 +101,7 @@ fn settle_at(
 }
 
 /// Settles the entries, and adds the Grants of those that became holders.
-pub fn settle(
+pub(crate) fn settle(
     policy: &(dyn Admission + Send),
     problem: Problem,
     node: NodeId,

@@ -306,6 +306,59 @@ fn restarted_node(rt: HostRuntime) -> Result<(), Fail> {
     Ok(())
 }
 
+/// n1 with this record; where memory is refused it rises with the policy that was handed back.
+fn risen_at_last(
+    rt: &impl Abort,
+    alloc: Global,
+    bytes: &[u8],
+    policy: Box<dyn Admission + Send>,
+) -> Result<NodeCore, Fail> {
+    match NodeCore::rise(alloc, node()?, bytes, policy) {
+        Ok(core) => Ok(core),
+        Err((policy, fault)) => {
+            assert_eq!(rt; fault, VoterFault::Memory);
+            assert_eq!(rt; policy.tally(), (1, 0));
+            risen(alloc, bytes, policy)
+        }
+    }
+}
+
+/// Takes a message; where memory is refused the record is the same, and it is taken again.
+fn takes_at_last(
+    rt: &impl Abort,
+    alloc: Global,
+    core: &mut NodeCore,
+    message: &Message,
+) -> Result<bool, Fail> {
+    let Phase::Idle = core.phase() else {
+        return Err("it is idle".into());
+    };
+    if !message.is_for_node(core.node()) {
+        return Err("the message is for the node".into());
+    }
+    let before = core.next_bytes(alloc)?;
+    match core.take(message) {
+        Ok(changed) => return Ok(changed),
+        Err(fault) => assert_eq!(rt; fault, VoterFault::Memory),
+    }
+    assert_eq!(rt; core.phase(), Phase::Idle);
+    let after = core.next_bytes(alloc)?;
+    assert_eq!(rt; after.as_slice(), before.as_slice());
+    takes(core, message)
+}
+
+/// With each allocation of `rise` and `take` refused in turn it goes on.
+#[test]
+fn refused_memory(rt: HostRuntime) -> Result<(), Fail> {
+    let alloc = rt.alloc();
+    let policy: Box<dyn Admission + Send> = Box::new(alloc, told_once())?;
+    let mut core = risen_at_last(&rt, alloc, &WRITER_WAITS, policy)?;
+    assert!(rt; takes_at_last(&rt, alloc, &mut core, &request(4, 1, Mode::Read, "a")?)?);
+    assert_eq!(rt; core.replies(), 1);
+    assert_eq!(rt; core.fall().tally(), (1, 1));
+    Ok(())
+}
+
 /// The seed of the messages.
 const SEED: u64 = 1971;
 

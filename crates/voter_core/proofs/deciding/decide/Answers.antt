@@ -1,5 +1,7 @@
-use Rattle.std.proofs.Common.{◌↔◌, IsTrue, IfOk, subst, sym}
+use Rattle.std.proofs.Common.{◌↔◌, IsTrue, IfOk, subst, sym, ap, ◌∙◌}
 use Rattle.lock_model.specs.ExactDecisions.{Changes}
+use Rattle.voter_core.specs.Voters.{note_of}
+use Rattle.voter_core.proofs.ChangeFacts.{on-ok-map}
 use Rattle.voter_core.proofs.deciding.decide.Goals as goal
 
 pub returns-in-Request-clause-changed : goal.returns-in-Request-clause-changed
@@ -9,3 +11,7 @@ returns-in-Request-clause-changed g c =
 pub returns-in-Release-clause-changed : goal.returns-in-Release-clause-changed
 returns-in-Release-clause-changed g c =
     subst (λ m. IfOk c.release.result (λ b. IsTrue b ↔ Changes c.args.problem c.args.entries.now m)) (sym c.in-Release.is) c.release.ensures.changed
+
+pub returns-in-Request-clause-untold : goal.returns-in-Request-clause-untold
+returns-in-Request-clause-untold g c =
+    on-ok-map c.request.result _ _ (λ f h. f (ap (note_of c.args.problem c.args.entries.now) (sym c.in-Request.is) ∙ h)) c.request.ensures.untold
