@@ -1,4 +1,5 @@
 -- Words on guards.
+use Rattle.std.specs.Prelude.{◌≡◌}
 use Rattle.std.specs.Borrow.{GName}
 use Rattle.std.specs.Global.{Global}
 use Rattle.std.specs.declared.dyn_box.DynBox.{DynBox}
@@ -27,3 +28,7 @@ module _ {I : Type 0} {F : I → Type 0} where
   -- the ticket with which it entered
   abbrev pub entry_ticket : OwnedEntry I F → Ticket
   entry_ticket entry = entry.ticket
+
+  -- the box with a door of the same type in it, which meets P
+  abbrev pub HasDoor : (before after : DynBox I Global F) → (F before.vtable → Type 0) → Type 0
+  HasDoor before after P = (door : F before.vtable) × (after ≡ record before { value = door }) × P door

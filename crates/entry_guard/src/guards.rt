@@ -52,6 +52,10 @@ impl<'a, D: Door> EntryGuard<'a, D> {
 
     /// Enters, where the door may. `None` exactly where it may not; the door is then only asked, and
     /// unchanged.
+    ///
+    /// What a door ends as after a `None` is proved here for every type of door. A caller's proof
+    /// that the borrow checker makes learns it of a client core alone, by `enter_client`; at another
+    /// type such a caller asks `may_enter` first.
     pub fn enter(door: &'a mut D) -> Option<EntryGuard<'a, D>>
         ensures* unchanged_at_none { sem 𝓛 (RestsIfNone D.row door.entry lender_of result (λ last. last ≡ door.old)) }
         ensures entered { IsSome result ↔ D.can_enter door.old }

@@ -1,7 +1,7 @@
 // A guard over a door of its own.
 
 ghost use Rattle.std.specs.Prelude.{◌≡◌, ◌↔◌, true, false, Some, IsOk, IfOk, IfErr};
-ghost use Rattle.entry_guard.specs.Guards.{entry_door, entry_ticket};
+ghost use Rattle.entry_guard.specs.Guards.{entry_door, entry_ticket, HasDoor};
 
 use crate::Door;
 use lock_messages::Ticket;
@@ -18,6 +18,7 @@ pub struct OwnedEntry {
 /// The door, outside.
 fn left(door: Box<dyn Door + Send>) -> Box<dyn Door + Send>
     requires { Unit {0} }
+    ensures leaves { is_inside door ≡ true → HasDoor door result (leaves door) }
     ensures outside { is_inside result ≡ false }
 {
     let mut door = door;
@@ -39,6 +40,7 @@ impl OwnedEntry {
     pub fn enter(door: Box<dyn Door + Send>) -> Result<OwnedEntry, Box<dyn Door + Send>>
         requires { Unit {0} }
         ensures entered { IsOk result ↔ can_enter door }
+        ensures enters { IfOk result (λ entry. HasDoor door (entry_door entry) (enters door)) }
         ensures inside { IfOk result (λ entry. is_inside (entry_door entry) ≡ true) }
         ensures ticket { IfOk result (λ entry. ticket_of door ≡ Some (entry_ticket entry)) }
         ensures refused { IfErr result (λ back. back ≡ door) }
@@ -59,10 +61,11 @@ impl OwnedEntry {
         self.ticket
     }
 
-    /// The door, outside.
+    /// The door, outside: the one of the entry, which left.
     pub fn leave(self) -> Box<dyn Door + Send>
         requires { Unit {0} }
-        ensures { is_inside result ≡ false }
+        ensures leaves { is_inside (entry_door self) ≡ true → HasDoor (entry_door self) result (leaves (entry_door self)) }
+        ensures outside { is_inside result ≡ false }
     {
         let OwnedEntry { door, ticket: _ } = self;
         left(door)

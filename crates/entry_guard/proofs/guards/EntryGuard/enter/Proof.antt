@@ -1,4 +1,4 @@
--- `enter` keeps the guard of `guard_or_door`, and lets the door go that it got back instead: its borrow then ends at the value that it began with, for every door type. Assumes `Logic`.
+-- `enter` keeps the guard of `guard_or_door`. Where it gets the door back instead it lets it go, and the door's borrow ends at the value that it began with. This is shown once for every type of door. Assumes `Logic`.
 use mathlib.Core.Path.{◌≡◌, refl, sym, subst, ap, ◌∙◌}
 use mathlib.Core.Bool.{true}
 use mathlib.Core.Option as maybe
@@ -6,18 +6,18 @@ use mathlib.Core.List.{List, [], ◌∷◌, ◌++◌}
 use seplogic.Ra.Ura.{Ura}
 use lib.Dec.{T}
 use mir.Syntax.{Args, Fn, Ty, Dict, dcons, dnil, a_type, named}
-use mir.Val.{Val, vptr, vstruct, vcons, vnil, of_list, has_ty, WT}
+use mir.Val.{Val, vstruct, vcons, vnil, of_list, has_ty, WT}
 use mir.MapTy.{inst_fn}
-use base.Logic.{SProp, ent, sep, emp, ex_i, wand, via, id⊢, fst∗}
-use base.Fml.{Lft, GName, Share, Fml, ftrue, fsep, fex, feq, flft, fres, fauth, fobs, fbor}
-use prog.Wp.{Env, WpFn}
+use base.Logic.{SProp, ent, sep, emp, ex_i, wand, via, id⊢}
+use base.Fml.{Lft, GName, Share, Fml, ftrue, fsep, fex, feq, flft, fres, fauth}
+use prog.Wp.{WpFn}
 use prog.Model.{Model}
-use prog.Wired.{Wired}
 use types.Logic.{Logic, sem}
 use types.Kit.{⋆, ‵, raw, ◌⊛◌, some, later, ◌$◌, ◌∵◌, !, qed, by, move, keep, drop, use0, use1, split, split3, join, group, pick, await, rewrite, each, assume, fsplit, fsplit3, fpick, fjoin, fpack, feq_i, feq_l, suffices, frame, done}
 use types.Part.{whole, sub}
 use types.Run.{stop, fld, addr, of_opd, no_more, and_then, returns, enter}
 use types.ByLocal.{alloc_all, pass_all, free_all, look_at, get, get_in, through, sets, lands_as}
+use contract.Lifetimes.{AllOutlive}
 use contract.Monad.{fact, fact_i}
 use contract.Running.{Running, MachineTables, tables, tables_of}
 use contract.CodeStep
@@ -28,10 +28,9 @@ use denote.Follow.{follows, follows_if, follows_so, follows_by, such_by}
 use denote.Laws.{Is, Typed, shows}
 use denote.Memory.{lone}
 use denote.Param.{param, bounded}
-use denote.Param.Glue as Glue
 use denote.Param.Laws.{Laws, param_laws, is_one, row_shared, of_field}
 use denote.Param.Shared.{mut_ref_shared}
-use denote.RattleType.{RattleType, Valss, owns, flat}
+use denote.RattleType.{RattleType}
 use denote.Ref.{NamedLft, MutBor, MutRef, mut_vals, mut_Tells}
 use denote.Signature.{plain, named_lft}
 use denote.Steps.{heard, nothing, only, peeks}
@@ -39,7 +38,7 @@ use denote.Struct.Field.{mut_ref_field}
 use denote.Struct.Laws.{mut_ref_laws}
 use denote.Struct.Tuple.{Tuple, tuple_laws}
 use denote.Triple.Call.{calls_at}
-use denote.Triple.Clauses.{Ended, Clauses, closing, at_exit, lasts}
+use denote.Triple.Clauses.{Ended, Clauses, closing}
 use denote.Triple.Entry.{on_entry}
 use denote.Triple.Spec.{Meets, triple_of}
 use denote.Triple.Table.{entered, framed}
@@ -49,7 +48,6 @@ use Rattle.std.proofs.option.Option.TheLaws.{the_row_laws as option_laws}
 use Rattle.std.specs.Prelude.{◌↔◌, Option, None, Some, IsSome, IfSome, IfNone, OnSome}
 use Rattle.std.specs.Borrow.{RestsIfNone}
 use Rattle.entry_guard.specs.declared.doors.Door as Door
-use Rattle.entry_guard.specs.contracts.doors.Door.TheBound as Bound
 use Rattle.entry_guard.specs.contracts.guards.EntryGuard as Guard
 use Rattle.entry_guard.proofs.guards.EntryGuard.TheLaws.{the_row_laws as guard_laws}
 use Rattle.entry_guard.specs.Guards.{door_of, lender_of, guard_ticket}
@@ -91,7 +89,7 @@ module _ (Y : RattleType) (L : Laws Y) (h : Door.Ghosts Y.Denot) (d d' : Dict) {
   abbrev held : Clauses 𝓤 ended
   held = f.clauses Y h d d' 𝓛 𝓜.mem 𝓡.returns
 
-  module _ (κ κT : Lft) (q qT : Share) (bd : contract.Lifetimes.AllOutlive 2 ended.signature.outlives (κ, (κT, tt))) (door : MutBor Y.Denot) where
+  module _ (κ κT : Lft) (q qT : Share) (bd : AllOutlive 2 ended.signature.outlives (κ, (κT, tt))) (door : MutBor Y.Denot) where
     abbrev γ : GName
     γ = door.ghost_name
 
@@ -141,7 +139,7 @@ module _ (Y : RattleType) (L : Laws Y) (h : Door.Ghosts Y.Denot) (d d' : Dict) {
         let From : R.Denot → R.Denot → Fml = λ z w. fsep (feq R.Denot z w) (fauth γ (R.coded.code w)) in
         let said = qed 𝓛 [] ∵ each ! (λ (w : R.Denot). wand 𝓤 (A.res γ (R.coded.code w)) (A.res γ (R.coded.code w))) (λ w. assume ! (‵ (fres γ (R.coded.code w))) $ done !) in
         let back = qed 𝓛 [] ∵ each ! (λ (z : R.Denot). wand 𝓤 (A.auth γ (R.coded.code z)) (sem 𝓛 (fex R.Denot (From z)))) (λ z. assume ! (‵ (fauth γ (R.coded.code z))) $
-            feq_i ! R.Denot z z refl $ fjoin ! $ fpack ! R.Denot (From z) z $ done !) in
+        feq_i ! R.Denot z z refl $ fjoin ! $ fpack ! R.Denot (From z) z $ done !) in
         record { apply = λ r p. (said.apply r p, back.apply r p) }
 
     -- a function and a value that meet the clause's facts
