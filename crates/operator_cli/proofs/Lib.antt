@@ -7,3 +7,4 @@ pub mod StepFacts
 pub mod HeadFacts
 pub mod ScriptFacts
 pub mod ServeFacts
+pub mod LineLaws
