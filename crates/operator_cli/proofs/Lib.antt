@@ -6,3 +6,4 @@ pub mod TextFacts
 pub mod HeadFacts
 pub mod ScriptFacts
 pub mod ServeFacts
+pub mod LineLaws

@@ -4,3 +4,4 @@ pub mod Pieces
 pub mod Settings
 pub mod Texts
 pub mod Outputs
+pub mod Laws

@@ -11,7 +11,8 @@
 //! other), `Settings` (what a TOML document says, and what is wrong with it), `Texts` (how effects
 //! are written) and `Outputs`, which puts them together over the exact world of `world_machine`
 //! (`output_of`). Want of memory alone may put `settings fault 925` in its place. The input is
-//! streamed: beside the world, the settings and one line are all that is kept of it.
+//! streamed: beside the world, the settings and one line are all that is kept of it. `laws` says
+//! that each event and each number has one spelling.
 //!
 //! It stands on `lock_messages`, `lock_model`, `vote_weights`, `world_machine`, `toml` and
 //! `thiserror`.
@@ -22,6 +23,7 @@ mod answers;
 mod examples;
 mod faults;
 mod heads;
+pub mod laws;
 mod lines;
 mod pieces;
 mod script;
