@@ -1,6 +1,6 @@
 // Worked values: guards of client cores, and a door that counts how often it left.
 
-ghost use Rattle.std.specs.Prelude.{◌≡◌, false};
+ghost use Rattle.std.specs.Prelude.{◌≡◌, ◌↔◌, IsTrue, false};
 ghost use Rattle.client_core.specs.Calls.{MayEnter, entered, left, ReleasesAll};
 
 use crate::{Door, EntryGuard, OwnedEntry, enter_client};
@@ -109,6 +109,19 @@ fn by_a_return<D: Door>(door: &mut D, early: bool) -> Option<Ticket>
     Some(guard.ticket())
 }
 
+/// Whether the door may be entered, by entering and leaving. One that may not is asked first, and is
+/// unchanged.
+fn can_be_entered<D: Door>(door: &mut D) -> bool
+    ensures entered { IsTrue result ↔ D.can_enter door.old }
+    ensures left { D.can_enter door.old → D.is_inside door.new ≡ false }
+    ensures unchanged { (D.can_enter door.old → ⊥) → door.new ≡ door.old }
+{
+    if !door.may_enter() {
+        return false;
+    }
+    EntryGuard::enter(door).is_some()
+}
+
 /// The same with a client core, which is then idle after its attempt, and has its release to say to
 /// each node; a core that may not enter is unchanged.
 fn client_by_a_question_mark(core: &mut ClientCore, value: Option<u8>) -> Option<u8>
@@ -192,14 +205,18 @@ fn leaves_once(rt: HostRuntime) -> Result<(), Fail> {
     assert_eq!(rt; by_a_return(&mut door, false), Some(ticket()?));
     assert_eq!(rt; count.load(Ordering::SeqCst), 5);
 
+    assert!(rt; can_be_entered(&mut door));
+    assert_eq!(rt; count.load(Ordering::SeqCst), 6);
+
     // A door that may not enter, and a guard that is forgotten.
     door.may = false;
     to_the_end(&mut door);
+    assert!(rt; !can_be_entered(&mut door));
     assert!(rt; !door.within);
     door.may = true;
     mem::forget(EntryGuard::enter(&mut door));
     assert!(rt; door.within);
-    assert_eq!(rt; count.load(Ordering::SeqCst), 5);
+    assert_eq!(rt; count.load(Ordering::SeqCst), 6);
     Ok(())
 }
 

@@ -45,7 +45,7 @@ use denote.Triple.Table.{entered, framed}
 use denote.Triple.Walked.{Stays, stay_dropped, walk_of, ends_at, walked, Goes-spent_ref, walk_Meets}
 use Rattle.std.specs.contracts.option.Option as OP
 use Rattle.std.proofs.option.Option.TheLaws.{the_row_laws as option_laws}
-use Rattle.std.specs.Prelude.{◌↔◌, Option, None, Some, IsSome, IfSome, IfNone, OnSome}
+use Rattle.std.specs.Prelude.{◌↔◌, None, Some, IsSome, IfSome, IfNone, OnSome}
 use Rattle.std.specs.Borrow.{RestsIfNone}
 use Rattle.entry_guard.specs.declared.doors.Door as Door
 use Rattle.entry_guard.specs.contracts.guards.EntryGuard as Guard
