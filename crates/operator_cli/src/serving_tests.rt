@@ -56,6 +56,24 @@ fn play_settings(rt: &impl Abort, alloc: Global, head: &str, number: u16) -> Res
     play(rt, alloc, head.as_bytes(), expected.as_str(), 2)
 }
 
+/// All scripts of the folder `examples/`.
+#[test]
+fn worked_scripts(rt: HostRuntime) -> Result<(), Fail> {
+    let scripts = [
+        (FIRST_READER, FIRST_READER_OUT, 0),
+        (ENTER_AFTER_ONE_GRANT, ENTER_AFTER_ONE_GRANT_OUT, 1),
+        (REPEATED_GRANT, REPEATED_GRANT_OUT, 1),
+        (WRITER_BEHIND_READER, WRITER_BEHIND_READER_OUT, 1),
+        (SAY_BEFORE_KEPT, SAY_BEFORE_KEPT_OUT, 1),
+        (SETTINGS_REFUSED, SETTINGS_REFUSED_OUT, 2),
+        (BAD_LINE, BAD_LINE_OUT, 1),
+    ];
+    for (script, expected, status) in scripts {
+        play(&rt, rt.alloc(), script.as_bytes(), expected, status)?;
+    }
+    Ok(())
+}
+
 #[test]
 fn first_reader(rt: HostRuntime) -> Result<(), Fail> {
     let script = FIRST_READER.as_bytes();
