@@ -363,7 +363,12 @@ fn orders_of_settings_faults(rt: HostRuntime) -> Result<(), Fail> {
         ("vote = 1\nread = x\n", 924),
         ("votes = [1, 1]\nread = 1\nwrite = 1\n", 924),
         ("vote = 1\nvotes\n---\n", 921),
+        ("read = 70000\n", 924),
         ("read = 70000\nvotes\n---\n", 921),
+        (
+            "votes = []\nread = 1\nwrite = 1\nproblem = 1\nclients = 1\nx\n---\n",
+            921,
+        ),
         ("vote = 1\nread = 70000\n---\n", 923),
         (
             "vote = 1\nvotes = []\nread = 1\nwrite = 1\nproblem = 1\nclients = 1\n---\n",
