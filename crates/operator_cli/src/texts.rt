@@ -65,7 +65,11 @@ fn heard_text(heard: Heard) -> &'static str
 }
 
 /// What an event prints, in the world after it.
-pub fn effect_text(alloc: Global, world: &World, effect: &Effect) -> Result<String, AllocError>
+pub(crate) fn effect_text(
+    alloc: Global,
+    world: &World,
+    effect: &Effect,
+) -> Result<String, AllocError>
     requires { SaidFits (outcome_of effect.now) }
     ensures { IfOk result (λ s. string_bytes s ≡ outcome_text world.now.sent (outcome_of effect.now)) }
 {
