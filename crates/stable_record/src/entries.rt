@@ -144,19 +144,6 @@ impl Entries {
         }
     }
 
-    /// The entry at a place where there is one.
-    pub(crate) fn at(&self, place: usize) -> Entry
-        requires { place < length self.now }
-        ensures { slice_get self.now place ≡ Some result }
-    {
-        let (client, kept) = self.map.get_index(place).unwrap();
-        Entry {
-            client: *client,
-            floor: kept.floor,
-            live: kept.live,
-        }
-    }
-
     /// Whether the client has an entry.
     pub fn knows(&self, client: ClientId) -> bool
         ensures { result ≡ knows client self.now }
@@ -246,6 +233,34 @@ impl Entries {
         self.put_in_place(entry);
     }
 
+    /// Puts an entry behind the others. Its client has none yet.
+    pub(crate) fn put_last(&mut self, entry: Entry) -> Result<(), AllocError>
+        requires { knows entry.client self.old ≡ false }
+        ensures { self.new ≡ (if is_ok result then self.old ++ entry ∷ [] else self.old) }
+    {
+        let kept = Kept {
+            floor: entry.floor,
+            live: entry.live,
+        };
+        match self.map.insert(entry.client, kept) {
+            Ok(_) => Ok(()),
+            Err(_) => Err(AllocError),
+        }
+    }
+
+    /// The entry at a place where there is one.
+    pub(crate) fn at(&self, place: usize) -> Entry
+        requires { place < length self.now }
+        ensures { slice_get self.now place ≡ Some result }
+    {
+        let (client, kept) = self.map.get_index(place).unwrap();
+        Entry {
+            client: *client,
+            floor: kept.floor,
+            live: kept.live,
+        }
+    }
+
     /// Puts an entry behind the others, unless its client has one, and answers whether it did. The
     /// only error is want of memory, where it would have; then nothing has changed.
     pub fn push(&mut self, entry: Entry) -> Result<bool, AllocError>
@@ -268,21 +283,6 @@ impl Entries {
         }) {
             Ok(()) => Ok(true),
             Err(fault) => Err(fault),
-        }
-    }
-
-    /// Puts an entry behind the others. Its client has none yet.
-    pub(crate) fn put_last(&mut self, entry: Entry) -> Result<(), AllocError>
-        requires { knows entry.client self.old ≡ false }
-        ensures { self.new ≡ (if is_ok result then self.old ++ entry ∷ [] else self.old) }
-    {
-        let kept = Kept {
-            floor: entry.floor,
-            live: entry.live,
-        };
-        match self.map.insert(entry.client, kept) {
-            Ok(_) => Ok(()),
-            Err(_) => Err(AllocError),
         }
     }
 
