@@ -1,11 +1,13 @@
 -- What is read is spelled so, and what is spelled so is read.
-use Rattle.std.proofs.Common.{◌≡◌, ℕ, ◌^◌, cond, eqb, List, [], ◌∷◌, ◌++◌, length, Result, Ok, Err, refl, sym, ap, subst, ◌∙◌, append_assoc, arith}
+use Rattle.std.proofs.Common.{◌≡◌, ℕ, ◌≤◌, cond, eqb, inl, inr, List, [], ◌∷◌, ◌++◌, length, Result, Ok, Err, refl, sym, ap, subst, ◌∙◌, append_assoc, arith}
 use Rattle.std.specs.Prelude.{IfOk}
-use Rattle.std.specs.Int.{w32, w64, to_be_bytes}
+use Rattle.std.specs.Int.{Width, w32, w64, to_be_bytes}
 use Rattle.std.proofs.lemmas.Bool.{eqb-true}
 use Rattle.std.proofs.lemmas.List.{append-nil, nil_from_length}
 use Rattle.lock_messages.specs.declared.ids.TheConstants.{MAX_NODES, MAX_CLIENTS, MAX_ATTEMPT}
+use Rattle.lock_messages.specs.declared.names.TheConstants.{MAX_NAME_LEN}
 use Rattle.lock_messages.specs.declared.kinds.TheConstants.{VERSION}
+use Rattle.lock_messages.specs.declared.tickets.Mode.{Mode}
 use Rattle.lock_messages.specs.declared.kinds.Kind.{Kind}
 use Rattle.lock_messages.specs.declared.kinds.Kind.TheVariants as kinds
 use Rattle.lock_messages.specs.declared.faults.FrameFault.{FrameFault}
@@ -13,12 +15,137 @@ use Rattle.lock_messages.specs.declared.faults.FrameFault.TheVariants as faults
 use Rattle.lock_messages.specs.declared.tickets.Ticket.{Ticket}
 use Rattle.lock_messages.specs.declared.messages.Message.{Message}
 use Rattle.lock_messages.specs.declared.messages.Message.TheVariants.{Request, Release, Grant, Busy, Over, Done, Muddled}
+use Rattle.lock_messages.specs.Names.{IsName}
 use Rattle.lock_messages.specs.Ids.{IsNode, IsClient, IsAttempt}
 use Rattle.lock_messages.specs.Messages.{IsTicket, IsMessage}
 use Rattle.lock_messages.specs.Frames.{kind_number, head, wish, with_ticket, frame_of}
-use Rattle.lock_messages.specs.Reading.{◌>>=◌, version_at, kind_at, node_at, client_at, attempt_at, ticket_at, body_at, message_at, reading}
+use Rattle.lock_messages.specs.Fields.{◌>>=◌, byte_at, number_at, mode_number, mode_at, name_at, AreBytes, IsFieldWidth, FieldsAreExact}
+use Rattle.lock_messages.specs.Reading.{version_at, kind_at, node_at, client_at, attempt_at, length_at, ticket_at, body_at, message_at, reading}
 use Rattle.lock_messages.specs.Laws.{OneSpelling}
-use Rattle.lock_messages.proofs.FieldFacts.{IsBytes, bind_ok, bind_again, passed, ok_is, Takes, Takes-then, byte_takes, byte_again, wide32, wide64, number_takes, number_again, kind_takes, kind_again, ticket_takes, ticket_again}
+use Rattle.lock_messages.proofs.StepFacts.{bind_ok, bind_again, passed, chosen, done, ok_is, behind, Takes, takes, Takes-then}
+use Rattle.lock_messages.proofs.FieldFacts.{fields_exact}
+
+law : FieldsAreExact FrameFault
+law = fields_exact FrameFault
+
+-- ---- fields of a frame, what they take and that they are read again
+
+byte_takes : (least most : ℕ) (fault : FrameFault) (bytes : List ℕ) (x : ℕ × List ℕ) → AreBytes bytes → byte_at least most faults.Short fault bytes ≡ Ok x
+    → Takes bytes (x.0 ∷ []) x.1 × (least ≤ x.0) × (x.0 ≤ most)
+byte_takes least most fault bytes x fits e =
+    let h = (law.byte least most faults.Short fault bytes x.0 x.1).0 e in
+    (takes bytes (x.0 ∷ []) x.1 fits h.0, h.1, h.2)
+
+byte_again : (least most : ℕ) (fault : FrameFault) (b : ℕ) (rest : List ℕ) → least ≤ b → b ≤ most → byte_at least most faults.Short fault (b ∷ rest) ≡ Ok (b, rest)
+byte_again least most fault b rest low high = (law.byte least most faults.Short fault (b ∷ rest) b rest).1 (refl, low, high)
+
+number_takes : (w : Width) (of_w : IsFieldWidth w) (most : ℕ) (fault : FrameFault) (bytes : List ℕ) (x : ℕ × List ℕ) → AreBytes bytes → number_at w 1 most faults.Short fault bytes ≡ Ok x
+    → Takes bytes (to_be_bytes w x.0) x.1 × (1 ≤ x.0) × (x.0 ≤ most)
+number_takes w of_w most fault bytes x fits e =
+    let h = law.number w 1 most faults.Short fault bytes x.0 x.1 of_w fits e in
+    (takes bytes (to_be_bytes w x.0) x.1 fits h.0, h.1, h.2)
+
+is32 : IsFieldWidth w32
+is32 = inr (inl refl)
+
+is64 : IsFieldWidth w64
+is64 = inr (inr refl)
+
+mode_takes : (bytes : List ℕ) (x : Mode × List ℕ) → AreBytes bytes → mode_at faults.Short faults.Mode bytes ≡ Ok x → Takes bytes (mode_number x.0 ∷ []) x.1
+mode_takes bytes x fits e = takes bytes (mode_number x.0 ∷ []) x.1 fits ((law.mode faults.Short faults.Mode bytes x.0 x.1).0 e)
+
+mode_again : (m : Mode) (rest : List ℕ) → mode_at faults.Short faults.Mode (mode_number m ∷ rest) ≡ Ok (m, rest)
+mode_again m rest = (law.mode faults.Short faults.Mode (mode_number m ∷ rest) m rest).1 refl
+
+name_takes : (size : ℕ) (bytes : List ℕ) (x : List ℕ × List ℕ) → AreBytes bytes → 1 ≤ size → size ≤ MAX_NAME_LEN → name_at faults.Short faults.NameByte size bytes ≡ Ok x
+    → Takes bytes x.0 x.1 × (length x.0 ≡ size) × IsName x.0
+name_takes size bytes x fits low high e =
+    let h = (law.name faults.Short faults.NameByte size bytes x.0 x.1 low high).0 e in
+    (takes bytes x.0 x.1 fits h.0, h.1, h.2)
+
+name_again : (name rest : List ℕ) → IsName name → name_at faults.Short faults.NameByte (length name) (name ++ rest) ≡ Ok (name, rest)
+name_again name rest h = (law.name faults.Short faults.NameByte (length name) (name ++ rest) name rest (omega (arith, h.not_empty)) h.fits).1 (refl, refl, h)
+
+one_kind : (b : ℕ) (k : Kind) (rest : List ℕ) (x : Kind × List ℕ) → AreBytes (b ∷ rest) → b ≡ kind_number k → done {A = Kind × List ℕ} FrameFault (k, rest) ≡ Ok x → Takes (b ∷ rest) (kind_number x.0 ∷ []) x.1
+one_kind b k rest x fits h e =
+    subst (λ (y : Kind × List ℕ). Takes (b ∷ rest) (kind_number y.0 ∷ []) y.1) (ok_is (k, rest) x e)
+    (record { parts = ap (λ (n : ℕ). n ∷ rest) h; rest_fits = behind (b ∷ []) rest fits })
+
+kind_takes : (bytes : List ℕ) (x : Kind × List ℕ) → AreBytes bytes → kind_at bytes ≡ Ok x → Takes bytes (kind_number x.0 ∷ []) x.1
+kind_takes [] x fits e = absurd cc
+kind_takes (b ∷ rest) x fits e =
+    elim (chosen (eqb b 1) _ _ _ e) [
+      | inl h1 ↦ one_kind b kinds.Request rest x fits (eqb-true _ _ h1.0) h1.1
+      | inr n1 ↦ elim (chosen (eqb b 2) _ _ _ n1.1) [
+        | inl h2 ↦ one_kind b kinds.Release rest x fits (eqb-true _ _ h2.0) h2.1
+        | inr n2 ↦ elim (chosen (eqb b 3) _ _ _ n2.1) [
+          | inl h3 ↦ one_kind b kinds.Grant rest x fits (eqb-true _ _ h3.0) h3.1
+          | inr n3 ↦ elim (chosen (eqb b 4) _ _ _ n3.1) [
+            | inl h4 ↦ one_kind b kinds.Busy rest x fits (eqb-true _ _ h4.0) h4.1
+            | inr n4 ↦ elim (chosen (eqb b 5) _ _ _ n4.1) [
+              | inl h5 ↦ one_kind b kinds.Over rest x fits (eqb-true _ _ h5.0) h5.1
+              | inr n5 ↦ elim (chosen (eqb b 6) _ _ _ n5.1) [
+                | inl h6 ↦ one_kind b kinds.Done rest x fits (eqb-true _ _ h6.0) h6.1
+                | inr n6 ↦ elim (chosen (eqb b 7) _ _ _ n6.1) [
+                  | inl h7 ↦ one_kind b kinds.Muddled rest x fits (eqb-true _ _ h7.0) h7.1
+                  | inr n7 ↦ let bad : done FrameFault x ≡ Err faults.Kind = sym n7.1 in absurd cc
+                ]
+              ]
+            ]
+          ]
+        ]
+      ]
+    ]
+
+kind_again : (k : Kind) (rest : List ℕ) → kind_at (kind_number k ∷ rest) ≡ Ok (k, rest)
+kind_again kinds.Request rest = refl
+kind_again kinds.Release rest = refl
+kind_again kinds.Grant rest = refl
+kind_again kinds.Busy rest = refl
+kind_again kinds.Over rest = refl
+kind_again kinds.Done rest = refl
+kind_again kinds.Muddled rest = refl
+
+-- ---- tickets
+
+-- a ticket that was read from these bytes
+record TakesTicket (c a : ℕ) (bytes : List ℕ) (t : Ticket) (rest : List ℕ) : Type 0 where
+  pub taken : Takes bytes (wish t.mode t.resource) rest
+  pub named : IsName t.resource
+  pub client : t.client ≡ c
+  pub attempt : t.attempt ≡ a
+
+abbrev at_name : ℕ → ℕ → Mode → ℕ → List ℕ → Result (Ticket × List ℕ) FrameFault
+at_name c a m size bytes = name_at faults.Short faults.NameByte size bytes >>= λ name. Ok (record { client = c; attempt = a; mode = m; resource = name.0 }, name.1)
+
+abbrev at_length : ℕ → ℕ → Mode → List ℕ → Result (Ticket × List ℕ) FrameFault
+at_length c a m bytes = length_at bytes >>= λ size. at_name c a m size.0 size.1
+
+ticket_takes : (c a : ℕ) (bytes : List ℕ) (x : Ticket × List ℕ) → AreBytes bytes → ticket_at c a bytes ≡ Ok x → TakesTicket c a bytes x.0 x.1
+unfolding ticket_at
+ticket_takes c a bytes x fits e =
+    let m = bind_ok (mode_at faults.Short faults.Mode bytes) (λ mode. at_length c a mode.0 mode.1) x e in
+    let s = bind_ok (length_at m.0.1) (λ size. at_name c a m.0.0 size.0 size.1) x m.2 in
+    let r = bind_ok (name_at faults.Short faults.NameByte s.0.0 s.0.1) (λ name. Ok (record { client = c; attempt = a; mode = m.0.0; resource = name.0 }, name.1)) x s.2 in
+    let t1 = mode_takes bytes m.0 fits m.1 in
+    let t2 = byte_takes 1 MAX_NAME_LEN faults.NameLength m.0.1 s.0 t1.rest_fits s.1 in
+    let t3 = name_takes s.0.0 s.0.1 r.0 t2.0.rest_fits t2.1 t2.2 r.1 in
+    let t23 = Takes-then m.0.1 (s.0.0 ∷ []) s.0.1 r.0.0 r.0.1 t2.0 t3.0 in
+    let t123 = Takes-then bytes (mode_number m.0.0 ∷ []) m.0.1 (s.0.0 ∷ r.0.0) r.0.1 t1 t23 in
+    let whole : Takes bytes (wish m.0.0 r.0.0) r.0.1 = subst (λ (k : ℕ). Takes bytes (mode_number m.0.0 ∷ k ∷ r.0.0) r.0.1) (sym t3.1) t123 in
+    let made : Ticket × List ℕ = (record { client = c; attempt = a; mode = m.0.0; resource = r.0.0 }, r.0.1) in
+    subst (λ (y : Ticket × List ℕ). TakesTicket c a bytes y.0 y.1) (ok_is made x r.2) (record { taken = whole; named = t3.2; client = refl; attempt = refl })
+
+ticket_again : (t : Ticket) (rest : List ℕ) → IsName t.resource → ticket_at t.client t.attempt (wish t.mode t.resource ++ rest) ≡ Ok (t, rest)
+unfolding ticket_at
+ticket_again t rest named =
+    let b2 = t.resource ++ rest in
+    let b1 = length t.resource ∷ b2 in
+    bind_again (mode_at faults.Short faults.Mode (mode_number t.mode ∷ b1)) (λ mode. at_length t.client t.attempt mode.0 mode.1) (t.mode, b1) (mode_again t.mode b1)
+    ∙ bind_again (length_at b1) (λ size. at_name t.client t.attempt t.mode size.0 size.1) (length t.resource, b2) (byte_again 1 MAX_NAME_LEN faults.NameLength (length t.resource) b2 (omega (arith, named.not_empty)) named.fits)
+    ∙ bind_again (name_at faults.Short faults.NameByte (length t.resource) b2) (λ name. Ok (record { client = t.client; attempt = t.attempt; mode = t.mode; resource = name.0 }, name.1)) (t.resource, rest) (name_again t.resource rest named)
+
+-- ---- messages
 
 -- the reading from each field on
 abbrev at_attempt : Kind → ℕ → ℕ → List ℕ → Result (Message × List ℕ) FrameFault
@@ -45,7 +172,7 @@ record TakesBody (k : Kind) (n c a : ℕ) (bytes : List ℕ) (m : Message) (rest
 abbrev Carries : Kind → (ℕ → Ticket → Message) → Type 0
 Carries k message = (n : ℕ) (t : Ticket) → IsNode n → IsTicket t → IsMessage (message n t) × (with_ticket k n t ≡ frame_of (message n t))
 
-ticket_body : (k : Kind) (message : ℕ → Ticket → Message) (carries : Carries k message) (n c a : ℕ) (bytes : List ℕ) (x : Message × List ℕ) → IsBytes bytes → IsNode n → IsClient c → IsAttempt a
+ticket_body : (k : Kind) (message : ℕ → Ticket → Message) (carries : Carries k message) (n c a : ℕ) (bytes : List ℕ) (x : Message × List ℕ) → AreBytes bytes → IsNode n → IsClient c → IsAttempt a
     → (ticket_at c a bytes >>= λ t. Ok (message n t.0, t.1)) ≡ Ok x → TakesBody k n c a bytes x.0 x.1
 ticket_body k message carries n c a bytes x fits hn hc ha e =
     let b = bind_ok (ticket_at c a bytes) (λ t. Ok (message n t.0, t.1)) x e in
@@ -57,13 +184,13 @@ ticket_body k message carries n c a bytes x fits hn hc ha e =
     subst (λ (y : Message × List ℕ). TakesBody k n c a bytes y.0 y.1) (ok_is made x b.2)
     (record { text = wish b.0.0.mode b.0.0.resource; taken = t.taken; spelled = same ∙ law.1; fits = law.0 })
 
-plain_body : (k : Kind) (m : Message) (n c a : ℕ) (bytes : List ℕ) (x : Message × List ℕ) → IsBytes bytes → IsMessage m → head k n c a ≡ frame_of m
+plain_body : (k : Kind) (m : Message) (n c a : ℕ) (bytes : List ℕ) (x : Message × List ℕ) → AreBytes bytes → IsMessage m → head k n c a ≡ frame_of m
     → (m, bytes) ≡ x → TakesBody k n c a bytes x.0 x.1
 plain_body k m n c a bytes x fits in_range spelled e =
     subst (λ (y : Message × List ℕ). TakesBody k n c a bytes y.0 y.1) e
     (record { text = []; taken = record { parts = refl; rest_fits = fits }; spelled = append-nil (head k n c a) ∙ spelled; fits = in_range })
 
-body_takes : (k : Kind) (n c a : ℕ) (bytes : List ℕ) (x : Message × List ℕ) → IsBytes bytes → IsNode n → IsClient c → IsAttempt a
+body_takes : (k : Kind) (n c a : ℕ) (bytes : List ℕ) (x : Message × List ℕ) → AreBytes bytes → IsNode n → IsClient c → IsAttempt a
     → body_at k n c a bytes ≡ Ok x → TakesBody k n c a bytes x.0 x.1
 body_takes kinds.Request n c a bytes x fits hn hc ha e = ticket_body kinds.Request Request (λ n t p q. ((p, q), refl)) n c a bytes x fits hn hc ha e
 body_takes kinds.Release n c a bytes x fits hn hc ha e = plain_body kinds.Release (Release n c a) n c a bytes x fits (hn, hc, ha) refl (ok_is (Release n c a, bytes) x e)
@@ -73,7 +200,7 @@ body_takes kinds.Over n c a bytes x fits hn hc ha e = plain_body kinds.Over (Ove
 body_takes kinds.Done n c a bytes x fits hn hc ha e = plain_body kinds.Done (Done n c a) n c a bytes x fits (hn, hc, ha) refl (ok_is (Done n c a, bytes) x e)
 body_takes kinds.Muddled n c a bytes x fits hn hc ha e = plain_body kinds.Muddled (Muddled n c a) n c a bytes x fits (hn, hc, ha) refl (ok_is (Muddled n c a, bytes) x e)
 
-version_takes : (bytes : List ℕ) (x : ℕ × List ℕ) → IsBytes bytes → version_at bytes ≡ Ok x → Takes bytes (VERSION ∷ []) x.1
+version_takes : (bytes : List ℕ) (x : ℕ × List ℕ) → AreBytes bytes → version_at bytes ≡ Ok x → Takes bytes (VERSION ∷ []) x.1
 version_takes bytes x fits e =
     let t = byte_takes VERSION VERSION faults.Version bytes x fits e in
     let is : x.0 ≡ VERSION = omega (arith, t.1, t.2) in
@@ -95,7 +222,7 @@ fields_take bytes r1 r2 r3 r4 r5 rest k n c a m version kind node client attempt
     let whole : Takes bytes (head k n c a ++ body.text) rest = Takes-then bytes (VERSION ∷ []) r1 (kind_number k ∷ n ∷ (to_be_bytes w32 c ++ (to_be_bytes w64 a ++ body.text))) rest version from_kind in
     record { taken = subst (λ (t : List ℕ). Takes bytes t rest) body.spelled whole; fits = body.fits }
 
-message_takes : (bytes : List ℕ) (x : Message × List ℕ) → IsBytes bytes → message_at bytes ≡ Ok x → TakesMessage bytes x.0 x.1
+message_takes : (bytes : List ℕ) (x : Message × List ℕ) → AreBytes bytes → message_at bytes ≡ Ok x → TakesMessage bytes x.0 x.1
 unfolding message_at
 message_takes bytes x fits e =
     let v = bind_ok (version_at bytes) (λ version. at_kind version.1) x e in
@@ -106,12 +233,12 @@ message_takes bytes x fits e =
     let tv = version_takes bytes v.0 fits v.1 in
     let tk = kind_takes v.0.1 k.0 tv.rest_fits k.1 in
     let tn = byte_takes 1 MAX_NODES faults.Node k.0.1 n.0 tk.rest_fits n.1 in
-    let tc = number_takes w32 (2 ^ 32) wide32 MAX_CLIENTS faults.Client n.0.1 c.0 tn.0.rest_fits c.1 in
-    let ta = number_takes w64 (2 ^ 64) wide64 MAX_ATTEMPT faults.Attempt c.0.1 a.0 tc.0.rest_fits a.1 in
+    let tc = number_takes w32 is32 MAX_CLIENTS faults.Client n.0.1 c.0 tn.0.rest_fits c.1 in
+    let ta = number_takes w64 is64 MAX_ATTEMPT faults.Attempt c.0.1 a.0 tc.0.rest_fits a.1 in
     let tb = body_takes k.0.0 n.0.0 c.0.0 a.0.0 a.0.1 x ta.0.rest_fits (tn.1, tn.2) (tc.1, tc.2) (ta.1, ta.2) a.2 in
     fields_take bytes v.0.1 k.0.1 n.0.1 c.0.1 a.0.1 x.1 k.0.0 n.0.0 c.0.0 a.0.0 x.0 tv tk tn.0 tc.0 ta.0 tb
 
-reading_takes : (bytes : List ℕ) (m : Message) → IsBytes bytes → reading bytes ≡ Ok m → IsMessage m × (bytes ≡ frame_of m)
+reading_takes : (bytes : List ℕ) (m : Message) → AreBytes bytes → reading bytes ≡ Ok m → IsMessage m × (bytes ≡ frame_of m)
 unfolding reading
 reading_takes bytes m fits e =
     let b = bind_ok (message_at bytes) (λ x. cond (eqb (length x.1) 0) (Ok x.0) (Err faults.Trailing)) m e in
@@ -121,7 +248,7 @@ reading_takes bytes m fits e =
     let whole : bytes ≡ frame_of b.0.0 = t.taken.parts ∙ ap (λ (r : List ℕ). frame_of b.0.0 ++ r) nothing ∙ append-nil (frame_of b.0.0) in
     subst (λ (y : Message). IsMessage y × (bytes ≡ frame_of y)) g.1 (t.fits, whole)
 
-pub is_found : (bytes : List ℕ) (r : Result Message FrameFault) → IsBytes bytes → r ≡ reading bytes → IfOk r (λ m. IsMessage m × (bytes ≡ frame_of m))
+pub is_found : (bytes : List ℕ) (r : Result Message FrameFault) → AreBytes bytes → r ≡ reading bytes → IfOk r (λ m. IsMessage m × (bytes ≡ frame_of m))
 is_found bytes (Ok m) fits e = reading_takes bytes m fits (sym e)
 is_found bytes (Err d) fits e = tt
 
@@ -137,8 +264,8 @@ head_again k n c a rest hn hc ha =
     bind_again (version_at (VERSION ∷ b1)) (λ version. at_kind version.1) (VERSION, b1) refl
     ∙ bind_again (kind_at b1) (λ kind. at_node kind.0 kind.1) (k, b2) (kind_again k b2)
     ∙ bind_again (node_at b2) (λ node. at_client k node.0 node.1) (n, b3) (byte_again 1 MAX_NODES faults.Node n b3 hn.0 hn.1)
-    ∙ bind_again (client_at b3) (λ client. at_attempt k n client.0 client.1) (c, b4) (number_again w32 (2 ^ 32) wide32 MAX_CLIENTS faults.Client c b4 (omega arith) hc.0 hc.1)
-    ∙ bind_again (attempt_at b4) (λ attempt. body_at k n c attempt.0 attempt.1) (a, rest) (number_again w64 (2 ^ 64) wide64 MAX_ATTEMPT faults.Attempt a rest (omega arith) ha.0 ha.1)
+    ∙ bind_again (client_at b3) (λ client. at_attempt k n client.0 client.1) (c, b4) (law.number_again w32 1 MAX_CLIENTS faults.Short faults.Client c b4 is32 (omega arith) hc.0 hc.1)
+    ∙ bind_again (attempt_at b4) (λ attempt. body_at k n c attempt.0 attempt.1) (a, rest) (law.number_again w64 1 MAX_ATTEMPT faults.Short faults.Attempt a rest is64 (omega arith) ha.0 ha.1)
 
 ticket_frame_again : (k : Kind) (n : ℕ) (t : Ticket) (rest : List ℕ) → IsNode n → IsTicket t
     → message_at (with_ticket k n t ++ rest) ≡ body_at k n t.client t.attempt (wish t.mode t.resource ++ rest)

@@ -1,3 +1,4 @@
 pub mod NameFacts
+pub mod StepFacts
 pub mod FieldFacts
 pub mod FrameFacts

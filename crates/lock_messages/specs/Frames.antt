@@ -5,10 +5,10 @@ use Rattle.lock_messages.specs.declared.kinds.TheConstants.{VERSION}
 use Rattle.lock_messages.specs.declared.kinds.Kind.{Kind}
 use Rattle.lock_messages.specs.declared.kinds.Kind.TheVariants as kinds
 use Rattle.lock_messages.specs.declared.tickets.Mode.{Mode}
-use Rattle.lock_messages.specs.declared.tickets.Mode.TheVariants.{Read, Write}
 use Rattle.lock_messages.specs.declared.tickets.Ticket.{Ticket}
 use Rattle.lock_messages.specs.declared.messages.Message.{Message}
 use Rattle.lock_messages.specs.declared.messages.Message.TheVariants.{Request, Release, Grant, Busy, Over, Done, Muddled}
+use Rattle.lock_messages.specs.Fields.{mode_number}
 
 abbrev pub kind_number : Kind → ℕ
 kind_number kinds.Request = 1
@@ -18,10 +18,6 @@ kind_number kinds.Busy = 4
 kind_number kinds.Over = 5
 kind_number kinds.Done = 6
 kind_number kinds.Muddled = 7
-
-abbrev pub mode_number : Mode → ℕ
-mode_number Read = 0
-mode_number Write = 1
 
 -- one byte each for the version, the kind and the node, four for the client, eight for the attempt
 abbrev pub head : Kind → ℕ → ℕ → ℕ → List ℕ

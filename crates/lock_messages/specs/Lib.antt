@@ -1,5 +1,6 @@
 pub mod Ids
 pub mod Names
+pub mod Fields
 pub mod Messages
 pub mod Texts
 pub mod Frames

@@ -27,7 +27,7 @@ mod writing;
 pub use faults::FrameFault;
 pub use ids::{Actor, Attempt, ClientId, MAX_ATTEMPT, MAX_CLIENTS, MAX_NODES, NodeId};
 pub use messages::Message;
-pub use names::{MAX_NAME_LEN, ResourceName};
+pub use names::{MAX_NAME_LEN, ResourceName, has_name_bytes};
 pub use reading::decode;
 pub use tickets::{Mode, Ticket};
 pub use writing::encode;

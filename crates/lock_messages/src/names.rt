@@ -56,8 +56,8 @@ fn room_of(bytes: &[u8]) -> Option<[u8; MAX_NAME_LEN]>
     Some(room)
 }
 
-/// Whether a name may have each of these bytes.
-pub(crate) fn has_name_bytes(bytes: &[u8]) -> bool
+/// Whether a name may have each of these bytes, however many they are.
+pub fn has_name_bytes(bytes: &[u8]) -> bool
     ensures { result ≡ list_all is_name_byte bytes.now }
 {
     bytes.iter().all(|b| is_name_byte(*b))

@@ -4,7 +4,8 @@ ghost use Rattle.std.specs.Prelude.{◌≡◌, ◌≤◌, IfOk};
 ghost use Rattle.lock_messages.specs.declared.messages.Message.{Message};
 ghost use Rattle.lock_messages.specs.Messages.{IsMessage};
 ghost use Rattle.lock_messages.specs.Frames.{frame_of};
-ghost use Rattle.lock_messages.specs.Reading.{Gives, version_at, kind_at, node_at, client_at, attempt_at, mode_at, length_at, name_at, ticket_at, body_at, message_at, reading};
+ghost use Rattle.lock_messages.specs.Fields.{Gives, mode_at, name_at};
+ghost use Rattle.lock_messages.specs.Reading.{version_at, kind_at, node_at, client_at, attempt_at, length_at, ticket_at, body_at, message_at, reading};
 
 use crate::kinds::{Kind, VERSION};
 use crate::names::has_name_bytes;
@@ -84,7 +85,7 @@ impl Unread<'_> {
     }
 
     fn mode(&mut self) -> Result<Mode, FrameFault>
-        ensures { Gives result self.new.bytes.now (mode_at self.old.bytes.now) }
+        ensures { Gives result self.new.bytes.now (mode_at FrameFault.Short FrameFault.Mode self.old.bytes.now) }
     {
         let [byte, rest @ ..] = self.bytes else {
             return Err(FrameFault::Short);
@@ -113,7 +114,7 @@ impl Unread<'_> {
 
     fn name(&mut self, size: usize) -> Result<ResourceName, FrameFault>
         requires { (1 ≤ size) × (size ≤ MAX_NAME_LEN) }
-        ensures { Gives result self.new.bytes.now (name_at size self.old.bytes.now) }
+        ensures { Gives result self.new.bytes.now (name_at FrameFault.Short FrameFault.NameByte size self.old.bytes.now) }
     {
         let Some((name, rest)) = self.bytes.split_at_checked(size) else {
             // A wrong byte stands before a missing one.

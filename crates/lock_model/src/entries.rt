@@ -47,7 +47,7 @@ impl Live {
     }
 
     /// Whether it holds the resource.
-    fn holds(&self, resource: &ResourceName) -> bool
+    pub fn holds(&self, resource: &ResourceName) -> bool
         ensures { result ≡ holds resource.now self.now }
     {
         match self.status {
@@ -57,7 +57,7 @@ impl Live {
     }
 
     /// Whether it is a writer's that holds the resource.
-    fn writer_holds(&self, resource: &ResourceName) -> bool
+    pub fn writer_holds(&self, resource: &ResourceName) -> bool
         ensures { result ≡ writer_holds resource.now self.now }
     {
         match self.mode {
@@ -67,7 +67,7 @@ impl Live {
     }
 
     /// Whether it is a writer's that waits for the resource.
-    fn writer_waits(&self, resource: &ResourceName) -> bool
+    pub fn writer_waits(&self, resource: &ResourceName) -> bool
         ensures { result ≡ writer_waits resource.now self.now }
     {
         match self.mode {

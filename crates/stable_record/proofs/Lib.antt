@@ -1,3 +1,4 @@
+pub mod StepFacts
 pub mod MapFacts
 pub mod FieldFacts
 pub mod RecordFacts

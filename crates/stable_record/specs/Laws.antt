@@ -1,11 +1,12 @@
 -- What follows from the definitions, as statements; each is proved as the contract of a function of
 -- `laws`.
-use Rattle.std.specs.Prelude.{◌≡◌, ℕ, ◌≤◌, List, ◌++◌, length}
+use Rattle.std.specs.Prelude.{◌≡◌, ℕ, ◌+◌, ◌%◌, ◌≤◌, List, ◌++◌, length}
 use Rattle.std.specs.List.{AllByRecursion}
 use Rattle.lock_messages.specs.declared.ids.TheConstants.{MAX_CLIENTS, MAX_ATTEMPT}
 use Rattle.lock_model.specs.declared.entries.Entry.{Entry}
 use Rattle.lock_model.specs.ExactStations.{EachOnce}
 use Rattle.stable_record.specs.declared.node_records.NodeRecord.{NodeRecord}
+use Rattle.stable_record.specs.Faulty.{Faulty, next_call}
 use Rattle.stable_record.specs.Records.{IsEntry, IsNodeRecord, node_record_of, client_record_of}
 
 -- Where the spellings of two records, each followed by any bytes, are the same bytes, the records
@@ -23,3 +24,8 @@ OneClientSpelling = (a b : ℕ) (xs ys : List ℕ) → a ≤ MAX_ATTEMPT → b �
 -- entries in range, of each client one at most, are no more than there are clients
 abbrev pub EntriesAreFew : Type 0
 EntriesAreFew = (entries : List Entry) → EachOnce entries → AllByRecursion IsEntry entries → length entries ≤ MAX_CLIENTS
+
+-- The number of a failing device's next call leaves the same rest as one more than the number of the
+-- last; so of any `every` calls in a row just one fails, however many there are.
+abbrev pub CallsGoOn : Type 0
+CallsGoOn = (f : Faulty) → next_call f % f.every ≡ (f.calls + 1) % f.every

@@ -1,13 +1,9 @@
--- Reading records from the front: the record, or the first fault that is met. A field is read as its
--- value and the bytes behind it.
-use Rattle.std.specs.Prelude.{◌≡◌, ◌⊎◌, ℕ, zero, suc, ◌+◌, ◌≤◌, Bool, ◌&&◌, ◌==◌, nat_le, nat_lt, if◌then◌else◌, List, [], ◌∷◌, ◌++◌, length, take, drop, Option, Some, None, Result, Ok, Err, IsOk}
-use Rattle.std.specs.Int.{Width, w16, w32, w64, byte_len, from_be_bytes}
-use Rattle.std.specs.List.{list_all}
+-- Reading records from the front: the record, or the first fault that is met.
+use Rattle.std.specs.Prelude.{◌≡◌, ◌⊎◌, ℕ, zero, suc, ◌+◌, ◌≤◌, ◌==◌, if◌then◌else◌, List, [], ◌∷◌, ◌++◌, length, Option, Some, None, Result, Ok, Err, IsOk}
+use Rattle.std.specs.Int.{w16, w32, w64}
 use Rattle.lock_messages.specs.declared.ids.TheConstants.{MAX_CLIENTS, MAX_ATTEMPT}
 use Rattle.lock_messages.specs.declared.names.TheConstants.{MAX_NAME_LEN}
-use Rattle.lock_messages.specs.declared.tickets.Mode.{Mode}
-use Rattle.lock_messages.specs.declared.tickets.Mode.TheVariants.{Read, Write}
-use Rattle.lock_messages.specs.Names.{is_name_byte}
+use Rattle.lock_messages.specs.Fields.{◌>>=◌, byte_at, number_at, mode_at, name_at}
 use Rattle.lock_model.specs.declared.entries.Entry.{Entry}
 use Rattle.lock_model.specs.declared.entries.Live.{Live}
 use Rattle.lock_model.specs.declared.entries.Status.{Status}
@@ -21,18 +17,8 @@ use Rattle.stable_record.specs.declared.formats.TheConstants.{VERSION}
 use Rattle.stable_record.specs.declared.node_records.NodeRecord.{NodeRecord}
 use Rattle.lock_model.specs.Judgement.{is_lawful, is_caused}
 
-infixl 10 ◌>>=◌
--- the next field is read where no fault was met
-abbrev pub ◌>>=◌ : {A B : Type 0} → Result A RecordFault → (A → Result B RecordFault) → Result B RecordFault
-(Ok x) >>= f = f x
-(Err e) >>= f = Err e
-
--- what a function answered, and the bytes that it left, are what reading gives
-abbrev pub Gives : {X : Type 0} → Result X RecordFault → List ℕ → Result (X × List ℕ) RecordFault → Type 0
-Gives (Ok x) left read = read ≡ Ok (x, left)
-Gives (Err e) left read = read ≡ Err e
-
--- the same, unless memory was refused while the bytes were good
+-- what a function answered, and the bytes that it left, are what reading gives, unless memory was
+-- refused while the bytes were good
 abbrev pub GivesOr : {X : Type 0} → Type 0 → Result X RecordFault → List ℕ → Result (X × List ℕ) RecordFault → Type 0
 GivesOr good (Ok x) left read = read ≡ Ok (x, left)
 GivesOr good (Err e) left read = ((e ≡ faults.NoMemory) × good) ⊎ (read ≡ Err e)
@@ -45,22 +31,6 @@ LeavesOr (Err e) left read = ((e ≡ faults.NoMemory) × IsOk read) ⊎ (read �
 -- what a function answered is what reading gives, unless memory was refused while the bytes were good
 abbrev pub IsOrRefused : {X : Type 0} → Type 0 → Result X RecordFault → Result X RecordFault → Type 0
 IsOrRefused good result read = ((result ≡ Err faults.NoMemory) × good) ⊎ (result ≡ read)
-
-abbrev pub is_between : ℕ → ℕ → ℕ → Bool
-is_between least most n = nat_le least n && nat_le n most
-
--- a byte from least to most; none is short, and another one is the fault
-abbrev pub byte_at : ℕ → ℕ → RecordFault → RecordFault → List ℕ → Result (ℕ × List ℕ) RecordFault
-byte_at least most missing fault [] = Err missing
-byte_at least most missing fault (b ∷ rest) = if is_between least most b then Ok (b, rest) else Err fault
-
--- a number of this width from least to most; one that isn't wholly there is short, and another one is the fault
-abbrev pub number_at : Width → ℕ → ℕ → RecordFault → RecordFault → List ℕ → Result (ℕ × List ℕ) RecordFault
-number_at w least most missing fault bytes =
-    if nat_lt (length bytes) (byte_len w) then Err missing
-    else (if is_between least most (from_be_bytes w (take (byte_len w) bytes))
-    then Ok (from_be_bytes w (take (byte_len w) bytes), drop (byte_len w) bytes)
-    else Err fault)
 
 -- ---- a node's record
 
@@ -99,30 +69,16 @@ abbrev pub attempt_at : ℕ → List ℕ → Result (ℕ × List ℕ) RecordFaul
 attempt_at floor bytes = number_at w64 1 MAX_ATTEMPT faults.Short faults.EntryField bytes >>= λ a.
     if a.0 == floor + 1 then Ok a else Err faults.AttemptNotNext
 
-abbrev pub mode_at : List ℕ → Result (Mode × List ℕ) RecordFault
-mode_at [] = Err faults.Short
-mode_at (b ∷ rest) =
-    if b == 0 then Ok (Read, rest)
-    else (if b == 1 then Ok (Write, rest)
-    else Err faults.EntryField)
-
 abbrev pub length_at : List ℕ → Result (ℕ × List ℕ) RecordFault
 length_at bytes = byte_at 1 MAX_NAME_LEN faults.Short faults.EntryField bytes
-
--- so many bytes of a name; a wrong one that is there stands before one that is missing
-abbrev pub name_at : ℕ → List ℕ → Result (List ℕ × List ℕ) RecordFault
-name_at size bytes =
-    if list_all is_name_byte (take size bytes)
-    then (if nat_lt (length bytes) size then Err faults.Short else Ok (take size bytes, drop size bytes))
-    else Err faults.EntryField
 
 -- the ticket of a client with this floor
 unfoldable pub ticket_at : ℕ → Status → List ℕ → Result (Live × List ℕ) RecordFault
 ticket_at floor status bytes = do
   attempt ← attempt_at floor bytes
-  mode ← mode_at attempt.1
+  mode ← mode_at faults.Short faults.EntryField attempt.1
   size ← length_at mode.1
-  name ← name_at size.0 size.1
+  name ← name_at faults.Short faults.EntryField size.0 size.1
   Ok (record { attempt = attempt.0; mode = mode.0; resource = name.0; status = status }, name.1)
 
 abbrev pub live_at : ℕ → Option Status → List ℕ → Result (Option Live × List ℕ) RecordFault

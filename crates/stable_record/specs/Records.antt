@@ -3,8 +3,7 @@ use Rattle.std.specs.Prelude.{ℕ, ◌≤◌, List, [], ◌∷◌, ◌++◌, len
 use Rattle.std.specs.List.{flat_map, AllByRecursion}
 use Rattle.std.specs.Int.{w16, w32, w64, to_be_bytes}
 use Rattle.lock_messages.specs.declared.ids.TheConstants.{MAX_CLIENTS, MAX_ATTEMPT}
-use Rattle.lock_messages.specs.declared.tickets.Mode.{Mode}
-use Rattle.lock_messages.specs.declared.tickets.Mode.TheVariants.{Read, Write}
+use Rattle.lock_messages.specs.Fields.{mode_number}
 use Rattle.lock_messages.specs.Ids.{IsClient, IsAttempt}
 use Rattle.lock_messages.specs.Names.{IsName}
 use Rattle.lock_model.specs.declared.entries.Entry.{Entry}
@@ -25,10 +24,6 @@ policy_number Second = 2
 abbrev pub status_number : Status → ℕ
 status_number Waiting = 1
 status_number Holding = 2
-
-abbrev pub mode_number : Mode → ℕ
-mode_number Read = 0
-mode_number Write = 1
 
 -- a ticket's attempt, mode and name, behind the byte that says that there is one
 abbrev pub ticket_bytes : Live → List ℕ

@@ -54,5 +54,6 @@ pub fn read_client(bytes: &[u8]) -> Result<u64, RecordFault>
     // Which fault it is.
     ensures exact { result ≡ client_reading bytes.now }
 {
+    lock_messages::laws::fields_are_exact::<RecordFault>();
     whole(bytes)
 }

@@ -1,7 +1,8 @@
 // Entries in the order of arrival, each client once.
 
-ghost use Rattle.std.specs.Prelude.{◌≡◌, ◌==◌, ◌||◌, ◌<◌, ◌↔◌, ◌++◌, ◌∷◌, [], length, true, false, Some, not, is_ok, IsOk, IfOk, IsTrue, ◌&&◌, slice_get, if◌then◌else◌};
+ghost use Rattle.std.specs.Prelude.{◌≡◌, ◌==◌, ◌||◌, ◌<◌, ◌≤◌, ◌↔◌, ◌++◌, ◌∷◌, [], length, true, false, Some, not, is_ok, IsOk, IfOk, IsTrue, ◌&&◌, slice_get, if◌then◌else◌};
 ghost use Rattle.std.specs.List.{list_any, list_all};
+ghost use Rattle.lock_messages.specs.declared.ids.TheConstants.{MAX_CLIENTS};
 ghost use Rattle.lock_messages.specs.declared.tickets.Mode.{Mode};
 ghost use Rattle.lock_model.specs.ExactStations.{knows, entry_of, EachOnce, if_live, any_live, holds, writer_holds, writer_waits, admits};
 ghost use Rattle.lock_model.specs.ExactDecisions.{moved_last};
@@ -9,7 +10,7 @@ ghost use Rattle.stable_record.specs.EntryLists.{entries_in, replaced};
 ghost use Rattle.lock_model.specs.Judgement.{leaves_alone, is_lawful, has_cause, is_caused};
 
 use crate::Entry;
-use crate::kept::{Kept, is_writing, waits};
+use crate::kept::{Kept, is_writing};
 use indexmap::IndexMap;
 use lock_messages::{ClientId, Mode, ResourceName};
 use lock_model::Problem;
@@ -28,11 +29,13 @@ pub struct Entries {
 impl Model for Entries {
     ghost use Rattle.std.specs.Prelude.{List};
     ghost use Rattle.lock_model.specs.declared.entries.Entry.{Entry};
-    ghost use Rattle.stable_record.specs.EntryLists.{entries_in};
+    ghost use Rattle.stable_record.specs.EntryLists.{entries_in, AreOfClients};
 
     ghost Value = { List Entry };
 
     ghost view = { λ s. entries_in s.map.entries };
+
+    ghost invariant = { λ s. AreOfClients s.map.entries };
 }
 
 fn any_holds(map: &Map, resource: &ResourceName) -> bool
@@ -97,7 +100,7 @@ fn has_cause(map: &Map, problem: Problem, kept: &Kept) -> bool
 {
     match kept.live {
         None => true,
-        Some(live) => !waits(&live) || !admits(map, problem, live.mode, &live.resource),
+        Some(live) => !live.waits() || !admits(map, problem, live.mode, &live.resource),
     }
 }
 
@@ -117,9 +120,10 @@ impl Entries {
         }
     }
 
-    /// How many entries there are.
+    /// How many entries there are: no more than there are clients.
     pub fn len(&self) -> usize
         ensures len { result ≡ length self.now }
+        ensures few { result ≤ MAX_CLIENTS }
         ensures once { EachOnce self.now }
     {
         self.map.len()
@@ -195,6 +199,7 @@ impl Entries {
             floor,
             live,
         } = entry;
+        client.get();
         // Memory is asked for a new client alone.
         match self.map.insert(client, Kept { floor, live }) {
             Ok(_) => {}
@@ -242,6 +247,7 @@ impl Entries {
             floor: entry.floor,
             live: entry.live,
         };
+        entry.client.get();
         match self.map.insert(entry.client, kept) {
             Ok(_) => Ok(()),
             Err(_) => Err(AllocError),

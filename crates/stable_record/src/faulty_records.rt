@@ -1,7 +1,7 @@
 // A record in memory whose device fails now and then, for tests.
 
-ghost use Rattle.std.specs.Prelude.{◌≡◌, ◌≤◌, true, false, nat_le, if◌then◌else◌, Ok, Err, IfOk, IsOkUnless};
-ghost use Rattle.stable_record.specs.Faulty.{new_faulty, counted, after_call, Keeps, Reopens};
+ghost use Rattle.std.specs.Prelude.{◌≡◌, ◌≤◌, true, false, if◌then◌else◌, Ok, Err, IfOk, IsOkUnless};
+ghost use Rattle.stable_record.specs.Faulty.{new_faulty, counted, next_call, fails_next, after_call, Keeps, Reopens};
 
 use crate::formats::MAX_RECORD_LEN;
 use crate::{Leaves, RecordFault, StableRecord};
@@ -18,17 +18,20 @@ pub struct FaultyRecord {
     is_stuck: bool,
     count: u64,
     step: u32,
-    next: u32,
+    made: u64,
     left: Leaves,
     bad: u32,
 }
 
 impl Model for FaultyRecord {
+    ghost use Rattle.std.specs.Prelude.{◌≤◌};
     ghost use Rattle.stable_record.specs.Faulty.{Faulty};
 
     ghost Value = { Faulty };
 
-    ghost view = { λ f. record { bytes = f.found.items; stuck = f.is_stuck; failures = f.count; every = f.step; until_fault = f.next; leaves = f.left; bad_reopens = f.bad } };
+    ghost view = { λ f. record { bytes = f.found.items; stuck = f.is_stuck; failures = f.count; every = f.step; calls = f.made; leaves = f.left; bad_reopens = f.bad } };
+
+    ghost invariant = { λ f. 1 ≤ f.step };
 }
 
 impl FaultyRecord {
@@ -54,7 +57,7 @@ impl FaultyRecord {
             is_stuck: false,
             count: 0,
             step: k,
-            next: k,
+            made: 0,
             left: leaves,
             bad: 0,
         })
@@ -77,18 +80,29 @@ impl FaultyRecord {
         self.count = self.count.saturating_add(1);
     }
 
+    /// The number of the next call of the device.
+    fn next_call(&self) -> u64
+        ensures { result ≡ next_call self.now }
+    {
+        if self.made < u64::MAX {
+            self.made + 1
+        } else {
+            self.made % u64::from(self.step) + 1
+        }
+    }
+
     /// The device is called for a keep.
     fn call(&mut self, bytes: Vec<u8>) -> Result<(), RecordFault>
         requires { self.old.stuck ≡ false }
-        ensures fault { result ≡ (if nat_le self.old.until_fault 1 then Err RecordFault.Device else Ok tt) }
+        ensures fault { result ≡ (if fails_next self.old then Err RecordFault.Device else Ok tt) }
         ensures after { self.new ≡ after_call self.old bytes.items }
     {
-        if self.next > 1 {
-            self.next -= 1;
+        let number = self.next_call();
+        self.made = number;
+        if number % u64::from(self.step) != 0 {
             self.found = bytes;
             return Ok(());
         }
-        self.next = self.step;
         match self.left {
             Leaves::Old => {}
             Leaves::New => self.found = bytes,

@@ -2,17 +2,16 @@
 
 ghost use Rattle.std.specs.Prelude.{◌≡◌, ◌⊎◌, ◌≤◌, [], IfOk, Ok, Err};
 ghost use Rattle.std.specs.Int.{w32, w64};
-ghost use Rattle.std.specs.List.{list_all};
-ghost use Rattle.lock_messages.specs.Names.{is_name_byte};
+ghost use Rattle.lock_messages.specs.Fields.{Gives, number_at, mode_at, name_at};
 ghost use Rattle.lock_model.specs.declared.entries.Entry.{Entry};
 ghost use Rattle.stable_record.specs.declared.node_records.NodeRecord.{NodeRecord};
 ghost use Rattle.stable_record.specs.Records.{IsNodeRecord, node_record_of};
-ghost use Rattle.stable_record.specs.Reading.{Gives, GivesOr, LeavesOr, IsOrRefused, AreGood, IsGoodSoFar, number_at, version_at, policy_at, count_at, client_at, floor_at, state_at, attempt_at, mode_at, length_at, name_at, ticket_at, live_at, entry_at, entries_at, head_at, record_at, reading};
+ghost use Rattle.stable_record.specs.Reading.{GivesOr, LeavesOr, IsOrRefused, AreGood, IsGoodSoFar, version_at, policy_at, count_at, client_at, floor_at, state_at, attempt_at, length_at, ticket_at, live_at, entry_at, entries_at, head_at, record_at, reading};
 
 use crate::formats::VERSION;
 use crate::{Entries, Entry, Live, NodeRecord, RecordFault, Status};
 use lock_messages::{
-    Attempt, ClientId, MAX_ATTEMPT, MAX_CLIENTS, MAX_NAME_LEN, Mode, ResourceName,
+    Attempt, ClientId, MAX_ATTEMPT, MAX_CLIENTS, MAX_NAME_LEN, Mode, ResourceName, has_name_bytes,
 };
 use lock_model::Problem;
 use std::alloc::Global;
@@ -22,15 +21,6 @@ use std::alloc::Global;
 #[derive(Drop)]
 struct Unread<'a> {
     bytes: &'a [u8],
-}
-
-/// Whether a name may have each of these bytes.
-fn has_name_bytes(bytes: &[u8]) -> bool
-    ensures { result ≡ list_all is_name_byte bytes.now }
-{
-    bytes
-        .iter()
-        .all(|b| matches!(*b, b'a'..=b'z' | b'0'..=b'9' | b'-'))
 }
 
 impl Unread<'_> {
@@ -146,7 +136,7 @@ impl Unread<'_> {
     }
 
     fn mode(&mut self) -> Result<Mode, RecordFault>
-        ensures { Gives result self.new.bytes.now (mode_at self.old.bytes.now) }
+        ensures { Gives result self.new.bytes.now (mode_at RecordFault.Short RecordFault.EntryField self.old.bytes.now) }
     {
         let [byte, rest @ ..] = self.bytes else {
             return Err(RecordFault::Short);
@@ -175,7 +165,7 @@ impl Unread<'_> {
 
     fn name(&mut self, size: usize) -> Result<ResourceName, RecordFault>
         requires { (1 ≤ size) × (size ≤ MAX_NAME_LEN) }
-        ensures { Gives result self.new.bytes.now (name_at size self.old.bytes.now) }
+        ensures { Gives result self.new.bytes.now (name_at RecordFault.Short RecordFault.EntryField size self.old.bytes.now) }
     {
         let Some((name, rest)) = self.bytes.split_at_checked(size) else {
             // A wrong byte stands before a missing one.
@@ -316,6 +306,7 @@ pub fn read_node(alloc: Global, bytes: &[u8]) -> Result<NodeRecord, RecordFault>
     // Which fault it is. Memory is refused only behind an entry without fault.
     ensures exact { IsOrRefused (IsGoodSoFar bytes.now) result (reading bytes.now) }
 {
+    lock_messages::laws::fields_are_exact::<RecordFault>();
     lock_model::laws::judgement_is_exact();
     whole(alloc, bytes)
 }

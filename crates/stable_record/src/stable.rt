@@ -41,12 +41,12 @@ pub trait StableRecord: Drop {
         ensures unchanged { IfErr result (λ fault. (fault ≡ RecordFault.Device) ⊎ ((finds self.new ≡ finds self.old) × (stuck_of self.new ≡ stuck_of self.old) × (spent_of self.new ≡ spent_of self.old) × (failures_of self.new ≡ failures_of self.old))) }
         // 301.
         ensures device { result ≡ Err RecordFault.Device → Counts (failures_of self.old) (failures_of self.new) × FindsOnlyOr (finds self.old) bytes.now (finds self.new) × (stuck_of self.new ≡ true) }
-        ensures some { IsOneOrTwo (finds self.old) → IsOneOrTwo (finds self.new) }
+        ensures some { IsOneOrTwo (finds self.new) }
         ensures count { failures_of self.old ≤ failures_of self.new };
 
     /// What a restart finds: one of the byte strings that it could find, and from now on just this
-    /// one; the record isn't stuck any more. 301 (the device failed) and 304 (memory was refused)
-    /// make nothing new to be found; after 301 the record is stuck.
+    /// one; the record isn't stuck any more. After 301 (the device failed) nothing new is to be found
+    /// and the record is stuck; 304 (memory was refused) has changed nothing.
     fn reopen(&mut self) -> Result<Vec<u8>, RecordFault>
         ensures found { IfOk result (λ bytes. Among bytes.items (finds self.old) × (finds self.new ≡ bytes.items ∷ []) × (stuck_of self.new ≡ false)) }
         // Nothing else is answered.
@@ -54,12 +54,16 @@ pub trait StableRecord: Drop {
         ensures nothing_new { IfErr result (λ fault. FindsOnly (finds self.old) (finds self.new)) }
         // 301.
         ensures device { result ≡ Err RecordFault.Device → Counts (failures_of self.old) (failures_of self.new) × (stuck_of self.new ≡ true) }
-        ensures some { IsOneOrTwo (finds self.old) → IsOneOrTwo (finds self.new) }
+        // 304.
+        ensures unchanged { result ≡ Err RecordFault.Memory → (finds self.new ≡ finds self.old) × (stuck_of self.new ≡ stuck_of self.old) × (spent_of self.new ≡ spent_of self.old) × (failures_of self.new ≡ failures_of self.old) }
+        ensures some { IsOneOrTwo (finds self.new) }
         ensures count { failures_of self.old ≤ failures_of self.new };
 
-    /// Whether a change has failed since the last reopen.
+    /// Whether a change has failed since the last reopen. That a restart may find one or two byte
+    /// strings is learned here, also of a record that was handed in.
     fn stuck(&self) -> bool
-        ensures { result ≡ stuck_of self.now };
+        ensures answer { result ≡ stuck_of self.now }
+        ensures some { IsOneOrTwo (finds self.now) };
 
     /// How often the device has failed; it stops at the greatest number.
     fn failures(&self) -> u64

@@ -1,11 +1,12 @@
 // Writing a node's record.
 
-ghost use Rattle.std.specs.Prelude.{◌≡◌, ◌≤◌, ◌++◌, length, OnOk, IfOk, IsOkUnless};
-ghost use Rattle.stable_record.specs.Records.{ticket_bytes, live_bytes, entry_bytes, head_bytes, node_record_of, status_number, mode_number, policy_number, IsNodeRecord};
+ghost use Rattle.std.specs.Prelude.{◌≡◌, ◌++◌, OnOk, IfOk, IsOkUnless};
+ghost use Rattle.lock_messages.specs.Fields.{mode_number};
+ghost use Rattle.stable_record.specs.Records.{ticket_bytes, live_bytes, entry_bytes, head_bytes, node_record_of, status_number, policy_number};
 
 use crate::formats::VERSION;
 use crate::{Entry, Live, NodeRecord, RecordFault, Status};
-use lock_messages::{MAX_CLIENTS, Mode};
+use lock_messages::Mode;
 use lock_model::Problem;
 use std::alloc::{AllocError, Global};
 
@@ -74,7 +75,6 @@ fn put_head(out: &mut Vec<u8>, policy: Problem, count: u16) -> Result<(), AllocE
 }
 
 fn put_record(out: &mut Vec<u8>, node: &NodeRecord) -> Result<(), AllocError>
-    requires { length node.now.entries ≤ MAX_CLIENTS }
     ensures { OnOk result (out.new.items ≡ out.old.items ++ node_record_of node.now) }
 {
     put_head(out, node.policy, node.entries.len() as u16)?;
@@ -84,11 +84,10 @@ fn put_record(out: &mut Vec<u8>, node: &NodeRecord) -> Result<(), AllocError>
     Ok(())
 }
 
-/// The one spelling of a node's record. What the caller owes is that it is one that `read_node`
-/// answers: at most `MAX_CLIENTS` entries, floors of at most `MAX_ATTEMPT`, live attempts one above
-/// the floor, lawful and caused. The only fault is that memory was refused (320).
+/// The spelling of a node's record. `read_node` answers it again where floors are at most
+/// `MAX_ATTEMPT`, live attempts are one above the floor, and the record is lawful and caused. The
+/// only fault is that memory was refused (320).
 pub fn node_bytes(alloc: Global, node: &NodeRecord) -> Result<Vec<u8>, RecordFault>
-    requires { IsNodeRecord node.now }
     ensures spelled { IfOk result (λ bytes. bytes.items ≡ node_record_of node.now) }
     ensures memory { IsOkUnless result RecordFault.NoMemory }
 {

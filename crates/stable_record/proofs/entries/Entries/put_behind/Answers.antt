@@ -1,7 +1,8 @@
-use Rattle.std.proofs.Common.{ap, sym, ◌∙◌, subst, arith}
+use Rattle.std.proofs.Common.{◌-◌, ap, sym, ◌∙◌, subst, arith}
 use Rattle.lock_model.specs.ExactStations.{knows, EachOnce}
 use Rattle.lock_model.specs.ExactDecisions.{moved_last}
-use Rattle.stable_record.specs.EntryLists.{entries_in, replaced}
+use Rattle.stable_record.specs.EntryLists.{AreOfClients, entries_in, replaced}
+use Rattle.stable_record.proofs.CountFacts.{clients-moved}
 use Rattle.stable_record.proofs.MapFacts.{knows-found, once-distinct, place-found, known-moved, replaced-moved}
 use Rattle.stable_record.proofs.entries.Entries.put_behind.Goals as goal
 
@@ -25,3 +26,6 @@ returns c =
     let once : EachOnce (entries_in es) = once-distinct es c.len-last.ensures.unique in
     c.put_in_place.ensures ∙ ap (λ l. replaced f (entries_in l)) c.move_index.ensures.entries
     ∙ replaced-moved f es c.unwrap-place.result _ at.0 at.1 once (omega (arith, c.len-last.ensures.len)) ∙ ap (moved_last f) c.self.view_is
+
+pub invariant_of-self : goal.invariant_of-self
+invariant_of-self c = subst AreOfClients (sym c.move_index.ensures.entries) (clients-moved c.self.inside.map.entries c.unwrap-place.result (c.len-last.result - 1) c.self.invariant)
