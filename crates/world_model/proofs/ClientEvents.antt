@@ -1,0 +1,203 @@
+-- What a client does by itself keeps the world safe: it owes its own attempts, its ticket and its votes.
+use Rattle.std.proofs.Common.{◌≡◌, ◌≢◌, ℕ, ◌+◌, ◌<◌, ◌≤◌, ◌==◌, ◌||◌, ◌⊎◌, Bool, true, false, cond, List, [], refl, sym, ◌∙◌, ap, subst, inl, inr, arith, zero-le}
+use Rattle.std.proofs.lemmas.List.Sums.{sum_by-le-sum_by}
+use Rattle.std.proofs.lemmas.Bool.{cases_eq, or_cases, eqb-true}
+use Rattle.lock_messages.specs.declared.tickets.Mode.{Mode}
+use Rattle.lock_messages.specs.declared.tickets.Ticket.{Ticket}
+use Rattle.lock_messages.specs.declared.messages.Message.{Message}
+use Rattle.lock_messages.specs.declared.messages.Message.TheVariants.{Request, Release, Grant, Muddled}
+use Rattle.lock_model.specs.declared.hearing.Heard.TheVariants as heard
+use Rattle.lock_model.specs.Ballots.{Ballot, IsEnough, votes_at, votes_of, nodes}
+use Rattle.lock_model.specs.Decisions.{Among}
+use Rattle.lock_model.specs.Hearing.{HearsOfTicket}
+use Rattle.world_model.specs.declared.events.Age.{Age}
+use Rattle.world_model.specs.declared.events.Age.TheVariants.{Old, New}
+use Rattle.world_model.specs.Worlds.{Client, World, Setting, OfClient, ByClient, Begins, begins, TriesAttempt, tries_attempt, KeepsAttempt, keeps_attempt, grants_from, gained, Hears, counts, counts_inside, passes, passes_inside, passes_idle, passes_chosen, Enters, enters, Leaves, gives_up, leaves, ClientFalls, client_falls, ClientRises, client_rises_old, client_rises_new}
+use Rattle.world_model.specs.Invariants.{IsPresentIn, IsPresent, IsGranted, IsSafeClient, IsSafeNode, IsSafe}
+use Rattle.world_model.proofs.Carried.{self-le, IsNewer, Carries, node-still, client-still, all-safe}
+
+-- a present ticket after is one before, or is of an attempt that was kept since
+abbrev IsSameOrNewer : Client → Client → Ticket → Type 0
+IsSameOrNewer before after t = IsPresentIn t before.phase ⊎ ((before.kept < t.attempt) × (t.attempt ≤ after.kept))
+
+abbrev SameOrNewer : World → World → ℕ → Ticket → Type 0
+SameOrNewer w v d t = IsPresent w d t ⊎ IsNewer w v d t
+
+-- how a client may go on in the world w
+pub record GoesSafely (b : Ballot) (w : World) (c : ℕ) (before after : Client) : Type 0 where
+  pub kept : before.kept ≤ after.kept
+  pub present : (t : Ticket) → IsPresentIn t after.phase → IsSameOrNewer before after t
+  pub safe : IsSafeClient b w c after
+
+silent-keeps : (s : Setting) (c : ℕ) (w : World) (before after : Client) (v : World) → IsSafe s w → OfClient s c w before after [] v → (IsSafeClient s.ballot w c before → GoesSafely s.ballot w c before after) → IsSafe s v
+silent-keeps s c w before after v safe of own = all-safe s w v safe carries nodes_safe (λ d. client_safe d (cases_eq d c))
+  where
+    goes : GoesSafely s.ballot w c before after
+    goes = own (subst (IsSafeClient s.ballot w c) of.was (safe.clients c))
+
+    old : (x : Message) → Among x v.sent → Among x w.sent
+    old x h = go ((of.sends x).0 h)
+      where
+        go : Among x w.sent ⊎ Among x [] → Among x w.sent
+        go (inl k) = k
+        go (inr k) = absurd k
+
+    kept : (d : ℕ) → (d ≡ c) ⊎ (d ≢ c) → (w.clients d).kept ≤ (v.clients d).kept
+    kept d (inl e) =
+        subst (λ x. (w.clients x).kept ≤ (v.clients x).kept) (sym e)
+        (subst (λ (k : Client). k.kept ≤ (v.clients c).kept) (sym of.was) (subst (λ (k : Client). before.kept ≤ k.kept) (sym of.is) goes.kept))
+    kept d (inr apart) = subst (λ (k : Client). (w.clients d).kept ≤ k.kept) (sym (of.others d apart)) (self-le (w.clients d).kept)
+
+    present-here : (t : Ticket) → IsSameOrNewer before after t → SameOrNewer w v c t
+    present-here t (inl p) = inl (subst (λ (k : Client). IsPresentIn t k.phase) (sym of.was) p)
+    present-here t (inr new) = inr (subst (λ (k : Client). k.kept < t.attempt) (sym of.was) new.0, subst (λ (k : Client). t.attempt ≤ k.kept) (sym of.is) new.1)
+
+    present : (d : ℕ) (t : Ticket) → (d ≡ c) ⊎ (d ≢ c) → IsPresent v d t → SameOrNewer w v d t
+    present d t (inl e) p =
+        subst (λ x. SameOrNewer w v x t) (sym e) (present-here t (goes.present t (subst (λ (k : Client). IsPresentIn t k.phase) of.is (subst (λ x. IsPresent v x t) e p))))
+    present d t (inr apart) p = inl (subst (λ (k : Client). IsPresentIn t k.phase) (of.others d apart) p)
+
+    carries : Carries w v
+    carries = record {
+      kept = λ d. kept d (cases_eq d c);
+      present = λ d t p. present d t (cases_eq d c) p;
+      requested = λ n t h. inl (old (Request n t) h);
+      released = λ n d a h. inl (old (Release n d a) h);
+      muddled = λ n d a h. old (Muddled n d a) h;
+      grows = λ x h. (of.sends x).1 (inl h);
+    }
+
+    nodes_safe : (n : ℕ) → IsSafeNode v n (v.nodes n)
+    nodes_safe n = subst (IsSafeNode v n) (sym (of.nodes n)) (node-still w v carries n (λ t h. old (Grant n t) h) (w.nodes n) (safe.nodes n))
+
+    client_safe : (d : ℕ) → (d ≡ c) ⊎ (d ≢ c) → IsSafeClient s.ballot v d (v.clients d)
+    client_safe d (inl e) = subst (λ x. IsSafeClient s.ballot v x (v.clients x)) (sym e) (subst (IsSafeClient s.ballot v c) (sym of.is) (client-still s.ballot w v carries c after goes.safe))
+    client_safe d (inr apart) = subst (IsSafeClient s.ballot v d) (sym (of.others d apart)) (client-still s.ballot w v carries d (w.clients d) (safe.clients d))
+
+-- the events of a client; most leave the kept attempt as it is, and no ticket that was not there before
+
+begins-safe : (b : Ballot) (w : World) (c : ℕ) (m : Mode) (x : List ℕ) (before after : Client) → Begins c m x before after → IsSafeClient b w c before → GoesSafely b w c before after
+begins-safe b w c m x before after (begins kept tried below) safe = record {
+  kept = self-le kept;
+  present = λ t p. absurd p;
+  safe = record { tried = safe.tried; ticket = (refl, refl) };
+}
+
+tries-safe : (b : Ballot) (w : World) (c : ℕ) (before after : Client) → TriesAttempt before after → IsSafeClient b w c before → GoesSafely b w c before after
+tries-safe b w c before after (tries_attempt kept t) safe = record {
+  kept = self-le kept;
+  present = λ u p. absurd p;
+  safe = record { tried = safe.ticket.1; ticket = safe.ticket };
+}
+
+keeps-safe : (b : Ballot) (w : World) (c : ℕ) (before after : Client) → KeepsAttempt before after → IsSafeClient b w c before → GoesSafely b w c before after
+keeps-safe b w c before after (keeps_attempt kept a t) safe = record {
+  kept = omega (arith, safe.tried);
+  present = λ u p. inr (newer u p);
+  safe = record { tried = tt; ticket = record { client = safe.ticket.0; attempt_is = safe.ticket.1 ∙ sym safe.tried; grants = λ n g. absurd (let q : false ≡ true = g in cc) } };
+}
+  where
+    newer : (u : Ticket) → t ≡ u → (kept < u.attempt) × (u.attempt ≤ a)
+    newer u p =
+        let attempt : u.attempt ≡ kept + 1 = ap (λ (y : Ticket). y.attempt) (sym p) ∙ safe.ticket.1 in
+        let tried : a ≡ kept + 1 = safe.tried in
+        (omega (arith, attempt), omega (arith, attempt, tried))
+
+-- a vote that counts is one that was sent
+gained-granted : (b : Ballot) (w : World) (c attempt : ℕ) (m : Message) (t : Ticket) (granted : ℕ → Bool) → Among m w.sent → HearsOfTicket b t granted m heard.Counted → IsGranted w c attempt t granted →
+    IsGranted w c attempt t (gained m granted)
+gained-granted b w c attempt m t granted sent hears h = record { client = h.client; attempt_is = h.attempt_is; grants = grants }
+  where
+    n : ℕ
+    n = hears.0
+
+    is : m ≡ Grant n t
+    is = hears.2.1
+
+    go : (k : ℕ) → ((n == k) ≡ true) ⊎ (granted k ≡ true) → Among (Grant k t) w.sent
+    go k (inl e) = subst (λ j. Among (Grant j t) w.sent) (eqb-true n k e) (subst (λ x. Among x w.sent) is sent)
+    go k (inr g) = h.grants k g
+
+    grants : (k : ℕ) → gained m granted k ≡ true → Among (Grant k t) w.sent
+    grants k g = go k (or_cases (n == k) (granted k) (subst (λ x. gained x granted k ≡ true) is g))
+
+-- more nodes have no fewer votes
+no-fewer : (some more : Bool) (votes : ℕ) → (some ≡ true → more ≡ true) → cond some votes 0 ≤ cond more votes 0
+no-fewer true more votes within = let same : cond more votes 0 ≡ votes = ap (λ c. cond c votes 0) (within refl) in omega (arith, same)
+no-fewer false more votes within = zero-le
+
+gained-more : (m : Message) (granted : ℕ → Bool) (n : ℕ) → granted n ≡ true → gained m granted n ≡ true
+gained-more m granted n g = ap (λ b. grants_from m n || b) g ∙ or-true (grants_from m n)
+  where
+    or-true : (b : Bool) → (b || true) ≡ true
+    or-true true = refl
+    or-true false = refl
+
+gained-enough : (b : Ballot) (mode : Mode) (m : Message) (granted : ℕ → Bool) → IsEnough b mode granted → IsEnough b mode (gained m granted)
+gained-enough b mode m granted enough =
+    let more : votes_of b granted ≤ votes_of b (gained m granted) =
+    sum_by-le-sum_by (λ n. cond (granted n) (votes_at b n) 0) (λ n. cond (gained m granted n) (votes_at b n) 0) (nodes b) (λ n. no-fewer (granted n) (gained m granted n) (votes_at b n) (gained-more m granted n)) in
+    omega (arith, enough, more)
+
+hears-safe : (b : Ballot) (w : World) (c : ℕ) (m : Message) (before after : Client) → Among m w.sent → Hears b c m before after → IsSafeClient b w c before → GoesSafely b w c before after
+hears-safe b w c m before after sent (counts kept tried t granted h) safe = record {
+  kept = self-le kept;
+  present = λ u p. inl p;
+  safe = record { tried = safe.tried; ticket = gained-granted b w c kept m t granted sent h safe.ticket };
+}
+hears-safe b w c m before after sent (counts_inside kept tried t granted h) safe = record {
+  kept = self-le kept;
+  present = λ u p. inl p;
+  safe = record { tried = safe.tried; ticket = (gained-granted b w c kept m t granted sent h safe.ticket.0, gained-enough b t.mode m granted safe.ticket.1) };
+}
+hears-safe b w c m before after sent (passes kept tried t granted h hears apart) safe = record { kept = self-le kept; present = λ u p. inl p; safe = safe }
+hears-safe b w c m before after sent (passes_inside kept tried t granted h hears apart) safe = record { kept = self-le kept; present = λ u p. inl p; safe = safe }
+hears-safe b w c m before after sent (passes_idle kept tried h hears) safe = record { kept = self-le kept; present = λ u p. inl p; safe = safe }
+hears-safe b w c m before after sent (passes_chosen kept tried t) safe = record { kept = self-le kept; present = λ u p. inl p; safe = safe }
+
+enters-safe : (b : Ballot) (w : World) (c : ℕ) (before after : Client) → Enters b before after → IsSafeClient b w c before → GoesSafely b w c before after
+enters-safe b w c before after (enters kept tried t granted enough) safe = record {
+  kept = self-le kept;
+  present = λ u p. inl p;
+  safe = record { tried = safe.tried; ticket = (safe.ticket, enough) };
+}
+
+leaves-safe : (b : Ballot) (w : World) (c : ℕ) (before after : Client) → Leaves before after → IsSafeClient b w c before → GoesSafely b w c before after
+leaves-safe b w c before after (gives_up kept tried t granted) safe = record { kept = self-le kept; present = λ u p. absurd p; safe = record { tried = safe.tried; ticket = tt } }
+leaves-safe b w c before after (leaves kept tried t granted) safe = record { kept = self-le kept; present = λ u p. absurd p; safe = record { tried = safe.tried; ticket = tt } }
+
+falls-safe : (b : Ballot) (w : World) (c : ℕ) (before after : Client) → ClientFalls before after → IsSafeClient b w c before → GoesSafely b w c before after
+falls-safe b w c before after (client_falls kept tried phase up) safe = record { kept = self-le kept; present = λ u p. absurd p; safe = record { tried = safe.tried; ticket = tt } }
+
+rises-safe : (b : Ballot) (w : World) (c : ℕ) (age : Age) (before after : Client) → ClientRises age before after → IsSafeClient b w c before → GoesSafely b w c before after
+rises-safe b w c Old before after (client_rises_old kept tried) safe = record { kept = self-le kept; present = λ u p. absurd p; safe = record { tried = tt; ticket = tt } }
+rises-safe b w c New before after (client_rises_new kept a) safe = record { kept = omega (arith, safe.tried); present = λ u p. absurd p; safe = record { tried = tt; ticket = tt } }
+
+-- the whole, by the relation
+
+by-client-keeps : (s : Setting) (c : ℕ) (R : Client → Client → Type 0) (w v : World) → IsSafe s w → ByClient s w v c R → ((before after : Client) → R before after → IsSafeClient s.ballot w c before → GoesSafely s.ballot w c before after) → IsSafe s v
+by-client-keeps s c R w v safe h own = silent-keeps s c w h.0 h.1 v safe h.3 (own h.0 h.1 h.2)
+
+pub begins-keeps : (s : Setting) (c : ℕ) (m : Mode) (x : List ℕ) (w v : World) → IsSafe s w → ByClient s w v c (Begins c m x) → IsSafe s v
+begins-keeps s c m x w v safe h = by-client-keeps s c (Begins c m x) w v safe h (begins-safe s.ballot w c m x)
+
+pub tries-keeps : (s : Setting) (c : ℕ) (w v : World) → IsSafe s w → ByClient s w v c TriesAttempt → IsSafe s v
+tries-keeps s c w v safe h = by-client-keeps s c TriesAttempt w v safe h (tries-safe s.ballot w c)
+
+pub keeps-keeps : (s : Setting) (c : ℕ) (w v : World) → IsSafe s w → ByClient s w v c KeepsAttempt → IsSafe s v
+keeps-keeps s c w v safe h = by-client-keeps s c KeepsAttempt w v safe h (keeps-safe s.ballot w c)
+
+pub hears-keeps : (s : Setting) (c : ℕ) (m : Message) (w v : World) → IsSafe s w → Among m w.sent → ByClient s w v c (Hears s.ballot c m) → IsSafe s v
+hears-keeps s c m w v safe sent h = by-client-keeps s c (Hears s.ballot c m) w v safe h (λ before after r ok. hears-safe s.ballot w c m before after sent r ok)
+
+pub enters-keeps : (s : Setting) (c : ℕ) (w v : World) → IsSafe s w → ByClient s w v c (Enters s.ballot) → IsSafe s v
+enters-keeps s c w v safe h = by-client-keeps s c (Enters s.ballot) w v safe h (enters-safe s.ballot w c)
+
+pub leaves-keeps : (s : Setting) (c : ℕ) (w v : World) → IsSafe s w → ByClient s w v c Leaves → IsSafe s v
+leaves-keeps s c w v safe h = by-client-keeps s c Leaves w v safe h (leaves-safe s.ballot w c)
+
+pub falls-keeps : (s : Setting) (c : ℕ) (w v : World) → IsSafe s w → ByClient s w v c ClientFalls → IsSafe s v
+falls-keeps s c w v safe h = by-client-keeps s c ClientFalls w v safe h (falls-safe s.ballot w c)
+
+pub rises-keeps : (s : Setting) (c : ℕ) (age : Age) (w v : World) → IsSafe s w → ByClient s w v c (ClientRises age) → IsSafe s v
+rises-keeps s c age w v safe h = by-client-keeps s c (ClientRises age) w v safe h (rises-safe s.ballot w c age)

@@ -1,0 +1,110 @@
+-- What a client says keeps the world safe: a request is of its present ticket, a release of an attempt
+-- that is over.
+use Rattle.std.proofs.Common.{◌≡◌, ◌≢◌, ℕ, ◌<◌, ◌≤◌, ◌⊎◌, List, [], ◌∷◌, refl, sym, ◌∙◌, subst, inl, inr}
+use Rattle.std.proofs.lemmas.Bool.{cases_eq}
+use Rattle.lock_messages.specs.declared.tickets.Ticket.{Ticket}
+use Rattle.lock_messages.specs.declared.messages.Message.{Message}
+use Rattle.lock_messages.specs.declared.messages.Message.TheVariants.{Request, Release, Grant, Muddled}
+use Rattle.lock_model.specs.Decisions.{Among}
+use Rattle.world_model.specs.Worlds.{Client, World, Setting, OfClient, Tells, asks, asks_inside, releases}
+use Rattle.world_model.specs.Invariants.{IsPresentIn, IsPresent, IsSafeClient, IsSafeNode, IsSafe}
+use Rattle.world_model.proofs.Carried.{self-le, Carries, node-still, client-still, all-safe}
+
+-- a message that a client may say: no Grant and no Muddled, a request of a present ticket only, a
+-- release of an attempt that is over only
+record MaySay (w : World) (m : Message) : Type 0 where
+  request : (n : ℕ) (t : Ticket) → m ≡ Request n t → IsPresent w t.client t
+  release : (n c a : ℕ) → m ≡ Release n c a → (a ≤ (w.clients c).kept) × ((t : Ticket) → IsPresent w c t → a < t.attempt)
+  grant : (n : ℕ) (t : Ticket) → m ≢ Grant n t
+  muddled : (n c a : ℕ) → m ≢ Muddled n c a
+
+one-keeps : (s : Setting) (c : ℕ) (w : World) (before : Client) (m : Message) (v : World) → IsSafe s w → OfClient s c w before before (m ∷ []) v → MaySay w m → IsSafe s v
+one-keeps s c w before m v safe of may = all-safe s w v safe carries nodes clients
+  where
+    same-at : (d : ℕ) → (d ≡ c) ⊎ (d ≢ c) → v.clients d ≡ w.clients d
+    same-at d (inl e) = subst (λ x. v.clients x ≡ w.clients x) (sym e) (of.is ∙ sym of.was)
+    same-at d (inr apart) = of.others d apart
+
+    same : (d : ℕ) → v.clients d ≡ w.clients d
+    same d = same-at d (cases_eq d c)
+
+    new : (x : Message) → Among x v.sent → Among x w.sent ⊎ (m ≡ x)
+    new x h = go ((of.sends x).0 h)
+      where
+        go : Among x w.sent ⊎ Among x (m ∷ []) → Among x w.sent ⊎ (m ≡ x)
+        go (inl k) = inl k
+        go (inr (inl e)) = inr (sym e)
+        go (inr (inr k)) = absurd k
+
+    old : (x : Message) → m ≢ x → Among x v.sent → Among x w.sent
+    old x apart h = go (new x h)
+      where
+        go : Among x w.sent ⊎ (m ≡ x) → Among x w.sent
+        go (inl k) = k
+        go (inr e) = absurd (apart e)
+
+    present : (d : ℕ) (t : Ticket) → IsPresent v d t → IsPresent w d t
+    present d t p = subst (λ (k : Client). IsPresentIn t k.phase) (same d) p
+
+    requested : (n : ℕ) (t : Ticket) → Among (Request n t) w.sent ⊎ (m ≡ Request n t) → Among (Request n t) w.sent ⊎ IsPresent w t.client t
+    requested n t (inl h) = inl h
+    requested n t (inr e) = inr (may.request n t e)
+
+    released : (n d a : ℕ) → Among (Release n d a) w.sent ⊎ (m ≡ Release n d a) → Among (Release n d a) w.sent ⊎ ((a ≤ (v.clients d).kept) × ((t : Ticket) → IsPresent v d t → a < t.attempt))
+    released n d a (inl h) = inl h
+    released n d a (inr e) =
+        let r = may.release n d a e in
+        inr (subst (λ (k : Client). a ≤ k.kept) (sym (same d)) r.0, λ t p. r.1 t (present d t p))
+
+    carries : Carries w v
+    carries = record {
+      kept = λ d. subst (λ (k : Client). (w.clients d).kept ≤ k.kept) (sym (same d)) (self-le (w.clients d).kept);
+      present = λ d t p. inl (present d t p);
+      requested = λ n t h. requested n t (new (Request n t) h);
+      released = λ n d a h. released n d a (new (Release n d a) h);
+      muddled = λ n d a h. old (Muddled n d a) (may.muddled n d a) h;
+      grows = λ x h. (of.sends x).1 (inl h);
+    }
+
+    nodes : (n : ℕ) → IsSafeNode v n (v.nodes n)
+    nodes n = subst (IsSafeNode v n) (sym (of.nodes n)) (node-still w v carries n (λ t h. old (Grant n t) (may.grant n t) h) (w.nodes n) (safe.nodes n))
+
+    clients : (d : ℕ) → IsSafeClient s.ballot v d (v.clients d)
+    clients d = subst (IsSafeClient s.ballot v d) (sym (same d)) (client-still s.ballot w v carries d (w.clients d) (safe.clients d))
+
+-- a request of the present ticket, which is the client's own
+request-may : (w : World) (n : ℕ) (t : Ticket) → IsPresent w t.client t → MaySay w (Request n t)
+request-may w n t present = record {
+  request = λ k u e. (let q : Request n t ≡ Request k u = e in let same : t ≡ u = cc in subst (λ (x : Ticket). IsPresent w x.client x) same present);
+  release = λ k c a e. absurd (let q : Request n t ≡ Release k c a = e in cc);
+  grant = λ k u e. (let q : Request n t ≡ Grant k u = e in cc);
+  muddled = λ k c a e. (let q : Request n t ≡ Muddled k c a = e in cc);
+}
+
+-- a release of the kept attempt, while nothing is asked
+release-may : (w : World) (n c a : ℕ) → a ≤ (w.clients c).kept → ((t : Ticket) → IsPresent w c t → ⊥) → MaySay w (Release n c a)
+release-may w n c a below absent = record {
+  request = λ k u e. absurd (let q : Release n c a ≡ Request k u = e in cc);
+  release = λ k d b e.
+      (let q : Release n c a ≡ Release k d b = e in
+      let client : c ≡ d = cc in
+      let attempt : a ≡ b = cc in
+      (subst (λ x. b ≤ (w.clients x).kept) client (subst (λ x. x ≤ (w.clients c).kept) attempt below), λ t p. absurd (absent t (subst (λ x. IsPresent w x t) (sym client) p))));
+  grant = λ k u e. (let q : Release n c a ≡ Grant k u = e in cc);
+  muddled = λ k d b e. (let q : Release n c a ≡ Muddled k d b = e in cc);
+}
+
+pub tells-keeps : (s : Setting) (c n : ℕ) (w : World) (before : Client) (said : List Message) (v : World) → IsSafe s w → Tells c n before said → OfClient s c w before before said v → IsSafe s v
+tells-keeps s c n w before said v safe (asks kept tried t granted) of =
+    one-keeps s c w before (Request n t) v safe of (request-may w n t (subst (λ d. IsPresent w d t) (sym own.ticket.client) (subst (λ (k : Client). IsPresentIn t k.phase) (sym of.was) refl)))
+  where
+    own : IsSafeClient s.ballot w c before
+    own = subst (IsSafeClient s.ballot w c) of.was (safe.clients c)
+tells-keeps s c n w before said v safe (asks_inside kept tried t granted) of =
+    one-keeps s c w before (Request n t) v safe of (request-may w n t (subst (λ d. IsPresent w d t) (sym own.ticket.0.client) (subst (λ (k : Client). IsPresentIn t k.phase) (sym of.was) refl)))
+  where
+    own : IsSafeClient s.ballot w c before
+    own = subst (IsSafeClient s.ballot w c) of.was (safe.clients c)
+tells-keeps s c n w before said v safe (releases kept tried some) of =
+    one-keeps s c w before (Release n c kept) v safe of
+    (release-may w n c kept (subst (λ (k : Client). kept ≤ k.kept) (sym of.was) (self-le kept)) (λ t p. subst (λ (k : Client). IsPresentIn t k.phase) of.was p))

@@ -1,0 +1,41 @@
+-- What is told of each event: the one place where the proofs go over all of them.
+use Rattle.lock_messages.specs.declared.ids.Actor.TheVariants as actor
+use Rattle.lock_model.specs.Laws.{ExactDecisionIsAllowed, StayingIsSeen, HearingOfTicketIsExact, HearingAtRestIsExact}
+use Rattle.world_model.specs.declared.events.Event.{Event}
+use Rattle.world_model.specs.declared.events.Event.TheVariants as event
+use Rattle.world_model.specs.declared.exact.ExactNode.{ExactNode}
+use Rattle.world_model.specs.declared.exact.ExactClient.{ExactClient}
+use Rattle.world_model.specs.Worlds.{Setting}
+use Rattle.world_model.specs.ExactWorlds.{Deed, NodeDoes, ClientDoes, deed_of}
+use Rattle.world_model.proofs.ClientTurns.{ClientTold, begins-told, tries-attempt-told, keeps-attempt-told, tells-told, enters-told, leaves-told, client-falls-told, client-rises-told}
+use Rattle.world_model.proofs.HearTurns.{HearingLaws, hears-told}
+use Rattle.world_model.proofs.NodeTurns.{DecisionLaws, NodeTold, tries-station-told, keeps-station-told, says-told, takes-told, node-falls-told, node-rises-told}
+
+-- the laws of lock_model, as they are used here
+pub record ModelLaws : Type 1 where
+  pub deciding : DecisionLaws
+  pub hearing : HearingLaws
+
+abbrev pub DeedTold : Setting → Event → Deed → Type 0
+DeedTold s e (NodeDoes n turn) = (v : ExactNode) → NodeTold s e n v (turn v)
+DeedTold s e (ClientDoes c turn) = (k : ExactClient) → ClientTold s e c k (turn s.ballot k)
+
+pub deed-told : ModelLaws → (s : Setting) (e : Event) → DeedTold s e (deed_of e)
+deed-told laws s (event.Begin c m x) = begins-told s c m x
+deed-told laws s (event.Try (actor.Node n)) = tries-station-told s n
+deed-told laws s (event.Try (actor.Client c)) = tries-attempt-told s c
+deed-told laws s (event.Kept (actor.Node n)) = keeps-station-told s n
+deed-told laws s (event.Kept (actor.Client c)) = keeps-attempt-told s c
+deed-told laws s (event.SayTo c n) = tells-told s c n
+deed-told laws s (event.Say n) = says-told s n
+deed-told laws s (event.Take n number) = takes-told laws.deciding s n number
+deed-told laws s (event.Hear c number) = hears-told laws.hearing s c number
+deed-told laws s (event.Enter c) = enters-told s c
+deed-told laws s (event.Leave c) = leaves-told s c
+deed-told laws s (event.Fall (actor.Node n)) = node-falls-told s n
+deed-told laws s (event.Fall (actor.Client c)) = client-falls-told s c
+deed-told laws s (event.Rise (actor.Node n) age) = node-rises-told s n age
+deed-told laws s (event.Rise (actor.Client c) age) = client-rises-told s c age
+
+pub laws-of : ExactDecisionIsAllowed → StayingIsSeen → HearingOfTicketIsExact → HearingAtRestIsExact → ModelLaws
+laws-of allowed seen of_ticket at_rest = record { deciding = record { allowed = allowed; seen = seen }; hearing = record { of_ticket = of_ticket; at_rest = at_rest } }

@@ -1,0 +1,180 @@
+-- Which exact phase stands for a phase, and what each relation needs of the actor before it.
+use Rattle.std.proofs.Common.{◌≡◌, ◌≢◌, ℕ, ◌<◌, Bool, List, Option, Some, None, refl, ap}
+use Rattle.std.specs.Option.{option_map}
+use Rattle.lock_messages.specs.declared.ids.TheConstants.{MAX_ATTEMPT}
+use Rattle.lock_messages.specs.declared.tickets.Mode.{Mode}
+use Rattle.lock_messages.specs.declared.tickets.Ticket.{Ticket}
+use Rattle.lock_messages.specs.declared.messages.Message.{Message}
+use Rattle.lock_model.specs.Ballots.{Ballot, IsEnough}
+use Rattle.lock_model.specs.Stations.{Station}
+use Rattle.vote_weights.specs.Sets.{has_node}
+use Rattle.world_model.specs.declared.events.Age.TheVariants.{Old, New}
+use Rattle.world_model.specs.declared.exact.ExactStation.{ExactStation}
+use Rattle.world_model.specs.declared.exact.ExactNodePhase.{ExactNodePhase}
+use Rattle.world_model.specs.declared.exact.ExactNodePhase.TheVariants as node
+use Rattle.world_model.specs.declared.exact.ExactClientPhase.{ExactClientPhase}
+use Rattle.world_model.specs.declared.exact.ExactClientPhase.TheVariants as client
+use Rattle.world_model.specs.Worlds.{NodeDown, NodeIdle, Decided, Stored, Node, ClientDown, ClientIdle, Chosen, Asking, IsIn, Client, Begins, begins, TriesAttempt, tries_attempt, TriesStation, tries_station, KeepsAttempt, keeps_attempt, KeepsStation, keeps_station, Tells, asks, asks_inside, releases, Says, says, Takes, takes, takes_same, Hears, counts, counts_inside, passes, passes_inside, passes_idle, passes_chosen, Enters, enters, Leaves, gives_up, leaves, NodeFalls, node_falls, ClientFalls, client_falls, NodeRises, node_rises_old, node_rises_new, ClientRises, client_rises_old, client_rises_new}
+use Rattle.world_model.specs.Forgetting.{station_of, node_phase_of, client_phase_of}
+
+-- which exact phase stands for a phase
+
+pub client-idle : (p : ExactClientPhase) → client_phase_of p ≡ ClientIdle → p ≡ client.Idle
+client-idle client.Down e = absurd (let q : ClientDown ≡ ClientIdle = e in cc)
+client-idle client.Idle e = refl
+client-idle (client.Chosen t) e = absurd (let q : Chosen t ≡ ClientIdle = e in cc)
+client-idle (client.Asking t granted) e = absurd (let q : Asking t (has_node granted) ≡ ClientIdle = e in cc)
+client-idle (client.Inside t granted) e = absurd (let q : IsIn t (has_node granted) ≡ ClientIdle = e in cc)
+
+pub client-down : (p : ExactClientPhase) → client_phase_of p ≡ ClientDown → p ≡ client.Down
+client-down client.Down e = refl
+client-down client.Idle e = absurd (let q : ClientIdle ≡ ClientDown = e in cc)
+client-down (client.Chosen t) e = absurd (let q : Chosen t ≡ ClientDown = e in cc)
+client-down (client.Asking t granted) e = absurd (let q : Asking t (has_node granted) ≡ ClientDown = e in cc)
+client-down (client.Inside t granted) e = absurd (let q : IsIn t (has_node granted) ≡ ClientDown = e in cc)
+
+pub client-chosen : (p : ExactClientPhase) (t : Ticket) → client_phase_of p ≡ Chosen t → p ≡ client.Chosen t
+client-chosen client.Down t e = absurd (let q : ClientDown ≡ Chosen t = e in cc)
+client-chosen client.Idle t e = absurd (let q : ClientIdle ≡ Chosen t = e in cc)
+client-chosen (client.Chosen s) t e = let q : Chosen s ≡ Chosen t = e in let r : s ≡ t = cc in ap client.Chosen r
+client-chosen (client.Asking s granted) t e = absurd (let q : Asking s (has_node granted) ≡ Chosen t = e in cc)
+client-chosen (client.Inside s granted) t e = absurd (let q : IsIn s (has_node granted) ≡ Chosen t = e in cc)
+
+-- what is an exact phase, where it asks or is inside
+abbrev pub AskingAs : Ticket → (ℕ → Bool) → ExactClientPhase → Type 0
+AskingAs t set p = (granted : List ℕ) × (p ≡ client.Asking t granted) × (has_node granted ≡ set)
+
+pub client-asking : (p : ExactClientPhase) (t : Ticket) (set : ℕ → Bool) → client_phase_of p ≡ Asking t set → AskingAs t set p
+client-asking client.Down t set e = absurd (let q : ClientDown ≡ Asking t set = e in cc)
+client-asking client.Idle t set e = absurd (let q : ClientIdle ≡ Asking t set = e in cc)
+client-asking (client.Chosen s) t set e = absurd (let q : Chosen s ≡ Asking t set = e in cc)
+client-asking (client.Asking s granted) t set e =
+    let q : Asking s (has_node granted) ≡ Asking t set = e in
+    let r : s ≡ t = cc in
+    let same : has_node granted ≡ set = cc in (granted, ap (λ x. client.Asking x granted) r, same)
+client-asking (client.Inside s granted) t set e = absurd (let q : IsIn s (has_node granted) ≡ Asking t set = e in cc)
+
+abbrev pub InsideAs : Ticket → ExactClientPhase → Type 0
+InsideAs t p = (granted : List ℕ) × (p ≡ client.Inside t granted)
+
+pub client-inside : (p : ExactClientPhase) (t : Ticket) (set : ℕ → Bool) → client_phase_of p ≡ IsIn t set → InsideAs t p
+client-inside client.Down t set e = absurd (let q : ClientDown ≡ IsIn t set = e in cc)
+client-inside client.Idle t set e = absurd (let q : ClientIdle ≡ IsIn t set = e in cc)
+client-inside (client.Chosen s) t set e = absurd (let q : Chosen s ≡ IsIn t set = e in cc)
+client-inside (client.Asking s granted) t set e = absurd (let q : Asking s (has_node granted) ≡ IsIn t set = e in cc)
+client-inside (client.Inside s granted) t set e =
+    let q : IsIn s (has_node granted) ≡ IsIn t set = e in
+    let r : s ≡ t = cc in (granted, ap (λ x. client.Inside x granted) r)
+
+-- what each relation needs of the actor before it
+
+pub begins-needs : {c : ℕ} {m : Mode} {x : List ℕ} {before after : Client} → Begins c m x before after → (before.phase ≡ ClientIdle) × (before.kept < MAX_ATTEMPT)
+begins-needs (begins kept tried below) = (refl, below)
+
+pub tries-needs : {before after : Client} → TriesAttempt before after → (t : Ticket) × (before.phase ≡ Chosen t) × (before.tried ≡ None)
+tries-needs (tries_attempt kept t) = (t, refl, refl)
+
+pub keeps-needs : {before after : Client} → KeepsAttempt before after → (t : Ticket) × (a : ℕ) × (before.phase ≡ Chosen t) × (before.tried ≡ Some a)
+keeps-needs (keeps_attempt kept a t) = (t, a, refl, refl)
+
+-- a client may speak
+pub data MaySpeak (before : Client) : Type 0 where
+  speaks_asking : (t : Ticket) (set : ℕ → Bool) → before.phase ≡ Asking t set → MaySpeak before
+  speaks_inside : (t : Ticket) (set : ℕ → Bool) → before.phase ≡ IsIn t set → MaySpeak before
+  speaks_idle : before.phase ≡ ClientIdle → 0 < before.kept → MaySpeak before
+
+pub tells-needs : {c n : ℕ} {before : Client} {said : List Message} → Tells c n before said → MaySpeak before
+tells-needs (asks kept tried t set) = speaks_asking t set refl
+tells-needs (asks_inside kept tried t set) = speaks_inside t set refl
+tells-needs (releases kept tried some) = speaks_idle refl some
+
+pub hears-needs : {b : Ballot} {c : ℕ} {m : Message} {before after : Client} → Hears b c m before after → before.phase ≢ ClientDown
+hears-needs (counts kept tried t set h) = λ e. let q : Asking t set ≡ ClientDown = e in cc
+hears-needs (counts_inside kept tried t set h) = λ e. let q : IsIn t set ≡ ClientDown = e in cc
+hears-needs (passes kept tried t set x h apart) = λ e. let q : Asking t set ≡ ClientDown = e in cc
+hears-needs (passes_inside kept tried t set x h apart) = λ e. let q : IsIn t set ≡ ClientDown = e in cc
+hears-needs (passes_idle kept tried x h) = λ e. let q : ClientIdle ≡ ClientDown = e in cc
+hears-needs (passes_chosen kept tried t) = λ e. let q : Chosen t ≡ ClientDown = e in cc
+
+pub enters-needs : {b : Ballot} {before after : Client} → Enters b before after → (t : Ticket) × (set : ℕ → Bool) × (before.phase ≡ Asking t set) × IsEnough b t.mode set
+enters-needs (enters kept tried t set enough) = (t, set, refl, enough)
+
+-- a client has something to leave
+pub data MayLeave (before : Client) : Type 0 where
+  leaves_asking : (t : Ticket) (set : ℕ → Bool) → before.phase ≡ Asking t set → MayLeave before
+  leaves_inside : (t : Ticket) (set : ℕ → Bool) → before.phase ≡ IsIn t set → MayLeave before
+
+pub leaves-needs : {before after : Client} → Leaves before after → MayLeave before
+leaves-needs (gives_up kept tried t set) = leaves_asking t set refl
+leaves-needs (leaves kept tried t set) = leaves_inside t set refl
+
+pub client-falls-needs : {before after : Client} → ClientFalls before after → before.phase ≢ ClientDown
+client-falls-needs (client_falls kept tried phase up) = up
+
+pub old-needs : {before after : Client} → ClientRises Old before after → before.phase ≡ ClientDown
+old-needs (client_rises_old kept tried) = refl
+
+pub new-needs : {before after : Client} → ClientRises New before after → (a : ℕ) × (before.phase ≡ ClientDown) × (before.tried ≡ Some a)
+new-needs (client_rises_new kept a) = (a, refl, refl)
+
+-- which exact phase of a node stands for a phase
+
+pub node-down : (p : ExactNodePhase) → node_phase_of p ≡ NodeDown → p ≡ node.Down
+node-down node.Down e = refl
+node-down node.Idle e = absurd (let q : NodeIdle ≡ NodeDown = e in cc)
+node-down (node.Decided s replies) e = absurd (let q : Decided (station_of s) replies ≡ NodeDown = e in cc)
+node-down (node.Stored replies) e = absurd (let q : Stored replies ≡ NodeDown = e in cc)
+
+pub node-idle : (p : ExactNodePhase) → node_phase_of p ≡ NodeIdle → p ≡ node.Idle
+node-idle node.Down e = absurd (let q : NodeDown ≡ NodeIdle = e in cc)
+node-idle node.Idle e = refl
+node-idle (node.Decided s replies) e = absurd (let q : Decided (station_of s) replies ≡ NodeIdle = e in cc)
+node-idle (node.Stored replies) e = absurd (let q : Stored replies ≡ NodeIdle = e in cc)
+
+abbrev pub DecidedAs : ExactNodePhase → Type 0
+DecidedAs p = (s : ExactStation) × (replies : List Message) × (p ≡ node.Decided s replies)
+
+pub node-decided : (p : ExactNodePhase) (s : Station) (replies : List Message) → node_phase_of p ≡ Decided s replies → DecidedAs p
+node-decided node.Down s replies e = absurd (let q : NodeDown ≡ Decided s replies = e in cc)
+node-decided node.Idle s replies e = absurd (let q : NodeIdle ≡ Decided s replies = e in cc)
+node-decided (node.Decided u others) s replies e = (u, others, refl)
+node-decided (node.Stored others) s replies e = absurd (let q : Stored others ≡ Decided s replies = e in cc)
+
+abbrev pub StoredAs : ExactNodePhase → Type 0
+StoredAs p = (replies : List Message) × (p ≡ node.Stored replies)
+
+pub node-stored : (p : ExactNodePhase) (replies : List Message) → node_phase_of p ≡ Stored replies → StoredAs p
+node-stored node.Down replies e = absurd (let q : NodeDown ≡ Stored replies = e in cc)
+node-stored node.Idle replies e = absurd (let q : NodeIdle ≡ Stored replies = e in cc)
+node-stored (node.Decided s others) replies e = absurd (let q : Decided (station_of s) others ≡ Stored replies = e in cc)
+node-stored (node.Stored others) replies e = (others, refl)
+
+pub none-tried : (o : Option ExactStation) → option_map station_of o ≡ None → o ≡ None
+none-tried None e = refl
+none-tried (Some s) e = absurd (let q : Some (station_of s) ≡ None = e in cc)
+
+pub some-tried : (o : Option ExactStation) (s : Station) → option_map station_of o ≡ Some s → (u : ExactStation) × (o ≡ Some u)
+some-tried None s e = absurd (let q : None ≡ Some s = e in cc)
+some-tried (Some u) s e = (u, refl)
+
+pub station-tries-needs : {before after : Node} → TriesStation before after → (s : Station) × (replies : List Message) × (before.phase ≡ Decided s replies) × (before.tried ≡ None)
+station-tries-needs (tries_station kept s replies) = (s, replies, refl, refl)
+
+pub station-keeps-needs : {before after : Node} → KeepsStation before after → (s tried : Station) × (replies : List Message) × (before.phase ≡ Decided s replies) × (before.tried ≡ Some tried)
+station-keeps-needs (keeps_station kept tried s replies) = (s, tried, replies, refl, refl)
+
+pub says-needs : {before after : Node} {said : List Message} → Says before after said → before.phase ≡ Stored said
+says-needs (says kept tried replies) = refl
+
+pub takes-needs : {m : Message} {before after : Node} → Takes m before after → before.phase ≡ NodeIdle
+takes-needs (takes kept s tried replies h) = refl
+takes-needs (takes_same kept tried replies h) = refl
+
+pub node-falls-needs : {before after : Node} → NodeFalls before after → before.phase ≢ NodeDown
+node-falls-needs (node_falls kept tried phase up) = up
+
+pub node-old-needs : {before after : Node} → NodeRises Old before after → before.phase ≡ NodeDown
+node-old-needs (node_rises_old kept tried) = refl
+
+pub node-new-needs : {before after : Node} → NodeRises New before after → (s : Station) × (before.phase ≡ NodeDown) × (before.tried ≡ Some s)
+node-new-needs (node_rises_new kept s) = (s, refl, refl)

@@ -1,0 +1,170 @@
+-- A client's turns, each by the phase that it is in.
+use Rattle.std.specs.Prelude.{ℕ, ◌+◌, ◌==◌, Bool, true, false, nat_le, nat_lt, List, [], ◌∷◌, length, Option, Some, None, Err, if◌then◌else◌}
+use Rattle.lock_messages.specs.declared.ids.TheConstants.{MAX_ATTEMPT}
+use Rattle.lock_messages.specs.declared.tickets.Mode.{Mode}
+use Rattle.lock_messages.specs.declared.tickets.Ticket.{Ticket}
+use Rattle.lock_messages.specs.declared.messages.Message.{Message}
+use Rattle.lock_messages.specs.declared.messages.Message.TheVariants as message
+use Rattle.lock_messages.specs.Messages.{is_for_client}
+use Rattle.lock_model.specs.declared.hearing.Heard.{Heard}
+use Rattle.lock_model.specs.declared.hearing.Heard.TheVariants as heard
+use Rattle.lock_model.specs.Ballots.{Ballot, needed, votes_of}
+use Rattle.lock_model.specs.ExactHearing.{is_node_of, heard_of_ticket, heard_at_rest}
+use Rattle.vote_weights.specs.Sets.{has_node, with_node}
+use Rattle.world_model.specs.declared.events.Age.{Age}
+use Rattle.world_model.specs.declared.events.Age.TheVariants.{Old, New}
+use Rattle.world_model.specs.declared.events.Effect.TheVariants as effect
+use Rattle.world_model.specs.declared.events.StepFault.TheVariants as fault
+use Rattle.world_model.specs.declared.exact.ExactClient.{ExactClient}
+use Rattle.world_model.specs.declared.exact.ExactClientPhase.{ExactClientPhase}
+use Rattle.world_model.specs.declared.exact.ExactClientPhase.TheVariants.{Down, Idle, Chosen, Asking, Inside}
+use Rattle.world_model.specs.Turns.{Turns, acts, speaks, reads}
+
+-- the client in another phase
+abbrev pub client_in : ExactClient → ExactClientPhase → ExactClient
+client_in k phase = record { kept = k.kept; tried = k.tried; phase = phase }
+
+-- Begin: the next attempt, where there is one
+
+abbrev pub next_ticket : ℕ → Mode → List ℕ → ℕ → Ticket
+next_ticket c m x kept = record { client = c; attempt = kept + 1; mode = m; resource = x }
+
+abbrev pub begins_in : ℕ → Mode → List ℕ → ExactClient → ExactClientPhase → Turns ExactClient
+begins_in c m x k Down = Err fault.Down
+begins_in c m x k Idle =
+    if nat_lt k.kept MAX_ATTEMPT then acts (client_in k (Chosen (next_ticket c m x k.kept))) (effect.Chose (k.kept + 1)) else Err fault.AttemptsSpent
+begins_in c m x k (Chosen t) = Err fault.WrongPhase
+begins_in c m x k (Asking t granted) = Err fault.WrongPhase
+begins_in c m x k (Inside t granted) = Err fault.WrongPhase
+
+-- Try: a chosen attempt, with nothing tried, is tried
+
+abbrev pub tries_attempt_with : ExactClient → Ticket → Option ℕ → Turns ExactClient
+tries_attempt_with k t None = acts (record { kept = k.kept; tried = Some t.attempt; phase = k.phase }) effect.Tried
+tries_attempt_with k t (Some a) = Err fault.WrongPhase
+
+abbrev pub tries_attempt_in : ExactClient → ExactClientPhase → Turns ExactClient
+tries_attempt_in k Down = Err fault.Down
+tries_attempt_in k Idle = Err fault.WrongPhase
+tries_attempt_in k (Chosen t) = tries_attempt_with k t k.tried
+tries_attempt_in k (Asking t granted) = Err fault.WrongPhase
+tries_attempt_in k (Inside t granted) = Err fault.WrongPhase
+
+-- Kept: the tried attempt is the kept one, and the client asks with its ticket
+
+abbrev pub keeps_attempt_with : Ticket → Option ℕ → Turns ExactClient
+keeps_attempt_with t None = Err fault.NothingTried
+keeps_attempt_with t (Some a) = acts (record { kept = a; tried = None; phase = Asking t [] }) effect.Kept
+
+abbrev pub keeps_attempt_in : ExactClient → ExactClientPhase → Turns ExactClient
+keeps_attempt_in k Down = Err fault.Down
+keeps_attempt_in k Idle = Err fault.WrongPhase
+keeps_attempt_in k (Chosen t) = keeps_attempt_with t k.tried
+keeps_attempt_in k (Asking t granted) = Err fault.WrongPhase
+keeps_attempt_in k (Inside t granted) = Err fault.WrongPhase
+
+-- SayTo: to a node of the ballot, the request of the ticket or, at rest, the release of the attempt
+
+abbrev pub says_one : ExactClient → Message → Turns ExactClient
+says_one k m = speaks k (m ∷ []) (λ first. effect.Sent first m)
+
+abbrev pub tells_in : ℕ → ℕ → ExactClient → ExactClientPhase → Turns ExactClient
+tells_in c n k Down = Err fault.Down
+tells_in c n k Idle = if k.kept == 0 then Err fault.NothingToSay else says_one k (message.Release n c k.kept)
+tells_in c n k (Chosen t) = Err fault.NotStored
+tells_in c n k (Asking t granted) = says_one k (message.Request n t)
+tells_in c n k (Inside t granted) = says_one k (message.Request n t)
+
+abbrev pub tells : Ballot → ℕ → ℕ → ExactClient → Turns ExactClient
+tells b c n k = if is_node_of (length b.votes) n then tells_in c n k k.phase else Err fault.UnknownActor
+
+-- Hear: a vote that counts is put into the set; nothing else changes the client
+
+abbrev pub heard_in : ℕ → ℕ → ℕ → ExactClientPhase → Message → Heard
+heard_in nodes c kept Down m = heard.NotMine
+heard_in nodes c kept Idle m = heard_at_rest nodes c kept m
+heard_in nodes c kept (Chosen t) m = heard.NotMine
+heard_in nodes c kept (Asking t granted) m = heard_of_ticket nodes t (has_node granted) m
+heard_in nodes c kept (Inside t granted) m = heard_of_ticket nodes t (has_node granted) m
+
+-- the node that a message names
+abbrev pub node_of : Message → ℕ
+node_of (message.Request n t) = n
+node_of (message.Release n c a) = n
+node_of (message.Grant n t) = n
+node_of (message.Busy n t) = n
+node_of (message.Over n c a) = n
+node_of (message.Done n c a) = n
+node_of (message.Muddled n c a) = n
+
+-- whether the answer is that a vote was counted
+abbrev pub is_counted : Heard → Bool
+is_counted heard.Counted = true
+is_counted heard.Known = false
+is_counted heard.Busy = false
+is_counted heard.Done = false
+is_counted heard.NotMine = false
+
+abbrev pub counts_in : ℕ → ExactClientPhase → ExactClientPhase
+counts_in n Down = Down
+counts_in n Idle = Idle
+counts_in n (Chosen t) = Chosen t
+counts_in n (Asking t granted) = Asking t (with_node granted n)
+counts_in n (Inside t granted) = Inside t (with_node granted n)
+
+abbrev pub after_hearing : ℕ → ℕ → ExactClient → Message → ExactClient
+after_hearing nodes c k m = if is_counted (heard_in nodes c k.kept k.phase m) then client_in k (counts_in (node_of m) k.phase) else k
+
+abbrev pub is_down : ExactClientPhase → Bool
+is_down Down = true
+is_down Idle = false
+is_down (Chosen t) = false
+is_down (Asking t granted) = false
+is_down (Inside t granted) = false
+
+abbrev pub hears : ℕ → ℕ → ℕ → ExactClient → Turns ExactClient
+hears nodes c number k =
+    if is_down k.phase then Err fault.Down
+    else reads number (λ m. is_for_client m c) (after_hearing nodes c k) (λ m. effect.Heard m (heard_in nodes c k.kept k.phase m))
+
+-- Enter: a client that asks, once its votes are enough
+
+abbrev pub enters_in : Ballot → ExactClient → ExactClientPhase → Turns ExactClient
+enters_in b k Down = Err fault.Down
+enters_in b k Idle = Err fault.WrongPhase
+enters_in b k (Chosen t) = Err fault.WrongPhase
+enters_in b k (Asking t granted) =
+    if nat_le (needed b t.mode) (votes_of b (has_node granted)) then acts (client_in k (Inside t granted)) effect.Inside else Err fault.NoQuorum
+enters_in b k (Inside t granted) = Err fault.WrongPhase
+
+-- Leave: a client that asks or is inside
+
+abbrev pub leaves_in : ExactClient → ExactClientPhase → Turns ExactClient
+leaves_in k Down = Err fault.Down
+leaves_in k Idle = Err fault.WrongPhase
+leaves_in k (Chosen t) = Err fault.WrongPhase
+leaves_in k (Asking t granted) = acts (client_in k Idle) effect.Outside
+leaves_in k (Inside t granted) = acts (client_in k Idle) effect.Outside
+
+-- Fall: what is kept and tried remains
+
+abbrev pub client_falls_in : ExactClient → ExactClientPhase → Turns ExactClient
+client_falls_in k Down = Err fault.Down
+client_falls_in k Idle = acts (client_in k Down) effect.Down
+client_falls_in k (Chosen t) = acts (client_in k Down) effect.Down
+client_falls_in k (Asking t granted) = acts (client_in k Down) effect.Down
+client_falls_in k (Inside t granted) = acts (client_in k Down) effect.Down
+
+-- Rise: with the kept attempt or, where one is tried, with that
+
+abbrev pub client_rises_with : Age → ℕ → Option ℕ → Turns ExactClient
+client_rises_with Old kept tried = acts (record { kept = kept; tried = None; phase = Idle }) effect.Up
+client_rises_with New kept None = Err fault.NothingTried
+client_rises_with New kept (Some a) = acts (record { kept = a; tried = None; phase = Idle }) effect.Up
+
+abbrev pub client_rises_in : Age → ExactClient → ExactClientPhase → Turns ExactClient
+client_rises_in age k Down = client_rises_with age k.kept k.tried
+client_rises_in age k Idle = Err fault.Up
+client_rises_in age k (Chosen t) = Err fault.Up
+client_rises_in age k (Asking t granted) = Err fault.Up
+client_rises_in age k (Inside t granted) = Err fault.Up

@@ -1,0 +1,107 @@
+-- Worked runs of the exact world, each under the name of what it shows.
+use Rattle.std.specs.Prelude.{◌≡◌, ℕ, false, List, [], ◌∷◌, ◌++◌, Some, codes, replicate}
+use Rattle.lock_messages.specs.declared.ids.TheConstants.{MAX_ATTEMPT}
+use Rattle.lock_messages.specs.declared.ids.Actor.TheVariants as actor
+use Rattle.lock_messages.specs.declared.tickets.Mode.TheVariants.{Read, Write}
+use Rattle.lock_messages.specs.declared.tickets.Ticket.{Ticket}
+use Rattle.lock_messages.specs.declared.messages.Message.TheVariants.{Request, Grant}
+use Rattle.lock_model.specs.declared.hearing.Heard.TheVariants.{NotMine}
+use Rattle.lock_model.specs.declared.problems.Problem.TheVariants.{First}
+use Rattle.lock_model.specs.Ballots.{Ballot}
+use Rattle.world_model.specs.declared.events.Age.TheVariants.{Old, New}
+use Rattle.world_model.specs.declared.events.Effect.TheVariants as effect
+use Rattle.world_model.specs.declared.events.Event.{Event}
+use Rattle.world_model.specs.declared.events.Event.TheVariants.{Begin, Try, Kept, SayTo, Say, Take, Hear, Enter, Fall, Rise}
+use Rattle.world_model.specs.declared.events.StepFault.TheVariants as fault
+use Rattle.world_model.specs.declared.exact.ExactWorld.{ExactWorld}
+use Rattle.world_model.specs.ExactWorlds.{ran, after, effect, refusal}
+use Rattle.world_model.specs.Openings.{empty_station, resumed, opening}
+use Rattle.world_model.specs.Views.{inside, holding}
+
+-- three nodes of one vote each; two votes read, and two write
+abbrev pub three_nodes : Ballot
+three_nodes = record { votes = 1 ∷ 1 ∷ 1 ∷ []; read = 2; write = 2 }
+
+-- the ticket of client 1's first attempt: to read `a`
+abbrev pub first_ticket : Ticket
+first_ticket = record { client = 1; attempt = 1; mode = Read; resource = codes "a" }
+
+-- the world after these events, from one of four clients in which all that take part here are up
+abbrev pub from_rest : List Event → ExactWorld
+from_rest events =
+    let up = Rise (actor.Node 1) Old ∷ Rise (actor.Node 2) Old ∷ Rise (actor.Client 1) Old ∷ [] in
+    (ran (up ++ events) (opening three_nodes (replicate 3 First) 4)).world
+
+-- client 1 chooses to read `a`
+abbrev pub chooses : List Event
+chooses = Begin 1 Read (codes "a") ∷ Try (actor.Client 1) ∷ Kept (actor.Client 1) ∷ []
+
+-- the client asks a node, by the message of this number
+abbrev pub asks : ℕ → ℕ → List Event
+asks n request = SayTo 1 n ∷ Take n request ∷ []
+
+-- the node keeps what it decided
+abbrev pub keeps : ℕ → List Event
+keeps n = Try (actor.Node n) ∷ Kept (actor.Node n) ∷ []
+
+-- it says its reply, the message of this number, which the client hears
+abbrev pub replies : ℕ → ℕ → List Event
+replies n reply = Say n ∷ Hear 1 reply ∷ []
+
+abbrev pub one_grant : List Event
+one_grant = chooses ++ asks 1 1 ++ keeps 1 ++ replies 1 2
+
+abbrev pub two_grants : List Event
+two_grants = one_grant ++ asks 2 3 ++ keeps 2 ++ replies 2 4
+
+-- with two Grants a reader is inside, and these messages were sent
+abbrev pub FirstReader : Type 0
+FirstReader =
+    let w = from_rest (two_grants ++ Enter 1 ∷ []) in
+    (inside (codes "a") w ≡ first_ticket ∷ [])
+    × (w.sent ≡ Request 1 first_ticket ∷ Grant 1 first_ticket ∷ Request 2 first_ticket ∷ Grant 2 first_ticket ∷ [])
+
+-- with one it isn't
+abbrev pub OneGrantIsTooFew : Type 0
+OneGrantIsTooFew = let w = from_rest one_grant in (refusal w (Enter 1) ≡ Some fault.NoQuorum) × (inside (codes "a") w ≡ [])
+
+-- a node says nothing before its record is kept
+abbrev pub SayBeforeKept : Type 0
+SayBeforeKept =
+    let w = from_rest (chooses ++ asks 1 1) in
+    (refusal w (Say 1) ≡ Some fault.NotStored) × (refusal (after w (Try (actor.Node 1))) (Say 1) ≡ Some fault.NotStored)
+
+-- a node that fell after its record was kept finds it, and has only to say its Grant again
+abbrev pub RestartWithOldRecord : Type 0
+RestartWithOldRecord =
+    let w = from_rest (chooses ++ asks 1 1 ++ keeps 1 ++ Fall (actor.Node 1) ∷ Rise (actor.Node 1) Old ∷ []) in
+    (effect w (Take 1 1) ≡ Some (effect.Took (Request 1 first_ticket) false)) × (effect (after w (Take 1 1)) (Say 1) ≡ Some (effect.Said 2 1))
+
+-- one that fell as its record was written finds the new one or the old one
+abbrev pub RestartWithNewRecord : Type 0
+RestartWithNewRecord =
+    let w = from_rest (chooses ++ asks 1 1 ++ Try (actor.Node 1) ∷ Fall (actor.Node 1) ∷ []) in
+    (holding 1 (codes "a") (after w (Rise (actor.Node 1) New)) ≡ Some (first_ticket ∷ []))
+    × (holding 1 (codes "a") (after w (Rise (actor.Node 1) Old)) ≡ Some [])
+
+-- there is no new record where none was written, and who is up doesn't rise
+abbrev pub RefusedRises : Type 0
+RefusedRises =
+    let w = from_rest (Fall (actor.Node 1) ∷ []) in
+    (refusal w (Rise (actor.Node 1) New) ≡ Some fault.NothingTried)
+    × (refusal (after w (Rise (actor.Node 1) Old)) (Rise (actor.Node 1) Old) ≡ Some fault.Up)
+
+-- a client that fell goes on with its next attempt, and the old Grants count for nothing
+abbrev pub RestartedClient : Type 0
+RestartedClient =
+    let w = from_rest (two_grants ++ Enter 1 ∷ Fall (actor.Client 1) ∷ Rise (actor.Client 1) Old ∷ []) in
+    let v = after (after (after w (Begin 1 Write (codes "a"))) (Try (actor.Client 1))) (Kept (actor.Client 1)) in
+    (effect w (Begin 1 Write (codes "a")) ≡ Some (effect.Chose 2)) × (effect v (Hear 1 2) ≡ Some (effect.Heard (Grant 1 first_ticket) NotMine))
+    × (refusal v (Enter 1) ≡ Some fault.NoQuorum) × (inside (codes "a") v ≡ [])
+
+-- a client whose attempts are spent begins no other, and none while it is down
+abbrev pub GreatestAttempt : Type 0
+GreatestAttempt =
+    let w = resumed three_nodes (replicate 3 (empty_station First)) (MAX_ATTEMPT ∷ []) in
+    (refusal w (Begin 1 Read (codes "a")) ≡ Some fault.Down)
+    × (refusal (after w (Rise (actor.Client 1) Old)) (Begin 1 Read (codes "a")) ≡ Some fault.AttemptsSpent)

@@ -1,0 +1,16 @@
+pub mod Faults
+pub mod Worlds
+pub mod Invariants
+pub mod Exclusion
+pub mod Turns
+pub mod ExactNodes
+pub mod ExactClients
+pub mod ExactWorlds
+pub mod Forgetting
+pub mod Openings
+pub mod Views
+pub mod StepsOf
+pub mod Parts
+pub mod Laws
+pub mod Locality
+pub mod Examples

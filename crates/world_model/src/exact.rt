@@ -1,0 +1,65 @@
+// The exact world as plain data, which is what contracts see of a `World`. No value of these types
+// is ever made: lists stand for whatever a body keeps them in.
+
+use lock_messages::{Message, NodeId, Ticket};
+use lock_model::{Entry, Problem};
+use std::collections::LinkedList;
+use vote_weights::Ballot;
+
+/// What a node keeps: the problem that it solves, and its entries in the order of their tickets.
+#[derive(Debug, Drop)]
+pub struct ExactStation {
+    pub problem: Problem,
+    pub entries: LinkedList<Entry>,
+}
+
+/// What a node is about.
+#[derive(Debug, Drop)]
+pub enum ExactNodePhase {
+    Down,
+    Idle,
+    /// It has decided on a message: the station after, and the replies.
+    Decided(ExactStation, LinkedList<Message>),
+    /// What it decided is kept, and it has these replies to say.
+    Stored(LinkedList<Message>),
+}
+
+/// A node: what it has kept, what it is trying to keep, and its phase.
+#[derive(Debug, Drop)]
+pub struct ExactNode {
+    pub kept: ExactStation,
+    pub tried: Option<ExactStation>,
+    pub phase: ExactNodePhase,
+}
+
+/// What a client is about. The nodes that granted its ticket are listed in ascending order.
+#[derive(Debug, Drop)]
+pub enum ExactClientPhase {
+    Down,
+    Idle,
+    /// It has chosen its next attempt.
+    Chosen(Ticket),
+    /// It asks nodes for their votes.
+    Asking(Ticket, LinkedList<NodeId>),
+    /// It is inside.
+    Inside(Ticket, LinkedList<NodeId>),
+}
+
+/// A client: the attempt that it has kept (0 for none), the one that it is trying to keep, and its
+/// phase.
+#[derive(Debug, Drop)]
+pub struct ExactClient {
+    pub kept: u64,
+    pub tried: Option<u64>,
+    pub phase: ExactClientPhase,
+}
+
+/// A world: its ballot, its nodes and clients in the order of their numbers, and all messages ever
+/// sent, in the order in which they were.
+#[derive(Debug, Drop)]
+pub struct ExactWorld {
+    pub ballot: Ballot,
+    pub nodes: LinkedList<ExactNode>,
+    pub clients: LinkedList<ExactClient>,
+    pub sent: LinkedList<Message>,
+}
