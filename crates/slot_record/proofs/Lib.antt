@@ -1,0 +1,10 @@
+mod ImageFacts
+mod SlotFacts
+mod Moments
+mod StepFacts
+mod FindFacts
+mod EntryFacts
+mod PutFacts
+mod FormatFacts
+mod KeepFacts
+mod RecordFacts

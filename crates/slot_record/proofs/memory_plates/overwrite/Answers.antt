@@ -1,0 +1,9 @@
+use Rattle.std.proofs.Common.{◌∙◌, List, ℕ, ap, sym, length, refl}
+use Rattle.slot_record.specs.MemoryPlates.{put}
+use Rattle.slot_record.proofs.PutFacts.{put_mid-put}
+use Rattle.slot_record.proofs.memory_plates.overwrite.Goals as goal
+
+pub returns : goal.returns
+returns c =
+    let is = c.copy_from_slice.ensures.after in
+    rw is (put_mid-put c.args.at (length c.args.with.now) c.args.bytes.now c.args.with.now refl c.requires)

@@ -1,0 +1,10 @@
+pub mod Images
+pub mod Plates
+pub mod Slots
+pub mod Faults
+pub mod Records
+pub mod Keeping
+pub mod Finding
+pub mod Formatting
+pub mod MemoryPlates
+pub mod MemoryLaws
