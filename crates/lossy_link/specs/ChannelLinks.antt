@@ -1,0 +1,64 @@
+-- What a link between threads knows of itself. What its channels bring, nobody knows.
+use Rattle.std.specs.Prelude.{◌≡◌, ℕ, ◌+◌, ◌-◌, nat_lt, if◌then◌else◌, List, [], ◌∷◌, ◌++◌, Option, Some, None, Result, Ok}
+use Rattle.lock_messages.specs.declared.ids.Actor.{Actor}
+use Rattle.lock_messages.specs.declared.ids.Actor.TheVariants.{Node, Client}
+use Rattle.lossy_link.specs.declared.parcels.Parcel.{Parcel}
+use Rattle.lossy_link.specs.declared.parcels.Post.{Post}
+use Rattle.lossy_link.specs.declared.faults.LinkFault.{LinkFault}
+use Rattle.lossy_link.specs.declared.passages.Mail.{Mail}
+use Rattle.lossy_link.specs.Weathers.{Climate, climate_at, next_fate, after_fate}
+use Rattle.lossy_link.specs.Passages.{same_actor, mail_of, handed, held_after}
+
+-- a link: whose it is, its weather, the late parcel that it holds, and the posts that wait in it for its own actor
+pub record Channeled : Type 0 where
+  pub actor : Actor
+  pub climate : Climate
+  pub held : Option Mail
+  pub own : List Post
+
+-- the actor at a place: nodes first
+abbrev pub actor_at : ℕ → ℕ → Actor
+actor_at nodes place = if nat_lt place nodes then Node (place + 1) else Client (place - nodes + 1)
+
+-- the place of an actor among those that another one reaches: clients for a node, nodes for a client
+abbrev pub place_among : Actor → Actor → Option ℕ
+place_among (Node m) (Client d) = Some (d - 1)
+place_among (Client c) (Node n) = Some (n - 1)
+place_among (Node m) (Node n) = None
+place_among (Client c) (Client d) = None
+
+-- the link at a place, before anything was sent
+abbrev pub link_at : ℕ → Climate → ℕ → Channeled
+link_at nodes w place = record { actor = actor_at nodes place; climate = climate_at w place; held = None; own = [] }
+
+-- the posts of these mails that are for the actor itself
+abbrev pub own_posts : Actor → List Mail → List Post
+own_posts actor [] = []
+own_posts actor (m ∷ ms) = if same_actor m.to actor then m.post ∷ own_posts actor ms else own_posts actor ms
+
+-- the link after these mails were handed over
+abbrev pub after_handing : Channeled → List Mail → Channeled
+after_handing link mails = record { actor = link.actor; climate = link.climate; held = link.held; own = link.own ++ own_posts link.actor mails }
+
+-- the link after a parcel was sent over it
+abbrev pub after_sending : Channeled → Actor → Parcel → Channeled
+after_sending link to parcel =
+    let fate = next_fate link.climate in record {
+      actor = link.actor;
+      climate = after_fate link.climate;
+      held = held_after fate (mail_of to parcel);
+      own = link.own ++ own_posts link.actor (handed fate link.actor to parcel link.held);
+    }
+
+-- the link after a post was told to every client: a client's own link tells its own client
+abbrev pub told_own : Actor → Post → List Post
+told_own (Node n) post = []
+told_own (Client c) post = post ∷ []
+
+abbrev pub after_telling : Channeled → Post → Channeled
+after_telling link post = record { actor = link.actor; climate = link.climate; held = link.held; own = link.own ++ told_own link.actor post }
+
+-- posts that wait in the link come first; where none waits, any post may come, or none
+abbrev pub Receives : List Post → Result Post LinkFault → List Post → Type 0
+Receives [] answer own = own ≡ []
+Receives (post ∷ posts) answer own = (answer ≡ Ok post) × (own ≡ posts)

@@ -1,0 +1,318 @@
+// Links between threads, over channels.
+
+ghost use Rattle.std.specs.Prelude.{◌≡◌, ◌+◌, ◌<◌, ◌≤◌, min, map, None, Some, [], ◌∷◌, ◌++◌, OnOk, OnErr, IfOk, IsOkUnless, vec_len};
+ghost use Rattle.std.specs.List.{range_with_len};
+ghost use Rattle.lossy_link.specs.ChannelLinks.{actor_at, place_among, link_at, after_handing, after_sending, after_telling, Receives};
+ghost use Rattle.lossy_link.specs.Passages.{mails_of};
+ghost use Rattle.lossy_link.specs.Weathers.{after_fate};
+
+use crate::passages::{Departure, Mail, Passage, is_same};
+use crate::{Link, LinkFault, Parcel, Post, Weather};
+use crossbeam_channel::{Receiver, SendError, Sender, unbounded};
+use lock_messages::{Actor, ClientId, MAX_CLIENTS, MAX_NODES, NodeId};
+use std::alloc::{AllocError, Global};
+use std::collections::VecDeque;
+use std::marker::Model;
+use std::sync::Wait;
+
+/// An actor's link to the actors of other threads: its inbox, and the inboxes of the others.
+///
+/// Each parcel that is sent meets the link's own weather. A late one is held, and goes after the next
+/// parcel of the link, whatever becomes of that; one that is still held when the link is dropped is
+/// lost. For a lost or late one its client gets a nudge that names its node. A node's link reaches the
+/// clients, a client's the nodes, and each reaches its own actor: what goes there waits in the link
+/// itself, and is received first.
+#[derive(Drop)]
+pub struct ChannelLink<R: Copy> {
+    rt: R,
+    passage: Passage,
+    own: VecDeque<Post>,
+    inbox: Receiver<Post>,
+    others: Vec<Sender<Post>>,
+}
+
+impl<R: Copy> Model for ChannelLink<R> {
+    ghost use Rattle.lossy_link.specs.ChannelLinks.{Channeled};
+
+    ghost Value = { Channeled };
+
+    ghost view = { λ l. record { actor = l.passage.actor; climate = l.passage.weather; held = l.passage.late; own = l.own.items } };
+}
+
+/// Puts a post into an inbox. For an actor that has ended it does nothing.
+fn put<R: Wait>(rt: &R, inbox: &Sender<Post>, post: Post) -> Result<(), LinkFault>
+    ensures memory { IsOkUnless result LinkFault.Memory }
+{
+    match inbox.send(rt, post) {
+        Ok(()) => Ok(()),
+        Err(SendError::Disconnected(_)) => Ok(()),
+        Err(SendError::OutOfMemory(_)) => Err(LinkFault::Memory),
+    }
+}
+
+/// The channels of so many actors: the ends that send, and the inboxes.
+fn channels(
+    alloc: Global,
+    count: usize,
+) -> Result<(Vec<Sender<Post>>, Vec<Receiver<Post>>), AllocError>
+    ensures { IfOk result (λ ends. (vec_len ends.0 ≡ count) × (vec_len ends.1 ≡ count)) }
+{
+    let mut senders = Vec::with_capacity(alloc, count)?;
+    let mut inboxes = Vec::with_capacity(alloc, count)?;
+    for _i in 0..count {
+        let (sender, inbox) = unbounded(alloc)?;
+        senders.push(sender)?;
+        inboxes.push(inbox)?;
+    }
+    Ok((senders, inboxes))
+}
+
+/// Ends of their own for those that send to the same inboxes.
+fn copies(alloc: Global, senders: &[Sender<Post>]) -> Result<Vec<Sender<Post>>, AllocError> {
+    let mut all = Vec::with_capacity(alloc, senders.len())?;
+    for sender in senders {
+        all.push(sender.clone()?)?;
+    }
+    Ok(all)
+}
+
+/// The actor at a place; nodes stand before clients.
+fn actor_at(nodes: u8, place: u32) -> Actor
+    requires nodes { nodes ≤ MAX_NODES }
+    requires place { place < nodes + MAX_CLIENTS }
+    ensures { result ≡ actor_at nodes place }
+{
+    let before = u32::from(nodes);
+    if place < before {
+        let Some(node) = NodeId::of((place + 1) as u8) else {
+            unreachable!()
+        };
+        return Actor::Node(node);
+    }
+    let Some(client) = ClientId::of(place - before + 1) else {
+        unreachable!()
+    };
+    Actor::Client(client)
+}
+
+/// The place of an actor among those that a link of this actor reaches over channels: nodes reach
+/// clients, and clients reach nodes.
+fn place_among(of: &Actor, to: &Actor) -> Option<usize>
+    ensures { result ≡ place_among of.now to.now }
+{
+    match *of {
+        Actor::Node(_) => match *to {
+            Actor::Node(_) => None,
+            Actor::Client(client) => Some(client.get() as usize - 1),
+        },
+        Actor::Client(_) => match *to {
+            Actor::Node(node) => Some(usize::from(node.get()) - 1),
+            Actor::Client(_) => None,
+        },
+    }
+}
+
+impl<R: Copy> ChannelLink<R> {
+    /// The links of so many nodes and clients, nodes first; of no more than `MAX_NODES` and
+    /// `MAX_CLIENTS`, since there are no others. The link at a place, counted from 0, has the weather
+    /// at that place. A node's inbox is closed once all clients' links are dropped, and a client's
+    /// once all nodes' links are. 903: memory was refused.
+    pub fn all(
+        rt: R,
+        alloc: Global,
+        nodes: u8,
+        clients: u16,
+        weather: &Weather,
+    ) -> Result<Vec<ChannelLink<R>>, LinkFault>
+        ensures links { let first = min nodes MAX_NODES in let count = first + min clients MAX_CLIENTS in
+            IfOk result (λ links. links.items ≡ map (link_at first weather.now) (range_with_len 0 count)) }
+        ensures memory { IsOkUnless result LinkFault.Memory }
+    {
+        let nodes = nodes.min(MAX_NODES);
+        let clients = u32::from(clients).min(MAX_CLIENTS);
+        match ChannelLink::opened(rt, alloc, nodes, clients, weather) {
+            Ok(links) => Ok(links),
+            Err(AllocError) => Err(LinkFault::Memory),
+        }
+    }
+
+    /// The link of an actor, before anything was sent.
+    fn new(
+        rt: R,
+        alloc: Global,
+        actor: Actor,
+        weather: Weather,
+        inbox: Receiver<Post>,
+        others: Vec<Sender<Post>>,
+    ) -> ChannelLink<R>
+        ensures { result ≡ record { actor = actor; climate = weather; held = None; own = [] } }
+    {
+        ChannelLink {
+            rt,
+            passage: Passage {
+                actor,
+                weather,
+                late: None,
+            },
+            own: VecDeque::new(alloc),
+            inbox,
+            others,
+        }
+    }
+
+    /// The links of so many nodes and clients.
+    fn opened(
+        rt: R,
+        alloc: Global,
+        nodes: u8,
+        clients: u32,
+        weather: &Weather,
+    ) -> Result<Vec<ChannelLink<R>>, AllocError>
+        requires nodes { nodes ≤ MAX_NODES }
+        requires clients { clients ≤ MAX_CLIENTS }
+        ensures { IfOk result (λ links. links.items ≡ map (link_at nodes weather.now) (range_with_len 0 (nodes + clients))) }
+    {
+        let count = usize::from(nodes) + clients as usize;
+        let (senders, inboxes) = channels(alloc, count)?;
+        let (to_nodes, to_clients) = senders.split_at(usize::from(nodes));
+        let mut links = Vec::with_capacity(alloc, count)?;
+        for inbox in inboxes {
+            let place = links.len() as u32;
+            let actor = actor_at(nodes, place);
+            let others = match actor {
+                Actor::Node(_) => copies(alloc, to_clients)?,
+                Actor::Client(_) => copies(alloc, to_nodes)?,
+            };
+            let here = weather.at(place);
+            let link = ChannelLink::new(rt, alloc, actor, here, inbox, others);
+            links.push(link)?;
+        }
+        Ok(links)
+    }
+
+    /// Keeps a post for the link's own actor.
+    fn keep(&mut self, post: Post) -> Result<(), LinkFault>
+        ensures kept { OnOk result (self.new ≡ record { actor = self.old.actor; climate = self.old.climate; held = self.old.held; own = self.old.own ++ post ∷ [] }) }
+        ensures unchanged { OnErr result (self.new ≡ self.old) }
+        ensures memory { IsOkUnless result LinkFault.Memory }
+    {
+        if self.own.push_back(post).is_err() {
+            return Err(LinkFault::Memory);
+        }
+        Ok(())
+    }
+}
+
+impl<R: Wait + Copy> ChannelLink<R> {
+    /// Puts a post into the inbox of an actor that the link reaches over a channel.
+    fn put_out(&self, to: &Actor, post: Post) -> Result<(), LinkFault>
+        ensures memory { IsOkUnless result LinkFault.Memory }
+    {
+        let Some(place) = place_among(&self.passage.actor, to) else {
+            return Ok(());
+        };
+        match self.others.get(place) {
+            Some(inbox) => put(&self.rt, inbox, post),
+            None => Ok(()),
+        }
+    }
+
+    /// Hands a mail over to its actor, past the weather.
+    fn hand_over(&mut self, mail: Mail) -> Result<(), LinkFault>
+        ensures own { OnOk result (self.new ≡ after_handing self.old (mail ∷ [])) }
+        ensures unchanged { OnErr result (self.new ≡ self.old) }
+        ensures memory { IsOkUnless result LinkFault.Memory }
+    {
+        let Mail { to, post } = mail;
+        if is_same(to, self.passage.actor) {
+            self.keep(post)
+        } else {
+            self.put_out(&to, post)
+        }
+    }
+
+    /// Hands the mails of a departure over, in order.
+    fn hand_all(&mut self, departure: Departure) -> Result<(), LinkFault>
+        ensures own { OnOk result (self.new ≡ after_handing self.old (mails_of departure)) }
+        ensures actor { self.new.actor ≡ self.old.actor }
+        ensures climate { self.new.climate ≡ self.old.climate }
+        ensures memory { IsOkUnless result LinkFault.Memory }
+    {
+        let Departure {
+            first,
+            second,
+            late,
+        } = departure;
+        if let Some(mail) = first {
+            self.hand_over(mail)?;
+        }
+        if let Some(mail) = second {
+            self.hand_over(mail)?;
+        }
+        if let Some(mail) = late {
+            self.hand_over(mail)?;
+        }
+        Ok(())
+    }
+
+    /// Puts a post into the inbox of each of the others.
+    fn tell_others(&self, post: &Post) -> Result<(), LinkFault>
+        ensures memory { IsOkUnless result LinkFault.Memory }
+    {
+        for inbox in &self.others {
+            let Ok(copy) = post.clone() else {
+                return Err(LinkFault::Memory);
+            };
+            put(&self.rt, inbox, copy)?;
+        }
+        Ok(())
+    }
+}
+
+impl<R: Wait + Copy> Link for ChannelLink<R> {
+    ghost coming = { λ _. None };
+
+    ghost given = { λ _. None };
+
+    /// Sends a parcel through the link's weather, and what was held behind it. It waits for no other
+    /// actor. 903: memory was refused; a part may have gone, and what was held may be lost.
+    fn send(&mut self, to: Actor, parcel: Parcel) -> Result<(), LinkFault>
+        ensures sent { OnOk result (self.new ≡ after_sending self.old to parcel) }
+        ensures actor { self.new.actor ≡ self.old.actor }
+        ensures climate { self.new.climate ≡ after_fate self.old.climate }
+        ensures memory { IsOkUnless result LinkFault.Memory }
+    {
+        let departure = self.passage.depart(to, parcel)?;
+        self.hand_all(departure)
+    }
+
+    /// Puts the post into every client's inbox, past the weather; over a client's link, it waits in
+    /// the link for its own client alone. It waits for no other actor. 903: memory was refused, and a
+    /// part may have gone.
+    fn tell_all(&mut self, post: Post) -> Result<(), LinkFault>
+        ensures told { OnOk result (self.new ≡ after_telling self.old post) }
+        ensures unchanged { OnErr result (self.new ≡ self.old) }
+        ensures memory { IsOkUnless result LinkFault.Memory }
+    {
+        match self.passage.actor {
+            Actor::Node(_) => self.tell_others(&post),
+            Actor::Client(_) => self.keep(post),
+        }
+    }
+
+    /// The first post that waits in the link or, where none does, in the inbox, for which it may wait.
+    /// 902: the inbox is empty, and all links that reach it are dropped. It takes no memory.
+    fn receive(&mut self) -> Result<Post, LinkFault>
+        ensures own { Receives self.old.own result self.new.own }
+        ensures kept { (self.new.actor ≡ self.old.actor) × (self.new.climate ≡ self.old.climate) × (self.new.held ≡ self.old.held) }
+        ensures closed { IsOkUnless result LinkFault.Closed }
+    {
+        if let Some(post) = self.own.pop_front() {
+            return Ok(post);
+        }
+        match self.inbox.recv(&self.rt) {
+            Ok(post) => Ok(post),
+            Err(_) => Err(LinkFault::Closed),
+        }
+    }
+}

@@ -1,0 +1,40 @@
+//! The links between nodes and clients: what carries frames, and the weather on the way.
+//!
+//! An actor has one `Link`. Over it parcels are sent to actors, words are told to every client, and
+//! posts are received. A `Weather` decides each parcel's `Fate` by a generator of fixed words: it is
+//! lost, goes twice, goes late or goes plainly. A lost or late parcel brings its client a nudge that
+//! names its node, so that who waits asks again; a nudge is no message.
+//!
+//! The crate promises that each fate is a stated function of the generator's next word; that a link
+//! hands over what each fate says, in order; that a `ListLink` gives just the posts that it was made
+//! of, in order, and lists all that was sent and told; and that each fault comes only where its cause
+//! is. It promises nothing of what a `ChannelLink` brings: of a post that is received only its type is
+//! known, and any parcel may be missing, come again or come in another order.
+//!
+//! Only `receive` of a `ChannelLink` waits for another actor. The crate stands on `lock_messages`,
+//! `bytes` for frames that several links share, `crossbeam_channel` for inboxes and `rand_pcg` for the
+//! weather's words.
+#![tactic(auto)]
+
+mod channel_links;
+mod fates;
+mod faults;
+pub mod laws;
+mod links;
+mod list_links;
+mod parcels;
+mod passages;
+mod weathers;
+
+pub use channel_links::ChannelLink;
+pub use fates::Fate;
+pub use faults::{LinkFault, WeatherFault};
+pub use links::Link;
+pub use list_links::ListLink;
+pub use parcels::{Parcel, Post, Sending};
+pub use weathers::Weather;
+
+#[cfg(test)]
+mod link_tests;
+#[cfg(test)]
+mod weather_tests;

@@ -1,0 +1,41 @@
+// What it means to be a link.
+
+ghost use Rattle.std.specs.Prelude.{◌≡◌, List, Option, OnOk, IsOkUnless};
+ghost use Rattle.lossy_link.specs.Links.{one_more, Brings};
+ghost use Rattle.lossy_link.specs.declared.parcels.Post.{Post as PostValue};
+ghost use Rattle.lossy_link.specs.declared.parcels.Sending.{Sending as SendingValue};
+
+use crate::{LinkFault, Parcel, Post, Sending};
+use lock_messages::Actor;
+
+/// An actor's way to the others.
+///
+/// What it means is in two words, which no code computes. `coming`: the posts that it will bring, in
+/// order, if that is known. `given`: what was sent and told over it, in order, if it remembers that.
+/// Where a link knows neither, as one between threads, nothing is known of a post that it brings but
+/// its type. The rules are our own.
+pub trait Link {
+    ghost coming: { Self → Option (List PostValue) };
+
+    ghost given: { Self → Option (List SendingValue) };
+
+    /// Sends a parcel to an actor; for one that has ended, or that this link does not reach, it does
+    /// nothing. 903: memory was refused, and a part may have gone.
+    fn send(&mut self, to: Actor, parcel: Parcel) -> Result<(), LinkFault>
+        ensures sent { OnOk result (given self.new ≡ one_more (given self.old) (SendingValue.Sent to parcel)) }
+        ensures memory { IsOkUnless result LinkFault.Memory }
+        ensures coming { coming self.new ≡ coming self.old };
+
+    /// Tells every client, past the weather, a nudge or that a node is gone. 903: memory was refused,
+    /// and a part may have gone.
+    fn tell_all(&mut self, post: Post) -> Result<(), LinkFault>
+        ensures told { OnOk result (given self.new ≡ one_more (given self.old) (SendingValue.Told post)) }
+        ensures memory { IsOkUnless result LinkFault.Memory }
+        ensures coming { coming self.new ≡ coming self.old };
+
+    /// The next post. It may wait for one. 902: nothing comes any more.
+    fn receive(&mut self) -> Result<Post, LinkFault>
+        ensures brought { Brings (coming self.old) result (coming self.new) }
+        ensures closed { IsOkUnless result LinkFault.Closed }
+        ensures given { given self.new ≡ given self.old };
+}
