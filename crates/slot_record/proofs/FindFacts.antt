@@ -1,5 +1,5 @@
 -- What is read of the slots is what stands there.
-use Rattle.std.proofs.Common.{◌≡◌, ℕ, ◌+◌, ◌≤◌, Bool, true, false, cond, eqb, ltb, List, ◌++◌, length, get_or, take, Some, None, refl, sym, ◌∙◌, ap, subst, arith}
+use Rattle.std.proofs.Common.{◌≡◌, ℕ, ◌+◌, Bool, true, false, cond, ltb, List, ◌++◌, length, get_or, take, Some, None, refl, sym, ◌∙◌, ap, subst, arith}
 use Rattle.std.specs.Prelude.{◌↔◌, IsTrue}
 use Rattle.std.specs.Int.{w32, w64, from_be_bytes}
 use Rattle.std.proofs.lemmas.Bool.{eqb-true, eq-eqb}
@@ -24,9 +24,9 @@ unfolding head_on
 head_read slot image bytes head is gate sequence length =
     let here : start_of slot + 0 ≡ start_of slot = omega arith in
     heads_same _ _ _ _ _ _
-      (gate ∙ ap (λ (l : List ℕ). get_or l 0 0) is ∙ get_or-part (start_of slot) 13 0 image (omega arith) ∙ ap (λ (j : ℕ). get_or image j 0) here)
-      (sequence ∙ ap (λ (l : List ℕ). from_be_bytes w64 (part 1 8 l)) is ∙ ap (from_be_bytes w64) (part-part (start_of slot) 13 1 8 image (omega arith)))
-      (length ∙ ap (λ (l : List ℕ). from_be_bytes w32 (part 9 4 l)) is ∙ ap (from_be_bytes w32) (part-part (start_of slot) 13 9 4 image (omega arith)))
+    (gate ∙ ap (λ (l : List ℕ). get_or l 0 0) is ∙ get_or-part (start_of slot) 13 0 image (omega arith) ∙ ap (λ (j : ℕ). get_or image j 0) here)
+    (sequence ∙ ap (λ (l : List ℕ). from_be_bytes w64 (part 1 8 l)) is ∙ ap (from_be_bytes w64) (part-part (start_of slot) 13 1 8 image (omega arith)))
+    (length ∙ ap (λ (l : List ℕ). from_be_bytes w32 (part 9 4 l)) is ∙ ap (from_be_bytes w32) (part-part (start_of slot) 13 9 4 image (omega arith)))
 
 module _ (s : PlateState) (only : Only s.seen s) where
   abbrev first : Head

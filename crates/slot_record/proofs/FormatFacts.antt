@@ -1,14 +1,13 @@
 -- What formatting makes of a plate.
-use Rattle.std.proofs.Common.{◌≡◌, ◌≢◌, ◌↔◌, ℕ, ◌+◌, ◌≤◌, false, true, List, [], ◌∷◌, length, Some, sym, ◌∙◌, ap, subst, arith}
+use Rattle.std.proofs.Common.{◌≡◌, ◌≢◌, ℕ, ◌≤◌, false, List, [], ◌∷◌, length, sym, ◌∙◌, ap, subst, arith}
 use Rattle.stable_record.specs.declared.formats.TheConstants.{MAX_RECORD_LEN}
-use Rattle.slot_record.specs.declared.slots.Slot.{Slot}
 use Rattle.slot_record.specs.declared.slots.Slot.TheVariants.{First, Second}
 use Rattle.slot_record.specs.declared.slots.TheConstants.{SLOT_LEN, OPEN}
 use Rattle.slot_record.specs.declared.standing.Known.{Known}
 use Rattle.slot_record.specs.declared.heads.Head.{Head}
 use Rattle.slot_record.specs.Images.{Image, IsWritten}
 use Rattle.slot_record.specs.Plates.{PlateState, IsPlate, Only}
-use Rattle.slot_record.specs.Slots.{head_on, body_of, rank, holder_on, entry_of}
+use Rattle.slot_record.specs.Slots.{head_on, body_of, rank, entry_of}
 use Rattle.slot_record.specs.Records.{IsSettled}
 use Rattle.slot_record.specs.Formatting.{IsEmpty}
 use Rattle.slot_record.proofs.SlotFacts.{head_before, head_behind, gate_sequence, gate_length, gate_body, written_gate, entry_sequence, entry_length, entry_body, length-entry_of, rank_closed, rank_open, holder_greater}

@@ -1,5 +1,5 @@
 -- What the steps of a keep make together.
-use Rattle.std.proofs.Common.{◌≡◌, inl, inr, ⊎_elim, ℕ, List, [], ◌∷◌, Some, Result, Ok, Err, OnOk, refl, sym, ◌∙◌, ap, subst}
+use Rattle.std.proofs.Common.{◌≡◌, inl, ⊎_elim, ℕ, List, [], ◌∷◌, Result, Ok, Err, OnOk, sym, ◌∙◌, subst}
 use Rattle.slot_record.specs.declared.slots.Slot.{Slot}
 use Rattle.slot_record.specs.declared.standing.Standing.{Standing}
 use Rattle.slot_record.specs.declared.standing.Standing.TheVariants.{Failed, Either}

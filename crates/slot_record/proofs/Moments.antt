@@ -1,5 +1,5 @@
 -- How work on a plate goes on from call to call.
-use Rattle.std.proofs.Common.{inl, inr, ⊎_elim, ℕ, ◌≤◌, arith}
+use Rattle.std.proofs.Common.{inl, inr, ⊎_elim, arith}
 use Rattle.slot_record.specs.Images.{Image}
 use Rattle.slot_record.specs.Plates.{PlateState, IsPlate, LeavesOnly}
 

@@ -1,10 +1,10 @@
 -- What is put into an image, and the images that a crash may leave of a plate in memory.
 use Rattle.std.specs.Prelude.{None, IfOk, replicate}
-use Rattle.std.proofs.Common.{◌≡◌, ◌⊎◌, inl, inr, ⊎_elim, ℕ, zero, suc, ◌+◌, ◌-◌, ◌≤◌, List, [], ◌∷◌, ◌++◌, length, take, drop, Result, Ok, Err, OnOk, refl, sym, ◌∙◌, ap, subst, arith, length-append}
-use Rattle.std.proofs.lemmas.List.{length-replicate, append-nil}
+use Rattle.std.proofs.Common.{◌≡◌, inl, inr, ℕ, zero, suc, ◌+◌, ◌-◌, ◌≤◌, List, [], ◌∷◌, ◌++◌, length, take, drop, Result, Ok, Err, OnOk, refl, sym, ◌∙◌, ap, subst, arith}
+use Rattle.std.proofs.lemmas.List.{length-replicate}
 use borrow.Rule.Slice.PartMut.{put_mid}
 use Rattle.slot_record.specs.Images.{Image, part, DiffersWithin, IsWritten}
-use Rattle.slot_record.specs.Plates.{PlateState, Only, NothingNew}
+use Rattle.slot_record.specs.Plates.{NothingNew}
 use Rattle.slot_record.specs.MemoryPlates.{PlateCall, Idle, Written, Torn, Synced, Memory, put, content, MayLeave, state_of, IsMemory, Makes, filled}
 use Rattle.slot_record.specs.MemoryLaws.{length_of_put, length_of_content, put_differs, seen_may_be_left}
 
@@ -99,13 +99,13 @@ filled_left first fill (Written at bytes ∷ calls) image left = (
   filled fill calls left.0,
   filled_left first fill calls left.0 left.1,
   filled_both at (length bytes) fill calls left.0 (put at (replicate (length bytes) fill) image)
-  (put_over at (length bytes) (replicate (length bytes) fill) left.0 image (length-replicate (length bytes) fill) left.2),
+      (put_over at (length bytes) (replicate (length bytes) fill) left.0 image (length-replicate (length bytes) fill) left.2),
 )
 filled_left first fill (Torn at n ∷ calls) image left = (
   filled fill calls left.0,
   filled_left first fill calls left.0 left.1,
   filled_both at n fill calls left.0 (put at (replicate n fill) image)
-  (put_over at n (replicate n fill) left.0 image (length-replicate n fill) left.2),
+      (put_over at n (replicate n fill) left.0 image (length-replicate n fill) left.2),
 )
 filled_left first fill (Synced ∷ calls) image left = left
 

@@ -1,8 +1,8 @@
 -- What a record on a plate is between two calls, and what a call makes of it.
-use Rattle.std.proofs.Common.{◌≡◌, inl, inr, ⊎_elim, ℕ, ◌≤◌, Bool, true, false, List, [], ◌∷◌, ◌++◌, length, Option, Some, None, refl, sym, ◌∙◌, ap, subst, arith}
+use Rattle.std.proofs.Common.{◌≡◌, inl, inr, ℕ, ◌≤◌, true, false, List, [], ◌∷◌, ◌++◌, length, Option, Some, None, refl, sym, ◌∙◌, ap, subst, arith}
 use Rattle.std.specs.Option.{option_map}
 use Rattle.lock_model.specs.Decisions.{Among}
-use Rattle.stable_record.specs.Finding.{FindsOnly, FindsOnlyOr, IsOneOrTwo}
+use Rattle.stable_record.specs.Finding.{FindsOnlyOr, IsOneOrTwo}
 use Rattle.slot_record.specs.declared.slots.Slot.{Slot}
 use Rattle.slot_record.specs.declared.slots.TheConstants.{LEAST_PLATE_LEN}
 use Rattle.slot_record.specs.declared.standing.Standing.{Standing}
@@ -13,7 +13,7 @@ use Rattle.slot_record.specs.Images.{Image}
 use Rattle.slot_record.specs.Plates.{PlateState, IsPlate, Only, NothingNew, LeavesOnly}
 use Rattle.slot_record.specs.Slots.{head_on, body_of, holder_on, record_on, found_on}
 use Rattle.slot_record.specs.Records.{FindsAmong, IsSettled, IsFound, IsOnPlate, bodies, bodies_on, is_stuck, failed_of}
-use Rattle.slot_record.proofs.Moments.{rests, weakened}
+use Rattle.slot_record.proofs.Moments.{rests}
 
 -- ---- settled
 

@@ -11,7 +11,7 @@ use Rattle.slot_record.specs.declared.slots.Slot.TheVariants.{First, Second}
 use Rattle.slot_record.specs.declared.slots.TheConstants.{SLOT_LEN, OPEN, MAX_SEQUENCE}
 use Rattle.slot_record.specs.declared.heads.Head.{Head}
 use Rattle.slot_record.specs.Images.{Image, part, DiffersWithin, IsWritten}
-use Rattle.slot_record.specs.Slots.{start_of, other_of, head_on, body_of, rank, counts, holder, holder_on, found_on, entry_of}
+use Rattle.slot_record.specs.Slots.{start_of, other_of, head_on, body_of, rank, holder, holder_on, found_on, entry_of}
 use Rattle.slot_record.proofs.ImageFacts.{part_before, part_behind, index_before, index_behind, part-part, get_or-part}
 
 -- a slot is the same in two images
@@ -26,16 +26,16 @@ module _ (at n : ℕ) (old new : Image) (d : DiffersWithin at n old new) where
   pub head_before : (slot : Slot) → start_of slot + 13 ≤ at → head_on slot new ≡ head_on slot old
   unfolding head_on
   head_before slot le = heads_same _ _ _ _ _ _
-    (index_before at n old new d (start_of slot) (omega arith))
-    (ap (from_be_bytes w64) (part_before at n old new d (start_of slot + 1) 8 (omega arith)))
-    (ap (from_be_bytes w32) (part_before at n old new d (start_of slot + 9) 4 (omega arith)))
+      (index_before at n old new d (start_of slot) (omega arith))
+      (ap (from_be_bytes w64) (part_before at n old new d (start_of slot + 1) 8 (omega arith)))
+      (ap (from_be_bytes w32) (part_before at n old new d (start_of slot + 9) 4 (omega arith)))
 
   pub head_behind : (slot : Slot) → at + n ≤ start_of slot → head_on slot new ≡ head_on slot old
   unfolding head_on
   head_behind slot le = heads_same _ _ _ _ _ _
-    (index_behind at n old new d (start_of slot) le)
-    (ap (from_be_bytes w64) (part_behind at n old new d (start_of slot + 1) 8 (omega arith)))
-    (ap (from_be_bytes w32) (part_behind at n old new d (start_of slot + 9) 4 (omega arith)))
+      (index_behind at n old new d (start_of slot) le)
+      (ap (from_be_bytes w64) (part_behind at n old new d (start_of slot + 1) 8 (omega arith)))
+      (ap (from_be_bytes w32) (part_behind at n old new d (start_of slot + 9) 4 (omega arith)))
 
   body_before : (slot : Slot) → (head_on slot new).length ≡ (head_on slot old).length → start_of slot + 13 + (head_on slot old).length ≤ at → body_of slot new ≡ body_of slot old
   unfolding body_of

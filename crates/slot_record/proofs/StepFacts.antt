@@ -1,10 +1,9 @@
 -- What a crash leaves in each step of a keep.
-use Rattle.std.proofs.Common.{◌≡◌, ◌≢◌, inl, inr, ℕ, ◌+◌, ◌<◌, ◌≤◌, ◌^◌, true, List, [], ◌∷◌, length, Some, refl, sym, ◌∙◌, ap, subst, arith}
+use Rattle.std.proofs.Common.{◌≡◌, ◌≢◌, inl, inr, ℕ, ◌+◌, ◌<◌, ◌≤◌, true, List, [], ◌∷◌, length, Some, refl, sym, ◌∙◌, ap, subst, arith}
 use Rattle.std.proofs.lemmas.Bool.{cases_eq}
 use Rattle.stable_record.specs.declared.formats.TheConstants.{MAX_RECORD_LEN}
 use Rattle.slot_record.specs.declared.slots.Slot.{Slot}
-use Rattle.slot_record.specs.declared.slots.Slot.TheVariants.{First, Second}
-use Rattle.slot_record.specs.declared.slots.TheConstants.{SLOT_LEN, OPEN, MAX_SEQUENCE}
+use Rattle.slot_record.specs.declared.slots.TheConstants.{OPEN, MAX_SEQUENCE}
 use Rattle.slot_record.specs.declared.standing.Standing.TheVariants.{Failed, Either}
 use Rattle.slot_record.specs.declared.standing.Known.{Known}
 use Rattle.slot_record.specs.declared.heads.Head.{Head}
@@ -61,10 +60,10 @@ module _ (own : Slot) (at : ℕ) (old c : Image) (there : at ≡ start_of (other
       let x = other_of own in
       elim (cases_eq (head_on x c).gate OPEN) [
         | inl is_open ↦ record {
-            holder = holder_stays own old c (same_rank own old c same)
+          holder = holder_stays own old c (same_rank own old c same)
               (rank_same (head_on x c) (head_on x old) (is_open ∙ sym was_open) (gate_sequence x old c gate_differs) (gate_length x old c gate_differs)) ∙ is;
-            same = same;
-          }
+          same = same;
+        }
         | inr shut ↦ alone own old c is same shut
       ]
 

@@ -1,10 +1,9 @@
 -- What is read of the slots.
-use Rattle.std.specs.Prelude.{◌≡◌, ℕ, ◌==◌, nat_lt, if◌then◌else◌, Option, Some, None, MatchOption}
+use Rattle.std.specs.Prelude.{◌≡◌, ◌==◌, nat_lt, if◌then◌else◌, Option, Some, None, MatchOption}
 use Rattle.slot_record.specs.declared.slots.Slot.{Slot}
 use Rattle.slot_record.specs.declared.slots.Slot.TheVariants.{First, Second}
 use Rattle.slot_record.specs.declared.slots.TheConstants.{OPEN}
 use Rattle.slot_record.specs.declared.heads.Head.{Head}
-use Rattle.slot_record.specs.declared.standing.Known.{Known}
 use Rattle.slot_record.specs.declared.finding.Found.{Found}
 use Rattle.slot_record.specs.Plates.{PlateState}
 use Rattle.slot_record.specs.Slots.{rank, head_on, holder_on}

@@ -1,5 +1,5 @@
 -- A plate in memory is a plate.
-use Rattle.std.specs.Prelude.{◌≡◌, ◌⊎◌, ℕ, zero, suc, ◌+◌, ◌≤◌, List, [], ◌∷◌, length, take, drop, refl}
+use Rattle.std.specs.Prelude.{◌≡◌, ℕ, zero, suc, ◌+◌, ◌≤◌, List, [], ◌∷◌, length, take, drop, refl}
 use Rattle.std.proofs.Common.{inl, inr, sym, ◌∙◌, ap, arith}
 use Rattle.slot_record.specs.Images.{Image, DiffersWithin}
 use Rattle.slot_record.specs.Plates.{IsPlate}

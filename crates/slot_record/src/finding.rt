@@ -73,7 +73,10 @@ impl Found {
         ensures called { Called (P.state plate.old) (P.state plate.new) result }
     {
         let length = self.length as usize;
-        plate.read_at(self.known.own.start() + HEAD_LEN as u32, &mut body[..length])
+        plate.read_at(
+            self.known.own.start() + HEAD_LEN as u32,
+            &mut body[..length],
+        )
     }
 }
 

@@ -26,7 +26,11 @@ fn close_both<P: Plate>(plate: &mut P) -> Result<(), PlateFault>
 
 /// Writes these bytes as the first record: seven calls. The buffer holds what is written behind the
 /// gate.
-pub(crate) fn lay_out<P: Plate>(plate: &mut P, buffer: &mut [u8], bytes: &[u8]) -> Result<Known, PlateFault>
+pub(crate) fn lay_out<P: Plate>(
+    plate: &mut P,
+    buffer: &mut [u8],
+    bytes: &[u8],
+) -> Result<Known, PlateFault>
     requires room { LEAST_PLATE_LEN ≤ (P.state plate.old).size }
     requires buffer { length buffer.old ≡ BUFFER_LEN }
     requires fits { length bytes.now ≤ MOST }

@@ -42,7 +42,12 @@ fn close_other<P: Plate>(plate: &mut P, known: Known) -> Result<(), PlateFault>
 }
 
 /// Writes the next record behind the other slot's gate, which is closed: two calls.
-fn write_other<P: Plate>(plate: &mut P, known: Known, entry: &[u8], bytes: &[u8]) -> Result<(), PlateFault>
+fn write_other<P: Plate>(
+    plate: &mut P,
+    known: Known,
+    entry: &[u8],
+    bytes: &[u8],
+) -> Result<(), PlateFault>
     requires room { LEAST_PLATE_LEN ≤ (P.state plate.old).size }
     requires closed { IsClosed (P.state plate.old) known.own known.sequence }
     requires next { known.sequence < MAX_SEQUENCE }
@@ -70,7 +75,12 @@ fn open_other<P: Plate>(plate: &mut P, known: Known, bytes: &[u8]) -> Result<(),
 
 /// Keeps these bytes as the next record: four calls, or six where the other slot's gate is open. The
 /// buffer holds what is written behind the gate. An error says where the record stands.
-pub(crate) fn keep_next<P: Plate>(plate: &mut P, known: Known, buffer: &mut [u8], bytes: &[u8]) -> Result<(), Standing>
+pub(crate) fn keep_next<P: Plate>(
+    plate: &mut P,
+    known: Known,
+    buffer: &mut [u8],
+    bytes: &[u8],
+) -> Result<(), Standing>
     requires room { LEAST_PLATE_LEN ≤ (P.state plate.old).size }
     requires buffer { length buffer.old ≡ BUFFER_LEN }
     requires settled { IsSettled (P.state plate.old) known }

@@ -1,4 +1,4 @@
-use Rattle.std.proofs.Common.{ℕ, ◌+◌, List, [], ◌∷◌, length, take, subst}
+use Rattle.std.proofs.Common.{ℕ, ◌+◌, [], ◌∷◌, length, take, subst}
 use Rattle.slot_record.specs.Images.{IsWritten}
 use Rattle.slot_record.proofs.FormatFacts.{laid_out, laid_body}
 use Rattle.slot_record.proofs.formatting.lay_out.Goals as goal

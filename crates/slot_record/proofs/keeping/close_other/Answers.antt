@@ -1,8 +1,5 @@
-use Rattle.std.proofs.Common.{◌≡◌, ℕ, true, [], ◌∷◌, ◌∙◌, ap, arith, rules}
-use Rattle.slot_record.specs.Slots.{start_of, other_of}
-use Rattle.slot_record.specs.Images.{IsWritten}
-use Rattle.slot_record.specs.Plates.{Only}
-use Rattle.slot_record.specs.Keeping.{IsClosed}
+use Rattle.std.proofs.Common.{◌≡◌, true, ◌∙◌, ap, rules}
+use Rattle.slot_record.specs.Slots.{start_of}
 use Rattle.slot_record.proofs.Moments.{rests}
 use Rattle.slot_record.proofs.KeepFacts.{both_ok}
 use Rattle.slot_record.proofs.StepFacts.{only_own, settled_holds, closing_stays, closing_done}

@@ -1,5 +1,5 @@
-use Rattle.std.proofs.Common.{◌≡◌, ◌≤◌, ℕ, ◌+◌, List, length, ◌∙◌, ap, subst, arith}
-use Rattle.slot_record.specs.Slots.{start_of, entry_of}
+use Rattle.std.proofs.Common.{◌≤◌, ℕ, ◌+◌, List, length, ◌∙◌, ap, subst, arith}
+use Rattle.slot_record.specs.Slots.{start_of}
 use Rattle.slot_record.specs.Images.{IsWritten}
 use Rattle.slot_record.proofs.SlotFacts.{length-entry_of}
 use Rattle.slot_record.proofs.KeepFacts.{both_ok}
@@ -13,7 +13,7 @@ returns-clause-waiting g c =
     let there = ap (λ (j : ℕ). j + 1) (c.start.ensures ∙ ap start_of c.other.ensures) in
     both_ok c.store.result _ _ _ c.store.ensures.written c.store.ensures.stored
     (λ w only. writing_done c.args.known.own c.args.known.sequence (c.start.result + 1) c.args.bytes.now s t there c.requires.next c.requires.fits c.requires.closed
-      (subst (λ (l : List ℕ). IsWritten (c.start.result + 1) l s.seen t.seen) c.requires.entry w) only)
+    (subst (λ (l : List ℕ). IsWritten (c.start.result + 1) l s.seen t.seen) c.requires.entry w) only)
 
 pub returns-clause-stays : goal.returns-clause-stays
 returns-clause-stays g c =

@@ -1,5 +1,4 @@
-use Rattle.std.proofs.Common.{◌∙◌, List, ℕ, ap, sym, length, refl}
-use Rattle.slot_record.specs.MemoryPlates.{put}
+use Rattle.std.proofs.Common.{length, refl}
 use Rattle.slot_record.proofs.PutFacts.{put_mid-put}
 use Rattle.slot_record.proofs.memory_plates.overwrite.Goals as goal
 

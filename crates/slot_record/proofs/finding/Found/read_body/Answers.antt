@@ -1,4 +1,4 @@
-use Rattle.std.proofs.Common.{◌≡◌, ◌≤◌, ℕ, ◌+◌, ◌∙◌, ap, length, drop, take, arith}
+use Rattle.std.proofs.Common.{◌≡◌, ◌≤◌, ℕ, ◌+◌, ap, length, drop, take, arith}
 use Rattle.std.proofs.lemmas.List.{length-take-le}
 use Rattle.slot_record.proofs.StepFacts.{holder_fits}
 use Rattle.slot_record.proofs.FindFacts.{body_read}
@@ -26,4 +26,4 @@ returns-clause-read g c =
     let long : length c.read_at.new.buffer ≡ length (take c.args.self.length c.args.body.now) = omega arith in
     both_ok c.read_at.result _ _ _ c.read_at.ensures.read c.read_at.ensures.seen
     (λ is stays. body_read own seen (g.P.Plate.state c.read_at.new.self).seen (c.start.result + 13) c.args.self.length (length (take c.args.self.length c.args.body.now)) c.read_at.new.buffer (drop c.args.self.length c.args.body.now)
-      (ap (λ (j : ℕ). j + 13) c.start.ensures) m c.requires.found.1 long is stays)
+    (ap (λ (j : ℕ). j + 13) c.start.ensures) m c.requires.found.1 long is stays)

@@ -1,7 +1,6 @@
 use Rattle.std.proofs.Common.{◌≡◌, ◌∷◌, List, ℕ, length, drop, map, take, ◌++◌, ap, arith, rules}
 use Rattle.std.proofs.lemmas.List.{take_at}
-use Rattle.std.proofs.lemmas.Grind.{common_steps}
-use Rattle.slot_record.specs.MemoryPlates.{Written, call_of, put, IsMemory}
+use Rattle.slot_record.specs.MemoryPlates.{Written, call_of, put}
 use Rattle.slot_record.specs.MemoryLaws.{length_of_put}
 use Rattle.slot_record.proofs.PutFacts.{memory_written}
 use Rattle.slot_record.proofs.memory_plates.MemoryPlate.try_write.Goals as goal

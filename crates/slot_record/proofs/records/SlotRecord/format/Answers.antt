@@ -1,6 +1,5 @@
-use Rattle.std.proofs.Common.{◌≡◌, ◌≤◌, length, arith}
+use Rattle.std.proofs.Common.{arith}
 use Rattle.std.proofs.lemmas.Grind.{common_steps}
-use Rattle.slot_record.specs.declared.slots.TheConstants.{LEAST_PLATE_LEN}
 use Rattle.slot_record.proofs.RecordFacts.{settled_on_plate}
 use Rattle.slot_record.proofs.records.SlotRecord.format.Goals as goal
 
