@@ -5,6 +5,8 @@ ghost use Rattle.lock_model.specs.declared.problems.Problem.{Problem};
 ghost use Rattle.lock_model.specs.ExactStations.{admits_reader};
 ghost use Rattle.admission_policy.specs.Policies.{problem_number};
 
+use lock_model::Problem;
+
 /// Which readers a node admits (Courtois, Heymans and Parnas 1971).
 ///
 /// What a policy means is in the ghost members. `problem_of`: the problem that it solves; its answers
@@ -43,4 +45,15 @@ pub trait Admission: Drop {
     /// stops at `u64::MAX`.
     fn tally(&self) -> (u64, u64)
         ensures { result ≡ tally_of self.now };
+}
+
+/// The problem that the policy solves.
+pub fn problem_of(policy: &(dyn Admission + Send)) -> Problem
+    ensures { result ≡ problem_of policy.now }
+{
+    if policy.problem() == 1 {
+        Problem::First
+    } else {
+        Problem::Second
+    }
 }

@@ -17,7 +17,7 @@ mod counted;
 mod first;
 mod second;
 
-pub use admission::Admission;
+pub use admission::{Admission, problem_of};
 pub use counted::Counted;
 pub use first::FirstProblem;
 pub use second::SecondProblem;

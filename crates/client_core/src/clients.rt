@@ -61,6 +61,32 @@ impl ClientCore {
         }
     }
 
+    /// Puts the client back at rest after the attempt that its record has, as a restart does: 0 for
+    /// none yet, else that attempt is over. The number and the ballot stay, and what it was about is
+    /// lost.
+    ///
+    /// The caller owes an attempt of at most `MAX_ATTEMPT`.
+    pub fn restart(&mut self, attempt: u64)
+        requires { attempt ≤ MAX_ATTEMPT }
+        ensures { self.new ≡ at_rest self.old.client self.old.ballot attempt }
+    {
+        *self = ClientCore::rise(self.client, attempt, self.ballot);
+    }
+
+    /// The client's number.
+    pub fn client(&self) -> ClientId
+        ensures { result ≡ self.now.client }
+    {
+        self.client
+    }
+
+    /// The ballot whose nodes the client asks.
+    pub fn ballot(&self) -> Ballot
+        ensures { result ≡ self.now.ballot }
+    {
+        self.ballot
+    }
+
     /// What the client does.
     pub fn phase(&self) -> Phase
         ensures phase { result ≡ phase_of self.now }

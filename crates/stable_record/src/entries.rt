@@ -38,6 +38,19 @@ impl Model for Entries {
     ghost invariant = { λ s. AreOfClients s.map.entries };
 }
 
+/// A copy is the same entries. The only error is want of memory.
+impl Clone for Entries {
+    ghost use Rattle.std.specs.Prelude.{◌≡◌};
+
+    ghost is_clone = { λ original copy. copy ≡ original };
+
+    fn clone(&self) -> Result<Entries, AllocError> {
+        Ok(Entries {
+            map: self.map.clone()?,
+        })
+    }
+}
+
 fn any_holds(map: &Map, resource: &ResourceName) -> bool
     ensures { result ≡ list_any (λ p. if_live (holds resource.now) p.1.live) map.now.entries }
 {

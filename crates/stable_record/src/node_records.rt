@@ -6,12 +6,28 @@ ghost use Rattle.lock_model.specs.ExactStations.{meaning};
 
 use crate::Entries;
 use lock_model::Problem;
+use std::alloc::AllocError;
 
 /// What a node keeps: the problem that it solves, and its entries.
 #[derive(Debug, Drop)]
 pub struct NodeRecord {
     pub policy: Problem,
     pub entries: Entries,
+}
+
+/// A copy is the same record, so one that can be kept and read again where the first is. The only
+/// error is want of memory.
+impl Clone for NodeRecord {
+    ghost use Rattle.std.specs.Prelude.{◌≡◌};
+
+    ghost is_clone = { λ original copy. copy ≡ original };
+
+    fn clone(&self) -> Result<NodeRecord, AllocError> {
+        Ok(NodeRecord {
+            policy: self.policy,
+            entries: self.entries.clone()?,
+        })
+    }
 }
 
 impl NodeRecord {

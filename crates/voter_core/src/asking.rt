@@ -4,20 +4,9 @@ ghost use Rattle.std.specs.Prelude.{◌≡◌, ◌↔◌, IsTrue};
 ghost use Rattle.lock_messages.specs.declared.tickets.Mode.{Mode};
 ghost use Rattle.lock_model.specs.ExactStations.{admits_reader};
 
-use admission_policy::Admission;
+use admission_policy::{Admission, problem_of};
 use lock_messages::Mode;
 use lock_model::Problem;
-
-/// The problem that the policy solves.
-pub(crate) fn problem_of(policy: &(dyn Admission + Send)) -> Problem
-    ensures { result ≡ problem_of policy.now }
-{
-    if policy.problem() == 1 {
-        Problem::First
-    } else {
-        Problem::Second
-    }
-}
 
 /// Whether both are the same problem.
 pub(crate) fn same_problem(a: Problem, b: Problem) -> bool

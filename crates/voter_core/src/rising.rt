@@ -1,33 +1,23 @@
 // Reading the record with which a node rises.
 
-ghost use Rattle.std.specs.Prelude.{◌≡◌, IfOk, IfErr, Err};
+ghost use Rattle.std.specs.Prelude.{◌≡◌, ◌⊎◌, IfOk, IfErr, Ok, Err};
+ghost use Rattle.lock_model.specs.declared.problems.Problem.{Problem};
 ghost use Rattle.stable_record.specs.declared.node_records.NodeRecord.{NodeRecord};
-ghost use Rattle.voter_core.specs.Voters.{IsRecordOf, IsRefusedFor};
+ghost use Rattle.stable_record.specs.Records.{IsNodeRecord, node_record_of};
+ghost use Rattle.voter_core.specs.Voters.{IsRefusedFor};
 
 use crate::VoterFault;
-use crate::asking::same_problem;
-use lock_model::Problem;
 use stable_record::{NodeRecord, RecordFault, read_node};
 use std::alloc::Global;
 
-/// The record of this problem that the bytes are.
-pub(crate) fn read_record(
-    alloc: Global,
-    bytes: &[u8],
-    problem: Problem,
-) -> Result<NodeRecord, VoterFault>
-    ensures found { IfOk result (λ r. IsRecordOf problem bytes.now r) }
-    ensures refused { IfErr result (λ fault. IsRefusedFor problem bytes.now fault) }
-    ensures only { (r : NodeRecord) → IsRecordOf problem bytes.now r → IfErr result (λ fault. fault ≡ VoterFault.Memory) }
+/// The record that the bytes are, of either problem.
+pub(crate) fn read_record(alloc: Global, bytes: &[u8]) -> Result<NodeRecord, VoterFault>
+    ensures found { IfOk result (λ r. IsNodeRecord r × (bytes.now ≡ node_record_of r)) }
+    ensures refused { IfErr result (λ fault. (p : Problem) → IsRefusedFor p bytes.now fault) }
+    ensures only { (r : NodeRecord) → IsNodeRecord r → bytes.now ≡ node_record_of r → (result ≡ Err VoterFault.Memory) ⊎ (result ≡ Ok r) }
 {
     match read_node(alloc, bytes) {
-        Ok(record) => {
-            if same_problem(record.policy, problem) {
-                Ok(record)
-            } else {
-                Err(VoterFault::OtherProblem)
-            }
-        }
+        Ok(record) => Ok(record),
         Err(RecordFault::NoMemory) => Err(VoterFault::Memory),
         Err(fault) => Err(VoterFault::Unreadable(fault)),
     }

@@ -1,18 +1,18 @@
 // One node.
 
-ghost use Rattle.std.specs.Prelude.{◌≡◌, ◌↔◌, true, length, IsTrue, IfOk, IfErr, OnOk, OnErr, IsOkUnless};
+ghost use Rattle.std.specs.Prelude.{◌≡◌, ◌≢◌, ◌↔◌, if◌then◌else◌, true, length, IsTrue, IfOk, IfErr, OnOk, OnErr, IsOkUnless};
 ghost use Rattle.lock_messages.specs.Messages.{is_for_node};
 ghost use Rattle.lock_model.specs.ExactDecisions.{Changes, changes};
 ghost use Rattle.stable_record.specs.declared.node_records.NodeRecord.{NodeRecord};
 ghost use Rattle.stable_record.specs.Records.{IsNodeRecord, node_record_of};
 ghost use Rattle.voter_core.specs.Voters.{phase_in, replies_in, record_of, risen, taken, Allows, kept, spoken, IsRecordOf, IsRefusedFor};
 
-use crate::asking::problem_of;
+use crate::asking::same_problem;
 use crate::deciding::{decide, room_for, stays_a_record};
 use crate::phases::phase_after;
 use crate::rising::read_record;
 use crate::{Phase, VoterFault};
-use admission_policy::Admission;
+use admission_policy::{Admission, problem_of};
 use lock_messages::{Message, NodeId};
 use stable_record::{NodeRecord, node_bytes};
 use std::alloc::Global;
@@ -64,16 +64,43 @@ impl NodeCore {
         // A record of the policy's problem is refused for memory alone.
         ensures only { (r : NodeRecord) → IsRecordOf (problem_of policy) bytes.now r → IfErr result (λ back. back.1 ≡ VoterFault.Memory) }
     {
-        match read_record(alloc, bytes, problem_of(&*policy)) {
-            Ok(station) => Ok(NodeCore {
+        let station = match read_record(alloc, bytes) {
+            Ok(station) => station,
+            Err(fault) => return Err((policy, fault)),
+        };
+        match NodeCore::rise_with(alloc, node, station, policy) {
+            Ok(core) => Ok(core),
+            Err((policy, _)) => Err((policy, VoterFault::OtherProblem)),
+        }
+    }
+
+    /// The node with this number, at rest, with this station. It takes no memory.
+    ///
+    /// The caller owes that the station is a record that can be kept and read again: one that
+    /// `read_node` answered, that of a core (`record`), or a copy of either; one without entries is.
+    /// A refusal hands the policy and the station back: the station is of the other problem than the
+    /// policy.
+    pub fn rise_with(
+        alloc: Global,
+        node: NodeId,
+        station: NodeRecord,
+        policy: Box<dyn Admission + Send>,
+    ) -> Result<NodeCore, (Box<dyn Admission + Send>, NodeRecord)>
+        requires { IsNodeRecord station }
+        ensures risen { IfOk result (λ core. (station.policy ≡ problem_of policy) × (core ≡ risen node station)) }
+        ensures refused { IfErr result (λ back. (back.0 ≡ policy) × (back.1 ≡ station) × (station.policy ≢ problem_of policy)) }
+    {
+        if same_problem(station.policy, problem_of(&*policy)) {
+            Ok(NodeCore {
                 alloc,
                 id: node,
                 station,
                 policy,
                 about: Phase::Idle,
                 told: Vec::new(alloc),
-            }),
-            Err(fault) => Err((policy, fault)),
+            })
+        } else {
+            Err((policy, station))
         }
     }
 
@@ -88,11 +115,43 @@ impl NodeCore {
         ensures refused { IfErr result (λ fault. (self.new ≡ self.old) × IsRefusedFor self.old.problem bytes.now fault) }
         ensures only { (r : NodeRecord) → IsRecordOf self.old.problem bytes.now r → IfErr result (λ fault. fault ≡ VoterFault.Memory) }
     {
-        let station = read_record(self.alloc, bytes, self.station.policy)?;
+        let station = match read_record(self.alloc, bytes) {
+            Ok(station) => station,
+            Err(fault) => return Err(fault),
+        };
+        if self.restart_with(station) {
+            Ok(())
+        } else {
+            Err(VoterFault::OtherProblem)
+        }
+    }
+
+    /// Puts the node back at rest with this station, and answers whether it did; the policy stays.
+    /// What it was about is lost. It takes no memory.
+    ///
+    /// The caller owes that the station is a record, as in `rise_with`. A station of the other
+    /// problem changes nothing.
+    pub fn restart_with(&mut self, station: NodeRecord) -> bool
+        requires { IsNodeRecord station }
+        ensures answer { IsTrue result ↔ (station.policy ≡ self.old.problem) }
+        ensures risen { self.new ≡ (if result then risen self.old.node station else self.old) }
+    {
+        if !same_problem(station.policy, self.station.policy) {
+            return false;
+        }
         self.station = station;
         self.about = Phase::Idle;
         self.told = Vec::new(self.alloc);
-        Ok(())
+        true
+    }
+
+    /// The node's station, as a record; from `take` on the decided one. It can be kept and read
+    /// again.
+    pub fn record(&self) -> &NodeRecord
+        ensures station { result.now ≡ record_of self.now }
+        ensures good { IsNodeRecord result.now }
+    {
+        &self.station
     }
 
     /// The node's number.
