@@ -1,5 +1,5 @@
 -- An actor's turn, put into the world.
-use Rattle.std.proofs.Common.{◌≡◌, ℕ, ◌+◌, ◌-◌, ◌<◌, ◌≤◌, ◌==◌, Bool, true, false, cond, List, [], ◌∷◌, ◌++◌, length, map, set, get_or, Option, Some, None, Result, Ok, Err, IsOk, refl, sym, ◌∙◌, ap, subst, inl, inr, arith}
+use Rattle.std.proofs.Common.{◌≡◌, ℕ, ◌+◌, ◌-◌, ◌<◌, ◌≤◌, ◌==◌, Bool, true, false, cond, List, [], ◌∷◌, ◌++◌, length, map, set, get_or, Option, Some, None, Result, Ok, Err, refl, sym, ◌∙◌, ap, subst, inl, inr, arith}
 use Rattle.std.specs.Prelude.{slice_get, slice_set}
 use Rattle.std.specs.Option.{option_map}
 use Rattle.std.proofs.lemmas.Bool.{le-leb, lt-leb, ne_eqb}
@@ -23,7 +23,7 @@ use Rattle.world_machine.specs.ExactWorlds.{Turn, Turns, numbered, Steps, has_ro
 use Rattle.world_machine.specs.Clients.{client_view}
 use Rattle.world_machine.specs.Nodes.{node_view, NodeAnswers, IsQuiet, IsRefusal}
 use Rattle.world_machine.specs.WorldViews.{world_view}
-use Rattle.world_machine.specs.StepsOf.{IsRefused, Does, sends_one}
+use Rattle.world_machine.specs.StepsOf.{AsksForMemory, IsRefused, Does, sends_one}
 
 pub numbered-map : {A B : Type 0} (f : A → B) (xs : List A) (k : ℕ) → numbered (map f xs) k ≡ option_map f (numbered xs k)
 numbered-map {A} {B} f xs k = go (k == 0)
@@ -68,16 +68,16 @@ same-node b ns cs sent i v a at same =
     (map-set node_view ns i a ∙ ap (set (map node_view ns) i) (same ∙ ap node_view at) ∙ sym (map-set node_view ns i (get_or ns i v)) ∙ ap (map node_view) (set-get_or ns i v))
 
 -- a turn that says nothing is taken
-quiet-taken : (w : ExactWorld) (n : ℕ) (turn : Turns ExactNode) → IsQuiet turn → IsOk (finishes w (with_node_turn w n) turn)
+quiet-taken : (w : ExactWorld) (n : ℕ) (turn : Turns ExactNode) → IsQuiet turn → AsksForMemory (finishes w (with_node_turn w n) turn)
 quiet-taken w n (Err d) quiet = absurd quiet
 quiet-taken w n (Ok t) quiet =
     let taken : Bool → Steps = λ room. cond room (Ok (record { world = with_node_turn w n t; outcome = t.outcome })) (Err fault.SentListFull) in
-    subst (λ room. IsOk (taken room)) (sym (ap (has_room w) quiet ∙ room-nothing w)) refl
+    subst (λ room. AsksForMemory (taken room)) (sym (ap (has_room w) quiet.0 ∙ room-nothing w)) quiet.1
 
 refusal-steps : (b : Ballot) (ns : List Node) (cs : List Client) (sent : List Message) (n : ℕ) (v : Node) (f : ExactNode → Turns ExactNode) → numbered ns n ≡ Some v → (e : StepFault) →
     IsRefusal (f (node_view v)) e → IsRefused (node_steps (world_view b ns cs sent) n f) e
 refusal-steps b ns cs sent n v f h e (inl r) = inl (node-turn b ns cs sent n v f h ∙ ap (finishes (world_view b ns cs sent) (with_node_turn (world_view b ns cs sent) n)) r)
-refusal-steps b ns cs sent n v f h e (inr r) = let w = world_view b ns cs sent in inr (r.0, subst IsOk (sym (node-turn b ns cs sent n v f h)) (quiet-taken w n (f (node_view v)) r.1))
+refusal-steps b ns cs sent n v f h e (inr r) = let w = world_view b ns cs sent in inr (r.0, subst AsksForMemory (sym (node-turn b ns cs sent n v f h)) (quiet-taken w n (f (node_view v)) r.1))
 
 -- what is at a place that is in the list
 pub numbered-at : {A : Type 0} (xs : List A) (k : ℕ) (x : A) → 1 ≤ k → k - 1 < length xs → x ≡ get_or xs (k - 1) x → numbered xs k ≡ Some x
@@ -202,7 +202,7 @@ says-ok b ns cs sent n v replies h t none room =
 -- where there is room nothing refuses it
 pub says-not-refused : (b : Ballot) (ns : List Node) (cs : List Client) (sent : List Message) (n : ℕ) (v : Node) (replies : List Message) → numbered ns n ≡ Some v → SaysAll v replies → (node_view v).tried ≡ None →
     length replies ≤ MAX_MESSAGES - length sent → IsRefused (step (world_view b ns cs sent) (Say n)) fault.Memory
-says-not-refused b ns cs sent n v replies h t none room = inr (refl, subst IsOk (sym (says-ok b ns cs sent n v replies h t none room)) refl)
+says-not-refused b ns cs sent n v replies h t none room = inr (refl, subst AsksForMemory (sym (says-ok b ns cs sent n v replies h t none room)) refl)
 
 pub node-there : (ns : List Node) (n : ℕ) → 1 ≤ n → n - 1 < length ns → (v : Node) × (numbered ns n ≡ Some v)
 node-there [] n one within = absurd (omega arith)

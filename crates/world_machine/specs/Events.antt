@@ -1,5 +1,5 @@
 -- What may happen in a world, and what it does: falls and rises too, which the first world has not.
-use Rattle.std.specs.Prelude.{ℕ, Bool, List}
+use Rattle.std.specs.Prelude.{ℕ, Bool, true, false, List}
 use Rattle.lock_messages.specs.declared.ids.Actor.{Actor}
 use Rattle.lock_messages.specs.declared.tickets.Mode.{Mode}
 use Rattle.lock_messages.specs.declared.messages.Message.{Message}
@@ -41,6 +41,13 @@ pub data Outcome : Type 0 where
   Outside : Outcome
   Fell : Outcome
   Rose : Outcome
+
+-- whether memory is asked for where this is done: a message is sent, or taken by a node
+abbrev pub asks_for_memory : Outcome → Bool
+asks_for_memory (Sent k m) = true
+asks_for_memory (Said first count) = true
+asks_for_memory (Took m changed) = true
+asks_for_memory _ = false
 
 -- an event of the code, as an action
 abbrev pub action_of : code.Event → Action

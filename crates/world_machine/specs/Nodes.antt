@@ -1,5 +1,5 @@
 -- A node of the first world, seen as a node of the exact world, and its own part in events.
-use Rattle.std.specs.Prelude.{◌≡◌, ℕ, ◌⊎◌, List, [], length, Option, Some, None, Result, Ok, Err, if◌then◌else◌}
+use Rattle.std.specs.Prelude.{◌≡◌, ℕ, ◌⊎◌, true, List, [], length, Option, Some, None, Result, Ok, Err, if◌then◌else◌}
 use Rattle.lock_messages.specs.declared.messages.Message.{Message}
 use Rattle.lock_model.specs.declared.problems.Problem.TheVariants.{First}
 use Rattle.lock_model.specs.declared.entries.Entry.{Entry}
@@ -16,7 +16,7 @@ use Rattle.world_machine.specs.declared.nodes.NodePhase.TheVariants as phase
 use Rattle.world_machine.specs.declared.nodes.NodeAct.{NodeAct}
 use Rattle.world_machine.specs.declared.nodes.NodeAct.TheVariants as act
 use Rattle.std.specs.Borrow.{Bor}
-use Rattle.world_machine.specs.Events.{outcome_of, Said}
+use Rattle.world_machine.specs.Events.{outcome_of, asks_for_memory, Said}
 use Rattle.world_machine.specs.ExactWorlds.{Turns, node_in, tries_station_in, keeps_station_in, takes_in, says_in}
 
 abbrev pub station_of : List Entry → ExactStation
@@ -41,10 +41,10 @@ node_turn n act.Try v = tries_station_in v v.phase
 node_turn n act.Kept v = keeps_station_in v v.phase
 node_turn n (act.Take found) v = takes_in n found v v.phase
 
--- the turn is one that may be taken, and says nothing
+-- the turn is one that may be taken, says nothing and asks for memory
 abbrev pub IsQuiet : Turns ExactNode → Type 0
 IsQuiet (Err e) = ⊥
-IsQuiet (Ok t) = t.says ≡ []
+IsQuiet (Ok t) = (t.says ≡ []) × (asks_for_memory t.outcome ≡ true)
 
 -- the turn is refused so; or memory was, where nothing else refuses it
 abbrev pub IsRefusal : Turns ExactNode → StepFault → Type 0

@@ -1,5 +1,5 @@
 -- The numbers of messages in what was done.
-use Rattle.std.specs.Prelude.{◌≡◌, ℕ, ◌+◌, ◌<◌, ◌≤◌, Ok}
+use Rattle.std.specs.Prelude.{◌≡◌, ◌+◌, ◌<◌, ◌≤◌, Ok}
 use Rattle.world_machine.specs.declared.TheConstants.{MAX_MESSAGES}
 use Rattle.world_machine.specs.declared.exact.ExactWorld.{ExactWorld}
 use Rattle.world_machine.specs.Events.{Action, Outcome, Chose, Tried, WasKept, Sent, Said, Took, HeardIt, Inside, Outside, Fell, Rose}

@@ -1,16 +1,21 @@
 -- What a call that takes a step has done.
-use Rattle.std.specs.Prelude.{◌≡◌, ℕ, ◌⊎◌, IsOk, Result, Ok, Err, Some, None, List, [], ◌∷◌, ◌++◌, length, take, slice_get, if◌then◌else◌}
+use Rattle.std.specs.Prelude.{◌≡◌, ℕ, ◌⊎◌, true, Result, Ok, Err, Some, None, List, [], ◌∷◌, ◌++◌, length, take, slice_get, if◌then◌else◌}
 use Rattle.lock_messages.specs.declared.messages.Message.{Message}
 use Rattle.world_machine.specs.declared.events.Effect.{Effect}
 use Rattle.world_machine.specs.declared.events.StepFault.{StepFault}
 use Rattle.world_machine.specs.declared.events.StepFault.TheVariants as fault
 use Rattle.world_machine.specs.declared.exact.ExactWorld.{ExactWorld}
-use Rattle.world_machine.specs.Events.{Action, outcome_of, Sent}
+use Rattle.world_machine.specs.Events.{Action, outcome_of, asks_for_memory, Sent}
 use Rattle.world_machine.specs.ExactWorlds.{Steps, Ran, has_room, next_number, ran, step}
 
--- the step is refused so; or memory was, which nothing else comes behind: the step would be taken
+-- the step would be taken, and it asks for memory: a message is sent, or taken by a node
+abbrev pub AsksForMemory : Steps → Type 0
+AsksForMemory (Err e) = ⊥
+AsksForMemory (Ok s) = asks_for_memory s.outcome ≡ true
+
+-- The step is refused so; or memory was refused to one that asks for it and that nothing else refuses.
 abbrev pub IsRefused : Steps → StepFault → Type 0
-IsRefused steps e = (steps ≡ Err e) ⊎ ((e ≡ fault.Memory) × IsOk steps)
+IsRefused steps e = (steps ≡ Err e) ⊎ ((e ≡ fault.Memory) × AsksForMemory steps)
 
 -- The call took the step: on Ok the world after and the effect are the step's; on a fault the step is
 -- refused so, and the world is as it was.
