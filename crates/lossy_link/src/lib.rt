@@ -33,8 +33,3 @@ pub use links::Link;
 pub use list_links::ListLink;
 pub use parcels::{Parcel, Post, Sending};
 pub use weathers::Weather;
-
-#[cfg(test)]
-mod link_tests;
-#[cfg(test)]
-mod weather_tests;

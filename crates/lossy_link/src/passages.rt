@@ -73,14 +73,13 @@ impl Passage {
         ensures held { OnOk result (self.new.late ≡ held_after (next_fate self.old.weather) (mail_of to parcel)) }
         ensures memory { IsOkUnless result LinkFault.Memory }
     {
-        let nudge = nudge(&self.actor, &to);
         let mail = Mail {
             to,
             post: Post::Parcel(parcel),
         };
         match self.weather.fate() {
             Fate::Lost => Ok(Departure {
-                first: nudge,
+                first: nudge(&self.actor, &to),
                 second: None,
                 late: self.late.take(),
             }),
@@ -95,7 +94,7 @@ impl Passage {
                 })
             }
             Fate::Late => Ok(Departure {
-                first: nudge,
+                first: nudge(&self.actor, &to),
                 second: None,
                 late: self.late.replace(mail),
             }),

@@ -1,7 +1,7 @@
 //! Weathers and their fates. A test ends with an error that begins with `wrong` where an answer is
 //! wrong.
 
-use crate::{Fate, LinkFault, Weather};
+use lossy_link::{Fate, LinkFault, Weather};
 use std::test::Fail;
 
 fn same_number(found: u32, want: u32, what: &str) -> Result<(), Fail> {

@@ -1,9 +1,9 @@
 //! Links over lists, and links over channels on one thread. A test ends with an error that begins with
 //! `wrong` where an answer is wrong.
 
-use crate::{ChannelLink, Fate, Link, ListLink, Parcel, Post, Sending, Weather};
 use bytes::Bytes;
 use lock_messages::{Actor, ClientId, NodeId};
+use lossy_link::{ChannelLink, Fate, Link, ListLink, Parcel, Post, Sending, Weather};
 use std::alloc::Global;
 use std::sync::Wait;
 use std::test::Fail;
@@ -264,6 +264,64 @@ fn actors_that_have_ended(rt: HostRuntime) -> Result<(), Fail> {
         &[],
         "what comes from nobody",
     )
+}
+
+/// Sends parcels, numbered from this number on, to one actor after the other.
+fn send_to_each<L: Link>(link: &mut L, from: u32, actors: &[Actor]) -> Result<(), Fail> {
+    let mut number = from;
+    for actor in actors {
+        link.send(*actor, parcel(number))?;
+        number = number.wrapping_add(1);
+    }
+    Ok(())
+}
+
+/// So many parcels come over a link, each numbered ten above the one before.
+fn come<L: Link>(alloc: Global, link: &mut L, first: u32, count: usize) -> Result<(), Fail> {
+    let mut numbers = Vec::new(alloc);
+    let mut want = Vec::new(alloc);
+    let mut number = first;
+    for _ in 0..count {
+        numbers.push(number_of(&link.receive()?))?;
+        want.push(number)?;
+        number = number.wrapping_add(10);
+    }
+    same_numbers(&numbers, &want, "what comes to an actor")
+}
+
+/// Each of some links sends a parcel to each of these actors, whose links are the others.
+fn all_reach<L: Link>(
+    alloc: Global,
+    senders: &mut [L],
+    actors: &[Actor],
+    receivers: &mut [L],
+) -> Result<(), Fail> {
+    let mut number = 10u32;
+    for link in senders.iter_mut() {
+        send_to_each(link, number, actors)?;
+        number = number.wrapping_add(10);
+    }
+    let mut number = 10u32;
+    for link in receivers.iter_mut() {
+        come(alloc, link, number, senders.len())?;
+        number = number.wrapping_add(1);
+    }
+    Ok(())
+}
+
+#[test]
+fn parcels_reach_their_actors(rt: HostRuntime) -> Result<(), Fail> {
+    let weather = Weather::of(1, 0, 0, 0)?;
+    let mut nodes = ChannelLink::all(rt, rt.alloc(), 3, 2, &weather)?;
+    let mut clients = nodes.split_off(3)?;
+    let to_nodes = [
+        Actor::Node(node(1)?),
+        Actor::Node(node(2)?),
+        Actor::Node(node(3)?),
+    ];
+    let to_clients = [Actor::Client(client(1)?), Actor::Client(client(2)?)];
+    all_reach(rt.alloc(), &mut clients, &to_nodes, &mut nodes)?;
+    all_reach(rt.alloc(), &mut nodes, &to_clients, &mut clients)
 }
 
 #[test]
