@@ -1,0 +1,24 @@
+-- One actor of the exact world as an actor of code is seen: its number, its part of the world, and what
+-- a call that refused its turn says.
+use Rattle.std.specs.Prelude.{◌≡◌, ℕ, ◌⊎◌, IsOk, Err}
+use Rattle.lock_model.specs.Ballots.{Ballot}
+use Rattle.world_model.specs.declared.events.StepFault.{StepFault}
+use Rattle.world_model.specs.declared.events.StepFault.TheVariants as fault
+use Rattle.world_model.specs.declared.exact.ExactNode.{ExactNode}
+use Rattle.world_model.specs.declared.exact.ExactClient.{ExactClient}
+use Rattle.world_model.specs.Turns.{Turns}
+
+-- a node by its number
+pub record ActingNode : Type 0 where
+  pub number : ℕ
+  pub part : ExactNode
+
+-- a client by its number, under the ballot that it counts votes by
+pub record ActingClient : Type 0 where
+  pub number : ℕ
+  pub ballot : Ballot
+  pub part : ExactClient
+
+-- the actor's own part refuses the turn so; or memory was refused, and the turn is none that it refuses
+abbrev pub IsRefusedTurn : {A : Type 0} → Turns A → StepFault → Type 0
+IsRefusedTurn turn f = (turn ≡ Err f) ⊎ ((f ≡ fault.Memory) × IsOk turn)

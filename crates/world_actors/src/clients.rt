@@ -1,0 +1,302 @@
+// One client of the world.
+
+ghost use Rattle.std.specs.Prelude.{◌≡◌, ◌≤◌, ℕ, Err, length, false, IfOk, IfErr, OnOk, OnErr};
+ghost use Rattle.lock_model.specs.ExactHearing.{is_node_of};
+ghost use Rattle.world_model.specs.declared.events.Effect.TheVariants as effect;
+ghost use Rattle.world_model.specs.ExactClients.{begins_in, tries_attempt_in, keeps_attempt_in, tells, says_one, hears, heard_in, after_hearing, is_down, enters_in, leaves_in, client_falls_in, client_rises_in};
+ghost use Rattle.world_model.specs.Openings.{down_client};
+ghost use Rattle.world_model.specs.Turns.{acts};
+ghost use Rattle.world_model.specs.Views.{ticket_in};
+
+use client_core::{ClientCore, ClientFault, Phase};
+use lock_messages::{Attempt, ClientId, MAX_ATTEMPT, Message, Mode, NodeId, ResourceName, Ticket};
+use lock_model::Heard;
+use std::marker::Model;
+use vote_weights::Ballot;
+use world_model::{Age, StepFault};
+
+/// One client of the world: the attempt that it has kept (0 for none), the one that it tries to keep,
+/// and its core while it is up.
+///
+/// Contracts see its number, its ballot and its part of the world. No call takes memory.
+#[derive(Debug, Drop)]
+pub struct WorldClient {
+    core: ClientCore,
+    kept: u64,
+    tried: Option<u64>,
+    up: bool,
+}
+
+impl Model for WorldClient {
+    ghost use Rattle.world_actors.specs.Acting.{ActingClient};
+    ghost use Rattle.world_actors.specs.Clients.{acting_client, IsActing};
+
+    ghost Value = { ActingClient };
+
+    ghost view = { λ k. acting_client k.core k.kept k.tried k.up };
+
+    ghost invariant = { λ k. IsActing k.core k.kept k.tried k.up };
+}
+
+/// Whether the node is one of the ballot's.
+fn is_node_of(ballot: &Ballot, node: NodeId) -> bool
+    ensures { result ≡ is_node_of (length ballot.now.votes) node }
+{
+    let number = node.get();
+    1 <= number && number <= ballot.nodes()
+}
+
+impl WorldClient {
+    /// The client with this number, down, with this attempt kept (0 for none) and nothing tried.
+    ///
+    /// The caller owes an attempt of at most `MAX_ATTEMPT`.
+    pub fn opened(client: ClientId, attempt: u64, ballot: Ballot) -> WorldClient
+        requires { attempt ≤ MAX_ATTEMPT }
+        ensures number { result.number ≡ client }
+        ensures ballot { result.ballot ≡ ballot }
+        ensures down { result.part ≡ down_client attempt }
+    {
+        WorldClient {
+            core: ClientCore::rise(client, attempt, ballot),
+            kept: attempt,
+            tried: None,
+            up: false,
+        }
+    }
+
+    /// The client's number.
+    pub fn number(&self) -> ClientId
+        ensures { result ≡ self.now.number }
+    {
+        self.core.client()
+    }
+
+    /// The attempt that the client has kept, 0 for none.
+    pub fn kept(&self) -> u64
+        ensures kept { result ≡ self.now.part.kept }
+        ensures in_range { result ≤ MAX_ATTEMPT }
+    {
+        self.kept
+    }
+
+    /// The ticket with which the client is inside, if it is.
+    pub fn inside(&self) -> Option<Ticket>
+        ensures { result ≡ ticket_in self.now.part.phase }
+    {
+        if !self.up {
+            return None;
+        }
+        match self.core.phase() {
+            Phase::Inside => self.core.ticket(),
+            Phase::Idle | Phase::Chosen | Phase::Asking => None,
+        }
+    }
+
+    /// Begins the next attempt, whose number it answers: the event `Begin`.
+    ///
+    /// Refused while the client is down (602), in another phase than at rest (604), and after the
+    /// greatest attempt (610).
+    pub fn begin(&mut self, mode: Mode, resource: ResourceName) -> Result<Attempt, StepFault>
+        ensures done { IfOk result (λ a. begins_in self.old.number mode resource self.old.part self.old.part.phase ≡ acts self.new.part (effect.Chose a)) }
+        ensures refused { IfErr result (λ f. begins_in self.old.number mode resource self.old.part self.old.part.phase ≡ Err f) }
+        ensures unchanged { OnErr result (self.new ≡ self.old) }
+        ensures number { self.new.number ≡ self.old.number }
+        ensures ballot { self.new.ballot ≡ self.old.ballot }
+    {
+        if !self.up {
+            return Err(StepFault::Down);
+        }
+        match self.core.begin(resource, mode) {
+            Ok(attempt) => Ok(attempt),
+            Err(ClientFault::NotIdle) => Err(StepFault::WrongPhase),
+            Err(ClientFault::AttemptsSpent) => Err(StepFault::AttemptsSpent),
+        }
+    }
+
+    /// Starts to keep the number of the attempt that was chosen: the event `Try`.
+    ///
+    /// Refused while the client is down (602), and in another phase or with something tried already
+    /// (604).
+    pub fn start_keeping(&mut self) -> Result<(), StepFault>
+        ensures done { OnOk result (tries_attempt_in self.old.part self.old.part.phase ≡ acts self.new.part effect.Tried) }
+        ensures refused { IfErr result (λ f. tries_attempt_in self.old.part self.old.part.phase ≡ Err f) }
+        ensures unchanged { OnErr result (self.new ≡ self.old) }
+        ensures number { self.new.number ≡ self.old.number }
+        ensures ballot { self.new.ballot ≡ self.old.ballot }
+    {
+        if !self.up {
+            return Err(StepFault::Down);
+        }
+        let Phase::Chosen = self.core.phase() else {
+            return Err(StepFault::WrongPhase);
+        };
+        if self.tried.is_some() {
+            return Err(StepFault::WrongPhase);
+        }
+        self.tried = Some(self.core.attempt());
+        Ok(())
+    }
+
+    /// What is tried is kept, and the client asks with its ticket: the event `Kept`.
+    ///
+    /// Refused while the client is down (602), in another phase (604), and with nothing tried (611).
+    pub fn keep(&mut self) -> Result<(), StepFault>
+        ensures done { OnOk result (keeps_attempt_in self.old.part self.old.part.phase ≡ acts self.new.part effect.Kept) }
+        ensures refused { IfErr result (λ f. keeps_attempt_in self.old.part self.old.part.phase ≡ Err f) }
+        ensures unchanged { OnErr result (self.new ≡ self.old) }
+        ensures number { self.new.number ≡ self.old.number }
+        ensures ballot { self.new.ballot ≡ self.old.ballot }
+    {
+        if !self.up {
+            return Err(StepFault::Down);
+        }
+        let Phase::Chosen = self.core.phase() else {
+            return Err(StepFault::WrongPhase);
+        };
+        let Some(tried) = self.tried else {
+            return Err(StepFault::NothingTried);
+        };
+        self.kept = tried;
+        self.tried = None;
+        self.core.kept();
+        Ok(())
+    }
+
+    /// What the client has to say to a node, or why nothing: the own part of the event `SayTo`. It is
+    /// the request of its ticket while it asks or is inside, the release of its attempt while it rests.
+    ///
+    /// Refused for a node outside the ballot (601), while the client is down (602), before the number
+    /// that it chose is kept (605), and at rest before the first attempt (606).
+    pub fn message_for(&self, node: NodeId) -> Result<Message, StepFault>
+        ensures said { IfOk result (λ m. tells self.now.ballot self.now.number node self.now.part ≡ says_one self.now.part m) }
+        ensures refused { IfErr result (λ f. tells self.now.ballot self.now.number node self.now.part ≡ Err f) }
+    {
+        let ballot = self.core.ballot();
+        if !is_node_of(&ballot, node) {
+            return Err(StepFault::UnknownActor);
+        }
+        if !self.up {
+            return Err(StepFault::Down);
+        }
+        match (self.core.message_for(node), self.core.phase()) {
+            (Some(message), _) => Ok(message),
+            (None, Phase::Chosen) => Err(StepFault::NotStored),
+            (None, _) => Err(StepFault::NothingToSay),
+        }
+    }
+
+    /// Whether the client may hear a message, or why not: the own part of the event `Hear`.
+    ///
+    /// Refused while it is down (602).
+    pub fn may_hear(&self) -> Result<(), StepFault>
+        ensures up { OnOk result (is_down self.now.part.phase ≡ false) }
+        ensures refused { IfErr result (λ f. (nodes c number : ℕ) → hears nodes c number self.now.part ≡ Err f) }
+    {
+        if self.up {
+            Ok(())
+        } else {
+            Err(StepFault::Down)
+        }
+    }
+
+    /// Hears a message, and answers what the client makes of it: the event `Hear`.
+    ///
+    /// The caller owes that the client is up (`may_hear`).
+    pub fn hear(&mut self, message: &Message) -> Heard
+        requires { is_down self.old.part.phase ≡ false }
+        ensures heard { result ≡ heard_in (length self.old.ballot.votes) self.old.number self.old.part.kept self.old.part.phase message.now }
+        ensures exact { self.new.part ≡ after_hearing (length self.old.ballot.votes) self.old.number self.old.part message.now }
+        ensures number { self.new.number ≡ self.old.number }
+        ensures ballot { self.new.ballot ≡ self.old.ballot }
+    {
+        self.core.hear(message)
+    }
+
+    /// The client that asks is inside: the event `Enter`.
+    ///
+    /// Refused while it is down (602), in another phase (604), and while its votes are too few (609).
+    pub fn enter(&mut self) -> Result<(), StepFault>
+        ensures done { OnOk result (enters_in self.old.ballot self.old.part self.old.part.phase ≡ acts self.new.part effect.Inside) }
+        ensures refused { IfErr result (λ f. enters_in self.old.ballot self.old.part self.old.part.phase ≡ Err f) }
+        ensures unchanged { OnErr result (self.new ≡ self.old) }
+        ensures number { self.new.number ≡ self.old.number }
+        ensures ballot { self.new.ballot ≡ self.old.ballot }
+    {
+        if !self.up {
+            return Err(StepFault::Down);
+        }
+        let Phase::Asking = self.core.phase() else {
+            return Err(StepFault::WrongPhase);
+        };
+        if !self.core.may_enter() {
+            return Err(StepFault::NoQuorum);
+        }
+        self.core.enter();
+        Ok(())
+    }
+
+    /// The client leaves, or gives up asking, and rests: the event `Leave`.
+    ///
+    /// Refused while it is down (602), and while it neither asks nor is inside (604).
+    pub fn leave(&mut self) -> Result<(), StepFault>
+        ensures done { OnOk result (leaves_in self.old.part self.old.part.phase ≡ acts self.new.part effect.Outside) }
+        ensures refused { IfErr result (λ f. leaves_in self.old.part self.old.part.phase ≡ Err f) }
+        ensures unchanged { OnErr result (self.new ≡ self.old) }
+        ensures number { self.new.number ≡ self.old.number }
+        ensures ballot { self.new.ballot ≡ self.old.ballot }
+    {
+        if !self.up {
+            return Err(StepFault::Down);
+        }
+        match self.core.phase() {
+            Phase::Idle | Phase::Chosen => Err(StepFault::WrongPhase),
+            Phase::Asking | Phase::Inside => {
+                self.core.leave();
+                Ok(())
+            }
+        }
+    }
+
+    /// The client falls: what it has kept and what it tries to keep remain.
+    ///
+    /// Refused while it is down (602).
+    pub fn fall(&mut self) -> Result<(), StepFault>
+        ensures done { OnOk result (client_falls_in self.old.part self.old.part.phase ≡ acts self.new.part effect.Down) }
+        ensures refused { IfErr result (λ f. client_falls_in self.old.part self.old.part.phase ≡ Err f) }
+        ensures unchanged { OnErr result (self.new ≡ self.old) }
+        ensures number { self.new.number ≡ self.old.number }
+        ensures ballot { self.new.ballot ≡ self.old.ballot }
+    {
+        if !self.up {
+            return Err(StepFault::Down);
+        }
+        self.up = false;
+        Ok(())
+    }
+
+    /// The client rises with the attempt that it finds: the kept one or, of the age `New`, the one that
+    /// it was trying to keep.
+    ///
+    /// Refused while it is up (603), and for `New` with nothing tried (611).
+    pub fn rise(&mut self, age: Age) -> Result<(), StepFault>
+        ensures done { OnOk result (client_rises_in age self.old.part self.old.part.phase ≡ acts self.new.part effect.Up) }
+        ensures refused { IfErr result (λ f. client_rises_in age self.old.part self.old.part.phase ≡ Err f) }
+        ensures unchanged { OnErr result (self.new ≡ self.old) }
+        ensures number { self.new.number ≡ self.old.number }
+        ensures ballot { self.new.ballot ≡ self.old.ballot }
+    {
+        if self.up {
+            return Err(StepFault::Up);
+        }
+        let attempt = match (age, self.tried) {
+            (Age::Old, _) => self.kept,
+            (Age::New, Some(tried)) => tried,
+            (Age::New, None) => return Err(StepFault::NothingTried),
+        };
+        self.kept = attempt;
+        self.tried = None;
+        self.core.restart(attempt);
+        self.up = true;
+        Ok(())
+    }
+}

@@ -1,0 +1,314 @@
+// One node of the world.
+
+ghost use Rattle.std.specs.Prelude.{◌≡◌, ◌≢◌, ℕ, Err, length, true, IsOk, IfOk, IfErr, OnOk, OnErr, IsOkUnless};
+ghost use Rattle.lock_messages.specs.Messages.{is_for_node};
+ghost use Rattle.lock_model.specs.ExactDecisions.{changes};
+ghost use Rattle.stable_record.specs.Records.{IsNodeRecord};
+ghost use Rattle.world_model.specs.declared.events.Effect.TheVariants as effect;
+ghost use Rattle.world_model.specs.declared.exact.ExactNodePhase.TheVariants as phase;
+ghost use Rattle.world_model.specs.ExactNodes.{tries_station_in, keeps_station_in, says_in, takes_in, decided_on, node_falls_in, node_rises_in, node_rises_with};
+ghost use Rattle.world_model.specs.Openings.{down_node, empty_station};
+ghost use Rattle.world_model.specs.Parts.{turn_says};
+ghost use Rattle.world_model.specs.Turns.{acts, speaks};
+ghost use Rattle.world_actors.specs.Acting.{IsRefusedTurn};
+ghost use Rattle.world_actors.specs.Nodes.{station_in};
+
+use admission_policy::{Admission, problem_of};
+use lock_messages::{Message, NodeId};
+use lock_model::{Problem, laws};
+use stable_record::{Entries, NodeRecord};
+use std::alloc::Global;
+use std::marker::Model;
+use voter_core::{NodeCore, Phase};
+use world_model::{Age, StepFault};
+
+/// One node of the world: what it has kept, what it tries to keep, and its core while it is up.
+///
+/// Contracts see its number and its part of the world. They do not see the policy, which stays for good.
+#[derive(Drop)]
+pub struct WorldNode {
+    core: NodeCore,
+    kept: NodeRecord,
+    tried: Option<NodeRecord>,
+    up: bool,
+}
+
+impl Model for WorldNode {
+    ghost use Rattle.world_actors.specs.Acting.{ActingNode};
+    ghost use Rattle.world_actors.specs.Nodes.{acting_node, IsActing};
+
+    ghost Value = { ActingNode };
+
+    ghost view = { λ v. acting_node v.core v.kept v.tried v.up };
+
+    ghost invariant = { λ v. IsActing v.core v.kept v.tried v.up };
+}
+
+/// The record without entries.
+fn empty_record(alloc: Global, problem: Problem) -> NodeRecord
+    ensures empty { station_in result ≡ empty_station problem }
+    ensures good { IsNodeRecord result }
+{
+    NodeRecord {
+        policy: problem,
+        entries: Entries::new(alloc),
+    }
+}
+
+impl WorldNode {
+    /// The node with this number, down, with this record kept and nothing tried. It takes no memory.
+    ///
+    /// The caller owes a record that can be kept and read again: one that `read_node` answered, or a
+    /// copy of one. The policy and the record come back where the record is of the other problem.
+    pub fn opened(
+        alloc: Global,
+        id: NodeId,
+        station: NodeRecord,
+        policy: Box<dyn Admission + Send>,
+    ) -> Result<WorldNode, (Box<dyn Admission + Send>, NodeRecord)>
+        requires { IsNodeRecord station }
+        ensures problem { OnOk result (station.policy ≡ problem_of policy) }
+        ensures number { IfOk result (λ node. node.number ≡ id) }
+        ensures down { IfOk result (λ node. node.part ≡ down_node (station_in station)) }
+        ensures refused { IfErr result (λ back. (back.0 ≡ policy) × (back.1 ≡ station) × (station.policy ≢ problem_of policy)) }
+    {
+        let empty = empty_record(alloc, station.policy);
+        match NodeCore::rise_with(alloc, id, empty, policy) {
+            Ok(core) => Ok(WorldNode {
+                core,
+                kept: station,
+                tried: None,
+                up: false,
+            }),
+            Err((policy, _)) => Err((policy, station)),
+        }
+    }
+
+    /// The node with this number, down, with a record without entries kept and nothing tried. It takes
+    /// no memory.
+    pub fn empty(alloc: Global, id: NodeId, policy: Box<dyn Admission + Send>) -> WorldNode
+        requires { Unit {0} }
+        ensures number { result.number ≡ id }
+        ensures down { result.part ≡ down_node (empty_station (problem_of policy)) }
+    {
+        let problem = problem_of(&*policy);
+        let Ok(core) = NodeCore::rise_with(alloc, id, empty_record(alloc, problem), policy) else {
+            unreachable!();
+        };
+        WorldNode {
+            core,
+            kept: empty_record(alloc, problem),
+            tried: None,
+            up: false,
+        }
+    }
+
+    /// The node's number.
+    pub fn number(&self) -> NodeId
+        ensures { result ≡ self.now.number }
+    {
+        self.core.node()
+    }
+
+    /// The record that the node has kept. It can be kept and read again.
+    pub fn kept(&self) -> &NodeRecord
+        ensures kept { station_in result.now ≡ self.now.part.kept }
+        ensures good { IsNodeRecord result.now }
+    {
+        &self.kept
+    }
+
+    /// Starts to keep what the node decided: the event `Try`. It copies the record once.
+    ///
+    /// Refused while the node is down (602), in another phase or with something tried already (604),
+    /// and then for want of memory (613).
+    pub fn start_keeping(&mut self) -> Result<(), StepFault>
+        requires { Unit {0} }
+        ensures done { OnOk result (tries_station_in self.old.part self.old.part.phase ≡ acts self.new.part effect.Tried) }
+        ensures refused { IfErr result (λ f. IsRefusedTurn (tries_station_in self.old.part self.old.part.phase) f) }
+        ensures unchanged { OnErr result (self.new ≡ self.old) }
+        ensures number { self.new.number ≡ self.old.number }
+    {
+        if !self.up {
+            return Err(StepFault::Down);
+        }
+        let Phase::Decided = self.core.phase() else {
+            return Err(StepFault::WrongPhase);
+        };
+        if self.tried.is_some() {
+            return Err(StepFault::WrongPhase);
+        }
+        let Ok(copy) = self.core.record().clone() else {
+            return Err(StepFault::Memory);
+        };
+        self.tried = Some(copy);
+        Ok(())
+    }
+
+    /// What is tried is kept, and the replies may be said: the event `Kept`. It takes no memory.
+    ///
+    /// Refused while the node is down (602), in another phase (604), and with nothing tried (611).
+    pub fn keep(&mut self) -> Result<(), StepFault>
+        requires { Unit {0} }
+        ensures done { OnOk result (keeps_station_in self.old.part self.old.part.phase ≡ acts self.new.part effect.Kept) }
+        ensures refused { IfErr result (λ f. keeps_station_in self.old.part self.old.part.phase ≡ Err f) }
+        ensures unchanged { OnErr result (self.new ≡ self.old) }
+        ensures number { self.new.number ≡ self.old.number }
+    {
+        if !self.up {
+            return Err(StepFault::Down);
+        }
+        let Phase::Decided = self.core.phase() else {
+            return Err(StepFault::WrongPhase);
+        };
+        let Some(tried) = self.tried.take() else {
+            return Err(StepFault::NothingTried);
+        };
+        self.kept = tried;
+        self.core.kept();
+        Ok(())
+    }
+
+    /// How many replies the node has to say, or why it may say none: the own part of the event `Say`.
+    ///
+    /// Refused while the node is down (602), before what it decided is kept (605), and while it is idle
+    /// (606).
+    pub fn replies(&self) -> Result<usize, StepFault>
+        ensures stored { OnOk result (IsOk (says_in self.now.part self.now.part.phase)) }
+        ensures count { IfOk result (λ n. n ≡ length (turn_says (says_in self.now.part self.now.part.phase))) }
+        ensures refused { IfErr result (λ f. says_in self.now.part self.now.part.phase ≡ Err f) }
+    {
+        if !self.up {
+            return Err(StepFault::Down);
+        }
+        match self.core.phase() {
+            Phase::Idle => Err(StepFault::NothingToSay),
+            Phase::Decided => Err(StepFault::NotStored),
+            Phase::Stored => Ok(self.core.replies()),
+        }
+    }
+
+    /// The replies, in order, and the node is idle: the event `Say`. It takes no memory.
+    ///
+    /// The caller owes that the node may say them; `replies` tells.
+    pub fn say(&mut self) -> Vec<Message>
+        requires { IsOk (says_in self.old.part self.old.part.phase) }
+        ensures said { says_in self.old.part self.old.part.phase ≡ speaks self.new.part result.items (λ first. effect.Said first (length result.items)) }
+        ensures number { self.new.number ≡ self.old.number }
+    {
+        self.core.speak()
+    }
+
+    /// Whether the node may take a message, or why not: the own part of the event `Take`.
+    ///
+    /// Refused while the node is down (602) and while it is not idle (604).
+    pub fn may_take(&self) -> Result<(), StepFault>
+        ensures idle { OnOk result (self.now.part.phase ≡ phase.Idle) }
+        ensures refused { IfErr result (λ f. (number : ℕ) → takes_in self.now.number number self.now.part self.now.part.phase ≡ Err f) }
+    {
+        if !self.up {
+            return Err(StepFault::Down);
+        }
+        match self.core.phase() {
+            Phase::Idle => Ok(()),
+            Phase::Decided | Phase::Stored => Err(StepFault::WrongPhase),
+        }
+    }
+
+    /// Decides on a message, and answers whether the record changes: the event `Take`.
+    ///
+    /// The caller owes that the node may take one (`may_take`) and that this one is for it
+    /// (`Message::is_for_node`). The only refusal is want of memory (613).
+    pub fn take(&mut self, message: &Message) -> Result<bool, StepFault>
+        requires idle { self.old.part.phase ≡ phase.Idle }
+        requires for_node { is_for_node message.now self.old.number ≡ true }
+        ensures exact { OnOk result (self.new.part ≡ decided_on self.old.part message.now) }
+        ensures changes { IfOk result (λ b. b ≡ changes self.old.part.kept.problem self.old.part.kept.entries message.now) }
+        ensures memory { IsOkUnless result StepFault.Memory }
+        ensures unchanged { OnErr result (self.new ≡ self.old) }
+        ensures number { self.new.number ≡ self.old.number }
+    {
+        laws::changes_are_seen();
+        match self.core.take(message) {
+            Ok(changed) => Ok(changed),
+            Err(_) => Err(StepFault::Memory),
+        }
+    }
+
+    /// The node falls: what it has kept and what it tries to keep remain. It takes no memory.
+    ///
+    /// Refused while it is down (602).
+    pub fn fall(&mut self) -> Result<(), StepFault>
+        requires { Unit {0} }
+        ensures done { OnOk result (node_falls_in self.old.part self.old.part.phase ≡ acts self.new.part effect.Down) }
+        ensures refused { IfErr result (λ f. node_falls_in self.old.part self.old.part.phase ≡ Err f) }
+        ensures unchanged { OnErr result (self.new ≡ self.old) }
+        ensures number { self.new.number ≡ self.old.number }
+    {
+        if !self.up {
+            return Err(StepFault::Down);
+        }
+        self.up = false;
+        Ok(())
+    }
+
+    /// With the kept record the node is up again, idle.
+    fn rise_old(&mut self) -> Result<(), StepFault>
+        requires { Unit {0} }
+        ensures done { OnOk result (node_rises_with Age.Old self.old.part.kept self.old.part.tried ≡ acts self.new.part effect.Up) }
+        ensures memory { IsOkUnless result StepFault.Memory }
+        ensures unchanged { OnErr result (self.new ≡ self.old) }
+        ensures number { self.new.number ≡ self.old.number }
+    {
+        let Ok(copy) = self.kept.clone() else {
+            return Err(StepFault::Memory);
+        };
+        self.core.restart_with(copy);
+        self.tried = None;
+        self.up = true;
+        Ok(())
+    }
+
+    /// With the tried record, which is then the kept one, the node is up again, idle.
+    fn rise_new(&mut self) -> Result<(), StepFault>
+        requires { Unit {0} }
+        ensures done { OnOk result (node_rises_with Age.New self.old.part.kept self.old.part.tried ≡ acts self.new.part effect.Up) }
+        ensures refused { IfErr result (λ f. IsRefusedTurn (node_rises_with Age.New self.old.part.kept self.old.part.tried) f) }
+        ensures unchanged { OnErr result (self.new ≡ self.old) }
+        ensures number { self.new.number ≡ self.old.number }
+    {
+        let Some(found) = &self.tried else {
+            return Err(StepFault::NothingTried);
+        };
+        let Ok(copy) = found.clone() else {
+            return Err(StepFault::Memory);
+        };
+        if let Some(next) = self.tried.take() {
+            self.kept = next;
+        }
+        self.core.restart_with(copy);
+        self.up = true;
+        Ok(())
+    }
+
+    /// The node rises with the record that it finds: the kept one or, of the age `New`, the one that
+    /// it was trying to keep. It copies that record once.
+    ///
+    /// Refused while it is up (603), for `New` with nothing tried (611), and then for want of memory
+    /// (613).
+    pub fn rise(&mut self, age: Age) -> Result<(), StepFault>
+        requires { Unit {0} }
+        ensures done { OnOk result (node_rises_in age self.old.part self.old.part.phase ≡ acts self.new.part effect.Up) }
+        ensures refused { IfErr result (λ f. IsRefusedTurn (node_rises_in age self.old.part self.old.part.phase) f) }
+        ensures unchanged { OnErr result (self.new ≡ self.old) }
+        ensures number { self.new.number ≡ self.old.number }
+    {
+        if self.up {
+            return Err(StepFault::Up);
+        }
+        match age {
+            Age::Old => self.rise_old(),
+            Age::New => self.rise_new(),
+        }
+    }
+}
