@@ -1,0 +1,128 @@
+// How a test ends before its end, and the few values that tests share.
+
+use lock_messages::{Attempt, ClientId, FrameFault, Message, Mode, NodeId, ResourceName, Ticket};
+use lossy_link::LinkFault;
+use operator_cli::ServeFault;
+use slot_record::SlotFault;
+use stable_record::RecordFault;
+use std::alloc::{AllocError, AllocFailed};
+use voter_core::VoterFault;
+use world_machine::StepFault;
+
+/// Why a test ended: memory was refused, or something is wrong.
+#[derive(Clone, Copy, Debug)]
+pub(crate) enum Failure {
+    Memory,
+    Wrong,
+}
+
+/// What a test, or a step of one, answers.
+pub(crate) type Outcome = Result<(), Failure>;
+
+impl From<AllocError> for Failure {
+    fn from(_error: AllocError) -> Failure {
+        Failure::Memory
+    }
+}
+
+impl<T: Drop> From<AllocFailed<T>> for Failure {
+    fn from(_error: AllocFailed<T>) -> Failure {
+        Failure::Memory
+    }
+}
+
+/// Want of memory, where the fault says so.
+fn of_fault(is_memory: bool) -> Failure {
+    if is_memory {
+        Failure::Memory
+    } else {
+        Failure::Wrong
+    }
+}
+
+impl From<FrameFault> for Failure {
+    fn from(fault: FrameFault) -> Failure {
+        of_fault(matches!(fault, FrameFault::Memory))
+    }
+}
+
+impl From<RecordFault> for Failure {
+    fn from(fault: RecordFault) -> Failure {
+        of_fault(matches!(fault, RecordFault::Memory | RecordFault::NoMemory))
+    }
+}
+
+impl From<SlotFault> for Failure {
+    fn from(fault: SlotFault) -> Failure {
+        of_fault(matches!(fault, SlotFault::Memory))
+    }
+}
+
+impl From<VoterFault> for Failure {
+    fn from(fault: VoterFault) -> Failure {
+        of_fault(matches!(fault, VoterFault::Memory))
+    }
+}
+
+impl From<LinkFault> for Failure {
+    fn from(fault: LinkFault) -> Failure {
+        of_fault(matches!(fault, LinkFault::Memory))
+    }
+}
+
+impl From<StepFault> for Failure {
+    fn from(fault: StepFault) -> Failure {
+        of_fault(matches!(fault, StepFault::Memory))
+    }
+}
+
+impl From<ServeFault> for Failure {
+    fn from(fault: ServeFault) -> Failure {
+        of_fault(matches!(fault, ServeFault::Memory))
+    }
+}
+
+/// Ends the test where something is not so.
+pub(crate) fn check(holds: bool) -> Outcome {
+    if holds { Ok(()) } else { Err(Failure::Wrong) }
+}
+
+/// Ends the test for want of memory, where what the refusal left is right.
+pub(crate) fn refused<T>(is_right: bool) -> Result<T, Failure> {
+    if is_right {
+        Err(Failure::Memory)
+    } else {
+        Err(Failure::Wrong)
+    }
+}
+
+pub(crate) fn node(number: u8) -> Result<NodeId, Failure> {
+    NodeId::of(number).ok_or(Failure::Wrong)
+}
+
+pub(crate) fn client(number: u32) -> Result<ClientId, Failure> {
+    ClientId::of(number).ok_or(Failure::Wrong)
+}
+
+pub(crate) fn first_attempt() -> Result<Attempt, Failure> {
+    Attempt::of(1).ok_or(Failure::Wrong)
+}
+
+pub(crate) fn resource() -> Result<ResourceName, Failure> {
+    ResourceName::of(b"a").ok_or(Failure::Wrong)
+}
+
+/// The first ticket of a client, to use `a`.
+pub(crate) fn ticket(number: u32, mode: Mode) -> Result<Ticket, Failure> {
+    Ok(Ticket {
+        client: client(number)?,
+        attempt: first_attempt()?,
+        mode,
+        resource: resource()?,
+    })
+}
+
+/// The request of that ticket to n1.
+pub(crate) fn request(number: u32, mode: Mode) -> Result<Message, Failure> {
+    Ok(Message::Request(node(1)?, ticket(number, mode)?))
+}

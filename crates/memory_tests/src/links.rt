@@ -1,0 +1,105 @@
+// Links: 903. After a refusal a link over a list is as it was; of one over channels a part may have
+// gone.
+
+use crate::failures::{Failure, Outcome, check, client, node, refused};
+use bytes::Bytes;
+use lock_messages::Actor;
+use lossy_link::{ChannelLink, Link, LinkFault, ListLink, Parcel, Post, Weather};
+use std::alloc::Global;
+use std::sync::Wait;
+
+fn parcel(number: u32) -> Parcel {
+    Parcel {
+        number,
+        frame: Bytes::from_static(b"frame"),
+    }
+}
+
+/// Whether a link over a list took what was given to it, as its list then has it.
+fn took(link: &ListLink, given: Result<(), LinkFault>, before: usize) -> Outcome {
+    let now = link.sent().len();
+    match given {
+        Ok(()) => check(now == before.saturating_add(1)),
+        Err(fault) => {
+            check(now == before)?;
+            Err(fault.into())
+        }
+    }
+}
+
+#[test]
+fn send_over_a_list(rt: HostRuntime) -> Outcome {
+    let mut link = ListLink::of(Vec::new(rt.alloc()));
+    let to = Actor::Node(node(1)?);
+    for before in 0..5usize {
+        let given = link.send(to, parcel(1));
+        took(&link, given, before)?;
+    }
+    Ok(())
+}
+
+#[test]
+fn tell_all_over_a_list(rt: HostRuntime) -> Outcome {
+    let mut link = ListLink::of(Vec::new(rt.alloc()));
+    let post = Post::Nudge(node(1)?);
+    let given = link.tell_all(post);
+    took(&link, given, 0)
+}
+
+/// The links of one node and two clients, the node's first, under this weather.
+fn links<R: Copy>(rt: R, alloc: Global, late: u16) -> Result<Vec<ChannelLink<R>>, Failure> {
+    let Ok(weather) = Weather::of(1, 0, 0, late) else {
+        return Err(Failure::Wrong);
+    };
+    let links = ChannelLink::all(rt, alloc, 1, 2, &weather)?;
+    check(links.len() == 3)?;
+    Ok(links)
+}
+
+#[test]
+fn make_links_over_channels(rt: HostRuntime) -> Outcome {
+    links(rt, rt.alloc(), 0)?;
+    Ok(())
+}
+
+/// Whether the next post of the last link, which is the second client's, is this one.
+fn brings<R: Wait + Copy>(links: &mut Vec<ChannelLink<R>>, post: &Post) -> Outcome {
+    let Some(mut last) = links.pop() else {
+        return Err(Failure::Wrong);
+    };
+    let got = last.receive()?;
+    check(got == *post)
+}
+
+#[test]
+fn send_over_channels(rt: HostRuntime) -> Outcome {
+    let mut links = links(rt, rt.alloc(), 0)?;
+    let to = Actor::Client(client(2)?);
+    let Some(of_node) = links.first_mut() else {
+        return Err(Failure::Wrong);
+    };
+    of_node.send(to, parcel(7))?;
+    brings(&mut links, &Post::Parcel(parcel(7)))
+}
+
+/// A late parcel is held, and its client is nudged.
+#[test]
+fn send_late_over_channels(rt: HostRuntime) -> Outcome {
+    let mut links = links(rt, rt.alloc(), 1_000)?;
+    let to = Actor::Client(client(2)?);
+    let Some(of_node) = links.first_mut() else {
+        return Err(Failure::Wrong);
+    };
+    of_node.send(to, parcel(7))?;
+    brings(&mut links, &Post::Nudge(node(1)?))
+}
+
+#[test]
+fn tell_all_over_channels(rt: HostRuntime) -> Outcome {
+    let mut links = links(rt, rt.alloc(), 0)?;
+    let Some(of_node) = links.first_mut() else {
+        return Err(Failure::Wrong);
+    };
+    of_node.tell_all(Post::Gone(node(1)?))?;
+    brings(&mut links, &Post::Gone(node(1)?))
+}

@@ -1,0 +1,141 @@
+// Records: entries that grow, node records read and written (320), and records that are kept (304).
+
+use crate::failures::{Failure, Outcome, check, client, refused};
+use lock_model::{Entry, Problem};
+use stable_record::{
+    Entries, FaultyRecord, Leaves, MemoryRecord, NodeRecord, StableRecord, node_bytes, read_node,
+};
+use std::alloc::{AllocError, Global};
+
+/// The record of problem 2 in which c1 holds `a` as a reader, c2 waits for it as a writer.
+const TWO: [u8; 52] = [
+    0x01, 0x02, 0x00, 0x02, //
+    0x00, 0x00, 0x00, 0x01, 0x00, 0x00, 0x00, 0x00, 0x00, 0x00, 0x00, 0x00, 0x02, 0x00, 0x00, 0x00,
+    0x00, 0x00, 0x00, 0x00, 0x01, 0x00, 0x01, 0x61, //
+    0x00, 0x00, 0x00, 0x02, 0x00, 0x00, 0x00, 0x00, 0x00, 0x00, 0x00, 0x00, 0x01, 0x00, 0x00, 0x00,
+    0x00, 0x00, 0x00, 0x00, 0x01, 0x01, 0x01, 0x61,
+];
+
+/// The entry of a client whose attempt 1 has ended.
+fn ended(number: u32) -> Result<Entry, Failure> {
+    Ok(Entry {
+        client: client(number)?,
+        floor: 1,
+        live: None,
+    })
+}
+
+/// Pushes an entry; where memory is refused nothing has changed.
+fn pushes(entries: &mut Entries, number: u32) -> Outcome {
+    let before = entries.len();
+    let entry = ended(number)?;
+    match entries.push(entry) {
+        Ok(is_new) => check(is_new && entries.get(before) == Some(entry)),
+        Err(_) => refused(entries.len() == before && !entries.knows(entry.client)),
+    }
+}
+
+#[test]
+fn push_entries(rt: HostRuntime) -> Outcome {
+    let mut entries = Entries::new(rt.alloc());
+    for number in 1..10 {
+        pushes(&mut entries, number)?;
+    }
+    Ok(())
+}
+
+#[test]
+fn push_a_known_entry(rt: HostRuntime) -> Outcome {
+    let mut entries = Entries::new(rt.alloc());
+    pushes(&mut entries, 1)?;
+    let entry = ended(1)?;
+    // It asks for no memory, so it has to succeed.
+    check(entries.push(entry).ok() == Some(false))
+}
+
+fn reads_two(record: &NodeRecord) -> bool {
+    record.policy == Problem::Second && record.entries.len() == 2 && record.lawful()
+}
+
+#[test]
+fn read_a_node_record(rt: HostRuntime) -> Outcome {
+    let record = read_node(rt.alloc(), &TWO)?;
+    check(reads_two(&record))
+}
+
+#[test]
+fn write_a_node_record(rt: HostRuntime) -> Outcome {
+    let record = read_node(rt.alloc(), &TWO)?;
+    match node_bytes(rt.alloc(), &record) {
+        Ok(bytes) => check(bytes.as_slice() == TWO.as_slice()),
+        Err(fault) => {
+            check(reads_two(&record))?;
+            Err(fault.into())
+        }
+    }
+}
+
+#[test]
+fn copy_a_node_record(rt: HostRuntime) -> Outcome {
+    let record = read_node(rt.alloc(), &TWO)?;
+    let copied: Result<NodeRecord, AllocError> = record.clone();
+    check(reads_two(&record))?;
+    check(reads_two(&copied?))
+}
+
+/// Whether a restart finds these bytes.
+fn finds<S: StableRecord>(record: &mut S, bytes: &[u8]) -> Outcome {
+    let found = record.reopen()?;
+    check(found.as_slice() == bytes && !record.stuck())
+}
+
+/// Keeps two bytes in place of one; where memory is refused the one is found.
+fn keeps<S: StableRecord>(record: &mut S) -> Outcome {
+    match record.keep(&[2, 3]) {
+        Ok(()) => finds(record, &[2, 3]),
+        Err(fault) => {
+            finds(record, &[1])?;
+            check(record.failures() == 0)?;
+            Err(fault.into())
+        }
+    }
+}
+
+/// Reopens; where memory is refused nothing has changed.
+fn reopens<S: StableRecord>(record: &mut S) -> Outcome {
+    let before = (record.stuck(), record.failures());
+    match record.reopen() {
+        Ok(bytes) => check(bytes.as_slice() == [1].as_slice()),
+        Err(fault) => {
+            let after = (record.stuck(), record.failures());
+            check(after == before)?;
+            finds(record, &[1])?;
+            Err(fault.into())
+        }
+    }
+}
+
+#[test]
+fn keep_in_memory(rt: HostRuntime) -> Outcome {
+    keeps(&mut MemoryRecord::holding(rt.alloc(), &[1])?)
+}
+
+#[test]
+fn reopen_in_memory(rt: HostRuntime) -> Outcome {
+    reopens(&mut MemoryRecord::holding(rt.alloc(), &[1])?)
+}
+
+#[test]
+fn keep_on_a_device(rt: HostRuntime) -> Outcome {
+    keeps(&mut FaultyRecord::of(rt.alloc(), &[1], 2, Leaves::Old)?)
+}
+
+#[test]
+fn reopen_a_stuck_device(rt: HostRuntime) -> Outcome {
+    let mut record = FaultyRecord::of(rt.alloc(), &[1], 1, Leaves::Old)?;
+    match record.keep(&[2]) {
+        Err(stable_record::RecordFault::Device) => reopens(&mut record),
+        Err(fault) => Err(fault.into()),
+        Ok(()) => Err(Failure::Wrong),
+    }
+}

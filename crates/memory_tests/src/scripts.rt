@@ -1,0 +1,71 @@
+// A whole run: 933, or 925 of the settings; what was written is a beginning of the output.
+
+use crate::failures::{Failure, Outcome, check, refused};
+use operator_cli::{Order, ServeFault, serve};
+use std::alloc::Global;
+use std::io;
+use std::io::{Error, ErrorKind, Write};
+
+const SCRIPT: &str = "\
+votes = [1]\nread = 1\nwrite = 1\nproblem = 1\nclients = 2\n---\n\
+begin c1 read a\ntry c1\nkept c1\nsayto c1 n1\ntake n1 1\ntry n1\n\
+kept n1\nsay n1\nhear c1 2\nenter c1\nenter c1\ninside a\ninside a b\n";
+
+const EXPECTED: &str = "\
+chose 1\ntried\nkept\nsent 1 request n1 c1 1 read a\nchanged\ntried\n\
+kept\nsent 2 grant n1 c1 1 read a\ncounted\ninside\nrefused 604\ninside a: c1 read\n\
+line 13 fault 805\n";
+
+const BAD_SETTINGS: &str = "votes = [1, 1]\nread = 1\nwrite = 1\nproblem = 1\nclients = 2\n---\n";
+
+/// A writer in a room of its own, which takes no memory.
+#[derive(Drop)]
+struct Room {
+    bytes: [u8; 256],
+    used: usize,
+}
+
+impl Write for Room {
+    fn write(&mut self, buf: &[u8]) -> io::Result<usize> {
+        if self.used > self.bytes.len() {
+            return Err(Error::from(ErrorKind::BrokenPipe));
+        }
+        let count = buf.len().min(self.bytes.len() - self.used);
+        let (now, _) = buf.split_at(count);
+        self.bytes[self.used..self.used + count].copy_from_slice(now);
+        self.used += count;
+        Ok(count)
+    }
+
+    fn flush(&mut self) -> io::Result<()> {
+        Ok(())
+    }
+}
+
+/// Serves a script, and judges what it wrote and its status.
+fn serves(alloc: Global, script: &str, expected: &str, status: u8) -> Outcome {
+    let mut out = Room {
+        bytes: [0; 256],
+        used: 0,
+    };
+    let served = serve(alloc, Order::Script, script.as_bytes(), &mut out);
+    let told = out.bytes.get(..out.used).unwrap_or(&[]);
+    match served {
+        Ok(2) if told == b"settings fault 925\n".as_slice() => refused(true),
+        Ok(ended) => check(told == expected.as_bytes() && ended == status),
+        Err(fault) => {
+            check(expected.as_bytes().starts_with(told))?;
+            Err(fault.into())
+        }
+    }
+}
+
+#[test]
+fn serve_a_script(rt: HostRuntime) -> Outcome {
+    serves(rt.alloc(), SCRIPT, EXPECTED, 1)
+}
+
+#[test]
+fn serve_refused_settings(rt: HostRuntime) -> Outcome {
+    serves(rt.alloc(), BAD_SETTINGS, "settings fault 204\n", 2)
+}

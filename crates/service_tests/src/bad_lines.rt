@@ -1,0 +1,121 @@
+// Each fault of a line. A line of a table is bad by itself, behind good settings.
+
+use crate::outcomes::{Failure, Outcome};
+use crate::playing::{each_is_bad, plays_lines};
+use std::alloc::Global;
+
+#[test]
+fn first_words(rt: HostRuntime) -> Outcome {
+    let lines = [
+        "\n",
+        "Begin c1 read a",
+        " begin c1 read a",
+        "rhubarb",
+        "begin\tc1 read a",
+        "inside\r\n",
+    ];
+    each_is_bad(rt.alloc(), 801, &lines)
+}
+
+#[test]
+fn modes(rt: HostRuntime) -> Outcome {
+    let lines = ["begin c1 reed A", "begin c1 Read a", "begin c1  a"];
+    each_is_bad(rt.alloc(), 801, &lines)
+}
+
+#[test]
+fn numbers_of_words(rt: HostRuntime) -> Outcome {
+    let lines = [
+        "begin  c1 read a",
+        "begin c1 read",
+        "begin c1 read a b",
+        "try",
+        "kept c1 ",
+        "sayto c1",
+        "enter",
+        "inside",
+        "inside a b",
+        "take n1",
+        "say n1 1",
+    ];
+    each_is_bad(rt.alloc(), 805, &lines)
+}
+
+#[test]
+fn actors(rt: HostRuntime) -> Outcome {
+    let lines = [
+        "begin n1 read a",
+        "begin c01 read a",
+        "begin c0 reed A",
+        "begin c1025 read a",
+        "try x1",
+        "try 1",
+        "try n17",
+        "kept c",
+        "sayto n1 c1",
+        "sayto c1 n17",
+        "say c1",
+        "say n+1",
+        "hear n1 1",
+        "leave n1",
+        "enter c1\r",
+        "say n1x",
+    ];
+    each_is_bad(rt.alloc(), 802, &lines)
+}
+
+#[test]
+fn numbers(rt: HostRuntime) -> Outcome {
+    let lines = [
+        "take n1 0",
+        "take n1 01",
+        "take n1 1048577",
+        "take n1 +1",
+        "take n1 1x",
+        "hear c1 ",
+        "hear c1 99999999999999999999",
+    ];
+    each_is_bad(rt.alloc(), 803, &lines)
+}
+
+#[test]
+fn names(rt: HostRuntime) -> Outcome {
+    let lines = [
+        "begin c1 read A",
+        "begin c1 read ",
+        "begin c1 read a\r",
+        "inside a_b",
+        "inside ",
+        "inside a23456789012345678901234567890123",
+    ];
+    each_is_bad(rt.alloc(), 804, &lines)
+}
+
+/// The greatest words that are read; what they name is not there.
+#[test]
+fn greatest_words(rt: HostRuntime) -> Outcome {
+    let alloc = rt.alloc();
+    for line in ["begin c1024 read a", "take n16 1048576", "try c5", "say n4"] {
+        plays_lines(alloc, line, "refused 601\n", 1)?;
+    }
+    let name = "inside a2345678901234567890123456789012";
+    let nobody = "inside a2345678901234567890123456789012: nobody\n";
+    plays_lines(alloc, name, nobody, 0)
+}
+
+/// A line of so many bytes `x`.
+fn line_of(alloc: Global, count: usize) -> Result<String, Failure> {
+    let mut line = String::new(alloc);
+    for _ in 0..count {
+        line.push_str("x")?;
+    }
+    Ok(line)
+}
+
+#[test]
+fn long_lines(rt: HostRuntime) -> Outcome {
+    let alloc = rt.alloc();
+    each_is_bad(alloc, 801, &[line_of(alloc, 128)?.as_str()])?;
+    each_is_bad(alloc, 805, &[line_of(alloc, 129)?.as_str()])?;
+    each_is_bad(alloc, 805, &[line_of(alloc, 10_000)?.as_str()])
+}

@@ -1,0 +1,193 @@
+// The greatest sizes: 16 nodes with 4,080 votes, 1,024 clients inside, as many messages as there may
+// be, and inputs of many reads.
+
+use crate::outcomes::{Failure, Outcome, check};
+use crate::playing::{plays, served};
+use operator_cli::{Order, serve};
+use std::alloc::Global;
+use std::io;
+use std::io::{Read, Write};
+use world_machine::MAX_MESSAGES;
+
+/// A script, and what it prints.
+#[derive(Drop)]
+struct Pair {
+    script: String,
+    output: String,
+}
+
+/// Settings, and a client that has chosen to read `a`.
+fn begun(alloc: Global, head: &str, client: u32) -> Result<Pair, Failure> {
+    let mut pair = Pair {
+        script: String::from_str(alloc, head)?,
+        output: String::new(alloc),
+    };
+    chooses(&mut pair, client)?;
+    Ok(pair)
+}
+
+fn chooses(pair: &mut Pair, client: u32) -> Outcome {
+    writeln!(
+        pair.script,
+        "begin c{client} read a\ntry c{client}\nkept c{client}"
+    )?;
+    pair.output.push_str("chose 1\ntried\nkept\n")?;
+    Ok(())
+}
+
+/// The client asks a node, which grants its vote; the request is the message of this number.
+fn asks(pair: &mut Pair, client: u32, node: u32, request: u64) -> Outcome {
+    let grant = request.saturating_add(1);
+    let Pair { script, output } = pair;
+    writeln!(
+        script,
+        "sayto c{client} n{node}\ntake n{node} {request}\ntry n{node}"
+    )?;
+    writeln!(script, "kept n{node}\nsay n{node}\nhear c{client} {grant}")?;
+    writeln!(
+        output,
+        "sent {request} request n{node} c{client} 1 read a\nchanged\ntried"
+    )?;
+    writeln!(
+        output,
+        "kept\nsent {grant} grant n{node} c{client} 1 read a\ncounted"
+    )?;
+    Ok(())
+}
+
+fn says(pair: &mut Pair, line: &str, answer: &str) -> Outcome {
+    writeln!(pair.script, "{line}")?;
+    writeln!(pair.output, "{answer}")?;
+    Ok(())
+}
+
+const ALL_VOTES: &str = "\
+votes = [255, 255, 255, 255, 255, 255, 255, 255, 255, 255, 255, 255, 255, 255, 255, 255]\n\
+read = 2040\nwrite = 2041\nproblem = 1\nclients = 1024\n---\n";
+
+/// A reader needs eight of sixteen nodes that have 255 votes each.
+#[test]
+fn all_votes(rt: HostRuntime) -> Outcome {
+    let mut pair = begun(rt.alloc(), ALL_VOTES, 1024)?;
+    for node in 9..16u32 {
+        asks(
+            &mut pair,
+            1024,
+            node,
+            u64::from(node).saturating_mul(2).saturating_sub(17),
+        )?;
+    }
+    says(&mut pair, "enter c1024", "refused 609")?;
+    asks(&mut pair, 1024, 16, 15)?;
+    says(&mut pair, "enter c1024", "inside")?;
+    says(&mut pair, "inside a", "inside a: c1024 read")?;
+    plays(rt.alloc(), pair.script.as_bytes(), pair.output.as_str(), 1)
+}
+
+const ONE_VOTE: &str = "votes = [1]\nread = 1\nwrite = 1\nproblem = 1\nclients = 1024\n---\n";
+
+/// The client begins, asks the one node and enters.
+fn comes_in(pair: &mut Pair, client: u32) -> Outcome {
+    chooses(pair, client)?;
+    asks(
+        pair,
+        client,
+        1,
+        u64::from(client).saturating_mul(2).saturating_sub(1),
+    )?;
+    writeln!(pair.script, "enter c{client}")?;
+    writeln!(pair.output, "inside")?;
+    Ok(())
+}
+
+/// As many clients as there may be are inside together.
+#[test]
+fn all_clients(rt: HostRuntime) -> Outcome {
+    let mut pair = begun(rt.alloc(), ONE_VOTE, 1)?;
+    asks(&mut pair, 1, 1, 1)?;
+    says(&mut pair, "enter c1", "inside")?;
+    for client in 2..1025u32 {
+        comes_in(&mut pair, client)?;
+    }
+    pair.script.push_str("inside a\n")?;
+    pair.output.push_str("inside a: c1 read")?;
+    for client in 2..1025u32 {
+        write!(pair.output, ", c{client} read")?;
+    }
+    pair.output.push_str("\n")?;
+    plays(rt.alloc(), pair.script.as_bytes(), pair.output.as_str(), 0)
+}
+
+/// A reader that gives a beginning, and then the same line so many times, a line a read.
+#[derive(Drop)]
+struct Repeats<'a> {
+    now: &'a [u8],
+    line: &'a [u8],
+    times: u32,
+}
+
+impl Read for Repeats<'_> {
+    fn read(&mut self, buf: &mut [u8]) -> io::Result<usize> {
+        if self.now.is_empty() && self.times > 0 {
+            self.now = self.line;
+            self.times -= 1;
+        }
+        let count = self.now.len().min(buf.len());
+        let (now, later) = self.now.split_at(count);
+        buf[..count].copy_from_slice(now);
+        self.now = later;
+        Ok(count)
+    }
+}
+
+/// Runs the line so many times behind a client that asks.
+fn reader_of(line: &[u8], times: u32) -> Repeats<'_> {
+    let now = b"votes = [1]\nread = 1\nwrite = 1\nproblem = 1\nclients = 1\n---\n\
+        begin c1 read a\ntry c1\nkept c1\n";
+    Repeats { now, line, times }
+}
+
+/// An input of more than 2,000 reads.
+#[test]
+fn many_reads(rt: HostRuntime) -> Outcome {
+    let (out, status) = served(rt.alloc(), reader_of(b"inside a\n", 3_000))?;
+    let inside = b"inside a: nobody\n";
+    check(out.len() == 19 + 3_000 * inside.len())?;
+    check(out.ends_with(inside) && status == 0)
+}
+
+/// A writer that counts lines, and keeps the last twelve bytes.
+#[derive(Drop)]
+struct Counts {
+    lines: usize,
+    last: [u8; 12],
+}
+
+impl Write for Counts {
+    fn write(&mut self, buf: &[u8]) -> io::Result<usize> {
+        let lines = buf.iter().filter(|byte| **byte == b'\n').count();
+        self.lines = self.lines.saturating_add(lines);
+        if let Some(last) = buf.last_chunk::<12>() {
+            self.last = *last;
+        }
+        Ok(buf.len())
+    }
+
+    fn flush(&mut self) -> io::Result<()> {
+        Ok(())
+    }
+}
+
+/// A client says its request as often as there may be messages, and once more.
+#[test]
+fn all_messages(rt: HostRuntime) -> Outcome {
+    let mut out = Counts {
+        lines: 0,
+        last: [0; 12],
+    };
+    let reader = reader_of(b"sayto c1 n1\n", MAX_MESSAGES + 1);
+    let ended = serve(rt.alloc(), Order::Script, reader, &mut out);
+    check(ended == Ok(1))?;
+    check(out.lines == MAX_MESSAGES as usize + 4)?;
+    check(out.last == *b"refused 612\n")
+}

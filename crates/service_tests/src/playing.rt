@@ -1,0 +1,65 @@
+// Running a script through `serve`.
+
+use crate::outcomes::{Failure, Outcome, check_row};
+use operator_cli::{Order, ServeFault, serve};
+use std::alloc::Global;
+use std::io::Read;
+
+/// Settings of three nodes with a vote each, of which two read and two write, and four clients.
+const SETTINGS: &str = "votes = [1, 1, 1]\nread = 2\nwrite = 2\nproblem = 1\nclients = 4\n---\n";
+
+/// What the bytes of a reader print, and the status. A `Vec` takes what is written unless memory is
+/// refused.
+pub(crate) fn served<R: Read + Drop>(alloc: Global, reader: R) -> Result<(Vec<u8>, u8), Failure> {
+    let mut out = Vec::new(alloc);
+    match serve(alloc, Order::Script, reader, &mut out) {
+        Ok(2) if out.as_slice() == b"settings fault 925\n".as_slice() => Err(Failure::Memory),
+        Ok(status) => Ok((out, status)),
+        Err(ServeFault::Memory | ServeFault::Write) => Err(Failure::Memory),
+        Err(ServeFault::Read) => Err(Failure::Wrong(0)),
+    }
+}
+
+/// Runs a script of a table, and compares what it prints and its status.
+fn plays_row(alloc: Global, row: usize, script: &[u8], expected: &str, status: u8) -> Outcome {
+    let (out, ended) = served(alloc, script)?;
+    let right = out.as_slice() == expected.as_bytes() && ended == status;
+    check_row(right, row)
+}
+
+/// Runs a script, and compares what it prints and its status.
+pub(crate) fn plays(alloc: Global, script: &[u8], expected: &str, status: u8) -> Outcome {
+    plays_row(alloc, 0, script, expected, status)
+}
+
+/// Lines behind good settings.
+fn behind_settings(alloc: Global, lines: &str) -> Result<String, Failure> {
+    let mut script = String::from_str(alloc, SETTINGS)?;
+    script.push_str(lines)?;
+    Ok(script)
+}
+
+/// Runs lines behind good settings.
+pub(crate) fn plays_lines(alloc: Global, lines: &str, expected: &str, status: u8) -> Outcome {
+    let script = behind_settings(alloc, lines)?;
+    plays(alloc, script.as_bytes(), expected, status)
+}
+
+/// Runs each of these lines by itself: it is bad, by this number.
+pub(crate) fn each_is_bad(alloc: Global, number: u16, lines: &[&str]) -> Outcome {
+    let expected = format!(in alloc; "line 1 fault {number}\n")?;
+    for (row, line) in lines.iter().enumerate() {
+        let script = behind_settings(alloc, line)?;
+        plays_row(alloc, row, script.as_bytes(), expected.as_str(), 1)?;
+    }
+    Ok(())
+}
+
+/// Runs settings, each by itself: they are refused, by this number.
+pub(crate) fn each_is_refused(alloc: Global, number: u16, heads: &[&str]) -> Outcome {
+    let expected = format!(in alloc; "settings fault {number}\n")?;
+    for (row, head) in heads.iter().enumerate() {
+        plays_row(alloc, row, head.as_bytes(), expected.as_str(), 2)?;
+    }
+    Ok(())
+}

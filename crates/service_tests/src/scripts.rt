@@ -1,0 +1,35 @@
+// Scripts that show what the examples don't.
+
+use crate::outcomes::Outcome;
+use crate::playing::{plays, plays_lines};
+
+#[test]
+fn last_lines(rt: HostRuntime) -> Outcome {
+    let alloc = rt.alloc();
+    plays_lines(alloc, "", "", 0)?;
+    plays_lines(alloc, "begin c1 read a", "chose 1\n", 0)?;
+    plays_lines(alloc, "begin c1 read a\n", "chose 1\n", 0)?;
+    let bad = "inside a: nobody\nline 2 fault 801\n";
+    plays_lines(alloc, "inside a\n\nbegin c1 read a\n", bad, 1)?;
+    let refused = "refused 604\ninside a: nobody\n";
+    plays_lines(alloc, "enter c1\ninside a\n", refused, 1)
+}
+
+const TWO_READERS: &str = "\
+votes = [1]\nread = 1\nwrite = 1\nproblem = 1\nclients = 2\n---\n\
+begin c1 read a\ntry c1\nkept c1\nsayto c1 n1\ntake n1 1\ntry n1\nkept n1\nsay n1\nhear c1 2\nenter c1\n\
+begin c2 read a\ntry c2\nkept c2\nsayto c2 n1\ntake n1 3\ntry n1\nkept n1\nsay n1\nhear c2 4\nenter c2\n\
+inside a\nleave c1\nsayto c1 n1\ntake n1 5\ntry n1\nkept n1\nsay n1\nhear c1 6\nhear c1 2\nhear c2 4\n";
+
+const TWO_READERS_OUT: &str = "\
+chose 1\ntried\nkept\nsent 1 request n1 c1 1 read a\nchanged\ntried\nkept\n\
+sent 2 grant n1 c1 1 read a\ncounted\ninside\n\
+chose 1\ntried\nkept\nsent 3 request n1 c2 1 read a\nchanged\ntried\nkept\n\
+sent 4 grant n1 c2 1 read a\ncounted\ninside\n\
+inside a: c1 read, c2 read\noutside\nsent 5 release n1 c1 1\nchanged\ntried\nkept\n\
+sent 6 done n1 c1 1\ndone\nnot mine\nknown\n";
+
+#[test]
+fn two_readers_inside(rt: HostRuntime) -> Outcome {
+    plays(rt.alloc(), TWO_READERS.as_bytes(), TWO_READERS_OUT, 0)
+}
