@@ -73,7 +73,7 @@ abbrev pub AreNodes : Ballot → List ℕ → Type 0
 AreNodes b set = (n : ℕ) → has_node set n ≡ true → HasNode b n
 
 -- a ticket with which the client asks, and the nodes that granted it
-pub record IsAsked (client : ℕ) (b : Ballot) (attempt : ℕ) (t : Ticket) (granted : List ℕ) : Type 0 where
+pub record AsksWith (client : ℕ) (b : Ballot) (attempt : ℕ) (t : Ticket) (granted : List ℕ) : Type 0 where
   pub own : IsOwn client attempt t
   pub nodes : AreNodes b granted
 
@@ -87,7 +87,7 @@ pub record IsEntered (client : ℕ) (b : Ballot) (attempt : ℕ) (t : Ticket) (g
 abbrev pub IsLawfulState : ℕ → Ballot → ℕ → State → Type 0
 IsLawfulState client b attempt Idle = Unit {0}
 IsLawfulState client b attempt (Chosen t) = IsOwn client attempt t
-IsLawfulState client b attempt (Asking t granted skipped) = IsAsked client b attempt t granted
+IsLawfulState client b attempt (Asking t granted skipped) = AsksWith client b attempt t granted
 IsLawfulState client b attempt (Inside t granted skipped) = IsEntered client b attempt t granted
 
 -- what holds of each client
