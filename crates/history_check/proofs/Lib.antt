@@ -1,0 +1,4 @@
+pub mod SplitFacts
+pub mod NumberFacts
+pub mod WordFacts
+pub mod LineLaws

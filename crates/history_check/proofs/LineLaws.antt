@@ -1,0 +1,278 @@
+-- A line says something exactly where it is the one text of it.
+use Rattle.std.proofs.Common.{◌≡◌, inl, inr, ◌↔◌, ℕ, zero, suc, ◌+◌, ◌≤◌, Bool, true, false, cond, nat_le, nat_lt, List, [], ◌∷◌, ◌++◌, length, Result, Ok, Err, refl, sym, ap, subst, ◌∙◌, arith}
+use Rattle.std.specs.List.{slice_split, onto_first, join_with_byte}
+use Rattle.std.specs.Str.{bytes_eq}
+use Rattle.std.proofs.lemmas.Bool.Decides.{nat_tests}
+use Rattle.std.proofs.lemmas.List.{length-append}
+use Rattle.std.proofs.lemmas.List.Splits.{join_with_byte-slice_split, slice_split-cons_no}
+use Rattle.std.proofs.lemmas.Slice.Eq.{bytes_eq-Decides}
+use Rattle.world_model.specs.declared.events.Event.TheVariants as event
+use Rattle.history_check.specs.declared.commands.Command.{Command}
+use Rattle.history_check.specs.declared.commands.Command.TheVariants as command
+use Rattle.history_check.specs.declared.faults.LineFault.{LineFault}
+use Rattle.history_check.specs.declared.faults.LineFault.TheVariants as fault
+use Rattle.history_check.specs.declared.lines.Line.{Line}
+use Rattle.history_check.specs.declared.lines.Line.TheVariants as line
+use Rattle.history_check.specs.declared.lines.Query.TheVariants as query
+use Rattle.history_check.specs.declared.words.TheConstants.{MAX_LINE_LEN}
+use Rattle.history_check.specs.Commands.{word_of, named}
+use Rattle.history_check.specs.Lines.{◌>>=◌, Kind, kinds_of, Arguments, value_in, value_text, argument_texts, parts_text, text_of, command_of, AreValues, IsInRange, is_space, words, exactly, values_in, arguments_in, given, said_by, words_say, line_of}
+use Rattle.history_check.specs.Laws.{IsAmong}
+use Rattle.history_check.proofs.WordFacts.{never_ok, at_most, value_is, value_says, Plain, plain_value, short_value}
+
+bind_ok : {A B : Type 0} (r : Result A LineFault) (f : A → Result B LineFault) (y : B) → (r >>= f) ≡ Ok y → (x : A) × (r ≡ Ok x) × (f x ≡ Ok y)
+bind_ok (Ok x) f y h = (x, refl, h)
+bind_ok (Err e) f y h = absurd (let clash : Err e ≡ Ok y = h in cc)
+
+bound : {A B : Type 0} (r : Result A LineFault) (f : A → Result B LineFault) (x : A) (s : Result B LineFault) → r ≡ Ok x → f x ≡ s → (r >>= f) ≡ s
+bound {A = A} r f x s h g = ap (λ (q : Result A LineFault). q >>= f) h ∙ g
+
+abbrev Same : {A : Type 0} → Result A LineFault → Result A LineFault → Type 0
+Same r s = r ≡ s
+
+ok_same : {A : Type 0} (x y : A) → Same (Ok x) (Ok y) → x ≡ y
+ok_same x y h = let same : Ok x ≡ Ok y = h in cc
+
+-- Commands.
+abbrev joined : List (List ℕ) → List ℕ
+joined ws = join_with_byte 32 ws
+
+-- what a word names
+abbrev Names : List Command → List ℕ → Command → Type 0
+Names cs w c = (w ≡ word_of c) × IsAmong c cs
+
+named_at : (b : Bool) (d : Command) (ds : List Command) (w : List ℕ) (c : Command) → bytes_eq w (word_of d) ≡ b → (named ds w ≡ Ok c → Names ds w c) → cond b (Ok d) (named ds w) ≡ Ok c → Names (d ∷ ds) w c
+named_at true d ds w c e more h =
+    let same : d ≡ c = ok_same d c h in
+    ((bytes_eq-Decides w (word_of d)).0 e ∙ ap word_of same, inl (sym same))
+named_at false d ds w c e more h = let (text, there) = more h in (text, inr there)
+
+named_is : (cs : List Command) (w : List ℕ) (c : Command) → named cs w ≡ Ok c → Names cs w c
+named_is [] w c h = never_ok fault.Word c h
+named_is (d ∷ ds) w c h = named_at (bytes_eq w (word_of d)) d ds w c refl (named_is ds w c) h
+
+-- the commands have different words
+abbrev every : List Command
+every =
+    command.Begin ∷ command.Try ∷ command.Kept ∷ command.SayTo ∷ command.Say ∷ command.Take ∷ command.Hear ∷ command.Enter ∷ command.Leave ∷ command.Fall ∷ command.Rise ∷ command.Inside ∷ command.Waiting ∷ command.Holding
+    ∷ []
+
+its_word : (c : Command) → named every (word_of c) ≡ Ok c
+its_word command.Begin = refl
+its_word command.Try = refl
+its_word command.Kept = refl
+its_word command.SayTo = refl
+its_word command.Say = refl
+its_word command.Take = refl
+its_word command.Hear = refl
+its_word command.Enter = refl
+its_word command.Leave = refl
+its_word command.Fall = refl
+its_word command.Rise = refl
+its_word command.Inside = refl
+its_word command.Waiting = refl
+its_word command.Holding = refl
+
+same_command : (c d : Command) → word_of c ≡ word_of d → c ≡ d
+same_command c d h = ok_same c d (sym (its_word c) ∙ ap (named every) h ∙ its_word d)
+
+found_at : (b : Bool) (c d : Command) (ds : List Command) → bytes_eq (word_of c) (word_of d) ≡ b → IsAmong c (d ∷ ds) → (IsAmong c ds → named ds (word_of c) ≡ Ok c) → cond b (Ok d) (named ds (word_of c)) ≡ Ok c
+found_at true c d ds e there more = ap Ok (sym (same_command c d ((bytes_eq-Decides (word_of c) (word_of d)).0 e)))
+found_at false c d ds e (inl same) more = let clash : false ≡ true = sym e ∙ (bytes_eq-Decides (word_of c) (word_of d)).1 (ap word_of same) in absurd (cc)
+found_at false c d ds e (inr there) more = more there
+
+finds : (cs : List Command) (c : Command) → IsAmong c cs → named cs (word_of c) ≡ Ok c
+finds [] c h = absurd h
+finds (d ∷ ds) c h = found_at (bytes_eq (word_of c) (word_of d)) c d ds refl h (finds ds c)
+
+-- From words to arguments.
+exactly_is : (n : ℕ) (ws us : List (List ℕ)) → exactly n ws ≡ Ok us → ws ≡ us
+exactly_is zero [] us h = ok_same {A = List (List ℕ)} [] us h
+exactly_is zero (w ∷ ws) us h = never_ok fault.Words us h
+exactly_is (suc n) [] us h = never_ok fault.Words us h
+exactly_is (suc n) (w ∷ ws) us h =
+    let (rest, e, g) = bind_ok (exactly n ws) (λ (vs : List (List ℕ)). Ok (w ∷ vs)) us h in
+    ap (λ (vs : List (List ℕ)). w ∷ vs) (exactly_is n ws rest e) ∙ ok_same (w ∷ rest) us g
+
+abbrev Spell : (ks : List Kind) → List (List ℕ) → Arguments ks → Type 0
+Spell ks ws a = (ws ≡ argument_texts ks a) × AreValues ks a
+
+values_are : (ks : List Kind) (ws : List (List ℕ)) (a : Arguments ks) → values_in ks ws ≡ Ok a → Spell ks ws a
+values_are [] [] a h = (refl, tt)
+values_are [] (w ∷ ws) a h = never_ok fault.Words a h
+values_are (k ∷ ks) [] a h = never_ok fault.Words a h
+values_are (k ∷ ks) (w ∷ ws) a h =
+    let (x, e, h1) = bind_ok (value_in k w) (λ x. values_in ks ws >>= (λ xs. Ok (x, xs))) a h in
+    let (xs, g, h2) = bind_ok (values_in ks ws) (λ xs. Ok (x, xs)) a h1 in
+    let first = value_is k w x e in
+    let others = values_are ks ws xs g in
+    subst (λ (b : Arguments (k ∷ ks)). Spell (k ∷ ks) (w ∷ ws) b) (ok_same {A = Arguments (k ∷ ks)} (x, xs) a h2)
+    (ap (λ (v : List ℕ). v ∷ ws) first.0 ∙ ap (λ (vs : List (List ℕ)). value_text k x ∷ vs) others.0, (first.1, others.1))
+
+arguments_are : (ks : List Kind) (ws : List (List ℕ)) (a : Arguments ks) → arguments_in ks ws ≡ Ok a → Spell ks ws a
+arguments_are ks ws a h =
+    let (us, e, g) = bind_ok (exactly (length ks) ws) (λ us. values_in ks us) a h in
+    let s = values_are ks us a g in
+    (exactly_is (length ks) ws us e ∙ s.0, s.1)
+
+-- What is said, taken apart, is what said it.
+abbrev IsSaid : Command → List (List ℕ) → Line → Type 0
+IsSaid c ws l = (joined (word_of c ∷ ws) ≡ text_of l) × IsInRange l × (command_of l ≡ c)
+
+row : (c : Command) (says : Arguments (kinds_of c) → Line) → ((a : Arguments (kinds_of c)) → parts_text c a ≡ text_of (says a)) → ((a : Arguments (kinds_of c)) → AreValues (kinds_of c) a → IsInRange (says a)) → ((a : Arguments (kinds_of c)) → command_of (says a) ≡ c)
+    → (ws : List (List ℕ)) (l : Line) → given c says ws ≡ Ok l → IsSaid c ws l
+row c says text range same ws l h =
+    let (a, e, g) = bind_ok (arguments_in (kinds_of c) ws) (λ a. Ok (says a)) l h in
+    let s = arguments_are (kinds_of c) ws a e in
+    subst (λ (m : Line). IsSaid c ws m) (ok_same (says a) l g) (ap (λ (vs : List (List ℕ)). joined (word_of c ∷ vs)) s.0 ∙ text a, range a s.1, same a)
+
+said_is : (c : Command) (ws : List (List ℕ)) (l : Line) → said_by c ws ≡ Ok l → IsSaid c ws l
+said_is command.Begin ws l h = row command.Begin (λ a. line.Event (event.Begin a.0 a.1.0 a.1.1.0)) (λ a. refl) (λ a v. v) (λ a. refl) ws l h
+said_is command.Try ws l h = row command.Try (λ a. line.Event (event.Try a.0)) (λ a. refl) (λ a v. v) (λ a. refl) ws l h
+said_is command.Kept ws l h = row command.Kept (λ a. line.Event (event.Kept a.0)) (λ a. refl) (λ a v. v) (λ a. refl) ws l h
+said_is command.SayTo ws l h = row command.SayTo (λ a. line.Event (event.SayTo a.0 a.1.0)) (λ a. refl) (λ a v. v) (λ a. refl) ws l h
+said_is command.Say ws l h = row command.Say (λ a. line.Event (event.Say a.0)) (λ a. refl) (λ a v. v) (λ a. refl) ws l h
+said_is command.Take ws l h = row command.Take (λ a. line.Event (event.Take a.0 a.1.0)) (λ a. refl) (λ a v. v) (λ a. refl) ws l h
+said_is command.Hear ws l h = row command.Hear (λ a. line.Event (event.Hear a.0 a.1.0)) (λ a. refl) (λ a v. v) (λ a. refl) ws l h
+said_is command.Enter ws l h = row command.Enter (λ a. line.Event (event.Enter a.0)) (λ a. refl) (λ a v. v) (λ a. refl) ws l h
+said_is command.Leave ws l h = row command.Leave (λ a. line.Event (event.Leave a.0)) (λ a. refl) (λ a v. v) (λ a. refl) ws l h
+said_is command.Fall ws l h = row command.Fall (λ a. line.Event (event.Fall a.0)) (λ a. refl) (λ a v. v) (λ a. refl) ws l h
+said_is command.Rise ws l h = row command.Rise (λ a. line.Event (event.Rise a.0 a.1.0)) (λ a. refl) (λ a v. v) (λ a. refl) ws l h
+said_is command.Inside ws l h = row command.Inside (λ a. line.Query (query.Inside a.0)) (λ a. refl) (λ a v. v) (λ a. refl) ws l h
+said_is command.Waiting ws l h = row command.Waiting (λ a. line.Query (query.Waiting a.0 a.1.0)) (λ a. refl) (λ a v. v) (λ a. refl) ws l h
+said_is command.Holding ws l h = row command.Holding (λ a. line.Query (query.Holding a.0 a.1.0)) (λ a. refl) (λ a v. v) (λ a. refl) ws l h
+
+-- what a line says is its text, in range and among the commands
+abbrev IsItsText : List Command → List ℕ → Line → Type 0
+IsItsText cs bytes l = (bytes ≡ text_of l) × IsInRange l × IsAmong (command_of l) cs
+
+all_words : (cs : List Command) (ws : List (List ℕ)) (l : Line) → words_say cs ws ≡ Ok l → IsItsText cs (joined ws) l
+all_words cs [] l h = never_ok fault.Word l h
+all_words cs (first ∷ ws) l h =
+    let (c, hc, h1) = bind_ok (named cs first) (λ c. said_by c ws) l h in
+    let (word, there) = named_is cs first c hc in
+    let (text, range, same) = said_is c ws l h1 in
+    (ap (λ (w : List ℕ). joined (w ∷ ws)) word ∙ text, range, subst (λ (d : Command). IsAmong d cs) (sym same) there)
+
+short_line : (b : Bool) (r : Result Line LineFault) (l : Line) → cond b (Err fault.Words) r ≡ Ok l → r ≡ Ok l
+short_line true r l h = never_ok fault.Words l h
+short_line false r l h = h
+
+what_is_read : (cs : List Command) (bytes : List ℕ) (l : Line) → line_of cs bytes ≡ Ok l → IsItsText cs bytes l
+unfolding line_of
+what_is_read cs bytes l h =
+    subst (λ (bs : List ℕ). IsItsText cs bs l) (join_with_byte-slice_split 32 bytes) (all_words cs (words bytes) l (short_line (nat_lt MAX_LINE_LEN (length bytes)) (words_say cs (words bytes)) l h))
+
+-- From arguments to words: what is written is read.
+split_here : (w ys : List ℕ) → Plain w → slice_split is_space (w ++ 32 ∷ ys) ≡ w ∷ slice_split is_space ys
+split_here [] ys h = refl
+split_here (b ∷ bs) ys h = slice_split-cons_no is_space b (bs ++ 32 ∷ ys) h.0 ∙ ap (onto_first b) (split_here bs ys h.1)
+
+split_last : (w : List ℕ) → Plain w → slice_split is_space w ≡ w ∷ []
+split_last [] h = refl
+split_last (b ∷ bs) h = slice_split-cons_no is_space b bs h.0 ∙ ap (onto_first b) (split_last bs h.1)
+
+its_words : (w : List ℕ) (ks : List Kind) (a : Arguments ks) → Plain w → AreValues ks a → words (joined (w ∷ argument_texts ks a)) ≡ w ∷ argument_texts ks a
+its_words w [] a h v = split_last w h
+its_words w (k ∷ ks) a h v =
+    split_here w (joined (argument_texts (k ∷ ks) a)) h ∙ ap (λ (ws : List (List ℕ)). w ∷ ws) (its_words (value_text k a.0) ks a.1 (plain_value k a.0 v.0) v.1)
+
+adds_up : (whole first rest next more : ℕ) → whole ≡ first + suc rest → rest ≤ next + more → next ≤ 32 → whole ≤ first + (33 + more)
+adds_up whole first rest next more e f g = omega arith
+
+-- how long the arguments and the spaces before them are at most
+abbrev room : List Kind → ℕ
+room [] = 0
+room (k ∷ ks) = 33 + room ks
+
+its_length : (w : List ℕ) (ks : List Kind) (a : Arguments ks) → AreValues ks a → length (joined (w ∷ argument_texts ks a)) ≤ length w + room ks
+its_length w [] a v = omega arith
+its_length w (k ∷ ks) a v =
+    let rest = joined (value_text k a.0 ∷ argument_texts ks a.1) in
+    let more : length rest ≤ length (value_text k a.0) + room ks = its_length (value_text k a.0) ks a.1 v.1 in
+    let few : length (value_text k a.0) ≤ 32 = short_value k a.0 v.0 in
+    let whole : length (w ++ 32 ∷ rest) ≡ length w + suc (length rest) = length-append w (32 ∷ rest) in
+    adds_up (length (w ++ 32 ∷ rest)) (length w) (length rest) (length (value_text k a.0)) (room ks) whole more few
+
+as_many : (ks : List Kind) (a : Arguments ks) → exactly (length ks) (argument_texts ks a) ≡ Ok (argument_texts ks a)
+as_many [] a = refl
+as_many (k ∷ ks) a = bound (exactly (length ks) (argument_texts ks a.1)) (λ (us : List (List ℕ)). Ok (value_text k a.0 ∷ us)) (argument_texts ks a.1) (Ok (value_text k a.0 ∷ argument_texts ks a.1)) (as_many ks a.1) refl
+
+values_say : (ks : List Kind) (a : Arguments ks) → AreValues ks a → values_in ks (argument_texts ks a) ≡ Ok a
+values_say [] a v = refl
+values_say (k ∷ ks) a v =
+    bound (value_in k (value_text k a.0)) (λ x. values_in ks (argument_texts ks a.1) >>= (λ xs. Ok (x, xs))) a.0 (Ok a) (value_says k a.0 v.0)
+    (bound (values_in ks (argument_texts ks a.1)) (λ xs. Ok (a.0, xs)) a.1 (Ok a) (values_say ks a.1 v.1) refl)
+
+arguments_say : (ks : List Kind) (a : Arguments ks) → AreValues ks a → arguments_in ks (argument_texts ks a) ≡ Ok a
+arguments_say ks a v = bound (exactly (length ks) (argument_texts ks a)) (λ us. values_in ks us) (argument_texts ks a) (Ok a) (as_many ks a) (values_say ks a v)
+
+plain_word : (c : Command) → Plain (word_of c)
+plain_word command.Begin = (refl, (refl, (refl, (refl, (refl, tt)))))
+plain_word command.Try = (refl, (refl, (refl, tt)))
+plain_word command.Kept = (refl, (refl, (refl, (refl, tt))))
+plain_word command.SayTo = (refl, (refl, (refl, (refl, (refl, tt)))))
+plain_word command.Say = (refl, (refl, (refl, tt)))
+plain_word command.Take = (refl, (refl, (refl, (refl, tt))))
+plain_word command.Hear = (refl, (refl, (refl, (refl, tt))))
+plain_word command.Enter = (refl, (refl, (refl, (refl, (refl, tt)))))
+plain_word command.Leave = (refl, (refl, (refl, (refl, (refl, tt)))))
+plain_word command.Fall = (refl, (refl, (refl, (refl, tt))))
+plain_word command.Rise = (refl, (refl, (refl, (refl, tt))))
+plain_word command.Inside = (refl, (refl, (refl, (refl, (refl, (refl, tt))))))
+plain_word command.Waiting = (refl, (refl, (refl, (refl, (refl, (refl, (refl, tt)))))))
+plain_word command.Holding = (refl, (refl, (refl, (refl, (refl, (refl, (refl, tt)))))))
+
+few_words : (c : Command) → nat_le (length (word_of c) + room (kinds_of c)) 128 ≡ true
+few_words command.Begin = refl
+few_words command.Try = refl
+few_words command.Kept = refl
+few_words command.SayTo = refl
+few_words command.Say = refl
+few_words command.Take = refl
+few_words command.Hear = refl
+few_words command.Enter = refl
+few_words command.Leave = refl
+few_words command.Fall = refl
+few_words command.Rise = refl
+few_words command.Inside = refl
+few_words command.Waiting = refl
+few_words command.Holding = refl
+
+if_short : {A : Type 0} (n : ℕ) (x y : A) → n ≤ 128 → cond (nat_lt MAX_LINE_LEN n) x y ≡ y
+if_short n x y h = let t : nat_lt MAX_LINE_LEN n ≡ false = grind (arith, nat_tests) in ap (λ (b : Bool). cond b x y) t
+
+no_longer : (n m : ℕ) → n ≤ m → m ≤ 128 → n ≤ 128
+no_longer n m h g = omega arith
+
+back : (cs : List Command) (c : Command) (says : Arguments (kinds_of c) → Line) → ((ws : List (List ℕ)) → said_by c ws ≡ given c says ws) → (a : Arguments (kinds_of c)) → AreValues (kinds_of c) a → IsAmong c cs → line_of cs (parts_text c a) ≡ Ok (says a)
+unfolding line_of
+back cs c says same a v there =
+    let text = parts_text c a in
+    let ws = argument_texts (kinds_of c) a in
+    let few : length text ≤ length (word_of c) + room (kinds_of c) = its_length (word_of c) (kinds_of c) a v in
+    let most : length (word_of c) + room (kinds_of c) ≤ 128 = at_most (length (word_of c) + room (kinds_of c)) 128 (few_words c) in
+    let short : length text ≤ 128 = no_longer (length text) (length (word_of c) + room (kinds_of c)) few most in
+    if_short (length text) (Err fault.Words) (words_say cs (words text)) short
+    ∙ ap (words_say cs) (its_words (word_of c) (kinds_of c) a (plain_word c) v)
+    ∙ bound (named cs (word_of c)) (λ d. said_by d ws) c (Ok (says a)) (finds cs c there)
+    (same ws ∙ bound (arguments_in (kinds_of c) ws) (λ b. Ok (says b)) a (Ok (says a)) (arguments_say (kinds_of c) a v) refl)
+
+what_is_written : (cs : List Command) (l : Line) → IsInRange l → IsAmong (command_of l) cs → line_of cs (text_of l) ≡ Ok l
+what_is_written cs (line.Event (event.Begin c m x)) v h = back cs command.Begin (λ a. line.Event (event.Begin a.0 a.1.0 a.1.1.0)) (λ ws. refl) (c, (m, (x, tt))) v h
+what_is_written cs (line.Event (event.Try who)) v h = back cs command.Try (λ a. line.Event (event.Try a.0)) (λ ws. refl) (who, tt) v h
+what_is_written cs (line.Event (event.Kept who)) v h = back cs command.Kept (λ a. line.Event (event.Kept a.0)) (λ ws. refl) (who, tt) v h
+what_is_written cs (line.Event (event.SayTo c n)) v h = back cs command.SayTo (λ a. line.Event (event.SayTo a.0 a.1.0)) (λ ws. refl) (c, (n, tt)) v h
+what_is_written cs (line.Event (event.Say n)) v h = back cs command.Say (λ a. line.Event (event.Say a.0)) (λ ws. refl) (n, tt) v h
+what_is_written cs (line.Event (event.Take n k)) v h = back cs command.Take (λ a. line.Event (event.Take a.0 a.1.0)) (λ ws. refl) (n, (k, tt)) v h
+what_is_written cs (line.Event (event.Hear c k)) v h = back cs command.Hear (λ a. line.Event (event.Hear a.0 a.1.0)) (λ ws. refl) (c, (k, tt)) v h
+what_is_written cs (line.Event (event.Enter c)) v h = back cs command.Enter (λ a. line.Event (event.Enter a.0)) (λ ws. refl) (c, tt) v h
+what_is_written cs (line.Event (event.Leave c)) v h = back cs command.Leave (λ a. line.Event (event.Leave a.0)) (λ ws. refl) (c, tt) v h
+what_is_written cs (line.Event (event.Fall who)) v h = back cs command.Fall (λ a. line.Event (event.Fall a.0)) (λ ws. refl) (who, tt) v h
+what_is_written cs (line.Event (event.Rise who age)) v h = back cs command.Rise (λ a. line.Event (event.Rise a.0 a.1.0)) (λ ws. refl) (who, (age, tt)) v h
+what_is_written cs (line.Query (query.Inside x)) v h = back cs command.Inside (λ a. line.Query (query.Inside a.0)) (λ ws. refl) (x, tt) v h
+what_is_written cs (line.Query (query.Waiting n x)) v h = back cs command.Waiting (λ a. line.Query (query.Waiting a.0 a.1.0)) (λ ws. refl) (n, (x, tt)) v h
+what_is_written cs (line.Query (query.Holding n x)) v h = back cs command.Holding (λ a. line.Query (query.Holding a.0 a.1.0)) (λ ws. refl) (n, (x, tt)) v h
+
+pub one_spelling : (cs : List Command) (bytes : List ℕ) (l : Line) → (line_of cs bytes ≡ Ok l) ↔ ((bytes ≡ text_of l) × IsInRange l × IsAmong (command_of l) cs)
+one_spelling cs bytes l = (what_is_read cs bytes l, λ h. subst (λ (bs : List ℕ). line_of cs bs ≡ Ok l) (sym h.0) (what_is_written cs l h.1 h.2))

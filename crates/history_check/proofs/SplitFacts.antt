@@ -1,0 +1,43 @@
+-- Cutting a list at the elements that pass a test.
+use Rattle.std.proofs.Common.{◌≡◌, ℕ, suc, ◌+◌, ◌≤◌, Bool, true, false, cond, List, [], ◌∷◌, ◌++◌, length, take, drop, Some, None, refl, ap, ◌∙◌, arith}
+use Rattle.std.specs.List.{slice_split, onto_first, position, position_or_len, All}
+use Rattle.std.proofs.lemmas.List.Splits.{slice_split_first, slice_split_none, slice_split-cons_no}
+use Rattle.std.proofs.lemmas.List.Sums.{fails_before_first}
+use Rattle.std.proofs.lemmas.Option.{cond_some}
+use Rattle.std.proofs.lemmas.Bool.{ltb-true, ltb-false}
+
+-- a list has a first part
+first_part : {X : Type 0} (x : X) (parts : List (List X)) → (q : List X) × (qs : List (List X)) × (onto_first x parts ≡ q ∷ qs)
+first_part x [] = (x ∷ [], [], refl)
+first_part x (p ∷ ps) = (x ∷ p, ps, refl)
+
+choose_part : {X : Type 0} (b : Bool) (x : X) (parts : List (List X)) → (q : List X) × (qs : List (List X)) × (cond b ([] ∷ parts) (onto_first x parts) ≡ q ∷ qs)
+choose_part true x parts = ([], parts, refl)
+choose_part false x parts = first_part x parts
+
+pub some_part : {X : Type 0} (p : X → Bool) (xs : List X) → (q : List X) × (qs : List (List X)) × (slice_split p xs ≡ q ∷ qs)
+some_part p [] = ([], [], refl)
+some_part p (x ∷ xs) = choose_part (p x) x (slice_split p xs)
+
+cond_none : {A : Type 0} (b : Bool) (x : A) → cond b (Some x) None ≡ None → b ≡ false
+cond_none true x h = cc
+cond_none false x h = refl
+
+-- where no element passes, the list is the one part
+pub split_none : {X : Type 0} (p : X → Bool) (xs : List X) → position p xs ≡ None → slice_split p xs ≡ xs ∷ []
+split_none p xs h =
+    let far : length xs ≤ position_or_len p xs = ltb-false _ _ (cond_none _ _ h) in
+    slice_split_none p xs (λ k d inside. fails_before_first p xs k d (omega arith))
+
+-- else the first part ends at the first that does
+pub split_some : {X : Type 0} (p : X → Bool) (xs : List X) (at : ℕ) (d : X) → position p xs ≡ Some at → slice_split p xs ≡ take at xs ∷ slice_split p (drop (at + 1) xs)
+split_some p xs at d h =
+    let found = cond_some _ _ _ h in
+    rw (← found.1) (slice_split_first p xs d (ltb-true _ _ found.0))
+
+-- a front in which nothing passes belongs to the first part
+pub split_front : (p : ℕ → Bool) (front rest : List ℕ) → All (λ x. p x ≡ false) front → (q : List ℕ) × (qs : List (List ℕ)) × (slice_split p (front ++ rest) ≡ (front ++ q) ∷ qs)
+split_front p [] rest h = some_part p rest
+split_front p (x ∷ front) rest h =
+    let (q, qs, e) = split_front p front rest (λ k d inside. h (suc k) d (omega arith)) in
+    (q, qs, slice_split-cons_no p x (front ++ rest) (h 0 0 (omega arith)) ∙ ap (onto_first x) e)

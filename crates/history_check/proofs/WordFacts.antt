@@ -1,0 +1,251 @@
+-- Words and the values that they spell: each value in range has one word, which is read as it.
+use Rattle.std.proofs.Common.{◌≡◌, ◌↔◌, ℕ, ◌<◌, ◌≤◌, ◌^◌, Bool, true, false, cond, ◌&&◌, ◌==◌, nat_le, List, [], ◌∷◌, length, get_or, Option, Some, None, Result, Ok, Err, codes, refl, sym, ap, subst, ◌∙◌, arith, if◌then◌else◌}
+use Rattle.std.specs.List.{list_all}
+use Rattle.std.specs.Option.{ok_or}
+use Rattle.std.specs.Str.{bytes_eq}
+use Rattle.std.specs.Str.Parse.{digits_value}
+use Rattle.std.specs.Fmt.{decimal}
+use Rattle.std.specs.Char.{is_ascii_digit}
+use Rattle.std.proofs.lemmas.Bool.Decides.{nat_tests}
+use Rattle.std.proofs.lemmas.Fmt.{digits_decimal, digits_value-decimal, first_decimal, decimal_nonempty, length-decimal-le}
+use Rattle.std.proofs.lemmas.Slice.Eq.{bytes_eq-Decides}
+use Rattle.lock_messages.specs.declared.ids.TheConstants.{MAX_NODES, MAX_CLIENTS}
+use Rattle.lock_messages.specs.declared.ids.Actor.{Actor}
+use Rattle.lock_messages.specs.declared.ids.Actor.TheVariants as actor
+use Rattle.lock_messages.specs.declared.tickets.Mode.{Mode}
+use Rattle.lock_messages.specs.declared.tickets.Mode.TheVariants.{Read, Write}
+use Rattle.lock_messages.specs.Names.{IsName, is_name_byte}
+use Rattle.lock_messages.specs.Texts.{actor_text, mode_text}
+use Rattle.world_model.specs.declared.TheConstants.{MAX_MESSAGES}
+use Rattle.world_model.specs.declared.events.Age.{Age}
+use Rattle.world_model.specs.declared.events.Age.TheVariants.{Old, New}
+use Rattle.history_check.specs.declared.faults.LineFault.{LineFault}
+use Rattle.history_check.specs.declared.faults.LineFault.TheVariants as fault
+use Rattle.history_check.specs.Lines.{Kind, ANode, AClient, AnActor, ANumber, AName, AMode, AnAge, Value, is_space, spelled, lettered, either_of, node_word, client_word, actor_word, number_word, name_word, mode_word, age_word, age_text, value_in, value_text, IsValue, IsActor}
+use Rattle.history_check.proofs.NumberFacts.{own, spelled_so}
+
+-- numbers
+in_range_so : (a b c : Bool) (m n : ℕ) → (if (a && b) && c then Some m else None) ≡ Some n → (a ≡ true) × (b ≡ true) × (c ≡ true) × (m ≡ n)
+in_range_so true true true m n h = (refl, refl, refl, (cc))
+in_range_so false b c m n h = absurd (let clash : None ≡ Some n = h in cc)
+in_range_so true false c m n h = absurd (let clash : None ≡ Some n = h in cc)
+in_range_so true true false m n h = absurd (let clash : None ≡ Some n = h in cc)
+
+pub at_most : (n most : ℕ) → nat_le n most ≡ true → n ≤ most
+at_most n most h = grind (arith, nat_tests)
+
+spelled_is_text : (most : ℕ) (word : List ℕ) (n : ℕ) → spelled most word ≡ Some n → (1 ≤ n) × (n ≤ most) × (decimal n ≡ word)
+unfolding spelled
+spelled_is_text most word n h =
+    let m = digits_value 10 word in
+    let (a, b, c, e) = in_range_so (nat_le 1 m) (nat_le m most) (bytes_eq (decimal m) word) m n h in
+    let low : 1 ≤ m = at_most 1 m a in
+    let high : m ≤ most = at_most m most b in
+    (subst (λ (k : ℕ). 1 ≤ k) e low, subst (λ (k : ℕ). k ≤ most) e high, ap decimal (sym e) ∙ (bytes_eq-Decides (decimal m) word).0 c)
+
+text_is_spelled : (most : ℕ) (n : ℕ) → most < 2 ^ 64 → 1 ≤ n → n ≤ most → spelled most (decimal n) ≡ Some n
+text_is_spelled most n small low high =
+    let first : 48 < get_or (decimal n) 0 0 = first_decimal n (omega arith) (omega arith) in
+    sym (spelled_so most (decimal n) n small (sym (digits_value-decimal own n (omega arith))) low high (digits_decimal own n (omega arith)) (decimal_nonempty n (omega arith)) (λ z. omega arith))
+
+pub spelled_once : (most : ℕ) (word : List ℕ) (n : ℕ) → most < 2 ^ 64 → (spelled most word ≡ Some n) ↔ ((1 ≤ n) × (n ≤ most) × (decimal n ≡ word))
+spelled_once most word n small =
+    (spelled_is_text most word n, λ h. subst (λ (w : List ℕ). spelled most w ≡ Some n) h.2 (text_is_spelled most n small h.0 h.1))
+
+-- from a word to its value
+pub never_ok : {A P : Type 0} (e : LineFault) (x : A) → Err e ≡ Ok x → P
+never_ok e x h = absurd (let clash : Err e ≡ Ok x = h in cc)
+
+never_some : {P : Type 0} (n : ℕ) → None ≡ Some n → P
+never_some n h = absurd (let clash : None ≡ Some n = h in cc)
+
+if_some : (b : Bool) (o : Option ℕ) (n : ℕ) → (if b then o else None) ≡ Some n → (b ≡ true) × (o ≡ Some n)
+if_some true o n h = (refl, h)
+if_some false o n h = never_some n h
+
+pub same_number : (b letter : ℕ) → (b == letter) ≡ true → b ≡ letter
+same_number b letter h = grind (arith, nat_tests)
+
+lettered_is : (letter most : ℕ) (w : List ℕ) (n : ℕ) → lettered letter most w ≡ Some n → (w ≡ letter ∷ decimal n) × (1 ≤ n) × (n ≤ most)
+lettered_is letter most [] n h = never_some n h
+lettered_is letter most (b ∷ digits) n h =
+    let (t, s) = if_some (b == letter) (spelled most digits) n h in
+    let e : b ≡ letter = same_number b letter t in
+    let (low, high, text) = spelled_is_text most digits n s in
+    (ap (λ (k : ℕ). k ∷ digits) e ∙ ap (λ (ds : List ℕ). letter ∷ ds) (sym text), low, high)
+
+was_some : (o : Option ℕ) (e : LineFault) (n : ℕ) → ok_or o e ≡ Ok n → o ≡ Some n
+was_some None e n h = never_ok e n h
+was_some (Some m) e n h = cc
+
+abbrev Spells : (k : Kind) → List ℕ → Value k → Type 0
+Spells k w x = (w ≡ value_text k x) × IsValue k x
+
+node_is : (w : List ℕ) (n : ℕ) → node_word w ≡ Ok n → Spells ANode w n
+node_is w n h = let (e, low, high) = lettered_is 110 MAX_NODES w n (was_some (lettered 110 MAX_NODES w) fault.Actor n h) in (e, (low, high))
+
+client_is : (w : List ℕ) (c : ℕ) → client_word w ≡ Ok c → Spells AClient w c
+client_is w c h = let (e, low, high) = lettered_is 99 MAX_CLIENTS w c (was_some (lettered 99 MAX_CLIENTS w) fault.Actor c h) in (e, (low, high))
+
+actor_at : (w : List ℕ) (o p : Option ℕ) (who : Actor) → lettered 110 MAX_NODES w ≡ o → lettered 99 MAX_CLIENTS w ≡ p → either_of o p ≡ Ok who → Spells AnActor w who
+actor_at w (Some n) p who f g h =
+    let e : actor.Node n ≡ who = cc in
+    let (text, low, high) = lettered_is 110 MAX_NODES w n f in
+    subst (λ (v : Actor). Spells AnActor w v) e (text, (low, high))
+actor_at w None (Some c) who f g h =
+    let e : actor.Client c ≡ who = cc in
+    let (text, low, high) = lettered_is 99 MAX_CLIENTS w c g in
+    subst (λ (v : Actor). Spells AnActor w v) e (text, (low, high))
+actor_at w None None who f g h = never_ok fault.Actor who h
+
+number_is : (w : List ℕ) (k : ℕ) → number_word w ≡ Ok k → Spells ANumber w k
+number_is w k h = let (low, high, e) = spelled_is_text MAX_MESSAGES w k (was_some (spelled MAX_MESSAGES w) fault.Number k h) in (sym e, (low, high))
+
+pick : {A P : Type 0} (b : Bool) (k c : A) (rest : Result A LineFault) → (b ≡ true → k ≡ c → P) → (rest ≡ Ok c → P) → cond b (Ok k) rest ≡ Ok c → P
+pick true k c rest f g h = f refl (let same : Ok k ≡ Ok c = h in cc)
+pick false k c rest f g h = g h
+
+all_three : (a b c : Bool) → ((a && b) && c) ≡ true → (a ≡ true) × (b ≡ true) × (c ≡ true)
+all_three true true true h = (refl, refl, refl)
+all_three true true false h = let clash : false ≡ true = h in absurd (cc)
+all_three true false c h = let clash : false ≡ true = h in absurd (cc)
+all_three false b c h = let clash : false ≡ true = h in absurd (cc)
+
+named_so : (w : List ℕ) → ((nat_le 1 (length w) && nat_le (length w) 32) && list_all is_name_byte w) ≡ true → IsName w
+named_so w h =
+    let (a, b, c) = all_three (nat_le 1 (length w)) (nat_le (length w) 32) (list_all is_name_byte w) h in
+    let low : 1 ≤ length w = at_most 1 (length w) a in
+    let high : length w ≤ 32 = at_most (length w) 32 b in
+    record { not_empty = omega arith; fits = high; each = c }
+
+name_is : (w x : List ℕ) → name_word w ≡ Ok x → Spells AName w x
+name_is w x h =
+    pick {P = Spells AName w x} ((nat_le 1 (length w) && nat_le (length w) 32) && list_all is_name_byte w) w x (Err fault.Name)
+    (λ t e. (e, subst IsName e (named_so w t))) (λ e. never_ok fault.Name x e) h
+
+mode_is : (w : List ℕ) (m : Mode) → mode_word w ≡ Ok m → Spells AMode w m
+mode_is w m h =
+    pick {P = Spells AMode w m} (bytes_eq w (codes "read")) Read m _ (λ t e. ((bytes_eq-Decides w (codes "read")).0 t ∙ ap mode_text e, tt))
+    (pick {P = Spells AMode w m} (bytes_eq w (codes "write")) Write m (Err fault.Word) (λ t e. ((bytes_eq-Decides w (codes "write")).0 t ∙ ap mode_text e, tt)) (λ e. never_ok fault.Word m e)) h
+
+age_is : (w : List ℕ) (a : Age) → age_word w ≡ Ok a → Spells AnAge w a
+age_is w a h =
+    pick {P = Spells AnAge w a} (bytes_eq w (codes "old")) Old a _ (λ t e. ((bytes_eq-Decides w (codes "old")).0 t ∙ ap age_text e, tt))
+    (pick {P = Spells AnAge w a} (bytes_eq w (codes "new")) New a (Err fault.Word) (λ t e. ((bytes_eq-Decides w (codes "new")).0 t ∙ ap age_text e, tt)) (λ e. never_ok fault.Word a e)) h
+
+pub value_is : (k : Kind) (w : List ℕ) (x : Value k) → value_in k w ≡ Ok x → (w ≡ value_text k x) × IsValue k x
+value_is ANode w x h = node_is w x h
+value_is AClient w x h = client_is w x h
+value_is AnActor w x h = actor_at w (lettered 110 MAX_NODES w) (lettered 99 MAX_CLIENTS w) x refl refl h
+value_is ANumber w x h = number_is w x h
+value_is AName w x h = name_is w x h
+value_is AMode w x h = mode_is w x h
+value_is AnAge w x h = age_is w x h
+
+-- from a value to its word
+actor_says : (who : Actor) → IsActor who → actor_word (actor_text who) ≡ Ok who
+actor_says (actor.Node n) h = ap (λ (o : Option ℕ). either_of o None) (text_is_spelled MAX_NODES n (omega arith) h.0 h.1)
+actor_says (actor.Client c) h = ap (λ (o : Option ℕ). either_of None o) (text_is_spelled MAX_CLIENTS c (omega arith) h.0 h.1)
+
+three_hold : (a b c : Bool) → a ≡ true → b ≡ true → c ≡ true → ((a && b) && c) ≡ true
+three_hold true true true p q r = refl
+three_hold true true false p q r = r
+three_hold true false c p q r = q
+three_hold false b c p q r = p
+
+if_so : {A : Type 0} (b : Bool) (x y : A) → b ≡ true → cond b x y ≡ x
+if_so true x y h = refl
+if_so false x y h = let clash : false ≡ true = h in absurd (cc)
+
+name_says : (x : List ℕ) → IsName x → name_word x ≡ Ok x
+name_says x h =
+    let some : 0 < length x = h.not_empty in
+    let few : length x ≤ 32 = h.fits in
+    let low : nat_le 1 (length x) ≡ true = grind (arith, nat_tests) in
+    let high : nat_le (length x) 32 ≡ true = grind (arith, nat_tests) in
+    if_so ((nat_le 1 (length x) && nat_le (length x) 32) && list_all is_name_byte x) (Ok x) (Err fault.Name) (three_hold (nat_le 1 (length x)) (nat_le (length x) 32) (list_all is_name_byte x) low high h.each)
+
+mode_says : (m : Mode) → mode_word (mode_text m) ≡ Ok m
+mode_says Read = refl
+mode_says Write = refl
+
+age_says : (a : Age) → age_word (age_text a) ≡ Ok a
+age_says Old = refl
+age_says New = refl
+
+pub value_says : (k : Kind) (x : Value k) → IsValue k x → value_in k (value_text k x) ≡ Ok x
+value_says ANode n h = ap (λ (o : Option ℕ). ok_or o fault.Actor) (text_is_spelled MAX_NODES n (omega arith) h.0 h.1)
+value_says AClient c h = ap (λ (o : Option ℕ). ok_or o fault.Actor) (text_is_spelled MAX_CLIENTS c (omega arith) h.0 h.1)
+value_says AnActor who h = actor_says who h
+value_says ANumber k h = ap (λ (o : Option ℕ). ok_or o fault.Number) (text_is_spelled MAX_MESSAGES k (omega arith) h.0 h.1)
+value_says AName x h = name_says x h
+value_says AMode m h = mode_says m
+value_says AnAge a h = age_says a
+
+-- Words have no spaces, and are short.
+abbrev pub Plain : List ℕ → Type 0
+Plain [] = Unit {0}
+Plain (b ∷ bs) = (is_space b ≡ false) × Plain bs
+
+no_space_at : (p : ℕ → Bool) (b : ℕ) (t : Bool) → (b == 32) ≡ t → p 32 ≡ false → p b ≡ true → (b == 32) ≡ false
+no_space_at p b true e never h = let clash : false ≡ true = sym never ∙ ap p (sym (same_number b 32 e)) ∙ h in absurd (cc)
+no_space_at p b false e never h = e
+
+both : (a b : Bool) → (a && b) ≡ true → (a ≡ true) × (b ≡ true)
+both true b h = (refl, h)
+both false b h = let clash : false ≡ true = h in absurd (cc)
+
+plain_of : (p : ℕ → Bool) → p 32 ≡ false → (bs : List ℕ) → list_all p bs ≡ true → Plain bs
+plain_of p never [] h = tt
+plain_of p never (b ∷ bs) h = let (x, more) = both (p b) (list_all p bs) h in (no_space_at p b (b == 32) refl never x, plain_of p never bs more)
+
+plain_number : (n : ℕ) → n < 2 ^ 64 → Plain (decimal n)
+plain_number n h = plain_of is_ascii_digit refl (decimal n) (digits_decimal own n h)
+
+plain_actor : (who : Actor) → IsActor who → Plain (actor_text who)
+plain_actor (actor.Node n) h = (refl, plain_number n (omega (arith, h.1)))
+plain_actor (actor.Client c) h = (refl, plain_number c (omega (arith, h.1)))
+
+plain_mode : (m : Mode) → Plain (mode_text m)
+plain_mode Read = (refl, (refl, (refl, (refl, tt))))
+plain_mode Write = (refl, (refl, (refl, (refl, (refl, tt)))))
+
+plain_age : (a : Age) → Plain (age_text a)
+plain_age Old = (refl, (refl, (refl, tt)))
+plain_age New = (refl, (refl, (refl, tt)))
+
+pub plain_value : (k : Kind) (x : Value k) → IsValue k x → Plain (value_text k x)
+plain_value ANode n h = (refl, plain_number n (omega (arith, h.1)))
+plain_value AClient c h = (refl, plain_number c (omega (arith, h.1)))
+plain_value AnActor who h = plain_actor who h
+plain_value ANumber k h = plain_number k (omega (arith, h.1))
+plain_value AName x h = plain_of is_name_byte refl x h.each
+plain_value AMode m h = plain_mode m
+plain_value AnAge a h = plain_age a
+
+short_number : (n : ℕ) → n ≤ 2000000 → length (decimal n) ≤ 7
+short_number n h = length-decimal-le 7 n (omega arith) (omega arith) (omega arith)
+
+short_behind : (b : ℕ) (bs : List ℕ) → length bs ≤ 7 → length (b ∷ bs) ≤ 32
+short_behind b bs h = omega arith
+
+short_actor : (who : Actor) → IsActor who → length (actor_text who) ≤ 32
+short_actor (actor.Node n) h = short_behind 110 (decimal n) (short_number n (omega (arith, h.1)))
+short_actor (actor.Client c) h = short_behind 99 (decimal c) (short_number c (omega (arith, h.1)))
+
+short_mode : (m : Mode) → length (mode_text m) ≤ 32
+short_mode Read = at_most (length (mode_text Read)) 32 refl
+short_mode Write = at_most (length (mode_text Write)) 32 refl
+
+short_age : (a : Age) → length (age_text a) ≤ 32
+short_age Old = at_most (length (age_text Old)) 32 refl
+short_age New = at_most (length (age_text New)) 32 refl
+
+pub short_value : (k : Kind) (x : Value k) → IsValue k x → length (value_text k x) ≤ 32
+short_value ANode n h = short_behind 110 (decimal n) (short_number n (omega (arith, h.1)))
+short_value AClient c h = short_behind 99 (decimal c) (short_number c (omega (arith, h.1)))
+short_value AnActor who h = short_actor who h
+short_value ANumber k h = let few : length (decimal k) ≤ 7 = short_number k (omega (arith, h.1)) in omega arith
+short_value AName x h = h.fits
+short_value AMode m h = short_mode m
+short_value AnAge a h = short_age a

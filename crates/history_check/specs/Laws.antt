@@ -1,0 +1,21 @@
+-- Laws about lines.
+use Rattle.std.specs.Prelude.{◌≡◌, ◌⊎◌, ℕ, ◌<◌, ◌≤◌, ◌^◌, ◌↔◌, List, [], ◌∷◌, Some, Ok}
+use Rattle.std.specs.Fmt.{decimal}
+use Rattle.history_check.specs.declared.commands.Command.{Command}
+use Rattle.history_check.specs.declared.lines.Line.{Line}
+use Rattle.history_check.specs.Lines.{spelled, line_of, text_of, command_of, IsInRange}
+
+-- a word spells a number exactly where it is the number's decimal text
+abbrev pub NumbersAreSpelledOnce : Type 0
+NumbersAreSpelledOnce = (most : ℕ) (word : List ℕ) (n : ℕ) → most < 2 ^ 64 → (spelled most word ≡ Some n) ↔ ((1 ≤ n) × (n ≤ most) × (decimal n ≡ word))
+
+-- the command is one of these
+abbrev pub IsAmong : Command → List Command → Type 0
+IsAmong c [] = ⊥
+IsAmong c (d ∷ ds) = (c ≡ d) ⊎ IsAmong c ds
+
+-- To who reads these commands a line says an event or a query exactly where it is the one text of it,
+-- byte for byte, this is in range, and its command is one of them. So each text is read, and nothing
+-- has two.
+abbrev pub LinesAreSpelledOnce : Type 0
+LinesAreSpelledOnce = (commands : List Command) (bytes : List ℕ) (l : Line) → (line_of commands bytes ≡ Ok l) ↔ ((bytes ≡ text_of l) × IsInRange l × IsAmong (command_of l) commands)

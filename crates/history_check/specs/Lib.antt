@@ -1,0 +1,5 @@
+pub mod Faults
+pub mod Commands
+pub mod Lines
+pub mod Reading
+pub mod Laws

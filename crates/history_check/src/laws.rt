@@ -1,0 +1,14 @@
+//! Laws about lines. Each function computes nothing: its contract is the law.
+
+ghost use Rattle.history_check.specs.Laws.{NumbersAreSpelledOnce, LinesAreSpelledOnce};
+
+/// A word spells a number exactly where it is the number's decimal text, which has no leading zero.
+pub fn numbers_are_spelled_once()
+    ensures { NumbersAreSpelledOnce }
+{}
+
+/// A line says an event or a query exactly where it is the one text of it, byte for byte, this is in
+/// range, and its command is read: so each text is read as what it says, and nothing has two texts.
+pub fn lines_are_spelled_once()
+    ensures { LinesAreSpelledOnce }
+{}

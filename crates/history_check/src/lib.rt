@@ -1,0 +1,23 @@
+//! The lines of scripts and journals: which line is which event or query, and what is wrong with any
+//! other.
+//!
+//! A line is a command's word and its arguments, with a space between any two. `Lines` in `specs/`
+//! has the one table of the arguments of each command; how lines are read, how they are written and
+//! what is wrong with them are said of this table. The crate promises that `read_line` answers just
+//! that for every line, and `write_line` just the text of every event and query; the law
+//! `lines_are_spelled_once` says that the two are each other's inverse, so that each event and each
+//! query has one spelling, which is read as it.
+//!
+//! It stands on `lock_messages`, on `world_model` for events, and on `thiserror`.
+#![tactic(auto)]
+
+mod commands;
+mod faults;
+pub mod laws;
+mod lines;
+mod words;
+
+pub use commands::Command;
+pub use faults::LineFault;
+pub use lines::{Line, Query, read_line, write_line};
+pub use words::MAX_LINE_LEN;
