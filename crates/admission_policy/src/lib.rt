@@ -21,6 +21,3 @@ pub use admission::{Admission, problem_of};
 pub use counted::Counted;
 pub use first::FirstProblem;
 pub use second::SecondProblem;
-
-#[cfg(test)]
-mod tests;

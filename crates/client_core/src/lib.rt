@@ -24,6 +24,3 @@ pub use clients::ClientCore;
 pub use faults::ClientFault;
 pub use lock_model::Heard;
 pub use phases::Phase;
-
-#[cfg(test)]
-mod tests;

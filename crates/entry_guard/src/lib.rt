@@ -21,6 +21,3 @@ mod owned;
 pub use doors::Door;
 pub use guards::{EntryGuard, enter_client};
 pub use owned::OwnedEntry;
-
-#[cfg(test)]
-mod tests;

@@ -31,8 +31,3 @@ pub use names::{MAX_NAME_LEN, ResourceName, has_name_bytes};
 pub use reading::decode;
 pub use tickets::{Mode, Ticket};
 pub use writing::encode;
-
-#[cfg(test)]
-mod frame_tests;
-#[cfg(test)]
-mod tests;

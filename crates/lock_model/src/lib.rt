@@ -22,6 +22,3 @@ pub use decision::{Decision, decide, new_entry, reply_to_known};
 pub use entries::{Entry, Live, Status};
 pub use hearing::Heard;
 pub use problems::Problem;
-
-#[cfg(test)]
-mod tests;

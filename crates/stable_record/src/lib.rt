@@ -39,10 +39,3 @@ pub use node_records::NodeRecord;
 pub use reading::read_node;
 pub use stable::StableRecord;
 pub use writing::node_bytes;
-
-#[cfg(test)]
-mod record_tests;
-#[cfg(test)]
-mod stable_tests;
-#[cfg(test)]
-mod table_tests;

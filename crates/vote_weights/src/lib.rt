@@ -22,6 +22,3 @@ mod sets;
 pub use ballots::Ballot;
 pub use faults::BallotFault;
 pub use sets::NodeSet;
-
-#[cfg(test)]
-mod tests;

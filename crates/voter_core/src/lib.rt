@@ -23,6 +23,3 @@ mod voters;
 pub use faults::VoterFault;
 pub use phases::Phase;
 pub use voters::NodeCore;
-
-#[cfg(test)]
-mod tests;

@@ -1,0 +1,331 @@
+//! What a node decides, by the plain decision and by a node's core, which answer the same: scripts
+//! of messages, each with its replies.
+
+use crate::nodes::{FIRST, SECOND, SETTLED, WRITER_WAITS, has_record, policy_of, risen, same_step};
+use crate::outcomes::{Outcome, Table, check, each};
+use crate::rows::message;
+use lock_messages::Message;
+use lock_model::{Entry, Problem, Status, decide};
+use std::alloc::Global;
+use voter_core::NodeCore;
+
+/// The replies as text, one after the other.
+fn text(alloc: Global, replies: &[Message]) -> Option<String> {
+    let mut all = String::new(alloc);
+    for reply in replies {
+        write!(all, ", {reply}").ok()?;
+    }
+    Some(all)
+}
+
+/// The clients in the order of their entries, each with its floor and, of a live ticket, whether it
+/// holds.
+fn shape(alloc: Global, entries: &[Entry]) -> Option<String> {
+    let mut all = String::new(alloc);
+    for entry in entries {
+        let (client, floor) = (entry.client, entry.floor);
+        let live = match entry.live {
+            None => "free",
+            Some(live) => match live.status {
+                Status::Waiting => "waits",
+                Status::Holding => "holds",
+            },
+        };
+        write!(all, ", {client} {floor} {live}").ok()?;
+    }
+    Some(all)
+}
+
+/// A node without entries.
+pub(crate) fn new_core(alloc: Global, problem: Problem) -> Option<NodeCore> {
+    let record = match problem {
+        Problem::First => FIRST,
+        Problem::Second => SECOND,
+    };
+    risen(alloc, &record, policy_of(alloc, problem)?)
+}
+
+/// The entries after a row's message; none where its replies are not the row's.
+fn step(
+    alloc: Global,
+    problem: Problem,
+    core: &mut NodeCore,
+    entries: &[Entry],
+    row: &str,
+) -> Option<Vec<Entry>> {
+    let (said, want) = row.split_once(" > ")?;
+    let decision = same_step(alloc, problem, core, entries, &message(said)?)?;
+    if text(alloc, &decision.replies)?.get(2..)? == want {
+        Some(decision.entries)
+    } else {
+        None
+    }
+}
+
+/// What a script leads to from no entries.
+fn play(alloc: Global, problem: Problem, core: &mut NodeCore, script: &str) -> Option<Vec<Entry>> {
+    let mut entries: Vec<Entry> = Vec::new(alloc);
+    for row in script.lines() {
+        entries = step(alloc, problem, core, &entries, row)?;
+    }
+    Some(entries)
+}
+
+/// Whether a script goes to its end, and leaves entries of this shape.
+fn leads_to(alloc: Global, problem: Problem, script: &str, left: &str) -> Option<bool> {
+    let mut core = new_core(alloc, problem)?;
+    let entries = play(alloc, problem, &mut core, script)?;
+    Some(shape(alloc, &entries)?.get(2..)? == left)
+}
+
+/// The same under both problems.
+fn both_lead_to(alloc: Global, script: &str, left: &str) -> Outcome {
+    check(leads_to(alloc, Problem::First, script, left), 1)?;
+    check(leads_to(alloc, Problem::Second, script, left), 2)
+}
+
+/// Whether a script goes to its end, and leaves this record.
+fn leaves(alloc: Global, problem: Problem, script: &str, record: &str) -> Option<bool> {
+    let mut core = new_core(alloc, problem)?;
+    play(alloc, problem, &mut core, script)?;
+    has_record(alloc, &core, record)
+}
+
+const FIRST_READER: &str = "\
+request n1 c1 1 read a > grant n1 c1 1 read a
+request n1 c1 1 read a > grant n1 c1 1 read a";
+
+#[test]
+fn first_reader(rt: HostRuntime) -> Outcome {
+    both_lead_to(rt.alloc(), FIRST_READER, "c1 0 holds")
+}
+
+const WRITER_BEHIND_READER: &str = "\
+request n1 c1 1 read a > grant n1 c1 1 read a
+request n1 c2 1 write a > busy n1 c2 1 write a
+request n1 c2 1 write a > busy n1 c2 1 write a";
+
+#[test]
+fn writer_behind_reader(rt: HostRuntime) -> Outcome {
+    both_lead_to(rt.alloc(), WRITER_BEHIND_READER, "c1 0 holds, c2 0 waits")
+}
+
+const RELEASE_THEN_LATE_REQUEST: &str = "\
+request n1 c1 1 read a > grant n1 c1 1 read a
+release n1 c1 1 > done n1 c1 1
+request n1 c1 1 read a > over n1 c1 1
+release n1 c1 1 > done n1 c1 1
+release n1 c4 3 > done n1 c4 3";
+
+#[test]
+fn release_then_late_request(rt: HostRuntime) -> Outcome {
+    let left = "c1 1 free, c4 3 free";
+    both_lead_to(rt.alloc(), RELEASE_THEN_LATE_REQUEST, left)
+}
+
+const READER_PASSES: &str = "\
+request n1 c1 1 read a > grant n1 c1 1 read a
+request n1 c2 1 write a > busy n1 c2 1 write a
+request n1 c3 1 read a > grant n1 c3 1 read a";
+
+const READER_WAITS: &str = "\
+request n1 c1 1 read a > grant n1 c1 1 read a
+request n1 c2 1 write a > busy n1 c2 1 write a
+request n1 c3 1 read a > busy n1 c3 1 read a";
+
+#[test]
+fn waiting_writer(rt: HostRuntime) -> Outcome {
+    let passed = "c1 0 holds, c2 0 waits, c3 0 holds";
+    let alloc = rt.alloc();
+    check(leads_to(alloc, Problem::First, READER_PASSES, passed), 1)?;
+    check(
+        leaves(alloc, Problem::Second, READER_WAITS, WRITER_WAITS),
+        2,
+    )
+}
+
+const NOTHING_TO_SETTLE: &str = "\
+request n1 c1 1 read a > grant n1 c1 1 read a
+request n1 c2 1 write a > busy n1 c2 1 write a
+request n1 c3 1 read a > grant n1 c3 1 read a
+release n1 c2 1 > done n1 c2 1
+release n1 c2 1 > done n1 c2 1";
+
+const RELEASE_SETTLES: &str = "\
+request n1 c1 1 read a > grant n1 c1 1 read a
+request n1 c2 1 write a > busy n1 c2 1 write a
+request n1 c3 1 read a > busy n1 c3 1 read a
+release n1 c2 1 > done n1 c2 1, grant n1 c3 1 read a";
+
+#[test]
+fn release_settles(rt: HostRuntime) -> Outcome {
+    let left = "c1 0 holds, c2 1 free, c3 0 holds";
+    let alloc = rt.alloc();
+    check(leads_to(alloc, Problem::First, NOTHING_TO_SETTLE, left), 1)?;
+    check(leaves(alloc, Problem::Second, RELEASE_SETTLES, SETTLED), 2)
+}
+
+const MUDDLED_REQUEST: &str = "\
+request n1 c1 1 read a > grant n1 c1 1 read a
+request n1 c1 1 write a > muddled n1 c1 1
+request n1 c1 1 read b > muddled n1 c1 1";
+
+#[test]
+fn muddled_request(rt: HostRuntime) -> Outcome {
+    both_lead_to(rt.alloc(), MUDDLED_REQUEST, "c1 0 holds")
+}
+
+const NEXT_ATTEMPT: &str = "\
+request n1 c1 1 write a > grant n1 c1 1 write a
+request n1 c2 1 read a > busy n1 c2 1 read a
+request n1 c1 2 read b > grant n1 c1 2 read b, grant n1 c2 1 read a";
+
+/// c2 holds `a` as a reader; then c1, whose attempt 1 has ended, holds `b` as a reader.
+const NEXT_ATTEMPT_RECORD: &str = "01 01 0002 \
+00000002 0000000000000000 02 0000000000000001 00 01 61 \
+00000001 0000000000000001 02 0000000000000002 00 01 62";
+
+#[test]
+fn next_attempt_settles_the_last(rt: HostRuntime) -> Outcome {
+    both_lead_to(rt.alloc(), NEXT_ATTEMPT, "c2 0 holds, c1 1 holds")?;
+    let record = NEXT_ATTEMPT_RECORD;
+    check(leaves(rt.alloc(), Problem::First, NEXT_ATTEMPT, record), 3)
+}
+
+// What is for a client.
+const OTHER_MESSAGES: &str = "\
+grant n1 c1 1 read a
+busy n1 c1 1 read a
+over n1 c1 1
+done n1 c1 1
+muddled n1 c1 1";
+
+/// Whether a message changes nothing at a node where c1 reads `a`, and has no reply.
+pub(crate) fn changes_nothing(alloc: Global, row: &str) -> Option<bool> {
+    let mut core = new_core(alloc, Problem::First)?;
+    let entries = play(alloc, Problem::First, &mut core, FIRST_READER)?;
+    let decision = decide(alloc, Problem::First, &entries, &message(row)?).ok()?;
+    let is_same = decision.entries.as_slice() == entries.as_slice();
+    Some(is_same && !decision.changed && decision.replies.is_empty())
+}
+
+#[test]
+fn other_messages_change_nothing(rt: HostRuntime) -> Outcome {
+    each(rt.alloc(), Table::Unchanging, OTHER_MESSAGES)
+}
+
+/// The client of a digit's release, and whether the replies are its Done and then a Grant of each
+/// client of the other digits.
+fn are_to(replies: &[Message], digits: &str) -> bool {
+    for (place, digit) in digits.chars().enumerate() {
+        let client = match replies.get(place) {
+            Some(Message::Done(_, client, _)) if place == 0 => client.get(),
+            Some(Message::Grant(_, ticket)) if place > 0 => ticket.client.get(),
+            _ => return false,
+        };
+        if digit.to_digit(10) != Some(client) {
+            return false;
+        }
+    }
+    replies.len() == digits.len()
+}
+
+/// Plays a beginning, and then the releases of an order, of which each word has the client that
+/// releases its attempt 1 and then the clients that this lets in.
+fn settles(alloc: Global, problem: Problem, beginning: &str, order: &str) -> Option<bool> {
+    let mut core = new_core(alloc, problem)?;
+    let mut entries = play(alloc, problem, &mut core, beginning)?;
+    for digits in order.split(' ') {
+        let row = format!(in alloc; "release n1 c{} 1", digits.get(..1)?).ok()?;
+        let message = message(row.as_str())?;
+        let decision = same_step(alloc, problem, &mut core, &entries, &message)?;
+        if !are_to(&decision.replies, digits) {
+            return Some(false);
+        }
+        entries = decision.entries;
+    }
+    Some(true)
+}
+
+/// Plays a beginning with each order, under each of the problems.
+fn settle(alloc: Global, problems: &[Problem], beginning: &str, orders: &str) -> Outcome {
+    for problem in problems {
+        for (row, order) in orders.lines().enumerate() {
+            check(settles(alloc, *problem, beginning, order), row)?;
+        }
+    }
+    Ok(())
+}
+
+const BOTH: [Problem; 2] = [Problem::First, Problem::Second];
+
+// A writer behind two readers. It holds once both readers are gone, whoever goes first; where it
+// goes before that, nobody is left to be told.
+const TWO_READERS: &str = "\
+request n1 c1 1 read a > grant n1 c1 1 read a
+request n1 c2 1 read a > grant n1 c2 1 read a
+request n1 c3 1 write a > busy n1 c3 1 write a";
+
+const AFTER_TWO_READERS: &str = "\
+1 23 3
+2 13 3
+1 3 2
+2 3 1
+3 1 2
+3 2 1";
+
+// A writer holds, then a writer and a reader wait, in this order. The first to go lets the writer
+// in, which stands before the reader; the reader holds once no writer does. Under both problems,
+// since the writer that waits stands before the reader and is let in first.
+const TWO_WRITERS: &str = "\
+request n1 c1 1 write a > grant n1 c1 1 write a
+request n1 c2 1 write a > busy n1 c2 1 write a
+request n1 c3 1 read a > busy n1 c3 1 read a";
+
+// The first to go lets in the one who came next.
+const IN_ORDER: &str = "\
+12 23 3
+12 3 2
+2 13 3
+2 3 1
+3 12 2
+3 2 1";
+
+// The same with the reader before the writer that waits. Under problem 1 the reader stands first in
+// the line and is let in, and then the writer waits behind it. Under problem 2 the reader waits for
+// the writer behind it, which is let in; once that writer goes, the reader is.
+const READER_FIRST: &str = "\
+request n1 c1 1 write a > grant n1 c1 1 write a
+request n1 c2 1 read a > busy n1 c2 1 read a
+request n1 c3 1 write a > busy n1 c3 1 write a";
+
+const WRITER_LET_IN: &str = "\
+13 32 2
+13 2 3
+2 13 3
+2 3 1
+3 12 2
+3 2 1";
+
+// Waiters of two resources. What ends at one resource lets in all readers that wait for it, in the
+// order in which they came, and nobody at the other.
+const TWO_RESOURCES: &str = "\
+request n1 c1 1 write a > grant n1 c1 1 write a
+request n1 c2 1 read b > grant n1 c2 1 read b
+request n1 c4 1 read a > busy n1 c4 1 read a
+request n1 c3 1 write b > busy n1 c3 1 write b
+request n1 c5 1 read a > busy n1 c5 1 read a";
+
+const AFTER_TWO_RESOURCES: &str = "\
+145 23 4 3 5
+23 145 3 5 4";
+
+#[test]
+fn releases_in_every_order(rt: HostRuntime) -> Outcome {
+    let alloc = rt.alloc();
+    settle(alloc, &BOTH, TWO_READERS, AFTER_TWO_READERS)?;
+    settle(alloc, &BOTH, TWO_WRITERS, IN_ORDER)?;
+    settle(alloc, &[Problem::First], READER_FIRST, IN_ORDER)?;
+    settle(alloc, &[Problem::Second], READER_FIRST, WRITER_LET_IN)?;
+    settle(alloc, &BOTH, TWO_RESOURCES, AFTER_TWO_RESOURCES)
+}

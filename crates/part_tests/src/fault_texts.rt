@@ -1,0 +1,140 @@
+//! The number and the text of each fault, once.
+
+use crate::outcomes::{Outcome, check};
+use client_core::ClientFault;
+use lock_messages::FrameFault;
+use stable_record::RecordFault;
+use std::alloc::Global;
+use std::fmt;
+use vote_weights::BallotFault;
+use voter_core::VoterFault;
+
+/// Adds the row of a fault.
+fn tell<T: fmt::Display>(rows: &mut String, number: u16, fault: &T) -> Option<()> {
+    write!(rows, "{number} {fault}\n").ok()
+}
+
+const FRAMES: [FrameFault; 11] = [
+    FrameFault::Short,
+    FrameFault::Version,
+    FrameFault::Kind,
+    FrameFault::Node,
+    FrameFault::Client,
+    FrameFault::Attempt,
+    FrameFault::Mode,
+    FrameFault::NameLength,
+    FrameFault::NameByte,
+    FrameFault::Trailing,
+    FrameFault::Memory,
+];
+
+const BALLOTS: [BallotFault; 5] = [
+    BallotFault::NoNode,
+    BallotFault::TooManyNodes,
+    BallotFault::OverTotal,
+    BallotFault::ReadsMissWrites,
+    BallotFault::WritesMiss,
+];
+
+const RECORDS: [RecordFault; 19] = [
+    RecordFault::Device,
+    RecordFault::Stuck,
+    RecordFault::TooLong,
+    RecordFault::Memory,
+    RecordFault::Spent,
+    RecordFault::Short,
+    RecordFault::Version,
+    RecordFault::Policy,
+    RecordFault::EntryField,
+    RecordFault::ClientTwice,
+    RecordFault::AttemptNotNext,
+    RecordFault::WriterNotAlone,
+    RecordFault::NoCause,
+    RecordFault::Trailing,
+    RecordFault::NoMemory,
+    RecordFault::ClientShort,
+    RecordFault::ClientVersion,
+    RecordFault::ClientAttempt,
+    RecordFault::ClientTrailing,
+];
+
+const VOTERS: [VoterFault; 3] = [
+    VoterFault::Unreadable(RecordFault::Short),
+    VoterFault::OtherProblem,
+    VoterFault::Memory,
+];
+
+const CLIENTS: [ClientFault; 2] = [ClientFault::NotIdle, ClientFault::AttemptsSpent];
+
+const TEXTS: &str = "\
+101 the frame ends within a field
+102 the frame is of another version
+103 no message has this kind
+104 no node has this number
+105 no client has this number
+106 no attempt has this number
+107 this is neither a reader nor a writer
+108 no name has this length
+109 no name has this byte
+110 bytes follow the frame
+111 out of memory
+201 the ballot has no node
+202 the ballot has more than 16 nodes
+203 a reader or a writer needs more votes than all nodes have
+204 a read and a write can have enough votes with none in common
+205 two writes can have enough votes with none in common
+301 the device failed
+302 the record is stuck until it is reopened
+303 the record is too long
+304 out of memory
+305 no change can be numbered any more
+311 the node record ends within a field
+312 the node record is of another version
+313 no policy has this number
+314 an entry is out of range
+315 a client has two entries
+316 an attempt isn't one above the floor
+317 a writer that holds isn't alone
+318 a ticket waits without a cause
+319 bytes follow the node record
+320 out of memory for a node record
+321 the client record ends within a field
+322 the client record is of another version
+323 no attempt has this number
+324 bytes follow the client record
+501 the node record can't be read: the node record ends within a field
+502 the node record is of the other problem
+503 out of memory
+701 an attempt is under way
+702 no attempt is left
+";
+
+/// The rows of all faults.
+fn all(alloc: Global) -> Option<String> {
+    let mut rows = String::new(alloc);
+    for fault in &FRAMES {
+        tell(&mut rows, fault.number(), fault)?;
+    }
+    for fault in &BALLOTS {
+        tell(&mut rows, fault.number(), fault)?;
+    }
+    for fault in &RECORDS {
+        tell(&mut rows, fault.number(), fault)?;
+    }
+    for fault in &VOTERS {
+        tell(&mut rows, fault.number(), fault)?;
+    }
+    for fault in &CLIENTS {
+        tell(&mut rows, fault.number(), fault)?;
+    }
+    Some(rows)
+}
+
+#[test]
+fn texts_of_faults(rt: HostRuntime) -> Outcome {
+    let answer = match all(rt.alloc()) {
+        Some(rows) => Some(rows.as_str() == TEXTS),
+        None => None,
+    };
+    check(answer, 0)
+}

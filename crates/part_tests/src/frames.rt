@@ -1,0 +1,177 @@
+//! Frames against bytes that were written by hand, and against a plain reader of the table of fields.
+
+use crate::outcomes::{Outcome, Table, each};
+use crate::rows::{bytes, message, number, spells};
+use lock_messages::{decode, encode};
+use std::alloc::Global;
+
+/// The number of the fault that reading a frame finds; 0 where it finds none.
+fn fault_of(frame: &[u8]) -> u16 {
+    match decode(frame) {
+        Ok(_) => 0,
+        Err(fault) => fault.number(),
+    }
+}
+
+// Messages and their frames.
+const FRAMES: &str = "\
+request n1 c1 1 read a=01 01 01 00000001 0000000000000001 00 01 61
+release n2 c1024 1000000000000=01 02 02 00000400 000000e8d4a51000
+grant n1 c1 1 write db-1=01 03 01 00000001 0000000000000001 01 04 64622d31
+done n1 c2 1=01 06 01 00000002 0000000000000001";
+
+/// Whether a message has the frame of its row, and is read from it.
+pub(crate) fn is_spelled(alloc: Global, row: &str) -> Option<bool> {
+    let (said, spelled) = row.split_once('=')?;
+    let (message, frame) = (message(said)?, bytes(alloc, spelled)?);
+    let made = encode(alloc, &message).ok()?;
+    Some(made.as_slice() == frame.as_slice() && decode(&frame) == Ok(message))
+}
+
+// What is wrong with the frame of a request.
+const REQUEST_FRAMES: &str = "\
+0 01 01 01 00000001 0000000000000001 00 01 61
+101 01 01 01 00000001 0000000000000001 00 01
+109 01 01 01 00000001 0000000000000001 00 01 41
+108 01 01 01 00000001 0000000000000001 00 00 61
+108 01 01 01 00000001 0000000000000001 00 21 61
+103 01 08 01 00000001 0000000000000001 00 01 61
+102 02 01 01 00000001 0000000000000001 00 01 61
+110 01 01 01 00000001 0000000000000001 00 01 61 00";
+
+/// Whether the bytes of a row have its fault.
+pub(crate) fn is_faulty(alloc: Global, row: &str) -> Option<bool> {
+    let (want, spelled) = row.split_once(' ')?;
+    Some(want.parse() == Ok(fault_of(&bytes(alloc, spelled)?)))
+}
+
+#[test]
+fn request_frame(rt: HostRuntime) -> Outcome {
+    each(rt.alloc(), Table::Spelled, FRAMES)?;
+    each(rt.alloc(), Table::Faulty, REQUEST_FRAMES)
+}
+
+/// Whether each beginning of the frame is short.
+pub(crate) fn begins_short(alloc: Global, row: &str) -> Option<bool> {
+    let frame = encode(alloc, &message(row)?).ok()?;
+    for end in 0..frame.len() {
+        if fault_of(frame.get(..end)?) != 101 {
+            return Some(false);
+        }
+    }
+    Some(true)
+}
+
+// One message of each kind.
+const KINDS: &str = "\
+request n3 c700 70000 write db-1
+release n3 c700 70000
+grant n3 c700 70000 read db-1
+busy n3 c700 70000 write db-1
+over n3 c700 70000
+done n3 c700 70000
+muddled n3 c700 70000";
+
+// The longest name, 32 letters.
+const LONGEST: &str = "\
+request n16 c1024 1000000000000 write zzzzzzzzzzzzzzzzzzzzzzzzzzzzzzzz
+grant n16 c1024 1000000000000 write zzzzzzzzzzzzzzzzzzzzzzzzzzzzzzzz
+busy n1 c1 1 read zzzzzzzzzzzzzzzzzzzzzzzzzzzzzzzz";
+
+/// Whether the message with each length of the name goes there and back; no memory is wanting.
+pub(crate) fn goes_there_and_back(alloc: Global, row: &str) -> Option<bool> {
+    for cut in 0..32usize {
+        let message = message(row.get(..row.len().saturating_sub(cut))?)?;
+        let frame = encode(alloc, &message).ok()?;
+        if decode(&frame) != Ok(message) || frame.len() != 49 - cut {
+            return Some(false);
+        }
+    }
+    Some(true)
+}
+
+#[test]
+fn frames_of_every_length(rt: HostRuntime) -> Outcome {
+    each(rt.alloc(), Table::Short, KINDS)?;
+    each(rt.alloc(), Table::NameLengths, LONGEST)
+}
+
+// The fields from the front: how many bytes each has, its least and its greatest number, and the
+// fault of any other. The last two are those of a ticket.
+const FIELDS: [(usize, u64, u64, u16); 7] = [
+    (1, 1, 1, 102),
+    (1, 1, 7, 103),
+    (1, 1, 16, 104),
+    (4, 1, 1_024, 105),
+    (8, 1, 1_000_000_000_000, 106),
+    (1, 0, 1, 107),
+    (1, 1, 32, 108),
+];
+
+/// The fault of a name of so many bytes, and of what follows it; 0 for none.
+fn name_fault(bytes: &[u8], length: usize) -> u16 {
+    if !spells(bytes, length) {
+        109
+    } else if bytes.len() < length {
+        101
+    } else if bytes.len() > length {
+        110
+    } else {
+        0
+    }
+}
+
+/// The first fault that the table of fields finds, from the front; 0 for none.
+fn by_the_table(frame: &[u8]) -> u16 {
+    let mut rest = frame;
+    let mut value = 0;
+    let mut has_ticket = true;
+    for (place, (width, least, most, fault)) in FIELDS.iter().enumerate() {
+        if place == 5 && !has_ticket {
+            return name_fault(rest, 0);
+        }
+        let Some((field, behind)) = rest.split_at_checked(*width) else {
+            return 101;
+        };
+        value = number(field);
+        if value < *least || *most < value {
+            return *fault;
+        }
+        if place == 1 {
+            has_ticket = value == 1 || value == 3 || value == 4;
+        }
+        rest = behind;
+    }
+    name_fault(rest, value as usize)
+}
+
+/// Whether the bytes are read as the table says; what is read is spelled so.
+fn agrees(alloc: Global, frame: &[u8]) -> Option<bool> {
+    match decode(frame) {
+        Ok(message) => {
+            let again = encode(alloc, &message).ok()?;
+            Some(by_the_table(frame) == 0 && again.as_slice() == frame)
+        }
+        Err(fault) => Some(by_the_table(frame) == fault.number()),
+    }
+}
+
+/// Whether the frame is read as the table says with each byte changed to each other value.
+pub(crate) fn all_agree(alloc: Global, row: &str) -> Option<bool> {
+    let frame = encode(alloc, &message(row)?).ok()?;
+    for place in 0..frame.len() {
+        for value in 0..=255u8 {
+            let mut bytes = frame.to_vec(alloc).ok()?;
+            *bytes.get_mut(place)? = value;
+            if !agrees(alloc, &bytes)? {
+                return Some(false);
+            }
+        }
+    }
+    Some(true)
+}
+
+#[test]
+fn changed_frames_read_by_the_table(rt: HostRuntime) -> Outcome {
+    each(rt.alloc(), Table::Changed, KINDS)
+}

@@ -1,0 +1,259 @@
+//! Guards of client cores, and of a door that counts how often it left.
+
+ghost use Rattle.std.specs.Prelude.{◌≡◌, ◌↔◌, IsTrue, false};
+ghost use Rattle.client_core.specs.Calls.{MayEnter, entered, left, ReleasesAll};
+
+use crate::outcomes::{Outcome, check};
+use crate::rows::{message, node};
+use client_core::{ClientCore, Heard, Phase};
+use entry_guard::{Door, EntryGuard, OwnedEntry, enter_client};
+use lock_messages::{ClientId, Message, Mode, ResourceName, Ticket};
+use std::alloc::Global;
+use std::mem;
+use std::sync::Arc;
+use std::sync::atomic::{AtomicUsize, Ordering};
+use vote_weights::Ballot;
+
+const GRANTS: &str = "\
+grant n1 c1 1 read a
+grant n2 c1 1 read a";
+
+/// Client 1's ticket of attempt 1: read `a`.
+fn ticket() -> Option<Ticket> {
+    match message("request n1 c1 1 read a")? {
+        Message::Request(_, ticket) => Some(ticket),
+        _ => None,
+    }
+}
+
+/// A core that asks with that ticket, and has the votes of so many of three nodes; two are enough.
+fn core_with(votes: usize) -> Option<ClientCore> {
+    let ballot = Ballot::of(&[1, 1, 1], 2, 2).ok()?;
+    let mut core = ClientCore::rise(ClientId::of(1)?, 0, ballot);
+    let Ok(_) = core.begin(ResourceName::of(b"a")?, Mode::Read) else {
+        return None;
+    };
+    core.kept();
+    for row in GRANTS.lines().take(votes) {
+        core.hear(&message(row)?);
+    }
+    Some(core)
+}
+
+/// A door that may enter or not, and counts how often it left.
+#[derive(Drop)]
+struct Counter {
+    held: Ticket,
+    may: bool,
+    within: bool,
+    count: Arc<AtomicUsize>,
+}
+
+impl Door for Counter {
+    ghost use Rattle.std.specs.Prelude.{Some, IsTrue};
+
+    ghost ticket_of = { λ d. Some d.held };
+
+    ghost is_inside = { λ d. d.within };
+
+    ghost can_enter = { λ d. IsTrue d.may };
+
+    ghost enters = { λ d e. Unit {0} };
+
+    ghost leaves = { λ d e. Unit {0} };
+
+    fn ticket(&self) -> Option<Ticket> {
+        Some(self.held)
+    }
+
+    fn inside(&self) -> bool {
+        self.within
+    }
+
+    fn may_enter(&self) -> bool {
+        self.may
+    }
+
+    fn enter(&mut self) {
+        self.within = true;
+    }
+
+    fn leave(&mut self) {
+        self.within = false;
+        self.count.fetch_add(1, Ordering::SeqCst);
+    }
+}
+
+/// Enters, and leaves at the end of the scope.
+fn to_the_end<D: Door>(door: &mut D)
+    ensures { D.can_enter door.old → D.is_inside door.new ≡ false }
+{
+    let _guard = EntryGuard::enter(door);
+}
+
+/// Enters, and leaves by a `?` where there is no value, else at the end.
+fn by_a_question_mark<D: Door>(door: &mut D, value: Option<u8>) -> Option<u8>
+    ensures { D.can_enter door.old → D.is_inside door.new ≡ false }
+{
+    let _guard = EntryGuard::enter(door)?;
+    let value = value?;
+    Some(value)
+}
+
+/// Enters, and leaves by a return in the middle or at the end.
+fn by_a_return<D: Door>(door: &mut D, early: bool) -> Option<Ticket>
+    ensures { D.can_enter door.old → D.is_inside door.new ≡ false }
+{
+    let guard = EntryGuard::enter(door)?;
+    if early {
+        return None;
+    }
+    Some(guard.ticket())
+}
+
+/// Whether the door may be entered, by entering and leaving. One that may not is asked first, and is
+/// unchanged.
+fn can_be_entered<D: Door>(door: &mut D) -> bool
+    ensures entered { IsTrue result ↔ D.can_enter door.old }
+    ensures left { D.can_enter door.old → D.is_inside door.new ≡ false }
+    ensures unchanged { (D.can_enter door.old → ⊥) → door.new ≡ door.old }
+{
+    if !door.may_enter() {
+        return false;
+    }
+    EntryGuard::enter(door).is_some()
+}
+
+/// The same with a client core, which is then idle after its attempt, and has its release to say to
+/// each node; a core that may not enter is unchanged.
+fn client_by_a_question_mark(core: &mut ClientCore, value: Option<u8>) -> Option<u8>
+    ensures left { MayEnter core.old → core.new ≡ left (entered core.old) }
+    ensures releases { MayEnter core.old → ReleasesAll core.new core.old.attempt }
+    ensures unchanged { (MayEnter core.old → ⊥) → core.new ≡ core.old }
+{
+    let _guard = enter_client(core)?;
+    let value = value?;
+    Some(value)
+}
+
+/// Whether a core with enough votes enters with its ticket, and is idle behind the guard's scope, with
+/// its release to say.
+fn is_guarded() -> Option<bool> {
+    let mut core = core_with(2)?;
+    let same = EntryGuard::enter(&mut core)?.ticket() == ticket()?;
+    let release = core.message_for(node("n3")?);
+    let left = core.phase() == Phase::Idle && core.attempt() == 1;
+    Some(same && left && release == message("release n3 c1 1"))
+}
+
+/// Whether a core with too few votes is refused, and still asks.
+fn is_refused() -> Option<bool> {
+    let mut core = core_with(1)?;
+    let refused = EntryGuard::enter(&mut core).is_none();
+    let asks = core.phase() == Phase::Asking;
+    let known = core.hear(&message("grant n1 c1 1 read a")?) == Heard::Known;
+    Some(refused && asks && known)
+}
+
+/// Whether a core leaves by a `?`, and is refused before it.
+fn leaves_by_a_question_mark() -> Option<bool> {
+    let (mut core, mut other) = (core_with(2)?, core_with(1)?);
+    let none = client_by_a_question_mark(&mut core, None).is_none()
+        && client_by_a_question_mark(&mut other, Some(1)).is_none();
+    Some(none && core.phase() == Phase::Idle && other.phase() == Phase::Asking)
+}
+
+#[test]
+fn guard(rt: HostRuntime) -> Outcome {
+    check(is_guarded(), 1)?;
+    check(is_refused(), 2)?;
+    check(leaves_by_a_question_mark(), 3)?;
+    check(is_owned(rt.alloc()), 4)?;
+    check(is_handed_back(rt.alloc()), 5)
+}
+
+fn boxed(alloc: Global, votes: usize) -> Option<Box<dyn Door + Send>> {
+    let door: Box<dyn Door + Send> = Box::new(alloc, core_with(votes)?).ok()?;
+    Some(door)
+}
+
+/// Whether an owned door enters with its ticket, and comes back outside.
+fn is_owned(alloc: Global) -> Option<bool> {
+    let Ok(entry) = OwnedEntry::enter(boxed(alloc, 2)?) else {
+        return Some(false);
+    };
+    let same = entry.ticket() == ticket()?;
+    let door = entry.leave();
+    Some(same && !door.inside() && !door.may_enter() && door.ticket().is_none())
+}
+
+/// Whether an owned door that may not enter comes back as it was.
+fn is_handed_back(alloc: Global) -> Option<bool> {
+    let Err(door) = OwnedEntry::enter(boxed(alloc, 1)?) else {
+        return Some(false);
+    };
+    Some(!door.inside() && door.ticket() == ticket())
+}
+
+/// A door that may enter.
+fn new_counter(count: Arc<AtomicUsize>) -> Option<Counter> {
+    Some(Counter {
+        held: ticket()?,
+        may: true,
+        within: false,
+        count,
+    })
+}
+
+/// Whether the door leaves once on each path out of a guard's scope.
+fn leaves_once_on_each_path(alloc: Global) -> Option<bool> {
+    let count = Arc::new(alloc, AtomicUsize::new(0)).ok()?;
+    let mut door = new_counter(count.clone().ok()?)?;
+    to_the_end(&mut door);
+    let end = count.load(Ordering::SeqCst) == 1;
+    let none = by_a_question_mark(&mut door, None).is_none();
+    let value = by_a_question_mark(&mut door, Some(5)) == Some(5);
+    let marks = none && value && count.load(Ordering::SeqCst) == 3;
+    let none = by_a_return(&mut door, true).is_none();
+    let held = by_a_return(&mut door, false) == ticket();
+    let returns = none && held && count.load(Ordering::SeqCst) == 5;
+    let entered = can_be_entered(&mut door) && count.load(Ordering::SeqCst) == 6;
+    Some(end && marks && returns && entered)
+}
+
+/// Whether a door that may not enter never leaves, nor one whose guard is forgotten.
+fn stays(alloc: Global) -> Option<bool> {
+    let count = Arc::new(alloc, AtomicUsize::new(0)).ok()?;
+    let mut door = new_counter(count.clone().ok()?)?;
+    door.may = false;
+    to_the_end(&mut door);
+    let refused = !can_be_entered(&mut door) && !door.within;
+    door.may = true;
+    mem::forget(EntryGuard::enter(&mut door));
+    Some(refused && door.within && count.load(Ordering::SeqCst) == 0)
+}
+
+/// Whether an owned door leaves once, where the entry is spent or dropped.
+fn owned_door_leaves_once(alloc: Global, spent: bool) -> Option<bool> {
+    let count = Arc::new(alloc, AtomicUsize::new(0)).ok()?;
+    let door = new_counter(count.clone().ok()?)?;
+    let door: Box<dyn Door + Send> = Box::new(alloc, door).ok()?;
+    let Ok(entry) = OwnedEntry::enter(door) else {
+        return Some(false);
+    };
+    let outside = if spent {
+        !entry.leave().inside()
+    } else {
+        drop(entry);
+        true
+    };
+    Some(outside && count.load(Ordering::SeqCst) == 1)
+}
+
+#[test]
+fn leaves_once(rt: HostRuntime) -> Outcome {
+    check(leaves_once_on_each_path(rt.alloc()), 1)?;
+    check(stays(rt.alloc()), 2)?;
+    check(owned_door_leaves_once(rt.alloc(), true), 3)?;
+    check(owned_door_leaves_once(rt.alloc(), false), 4)
+}

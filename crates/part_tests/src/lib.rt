@@ -1,0 +1,40 @@
+//! Tests of the parts of the lock service, by their public calls alone.
+//!
+//! It has no code but tests, and stands on the crates that it tests: messages, ballots, records,
+//! policies, voters, clients and guards. Each file is named for what it shows. The rows of a table
+//! are lines of text that one function reads, one row after the other; a test that fails names the
+//! row, or says that memory was refused.
+#![tactic(auto)]
+
+#[cfg(test)]
+mod attempts;
+#[cfg(test)]
+mod ballots;
+#[cfg(test)]
+mod decisions;
+#[cfg(test)]
+mod fault_texts;
+#[cfg(test)]
+mod frames;
+#[cfg(test)]
+mod guards;
+#[cfg(test)]
+mod kept_records;
+#[cfg(test)]
+mod long_runs;
+#[cfg(test)]
+mod nodes;
+#[cfg(test)]
+mod outcomes;
+#[cfg(test)]
+mod policies;
+#[cfg(test)]
+mod record_tables;
+#[cfg(test)]
+mod records;
+#[cfg(test)]
+mod restarts;
+#[cfg(test)]
+mod rows;
+#[cfg(test)]
+mod words;

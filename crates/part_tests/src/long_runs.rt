@@ -1,0 +1,143 @@
+//! Long runs and many entries: the plain decision and a node's core answer the same, and no memory is
+//! wanting.
+
+ghost use Rattle.std.specs.Prelude.{◌≤◌};
+
+use crate::decisions::new_core;
+use crate::nodes::{policy_of, risen, same_step};
+use crate::outcomes::{Outcome, check};
+use lock_messages::{Attempt, ClientId, Message, Mode, NodeId, ResourceName, Ticket};
+use lock_model::{Entry, Problem};
+use rand_core::utils::NextWord;
+use rand_pcg::Pcg32;
+use stable_record::read_node;
+use std::alloc::Global;
+
+/// The seed of the messages.
+const SEED: u64 = 1971;
+
+/// A number from 1 to `most`.
+fn number_up_to(words: &mut Pcg32, most: u32) -> u32
+    requires { 1 ≤ most }
+{
+    words.next_word() % most + 1
+}
+
+/// The request to n1 to read, or at 1 to write, resource 1, 2 or 3.
+fn request(client: u32, attempt: u64, mode: u32, resource: u32) -> Option<Message> {
+    let mode = if mode == 1 { Mode::Write } else { Mode::Read };
+    let name = match resource {
+        1 => b"a",
+        2 => b"b",
+        _ => b"c",
+    };
+    let ticket = Ticket {
+        client: ClientId::of(client)?,
+        attempt: Attempt::of(attempt)?,
+        mode,
+        resource: ResourceName::of(name)?,
+    };
+    Some(Message::Request(NodeId::of(1)?, ticket))
+}
+
+fn release(client: u32, attempt: u64) -> Option<Message> {
+    let (client, attempt) = (ClientId::of(client)?, Attempt::of(attempt)?);
+    Some(Message::Release(NodeId::of(1)?, client, attempt))
+}
+
+/// Some message of 20 clients about 3 resources: of one of the next three attempts.
+fn some_message(words: &mut Pcg32, last: u64) -> Option<Message> {
+    let client = number_up_to(words, 20);
+    let attempt = last.saturating_add(number_up_to(words, 3) as u64);
+    if number_up_to(words, 3) == 1 {
+        return release(client, attempt);
+    }
+    let (mode, resource) = (number_up_to(words, 3), number_up_to(words, 3));
+    request(client, attempt, mode, resource)
+}
+
+/// Whether the core and the plain decision agree on the same 2,000 messages.
+fn agrees(alloc: Global, problem: Problem) -> Option<bool> {
+    let mut core = new_core(alloc, problem)?;
+    let mut words = Pcg32::new(SEED, 1);
+    let mut entries: Vec<Entry> = Vec::new(alloc);
+    for turn in 0..2_000u64 {
+        let message = some_message(&mut words, turn / 100)?;
+        entries = same_step(alloc, problem, &mut core, &entries, &message)?.entries;
+    }
+    Some(true)
+}
+
+#[test]
+fn long_runs_as_plain(rt: HostRuntime) -> Outcome {
+    check(agrees(rt.alloc(), Problem::First), 1)?;
+    check(agrees(rt.alloc(), Problem::Second), 2)
+}
+
+/// Whether a hundred readers of one resource come and go again, each with one reply.
+fn comes_and_goes(alloc: Global, problem: Problem) -> Option<bool> {
+    let mut core = new_core(alloc, problem)?;
+    let mut entries: Vec<Entry> = Vec::new(alloc);
+    for number in 0..200u32 {
+        let message = if number < 100 {
+            request(number + 1, 1, 0, 1)?
+        } else {
+            release(number - 99, 1)?
+        };
+        let decision = same_step(alloc, problem, &mut core, &entries, &message)?;
+        if decision.replies.len() != 1 {
+            return Some(false);
+        }
+        entries = decision.entries;
+    }
+    Some(entries.len() == 100)
+}
+
+/// The record of problem 1 in which c1 holds `a` as a writer, and c2 to c1024 wait for it as readers.
+fn record_of_waiters(alloc: Global) -> Option<Vec<u8>> {
+    let mut out = Vec::new(alloc);
+    out.extend_from_slice(&[1, 1, 4, 0]).ok()?;
+    for client in 1..=1_024u32 {
+        let (state, writes) = if client == 1 { (2, 1) } else { (1, 0) };
+        out.extend_from_slice(&client.to_be_bytes()).ok()?;
+        let held = [0, 0, 0, 0, 0, 0, 0, 0, state, 0, 0, 0, 0, 0, 0, 0, 1];
+        out.extend_from_slice(&held).ok()?;
+        out.extend_from_slice(&[writes, 1, b'a']).ok()?;
+    }
+    Some(out)
+}
+
+/// The client to which a reply is.
+fn is_to(reply: &Message, number: u32) -> bool {
+    match reply {
+        Message::Done(_, client, _) => number == 1 && client.get() == 1,
+        Message::Grant(_, ticket) => number > 1 && ticket.client.get() == number,
+        _ => false,
+    }
+}
+
+/// Whether c1's release lets in c2 to c1024, in this order.
+fn lets_all_in(alloc: Global) -> Option<bool> {
+    let bytes = record_of_waiters(alloc)?;
+    let mut core = risen(alloc, &bytes, policy_of(alloc, Problem::First)?)?;
+    let record = read_node(alloc, &bytes).ok()?;
+    let mut entries: Vec<Entry> = Vec::new(alloc);
+    for place in 0..1_024usize {
+        entries.push(record.entries.get(place)?).ok()?;
+    }
+    let message = release(1, 1)?;
+    let decision = same_step(alloc, Problem::First, &mut core, &entries, &message)?;
+    for number in 1..=1_024u32 {
+        if !is_to(decision.replies.get(number as usize - 1)?, number) {
+            return Some(false);
+        }
+    }
+    Some(decision.replies.len() == 1_024)
+}
+
+#[test]
+fn many_entries(rt: HostRuntime) -> Outcome {
+    check(comes_and_goes(rt.alloc(), Problem::First), 1)?;
+    check(comes_and_goes(rt.alloc(), Problem::Second), 2)?;
+    check(lets_all_in(rt.alloc()), 3)
+}

@@ -1,0 +1,114 @@
+//! What the tests of nodes share: a node's core beside the plain decision.
+
+use crate::rows::bytes;
+use admission_policy::{Admission, FirstProblem, SecondProblem};
+use lock_messages::{Message, NodeId};
+use lock_model::{Decision, Entry, Problem, decide};
+use stable_record::{NodeRecord, read_node};
+use std::alloc::Global;
+use voter_core::{NodeCore, Phase};
+
+/// The records without entries, of problem 1 and of problem 2.
+pub(crate) const FIRST: [u8; 4] = [1, 1, 0, 0];
+
+pub(crate) const SECOND: [u8; 4] = [1, 2, 0, 0];
+
+/// c1 holds `a` as a reader, c2 waits for it as a writer, c3 waits behind c2 as a reader.
+pub(crate) const WRITER_WAITS: &str = "01 02 0003 \
+00000001 0000000000000000 02 0000000000000001 00 01 61 \
+00000002 0000000000000000 01 0000000000000001 01 01 61 \
+00000003 0000000000000000 01 0000000000000001 00 01 61";
+
+/// The same after c2's release: c3 holds too.
+pub(crate) const SETTLED: &str = "01 02 0003 \
+00000001 0000000000000000 02 0000000000000001 00 01 61 \
+00000002 0000000000000001 00 \
+00000003 0000000000000000 02 0000000000000001 00 01 61";
+
+/// The plain policy of a problem.
+pub(crate) fn policy_of(alloc: Global, problem: Problem) -> Option<Box<dyn Admission + Send>> {
+    match problem {
+        Problem::First => {
+            let policy: Box<dyn Admission + Send> = Box::new(alloc, FirstProblem).ok()?;
+            Some(policy)
+        }
+        Problem::Second => {
+            let policy: Box<dyn Admission + Send> = Box::new(alloc, SecondProblem).ok()?;
+            Some(policy)
+        }
+    }
+}
+
+/// n1 with this record.
+pub(crate) fn risen(
+    alloc: Global,
+    record: &[u8],
+    policy: Box<dyn Admission + Send>,
+) -> Option<NodeCore> {
+    match NodeCore::rise(alloc, NodeId::of(1)?, record, policy) {
+        Ok(core) => Some(core),
+        Err(_) => None,
+    }
+}
+
+/// Whether the node's record is the one that the row spells.
+pub(crate) fn has_record(alloc: Global, core: &NodeCore, row: &str) -> Option<bool> {
+    let (found, want) = (core.next_bytes(alloc).ok()?, bytes(alloc, row)?);
+    Some(found.as_slice() == want.as_slice())
+}
+
+/// Takes a message, and neither keeps the record nor replies. Whether it changes the record.
+pub(crate) fn takes(core: &mut NodeCore, message: &Message) -> Option<bool> {
+    let Phase::Idle = core.phase() else {
+        return None;
+    };
+    if !message.is_for_node(core.node()) {
+        return None;
+    }
+    core.take(message).ok()
+}
+
+/// Keeps a decided record.
+pub(crate) fn keeps(core: &mut NodeCore) {
+    if let Phase::Decided = core.phase() {
+        core.kept();
+    }
+}
+
+/// Says the replies.
+pub(crate) fn speaks(core: &mut NodeCore) -> Option<Vec<Message>> {
+    let Phase::Stored = core.phase() else {
+        return None;
+    };
+    Some(core.speak())
+}
+
+/// Whether the record has these entries.
+fn has_entries(record: &NodeRecord, entries: &[Entry]) -> bool {
+    for (place, entry) in entries.iter().enumerate() {
+        if record.entries.get(place) != Some(*entry) {
+            return false;
+        }
+    }
+    record.entries.len() == entries.len()
+}
+
+/// What the plain decision makes of a message; none where the core differs in something.
+pub(crate) fn same_step(
+    alloc: Global,
+    problem: Problem,
+    core: &mut NodeCore,
+    entries: &[Entry],
+    message: &Message,
+) -> Option<Decision> {
+    let plain = decide(alloc, problem, entries, message).ok()?;
+    let changed = takes(core, message)?;
+    keeps(core);
+    let replies = speaks(core)?;
+    let record = read_node(alloc, &core.next_bytes(alloc).ok()?).ok()?;
+    let is_same = changed == plain.changed
+        && changed == (plain.entries.as_slice() != entries)
+        && replies.as_slice() == plain.replies.as_slice()
+        && has_entries(&record, &plain.entries);
+    if is_same { Some(plain) } else { None }
+}

@@ -1,0 +1,174 @@
+//! Each change of one byte of a node's record against a plain reader of the table of fields.
+
+use crate::outcomes::{Outcome, Table, each};
+use crate::rows::{bytes, number, spells};
+use stable_record::{node_bytes, read_node};
+use std::alloc::Global;
+
+// c1 holds `ab` as a writer, c2 waits for it as a reader, c3 has attempts up to 1 ended.
+const RECORD: &str = "01 01 0003 \
+00000001 0000000000000000 02 0000000000000001 01 02 6162 \
+00000002 0000000000000000 01 0000000000000001 00 02 6162 \
+00000003 0000000000000001 00";
+
+/// An entry: whose it is, its state, whether it writes, and what.
+#[derive(Clone, Copy)]
+struct Row<'a> {
+    client: u64,
+    state: u64,
+    writes: bool,
+    name: &'a [u8],
+}
+
+/// The number of so many bytes at the front, and what is behind it; or 311, or the fault of one that
+/// does not lie from least to most.
+fn field(
+    bytes: &[u8],
+    width: usize,
+    (least, most): (u64, u64),
+    fault: u16,
+) -> Result<(u64, &[u8]), u16> {
+    let Some((field, rest)) = bytes.split_at_checked(width) else {
+        return Err(311);
+    };
+    let value = number(field);
+    if value < least || most < value {
+        return Err(fault);
+    }
+    Ok((value, rest))
+}
+
+/// The ticket of a row behind its state, whose attempt is one above the floor.
+fn ticket<'a>(bytes: &'a [u8], row: &mut Row<'a>, floor: u64) -> Result<&'a [u8], u16> {
+    let (attempt, rest) = field(bytes, 8, (1, 1_000_000_000_000), 314)?;
+    if attempt != floor.saturating_add(1) {
+        return Err(316);
+    }
+    let (writes, rest) = field(rest, 1, (0, 1), 314)?;
+    let (size, rest) = field(rest, 1, (1, 32), 314)?;
+    if !spells(rest, size as usize) {
+        return Err(314);
+    }
+    let Some((name, rest)) = rest.split_at_checked(size as usize) else {
+        return Err(311);
+    };
+    row.writes = writes == 1;
+    row.name = name;
+    Ok(rest)
+}
+
+/// The row at the front, of a client of which there is none yet, and what is behind it.
+fn entry<'a>(bytes: &'a [u8], rows: &[Row<'a>]) -> Result<(Row<'a>, &'a [u8]), u16> {
+    let (client, rest) = field(bytes, 4, (1, 1_024), 314)?;
+    for row in rows {
+        if row.client == client {
+            return Err(315);
+        }
+    }
+    let (floor, rest) = field(rest, 8, (0, 1_000_000_000_000), 314)?;
+    let (state, rest) = field(rest, 1, (0, 2), 314)?;
+    let mut row = Row {
+        client,
+        state,
+        writes: false,
+        name: &[],
+    };
+    if state == 0 {
+        return Ok((row, rest));
+    }
+    let rest = ticket(rest, &mut row, floor)?;
+    Ok((row, rest))
+}
+
+/// The fault of a row among the others: 317, 318, or 0 for none.
+fn judged(policy: u64, rows: &[Row], row: &Row) -> u16 {
+    let (mut holds, mut writes, mut waits) = (false, false, false);
+    for other in rows {
+        if other.client != row.client && other.name == row.name {
+            holds |= other.state == 2;
+            writes |= other.state == 2 && other.writes;
+            waits |= other.state == 1 && other.writes;
+        }
+    }
+    let has_cause = if row.writes {
+        holds
+    } else {
+        writes || (policy == 2 && waits)
+    };
+    if row.state == 2 && row.writes && holds {
+        317
+    } else if row.state == 1 && !has_cause {
+        318
+    } else {
+        0
+    }
+}
+
+/// The first fault that the rows have together; 0 for none.
+fn judged_all(policy: u64, rows: &[Row]) -> u16 {
+    let mut fault = 0;
+    for row in rows {
+        let found = judged(policy, rows, row);
+        if found > 0 && (fault == 0 || found < fault) {
+            fault = found;
+        }
+    }
+    fault
+}
+
+/// The number of the fault that the table of fields finds in the bytes; 320 where memory is refused.
+fn by_the_table(alloc: Global, bytes: &[u8]) -> Result<u16, u16> {
+    let (_, rest) = field(bytes, 1, (1, 1), 312)?;
+    let (policy, rest) = field(rest, 1, (1, 2), 313)?;
+    let (count, rest) = field(rest, 2, (0, 1_024), 314)?;
+    let mut rows = Vec::new(alloc);
+    let mut rest = rest;
+    for _ in 0..count {
+        let (row, behind) = entry(rest, &rows)?;
+        let Ok(()) = rows.push(row) else {
+            return Err(320);
+        };
+        rest = behind;
+    }
+    if !rest.is_empty() {
+        return Err(319);
+    }
+    Ok(judged_all(policy, &rows))
+}
+
+/// Whether the bytes are read as the table says; what is read is spelled so.
+fn agrees(alloc: Global, bytes: &[u8]) -> Option<bool> {
+    let want = match by_the_table(alloc, bytes) {
+        Ok(fault) | Err(fault) => fault,
+    };
+    match read_node(alloc, bytes) {
+        Ok(node) => {
+            let written = node_bytes(alloc, &node).ok()?;
+            Some(want == 0 && written.as_slice() == bytes)
+        }
+        Err(fault) => match fault.number() {
+            320 => None,
+            found => Some(want == 320 || want == found),
+        },
+    }
+}
+
+/// Whether the record is read as the table says with each byte changed to each other value.
+pub(crate) fn all_agree(alloc: Global, row: &str) -> Option<bool> {
+    let record = bytes(alloc, row)?;
+    for place in 0..record.len() {
+        for value in 0..=255u8 {
+            let mut bytes = record.to_vec(alloc).ok()?;
+            *bytes.get_mut(place)? = value;
+            if !agrees(alloc, &bytes)? {
+                return Some(false);
+            }
+        }
+    }
+    Some(true)
+}
+
+#[test]
+fn changed_records_read_by_the_table(rt: HostRuntime) -> Outcome {
+    each(rt.alloc(), Table::ChangedRecords, RECORD)
+}

@@ -1,0 +1,211 @@
+//! Node and client records against bytes that were written by hand, and entries.
+
+use crate::nodes::{SETTLED, WRITER_WAITS};
+use crate::outcomes::{Outcome, Table, check, each};
+use crate::rows::{bytes, message};
+use lock_messages::{ClientId, Message, Mode, ResourceName};
+use lock_model::Problem;
+use stable_record::{
+    Entries, Entry, Live, RecordFault, Status, client_bytes, node_bytes, read_client, read_node,
+};
+use std::alloc::Global;
+
+/// The number of the fault that reading a node's record finds; 0 where it finds none.
+fn fault_of(alloc: Global, bytes: &[u8]) -> Option<u16> {
+    match read_node(alloc, bytes) {
+        Ok(_) => Some(0),
+        Err(RecordFault::NoMemory) => None,
+        Err(fault) => Some(fault.number()),
+    }
+}
+
+// Bytes, with the fault that they have: none; of the other problem c3 would not wait; nobody waits
+// alone.
+const NODE_RECORDS: &str = "\
+312 02
+313 01 03 0000
+0 01 01 0000
+0 01 02 0000
+319 01 01 0000 00
+318 01 01 0003 00000001 0000000000000000 02 0000000000000001 00 01 61 00000002 0000000000000000 01 0000000000000001 01 01 61 00000003 0000000000000000 01 0000000000000001 00 01 61
+318 01 01 0001 00000001 0000000000000000 01 0000000000000001 00 01 61";
+
+pub(crate) fn is_faulty(alloc: Global, row: &str) -> Option<bool> {
+    let (want, spelled) = row.split_once(' ')?;
+    Some(want.parse() == Ok(fault_of(alloc, &bytes(alloc, spelled)?)?))
+}
+
+// A place in the record in which a writer waits, another byte there, and the fault.
+const CHANGES: &str = "\
+1 01 318
+2 05 314
+3 04 311
+3 02 319
+31 00 314
+31 01 315
+30 04 314
+34 01 314
+39 01 316
+40 03 314
+42 01 314
+48 00 314
+48 02 316
+49 02 314
+50 00 314
+50 21 314
+51 41 314
+51 62 318
+40 02 317
+73 01 0
+73 00 0";
+
+pub(crate) fn is_changed(alloc: Global, row: &str) -> Option<bool> {
+    let mut words = row.split(' ');
+    let place: usize = words.next()?.parse().ok()?;
+    let byte = u8::from_str_radix(words.next()?, 16).ok()?;
+    let mut record = bytes(alloc, WRITER_WAITS)?;
+    *record.get_mut(place)? = byte;
+    Some(words.next()?.parse() == Ok(fault_of(alloc, &record)?))
+}
+
+/// Whether each beginning of a record is short.
+pub(crate) fn begins_short(alloc: Global, record: &str) -> Option<bool> {
+    let record = bytes(alloc, record)?;
+    for end in 0..record.len() {
+        if fault_of(alloc, record.get(..end)?)? != 311 {
+            return Some(false);
+        }
+    }
+    Some(true)
+}
+
+#[test]
+fn node_record_faults(rt: HostRuntime) -> Outcome {
+    each(rt.alloc(), Table::RecordFaults, NODE_RECORDS)?;
+    each(rt.alloc(), Table::RecordFields, CHANGES)?;
+    each(rt.alloc(), Table::ShortRecords, WRITER_WAITS)
+}
+
+/// Whether a record of so many entries is read, is lawful and caused, and is written again.
+fn goes_there_and_back(alloc: Global, bytes: &[u8], entries: usize) -> Option<bool> {
+    let node = read_node(alloc, bytes).ok()?;
+    let written = node_bytes(alloc, &node).ok()?;
+    let is_good = node.entries.len() == entries && node.lawful() && node.caused();
+    Some(is_good && written.as_slice() == bytes)
+}
+
+/// Whether the record of a row, which has three entries, is written again.
+pub(crate) fn is_written_again(alloc: Global, row: &str) -> Option<bool> {
+    goes_there_and_back(alloc, &bytes(alloc, row)?, 3)
+}
+
+/// The record of problem 1 in which so many clients read the same resource in their last attempt.
+fn record_of(alloc: Global, clients: u16) -> Option<Vec<u8>> {
+    let mut out = Vec::new(alloc);
+    out.extend_from_slice(&[1, 1]).ok()?;
+    out.extend_from_slice(&clients.to_be_bytes()).ok()?;
+    for client in 1..=clients {
+        out.extend_from_slice(&(client as u32).to_be_bytes()).ok()?;
+        out.extend_from_slice(&999_999_999_999u64.to_be_bytes())
+            .ok()?;
+        out.push(2).ok()?;
+        out.extend_from_slice(&1_000_000_000_000u64.to_be_bytes())
+            .ok()?;
+        out.extend_from_slice(&[0, 32]).ok()?;
+        out.extend_from_slice(&[b'z'; 32]).ok()?;
+    }
+    Some(out)
+}
+
+/// Whether a record of so many entries has the size that it is to have, and goes there and back.
+fn has_size(alloc: Global, clients: u16) -> Option<bool> {
+    let record = record_of(alloc, clients)?;
+    let entries = clients as usize;
+    Some(record.len() == 4 + 55 * entries && goes_there_and_back(alloc, &record, entries)?)
+}
+
+#[test]
+fn records_of_every_size(rt: HostRuntime) -> Outcome {
+    each(rt.alloc(), Table::WrittenAgain, WRITER_WAITS)?;
+    each(rt.alloc(), Table::WrittenAgain, SETTLED)?;
+    for clients in [0, 1, 2, 100, 1_024u16] {
+        check(has_size(rt.alloc(), clients), clients as usize)?;
+    }
+    Ok(())
+}
+
+/// Whether entries stand in the order in which they were pushed, each client once.
+fn are_in_order(alloc: Global) -> Option<bool> {
+    let Message::Grant(_, ticket) = message("grant n1 c7 1 read a")? else {
+        return None;
+    };
+    let holds = Live {
+        attempt: ticket.attempt,
+        mode: ticket.mode,
+        resource: ticket.resource,
+        status: Status::Holding,
+    };
+    let (client, other) = (ticket.client, ClientId::of(3)?);
+    let first = Entry {
+        client,
+        floor: 0,
+        live: Some(holds),
+    };
+    let second = Entry {
+        client: other,
+        floor: 0,
+        live: None,
+    };
+    let mut entries = Entries::new(alloc);
+    let pushed = entries.push(first).ok()? && entries.push(second).ok()?;
+    let again = entries.push(first).ok()? || entries.push(second).ok()?;
+    Some(
+        pushed
+            && !again
+            && entries.len() == 2
+            && entries.knows(client)
+            && entries.knows(other)
+            && entries.get(1) == Some(second)
+            && entries.get(2).is_none()
+            && admits(&entries, &ticket.resource),
+    )
+}
+
+/// Whether a reader, and no writer, is admitted.
+fn admits(entries: &Entries, resource: &ResourceName) -> bool {
+    entries.admits(Problem::First, Mode::Read, resource)
+        && !entries.admits(Problem::First, Mode::Write, resource)
+}
+
+#[test]
+fn entries_in_order(rt: HostRuntime) -> Outcome {
+    check(are_in_order(rt.alloc()), 0)
+}
+
+// The attempt that a client's record has, or its fault.
+const CLIENT_RECORDS: &str = "\
+0 01 0000000000000000
+1000000000000 01 000000e8d4a51000
+321 01 000000e8d4a510
+321 01
+322 02
+323 01 000000e8d4a51001 00
+324 01 0000000000000000 00";
+
+pub(crate) fn is_read(alloc: Global, row: &str) -> Option<bool> {
+    let (want, spelled) = row.split_once(' ')?;
+    let found = match read_client(&bytes(alloc, spelled)?) {
+        Ok(attempt) => attempt,
+        Err(fault) => fault.number() as u64,
+    };
+    Some(want.parse() == Ok(found))
+}
+
+#[test]
+fn client_records(rt: HostRuntime) -> Outcome {
+    each(rt.alloc(), Table::ClientRecords, CLIENT_RECORDS)?;
+    let (first, last) = (client_bytes(0), client_bytes(1_000_000_000_000));
+    check(Some(first == [1, 0, 0, 0, 0, 0, 0, 0, 0]), 7)?;
+    check(Some(last == [1, 0, 0, 0, 0xe8, 0xd4, 0xa5, 0x10, 0]), 8)?;
+    check(Some(read_client(&[]).is_err()), 9)
+}

@@ -1,0 +1,54 @@
+//! A node that is put back at rest with its record.
+
+use crate::nodes::{FIRST, SETTLED, WRITER_WAITS, has_record, policy_of, risen, takes};
+use crate::outcomes::{Outcome, check};
+use crate::rows::{bytes, message};
+use lock_model::Problem;
+use stable_record::RecordFault;
+use std::alloc::Global;
+use voter_core::{NodeCore, Phase, VoterFault};
+
+/// n1 with the record in which a writer waits.
+fn with_waiting_writer(alloc: Global) -> Option<NodeCore> {
+    let record = bytes(alloc, WRITER_WAITS)?;
+    risen(alloc, &record, policy_of(alloc, Problem::Second)?)
+}
+
+/// Whether refused restarts change nothing.
+fn refuses(alloc: Global) -> Option<bool> {
+    let mut core = with_waiting_writer(alloc)?;
+    let other = core.restart(&FIRST).err()?;
+    if other == VoterFault::Memory {
+        return None;
+    }
+    let unreadable = core.restart(&[3]).err()?;
+    Some(
+        other == VoterFault::OtherProblem
+            && unreadable == VoterFault::Unreadable(RecordFault::Version)
+            && has_record(alloc, &core, WRITER_WAITS)?,
+    )
+}
+
+/// Whether the node is about nothing, with the record in which a writer waits.
+fn is_at_rest(alloc: Global, core: &NodeCore) -> Option<bool> {
+    let is_idle = core.phase() == Phase::Idle && core.replies() == 0;
+    Some(is_idle && has_record(alloc, core, WRITER_WAITS)?)
+}
+
+/// Whether a decision that was not kept is gone after a restart.
+fn restarts(alloc: Global) -> Option<bool> {
+    let mut core = with_waiting_writer(alloc)?;
+    let before = is_at_rest(alloc, &core)?;
+    let changed = takes(&mut core, &message("release n1 c2 1")?)?;
+    let decided = core.phase() == Phase::Decided && core.replies() == 2;
+    let within = has_record(alloc, &core, SETTLED)?;
+    core.restart(&bytes(alloc, WRITER_WAITS)?).ok()?;
+    let after = is_at_rest(alloc, &core)?;
+    Some(before && changed && decided && within && after)
+}
+
+#[test]
+fn restarted_node(rt: HostRuntime) -> Outcome {
+    check(restarts(rt.alloc()), 1)?;
+    check(refuses(rt.alloc()), 2)
+}

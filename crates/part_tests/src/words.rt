@@ -1,0 +1,129 @@
+//! Numbers and names at their limits, and words as they print.
+
+use crate::outcomes::{Outcome, Table, check, each};
+use crate::rows::{client, message, node};
+use lock_messages::{Actor, ClientId, NodeId, ResourceName};
+use std::alloc::Global;
+use std::cmp::Ordering;
+
+// Each kind of message, numbers and names at their limits.
+const MESSAGES: &str = "\
+request n1 c1 1 read a
+release n1 c1 1000000000000
+grant n1 c1 1 write a
+busy n1 c1 1 read db-1
+over n1 c1 1000000000000
+done n1 c1 1000000000000
+muddled n1 c1 1000000000000
+done n16 c1024 1
+request n16 c4 7 write abcdefghijklmnopqrstuvwxyz-12345";
+
+/// Whether a message prints as it was read.
+pub(crate) fn prints(alloc: Global, row: &str) -> Option<bool> {
+    let shown = message(row)?.to_string(alloc).ok()?;
+    Some(shown.as_str() == row)
+}
+
+const ACTORS: &str = "\
+n1
+n16
+c1
+c1024";
+
+/// Whether an actor prints as it was read.
+pub(crate) fn actor_prints(alloc: Global, row: &str) -> Option<bool> {
+    let actor = match node(row) {
+        Some(node) => Actor::Node(node),
+        None => Actor::Client(client(row)?),
+    };
+    let shown = actor.to_string(alloc).ok()?;
+    Some(shown.as_str() == row)
+}
+
+#[test]
+fn words_print(rt: HostRuntime) -> Outcome {
+    each(rt.alloc(), Table::Printed, MESSAGES)?;
+    each(rt.alloc(), Table::Actors, ACTORS)
+}
+
+// Each has a number or a name that is out of range.
+const NO_MESSAGES: &str = "\
+done n0 c1 1
+done n17 c1 1
+done n255 c1 1
+done n1 c0 1
+done n1 c1025 1
+done n1 c1 0
+done n1 c1 1000000000001
+request n1 c1 1 read db_1
+request n1 c1 1 read dB-1
+request n1 c1 1 read abcdefghijklmnopqrstuvwxyz-123456";
+
+pub(crate) fn is_no_message(row: &str) -> Option<bool> {
+    Some(message(row).is_none())
+}
+
+/// Whether a name of one byte is a name for the bytes of names alone, and no name is empty.
+fn are_bytes_of_names() -> bool {
+    for byte in 0..=255u8 {
+        let lawful = b"abcdefghijklmnopqrstuvwxyz0123456789-".contains(&byte);
+        if ResourceName::of(&[byte]).is_some() != lawful {
+            return false;
+        }
+    }
+    ResourceName::of(b"").is_none()
+}
+
+#[test]
+fn words_out_of_range(rt: HostRuntime) -> Outcome {
+    each(rt.alloc(), Table::NoMessages, NO_MESSAGES)?;
+    check(Some(are_bytes_of_names()), 256)
+}
+
+// Two names, the lesser first.
+const NAMES: &str = "\
+- 0
+0 9
+9 a
+a a-
+a- a0
+a0 aa
+aa b
+- b";
+
+pub(crate) fn ascends(row: &str) -> Option<bool> {
+    let (low, high) = row.split_once(' ')?;
+    let low = ResourceName::of(low.as_bytes())?;
+    let high = ResourceName::of(high.as_bytes())?;
+    Some(low < high && high > low && low != high && low.cmp(&low) == Ordering::Equal)
+}
+
+#[test]
+fn names_compare_as_their_bytes(rt: HostRuntime) -> Outcome {
+    each(rt.alloc(), Table::Names, NAMES)
+}
+
+// The first two are for the node, the others for the client.
+const FOR_ONE: &str = "\
+request n1 c1 1 read a
+release n1 c1 1
+grant n1 c1 1 read a
+busy n1 c1 1 read a
+over n1 c1 1
+done n1 c1 1
+muddled n1 c1 1";
+
+pub(crate) fn is_for_one(row: &str) -> Option<bool> {
+    let (message, to_node) = (message(row)?, row.starts_with("re"));
+    Some(
+        message.is_for_node(NodeId::of(1)?) == to_node
+            && message.is_for_client(ClientId::of(1)?) != to_node
+            && !message.is_for_node(NodeId::of(2)?)
+            && !message.is_for_client(ClientId::of(2)?),
+    )
+}
+
+#[test]
+fn messages_are_for_one_actor(rt: HostRuntime) -> Outcome {
+    each(rt.alloc(), Table::ForOne, FOR_ONE)
+}
