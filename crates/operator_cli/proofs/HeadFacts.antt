@@ -7,9 +7,9 @@ use Rattle.std.proofs.lemmas.Slice.Eq.{bytes_eq-Decides}
 use Rattle.std.proofs.lemmas.Bool.{false_from_ne_true}
 use Rattle.operator_cli.specs.declared.faults.SettingsFault.TheVariants as settings
 use Rattle.operator_cli.specs.declared.heads.TheConstants.{HEAD_ROOM}
-use Rattle.operator_cli.specs.declared.pieces.End.{End}
-use Rattle.operator_cli.specs.declared.pieces.End.TheVariants.{LineFeed, Input, Limit}
-use Rattle.operator_cli.specs.Pieces.{pieces, KnownLeft, ReadsPiece}
+use Rattle.line_streams.specs.declared.reading.End.{End}
+use Rattle.line_streams.specs.declared.reading.End.TheVariants.{LineFeed, Input, Limit}
+use Rattle.line_streams.specs.Streams.{pieces, KnownLeft, ReadsPiece}
 use Rattle.operator_cli.specs.Outputs.{dashes, with_line, parts_at_dashes, within_room, head_of, lines_in, FindsHead}
 use Rattle.operator_cli.specs.declared.heads.StartFault.TheVariants as start
 use Rattle.std.specs.Global.{Global}
@@ -39,11 +39,11 @@ behind_line : (head p : List ℕ) (rest : Parts) → behind head (with_line p re
 behind_line head p None = refl
 behind_line head p (Some parts) = ap (λ (h : List ℕ). Some (h, parts.1)) (sym (append_assoc head (p ++ codes "\n") parts.0) ∙ ap (λ (h : List ℕ). h ++ parts.0) (sym (append_assoc head p (codes "\n"))))
 
-pub at_piece : (old new : Option (List ℕ)) (piece : List ℕ) (end last : End) → ReadsPiece HEAD_ROOM old new piece (Ok end) → end ≡ last → ReadsPiece HEAD_ROOM old new piece (Ok last)
-at_piece old new piece end last h e = subst (λ (x : End). ReadsPiece HEAD_ROOM old new piece (Ok x)) e h
+pub at_piece : (old new : Option (List ℕ)) (piece : List ℕ) (end last : End) → ReadsPiece HEAD_ROOM old new piece end → end ≡ last → ReadsPiece HEAD_ROOM old new piece last
+at_piece old new piece end last h e = subst (λ (x : End). ReadsPiece HEAD_ROOM old new piece x) e h
 
 -- another line than the one of dashes
-pub head_goes_on : (old mid new : Option (List ℕ)) (head piece : List ℕ) → HeadSoFar old mid head → ReadsPiece HEAD_ROOM mid new piece (Ok LineFeed) → bytes_eq piece dashes ≡ false
+pub head_goes_on : (old mid new : Option (List ℕ)) (head piece : List ℕ) → HeadSoFar old mid head → ReadsPiece HEAD_ROOM mid new piece LineFeed → bytes_eq piece dashes ≡ false
     → HeadSoFar old new (head ++ piece ++ codes "\n")
 head_goes_on None mid new head piece h r e = tt
 head_goes_on (Some xs) None new head piece h r e = absurd h
@@ -73,7 +73,7 @@ long_line : (whole : List ℕ) → HEAD_ROOM < length whole → bytes_eq whole d
 long_line whole h = false_from_ne_true (bytes_eq whole dashes) (λ e. let three : length whole ≡ 3 = ap length ((bytes_eq-Decides whole dashes).0 e) in omega arith)
 
 -- the line of dashes, with a line feed behind it or at the end
-pub dashes_then_feed : (old mid new : Option (List ℕ)) (head : Vec ℕ Global) (piece : List ℕ) → HeadSoFar old mid head.items → ReadsPiece HEAD_ROOM mid new piece (Ok LineFeed) → bytes_eq piece dashes ≡ true
+pub dashes_then_feed : (old mid new : Option (List ℕ)) (head : Vec ℕ Global) (piece : List ℕ) → HeadSoFar old mid head.items → ReadsPiece HEAD_ROOM mid new piece LineFeed → bytes_eq piece dashes ≡ true
     → length head.items < HEAD_ROOM → FindsHead old new (Ok head)
 unfolding head_of
 dashes_then_feed None mid new head piece h r e few = tt
@@ -83,7 +83,7 @@ dashes_then_feed (Some xs) (Some ys) (Some zs) head piece h r e few =
     ap within_room (h ∙ ap (λ ps. behind head.items (parts_at_dashes ps)) r ∙ ap (λ (b : Bool). behind head.items (cond b (Some ([], pieces zs)) (with_line piece (parts_at_dashes (pieces zs))))) e)
     ∙ room_found head.items (pieces zs) few
 
-pub dashes_at_end : (old mid new : Option (List ℕ)) (head : Vec ℕ Global) (piece : List ℕ) → HeadSoFar old mid head.items → ReadsPiece HEAD_ROOM mid new piece (Ok Input) → bytes_eq piece dashes ≡ true
+pub dashes_at_end : (old mid new : Option (List ℕ)) (head : Vec ℕ Global) (piece : List ℕ) → HeadSoFar old mid head.items → ReadsPiece HEAD_ROOM mid new piece Input → bytes_eq piece dashes ≡ true
     → length head.items < HEAD_ROOM → FindsHead old new (Ok head)
 unfolding head_of
 dashes_at_end None mid new head piece h r e few = tt
@@ -94,7 +94,7 @@ dashes_at_end (Some xs) (Some ys) (Some zs) head piece h r e few =
     ∙ room_found head.items [] few ∙ ap (λ (bs : List ℕ). Ok (head.items, lines_in (pieces bs))) (sym r.1)
 
 -- the input ends before such a line
-pub never_dashes : (old mid new : Option (List ℕ)) (head piece : List ℕ) → HeadSoFar old mid head → ReadsPiece HEAD_ROOM mid new piece (Ok Input) → bytes_eq piece dashes ≡ false
+pub never_dashes : (old mid new : Option (List ℕ)) (head piece : List ℕ) → HeadSoFar old mid head → ReadsPiece HEAD_ROOM mid new piece Input → bytes_eq piece dashes ≡ false
     → FindsHead old new (Err (start.Settings settings.NoEnd))
 unfolding head_of
 never_dashes None mid new head piece h r e = tt
@@ -103,7 +103,7 @@ never_dashes (Some xs) (Some ys) new head piece h r e =
     ap within_room (h ∙ ap (λ ps. behind head (parts_at_dashes ps)) r.0 ∙ ap (λ (b : Bool). behind head (cond b (Some ([], [])) None)) e)
 
 -- a line is longer than the room
-pub line_too_long : (old mid new : Option (List ℕ)) (head piece : List ℕ) → HeadSoFar old mid head → ReadsPiece HEAD_ROOM mid new piece (Ok Limit)
+pub line_too_long : (old mid new : Option (List ℕ)) (head piece : List ℕ) → HeadSoFar old mid head → ReadsPiece HEAD_ROOM mid new piece Limit
     → FindsHead old new (Err (start.Settings settings.NoEnd))
 unfolding head_of
 line_too_long None mid new head piece h r = tt

@@ -1,6 +1,5 @@
 pub mod SplitFacts
 pub mod NumberFacts
-pub mod PieceFacts
 pub mod SettingsFacts
 pub mod TextFacts
 pub mod HeadFacts

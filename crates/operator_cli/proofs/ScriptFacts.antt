@@ -1,6 +1,6 @@
 -- The lines of a script, one after another.
 use Rattle.std.proofs.Common.{◌≡◌, ℕ, ◌+◌, ◌<◌, ◌==◌, Bool, true, false, cond, nat_lt, ◌||◌, List, [], ◌∷◌, ◌++◌, length, Option, Some, None, Result, Ok, Err, refl, sym, ap, subst, ◌∙◌, arith, append_assoc}
-use Rattle.std.specs.Io.KnownBytes.{Appends}
+use Rattle.std.specs.Io.KnownBytes.{Appends, Keeps}
 use Rattle.std.proofs.lemmas.List.{append-nil}
 use Rattle.std.proofs.lemmas.Bool.Decides.{nat_tests}
 use Rattle.world_machine.specs.declared.exact.ExactWorld.{ExactWorld}
@@ -9,16 +9,15 @@ use Rattle.operator_cli.specs.declared.faults.LineFault.TheVariants as bad
 use Rattle.operator_cli.specs.declared.faults.ServeFault.{ServeFault}
 use Rattle.operator_cli.specs.declared.lines.Line.{Line}
 use Rattle.operator_cli.specs.declared.lines.TheConstants.{MAX_LINE_LEN}
-use Rattle.operator_cli.specs.declared.pieces.End.{End}
-use Rattle.operator_cli.specs.declared.pieces.End.TheVariants.{LineFeed, Input, Limit}
+use Rattle.line_streams.specs.declared.reading.End.{End}
+use Rattle.line_streams.specs.declared.reading.End.TheVariants.{LineFeed, Input, Limit}
 use Rattle.operator_cli.specs.declared.script.Judged.TheVariants as judged
 use Rattle.operator_cli.specs.Faults.{line_fault_number}
 use Rattle.operator_cli.specs.Lines.{line_of}
-use Rattle.operator_cli.specs.Pieces.{is_line_feed, pieces, KnownLeft, EndsPiece, ReadsPiece, AppendsBeginning}
+use Rattle.line_streams.specs.Streams.{is_line_feed, pieces, KnownLeft, EndsPiece, ReadsPiece, AppendsBeginning, Grows}
 use Rattle.operator_cli.specs.Outputs.{Told, Output, told, before, line_output, lines_output, lines_in, judged_line, judged_piece, is_last, status_of, Puts, Writes, WritesLines}
 use Rattle.operator_cli.specs.Texts.{line_fault_text}
 use Rattle.operator_cli.proofs.SplitFacts.{some_part}
-use Rattle.operator_cli.proofs.PieceFacts.{appends_both}
 
 -- what was written before the rest, and whether anything was refused
 abbrev pub onto : List ℕ → Bool → Output → Output
@@ -36,6 +35,27 @@ SoFar w (Some xs) left old out refused v number = KnownLeft left (λ ys. After w
 pub appends_nothing : (o : Option (List ℕ)) → Appends o o []
 appends_nothing None = tt
 appends_nothing (Some xs) = sym (append-nil xs)
+
+pub appends_both : (old mid new : Option (List ℕ)) (a b : List ℕ) → Appends old mid a → Appends mid new b → Appends old new (a ++ b)
+appends_both None mid new a b p q = tt
+appends_both (Some xs) None new a b p q = absurd p
+appends_both (Some xs) (Some ys) None a b p q = absurd q
+appends_both (Some xs) (Some ys) (Some zs) a b p q = q ∙ ap (λ (bs : List ℕ). bs ++ b) p ∙ append_assoc xs a b
+
+pub grows_on : (old mid new : Option (List ℕ)) → Grows old mid → Grows mid new → Grows old new
+grows_on old mid new p q = (p.0 ++ q.0, appends_both old mid new p.0 q.0 p.1 q.1)
+
+appends_kept : (old mid new : Option (List ℕ)) (text : List ℕ) → Appends old mid text → Keeps mid new → Appends old new text
+appends_kept None mid new text p q = tt
+appends_kept (Some xs) None new text p q = absurd p
+appends_kept (Some xs) (Some ys) None text p q = absurd q
+appends_kept (Some xs) (Some ys) (Some zs) text p q = q ∙ p
+
+-- what is gathered was let out
+pub so_far_kept : (w v : ExactWorld) (old left out mid new : Option (List ℕ)) (refused : Bool) (number : ℕ) → SoFar w old left out mid refused v number → Keeps mid new → SoFar w old left out new refused v number
+so_far_kept w v None left out mid new refused number h k = tt
+so_far_kept w v (Some xs) None out mid new refused number h k = absurd h
+so_far_kept w v (Some xs) (Some ys) out mid new refused number h k = let (text, a, e) = h in (text, appends_kept out mid new text a k, e)
 
 pub begins : (w : ExactWorld) (left out : Option (List ℕ)) → SoFar w left left out out false w 1
 begins w None out = tt
@@ -157,7 +177,7 @@ stops w v (Some xs) (Some ys) out new refused number f h =
     let (text, a, e) = h in (text, (lines_output v number (lines_in (pieces ys))).text, ap (λ (p : Output). p.text) e, a)
 
 pub is_over : (w v : ExactWorld) (old left next out new : Option (List ℕ)) (refused : Bool) (number : ℕ) (piece : List ℕ) (end : End) (status : ℕ)
-    → SoFar w old left out new refused v number → ReadsPiece MAX_LINE_LEN left next piece (Ok end) → judged_piece end piece ≡ judged.End → status ≡ status_of refused → WritesLines w old out new (Ok status)
+    → SoFar w old left out new refused v number → ReadsPiece MAX_LINE_LEN left next piece end → judged_piece end piece ≡ judged.End → status ≡ status_of refused → WritesLines w old out new (Ok status)
 is_over w v None left next out new refused number piece end status h r j s = tt
 is_over w v (Some xs) None next out new refused number piece end status h r j s = absurd h
 is_over w v (Some xs) (Some ys) next out new refused number piece end status h r j s =
@@ -166,7 +186,7 @@ is_over w v (Some xs) (Some ys) next out new refused number piece end status h r
     (e ∙ ap (λ ls. onto text refused (lines_output v number ls)) (nothing_left MAX_LINE_LEN ys next piece end r j)) s
 
 pub is_bad : (w v : ExactWorld) (old left next out mid new : Option (List ℕ)) (refused : Bool) (number : ℕ) (piece : List ℕ) (end : End) (f : LineFault) (result : Result ℕ ServeFault)
-    → SoFar w old left out mid refused v number → ReadsPiece MAX_LINE_LEN left next piece (Ok end) → judged_piece end piece ≡ judged.Bad f
+    → SoFar w old left out mid refused v number → ReadsPiece MAX_LINE_LEN left next piece end → judged_piece end piece ≡ judged.Bad f
     → Writes (record { text = line_fault_text number (line_fault_number f); status = 1 }) mid new result → WritesLines w old out new result
 is_bad w v None left next out mid new refused number piece end f result h r j p = tt
 is_bad w v (Some xs) None next out mid new refused number piece end f result h r j p = absurd h
@@ -183,7 +203,7 @@ good_output o text refused v number lines l more x e g k =
     e ∙ ap (λ ls. onto text refused (lines_output v number ls)) g ∙ ap (λ q. onto text refused (line_output v number q (λ u. lines_output u (number + 1) more))) k
 
 pub breaks : (w v : ExactWorld) (old left next out mid new : Option (List ℕ)) (refused : Bool) (number : ℕ) (piece : List ℕ) (end : End) (x : Line) (u : ExactWorld) (f g : ServeFault)
-    → SoFar w old left out mid refused v number → ReadsPiece MAX_LINE_LEN left next piece (Ok end) → judged_piece end piece ≡ judged.Says x
+    → SoFar w old left out mid refused v number → ReadsPiece MAX_LINE_LEN left next piece end → judged_piece end piece ≡ judged.Says x
     → Puts (told v x) mid new (Err f) u → WritesLines w old out new (Err g)
 breaks w v None left next out mid new refused number piece end x u f g h r j p = tt
 breaks w v (Some xs) None next out mid new refused number piece end x u f g h r j p = absurd h
@@ -219,7 +239,7 @@ told_one w v u xs out mid new refused now number lines l more x h g k p =
     )
 
 pub goes_on : (w v u : ExactWorld) (old left next out mid new : Option (List ℕ)) (refused now both : Bool) (number : ℕ) (piece : List ℕ) (end : End) (x : Line)
-    → SoFar w old left out mid refused v number → ReadsPiece MAX_LINE_LEN left next piece (Ok end) → judged_piece end piece ≡ judged.Says x
+    → SoFar w old left out mid refused v number → ReadsPiece MAX_LINE_LEN left next piece end → judged_piece end piece ≡ judged.Says x
     → Puts (told v x) mid new (Ok now) u → both ≡ (refused || now) → is_last end ≡ false → SoFar w old next out new both u (number + 1)
 goes_on w v u None left next out mid new refused now both number piece end x h r j p b z = tt
 goes_on w v u (Some xs) None next out mid new refused now both number piece end x h r j p b z = absurd h
@@ -233,7 +253,7 @@ goes_on w v u (Some xs) (Some ys) next out mid new refused now both number piece
     let (l, more, m, k, e) = good_comes MAX_LINE_LEN ys next piece Limit x r j in absurd e
 
 pub is_over_now : (w v u : ExactWorld) (old left next out mid new : Option (List ℕ)) (refused now both : Bool) (number : ℕ) (piece : List ℕ) (end : End) (x : Line) (status : ℕ)
-    → SoFar w old left out mid refused v number → ReadsPiece MAX_LINE_LEN left next piece (Ok end) → judged_piece end piece ≡ judged.Says x
+    → SoFar w old left out mid refused v number → ReadsPiece MAX_LINE_LEN left next piece end → judged_piece end piece ≡ judged.Says x
     → Puts (told v x) mid new (Ok now) u → both ≡ (refused || now) → is_last end ≡ true → status ≡ status_of both → WritesLines w old out new (Ok status)
 is_over_now w v u None left next out mid new refused now both number piece end x status h r j p b z s = tt
 is_over_now w v u (Some xs) None next out mid new refused now both number piece end x status h r j p b z s = absurd h

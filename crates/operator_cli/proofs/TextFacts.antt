@@ -10,10 +10,11 @@ range_more f a (suc n) =
     ap (λ (bs : List ℕ). f a ++ bs) (range_more f (a + 1) n) ∙ sym (append_assoc (f a) (flat_map f (range_with_len (a + 1) n)) (f ((a + 1) + n))) ∙ ap (λ k. (f a ++ flat_map f (range_with_len (a + 1) n)) ++ f k) e
 
 -- one more number of a range
-pub said_more : (f : ℕ → List ℕ) (first number : ℕ) (text new : List ℕ) → first ≤ number → text ≡ flat_map f (range_with_len first (number - first)) → new ≡ text ++ f number
-    → new ≡ flat_map f (range_with_len first ((number + 1) - first))
-said_more f first number text new h e g =
+pub said_more : (f : ℕ → List ℕ) (first number : ℕ) (front text new : List ℕ) → first ≤ number → text ≡ front ++ flat_map f (range_with_len first (number - first)) → new ≡ text ++ f number
+    → new ≡ front ++ flat_map f (range_with_len first ((number + 1) - first))
+said_more f first number front text new h e g =
     let k : first + (number - first) ≡ number = omega arith in
     let m : suc (number - first) ≡ (number + 1) - first = omega arith in
-    g ∙ ap (λ (bs : List ℕ). bs ++ f number) e ∙ ap (λ j. flat_map f (range_with_len first (number - first)) ++ f j) (sym k)
-    ∙ sym (range_more f first (number - first)) ∙ ap (λ j. flat_map f (range_with_len first j)) m
+    let told = flat_map f (range_with_len first (number - first)) in
+    g ∙ ap (λ (bs : List ℕ). bs ++ f number) e ∙ append_assoc front told (f number)
+    ∙ ap (λ (bs : List ℕ). front ++ bs) (ap (λ j. told ++ f j) (sym k) ∙ sym (range_more f first (number - first)) ∙ ap (λ j. flat_map f (range_with_len first j)) m)

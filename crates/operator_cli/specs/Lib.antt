@@ -1,6 +1,5 @@
 pub mod Faults
 pub mod Lines
-pub mod Pieces
 pub mod Settings
 pub mod Texts
 pub mod Outputs

@@ -1,5 +1,5 @@
 -- What the program writes for an input, and its status.
-use Rattle.std.specs.Prelude.{◌≡◌, ◌⊎◌, ℕ, ◌+◌, ◌==◌, nat_lt, Vec, Bool, true, false, if◌then◌else◌, List, [], ◌∷◌, ◌++◌, length, Option, Some, None, Result, Ok, Err, codes, string_bytes}
+use Rattle.std.specs.Prelude.{◌≡◌, ◌⊎◌, ℕ, ◌+◌, ◌==◌, nat_lt, Vec, Bool, true, false, if◌then◌else◌, List, [], ◌∷◌, ◌++◌, length, Option, Some, None, Result, Ok, Err, codes}
 use Rattle.std.specs.Str.{bytes_eq}
 use Rattle.std.specs.Global.{Global}
 use Rattle.std.specs.Io.KnownBytes.{Appends}
@@ -7,7 +7,6 @@ use Rattle.world_machine.specs.declared.exact.ExactWorld.{ExactWorld}
 use Rattle.world_machine.specs.Events.{action_of}
 use Rattle.world_machine.specs.ExactWorlds.{Steps, step, opening, inside}
 use Rattle.world_machine.specs.Faults.{fault_number}
-use Rattle.operator_cli.specs.declared.answers.Answer as code
 use Rattle.operator_cli.specs.declared.faults.LineFault.{LineFault}
 use Rattle.operator_cli.specs.declared.faults.LineFault.TheVariants as bad
 use Rattle.operator_cli.specs.declared.faults.ServeFault.{ServeFault}
@@ -20,14 +19,14 @@ use Rattle.operator_cli.specs.declared.heads.StartFault.{StartFault}
 use Rattle.operator_cli.specs.declared.heads.StartFault.TheVariants as start
 use Rattle.operator_cli.specs.declared.lines.Line.{Line}
 use Rattle.operator_cli.specs.declared.lines.Line.TheVariants as line
-use Rattle.operator_cli.specs.declared.pieces.End.{End}
-use Rattle.operator_cli.specs.declared.pieces.End.TheVariants.{LineFeed, Input, Limit}
+use Rattle.line_streams.specs.declared.reading.End.{End}
+use Rattle.line_streams.specs.declared.reading.End.TheVariants.{LineFeed, Input, Limit}
 use Rattle.operator_cli.specs.declared.script.Judged.{Judged}
 use Rattle.operator_cli.specs.declared.script.Judged.TheVariants as judged
 use Rattle.operator_cli.specs.declared.settings.Settings.{Settings}
 use Rattle.operator_cli.specs.Faults.{line_fault_number, settings_fault_number}
 use Rattle.operator_cli.specs.Lines.{line_of}
-use Rattle.operator_cli.specs.Pieces.{pieces, KnownLeft, ReadsPiece, AppendsBeginning}
+use Rattle.line_streams.specs.Streams.{pieces, KnownLeft, ReadsPiece, AppendsBeginning}
 use Rattle.operator_cli.specs.Settings.{settings_of, Refuses}
 use Rattle.operator_cli.specs.Texts.{outcome_text, refused_text, inside_text, line_fault_text, settings_fault_text}
 
@@ -105,10 +104,10 @@ parts_output (Ok parts) = settings_output (settings_of parts.0) parts.1
 unfoldable pub output_of : List ℕ → Output
 output_of input = parts_output (head_of (pieces input))
 
--- What a call told, of what there was to tell; after want of memory nothing.
-abbrev pub Tells : Told → Result code.Answer ServeFault → ExactWorld → Type 0
-Tells t (Ok a) w = (string_bytes a.text ≡ t.text) × (a.refused ≡ t.refused) × (w ≡ t.world)
-Tells t (Err e) w = e ≡ Memory
+-- What a call added to a text, of what there was to tell; after want of memory nothing is said.
+abbrev pub Tells : Told → List ℕ → List ℕ → Result Bool ServeFault → ExactWorld → Type 0
+Tells t old new (Ok refused) w = (new ≡ old ++ t.text) × (refused ≡ t.refused) × (w ≡ t.world)
+Tells t old new (Err e) w = e ≡ Memory
 
 -- The same, written.
 abbrev pub Puts : Told → Option (List ℕ) → Option (List ℕ) → Result Bool ServeFault → ExactWorld → Type 0
@@ -143,9 +142,15 @@ abbrev pub WritesLines : ExactWorld → Option (List ℕ) → Option (List ℕ) 
 WritesLines w None old new r = Unit {0}
 WritesLines w (Some xs) old new r = Writes (lines_output w 1 (lines_in (pieces xs))) old new r
 
+-- How a run ended, with its answer so far: what was gathered was written, or after a fault a
+-- beginning of it.
+abbrev pub Finishes : Option (List ℕ) → Option (List ℕ) → List ℕ → Result ℕ ServeFault → Result ℕ ServeFault → Type 0
+Finishes old new gathered came (Ok status) = (came ≡ Ok status) × Appends old new gathered
+Finishes old new gathered came (Err e) = AppendsBeginning old new gathered
+
 -- how the next piece of the head was read
 abbrev pub HeadPiece : Option (List ℕ) → Option (List ℕ) → List ℕ → Result End StartFault → Type 0
-HeadPiece old new piece (Ok end) = ReadsPiece HEAD_ROOM old new piece (Ok end)
+HeadPiece old new piece (Ok end) = ReadsPiece HEAD_ROOM old new piece end
 HeadPiece old new piece (Err e) = (e ≡ start.Read) ⊎ (e ≡ start.Settings settings.Memory)
 
 -- What a call read as the settings' text, of known bytes: what stands before the line of dashes, and

@@ -1,75 +1,59 @@
 // What one line of a script does, and what it prints.
 
-ghost use Rattle.std.specs.Prelude.{◌≡◌};
+ghost use Rattle.std.specs.Prelude.{string_bytes};
 ghost use Rattle.world_machine.specs.Events.{action_of};
 ghost use Rattle.world_machine.specs.ExactWorlds.{step};
 ghost use Rattle.operator_cli.specs.Outputs.{Tells, told, told_step};
 
 use crate::ServeFault;
 use crate::lines::Line;
-use crate::texts::{effect_text, inside_text, refused_text};
+use crate::texts::{push_effect, push_inside, push_refused};
 use lock_messages::ResourceName;
-use std::alloc::Global;
 use world_machine::laws::said_numbers_fit;
 use world_machine::{Event, StepFault, World};
 
-/// What an event or a query prints, and whether it was refused.
-#[derive(Debug, Drop)]
-pub struct Answer {
-    pub text: String,
-    pub refused: bool,
-}
-
 /// Takes an event.
-fn take_event(alloc: Global, world: &mut World, event: &Event) -> Result<Answer, ServeFault>
-    ensures { Tells (told_step world.old (step world.old (action_of event.now))) result world.new }
+fn take_event(world: &mut World, event: &Event, text: &mut String) -> Result<bool, ServeFault>
+    ensures { Tells (told_step world.old (step world.old (action_of event.now))) (string_bytes text.old) (string_bytes text.new) result world.new }
 {
     said_numbers_fit();
     match world.step(event) {
         Err(StepFault::Memory) => Err(ServeFault::Memory),
         Err(fault) => {
-            let Ok(text) = refused_text(alloc, fault.number()) else {
+            if push_refused(text, fault.number()).is_err() {
                 return Err(ServeFault::Memory);
-            };
-            Ok(Answer {
-                text,
-                refused: true,
-            })
+            }
+            Ok(true)
         }
         Ok(effect) => {
-            let Ok(text) = effect_text(alloc, world, &effect) else {
+            if push_effect(text, world, &effect).is_err() {
                 return Err(ServeFault::Memory);
-            };
-            Ok(Answer {
-                text,
-                refused: false,
-            })
+            }
+            Ok(false)
         }
     }
 }
 
 /// Who is inside the resource.
-fn ask_inside(alloc: Global, world: &World, resource: &ResourceName) -> Result<Answer, ServeFault>
-    ensures { Tells (told world.now (Line.Inside resource.now)) result world.now }
+fn ask_inside(world: &World, resource: &ResourceName, text: &mut String) -> Result<bool, ServeFault>
+    ensures { Tells (told world.now (Line.Inside resource.now)) (string_bytes text.old) (string_bytes text.new) result world.now }
 {
     let Ok(tickets) = world.inside(resource) else {
         return Err(ServeFault::Memory);
     };
-    let Ok(text) = inside_text(alloc, resource, tickets.as_slice()) else {
+    if push_inside(text, resource, tickets.as_slice()).is_err() {
         return Err(ServeFault::Memory);
-    };
-    Ok(Answer {
-        text,
-        refused: false,
-    })
+    }
+    Ok(false)
 }
 
-/// Does what a line says. The only fault is want of memory.
-pub fn answer_line(alloc: Global, world: &mut World, line: &Line) -> Result<Answer, ServeFault>
-    ensures { Tells (told world.old line.now) result world.new }
+/// Does what a line says, adds what it prints, and answers whether it was refused. The only fault is
+/// want of memory.
+pub fn answer_line(world: &mut World, line: &Line, text: &mut String) -> Result<bool, ServeFault>
+    ensures { Tells (told world.old line.now) (string_bytes text.old) (string_bytes text.new) result world.new }
 {
     match line {
-        Line::Event(event) => take_event(alloc, world, event),
-        Line::Inside(resource) => ask_inside(alloc, world, resource),
+        Line::Event(event) => take_event(world, event, text),
+        Line::Inside(resource) => ask_inside(world, resource, text),
     }
 }

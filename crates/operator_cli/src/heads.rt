@@ -5,9 +5,9 @@ ghost use Rattle.lock_messages.specs.declared.ids.TheConstants.{MAX_CLIENTS};
 ghost use Rattle.std.specs.Str.{bytes_eq};
 ghost use Rattle.operator_cli.specs.Outputs.{HeadPiece, FindsHead, Starts, dashes};
 
-use crate::pieces::{End, Source};
+use crate::SettingsFault;
 use crate::settings::{Settings, read_settings};
-use crate::{ServeFault, SettingsFault};
+use line_streams::{End, LineReader, StreamFault};
 use std::alloc::{AllocError, Global};
 use std::io::Read;
 
@@ -33,12 +33,12 @@ fn push_line(head: &mut Vec<u8>, line: &[u8]) -> Result<(), AllocError>
 }
 
 /// Reads the next piece of the head.
-fn next_piece<R: Read>(source: &mut Source<R>, piece: &mut Vec<u8>) -> Result<End, StartFault>
+fn next_piece<R: Read>(source: &mut LineReader<R>, piece: &mut Vec<u8>) -> Result<End, StartFault>
     ensures { HeadPiece source.old source.new piece.new.items result }
 {
-    match source.read_piece(piece, HEAD_ROOM) {
+    match source.read_line(piece, HEAD_ROOM) {
         Ok(end) => Ok(end),
-        Err(ServeFault::Memory) => Err(StartFault::Settings(SettingsFault::Memory)),
+        Err(StreamFault::Memory) => Err(StartFault::Settings(SettingsFault::Memory)),
         Err(_) => Err(StartFault::Read),
     }
 }
@@ -51,7 +51,7 @@ fn is_dashes(piece: &[u8]) -> bool
 }
 
 /// Reads up to the line of dashes, and answers what stands before it.
-fn read_head<R: Read>(alloc: Global, source: &mut Source<R>) -> Result<Vec<u8>, StartFault>
+fn read_head<R: Read>(alloc: Global, source: &mut LineReader<R>) -> Result<Vec<u8>, StartFault>
     ensures { FindsHead source.old source.new result }
 {
     let mut head = Vec::new(alloc);
@@ -83,7 +83,10 @@ fn read_head<R: Read>(alloc: Global, source: &mut Source<R>) -> Result<Vec<u8>, 
 }
 
 /// Reads the settings.
-pub fn read_start<R: Read>(alloc: Global, source: &mut Source<R>) -> Result<Settings, StartFault>
+pub fn read_start<R: Read>(
+    alloc: Global,
+    source: &mut LineReader<R>,
+) -> Result<Settings, StartFault>
     ensures settings { Starts source.old source.new result }
     ensures in_range { IfOk result (λ s. (1 ≤ s.clients) × (s.clients ≤ MAX_CLIENTS)) }
 {

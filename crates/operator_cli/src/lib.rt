@@ -14,8 +14,8 @@
 //! streamed: beside the world, the settings and one line are all that is kept of it. `laws` says
 //! that each event and each number has one spelling.
 //!
-//! It stands on `lock_messages`, `lock_model`, `vote_weights`, `world_machine`, `toml` and
-//! `thiserror`.
+//! It stands on `line_streams`, `lock_messages`, `lock_model`, `vote_weights`, `world_machine`,
+//! `toml` and `thiserror`.
 #![tactic(auto)]
 
 mod answers;
@@ -25,7 +25,6 @@ mod faults;
 mod heads;
 pub mod laws;
 mod lines;
-mod pieces;
 mod script;
 mod serving;
 #[cfg(test)]

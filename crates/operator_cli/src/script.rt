@@ -1,16 +1,19 @@
 // The lines of a script, one after another.
 
-ghost use Rattle.std.specs.Prelude.{◌≡◌, ◌||◌};
+ghost use Rattle.std.specs.Prelude.{◌≡◌, ◌||◌, IfOk};
+ghost use Rattle.std.specs.Io.KnownBytes.{Keeps};
+ghost use Rattle.line_streams.specs.Streams.{ReadsPiece, Grows, with_gathered, Puts as PutsText};
 ghost use Rattle.operator_cli.specs.Faults.{line_fault_number};
 ghost use Rattle.operator_cli.specs.Lines.{line_of};
+ghost use Rattle.operator_cli.specs.declared.lines.TheConstants.{MAX_LINE_LEN};
 ghost use Rattle.operator_cli.specs.Outputs.{Puts, Writes, WritesLines, told, judged_line, judged_piece, is_last, status_of};
 ghost use Rattle.operator_cli.specs.Texts.{line_fault_text};
 
 use crate::answers::answer_line;
 use crate::lines::{Line, MAX_LINE_LEN, read_line};
-use crate::pieces::{End, Source, put};
-use crate::texts::line_fault_text;
+use crate::texts::push_line_fault;
 use crate::{LineFault, ServeFault};
+use line_streams::{End, Gathered, LineReader, StreamFault};
 use std::alloc::Global;
 use std::io::{Read, Write};
 use world_machine::World;
@@ -71,58 +74,125 @@ fn either(a: bool, b: bool) -> bool
     a || b
 }
 
+/// Gathers a text that is to be written.
+fn put<W: Write>(out: &mut Gathered, writer: &mut W, text: &[u8]) -> Result<(), ServeFault>
+    ensures text { PutsText (with_gathered (W.contents writer.old) out.old) (with_gathered (W.contents writer.new) out.new) text.now result }
+    ensures grows { Grows (W.contents writer.old) (W.contents writer.new) }
+{
+    match out.put(writer, text) {
+        Ok(()) => Ok(()),
+        Err(_) => Err(ServeFault::Write),
+    }
+}
+
 /// Does what a line says and prints it; answers whether it was refused.
 fn tell<W: Write>(
-    alloc: Global,
     world: &mut World,
     line: &Line,
+    text: &mut String,
+    out: &mut Gathered,
     writer: &mut W,
 ) -> Result<bool, ServeFault>
-    ensures { Puts (told world.old line.now) (W.contents writer.old) (W.contents writer.new) result world.new }
+    ensures told { Puts (told world.old line.now) (with_gathered (W.contents writer.old) out.old) (with_gathered (W.contents writer.new) out.new) result world.new }
+    ensures grows { Grows (W.contents writer.old) (W.contents writer.new) }
 {
-    let answer = answer_line(alloc, world, line)?;
-    put(writer, answer.text.as_bytes())?;
-    Ok(answer.refused)
+    text.clear();
+    let refused = answer_line(world, line, text)?;
+    put(out, writer, text.as_bytes())?;
+    Ok(refused)
 }
 
 /// Prints that a line is bad, which is the end.
 fn tell_fault<W: Write>(
-    alloc: Global,
     number: u64,
     fault: LineFault,
+    text: &mut String,
+    out: &mut Gathered,
     writer: &mut W,
 ) -> Result<u8, ServeFault>
-    ensures { Writes (record { text = line_fault_text number (line_fault_number fault); status = 1 }) (W.contents writer.old) (W.contents writer.new) result }
+    ensures told { Writes (record { text = line_fault_text number (line_fault_number fault); status = 1 }) (with_gathered (W.contents writer.old) out.old) (with_gathered (W.contents writer.new) out.new) result }
+    ensures grows { Grows (W.contents writer.old) (W.contents writer.new) }
 {
-    let Ok(text) = line_fault_text(alloc, number, fault.number()) else {
+    text.clear();
+    if push_line_fault(text, number, fault.number()).is_err() {
         return Err(ServeFault::Memory);
-    };
-    put(writer, text.as_bytes())?;
+    }
+    put(out, writer, text.as_bytes())?;
     Ok(1)
+}
+
+/// Lets out what is gathered, unless a whole line is held: else a person would wait for an answer,
+/// and the program for the person.
+fn let_out_before_reading<R: Read, W: Write>(
+    source: &LineReader<R>,
+    out: &mut Gathered,
+    writer: &mut W,
+) -> Result<(), ServeFault>
+    ensures kept { Keeps (with_gathered (W.contents writer.old) out.old) (with_gathered (W.contents writer.new) out.new) }
+    ensures grows { Grows (W.contents writer.old) (W.contents writer.new) }
+{
+    if source.has_line() {
+        return Ok(());
+    }
+    match out.let_out(writer) {
+        Ok(()) => Ok(()),
+        Err(_) => Err(ServeFault::Write),
+    }
+}
+
+/// Reads a line.
+fn read_piece<R: Read>(source: &mut LineReader<R>, piece: &mut Vec<u8>) -> Result<End, ServeFault>
+    ensures { IfOk result (λ end. ReadsPiece MAX_LINE_LEN source.old source.new piece.new.items end) }
+{
+    match source.read_line(piece, MAX_LINE_LEN) {
+        Ok(end) => Ok(end),
+        Err(StreamFault::Memory) => Err(ServeFault::Memory),
+        Err(_) => Err(ServeFault::Read),
+    }
+}
+
+/// Reads the next line, and lets out before what is gathered if the reader has to be asked.
+fn next_line<R: Read, W: Write>(
+    source: &mut LineReader<R>,
+    piece: &mut Vec<u8>,
+    out: &mut Gathered,
+    writer: &mut W,
+) -> Result<End, ServeFault>
+    ensures line { IfOk result (λ end. ReadsPiece MAX_LINE_LEN source.old source.new piece.new.items end) }
+    ensures kept { Keeps (with_gathered (W.contents writer.old) out.old) (with_gathered (W.contents writer.new) out.new) }
+    ensures grows { Grows (W.contents writer.old) (W.contents writer.new) }
+{
+    match let_out_before_reading(source, out, writer) {
+        Ok(()) => read_piece(source, piece),
+        Err(fault) => Err(fault),
+    }
 }
 
 /// Does what the lines say and prints it, up to the end or to a bad line; answers the status.
 pub fn tell_lines<R: Read, W: Write>(
     alloc: Global,
     world: &mut World,
-    source: &mut Source<R>,
+    source: &mut LineReader<R>,
+    out: &mut Gathered,
     writer: &mut W,
 ) -> Result<u8, ServeFault>
-    ensures { WritesLines world.old source.old (W.contents writer.old) (W.contents writer.new) result }
+    ensures told { WritesLines world.old source.old (with_gathered (W.contents writer.old) out.old) (with_gathered (W.contents writer.new) out.new) result }
+    ensures grows { Grows (W.contents writer.old) (W.contents writer.new) }
 {
     let mut piece = Vec::new(alloc);
+    let mut text = String::new(alloc);
     let mut refused = false;
     for number in 1..u64::MAX {
-        let end = match source.read_piece(&mut piece, MAX_LINE_LEN) {
+        let end = match next_line(source, &mut piece, out, writer) {
             Ok(end) => end,
             Err(fault) => return Err(fault),
         };
         let line = match judged_piece(end, piece.as_slice()) {
             Judged::End => return Ok(status_of(refused)),
-            Judged::Bad(fault) => return tell_fault(alloc, number, fault, writer),
+            Judged::Bad(fault) => return tell_fault(number, fault, &mut text, out, writer),
             Judged::Says(line) => line,
         };
-        let now_refused = match tell(alloc, world, &line, writer) {
+        let now_refused = match tell(world, &line, &mut text, out, writer) {
             Ok(now_refused) => now_refused,
             Err(fault) => return Err(fault),
         };

@@ -1,14 +1,18 @@
 // A whole run of the program, from the bytes that come in to the bytes that go out.
 
-ghost use Rattle.operator_cli.specs.Outputs.{Serves, Writes, RefusesStart, refusal_output};
+ghost use Rattle.std.specs.Prelude.{◌≡◌};
+ghost use Rattle.vote_weights.specs.Faults.{fault_number};
+ghost use Rattle.operator_cli.specs.Faults.{settings_fault_number};
+ghost use Rattle.operator_cli.specs.Outputs.{Serves, Writes, WritesLines, Finishes, RefusesStart, refusal_output};
+ghost use Rattle.operator_cli.specs.Texts.{settings_fault_text};
 
 use crate::heads::{StartFault, read_start};
-use crate::pieces::{MAX_READS, Source, put};
 use crate::script::tell_lines;
-use crate::texts::settings_fault_text;
 use crate::{ServeFault, SettingsFault};
+use line_streams::{Gathered, LineReader, MAX_READS, write_text};
 use std::alloc::Global;
 use std::io::{Read, Write};
+use vote_weights::BallotFault;
 use world_machine::World;
 
 /// What the program is asked to do.
@@ -18,33 +22,86 @@ pub enum Order {
     Script,
 }
 
+/// That numbers make no ballot.
+fn ballot_text(fault: BallotFault) -> &'static str
+    ensures { result.now ≡ settings_fault_text (fault_number fault) }
+{
+    match fault {
+        BallotFault::NoNode => "settings fault 201\n",
+        BallotFault::TooManyNodes => "settings fault 202\n",
+        BallotFault::OverTotal => "settings fault 203\n",
+        BallotFault::ReadsMissWrites => "settings fault 204\n",
+        BallotFault::WritesMiss => "settings fault 205\n",
+    }
+}
+
+/// That settings are refused: a fixed text, so that want of memory can be told without memory.
+fn settings_text(fault: SettingsFault) -> &'static str
+    ensures { result.now ≡ settings_fault_text (settings_fault_number fault) }
+{
+    match fault {
+        SettingsFault::NoDocument => "settings fault 921\n",
+        SettingsFault::Value => "settings fault 922\n",
+        SettingsFault::UnknownKey => "settings fault 923\n",
+        SettingsFault::NoEnd => "settings fault 924\n",
+        SettingsFault::Memory => "settings fault 925\n",
+        SettingsFault::Ballot(fault) => ballot_text(fault),
+    }
+}
+
 /// Prints that settings are refused.
-fn refuse_settings<W: Write>(
-    alloc: Global,
-    fault: SettingsFault,
-    writer: &mut W,
-) -> Result<u8, ServeFault>
+fn refuse_settings<W: Write>(fault: SettingsFault, writer: &mut W) -> Result<u8, ServeFault>
     ensures { Writes (refusal_output fault) (W.contents writer.old) (W.contents writer.new) result }
 {
-    let Ok(text) = settings_fault_text(alloc, fault.number()) else {
-        return Err(ServeFault::Memory);
-    };
-    put(writer, text.as_bytes())?;
+    if write_text(writer, settings_text(fault).as_bytes()).is_err() {
+        return Err(ServeFault::Write);
+    }
     Ok(2)
 }
 
 /// Ends a run that has no settings.
-fn refuse_start<W: Write>(
-    alloc: Global,
-    fault: StartFault,
-    writer: &mut W,
-) -> Result<u8, ServeFault>
+fn refuse_start<W: Write>(fault: StartFault, writer: &mut W) -> Result<u8, ServeFault>
     ensures { RefusesStart fault (W.contents writer.old) (W.contents writer.new) result }
 {
     match fault {
         StartFault::Read => Err(ServeFault::Read),
-        StartFault::Settings(fault) => refuse_settings(alloc, fault, writer),
+        StartFault::Settings(fault) => refuse_settings(fault, writer),
     }
+}
+
+/// Ends a run: lets out what is still gathered. Where the run met a fault, it stays the run's answer;
+/// after one of writing nothing more is written.
+fn finish<W: Write>(
+    came: Result<u8, ServeFault>,
+    out: &mut Gathered,
+    writer: &mut W,
+) -> Result<u8, ServeFault>
+    ensures { Finishes (W.contents writer.old) (W.contents writer.new) out.old came result }
+{
+    if let Err(ServeFault::Write) = came {
+        return Err(ServeFault::Write);
+    }
+    if out.let_out(writer).is_ok() {
+        return came;
+    }
+    match came {
+        Ok(_) => Err(ServeFault::Write),
+        Err(fault) => Err(fault),
+    }
+}
+
+/// Does what the lines say and prints it.
+fn serve_lines<R: Read, W: Write>(
+    alloc: Global,
+    world: &mut World,
+    source: &mut LineReader<R>,
+    writer: &mut W,
+) -> Result<u8, ServeFault>
+    ensures { WritesLines world.old source.old (W.contents writer.old) (W.contents writer.new) result }
+{
+    let mut out = Gathered::new();
+    let came = tell_lines(alloc, world, source, &mut out, writer);
+    finish(came, &mut out, writer)
 }
 
 /// Runs a script.
@@ -57,15 +114,15 @@ where
     R: Drop,
     ensures { Serves (R.remaining reader) (W.contents writer.old) (W.contents writer.new) result }
 {
-    let mut source = Source::new(reader, MAX_READS);
+    let mut source = LineReader::new(reader, MAX_READS);
     let settings = match read_start(alloc, &mut source) {
         Ok(settings) => settings,
-        Err(fault) => return refuse_start(alloc, fault, writer),
+        Err(fault) => return refuse_start(fault, writer),
     };
     let Ok(mut world) = World::start(alloc, settings.ballot, settings.clients) else {
         return Err(ServeFault::Memory);
     };
-    tell_lines(alloc, &mut world, &mut source, writer)
+    serve_lines(alloc, &mut world, &mut source, writer)
 }
 
 /// Does what the order says with the bytes of the reader, and answers the status of the program.

@@ -1,7 +1,6 @@
 // Readers that give little, inputs that are cut, and readers, writers and memory that fail.
 
 use crate::examples::{FIRST_READER, FIRST_READER_OUT};
-use crate::pieces::Source;
 use crate::{Order, ServeFault, serve};
 use std::alloc::Global;
 use std::io;
@@ -144,8 +143,8 @@ fn failing_writer(rt: HostRuntime) -> Result<(), Fail> {
             }
         }
     }
-    // One write for each of the 17 lines.
-    assert_eq!(rt; failed, 17);
+    // One write for all lines.
+    assert_eq!(rt; failed, 1);
     Ok(())
 }
 
@@ -235,15 +234,6 @@ fn cut_settings(rt: HostRuntime) -> Result<(), Fail> {
             assert_eq!(rt; status, 2);
         }
     }
-    Ok(())
-}
-
-#[test]
-fn spent_reads(rt: HostRuntime) -> Result<(), Fail> {
-    let mut source = Source::new(b"ab".as_slice(), 1);
-    assert!(rt; source.next_byte() == Ok(Some(b'a')));
-    assert!(rt; source.next_byte() == Ok(Some(b'b')));
-    assert!(rt; source.next_byte() == Err(ServeFault::Read));
     Ok(())
 }
 

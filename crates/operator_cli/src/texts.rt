@@ -1,15 +1,15 @@
 // What a script prints.
 
-ghost use Rattle.std.specs.Prelude.{◌≡◌, ◌+◌, ◌<◌, ◌≤◌, ◌++◌, IfOk, OnOk, string_bytes};
+ghost use Rattle.std.specs.Prelude.{◌≡◌, ◌+◌, ◌<◌, ◌≤◌, ◌++◌, OnOk, string_bytes};
 ghost use Rattle.std.specs.List.{flat_map};
 ghost use Rattle.world_machine.specs.Events.{outcome_of};
 ghost use Rattle.world_machine.specs.Numbers.{SaidFits};
-ghost use Rattle.operator_cli.specs.Texts.{sent_text, found_text, said_text, took_text, heard_text, outcome_text, refused_text, member_text, other_text, members_text, inside_text, line_fault_text, settings_fault_text};
+ghost use Rattle.operator_cli.specs.Texts.{sent_text, found_text, said_text, took_text, heard_text, outcome_text, refused_text, member_text, other_text, members_text, inside_text, line_fault_text};
 ghost use Rattle.world_machine.specs.ExactWorlds.{numbered};
 
 use lock_messages::{Message, ResourceName, Ticket};
 use lock_model::Heard;
-use std::alloc::{AllocError, Global};
+use std::alloc::AllocError;
 use world_machine::{Effect, MAX_MESSAGES, World};
 
 /// Adds the line of a message that was sent.
@@ -17,15 +17,6 @@ fn push_sent(text: &mut String, number: u32, message: &Message) -> Result<(), Al
     ensures { OnOk result (string_bytes text.new ≡ string_bytes text.old ++ sent_text number message.now) }
 {
     writeln!(text, "sent {number} {message}")
-}
-
-/// The line of a message that was sent.
-fn sent_text(alloc: Global, number: u32, message: &Message) -> Result<String, AllocError>
-    ensures { IfOk result (λ s. string_bytes s ≡ sent_text number message.now) }
-{
-    let mut text = String::new(alloc);
-    push_sent(&mut text, number, message)?;
-    Ok(text)
 }
 
 /// The line of the message with this number, if one has it.
@@ -38,17 +29,16 @@ fn push_found(text: &mut String, world: &World, number: u32) -> Result<(), Alloc
     Ok(())
 }
 
-/// The lines of so many messages, from this number on.
+/// Adds the lines of so many messages, from this number on.
 #[tactic(auto, unfolding(crate::specs::Texts::said_text))]
-fn said_text(alloc: Global, world: &World, first: u32, count: u32) -> Result<String, AllocError>
+fn push_said(text: &mut String, world: &World, first: u32, count: u32) -> Result<(), AllocError>
     requires { 0 < count → first + count ≤ MAX_MESSAGES + 1 }
-    ensures { IfOk result (λ s. string_bytes s ≡ said_text world.now.sent first count) }
+    ensures { OnOk result (string_bytes text.new ≡ string_bytes text.old ++ said_text world.now.sent first count) }
 {
-    let mut text = String::new(alloc);
     for number in first..first + count {
-        push_found(&mut text, world, number)?;
+        push_found(text, world, number)?;
     }
-    Ok(text)
+    Ok(())
 }
 
 /// What a client made of a message.
@@ -64,34 +54,34 @@ fn heard_text(heard: Heard) -> &'static str
     }
 }
 
-/// What an event prints, in the world after it.
-pub(crate) fn effect_text(
-    alloc: Global,
+/// Adds what an event prints, in the world after it.
+pub(crate) fn push_effect(
+    text: &mut String,
     world: &World,
     effect: &Effect,
-) -> Result<String, AllocError>
+) -> Result<(), AllocError>
     requires { SaidFits (outcome_of effect.now) }
-    ensures { IfOk result (λ s. string_bytes s ≡ outcome_text world.now.sent (outcome_of effect.now)) }
+    ensures { OnOk result (string_bytes text.new ≡ string_bytes text.old ++ outcome_text world.now.sent (outcome_of effect.now)) }
 {
     match *effect {
-        Effect::Chose(attempt) => format!(in alloc; "chose {attempt}\n"),
-        Effect::Tried => String::from_str(alloc, "tried\n"),
-        Effect::Kept => String::from_str(alloc, "kept\n"),
-        Effect::Sent(number, message) => sent_text(alloc, number, &message),
-        Effect::Said { first, count } => said_text(alloc, world, first, count),
-        Effect::Took(_, true) => String::from_str(alloc, "changed\n"),
-        Effect::Took(_, false) => String::from_str(alloc, "same\n"),
-        Effect::Heard(_, heard) => String::from_str(alloc, heard_text(heard)),
-        Effect::Inside => String::from_str(alloc, "inside\n"),
-        Effect::Outside => String::from_str(alloc, "outside\n"),
+        Effect::Chose(attempt) => writeln!(text, "chose {attempt}"),
+        Effect::Tried => text.push_str("tried\n"),
+        Effect::Kept => text.push_str("kept\n"),
+        Effect::Sent(number, message) => push_sent(text, number, &message),
+        Effect::Said { first, count } => push_said(text, world, first, count),
+        Effect::Took(_, true) => text.push_str("changed\n"),
+        Effect::Took(_, false) => text.push_str("same\n"),
+        Effect::Heard(_, heard) => text.push_str(heard_text(heard)),
+        Effect::Inside => text.push_str("inside\n"),
+        Effect::Outside => text.push_str("outside\n"),
     }
 }
 
-/// That an event was refused.
-pub fn refused_text(alloc: Global, number: u16) -> Result<String, AllocError>
-    ensures { IfOk result (λ s. string_bytes s ≡ refused_text number) }
+/// Adds that an event was refused.
+pub fn push_refused(text: &mut String, number: u16) -> Result<(), AllocError>
+    ensures { OnOk result (string_bytes text.new ≡ string_bytes text.old ++ refused_text number) }
 {
-    format!(in alloc; "refused {number}\n")
+    writeln!(text, "refused {number}")
 }
 
 /// Adds a client that is inside.
@@ -124,32 +114,22 @@ fn push_members(text: &mut String, tickets: &[Ticket]) -> Result<(), AllocError>
     push_others(text, others)
 }
 
-/// Who is inside the resource.
-pub fn inside_text(
-    alloc: Global,
+/// Adds who is inside the resource.
+pub fn push_inside(
+    text: &mut String,
     resource: &ResourceName,
     tickets: &[Ticket],
-) -> Result<String, AllocError>
-    ensures { IfOk result (λ s. string_bytes s ≡ inside_text resource.now tickets.now) }
+) -> Result<(), AllocError>
+    ensures { OnOk result (string_bytes text.new ≡ string_bytes text.old ++ inside_text resource.now tickets.now) }
 {
-    let mut text = format!(in alloc; "inside {resource}: ")?;
-    push_members(&mut text, tickets)?;
-    text.push_str("\n")?;
-    Ok(text)
+    write!(text, "inside {resource}: ")?;
+    push_members(text, tickets)?;
+    text.push_str("\n")
 }
 
-/// That a line is no event and no query.
-pub fn line_fault_text(alloc: Global, line: u64, number: u16) -> Result<String, AllocError>
-    ensures { IfOk result (λ s. string_bytes s ≡ line_fault_text line number) }
+/// Adds that a line is no event and no query.
+pub fn push_line_fault(text: &mut String, line: u64, number: u16) -> Result<(), AllocError>
+    ensures { OnOk result (string_bytes text.new ≡ string_bytes text.old ++ line_fault_text line number) }
 {
-    let mut text = String::new(alloc);
-    writeln!(text, "line {line} fault {number}")?;
-    Ok(text)
-}
-
-/// That settings are refused.
-pub fn settings_fault_text(alloc: Global, number: u16) -> Result<String, AllocError>
-    ensures { IfOk result (λ s. string_bytes s ≡ settings_fault_text number) }
-{
-    format!(in alloc; "settings fault {number}\n")
+    writeln!(text, "line {line} fault {number}")
 }

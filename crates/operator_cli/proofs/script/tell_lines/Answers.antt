@@ -1,41 +1,89 @@
 use Rattle.std.proofs.Common.{◌∙◌, List, ℕ, sym, ap}
+use Rattle.line_streams.specs.Streams.{with_gathered}
+use Rattle.operator_cli.specs.declared.faults.ServeFault.TheVariants as fault
 use Rattle.operator_cli.specs.Outputs.{judged_piece}
-use Rattle.operator_cli.proofs.ScriptFacts.{is_over, is_bad, breaks, goes_on, is_over_now}
+use Rattle.operator_cli.proofs.ScriptFacts.{so_far_kept, grows_on, stops, is_over, is_bad, breaks, goes_on, is_over_now}
 use Rattle.operator_cli.proofs.script.tell_lines.Goals as goal
 
-pub returns-in-End : goal.returns-in-End
-returns-in-End g c =
-    let out = g.W.Write.contents in
-    is_over c.args.world.now c.loop-number.world c.args.source.now c.loop-number.source c.read_piece.new.self (out c.args.writer.now) (out c.loop-number.writer)
-    c.loop-number.refused c.loop-number.number c.read_piece.new.piece.items c.in-Ok.end c.status_of.result c.loop-number.invariant c.in-Ok.ensures.piece
+pub returns-in-Err-clause-told : goal.returns-in-Err-clause-told
+returns-in-Err-clause-told g c =
+    let put = g.W.Write.contents in
+    let old = with_gathered (put c.args.writer.now) c.args.out.now in
+    let mid = with_gathered (put c.next_line.new.writer) c.next_line.new.out in
+    let h = so_far_kept c.args.world.now c.loop-number.world c.args.source.now c.loop-number.source old (with_gathered (put c.loop-number.writer) c.loop-number.out) mid c.loop-number.refused c.loop-number.number c.loop-number.invariant.so_far c.in-Err.ensures.kept in
+    stops c.args.world.now c.loop-number.world c.args.source.now c.loop-number.source old mid c.loop-number.refused c.loop-number.number c.in-Err.fault h
+
+pub returns-in-Err-clause-grows : goal.returns-in-Err-clause-grows
+returns-in-Err-clause-grows g c = grows_on _ _ _ c.loop-number.invariant.grown c.in-Err.ensures.grows
+
+pub returns-in-End-clause-told : goal.returns-in-End-clause-told
+returns-in-End-clause-told g c =
+    let put = g.W.Write.contents in
+    let old = with_gathered (put c.args.writer.now) c.args.out.now in
+    let mid = with_gathered (put c.next_line.new.writer) c.next_line.new.out in
+    let h = so_far_kept c.args.world.now c.loop-number.world c.args.source.now c.loop-number.source old (with_gathered (put c.loop-number.writer) c.loop-number.out) mid c.loop-number.refused c.loop-number.number c.loop-number.invariant.so_far c.in-Ok.ensures.kept in
+    is_over c.args.world.now c.loop-number.world c.args.source.now c.loop-number.source c.next_line.new.source old mid
+    c.loop-number.refused c.loop-number.number c.next_line.new.piece.items c.in-Ok.end c.status_of.result h c.in-Ok.ensures.line
     (ap (λ (p : List ℕ). judged_piece c.in-Ok.end p) (sym c.as_slice.ensures.value) ∙ sym c.judged_piece.ensures ∙ c.in-End.is) c.status_of.ensures
 
-pub returns-in-Bad : goal.returns-in-Bad
-returns-in-Bad g c =
-    let out = g.W.Write.contents in
-    is_bad c.args.world.now c.loop-number.world c.args.source.now c.loop-number.source c.read_piece.new.self (out c.args.writer.now) (out c.loop-number.writer) (out c.tell_fault.new.writer)
-    c.loop-number.refused c.loop-number.number c.read_piece.new.piece.items c.in-Ok.end c.in-Bad.fault c.tell_fault.result c.loop-number.invariant c.in-Ok.ensures.piece
-    (ap (λ (p : List ℕ). judged_piece c.in-Ok.end p) (sym c.as_slice.ensures.value) ∙ sym c.judged_piece.ensures ∙ c.in-Bad.is) c.tell_fault.ensures
+pub returns-in-End-clause-grows : goal.returns-in-End-clause-grows
+returns-in-End-clause-grows g c = grows_on _ _ _ c.loop-number.invariant.grown c.in-Ok.ensures.grows
 
-pub returns-in-Err-tell : goal.returns-in-Err-tell
-returns-in-Err-tell g c =
-    let out = g.W.Write.contents in
-    breaks c.args.world.now c.loop-number.world c.args.source.now c.loop-number.source c.read_piece.new.self (out c.args.writer.now) (out c.loop-number.writer) (out c.tell.new.writer)
-    c.loop-number.refused c.loop-number.number c.read_piece.new.piece.items c.in-Ok.end c.in-Says.line c.tell.new.world c.in-Err-tell.fault c.in-Err-tell.fault c.loop-number.invariant c.in-Ok.ensures.piece
-    (ap (λ (p : List ℕ). judged_piece c.in-Ok.end p) (sym c.as_slice.ensures.value) ∙ sym c.judged_piece.ensures ∙ c.in-Says.is) c.in-Err-tell.ensures
+pub returns-in-Bad-clause-told : goal.returns-in-Bad-clause-told
+returns-in-Bad-clause-told g c =
+    let put = g.W.Write.contents in
+    let old = with_gathered (put c.args.writer.now) c.args.out.now in
+    let mid = with_gathered (put c.next_line.new.writer) c.next_line.new.out in
+    let h = so_far_kept c.args.world.now c.loop-number.world c.args.source.now c.loop-number.source old (with_gathered (put c.loop-number.writer) c.loop-number.out) mid c.loop-number.refused c.loop-number.number c.loop-number.invariant.so_far c.in-Ok.ensures.kept in
+    is_bad c.args.world.now c.loop-number.world c.args.source.now c.loop-number.source c.next_line.new.source old mid (with_gathered (put c.tell_fault.new.writer) c.tell_fault.new.out)
+    c.loop-number.refused c.loop-number.number c.next_line.new.piece.items c.in-Ok.end c.in-Bad.fault c.tell_fault.result h c.in-Ok.ensures.line
+    (ap (λ (p : List ℕ). judged_piece c.in-Ok.end p) (sym c.as_slice.ensures.value) ∙ sym c.judged_piece.ensures ∙ c.in-Bad.is) c.tell_fault.ensures.told
 
-pub returns-then-is_last : goal.returns-then-is_last
-returns-then-is_last g c =
-    let out = g.W.Write.contents in
-    is_over_now c.args.world.now c.loop-number.world c.tell.new.world c.args.source.now c.loop-number.source c.read_piece.new.self (out c.args.writer.now) (out c.loop-number.writer) (out c.tell.new.writer)
-    c.loop-number.refused c.in-Ok-tell.now_refused c.either-refused.result c.loop-number.number c.read_piece.new.piece.items c.in-Ok.end c.in-Says.line c.status_of-then-is_last.result c.loop-number.invariant c.in-Ok.ensures.piece
-    (ap (λ (p : List ℕ). judged_piece c.in-Ok.end p) (sym c.as_slice.ensures.value) ∙ sym c.judged_piece.ensures ∙ c.in-Says.is) c.in-Ok-tell.ensures c.either-refused.ensures
+pub returns-in-Bad-clause-grows : goal.returns-in-Bad-clause-grows
+returns-in-Bad-clause-grows g c = grows_on _ _ _ (grows_on _ _ _ c.loop-number.invariant.grown c.in-Ok.ensures.grows) c.tell_fault.ensures.grows
+
+pub returns-in-Err-tell-clause-told : goal.returns-in-Err-tell-clause-told
+returns-in-Err-tell-clause-told g c =
+    let put = g.W.Write.contents in
+    let old = with_gathered (put c.args.writer.now) c.args.out.now in
+    let mid = with_gathered (put c.next_line.new.writer) c.next_line.new.out in
+    let h = so_far_kept c.args.world.now c.loop-number.world c.args.source.now c.loop-number.source old (with_gathered (put c.loop-number.writer) c.loop-number.out) mid c.loop-number.refused c.loop-number.number c.loop-number.invariant.so_far c.in-Ok.ensures.kept in
+    breaks c.args.world.now c.loop-number.world c.args.source.now c.loop-number.source c.next_line.new.source old mid (with_gathered (put c.tell.new.writer) c.tell.new.out)
+    c.loop-number.refused c.loop-number.number c.next_line.new.piece.items c.in-Ok.end c.in-Says.line c.tell.new.world c.in-Err-tell.fault c.in-Err-tell.fault h c.in-Ok.ensures.line
+    (ap (λ (p : List ℕ). judged_piece c.in-Ok.end p) (sym c.as_slice.ensures.value) ∙ sym c.judged_piece.ensures ∙ c.in-Says.is) c.in-Err-tell.ensures.told
+
+pub returns-in-Err-tell-clause-grows : goal.returns-in-Err-tell-clause-grows
+returns-in-Err-tell-clause-grows g c = grows_on _ _ _ (grows_on _ _ _ c.loop-number.invariant.grown c.in-Ok.ensures.grows) c.in-Err-tell.ensures.grows
+
+pub returns-then-is_last-clause-told : goal.returns-then-is_last-clause-told
+returns-then-is_last-clause-told g c =
+    let put = g.W.Write.contents in
+    let old = with_gathered (put c.args.writer.now) c.args.out.now in
+    let mid = with_gathered (put c.next_line.new.writer) c.next_line.new.out in
+    let h = so_far_kept c.args.world.now c.loop-number.world c.args.source.now c.loop-number.source old (with_gathered (put c.loop-number.writer) c.loop-number.out) mid c.loop-number.refused c.loop-number.number c.loop-number.invariant.so_far c.in-Ok.ensures.kept in
+    is_over_now c.args.world.now c.loop-number.world c.tell.new.world c.args.source.now c.loop-number.source c.next_line.new.source old mid (with_gathered (put c.tell.new.writer) c.tell.new.out)
+    c.loop-number.refused c.in-Ok-tell.now_refused c.either-refused.result c.loop-number.number c.next_line.new.piece.items c.in-Ok.end c.in-Says.line c.status_of-then-is_last.result h c.in-Ok.ensures.line
+    (ap (λ (p : List ℕ). judged_piece c.in-Ok.end p) (sym c.as_slice.ensures.value) ∙ sym c.judged_piece.ensures ∙ c.in-Says.is) c.in-Ok-tell.ensures.told c.either-refused.ensures
     (sym c.is_last.ensures ∙ c.if-is_last.true) c.status_of-then-is_last.ensures
+
+pub returns-then-is_last-clause-grows : goal.returns-then-is_last-clause-grows
+returns-then-is_last-clause-grows g c = grows_on _ _ _ (grows_on _ _ _ c.loop-number.invariant.grown c.in-Ok.ensures.grows) c.in-Ok-tell.ensures.grows
 
 pub loop-number-preserved : goal.loop-number-preserved
 loop-number-preserved g c =
-    let out = g.W.Write.contents in
-    goes_on c.args.world.now c.loop-number.world c.tell.new.world c.args.source.now c.loop-number.source c.read_piece.new.self (out c.args.writer.now) (out c.loop-number.writer) (out c.tell.new.writer)
-    c.loop-number.refused c.in-Ok-tell.now_refused c.either-refused.result c.loop-number.number c.read_piece.new.piece.items c.in-Ok.end c.in-Says.line c.loop-number.invariant c.in-Ok.ensures.piece
-    (ap (λ (p : List ℕ). judged_piece c.in-Ok.end p) (sym c.as_slice.ensures.value) ∙ sym c.judged_piece.ensures ∙ c.in-Says.is) c.in-Ok-tell.ensures c.either-refused.ensures
-    (sym c.is_last.ensures ∙ c.if-is_last.false)
+    let put = g.W.Write.contents in
+    let old = with_gathered (put c.args.writer.now) c.args.out.now in
+    let mid = with_gathered (put c.next_line.new.writer) c.next_line.new.out in
+    let h = so_far_kept c.args.world.now c.loop-number.world c.args.source.now c.loop-number.source old (with_gathered (put c.loop-number.writer) c.loop-number.out) mid c.loop-number.refused c.loop-number.number c.loop-number.invariant.so_far c.in-Ok.ensures.kept in
+    record {
+      so_far = goes_on c.args.world.now c.loop-number.world c.tell.new.world c.args.source.now c.loop-number.source c.next_line.new.source old mid (with_gathered (put c.tell.new.writer) c.tell.new.out)
+          c.loop-number.refused c.in-Ok-tell.now_refused c.either-refused.result c.loop-number.number c.next_line.new.piece.items c.in-Ok.end c.in-Says.line h c.in-Ok.ensures.line
+          (ap (λ (p : List ℕ). judged_piece c.in-Ok.end p) (sym c.as_slice.ensures.value) ∙ sym c.judged_piece.ensures ∙ c.in-Says.is) c.in-Ok-tell.ensures.told c.either-refused.ensures
+          (sym c.is_last.ensures ∙ c.if-is_last.false);
+      grown = grows_on _ _ _ (grows_on _ _ _ c.loop-number.invariant.grown c.in-Ok.ensures.grows) c.in-Ok-tell.ensures.grows;
+    }
+
+pub returns-clause-told : goal.returns-clause-told
+returns-clause-told g c =
+    let put = g.W.Write.contents in
+    stops c.args.world.now c.loop-number.world c.args.source.now c.loop-number.source (with_gathered (put c.args.writer.now) c.args.out.now) (with_gathered (put c.loop-number.writer) c.loop-number.out) c.loop-number.refused c.loop-number.number fault.Read c.loop-number.invariant.so_far

@@ -1,5 +1,9 @@
+use Rattle.line_streams.specs.Streams.{Grows, with_gathered}
 use Rattle.operator_cli.proofs.ScriptFacts.{SoFar}
 use Rattle.operator_cli.proofs.script.tell_lines.Given as goal
 
 abbrev pub invariant-loop-number : goal.invariant-loop-number
-invariant-loop-number g l = SoFar l.fn.world l.fn.source l.source (g.W.Write.contents l.fn.writer) (g.W.Write.contents l.writer) l.refused l.world l.number
+invariant-loop-number g l = record {
+  so_far : SoFar l.fn.world l.fn.source l.source (with_gathered (g.W.Write.contents l.fn.writer) l.fn.out) (with_gathered (g.W.Write.contents l.writer) l.out) l.refused l.world l.number;
+  grown : Grows (g.W.Write.contents l.fn.writer) (g.W.Write.contents l.writer);
+}

@@ -1,0 +1,82 @@
+-- The pieces of an input, which stand between its line feeds, and how they are read one by one; and
+-- what becomes of texts that are gathered and written.
+use Rattle.std.specs.Prelude.{◌≡◌, ℕ, ◌<◌, ◌≤◌, ◌==◌, Bool, true, false, List, [], ◌∷◌, ◌++◌, length, take, drop, Option, Some, None, Result, Ok, Err}
+use Rattle.std.specs.List.{slice_split, slice_range, All}
+use Rattle.std.specs.Io.KnownBytes.{prepend_known, append_known, Consumes, Keeps, Appends, IsAtEnd}
+use Rattle.line_streams.specs.declared.reading.End.{End}
+use Rattle.line_streams.specs.declared.reading.End.TheVariants.{LineFeed, Input, Limit}
+
+abbrev pub is_line_feed : ℕ → Bool
+is_line_feed b = b == 10
+
+-- What stands between the line feeds, in order, empty pieces too. Joined by line feeds they are the
+-- bytes.
+abbrev pub pieces : List ℕ → List (List ℕ)
+pieces bytes = slice_split is_line_feed bytes
+
+-- none of the bytes is a line feed
+abbrev pub IsPlain : List ℕ → Type 0
+IsPlain bytes = All (λ b. is_line_feed b ≡ false) bytes
+
+-- the bytes of the room that are still to be given, and then what the reader has left
+abbrev pub left_of : List ℕ → ℕ → ℕ → Option (List ℕ) → Option (List ℕ)
+left_of room at end remaining = prepend_known (slice_range room at end) remaining
+
+-- what is known of the bytes that are left
+abbrev pub KnownLeft : Option (List ℕ) → (List ℕ → Type 0) → Type 0
+KnownLeft None P = ⊥
+KnownLeft (Some xs) P = P xs
+
+-- How a piece of xs was read, of which `piece` was kept: all of it, with the line feed behind it or up
+-- to the end; or it is longer than the limit.
+abbrev pub EndsPiece : ℕ → List ℕ → Option (List ℕ) → List ℕ → End → Type 0
+EndsPiece limit xs new piece LineFeed = KnownLeft new (λ ys. pieces xs ≡ piece ∷ pieces ys)
+EndsPiece limit xs new piece Input = (pieces xs ≡ piece ∷ []) × KnownLeft new (λ ys. ys ≡ [])
+EndsPiece limit xs new piece Limit = (whole : List ℕ) × (more : List (List ℕ)) × (pieces xs ≡ whole ∷ more) × (limit < length whole)
+
+-- the same, where the bytes are known
+abbrev pub ReadsPiece : ℕ → Option (List ℕ) → Option (List ℕ) → List ℕ → End → Type 0
+ReadsPiece limit None new piece end = Unit {0}
+ReadsPiece limit (Some xs) new piece end = EndsPiece limit xs new piece end
+
+-- What was found at the front of some bytes: so many that are no line feed, at most so many, and
+-- whether a line feed stands behind them.
+pub record FindsFront (bytes : List ℕ) (most count : ℕ) (has_feed : Bool) : Type 0 where
+  pub within : count ≤ length bytes
+  pub few : count ≤ most
+  pub plain : IsPlain (take count bytes)
+  pub feed : has_feed ≡ true → (rest : List ℕ) × (drop count bytes ≡ 10 ∷ rest)
+
+-- Bytes are held, or none is left.
+abbrev pub Fetches : {E : Type 0} → Option (List ℕ) → Option (List ℕ) → Result Bool E → Type 0
+Fetches old new (Ok true) = Keeps old new
+Fetches old new (Ok false) = Keeps old new × IsAtEnd old
+Fetches old new (Err e) = Unit {0}
+
+-- What a call added to a line: a front of what was left that has no line feed, and at most so many
+-- bytes; and whether the line feed behind it was taken too.
+abbrev pub TakesHeld : {E : Type 0} → ℕ → Option (List ℕ) → Option (List ℕ) → List ℕ → List ℕ → Result Bool E → Type 0
+TakesHeld most old new line after (Ok true) = (front : List ℕ) × (after ≡ line ++ front) × IsPlain front × (length front ≤ most) × Consumes old new (front ++ 10 ∷ [])
+TakesHeld most old new line after (Ok false) = (front : List ℕ) × (after ≡ line ++ front) × IsPlain front × (length front ≤ most) × Consumes old new front
+TakesHeld most old new line after (Err e) = Unit {0}
+
+-- a beginning of the text was appended
+abbrev pub AppendsBeginning : Option (List ℕ) → Option (List ℕ) → List ℕ → Type 0
+AppendsBeginning old new text = (front : List ℕ) × (back : List ℕ) × (text ≡ front ++ back) × Appends old new front
+
+-- the text was appended, or after a fault a beginning of it
+abbrev pub Puts : {U E : Type 0} → Option (List ℕ) → Option (List ℕ) → List ℕ → Result U E → Type 0
+Puts old new text (Ok u) = Appends old new text
+Puts old new text (Err e) = AppendsBeginning old new text
+
+-- What was written, and then what is gathered and still to be written.
+abbrev pub with_gathered : Option (List ℕ) → List ℕ → Option (List ℕ)
+with_gathered written gathered = append_known written gathered
+
+-- what was written stays, and something may follow it
+abbrev pub Grows : Option (List ℕ) → Option (List ℕ) → Type 0
+Grows old new = (more : List ℕ) × Appends old new more
+
+-- a front of what was gathered was written, and the rest is still gathered
+abbrev pub LetsOut : Option (List ℕ) → Option (List ℕ) → List ℕ → List ℕ → Type 0
+LetsOut old new gathered rest = (front : List ℕ) × (gathered ≡ front ++ rest) × Appends old new front

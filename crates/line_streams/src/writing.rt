@@ -1,0 +1,164 @@
+// An output that is gathered before it is written.
+
+ghost use Rattle.std.specs.Prelude.{◌≡◌, ◌≤◌, ◌<◌, [], ◌++◌, length, take, IfErr, OnOk, true, nat_lt};
+ghost use Rattle.std.specs.Io.{WritesAtMost};
+ghost use Rattle.std.specs.Io.KnownBytes.{WriteAppends, Appends, Keeps};
+ghost use Rattle.line_streams.specs.Streams.{LetsOut, Grows, Puts, with_gathered};
+ghost use Rattle.line_streams.specs.declared.writing.TheConstants.{ROOM};
+
+use crate::{MAX_READS, StreamFault};
+use std::io::{ErrorKind, Write};
+use std::marker::Model;
+
+/// How many bytes are gathered.
+const ROOM: usize = 32_768;
+
+/// Bytes that are to be written. They are passed a writer where some may be written, the same one at
+/// each call.
+///
+/// Contracts see the bytes.
+#[derive(Drop)]
+pub struct Gathered {
+    // The bytes before `end`.
+    room: [u8; ROOM],
+    end: usize,
+}
+
+impl Model for Gathered {
+    ghost use Rattle.std.specs.Prelude.{ℕ, ◌≤◌, List, take};
+    ghost use Rattle.line_streams.specs.declared.writing.TheConstants.{ROOM};
+
+    ghost Value = { List ℕ };
+
+    ghost view = { λ s. take s.end s.room };
+
+    ghost invariant = { λ s. s.end ≤ ROOM };
+}
+
+impl Gathered {
+    /// Nothing is gathered.
+    pub fn new() -> Gathered
+        ensures { result ≡ [] }
+    {
+        Gathered {
+            room: [0; ROOM],
+            end: 0,
+        }
+    }
+
+    /// Whether another byte can be gathered.
+    fn has_room(&self) -> bool
+        ensures { result ≡ nat_lt (length self.now) ROOM }
+    {
+        self.end < ROOM
+    }
+
+    /// Gathers what there is room for, and answers how many bytes that are.
+    fn gather(&mut self, text: &[u8]) -> usize
+        ensures bound { result ≤ length text.now }
+        ensures bytes { self.new ≡ self.old ++ take result text.now }
+        ensures some { length self.old < ROOM → 0 < length text.now → 0 < result }
+    {
+        let count = text.len().min(ROOM - self.end);
+        self.room[self.end..self.end + count].copy_from_slice(&text[..count]);
+        self.end += count;
+        count
+    }
+
+    /// Writes what is gathered. After a fault, which is `Write`, what was not written is still
+    /// gathered.
+    pub fn let_out<W: Write>(&mut self, writer: &mut W) -> Result<(), StreamFault>
+        ensures bytes { LetsOut (W.contents writer.old) (W.contents writer.new) self.old self.new }
+        ensures empty { OnOk result (self.new ≡ []) }
+        ensures fault { IfErr result (λ e. e ≡ StreamFault.Write) }
+    {
+        let (count, whole) = write_out(writer, &self.room[..self.end]);
+        self.room.copy_within(count..self.end, 0);
+        self.end -= count;
+        if !whole {
+            return Err(StreamFault::Write);
+        }
+        Ok(())
+    }
+
+    /// Writes what is gathered if there is no room for more. A fault is `Write`.
+    fn make_room<W: Write>(&mut self, writer: &mut W) -> Result<(), StreamFault>
+        ensures kept { Keeps (with_gathered (W.contents writer.old) self.old) (with_gathered (W.contents writer.new) self.new) }
+        ensures grows { Grows (W.contents writer.old) (W.contents writer.new) }
+        ensures room { OnOk result (length self.new < ROOM) }
+        ensures fault { IfErr result (λ e. e ≡ StreamFault.Write) }
+    {
+        if self.has_room() {
+            return Ok(());
+        }
+        self.let_out(writer)
+    }
+
+    /// Gathers the text, and writes wherever there is no room for more. After a fault, which is
+    /// `Write`, a beginning of the text was written or is gathered.
+    pub fn put<W: Write>(&mut self, writer: &mut W, text: &[u8]) -> Result<(), StreamFault>
+        ensures text { Puts (with_gathered (W.contents writer.old) self.old) (with_gathered (W.contents writer.new) self.new) text.now result }
+        ensures grows { Grows (W.contents writer.old) (W.contents writer.new) }
+        ensures fault { IfErr result (λ e. e ≡ StreamFault.Write) }
+    {
+        let mut rest = text;
+        while !rest.is_empty() {
+            self.make_room(writer)?;
+            let count = self.gather(rest);
+            let (_, behind) = rest.split_at(count);
+            rest = behind;
+        }
+        Ok(())
+    }
+}
+
+/// Writes the text at once. After a fault, which is `Write`, a beginning of it was written.
+pub fn write_text<W: Write>(writer: &mut W, text: &[u8]) -> Result<(), StreamFault>
+    ensures text { Puts (W.contents writer.old) (W.contents writer.new) text.now result }
+    ensures fault { IfErr result (λ e. e ≡ StreamFault.Write) }
+{
+    let (_, whole) = write_out(writer, text);
+    if whole {
+        return Ok(());
+    }
+    Err(StreamFault::Write)
+}
+
+/// Writes the text: answers how many bytes were written, and whether these are all.
+fn write_out<W: Write>(writer: &mut W, text: &[u8]) -> (usize, bool)
+    ensures bound { result.0 ≤ length text.now }
+    ensures whole { result.1 ≡ true → result.0 ≡ length text.now }
+    ensures bytes { Appends (W.contents writer.old) (W.contents writer.new) (take result.0 text.now) }
+{
+    let mut count = 0;
+    while count < text.len() {
+        let (_, rest) = text.split_at(count);
+        let Ok(some) = write_some(writer, rest) else {
+            return (count, false);
+        };
+        if some == 0 {
+            return (count, false);
+        }
+        count += some;
+    }
+    (count, true)
+}
+
+/// One write, made again where a signal interrupts it. A fault is `Write`.
+fn write_some<W: Write>(writer: &mut W, text: &[u8]) -> Result<usize, StreamFault>
+    ensures bound { WritesAtMost result text.now }
+    ensures bytes { WriteAppends (W.contents writer.old) (W.contents writer.new) result text.now }
+    ensures fault { IfErr result (λ e. e ≡ StreamFault.Write) }
+{
+    for _ in 0..MAX_READS {
+        match writer.write(text) {
+            Ok(count) => return Ok(count),
+            Err(e) => {
+                if e.kind() != ErrorKind::Interrupted {
+                    return Err(StreamFault::Write);
+                }
+            }
+        }
+    }
+    Err(StreamFault::Write)
+}

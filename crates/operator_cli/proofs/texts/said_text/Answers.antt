@@ -1,8 +1,0 @@
-use Rattle.std.proofs.Common.{arith}
-use Rattle.world_machine.specs.ExactWorlds.{numbered}
-use Rattle.operator_cli.specs.Texts.{found_text}
-use Rattle.operator_cli.proofs.TextFacts.{said_more}
-use Rattle.operator_cli.proofs.texts.said_text.Goals as goal
-
-pub loop-number-preserved : goal.loop-number-preserved
-loop-number-preserved c = said_more (λ k. found_text k (numbered c.args.world.now.sent k)) c.args.first c.loop-number.number _ _ (omega arith) c.loop-number.invariant c.in_ok-push_found.ensures
