@@ -1,8 +1,6 @@
 pub mod SplitFacts
-pub mod NumberFacts
 pub mod SettingsFacts
 pub mod TextFacts
 pub mod HeadFacts
 pub mod ScriptFacts
 pub mod ServeFacts
-pub mod LineLaws

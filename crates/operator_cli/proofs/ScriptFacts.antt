@@ -4,18 +4,20 @@ use Rattle.std.specs.Io.KnownBytes.{Appends, Keeps}
 use Rattle.std.proofs.lemmas.List.{append-nil}
 use Rattle.std.proofs.lemmas.Bool.Decides.{nat_tests}
 use Rattle.world_machine.specs.declared.exact.ExactWorld.{ExactWorld}
-use Rattle.operator_cli.specs.declared.faults.LineFault.{LineFault}
-use Rattle.operator_cli.specs.declared.faults.LineFault.TheVariants as bad
+use Rattle.history_check.specs.declared.faults.LineFault.{LineFault}
+use Rattle.history_check.specs.declared.faults.LineFault.TheVariants as bad
 use Rattle.operator_cli.specs.declared.faults.ServeFault.{ServeFault}
 use Rattle.operator_cli.specs.declared.lines.Line.{Line}
-use Rattle.operator_cli.specs.declared.lines.TheConstants.{MAX_LINE_LEN}
+use Rattle.history_check.specs.declared.words.TheConstants.{MAX_LINE_LEN}
 use Rattle.line_streams.specs.declared.reading.End.{End}
 use Rattle.line_streams.specs.declared.reading.End.TheVariants.{LineFeed, Input, Limit}
 use Rattle.operator_cli.specs.declared.script.Judged.TheVariants as judged
-use Rattle.operator_cli.specs.Faults.{line_fault_number}
+use Rattle.history_check.specs.Faults.{line_fault_number}
+use Rattle.history_check.specs.Lines.{line_of as said_in}
 use Rattle.operator_cli.specs.Lines.{line_of}
 use Rattle.line_streams.specs.Streams.{is_line_feed, pieces, KnownLeft, EndsPiece, ReadsPiece, AppendsBeginning, Grows}
-use Rattle.operator_cli.specs.Outputs.{Told, Output, told, before, line_output, lines_output, lines_in, judged_line, judged_piece, is_last, status_of, Puts, Writes, WritesLines}
+use Rattle.operator_cli.specs.Outputs.{Told, Output, told, before, line_output, lines_output, lines_in, Writes}
+use Rattle.operator_cli.specs.PartOutputs.{judged_line, judged_piece, is_last, status_of, WritesAnswer, WritesLines}
 use Rattle.operator_cli.specs.Texts.{line_fault_text}
 use Rattle.operator_cli.proofs.SplitFacts.{some_part}
 
@@ -101,7 +103,7 @@ bad_last true piece f e h = let clash : judged.End ≡ judged.Bad f = h in absur
 bad_last false piece f e h = (piece, [], line_and_more piece [] e, is_bad_line (line_of piece) f h)
 
 too_long : (whole : List ℕ) → MAX_LINE_LEN < length whole → line_of whole ≡ Err bad.Words
-unfolding line_of
+unfolding line_of said_in
 too_long whole h = let t : nat_lt MAX_LINE_LEN (length whole) ≡ true = grind (arith, nat_tests) in rw t
 
 bad_comes : (ys : List ℕ) (new : Option (List ℕ)) (piece : List ℕ) (end : End) (f : LineFault) → EndsPiece MAX_LINE_LEN ys new piece end → judged_piece end piece ≡ judged.Bad f → BadLine (lines_in (pieces ys)) f
@@ -204,7 +206,7 @@ good_output o text refused v number lines l more x e g k =
 
 pub breaks : (w v : ExactWorld) (old left next out mid new : Option (List ℕ)) (refused : Bool) (number : ℕ) (piece : List ℕ) (end : End) (x : Line) (u : ExactWorld) (f g : ServeFault)
     → SoFar w old left out mid refused v number → ReadsPiece MAX_LINE_LEN left next piece end → judged_piece end piece ≡ judged.Says x
-    → Puts (told v x) mid new (Err f) u → WritesLines w old out new (Err g)
+    → WritesAnswer (told v x) mid new (Err f) u → WritesLines w old out new (Err g)
 breaks w v None left next out mid new refused number piece end x u f g h r j p = tt
 breaks w v (Some xs) None next out mid new refused number piece end x u f g h r j p = absurd h
 breaks w v (Some xs) (Some ys) next out mid new refused number piece end x u f g h r j p =
@@ -226,7 +228,7 @@ onto_before text refused t rest =
 
 -- a good line was told: what is so after it
 told_one : (w v u : ExactWorld) (xs : List ℕ) (out mid new : Option (List ℕ)) (refused now : Bool) (number : ℕ) (lines : List (List ℕ)) (l : List ℕ) (more : List (List ℕ)) (x : Line)
-    → After w xs out mid refused v number lines → lines ≡ l ∷ more → line_of l ≡ Ok x → Puts (told v x) mid new (Ok now) u → After w xs out new (refused || now) u (number + 1) more
+    → After w xs out mid refused v number lines → lines ≡ l ∷ more → line_of l ≡ Ok x → WritesAnswer (told v x) mid new (Ok now) u → After w xs out new (refused || now) u (number + 1) more
 told_one w v u xs out mid new refused now number lines l more x h g k p =
     let (text, a, e) = h in
     let t = told v x in
@@ -240,7 +242,7 @@ told_one w v u xs out mid new refused now number lines l more x h g k p =
 
 pub goes_on : (w v u : ExactWorld) (old left next out mid new : Option (List ℕ)) (refused now both : Bool) (number : ℕ) (piece : List ℕ) (end : End) (x : Line)
     → SoFar w old left out mid refused v number → ReadsPiece MAX_LINE_LEN left next piece end → judged_piece end piece ≡ judged.Says x
-    → Puts (told v x) mid new (Ok now) u → both ≡ (refused || now) → is_last end ≡ false → SoFar w old next out new both u (number + 1)
+    → WritesAnswer (told v x) mid new (Ok now) u → both ≡ (refused || now) → is_last end ≡ false → SoFar w old next out new both u (number + 1)
 goes_on w v u None left next out mid new refused now both number piece end x h r j p b z = tt
 goes_on w v u (Some xs) None next out mid new refused now both number piece end x h r j p b z = absurd h
 goes_on w v u (Some xs) (Some ys) None out mid new refused now both number piece LineFeed x h r j p b z = absurd r
@@ -254,7 +256,7 @@ goes_on w v u (Some xs) (Some ys) next out mid new refused now both number piece
 
 pub is_over_now : (w v u : ExactWorld) (old left next out mid new : Option (List ℕ)) (refused now both : Bool) (number : ℕ) (piece : List ℕ) (end : End) (x : Line) (status : ℕ)
     → SoFar w old left out mid refused v number → ReadsPiece MAX_LINE_LEN left next piece end → judged_piece end piece ≡ judged.Says x
-    → Puts (told v x) mid new (Ok now) u → both ≡ (refused || now) → is_last end ≡ true → status ≡ status_of both → WritesLines w old out new (Ok status)
+    → WritesAnswer (told v x) mid new (Ok now) u → both ≡ (refused || now) → is_last end ≡ true → status ≡ status_of both → WritesLines w old out new (Ok status)
 is_over_now w v u None left next out mid new refused now both number piece end x status h r j p b z s = tt
 is_over_now w v u (Some xs) None next out mid new refused now both number piece end x status h r j p b z s = absurd h
 is_over_now w v u (Some xs) (Some ys) next out mid new refused now both number piece LineFeed x status h r j p b z s = let clash : false ≡ true = z in absurd (cc)

@@ -14,7 +14,8 @@ use Rattle.operator_cli.specs.declared.heads.StartFault.TheVariants as start
 use Rattle.operator_cli.specs.declared.settings.Settings.{Settings}
 use Rattle.operator_cli.specs.Settings.{settings_of, Refuses}
 use Rattle.line_streams.specs.Streams.{pieces, AppendsBeginning, Grows, LetsOut, with_gathered}
-use Rattle.operator_cli.specs.Outputs.{Output, output_of, head_of, lines_in, lines_output, parts_output, settings_output, refusal_output, IsRefusal, FindsHead, Starts, RefusesStart, Writes, WritesLines, Finishes, Serves}
+use Rattle.operator_cli.specs.Outputs.{Output, output_of, head_of, lines_in, lines_output, parts_output, settings_output, refusal_output, Writes, Serves}
+use Rattle.operator_cli.specs.PartOutputs.{IsRefusal, FindsHead, Starts, RefusesStart, WritesLines, Finishes}
 use Rattle.operator_cli.proofs.ScriptFacts.{appends_nothing}
 
 no_head : (xs : List ℕ) (e : SettingsFault) → Refuses e (head_of (pieces xs)) → IsRefusal e (output_of xs)

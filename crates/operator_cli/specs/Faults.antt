@@ -1,19 +1,10 @@
 -- The numbers of faults.
 use Rattle.std.specs.Prelude.{ℕ}
 use Rattle.vote_weights.specs.Faults.{fault_number}
-use Rattle.operator_cli.specs.declared.faults.LineFault.{LineFault}
-use Rattle.operator_cli.specs.declared.faults.LineFault.TheVariants as line
 use Rattle.operator_cli.specs.declared.faults.SettingsFault.{SettingsFault}
 use Rattle.operator_cli.specs.declared.faults.SettingsFault.TheVariants as settings
 use Rattle.operator_cli.specs.declared.faults.ServeFault.{ServeFault}
 use Rattle.operator_cli.specs.declared.faults.ServeFault.TheVariants as serving
-
-abbrev pub line_fault_number : LineFault → ℕ
-line_fault_number line.Word = 801
-line_fault_number line.Actor = 802
-line_fault_number line.Number = 803
-line_fault_number line.Name = 804
-line_fault_number line.Words = 805
 
 abbrev pub settings_fault_number : SettingsFault → ℕ
 settings_fault_number settings.NoEnd = 924

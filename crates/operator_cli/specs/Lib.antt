@@ -3,4 +3,4 @@ pub mod Lines
 pub mod Settings
 pub mod Texts
 pub mod Outputs
-pub mod Laws
+pub mod PartOutputs

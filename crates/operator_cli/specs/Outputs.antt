@@ -1,33 +1,24 @@
 -- What the program writes for an input, and its status.
-use Rattle.std.specs.Prelude.{◌≡◌, ◌⊎◌, ℕ, ◌+◌, ◌==◌, nat_lt, Vec, Bool, true, false, if◌then◌else◌, List, [], ◌∷◌, ◌++◌, length, Option, Some, None, Result, Ok, Err, codes}
+use Rattle.std.specs.Prelude.{◌≡◌, ◌⊎◌, ℕ, ◌+◌, ◌==◌, nat_lt, Bool, true, false, if◌then◌else◌, List, [], ◌∷◌, ◌++◌, length, Option, Some, None, Result, Ok, Err, codes}
 use Rattle.std.specs.Str.{bytes_eq}
-use Rattle.std.specs.Global.{Global}
 use Rattle.std.specs.Io.KnownBytes.{Appends}
 use Rattle.world_machine.specs.declared.exact.ExactWorld.{ExactWorld}
 use Rattle.world_machine.specs.Events.{action_of}
 use Rattle.world_machine.specs.ExactWorlds.{Steps, step, opening, inside}
 use Rattle.world_machine.specs.Faults.{fault_number}
-use Rattle.operator_cli.specs.declared.faults.LineFault.{LineFault}
-use Rattle.operator_cli.specs.declared.faults.LineFault.TheVariants as bad
+use Rattle.history_check.specs.declared.faults.LineFault.{LineFault}
 use Rattle.operator_cli.specs.declared.faults.ServeFault.{ServeFault}
-use Rattle.operator_cli.specs.declared.faults.ServeFault.TheVariants.{Memory}
-use Rattle.operator_cli.specs.declared.faults.ServeFault.TheVariants as fault
 use Rattle.operator_cli.specs.declared.faults.SettingsFault.{SettingsFault}
 use Rattle.operator_cli.specs.declared.faults.SettingsFault.TheVariants as settings
 use Rattle.operator_cli.specs.declared.heads.TheConstants.{HEAD_ROOM}
-use Rattle.operator_cli.specs.declared.heads.StartFault.{StartFault}
-use Rattle.operator_cli.specs.declared.heads.StartFault.TheVariants as start
 use Rattle.operator_cli.specs.declared.lines.Line.{Line}
 use Rattle.operator_cli.specs.declared.lines.Line.TheVariants as line
-use Rattle.line_streams.specs.declared.reading.End.{End}
-use Rattle.line_streams.specs.declared.reading.End.TheVariants.{LineFeed, Input, Limit}
-use Rattle.operator_cli.specs.declared.script.Judged.{Judged}
-use Rattle.operator_cli.specs.declared.script.Judged.TheVariants as judged
 use Rattle.operator_cli.specs.declared.settings.Settings.{Settings}
-use Rattle.operator_cli.specs.Faults.{line_fault_number, settings_fault_number}
+use Rattle.history_check.specs.Faults.{line_fault_number}
+use Rattle.operator_cli.specs.Faults.{settings_fault_number}
 use Rattle.operator_cli.specs.Lines.{line_of}
-use Rattle.line_streams.specs.Streams.{pieces, KnownLeft, ReadsPiece, AppendsBeginning}
-use Rattle.operator_cli.specs.Settings.{settings_of, Refuses}
+use Rattle.line_streams.specs.Streams.{pieces, AppendsBeginning}
+use Rattle.operator_cli.specs.Settings.{settings_of}
 use Rattle.operator_cli.specs.Texts.{outcome_text, refused_text, inside_text, line_fault_text, settings_fault_text}
 
 -- What one event or query prints, whether it was refused, and the world after it.
@@ -104,87 +95,13 @@ parts_output (Ok parts) = settings_output (settings_of parts.0) parts.1
 unfoldable pub output_of : List ℕ → Output
 output_of input = parts_output (head_of (pieces input))
 
--- What a call added to a text, of what there was to tell; after want of memory nothing is said.
-abbrev pub Tells : Told → List ℕ → List ℕ → Result Bool ServeFault → ExactWorld → Type 0
-Tells t old new (Ok refused) w = (new ≡ old ++ t.text) × (refused ≡ t.refused) × (w ≡ t.world)
-Tells t old new (Err e) w = e ≡ Memory
-
--- The same, written.
-abbrev pub Puts : Told → Option (List ℕ) → Option (List ℕ) → Result Bool ServeFault → ExactWorld → Type 0
-Puts t old new (Ok refused) w = Appends old new t.text × (refused ≡ t.refused) × (w ≡ t.world)
-Puts t old new (Err e) w = AppendsBeginning old new t.text
-
--- what a piece says, by how it ended; a last piece that is empty is no line
-abbrev pub judged_line : Result Line LineFault → Judged
-judged_line (Ok l) = judged.Says l
-judged_line (Err e) = judged.Bad e
-
-abbrev pub judged_piece : End → List ℕ → Judged
-judged_piece LineFeed piece = judged_line (line_of piece)
-judged_piece Input piece = if length piece == 0 then judged.End else judged_line (line_of piece)
-judged_piece Limit piece = judged.Bad bad.Words
-
-abbrev pub is_last : End → Bool
-is_last LineFeed = false
-is_last Input = true
-is_last Limit = false
-
-abbrev pub status_of : Bool → ℕ
-status_of refused = if refused then 1 else 0
+abbrev pub refusal_output : SettingsFault → Output
+refusal_output e = record { text = settings_fault_text (settings_fault_number e); status = 2 }
 
 -- The output was written, and the status is its own; after a fault a beginning of it was written.
 abbrev pub Writes : Output → Option (List ℕ) → Option (List ℕ) → Result ℕ ServeFault → Type 0
 Writes o old new (Ok status) = Appends old new o.text × (status ≡ o.status)
 Writes o old new (Err e) = AppendsBeginning old new o.text
-
--- The same of the lines of known bytes.
-abbrev pub WritesLines : ExactWorld → Option (List ℕ) → Option (List ℕ) → Option (List ℕ) → Result ℕ ServeFault → Type 0
-WritesLines w None old new r = Unit {0}
-WritesLines w (Some xs) old new r = Writes (lines_output w 1 (lines_in (pieces xs))) old new r
-
--- How a run ended, with its answer so far: what was gathered was written, or after a fault a
--- beginning of it.
-abbrev pub Finishes : Option (List ℕ) → Option (List ℕ) → List ℕ → Result ℕ ServeFault → Result ℕ ServeFault → Type 0
-Finishes old new gathered came (Ok status) = (came ≡ Ok status) × Appends old new gathered
-Finishes old new gathered came (Err e) = AppendsBeginning old new gathered
-
--- how the next piece of the head was read
-abbrev pub HeadPiece : Option (List ℕ) → Option (List ℕ) → List ℕ → Result End StartFault → Type 0
-HeadPiece old new piece (Ok end) = ReadsPiece HEAD_ROOM old new piece end
-HeadPiece old new piece (Err e) = (e ≡ start.Read) ⊎ (e ≡ start.Settings settings.Memory)
-
--- What a call read as the settings' text, of known bytes: what stands before the line of dashes, and
--- behind it the bytes that are left; or that there is none, unless reading failed or memory was refused.
-abbrev pub FindsHead : Option (List ℕ) → Option (List ℕ) → Result (Vec ℕ Global) StartFault → Type 0
-FindsHead None new r = Unit {0}
-FindsHead (Some xs) new (Ok head) = KnownLeft new (λ ys. head_of (pieces xs) ≡ Ok (head.items, lines_in (pieces ys)))
-FindsHead (Some xs) new (Err start.Read) = Unit {0}
-FindsHead (Some xs) new (Err (start.Settings e)) = Refuses e (head_of (pieces xs))
-
-abbrev pub refusal_output : SettingsFault → Output
-refusal_output e = record { text = settings_fault_text (settings_fault_number e); status = 2 }
-
--- the output is that these settings are refused; of want of memory it says nothing
-abbrev pub IsRefusal : SettingsFault → Output → Type 0
-IsRefusal settings.NoEnd o = o ≡ refusal_output settings.NoEnd
-IsRefusal settings.NoDocument o = o ≡ refusal_output settings.NoDocument
-IsRefusal settings.UnknownKey o = o ≡ refusal_output settings.UnknownKey
-IsRefusal settings.Value o = o ≡ refusal_output settings.Value
-IsRefusal (settings.Ballot f) o = o ≡ refusal_output (settings.Ballot f)
-IsRefusal settings.Memory o = Unit {0}
-
--- What a call read as the settings, of known bytes: the output is that of the lines behind them, from
--- their opening; or that they are refused.
-abbrev pub Starts : Option (List ℕ) → Option (List ℕ) → Result Settings StartFault → Type 0
-Starts None new r = Unit {0}
-Starts (Some xs) new (Ok s) = KnownLeft new (λ ys. output_of xs ≡ lines_output (opening s.ballot s.clients) 1 (lines_in (pieces ys)))
-Starts (Some xs) new (Err start.Read) = Unit {0}
-Starts (Some xs) new (Err (start.Settings e)) = IsRefusal e (output_of xs)
-
--- how a run ends that has no settings
-abbrev pub RefusesStart : StartFault → Option (List ℕ) → Option (List ℕ) → Result ℕ ServeFault → Type 0
-RefusesStart start.Read old new r = (r ≡ Err fault.Read) × (new ≡ old)
-RefusesStart (start.Settings e) old new r = Writes (refusal_output e) old new r
 
 -- What `serve` does with known bytes: it writes their output and answers its status or, where memory
 -- was refused for the settings, the line that says so and 2. After a fault a beginning of it was written.

@@ -1,5 +1,5 @@
 -- What a script prints.
-use Rattle.std.specs.Prelude.{ℕ, ◌+◌, ◌<◌, ◌≤◌, true, false, Bool, List, [], ◌∷◌, ◌++◌, Option, Some, None, codes}
+use Rattle.std.specs.Prelude.{ℕ, true, false, Bool, List, [], ◌∷◌, ◌++◌, Option, Some, None, codes}
 use Rattle.std.specs.List.{flat_map, range_with_len}
 use Rattle.std.specs.Fmt.{decimal}
 use Rattle.lock_messages.specs.Texts.{client_text, mode_text, message_text}
@@ -8,7 +8,6 @@ use Rattle.lock_messages.specs.declared.tickets.Ticket.{Ticket}
 use Rattle.lock_model.specs.declared.hearing.Heard.{Heard}
 use Rattle.lock_model.specs.declared.hearing.Heard.TheVariants as heard
 use Rattle.world_machine.specs.Events.{Outcome, Chose, Tried, WasKept, Sent, Said, Took, HeardIt, Inside, Outside, Fell, Rose}
-use Rattle.world_machine.specs.declared.TheConstants.{MAX_MESSAGES}
 use Rattle.world_machine.specs.ExactWorlds.{numbered}
 
 -- `sent 2 grant n1 c1 1 read a`

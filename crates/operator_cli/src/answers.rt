@@ -3,7 +3,8 @@
 ghost use Rattle.std.specs.Prelude.{string_bytes};
 ghost use Rattle.world_machine.specs.Events.{action_of};
 ghost use Rattle.world_machine.specs.ExactWorlds.{step};
-ghost use Rattle.operator_cli.specs.Outputs.{Tells, told, told_step};
+ghost use Rattle.operator_cli.specs.Outputs.{told, told_step};
+ghost use Rattle.operator_cli.specs.PartOutputs.{AddsAnswer};
 
 use crate::ServeFault;
 use crate::lines::Line;
@@ -14,7 +15,7 @@ use world_machine::{Event, StepFault, World};
 
 /// Takes an event.
 fn take_event(world: &mut World, event: &Event, text: &mut String) -> Result<bool, ServeFault>
-    ensures { Tells (told_step world.old (step world.old (action_of event.now))) (string_bytes text.old) (string_bytes text.new) result world.new }
+    ensures { AddsAnswer (told_step world.old (step world.old (action_of event.now))) (string_bytes text.old) (string_bytes text.new) result world.new }
 {
     said_numbers_fit();
     match world.step(event) {
@@ -36,7 +37,7 @@ fn take_event(world: &mut World, event: &Event, text: &mut String) -> Result<boo
 
 /// Who is inside the resource.
 fn ask_inside(world: &World, resource: &ResourceName, text: &mut String) -> Result<bool, ServeFault>
-    ensures { Tells (told world.now (Line.Inside resource.now)) (string_bytes text.old) (string_bytes text.new) result world.now }
+    ensures { AddsAnswer (told world.now (Line.Inside resource.now)) (string_bytes text.old) (string_bytes text.new) result world.now }
 {
     let Ok(tickets) = world.inside(resource) else {
         return Err(ServeFault::Memory);
@@ -50,7 +51,7 @@ fn ask_inside(world: &World, resource: &ResourceName, text: &mut String) -> Resu
 /// Does what a line says, adds what it prints, and answers whether it was refused. The only fault is
 /// want of memory.
 pub fn answer_line(world: &mut World, line: &Line, text: &mut String) -> Result<bool, ServeFault>
-    ensures { Tells (told world.old line.now) (string_bytes text.old) (string_bytes text.new) result world.new }
+    ensures { AddsAnswer (told world.old line.now) (string_bytes text.old) (string_bytes text.new) result world.new }
 {
     match line {
         Line::Event(event) => take_event(world, event, text),

@@ -1,45 +1,10 @@
-// What may be wrong with a line, with settings, and with a whole run, each with its number.
+// What may be wrong with settings, and with a whole run, each with its number.
 
 ghost use Rattle.std.specs.Prelude.{◌≡◌};
-ghost use Rattle.operator_cli.specs.Faults.{line_fault_number, settings_fault_number, serve_fault_number};
+ghost use Rattle.operator_cli.specs.Faults.{settings_fault_number, serve_fault_number};
 
 use thiserror::Error;
 use vote_weights::BallotFault;
-
-/// Why a line is no event and no query. Programs print the number.
-#[derive(Clone, Copy, Debug, PartialEq, Eq, Hash, Error)]
-pub enum LineFault {
-    /// 801: the first word, or a word that is one of a few, is another.
-    #[error("no event or query has this word")]
-    Word,
-    /// 802: a word isn't a node or a client of the kind that is wanted.
-    #[error("no node or client is spelled so")]
-    Actor,
-    /// 803: a word isn't the number of a message.
-    #[error("no message has this number")]
-    Number,
-    /// 804: a word isn't a resource's name.
-    #[error("no resource has this name")]
-    Name,
-    /// 805: words are missing or left over, or the line is too long.
-    #[error("words are missing or left over, or the line is too long")]
-    Words,
-}
-
-impl LineFault {
-    /// The number by which programs print the fault: 801 to 805.
-    pub fn number(self) -> u16
-        ensures { result ≡ line_fault_number self }
-    {
-        match self {
-            LineFault::Word => 801,
-            LineFault::Actor => 802,
-            LineFault::Number => 803,
-            LineFault::Name => 804,
-            LineFault::Words => 805,
-        }
-    }
-}
 
 /// Why settings are refused. Programs print the number.
 #[derive(Clone, Copy, Debug, PartialEq, Eq, Hash, Error)]

@@ -3,7 +3,8 @@
 ghost use Rattle.std.specs.Prelude.{◌≡◌, ◌++◌, ◌≤◌, IfOk, OnOk, codes};
 ghost use Rattle.lock_messages.specs.declared.ids.TheConstants.{MAX_CLIENTS};
 ghost use Rattle.std.specs.Str.{bytes_eq};
-ghost use Rattle.operator_cli.specs.Outputs.{HeadPiece, FindsHead, Starts, dashes};
+ghost use Rattle.operator_cli.specs.Outputs.{dashes};
+ghost use Rattle.operator_cli.specs.PartOutputs.{HeadPiece, FindsHead, Starts};
 
 use crate::SettingsFault;
 use crate::settings::{Settings, read_settings};

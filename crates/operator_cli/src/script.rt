@@ -2,11 +2,12 @@
 
 ghost use Rattle.std.specs.Prelude.{◌≡◌, ◌||◌, IfOk};
 ghost use Rattle.std.specs.Io.KnownBytes.{Keeps};
-ghost use Rattle.line_streams.specs.Streams.{ReadsPiece, Grows, with_gathered, Puts as PutsText};
-ghost use Rattle.operator_cli.specs.Faults.{line_fault_number};
+ghost use Rattle.line_streams.specs.Streams.{ReadsPiece, Grows, with_gathered, Puts};
+ghost use Rattle.history_check.specs.Faults.{line_fault_number};
 ghost use Rattle.operator_cli.specs.Lines.{line_of};
-ghost use Rattle.operator_cli.specs.declared.lines.TheConstants.{MAX_LINE_LEN};
-ghost use Rattle.operator_cli.specs.Outputs.{Puts, Writes, WritesLines, told, judged_line, judged_piece, is_last, status_of};
+ghost use Rattle.history_check.specs.declared.words.TheConstants.{MAX_LINE_LEN};
+ghost use Rattle.operator_cli.specs.Outputs.{Writes, told};
+ghost use Rattle.operator_cli.specs.PartOutputs.{WritesAnswer, WritesLines, judged_line, judged_piece, is_last, status_of};
 ghost use Rattle.operator_cli.specs.Texts.{line_fault_text};
 
 use crate::answers::answer_line;
@@ -76,7 +77,7 @@ fn either(a: bool, b: bool) -> bool
 
 /// Gathers a text that is to be written.
 fn put<W: Write>(out: &mut Gathered, writer: &mut W, text: &[u8]) -> Result<(), ServeFault>
-    ensures text { PutsText (with_gathered (W.contents writer.old) out.old) (with_gathered (W.contents writer.new) out.new) text.now result }
+    ensures text { Puts (with_gathered (W.contents writer.old) out.old) (with_gathered (W.contents writer.new) out.new) text.now result }
     ensures grows { Grows (W.contents writer.old) (W.contents writer.new) }
 {
     match out.put(writer, text) {
@@ -93,7 +94,7 @@ fn tell<W: Write>(
     out: &mut Gathered,
     writer: &mut W,
 ) -> Result<bool, ServeFault>
-    ensures told { Puts (told world.old line.now) (with_gathered (W.contents writer.old) out.old) (with_gathered (W.contents writer.new) out.new) result world.new }
+    ensures told { WritesAnswer (told world.old line.now) (with_gathered (W.contents writer.old) out.old) (with_gathered (W.contents writer.new) out.new) result world.new }
     ensures grows { Grows (W.contents writer.old) (W.contents writer.new) }
 {
     text.clear();

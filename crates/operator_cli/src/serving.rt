@@ -3,7 +3,8 @@
 ghost use Rattle.std.specs.Prelude.{◌≡◌};
 ghost use Rattle.vote_weights.specs.Faults.{fault_number};
 ghost use Rattle.operator_cli.specs.Faults.{settings_fault_number};
-ghost use Rattle.operator_cli.specs.Outputs.{Serves, Writes, WritesLines, Finishes, RefusesStart, refusal_output};
+ghost use Rattle.operator_cli.specs.Outputs.{Serves, Writes, refusal_output};
+ghost use Rattle.operator_cli.specs.PartOutputs.{WritesLines, Finishes, RefusesStart};
 ghost use Rattle.operator_cli.specs.Texts.{settings_fault_text};
 
 use crate::heads::{StartFault, read_start};

@@ -1,7 +1,7 @@
 use Rattle.std.proofs.Common.{◌∙◌, List, ℕ, sym, ap}
 use Rattle.line_streams.specs.Streams.{with_gathered}
 use Rattle.operator_cli.specs.declared.faults.ServeFault.TheVariants as fault
-use Rattle.operator_cli.specs.Outputs.{judged_piece}
+use Rattle.operator_cli.specs.PartOutputs.{judged_piece}
 use Rattle.operator_cli.proofs.ScriptFacts.{so_far_kept, grows_on, stops, is_over, is_bad, breaks, goes_on, is_over_now}
 use Rattle.operator_cli.proofs.script.tell_lines.Goals as goal
 

@@ -1,5 +1,5 @@
 use Rattle.std.proofs.Common.{List, ℕ, Option, Err, subst}
-use Rattle.operator_cli.specs.Outputs.{Starts}
+use Rattle.operator_cli.specs.PartOutputs.{Starts}
 use Rattle.operator_cli.proofs.ServeFacts.{serves_refusal}
 use Rattle.operator_cli.proofs.serving.serve_script.Goals as goal
 
