@@ -6,8 +6,9 @@
 //!
 //! The crate promises that a guard is made exactly where the door may enter, and that the door is
 //! outside after the guard was dropped. A client core is then idle after the same attempt, and has
-//! the release of that attempt to say to each node of its ballot. No call takes memory or waits. A
-//! guard that is forgotten (`std::mem::forget`) leaves its door inside.
+//! the release of that attempt to say to each node of its ballot. `visit` shows the same of a core in
+//! a box: it takes memory for the box, and no other call does. No call waits. A guard that is
+//! forgotten (`std::mem::forget`) leaves its door inside.
 //!
 //! What a door is, is in the ghost members of `Door`; for a client core these are the words of
 //! `client_core`, and `specs/Doors` says what leaving makes of it. The crate stands on `client_core`,
@@ -17,7 +18,9 @@
 mod doors;
 mod guards;
 mod owned;
+mod visits;
 
 pub use doors::Door;
 pub use guards::{EntryGuard, enter_client};
 pub use owned::OwnedEntry;
+pub use visits::{Seen, visit};
