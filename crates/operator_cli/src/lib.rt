@@ -8,10 +8,10 @@
 //! The crate promises that what `serve` writes is, byte for byte, a stated function of the bytes
 //! that it reads, and so is the status; after a fault a beginning of that output was written. The
 //! function stands in `specs/`: `Lines` (what a line, as `history_check` reads it, says to the world
-//! behind the script), `Settings` (what a TOML document says, and what is wrong with it), `Texts` (how effects
-//! are written) and `Outputs`, which puts them together over the exact world of `world_machine`
-//! (`output_of`). Want of memory alone may put `settings fault 925` in its place. The input is
-//! streamed: beside the world, the settings and one line are all that is kept of it.
+//! behind the script), `Settings` (what a TOML document says, and what is wrong with it), `Texts`
+//! (how effects are written) and `Outputs`, which puts them together over the exact world of
+//! `world_machine` (`output_of`). Want of memory alone may put `settings fault 925` in its place. The
+//! input is streamed: beside the world, the settings and one line are all that is kept of it.
 //!
 //! It stands on `line_streams`, `history_check`, `lock_messages`, `lock_model`, `vote_weights`,
 //! `world_model`, `world_machine`, `toml` and `thiserror`.
