@@ -29,8 +29,8 @@ fn took(link: &ListLink, given: Result<(), LinkFault>, before: usize) -> Outcome
 
 #[test]
 fn send_over_a_list(rt: HostRuntime) -> Outcome {
-    let mut link = ListLink::of(Vec::new(rt.alloc()));
     let to = Actor::Node(node(1)?);
+    let mut link = ListLink::of(Vec::new(rt.alloc()));
     for before in 0..5usize {
         let given = link.send(to, parcel(1));
         took(&link, given, before)?;
@@ -40,8 +40,8 @@ fn send_over_a_list(rt: HostRuntime) -> Outcome {
 
 #[test]
 fn tell_all_over_a_list(rt: HostRuntime) -> Outcome {
-    let mut link = ListLink::of(Vec::new(rt.alloc()));
     let post = Post::Nudge(node(1)?);
+    let mut link = ListLink::of(Vec::new(rt.alloc()));
     let given = link.tell_all(post);
     took(&link, given, 0)
 }
@@ -73,8 +73,8 @@ fn brings<R: Wait + Copy>(links: &mut Vec<ChannelLink<R>>, post: &Post) -> Outco
 
 #[test]
 fn send_over_channels(rt: HostRuntime) -> Outcome {
-    let mut links = links(rt, rt.alloc(), 0)?;
     let to = Actor::Client(client(2)?);
+    let mut links = links(rt, rt.alloc(), 0)?;
     let Some(of_node) = links.first_mut() else {
         return Err(Failure::Wrong);
     };
@@ -85,21 +85,23 @@ fn send_over_channels(rt: HostRuntime) -> Outcome {
 /// A late parcel is held, and its client is nudged.
 #[test]
 fn send_late_over_channels(rt: HostRuntime) -> Outcome {
-    let mut links = links(rt, rt.alloc(), 1_000)?;
     let to = Actor::Client(client(2)?);
+    let nudge = Post::Nudge(node(1)?);
+    let mut links = links(rt, rt.alloc(), 1_000)?;
     let Some(of_node) = links.first_mut() else {
         return Err(Failure::Wrong);
     };
     of_node.send(to, parcel(7))?;
-    brings(&mut links, &Post::Nudge(node(1)?))
+    brings(&mut links, &nudge)
 }
 
 #[test]
 fn tell_all_over_channels(rt: HostRuntime) -> Outcome {
+    let one = node(1)?;
     let mut links = links(rt, rt.alloc(), 0)?;
     let Some(of_node) = links.first_mut() else {
         return Err(Failure::Wrong);
     };
-    of_node.tell_all(Post::Gone(node(1)?))?;
-    brings(&mut links, &Post::Gone(node(1)?))
+    of_node.tell_all(Post::Gone(one))?;
+    brings(&mut links, &Post::Gone(one))
 }

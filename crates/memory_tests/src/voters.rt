@@ -25,8 +25,9 @@ fn told_once() -> Counted<FirstProblem> {
 
 /// n1 with this record; where memory is refused the policy comes back as it was.
 fn risen(alloc: Global, bytes: &[u8]) -> Result<NodeCore, Failure> {
+    let id = node(1)?;
     let policy: Box<dyn Admission + Send> = Box::new(alloc, told_once())?;
-    match NodeCore::rise(alloc, node(1)?, bytes, policy) {
+    match NodeCore::rise(alloc, id, bytes, policy) {
         Ok(core) => Ok(core),
         Err((policy, fault)) => refused(
             is_memory(fault) && policy.tally() == (1, 0) && policy.problem() == 1,
@@ -82,16 +83,16 @@ fn takes(alloc: Global, core: &mut NodeCore, message: &Message) -> Result<bool, 
 
 #[test]
 fn take_a_request(rt: HostRuntime) -> Outcome {
-    let mut core = risen(rt.alloc(), &ONE)?;
     let message = request(2, Mode::Write)?;
+    let mut core = risen(rt.alloc(), &ONE)?;
     let changed = takes(rt.alloc(), &mut core, &message)?;
     check(changed && core.phase() == Phase::Decided && core.replies() == 1)
 }
 
 #[test]
 fn take_a_request_again(rt: HostRuntime) -> Outcome {
-    let mut core = risen(rt.alloc(), &ONE)?;
     let message = request(1, Mode::Read)?;
+    let mut core = risen(rt.alloc(), &ONE)?;
     let changed = takes(rt.alloc(), &mut core, &message)?;
     check(!changed && core.phase() == Phase::Stored && core.replies() == 1)
 }

@@ -296,15 +296,6 @@ fn weighted_votes(rt: HostRuntime) -> Outcome {
     play(rt.alloc(), &mut world, WEIGHTED)
 }
 
-/// Takes events by `run`, as far as it goes; answers how many it took and what stopped it.
-fn run(world: &mut World, events: &[Event]) -> Result<(usize, Option<StepFault>), Failure> {
-    match world.run(events) {
-        Ok(taken) => Ok((taken, None)),
-        Err((_, StepFault::Memory)) => Err(Failure::Memory),
-        Err((taken, fault)) => Ok((taken, Some(fault))),
-    }
-}
-
 /// The events of three rows.
 fn three_events(rows: [&str; 3]) -> Option<[Event; 3]> {
     let [first, second, third] = rows;
@@ -312,6 +303,19 @@ fn three_events(rows: [&str; 3]) -> Option<[Event; 3]> {
     let second = event(second)?;
     let third = event(third)?;
     Some([first, second, third])
+}
+
+/// Takes the events of three rows by `run`, as far as it goes; answers how many it took and what
+/// stopped it.
+fn run(world: &mut World, rows: [&str; 3]) -> Result<(usize, Option<StepFault>), Failure> {
+    let Some(events) = three_events(rows) else {
+        return Err(Failure::Wrong(0));
+    };
+    match world.run(&events) {
+        Ok(taken) => Ok((taken, None)),
+        Err((_, StepFault::Memory)) => Err(Failure::Memory),
+        Err((taken, fault)) => Ok((taken, Some(fault))),
+    }
 }
 
 const CHOOSING: [&str; 3] = ["begin c1 read a", "try c1", "kept c1"];
@@ -322,11 +326,9 @@ const ASKING: [&str; 3] = ["sayto c1 n1", "enter c1", "sayto c1 n2"];
 fn a_run_stops_at_a_refusal(rt: HostRuntime) -> Outcome {
     let alloc = rt.alloc();
     let mut world = three_nodes(alloc)?;
-    let chosen = three_events(CHOOSING).ok_or(Failure::Wrong(0))?;
-    let asked = three_events(ASKING).ok_or(Failure::Wrong(1))?;
-    check(run(&mut world, &[])? == (0, None))?;
-    check(run(&mut world, &chosen)? == (3, None))?;
-    check(run(&mut world, &asked)? == (1, Some(StepFault::NoQuorum)))?;
+    check(world.run(&[]) == Ok(0))?;
+    check(run(&mut world, CHOOSING)? == (3, None))?;
+    check(run(&mut world, ASKING)? == (1, Some(StepFault::NoQuorum)))?;
     is_sent(alloc, &world, 1, "request n1 c1 1 read a")?;
     is_sent(alloc, &world, 2, "")
 }
@@ -347,9 +349,13 @@ sayto c1 n1 > refused 612";
 
 /// c1 says its request to n1.
 fn asks_again(world: &mut World) -> Outcome {
-    let ask = event("sayto c1 n1").ok_or(Failure::Wrong(0))?;
-    world.step(&ask)?;
-    Ok(())
+    let Some(ask) = event("sayto c1 n1") else {
+        return Err(Failure::Wrong(0));
+    };
+    match world.step(&ask) {
+        Ok(_) => Ok(()),
+        Err(fault) => Err(fault.into()),
+    }
 }
 
 #[test]
