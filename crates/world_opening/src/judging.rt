@@ -1,0 +1,210 @@
+// Judging the records from which a world is opened.
+
+ghost use Rattle.std.specs.Prelude.{◌≡◌, ◌<◌, ◌≤◌, ◌+◌, ℕ, List, length, map, IfOk, IfErr};
+ghost use Rattle.std.specs.List.{list_all};
+ghost use Rattle.lock_messages.specs.declared.ids.TheConstants.{MAX_NODES, MAX_CLIENTS};
+ghost use Rattle.lock_model.specs.declared.problems.Problem.{Problem};
+ghost use Rattle.lock_model.specs.Ballots.{Ballot, Crosses};
+ghost use Rattle.stable_record.specs.declared.node_records.NodeRecord.{NodeRecord};
+ghost use Rattle.world_model.specs.Openings.{kept_attempt, live_within, entry_within, entries_within};
+ghost use Rattle.world_model.specs.Openings.{IsResumable};
+ghost use Rattle.world_opening.specs.Openings.{IsFound, IsRecordOf, IsAttemptOf, AreRecords, AreAttempts, stations_in, IsRefusedOpening};
+
+use crate::OpeningFault;
+use lock_messages::{Actor, ClientId, NodeId};
+use lock_model::{Entry, Live, Problem};
+use stable_record::{NodeRecord, RecordFault, read_client, read_node};
+use std::alloc::{AllocError, Global};
+
+/// What the nodes and the clients of a world have kept: a record of each node, and of each client the
+/// attempt that it made last, 0 for none.
+#[derive(Debug, Drop)]
+pub struct Opening {
+    pub records: Vec<NodeRecord>,
+    pub attempts: Vec<u64>,
+}
+
+/// The record of this problem that the bytes are, if they are one.
+fn record_of(
+    alloc: Global,
+    problem: Problem,
+    bytes: &[u8],
+) -> Result<Option<NodeRecord>, AllocError>
+    ensures { IfOk result (IsFound (IsRecordOf problem bytes.now)) }
+{
+    match read_node(alloc, bytes) {
+        Ok(record) => {
+            if record.policy == problem {
+                Ok(Some(record))
+            } else {
+                Ok(None)
+            }
+        }
+        Err(RecordFault::NoMemory) => Err(AllocError),
+        Err(_) => Ok(None),
+    }
+}
+
+/// The attempt whose client record the bytes are, if they are one.
+fn attempt_of(bytes: &[u8]) -> Option<u64>
+    ensures { IsFound (IsAttemptOf bytes.now) result }
+{
+    read_client(bytes).ok()
+}
+
+/// The node, or the client, at a place that is counted from 0.
+fn node_at(place: usize) -> NodeId
+    requires { place < MAX_NODES }
+    ensures { result ≡ place + 1 }
+{
+    NodeId::of(place as u8 + 1).unwrap()
+}
+
+fn client_at(place: usize) -> ClientId
+    requires { place < MAX_CLIENTS }
+    ensures { result ≡ place + 1 }
+{
+    ClientId::of(place as u32 + 1).unwrap()
+}
+
+/// The records of all nodes.
+fn records_of(
+    alloc: Global,
+    problems: &[Problem],
+    found: &[Vec<u8>],
+) -> Result<Vec<NodeRecord>, OpeningFault>
+    requires count { length found.now ≡ length problems.now }
+    requires few { length found.now ≤ MAX_NODES }
+    ensures records { IfOk result (λ records. AreRecords problems.now (map (λ v. v.items) found.now) records.items) }
+    ensures refused { (clients : List (List ℕ)) → IfErr result (λ fault. IsRefusedOpening problems.now (map (λ v. v.items) found.now) clients fault) }
+{
+    let mut records = Vec::new(alloc);
+    for place in 0..found.len() {
+        let problem = problems[place];
+        let Ok(read) = record_of(alloc, problem, &found[place]) else {
+            return Err(OpeningFault::Memory);
+        };
+        let Some(record) = read else {
+            return Err(OpeningFault::NoRecord(Actor::Node(node_at(place))));
+        };
+        let Ok(()) = records.push(record) else {
+            return Err(OpeningFault::Memory);
+        };
+    }
+    Ok(records)
+}
+
+/// The attempts of all clients.
+fn attempts_of(alloc: Global, found: &[Vec<u8>]) -> Result<Vec<u64>, OpeningFault>
+    requires { length found.now ≤ MAX_CLIENTS }
+    ensures attempts { IfOk result (λ attempts. AreAttempts (map (λ v. v.items) found.now) attempts.items) }
+    ensures refused { (problems : List Problem) (nodes : List (List ℕ)) (records : List NodeRecord) → AreRecords problems nodes records →
+        IfErr result (λ fault. IsRefusedOpening problems nodes (map (λ v. v.items) found.now) fault) }
+{
+    let mut attempts = Vec::new(alloc);
+    for place in 0..found.len() {
+        let Some(attempt) = attempt_of(&found[place]) else {
+            return Err(OpeningFault::NoRecord(Actor::Client(client_at(place))));
+        };
+        let Ok(()) = attempts.push(attempt) else {
+            return Err(OpeningFault::Memory);
+        };
+    }
+    Ok(attempts)
+}
+
+/// The attempt that a client has kept, 0 for one that isn't there.
+fn kept_attempt(attempts: &[u64], client: ClientId) -> u64
+    ensures { result ≡ kept_attempt attempts.now client }
+{
+    let place = client.get() as usize - 1;
+    if place < attempts.len() {
+        attempts[place]
+    } else {
+        0
+    }
+}
+
+fn live_within(kept: u64, live: Option<Live>) -> bool
+    ensures { result ≡ live_within kept live }
+{
+    match live {
+        None => true,
+        Some(live) => live.attempt.get() <= kept,
+    }
+}
+
+/// Whether an entry's floor and live attempt are not above the attempt that its client has kept.
+fn entry_within(attempts: &[u64], entry: Entry) -> bool
+    ensures { result ≡ entry_within attempts.now entry }
+{
+    let kept = kept_attempt(attempts, entry.client);
+    entry.floor <= kept && live_within(kept, entry.live)
+}
+
+fn record_within(attempts: &[u64], record: &NodeRecord) -> bool
+    ensures { result ≡ entries_within attempts.now record.now.entries }
+{
+    for place in 0..record.entries.len() {
+        if let Some(entry) = record.entries.get(place) {
+            if !entry_within(attempts, entry) {
+                return false;
+            }
+        }
+    }
+    true
+}
+
+/// Whether no entry of a record is above its client's attempt.
+fn records_within(attempts: &[u64], records: &[NodeRecord]) -> bool
+    ensures { result ≡ list_all (λ r. entries_within attempts.now r.entries) records.now }
+{
+    records.iter().all(|record| record_within(attempts, record))
+}
+
+fn fits(opening: &Opening) -> bool
+    ensures { result ≡ list_all (λ r. entries_within opening.now.attempts.items r.entries) opening.now.records.items }
+{
+    records_within(&opening.attempts, &opening.records)
+}
+
+/// What a world is opened from: the records that its nodes and clients have kept, if they fit.
+///
+/// `problems` are those that the nodes' policies solve, one for each record in `nodes`; `clients` has
+/// the records of all clients. The caller owes as many records as problems, at most `MAX_NODES`, and at
+/// most `MAX_CLIENTS` records of clients. Under each ballot that crosses, a world that is opened from
+/// what is answered is a lawful opening.
+///
+/// Errors: a record can't be read or is of the other problem (622), with the first such actor, nodes
+/// first; then an entry's floor or attempt is above the attempt of its client (621), where a client that
+/// isn't there counts as 0; and want of memory (613), which may come before both. It reads each record
+/// once.
+pub fn judge(
+    alloc: Global,
+    problems: &[Problem],
+    nodes: &[Vec<u8>],
+    clients: &[Vec<u8>],
+) -> Result<Opening, OpeningFault>
+    requires count { length nodes.now ≡ length problems.now }
+    requires few_nodes { length nodes.now ≤ MAX_NODES }
+    requires few_clients { length clients.now ≤ MAX_CLIENTS }
+    ensures records { IfOk result (λ o. AreRecords problems.now (map (λ v. v.items) nodes.now) o.records.items) }
+    ensures attempts { IfOk result (λ o. AreAttempts (map (λ v. v.items) clients.now) o.attempts.items) }
+    // Under a ballot that crosses and has these nodes, a world can be opened from it.
+    ensures resumable { IfOk result (λ o. (b : Ballot) → Crosses b → length problems.now ≡ length b.votes → IsResumable b (stations_in o.records.items) o.attempts.items) }
+    ensures refused { IfErr result (λ fault. IsRefusedOpening problems.now (map (λ v. v.items) nodes.now) (map (λ v. v.items) clients.now) fault) }
+{
+    let records = match records_of(alloc, problems, nodes) {
+        Ok(records) => records,
+        Err(fault) => return Err(fault),
+    };
+    let attempts = match attempts_of(alloc, clients) {
+        Ok(attempts) => attempts,
+        Err(fault) => return Err(fault),
+    };
+    let opening = Opening { records, attempts };
+    if !fits(&opening) {
+        return Err(OpeningFault::EntryAboveAttempt);
+    }
+    Ok(opening)
+}
