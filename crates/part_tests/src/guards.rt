@@ -6,7 +6,7 @@ ghost use Rattle.client_core.specs.Calls.{MayEnter, entered, left, ReleasesAll};
 use crate::outcomes::{Outcome, check};
 use crate::rows::{message, node};
 use client_core::{ClientCore, Heard, Phase};
-use entry_guard::{Door, EntryGuard, OwnedEntry, enter_client};
+use entry_guard::{Door, EntryGuard, OwnedEntry, enter_client, visit};
 use lock_messages::{ClientId, Message, Mode, ResourceName, Ticket};
 use std::alloc::Global;
 use std::mem;
@@ -169,7 +169,8 @@ fn guard(rt: HostRuntime) -> Outcome {
     check(is_refused(), 2)?;
     check(leaves_by_a_question_mark(), 3)?;
     check(is_owned(rt.alloc()), 4)?;
-    check(is_handed_back(rt.alloc()), 5)
+    check(is_handed_back(rt.alloc()), 5)?;
+    check(is_visited(rt.alloc()), 6)
 }
 
 fn boxed(alloc: Global, votes: usize) -> Option<Box<dyn Door + Send>> {
@@ -185,6 +186,16 @@ fn is_owned(alloc: Global) -> Option<bool> {
     let same = entry.ticket() == ticket()?;
     let door = entry.leave();
     Some(same && !door.inside() && !door.may_enter() && door.ticket().is_none())
+}
+
+/// Whether a core in a box enters with its ticket, and leaves.
+fn is_visited(alloc: Global) -> Option<bool> {
+    let core = core_with(2)?;
+    if !core.may_enter() {
+        return Some(false);
+    }
+    let seen = visit(alloc, core).ok()?;
+    Some(seen.with == ticket()? && seen.ticket.is_none() && !seen.inside)
 }
 
 /// Whether an owned door that may not enter comes back as it was.
