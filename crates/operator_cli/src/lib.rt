@@ -18,18 +18,12 @@
 #![tactic(auto)]
 
 mod answers;
-#[cfg(test)]
-mod examples;
 mod faults;
 mod heads;
 mod lines;
 mod script;
 mod serving;
-#[cfg(test)]
-mod serving_tests;
 mod settings;
-#[cfg(test)]
-mod stream_tests;
 mod texts;
 
 pub use faults::{ServeFault, SettingsFault};

@@ -18,8 +18,6 @@ mod events;
 mod exact;
 pub mod laws;
 mod nodes;
-#[cfg(test)]
-mod tests;
 mod world;
 
 /// The most messages that a world has. They are numbered from 1.
