@@ -1,3 +1,0 @@
-pub mod Doing
-pub mod Machines
-pub mod Listing
