@@ -1,0 +1,120 @@
+-- What the program does with its words: the status that it ends with, what it writes, and what it
+-- says on the second writer.
+use Rattle.std.specs.Prelude.{◌≡◌, ◌⊎◌, ℕ, Bool, true, false, List, [], ◌∷◌, ◌++◌, Option, Result, Ok, Err, codes}
+use Rattle.std.specs.Fmt.{decimal}
+use Rattle.std.specs.Io.KnownBytes.{Keeps, Appends}
+use Rattle.clap.specs.Words.{App, with_subcommand, fault_of, IsAmong, Kinds}
+use Rattle.clap.specs.Simple.{new_shape}
+use Rattle.clap.specs.declared.error.kind.ErrorKind.{ErrorKind}
+use Rattle.clap.specs.declared.error.kind.ErrorKind.TheVariants as kind
+use Rattle.line_streams.specs.Streams.{AppendsBeginning}
+use Rattle.operator_cli.specs.declared.faults.ServeFault.{ServeFault}
+use Rattle.operator_cli.specs.declared.faults.ServeFault.TheVariants as fault
+use Rattle.operator_cli.specs.Faults.{serve_fault_number}
+use Rattle.operator_cli.specs.Outputs.{Serves}
+use Rattle.command_line.specs.declared.ending.Ended.{Ended}
+use Rattle.command_line.specs.declared.reading.Sort.{Sort}
+use Rattle.command_line.specs.declared.reading.Sort.TheVariants as sort
+use Rattle.command_line.specs.declared.reading.Unserved.{Unserved}
+use Rattle.command_line.specs.declared.reading.Unserved.TheVariants as unserved
+
+-- The words that the program takes: `script` and nothing else, and on either level a request for
+-- help; on the upper one also a request for the version.
+abbrev pub app : App
+app = with_subcommand
+    (record {
+      top = record (new_shape (codes "rwvote")) { has_version = true; subcommand_required = true; disable_help_subcommand = true };
+      subs = [];
+    })
+    (new_shape (codes "script"))
+
+-- What `clap` says of words that name no command: it lacked memory, help or the version is asked
+-- for, or they are wrong.
+abbrev pub sort_of : ErrorKind → Sort
+sort_of kind.OutOfMemory = sort.NoMemory
+sort_of kind.DisplayHelp = sort.Help
+sort_of kind.DisplayVersion = sort.Help
+sort_of k = sort.Wrong
+
+-- one of the kinds is of this sort
+abbrev pub HasSort : Sort → Kinds → Type 0
+HasSort s kinds = (k : ErrorKind) × IsAmong k kinds × (sort_of k ≡ s)
+
+abbrev pub IsOfSort : Sort → Unserved → Type 0
+IsOfSort s unserved.NoMemory = Unit {0}
+IsOfSort s (unserved.Help text) = s ≡ sort.Help
+IsOfSort s (unserved.Wrong text) = s ≡ sort.Wrong
+
+-- how words were read that may fail by these kinds
+abbrev pub ReadsWords : Kinds → Result (Unit {0}) Unserved → Type 0
+ReadsWords kinds (Ok u) = kinds ≡ []
+ReadsWords kinds (Err unserved.NoMemory) = Unit {0}
+ReadsWords kinds (Err (unserved.Help text)) = HasSort sort.Help kinds
+ReadsWords kinds (Err (unserved.Wrong text)) = HasSort sort.Wrong kinds
+
+-- A text went to the second writer: all of it, or a beginning.
+abbrev pub Says : Option (List ℕ) → Option (List ℕ) → List ℕ → Bool → Type 0
+Says old new text true = Appends old new text
+Says old new text false = AppendsBeginning old new text
+
+-- `fault 933`
+abbrev pub fault_text : ServeFault → List ℕ
+fault_text f = codes "fault " ++ decimal (serve_fault_number f) ++ codes "\n"
+
+-- a text was said there, and the run ends with this status
+abbrev pub EndsSaying : ℕ → List ℕ → Option (List ℕ) → Option (List ℕ) → Ended → Type 0
+EndsSaying status text old new e = (e.status ≡ status) × Says old new text e.told
+
+-- A fault is told on the second writer, and the status is 1.
+abbrev pub TellsFault : ServeFault → Option (List ℕ) → Option (List ℕ) → Ended → Type 0
+TellsFault f old new e = EndsSaying 1 (fault_text f) old new e
+
+-- What is said of a word that is not UTF-8.
+abbrev pub no_text_words : List ℕ
+no_text_words = codes "error: a word is not UTF-8 text\n\nFor more information, try '--help'.\n"
+
+-- How a run ends whose words could not be read: memory was refused, or else a word is not UTF-8.
+pub record EndsUnread (IsMemory : Type 0) (old new : Option (List ℕ)) (e : Ended) : Type 0 where
+  pub memory : IsMemory → TellsFault fault.Memory old new e
+  pub words : (IsMemory → ⊥) → EndsSaying 2 no_text_words old new e
+
+-- What the first writer had before and has after, and the second.
+pub record Writers : Type 0 where
+  pub old : Option (List ℕ)
+  pub new : Option (List ℕ)
+  pub errors_old : Option (List ℕ)
+  pub errors_new : Option (List ℕ)
+
+-- A run that `serve` made: its status, and nothing on the second writer; or its fault, told there.
+abbrev pub EndsServed : Result ℕ ServeFault → Option (List ℕ) → Option (List ℕ) → Ended → Type 0
+EndsServed (Ok status) old new e = (e.status ≡ status) × (e.told ≡ true) × Keeps old new
+EndsServed (Err f) old new e = TellsFault f old new e
+
+abbrev pub RunsScript : Option (List ℕ) → Writers → Ended → Type 0
+RunsScript input w e = (r : Result ℕ ServeFault) × Serves input w.old w.new r × EndsServed r w.errors_old w.errors_new e
+
+-- A text went to the first writer, and the status is 0; or that failed, which is told as such.
+abbrev pub Shows : List ℕ → Writers → Ended → Type 0
+Shows text w e =
+    (Appends w.old w.new text × (e.status ≡ 0) × (e.told ≡ true) × Keeps w.errors_old w.errors_new)
+    ⊎ (AppendsBeginning w.old w.new text × TellsFault fault.Write w.errors_old w.errors_new e)
+
+-- the text is one of `clap`
+abbrev pub ShowsHelp : Writers → Ended → Type 0
+ShowsHelp w e = (text : List ℕ) × Shows text w e
+
+abbrev pub RefusesWords : Writers → Ended → Type 0
+RefusesWords w e = (text : List ℕ) × Keeps w.old w.new × EndsSaying 2 text w.errors_old w.errors_new e
+
+-- memory was refused while the words were read
+abbrev pub LacksMemory : Writers → Ended → Type 0
+LacksMemory w e = Keeps w.old w.new × TellsFault fault.Memory w.errors_old w.errors_new e
+
+-- What a run does with words that were read. `clap` says which are right, and of which kind the
+-- others are: `fault_of` is empty where `script` is named.
+abbrev pub RunsBy : Option (List ℕ) → Kinds → Writers → Ended → Type 0
+RunsBy input kinds w e =
+    LacksMemory w e ⊎ (((kinds ≡ []) × RunsScript input w e) ⊎ ((HasSort sort.Help kinds × ShowsHelp w e) ⊎ (HasSort sort.Wrong kinds × RefusesWords w e)))
+
+abbrev pub Runs : Option (List ℕ) → List (List ℕ) → Writers → Ended → Type 0
+Runs input words w e = RunsBy input (fault_of app words) w e

@@ -1,0 +1,186 @@
+// A whole run of the program, from its words to its status.
+
+ghost use Rattle.std.specs.Prelude.{◌≡◌, map, string_bytes, IfOk, IfErr};
+ghost use Rattle.std.specs.IoError.{error_kind};
+ghost use Rattle.std.specs.Io.KnownBytes.{Keeps};
+ghost use Rattle.std.specs.Vec.Iter.{into_iter_items};
+ghost use Rattle.clap.specs.Words.{fault_of};
+ghost use Rattle.operator_cli.specs.Outputs.{Serves};
+ghost use Rattle.command_line.specs.CommandLine.{app, Says, EndsSaying, TellsFault, EndsUnread, EndsServed, RunsScript, Shows, ReadsWords, RunsBy, Runs, no_text_words, fault_text};
+
+use crate::reading::{Unserved, read_words};
+use line_streams::write_text;
+use operator_cli::{Order, ServeFault, serve};
+use std::alloc::{AllocError, Global};
+use std::env::Args;
+use std::io;
+use std::io::{ErrorKind, Read, Write};
+
+/// How a run ended.
+#[derive(Clone, Copy, Debug, PartialEq, Eq)]
+pub struct Ended {
+    /// What the program ends with: 0, 1 or 2.
+    pub status: u8,
+    /// Whether all that was to be said on the second writer was written there.
+    pub told: bool,
+}
+
+/// Says a text on the second writer.
+fn say<E: Write>(status: u8, text: &str, errors: &mut E) -> Ended
+    ensures { EndsSaying status text.now (E.contents errors.old) (E.contents errors.new) result }
+{
+    match write_text(errors, text.as_bytes()) {
+        Ok(()) => Ended { status, told: true },
+        Err(_) => Ended {
+            status,
+            told: false,
+        },
+    }
+}
+
+/// What is said of a fault: a fixed text, so that want of memory can be told without memory.
+fn fault_text(fault: ServeFault) -> &'static str
+    ensures { result.now ≡ fault_text fault }
+{
+    match fault {
+        ServeFault::Read => "fault 931\n",
+        ServeFault::Write => "fault 932\n",
+        ServeFault::Memory => "fault 933\n",
+    }
+}
+
+/// Tells a fault.
+fn tell_fault<E: Write>(fault: ServeFault, errors: &mut E) -> Ended
+    ensures { TellsFault fault (E.contents errors.old) (E.contents errors.new) result }
+{
+    say(1, fault_text(fault), errors)
+}
+
+/// Tells that the words could not be read.
+fn tell_unread<E: Write>(error: io::Error, errors: &mut E) -> Ended
+    ensures { EndsUnread (error_kind error ≡ ErrorKind.OutOfMemory) (E.contents errors.old) (E.contents errors.new) result }
+{
+    if error.kind() == ErrorKind::OutOfMemory {
+        return tell_fault(ServeFault::Memory, errors);
+    }
+    say(
+        2,
+        "error: a word is not UTF-8 text\n\nFor more information, try '--help'.\n",
+        errors,
+    )
+}
+
+/// Ends a run that was served.
+fn end_served<E: Write>(came: Result<u8, ServeFault>, errors: &mut E) -> Ended
+    ensures { EndsServed came (E.contents errors.old) (E.contents errors.new) result }
+{
+    match came {
+        Ok(status) => Ended { status, told: true },
+        Err(fault) => tell_fault(fault, errors),
+    }
+}
+
+/// Runs a script.
+fn run_script<R: Read, W: Write, E: Write>(
+    alloc: Global,
+    reader: R,
+    output: &mut W,
+    errors: &mut E,
+) -> Ended
+where
+    R: Drop,
+    ensures { RunsScript (R.remaining reader) (record { old = W.contents output.old; new = W.contents output.new; errors_old = E.contents errors.old; errors_new = E.contents errors.new }) result }
+{
+    let came = serve(alloc, Order::Script, reader, output);
+    end_served(came, errors)
+}
+
+/// Shows a text on the first writer.
+fn show<W: Write, E: Write>(text: &str, output: &mut W, errors: &mut E) -> Ended
+    ensures { Shows text.now (record { old = W.contents output.old; new = W.contents output.new; errors_old = E.contents errors.old; errors_new = E.contents errors.new }) result }
+{
+    match write_text(output, text.as_bytes()) {
+        Ok(()) => Ended {
+            status: 0,
+            told: true,
+        },
+        Err(_) => tell_fault(ServeFault::Write, errors),
+    }
+}
+
+/// Does what the words say.
+#[tactic(auto, using(crate::proofs::WordFacts::runs_lacking, crate::proofs::WordFacts::runs_script, crate::proofs::WordFacts::runs_help, crate::proofs::WordFacts::runs_wrong))]
+fn run_words<R: Read, W: Write, E: Write>(
+    alloc: Global,
+    words: &[String],
+    reader: R,
+    output: &mut W,
+    errors: &mut E,
+) -> Ended
+where
+    R: Drop,
+    ensures { Runs (R.remaining reader) (map string_bytes words.now) (record { old = W.contents output.old; new = W.contents output.new; errors_old = E.contents errors.old; errors_new = E.contents errors.new }) result }
+{
+    match read_words(alloc, words) {
+        Ok(()) => run_script(alloc, reader, output, errors),
+        Err(Unserved::NoMemory) => tell_fault(ServeFault::Memory, errors),
+        Err(Unserved::Help(text)) => show(text.as_str(), output, errors),
+        Err(Unserved::Wrong(text)) => say(2, text.as_str(), errors),
+    }
+}
+
+/// The words, one behind another.
+fn collected(alloc: Global, words: Args) -> Result<Vec<String>, AllocError>
+    ensures { IfOk result (λ all. all.items ≡ into_iter_items words) }
+{
+    words.collect(alloc)
+}
+
+/// Does what the words say that the program was given.
+#[tactic(auto, using(crate::proofs::WordFacts::runs_lacking))]
+fn run_given<R: Read, W: Write, E: Write>(
+    alloc: Global,
+    given: Args,
+    reader: R,
+    output: &mut W,
+    errors: &mut E,
+) -> Ended
+where
+    R: Drop,
+    ensures { Runs (R.remaining reader) (map string_bytes (into_iter_items given)) (record { old = W.contents output.old; new = W.contents output.new; errors_old = E.contents errors.old; errors_new = E.contents errors.new }) result }
+{
+    let Ok(all) = collected(alloc, given) else {
+        return tell_fault(ServeFault::Memory, errors);
+    };
+    run_words(alloc, all.as_slice(), reader, output, errors)
+}
+
+/// Runs the program: does what the words say with the bytes of the reader, and answers how it ended.
+///
+/// The words are those of `std::env::args`, the program's name first. `script` serves what the
+/// reader gives, as `operator_cli::serve` does, onto `output`: the status is that of `serve`, and
+/// nothing goes to `errors`; a fault of `serve` is told there as `fault N`, with status 1. `--help`
+/// and `--version`, also `script --help`, go to `output`, with status 0 (`fault 932` and 1 where that
+/// fails). Other words are wrong, and so is one that is not UTF-8: a text on `errors` says so, and the
+/// status is 2. Where memory is refused while words are read, `fault 933` is told, with status 1.
+///
+/// Contracts speak of what the reader has left and of what the writers hold, where these are known.
+/// The caller owes nothing.
+pub fn run<R: Read, W: Write, E: Write>(
+    alloc: Global,
+    words: io::Result<Args>,
+    reader: R,
+    output: &mut W,
+    errors: &mut E,
+) -> Ended
+where
+    R: Drop,
+    ensures runs { IfOk words (λ all. Runs (R.remaining reader) (map string_bytes (into_iter_items all)) (record { old = W.contents output.old; new = W.contents output.new; errors_old = E.contents errors.old; errors_new = E.contents errors.new }) result) }
+    ensures unread { IfErr words (λ error. EndsUnread (error_kind error ≡ ErrorKind.OutOfMemory) (E.contents errors.old) (E.contents errors.new) result) }
+    ensures unread_keeps { IfErr words (λ error. Keeps (W.contents output.old) (W.contents output.new)) }
+{
+    match words {
+        Ok(given) => run_given(alloc, given, reader, output, errors),
+        Err(error) => tell_unread(error, errors),
+    }
+}

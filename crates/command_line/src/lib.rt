@@ -1,0 +1,17 @@
+//! The program's edge: from its words to the status that it ends with.
+//!
+//! `run` reads the words by `clap`, serves what they name, and says on a second writer what has no
+//! place on the first: faults, and what is wrong with words. The program itself is one call of it.
+//!
+//! The crate promises, by the contract of `run`, the status and what is written on both writers:
+//! the status of `serve` as it is and nothing on the second; a fault of `serve` as `fault N` there
+//! and 1; wrong words as 2, by what `clap` says of them; a request for help or for the version as 0.
+//! `specs/CommandLine` says so.
+//!
+//! It stands on `operator_cli`, `line_streams` and `clap`.
+#![tactic(auto)]
+
+mod ending;
+mod reading;
+
+pub use ending::{Ended, run};
