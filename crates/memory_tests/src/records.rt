@@ -44,20 +44,6 @@ fn push_entries(rt: HostRuntime) -> Outcome {
     Ok(())
 }
 
-/// Pushes the entry of a client that has one: it asks for no memory, so it has to succeed.
-fn pushes_again(entries: &mut Entries, number: u32) -> Outcome {
-    let entry = ended(number)?;
-    let pushed = entries.push(entry);
-    check(pushed.ok() == Some(false))
-}
-
-#[test]
-fn push_a_known_entry(rt: HostRuntime) -> Outcome {
-    let mut entries = Entries::new(rt.alloc());
-    pushes(&mut entries, 1)?;
-    pushes_again(&mut entries, 1)
-}
-
 fn reads_two(record: &NodeRecord) -> bool {
     record.policy == Problem::Second && record.entries.len() == 2 && record.lawful()
 }

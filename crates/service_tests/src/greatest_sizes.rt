@@ -3,7 +3,7 @@
 
 use crate::outcomes::{Failure, Outcome, check};
 use crate::playing::{plays, served};
-use operator_cli::{Order, serve};
+use operator_cli::{Order, ServeFault, serve};
 use std::alloc::Global;
 use std::io;
 use std::io::{Read, Write};
@@ -187,6 +187,9 @@ fn all_messages(rt: HostRuntime) -> Outcome {
     };
     let reader = reader_of(b"sayto c1 n1\n", MAX_MESSAGES + 1);
     let ended = serve(rt.alloc(), Order::Script, reader, &mut out);
+    if ended == Err(ServeFault::Memory) || ended == Ok(2) {
+        return Err(Failure::Memory);
+    }
     check(ended == Ok(1))?;
     check(out.lines == MAX_MESSAGES as usize + 4)?;
     check(out.last == *b"refused 612\n")
