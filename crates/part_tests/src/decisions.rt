@@ -3,7 +3,7 @@
 
 use crate::nodes::{FIRST, SECOND, SETTLED, WRITER_WAITS, has_record, policy_of, risen, same_step};
 use crate::outcomes::{Outcome, Table, check, each};
-use crate::rows::message;
+use crate::rows::{message, release};
 use lock_messages::Message;
 use lock_model::{Entry, Problem, Status, decide};
 use std::alloc::Global;
@@ -71,11 +71,27 @@ fn play(alloc: Global, problem: Problem, core: &mut NodeCore, script: &str) -> O
     Some(entries)
 }
 
+/// Whether entries have this shape.
+fn has_shape(alloc: Global, entries: &[Entry], left: &str) -> Option<bool> {
+    let shape = shape(alloc, entries)?;
+    Some(shape.get(2..) == Some(left))
+}
+
 /// Whether a script goes to its end, and leaves entries of this shape.
 fn leads_to(alloc: Global, problem: Problem, script: &str, left: &str) -> Option<bool> {
     let mut core = new_core(alloc, problem)?;
-    let entries = play(alloc, problem, &mut core, script)?;
-    Some(shape(alloc, &entries)?.get(2..)? == left)
+    leads_on(alloc, problem, &mut core, script, left)
+}
+
+fn leads_on(
+    alloc: Global,
+    problem: Problem,
+    core: &mut NodeCore,
+    script: &str,
+    left: &str,
+) -> Option<bool> {
+    let entries = play(alloc, problem, core, script)?;
+    has_shape(alloc, &entries, left)
 }
 
 /// The same under both problems.
@@ -204,8 +220,12 @@ muddled n1 c1 1";
 pub(crate) fn changes_nothing(alloc: Global, row: &str) -> Option<bool> {
     let mut core = new_core(alloc, Problem::First)?;
     let entries = play(alloc, Problem::First, &mut core, FIRST_READER)?;
-    let decision = decide(alloc, Problem::First, &entries, &message(row)?).ok()?;
-    let is_same = decision.entries.as_slice() == entries.as_slice();
+    stays(alloc, &entries, &message(row)?)
+}
+
+fn stays(alloc: Global, entries: &[Entry], message: &Message) -> Option<bool> {
+    let decision = decide(alloc, Problem::First, entries, message).ok()?;
+    let is_same = decision.entries.as_slice() == entries;
     Some(is_same && !decision.changed && decision.replies.is_empty())
 }
 
@@ -230,19 +250,41 @@ fn are_to(replies: &[Message], digits: &str) -> bool {
     replies.len() == digits.len()
 }
 
+/// The entries after the release of the first digit's client; none where it lets in others than the
+/// clients of the other digits.
+fn releases(
+    alloc: Global,
+    problem: Problem,
+    core: &mut NodeCore,
+    entries: &[Entry],
+    digits: &str,
+) -> Option<Vec<Entry>> {
+    let message = release(digits.chars().next()?.to_digit(10)?, 1)?;
+    let decision = same_step(alloc, problem, core, entries, &message)?;
+    if are_to(&decision.replies, digits) {
+        Some(decision.entries)
+    } else {
+        None
+    }
+}
+
 /// Plays a beginning, and then the releases of an order, of which each word has the client that
 /// releases its attempt 1 and then the clients that this lets in.
 fn settles(alloc: Global, problem: Problem, beginning: &str, order: &str) -> Option<bool> {
     let mut core = new_core(alloc, problem)?;
-    let mut entries = play(alloc, problem, &mut core, beginning)?;
+    settles_on(alloc, problem, &mut core, beginning, order)
+}
+
+fn settles_on(
+    alloc: Global,
+    problem: Problem,
+    core: &mut NodeCore,
+    beginning: &str,
+    order: &str,
+) -> Option<bool> {
+    let mut entries = play(alloc, problem, core, beginning)?;
     for digits in order.split(' ') {
-        let row = format!(in alloc; "release n1 c{} 1", digits.get(..1)?).ok()?;
-        let message = message(row.as_str())?;
-        let decision = same_step(alloc, problem, &mut core, &entries, &message)?;
-        if !are_to(&decision.replies, digits) {
-            return Some(false);
-        }
-        entries = decision.entries;
+        entries = releases(alloc, problem, core, &entries, digits)?;
     }
     Some(true)
 }

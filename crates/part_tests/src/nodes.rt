@@ -93,6 +93,27 @@ fn has_entries(record: &NodeRecord, entries: &[Entry]) -> bool {
     record.entries.len() == entries.len()
 }
 
+/// Whether the node's record has these entries.
+fn keeps_entries(alloc: Global, core: &NodeCore, entries: &[Entry]) -> Option<bool> {
+    let record = read_node(alloc, &core.next_bytes(alloc).ok()?).ok()?;
+    Some(has_entries(&record, entries))
+}
+
+/// Whether a core makes of a message what the plain decision did.
+fn is_same(
+    alloc: Global,
+    core: &mut NodeCore,
+    message: &Message,
+    plain: &Decision,
+) -> Option<bool> {
+    let changed = takes(core, message)?;
+    keeps(core);
+    if changed != plain.changed || speaks(core)?.as_slice() != plain.replies.as_slice() {
+        return Some(false);
+    }
+    keeps_entries(alloc, core, &plain.entries)
+}
+
 /// What the plain decision makes of a message; none where the core differs in something.
 pub(crate) fn same_step(
     alloc: Global,
@@ -102,13 +123,10 @@ pub(crate) fn same_step(
     message: &Message,
 ) -> Option<Decision> {
     let plain = decide(alloc, problem, entries, message).ok()?;
-    let changed = takes(core, message)?;
-    keeps(core);
-    let replies = speaks(core)?;
-    let record = read_node(alloc, &core.next_bytes(alloc).ok()?).ok()?;
-    let is_same = changed == plain.changed
-        && changed == (plain.entries.as_slice() != entries)
-        && replies.as_slice() == plain.replies.as_slice()
-        && has_entries(&record, &plain.entries);
-    if is_same { Some(plain) } else { None }
+    let differs = plain.entries.as_slice() != entries;
+    if is_same(alloc, core, message, &plain) == Some(true) && plain.changed == differs {
+        Some(plain)
+    } else {
+        None
+    }
 }

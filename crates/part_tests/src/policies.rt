@@ -119,15 +119,21 @@ request n1 c3 1 read a
 request n1 c3 1 write a
 request n1 c4 1 read a";
 
+/// Takes each message, and replies.
+fn runs(core: &mut NodeCore) -> Option<()> {
+    for row in WATCHED.lines() {
+        takes(core, &message(row)?)?;
+        keeps(core);
+        speaks(core)?;
+    }
+    Some(())
+}
+
 /// Whether a policy was told so much in the run. Under problem 1 all three are admitted; under
 /// problem 2 c3 waits when it comes, and what lets it in later is not told.
 fn is_told(alloc: Global, problem: u8, record: &[u8], tally: (u64, u64)) -> Option<bool> {
     let mut core = risen(alloc, record, counting(alloc, problem)?)?;
-    for row in WATCHED.lines() {
-        takes(&mut core, &message(row)?)?;
-        keeps(&mut core);
-        speaks(&mut core)?;
-    }
+    runs(&mut core)?;
     Some(is_of(&core.fall(), problem, tally))
 }
 

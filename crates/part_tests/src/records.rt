@@ -59,13 +59,19 @@ const CHANGES: &str = "\
 73 01 0
 73 00 0";
 
-pub(crate) fn is_changed(alloc: Global, row: &str) -> Option<bool> {
-    let mut words = row.split(' ');
-    let place: usize = words.next()?.parse().ok()?;
-    let byte = u8::from_str_radix(words.next()?, 16).ok()?;
+/// The fault of the record with this byte at that place.
+fn fault_with(alloc: Global, place: usize, byte: u8) -> Option<u16> {
     let mut record = bytes(alloc, WRITER_WAITS)?;
     *record.get_mut(place)? = byte;
-    Some(words.next()?.parse() == Ok(fault_of(alloc, &record)?))
+    fault_of(alloc, &record)
+}
+
+pub(crate) fn is_changed(alloc: Global, row: &str) -> Option<bool> {
+    let (place, rest) = row.split_once(' ')?;
+    let (byte, want) = rest.split_once(' ')?;
+    let byte = u8::from_str_radix(byte, 16).ok()?;
+    let found = fault_with(alloc, place.parse().ok()?, byte)?;
+    Some(want.parse() == Ok(found))
 }
 
 /// Whether each beginning of a record is short.

@@ -60,6 +60,12 @@ pub(crate) fn message(row: &str) -> Option<Message> {
     with_ticket(kind, node, ticket)
 }
 
+/// The release of a client's attempt, to n1.
+pub(crate) fn release(client: u32, attempt: u64) -> Option<Message> {
+    let (client, attempt) = (ClientId::of(client)?, Attempt::of(attempt)?);
+    Some(Message::Release(NodeId::of(1)?, client, attempt))
+}
+
 /// The bytes that a row spells: each word is a field, in hexadecimal digits.
 pub(crate) fn bytes(alloc: Global, row: &str) -> Option<Vec<u8>> {
     let mut bytes = Vec::new(alloc);
