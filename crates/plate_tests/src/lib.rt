@@ -1,0 +1,10 @@
+//! Tests of records on plates that a crash may tear, by public calls alone.
+//!
+//! It has no code but tests, and stands on the crates that it tests. A test that fails names the row;
+//! a row without an answer can't be read, or memory was refused.
+#![tactic(auto)]
+
+#[cfg(test)]
+mod outcomes;
+#[cfg(test)]
+mod plates;
