@@ -5,6 +5,8 @@
 #![tactic(auto)]
 
 #[cfg(test)]
+mod fault_texts;
+#[cfg(test)]
 mod links;
 #[cfg(test)]
 mod links_of_threads;

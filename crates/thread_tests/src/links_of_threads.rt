@@ -3,7 +3,7 @@
 
 use bytes::Bytes;
 use lock_messages::{Actor, NodeId};
-use lossy_link::{ChannelLink, Link, Parcel, Post, Weather};
+use lossy_link::{ChannelLink, Link, LinkFault, Parcel, Post, Weather};
 use std::alloc::Global;
 use std::sync::Wait;
 use std::test::Fail;
@@ -12,18 +12,26 @@ use std::thread;
 /// How many parcels each of the two threads sends.
 const EACH: u32 = 10_000;
 
-/// Sends parcels of these numbers to a node, and says whether all were taken.
-fn send_range<R: Wait + Copy>(mut link: ChannelLink<R>, to: NodeId, from: u32, until: u32) -> bool {
+/// Sends parcels of these numbers to a node, up to the first that is refused.
+fn send_range<R: Wait + Copy>(
+    mut link: ChannelLink<R>,
+    to: NodeId,
+    from: u32,
+    until: u32,
+) -> Result<(), LinkFault> {
     for number in from..until {
         let frame = Bytes::from_static(b"frame");
-        if link
-            .send(Actor::Node(to), Parcel { number, frame })
-            .is_err()
-        {
-            return false;
-        }
+        link.send(Actor::Node(to), Parcel { number, frame })?;
     }
-    true
+    Ok(())
+}
+
+fn all_are_sent(sent: Result<(), LinkFault>) -> Result<(), Fail> {
+    match sent {
+        Ok(()) => Ok(()),
+        Err(LinkFault::Memory) => Err("no memory to send in".into()),
+        Err(LinkFault::Closed) => Err("wrong: a link that sends is closed".into()),
+    }
 }
 
 /// How often each number came, until the link was closed; or what is wrong.
@@ -61,8 +69,10 @@ fn each_parcel_arrives_once(rt: HostRuntime) -> Result<(), Fail> {
     let counts = counted(rt.alloc(), &mut of_node);
     let one = one.ok_or("no memory for a thread")?.join(&rt);
     let two = two.ok_or("no memory for a thread")?.join(&rt);
+    all_are_sent(one)?;
+    all_are_sent(two)?;
     let counts = counts?;
-    if one && two && counts.iter().all(|count| *count == 1) {
+    if counts.iter().all(|count| *count == 1) {
         Ok(())
     } else {
         Err("wrong: a parcel is missing, or came twice".into())
