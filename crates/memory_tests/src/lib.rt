@@ -14,6 +14,8 @@ mod failures;
 #[cfg(test)]
 mod frames;
 #[cfg(test)]
+mod lines;
+#[cfg(test)]
 mod links;
 #[cfg(test)]
 mod plates;

@@ -1,0 +1,62 @@
+// Lines of scripts and journals: want of memory where one is written.
+
+use crate::failures::{Failure, Outcome, check};
+use history_check::{Command, read_line, write_line};
+use std::alloc::Global;
+
+const COMMANDS: [Command; 14] = [
+    Command::Begin,
+    Command::Try,
+    Command::Kept,
+    Command::SayTo,
+    Command::Say,
+    Command::Take,
+    Command::Hear,
+    Command::Enter,
+    Command::Leave,
+    Command::Fall,
+    Command::Rise,
+    Command::Inside,
+    Command::Waiting,
+    Command::Holding,
+];
+
+/// A line of each command, with the least and the greatest arguments.
+const LINES: [&str; 17] = [
+    "begin c1024 write a-9",
+    "begin c1 read a",
+    "try n16",
+    "try c1024",
+    "kept n1",
+    "sayto c1 n16",
+    "say n16",
+    "take n1 1048576",
+    "hear c1 1",
+    "enter c1024",
+    "leave c1",
+    "fall n1",
+    "rise n16 old",
+    "rise c1 new",
+    "inside 0-z",
+    "waiting n16 a",
+    "holding n1 a",
+];
+
+/// Whether the line is read, and is the text of what it is read as.
+fn is_told(alloc: Global, line: &str) -> Result<bool, Failure> {
+    let Ok(read) = read_line(&COMMANDS, line.as_bytes()) else {
+        return Err(Failure::Wrong);
+    };
+    let Ok(text) = write_line(alloc, &read) else {
+        return Err(Failure::Memory);
+    };
+    Ok(text.as_str() == line)
+}
+
+#[test]
+fn lines_are_written(rt: HostRuntime) -> Outcome {
+    for line in LINES {
+        check(is_told(rt.alloc(), line)?)?;
+    }
+    Ok(())
+}
