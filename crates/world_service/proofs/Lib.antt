@@ -1,0 +1,5 @@
+mod ListFacts
+mod TurnFacts
+mod ActorFacts
+mod RunFacts
+mod ListingFacts

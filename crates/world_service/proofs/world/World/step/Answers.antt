@@ -1,0 +1,22 @@
+use Rattle.std.proofs.Common.{subst}
+use Rattle.world_model.specs.ExactWorlds.{step}
+use Rattle.world_model.specs.StepsOf.{Does}
+use Rattle.world_service.specs.Machines.{world_view}
+use Rattle.world_service.proofs.TurnFacts.{does-sound}
+use Rattle.world_service.proofs.world.World.step.Goals as goal
+
+pub returns : goal.returns
+returns c =
+    let s = c.self.inside in
+    let e = c.args.event.now in
+    subst (λ w. Does e (step w e) w c.take_step.result (world_view s.ballot c.take_step.new.nodes.items c.take_step.new.clients.items c.take_step.new.sent.items)) c.self.view_is c.take_step.ensures.does
+
+-- each step leaves a sound world
+pub invariant_of-self : goal.invariant_of-self
+invariant_of-self c =
+    let s = c.self.inside in
+    record {
+      order = c.take_step.ensures.order;
+      sound = does-sound c.exact_steps_are_allowed.ensures.sound c.args.event.now (world_view s.ballot s.nodes.items s.clients.items s.sent.items)
+          (world_view s.ballot c.take_step.new.nodes.items c.take_step.new.clients.items c.take_step.new.sent.items) c.take_step.result c.self.invariant.sound c.take_step.ensures.does;
+    }

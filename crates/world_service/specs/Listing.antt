@@ -1,0 +1,40 @@
+-- What is asked of a world, beside what the world's own definitions name.
+use Rattle.std.specs.Prelude.{◌≡◌, ◌≢◌, ℕ, ◌⊎◌, Bool, List, Option, Some, None, Result, Ok, Err}
+use Rattle.std.specs.Option.{option_map}
+use Rattle.lock_messages.specs.declared.ids.Actor.{Actor}
+use Rattle.lock_messages.specs.declared.ids.Actor.TheVariants as actor
+use Rattle.lock_messages.specs.declared.tickets.Ticket.{Ticket}
+use Rattle.lock_model.specs.declared.entries.Live.{Live}
+use Rattle.lock_model.specs.declared.entries.Status.{Status}
+use Rattle.lock_model.specs.declared.entries.Status.TheVariants.{Waiting, Holding}
+use Rattle.lock_model.specs.ExactStations.{holds}
+use Rattle.stable_record.specs.Records.{node_record_of, client_record_of}
+use Rattle.world_model.specs.declared.events.StepFault.{StepFault}
+use Rattle.world_model.specs.declared.events.StepFault.TheVariants as fault
+use Rattle.world_model.specs.declared.exact.ExactStation.{ExactStation}
+use Rattle.world_model.specs.declared.exact.ExactWorld.{ExactWorld}
+use Rattle.world_model.specs.ExactWorlds.{numbered}
+use Rattle.world_model.specs.Views.{live_tickets, waits, waiting, holding}
+
+-- the test of tickets of this status, and the list that it gives
+abbrev pub listed_by : Status → List ℕ → Live → Bool
+listed_by Waiting x = waits x
+listed_by Holding x = holds x
+
+abbrev pub listed : Status → ℕ → List ℕ → ExactWorld → Option (List Ticket)
+listed Waiting n x w = waiting n x w
+listed Holding n x w = holding n x w
+
+-- the bytes of a station's record
+abbrev pub station_bytes : ExactStation → List ℕ
+station_bytes s = node_record_of (record { policy = s.problem; entries = s.entries })
+
+-- the record of what the actor has kept; none where there is no such actor
+abbrev pub kept_bytes : Actor → ExactWorld → Option (List ℕ)
+kept_bytes (actor.Node n) w = option_map (λ v. station_bytes v.kept) (numbered w.nodes n)
+kept_bytes (actor.Client c) w = option_map (λ k. client_record_of k.kept) (numbered w.clients c)
+
+-- The call answered what is there: an unknown actor is refused so, and nothing else but want of memory.
+abbrev pub Tells : {A B : Type 0} → (A → B) → Option B → Result A StepFault → Type 0
+Tells view there (Ok a) = there ≡ Some (view a)
+Tells view there (Err f) = ((f ≡ fault.UnknownActor) × (there ≡ None)) ⊎ ((f ≡ fault.Memory) × (there ≢ None))

@@ -1,0 +1,146 @@
+// The world: its actors and all messages ever sent.
+
+ghost use Rattle.std.specs.Prelude.{◌≡◌, ◌↔◌, ℕ, ◌∷◌, [], IfOk, IsOkUnless};
+ghost use Rattle.lock_messages.specs.declared.tickets.Ticket.{Ticket as TicketValue};
+ghost use Rattle.lock_model.specs.Decisions.{Among};
+ghost use Rattle.world_model.specs.Exclusion.{IsExclusive};
+ghost use Rattle.world_model.specs.ExactWorlds.{numbered, step};
+ghost use Rattle.world_model.specs.Forgetting.{forget, setting_of};
+ghost use Rattle.world_model.specs.StepsOf.{Does, Runs};
+ghost use Rattle.world_model.specs.Views.{inside, waiting, holding, ticket_inside};
+ghost use Rattle.world_model.specs.Worlds.{Happens};
+ghost use Rattle.world_service.specs.Listing.{kept_bytes, Tells};
+
+use crate::listing::{client_bytes_at, node_bytes_at, tickets_at, tickets_inside};
+use crate::stepping::{message_at, take_step};
+use lock_messages::{Actor, ClientId, Message, Mode, NodeId, ResourceName, Ticket};
+use lock_model::Status;
+use std::alloc::Global;
+use std::marker::Model;
+use vote_weights::Ballot;
+use world_actors::{WorldClient, WorldNode};
+use world_model::laws::{exact_steps_are_allowed, lists_are_the_sets};
+use world_model::{Effect, Event, StepFault};
+
+/// A world: its nodes, its clients and all messages ever sent.
+///
+/// Contracts see it as an `ExactWorld`. Each is sound, as `world_model` has it: what opens one is, and
+/// each step keeps it.
+#[derive(Drop)]
+pub struct World {
+    alloc: Global,
+    ballot: Ballot,
+    nodes: Vec<WorldNode>,
+    clients: Vec<WorldClient>,
+    sent: Vec<Message>,
+}
+
+impl Model for World {
+    ghost use Rattle.world_model.specs.declared.exact.ExactWorld.{ExactWorld};
+    ghost use Rattle.world_service.specs.Machines.{world_view, IsWorld};
+
+    ghost Value = { ExactWorld };
+
+    ghost view = { λ w. world_view w.ballot w.nodes.items w.clients.items w.sent.items };
+
+    ghost invariant = { λ w. IsWorld w.ballot w.nodes.items w.clients.items w.sent.items };
+}
+
+impl World {
+    /// Takes one event, and answers its effect.
+    ///
+    /// A fault changes nothing. It is the one of the lowest number that applies: no such node or client
+    /// (601), down (602), up (603), another phase (604), not stored (605), nothing to say (606), no such
+    /// message (607), not addressed (608), no quorum (609), attempts spent (610), nothing tried (611),
+    /// the list of messages full (612), and behind all others want of memory (613). 612 comes only where
+    /// what is said would pass `MAX_MESSAGES`, and then none of it is sent.
+    ///
+    /// An event costs what its actor does: `Take` what a decision over the node's entries costs, `Try`
+    /// and `Rise` of a node a copy of its record, `Say` one of the replies, every other a few steps.
+    pub fn step(&mut self, event: &Event) -> Result<Effect, StepFault>
+        requires { Unit {0} }
+        ensures { Does event.now (step self.old event.now) self.old result self.new }
+    {
+        exact_steps_are_allowed();
+        take_step(
+            &self.ballot,
+            &mut self.nodes,
+            &mut self.clients,
+            &mut self.sent,
+            event,
+        )
+    }
+
+    /// Takes the events in order, up to the first that is refused.
+    ///
+    /// Answers how many events there were, where all were taken; else how many were taken before the
+    /// refused one, and its refusal as `step` gives it. The world is as it was after those taken. It
+    /// costs what their steps cost.
+    pub fn run(&mut self, events: &[Event]) -> Result<usize, (usize, StepFault)>
+        requires { Unit {0} }
+        ensures { Runs events.now self.old result self.new }
+    {
+        for (taken, event) in events.iter().enumerate() {
+            if let Err(fault) = self.step(event) {
+                return Err((taken, fault));
+            }
+        }
+        Ok(events.len())
+    }
+
+    /// The message of this number, from 1 on; `None` exactly where none was sent under it. One look-up.
+    pub fn sent(&self, number: u32) -> Option<Message>
+        ensures { result ≡ numbered self.now.sent number }
+    {
+        message_at(&self.sent, number)
+    }
+
+    /// The tickets of the clients that are inside the resource, in the order of the clients. A writer
+    /// among them is the only one.
+    ///
+    /// It goes over all clients. The only error is want of memory (613).
+    pub fn inside(&self, resource: &ResourceName) -> Result<Vec<Ticket>, StepFault>
+        ensures inside { IfOk result (λ tickets. tickets.items ≡ inside resource.now self.now) }
+        ensures alone { IfOk result (λ tickets. (t : TicketValue) → Among t tickets.items → t.mode ≡ Mode.Write → tickets.items ≡ t ∷ []) }
+        ensures exclusive { IsExclusive (forget self.now) }
+        ensures memory { IsOkUnless result StepFault.Memory }
+    {
+        lists_are_the_sets();
+        let Ok(tickets) = tickets_inside(self.alloc, &self.clients, resource) else {
+            return Err(StepFault::Memory);
+        };
+        Ok(tickets)
+    }
+
+    /// The tickets that wait for the node's vote for the resource, in the station that the node has
+    /// kept, in the order of its entries.
+    ///
+    /// Errors: there is no such node (601), want of memory (613).
+    pub fn waiting(&self, node: NodeId, resource: &ResourceName) -> Result<Vec<Ticket>, StepFault>
+        ensures { Tells (λ v. v.items) (waiting node resource.now self.now) result }
+    {
+        tickets_at(self.alloc, &self.nodes, node, Status::Waiting, resource)
+    }
+
+    /// The tickets that hold the node's vote for the resource, in the station that the node has kept,
+    /// in the order of its entries.
+    ///
+    /// Errors: there is no such node (601), want of memory (613).
+    pub fn holding(&self, node: NodeId, resource: &ResourceName) -> Result<Vec<Ticket>, StepFault>
+        ensures { Tells (λ v. v.items) (holding node resource.now self.now) result }
+    {
+        tickets_at(self.alloc, &self.nodes, node, Status::Holding, resource)
+    }
+
+    /// The record of what the actor has kept.
+    ///
+    /// Errors: there is no such actor (601), want of memory (613).
+    pub fn kept_bytes(&self, who: Actor) -> Result<Vec<u8>, StepFault>
+        ensures { Tells (λ v. v.items) (kept_bytes who self.now) result }
+    {
+        match who {
+            Actor::Node(id) => node_bytes_at(self.alloc, &self.nodes, id),
+            Actor::Client(id) => client_bytes_at(self.alloc, &self.clients, id),
+        }
+    }
+}
