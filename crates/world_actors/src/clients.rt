@@ -199,16 +199,17 @@ impl WorldClient {
         }
     }
 
-    /// Hears a message, and answers what the client makes of it: the event `Hear`.
-    ///
-    /// The caller owes that the client is up (`may_hear`).
+    /// Hears a message, and answers what the client makes of it: the event `Hear`. A client that is
+    /// down makes nothing of it; `may_hear` tells.
     pub fn hear(&mut self, message: &Message) -> Heard
-        requires { is_down self.old.part.phase ≡ false }
         ensures heard { result ≡ heard_in (length self.old.ballot.votes) self.old.number self.old.part.kept self.old.part.phase message.now }
         ensures exact { self.new.part ≡ after_hearing (length self.old.ballot.votes) self.old.number self.old.part message.now }
         ensures number { self.new.number ≡ self.old.number }
         ensures ballot { self.new.ballot ≡ self.old.ballot }
     {
+        if !self.up {
+            return Heard::NotMine;
+        }
         self.core.hear(message)
     }
 

@@ -10,7 +10,7 @@ ghost use Rattle.world_model.specs.ExactNodes.{tries_station_in, keeps_station_i
 ghost use Rattle.world_model.specs.Openings.{down_node, empty_station};
 ghost use Rattle.world_model.specs.Parts.{turn_says};
 ghost use Rattle.world_model.specs.Turns.{acts, speaks};
-ghost use Rattle.world_actors.specs.Acting.{IsRefusedTurn};
+ghost use Rattle.world_actors.specs.Acting.{IsRefusedTurn, MayTake, IsRefusedTake};
 ghost use Rattle.world_actors.specs.Nodes.{station_in};
 
 use admission_policy::{Admission, problem_of};
@@ -190,13 +190,19 @@ impl WorldNode {
 
     /// The replies, in order, and the node is idle: the event `Say`. It takes no memory.
     ///
-    /// The caller owes that the node may say them; `replies` tells.
-    pub fn say(&mut self) -> Vec<Message>
-        requires { IsOk (says_in self.old.part self.old.part.phase) }
-        ensures said { says_in self.old.part self.old.part.phase ≡ speaks self.new.part result.items (λ first. effect.Said first (length result.items)) }
+    /// Refused while the node is down (602), before what it decided is kept (605), and while it is idle
+    /// (606).
+    pub fn say(&mut self) -> Result<Vec<Message>, StepFault>
+        requires { Unit {0} }
+        ensures said { IfOk result (λ v. says_in self.old.part self.old.part.phase ≡ speaks self.new.part v.items (λ first. effect.Said first (length v.items))) }
+        ensures refused { IfErr result (λ f. says_in self.old.part self.old.part.phase ≡ Err f) }
+        ensures unchanged { OnErr result (self.new ≡ self.old) }
         ensures number { self.new.number ≡ self.old.number }
     {
-        self.core.speak()
+        match self.replies() {
+            Ok(_) => Ok(self.core.speak()),
+            Err(fault) => Err(fault),
+        }
     }
 
     /// Whether the node may take a message, or why not: the own part of the event `Take`.
@@ -217,18 +223,24 @@ impl WorldNode {
 
     /// Decides on a message, and answers whether the record changes: the event `Take`.
     ///
-    /// The caller owes that the node may take one (`may_take`) and that this one is for it
-    /// (`Message::is_for_node`). The only refusal is want of memory (613).
+    /// Refused while the node is down (602) and while it is not idle (604); then where the message is
+    /// for another actor (608), and at last for want of memory (613).
     pub fn take(&mut self, message: &Message) -> Result<bool, StepFault>
-        requires idle { self.old.part.phase ≡ phase.Idle }
-        requires for_node { is_for_node message.now self.old.number ≡ true }
+        requires { Unit {0} }
+        ensures taken { OnOk result (MayTake self.old message.now) }
         ensures exact { OnOk result (self.new.part ≡ decided_on self.old.part message.now) }
         ensures changes { IfOk result (λ b. b ≡ changes self.old.part.kept.problem self.old.part.kept.entries message.now) }
-        ensures memory { IsOkUnless result StepFault.Memory }
+        ensures refused { IfErr result (λ f. IsRefusedTake self.old message.now f) }
         ensures unchanged { OnErr result (self.new ≡ self.old) }
         ensures number { self.new.number ≡ self.old.number }
     {
         laws::changes_are_seen();
+        if let Err(fault) = self.may_take() {
+            return Err(fault);
+        }
+        if !message.is_for_node(self.number()) {
+            return Err(StepFault::NotAddressed);
+        }
         match self.core.take(message) {
             Ok(changed) => Ok(changed),
             Err(_) => Err(StepFault::Memory),

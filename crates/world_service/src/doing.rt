@@ -92,9 +92,6 @@ pub(crate) fn node_takes(
     let Some(message) = found else {
         return Err(StepFault::NoSuchMessage);
     };
-    if !message.is_for_node(node.number()) {
-        return Err(StepFault::NotAddressed);
-    }
     match node.take(&message) {
         Ok(changed) => Ok(Effect::Took(message, changed)),
         Err(fault) => Err(fault),
@@ -153,12 +150,16 @@ pub(crate) fn node_says(node: &mut WorldNode, sent: &mut Vec<Message>) -> Result
     let Ok(()) = sent.reserve(count) else {
         return Err(StepFault::Memory);
     };
-    let replies = node.say();
-    send_all(sent, &replies);
-    Ok(Effect::Said {
-        first: first as u32 + 1,
-        count: count as u32,
-    })
+    match node.say() {
+        Err(fault) => Err(fault),
+        Ok(replies) => {
+            send_all(sent, &replies);
+            Ok(Effect::Said {
+                first: first as u32 + 1,
+                count: count as u32,
+            })
+        }
+    }
 }
 
 /// A client says to a node what it has to say.
