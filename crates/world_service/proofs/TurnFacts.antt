@@ -83,6 +83,9 @@ step-no-client w e c turn d h = ap (done_by w) d ∙ ap (λ o. by_actor w (with_
 
 -- turns of one kind
 
+no : {A : Type 0} → false ≡ true → A
+no q = absurd (let p : false ≡ true = q in cc)
+
 abbrev pub OnlyActs : {P : Type 0} → Turns P → Type 0
 OnlyActs {P} turn = IsOk turn → (after : P) × (done : Effect) × (turn ≡ acts after done)
 
@@ -91,24 +94,24 @@ OnlySpeaks {P} turn = IsOk turn → (after : P) × (says : List Message) × (don
 
 tries-acts : (v : ExactNode) (s : ExactStation) (tried : Option ExactStation) → OnlyActs (tries_station_with v s tried)
 tries-acts v s None = λ ok. (record { kept = v.kept; tried = Some s; phase = v.phase }, effect.Tried, refl)
-tries-acts v s (Some u) = λ ok. absurd ok
+tries-acts v s (Some u) = λ ok. no ok
 
 rises-acts : (age : Age) (kept : ExactStation) (tried : Option ExactStation) → OnlyActs (node_rises_with age kept tried)
 rises-acts Old kept tried = λ ok. (record { kept = kept; tried = None; phase = node.Idle }, effect.Up, refl)
-rises-acts New kept None = λ ok. absurd ok
+rises-acts New kept None = λ ok. no ok
 rises-acts New kept (Some s) = λ ok. (record { kept = s; tried = None; phase = node.Idle }, effect.Up, refl)
 
 tries-in-acts : (v : ExactNode) (phase : ExactNodePhase) → OnlyActs (tries_station_in v phase)
-tries-in-acts v node.Down = λ ok. absurd ok
-tries-in-acts v node.Idle = λ ok. absurd ok
+tries-in-acts v node.Down = λ ok. no ok
+tries-in-acts v node.Idle = λ ok. no ok
 tries-in-acts v (node.Decided s replies) = tries-acts v s v.tried
-tries-in-acts v (node.Stored replies) = λ ok. absurd ok
+tries-in-acts v (node.Stored replies) = λ ok. no ok
 
 rises-in-acts : (age : Age) (v : ExactNode) (phase : ExactNodePhase) → OnlyActs (node_rises_in age v phase)
 rises-in-acts age v node.Down = rises-acts age v.kept v.tried
-rises-in-acts age v node.Idle = λ ok. absurd ok
-rises-in-acts age v (node.Decided s replies) = λ ok. absurd ok
-rises-in-acts age v (node.Stored replies) = λ ok. absurd ok
+rises-in-acts age v node.Idle = λ ok. no ok
+rises-in-acts age v (node.Decided s replies) = λ ok. no ok
+rises-in-acts age v (node.Stored replies) = λ ok. no ok
 
 -- those that ask for memory act
 pub node-acts : (act : NodeAct) (v : ExactNode) → node_asks act ≡ true → OnlyActs (node_turn act v)
@@ -118,9 +121,9 @@ node-acts node_act.Fall v asks = absurd (let q : false ≡ true = asks in cc)
 node-acts (node_act.Rise age) v asks = rises-in-acts age v v.phase
 
 says-speaks : (v : ExactNode) (phase : ExactNodePhase) → OnlySpeaks (says_in v phase)
-says-speaks v node.Down = λ ok. absurd ok
-says-speaks v node.Idle = λ ok. absurd ok
-says-speaks v (node.Decided s replies) = λ ok. absurd ok
+says-speaks v node.Down = λ ok. no ok
+says-speaks v node.Idle = λ ok. no ok
+says-speaks v (node.Decided s replies) = λ ok. no ok
 says-speaks v (node.Stored replies) = λ ok. (node_in v node.Idle, replies, (λ first. effect.Said first (length replies)), refl)
 
 pub node-speaks : (v : ExactNode) → OnlySpeaks (says_in v v.phase)
@@ -130,13 +133,13 @@ one-speaks : (k : ExactClient) (m : Message) → OnlySpeaks (says_one k m)
 one-speaks k m = λ ok. (k, m ∷ [], (λ first. effect.Sent first m), refl)
 
 tells-speaks : (c n : ℕ) (k : ExactClient) (phase : ExactClientPhase) → OnlySpeaks (tells_in c n k phase)
-tells-speaks c n k client.Down = λ ok. absurd ok
+tells-speaks c n k client.Down = λ ok. no ok
 tells-speaks c n k client.Idle = go (k.kept == 0)
   where
     go : (b : Bool) → OnlySpeaks (cond b (Err fault.NothingToSay) (says_one k (message.Release n c k.kept)))
-    go true = λ ok. absurd ok
+    go true = λ ok. no ok
     go false = one-speaks k (message.Release n c k.kept)
-tells-speaks c n k (client.Chosen t) = λ ok. absurd ok
+tells-speaks c n k (client.Chosen t) = λ ok. no ok
 tells-speaks c n k (client.Asking t granted) = one-speaks k (message.Request n t)
 tells-speaks c n k (client.Inside t granted) = one-speaks k (message.Request n t)
 
@@ -145,7 +148,7 @@ client-speaks b c n k = go (is_node_of (length b.votes) n)
   where
     go : (is : Bool) → OnlySpeaks (cond is (tells_in c n k k.phase) (Err fault.UnknownActor))
     go true = tells-speaks c n k k.phase
-    go false = λ ok. absurd ok
+    go false = λ ok. no ok
 
 -- a message that is read
 
@@ -159,12 +162,12 @@ read-once {P} w into number is_mine after done (Some m) = go (is_mine m)
     go false = refl
 
 read-acts : {P : Type 0} (number : ℕ) (is_mine : Message → Bool) (after : Message → P) (done : Message → Effect) (found : Option Message) → OnlyActs (read_turn found (reads number is_mine after done))
-read-acts number is_mine after done None = λ ok. absurd ok
+read-acts number is_mine after done None = λ ok. no ok
 read-acts {P} number is_mine after done (Some m) = go (is_mine m)
   where
     go : (b : Bool) → OnlyActs (cond b (acts (after m) (done m)) (Err fault.NotAddressed))
     go true = λ ok. (after m, done m, refl)
-    go false = λ ok. absurd ok
+    go false = λ ok. no ok
 
 takes-once : (w : ExactWorld) (into : ExactNode → ExactWorld) (n number : ℕ) (v : ExactNode) (phase : ExactNodePhase) →
     finishes w into (takes_in n number v phase) ≡ finishes w into (read_turn (numbered w.sent number) (takes_in n number v phase))
@@ -178,10 +181,10 @@ pub take-once : (w : ExactWorld) (into : ExactNode → ExactWorld) (n number : �
 take-once w into n number v = takes-once w into n number v v.phase
 
 takes-acts : (n number : ℕ) (v : ExactNode) (phase : ExactNodePhase) (found : Option Message) → OnlyActs (read_turn found (takes_in n number v phase))
-takes-acts n number v node.Down found = λ ok. absurd ok
+takes-acts n number v node.Down found = λ ok. no ok
 takes-acts n number v node.Idle found = read-acts number (λ m. is_for_node m n) (decided_on v) (λ m. effect.Took m (changes v.kept.problem v.kept.entries m)) found
-takes-acts n number v (node.Decided s replies) found = λ ok. absurd ok
-takes-acts n number v (node.Stored replies) found = λ ok. absurd ok
+takes-acts n number v (node.Decided s replies) found = λ ok. no ok
+takes-acts n number v (node.Stored replies) found = λ ok. no ok
 
 pub take-acts : (n number : ℕ) (v : ExactNode) (found : Option Message) → OnlyActs (read_turn found (takes_in n number v v.phase))
 take-acts n number v found = takes-acts n number v v.phase found
@@ -204,7 +207,7 @@ did-refuse : {P : Type 0} (w : ExactWorld) (e : Event) (into : P → ExactWorld)
 did-refuse w e into turn asks f s may only (inl r) = inl (s ∙ ap (finishes w into) r)
 did-refuse w e into turn asks f s may only (inr h) =
     let t = only h.1 h.2 in
-    inr (h.0, may h.1, subst IsOk (sym (s ∙ ap (finishes w into) t.2)) tt)
+    inr (h.0, may h.1, subst IsOk (sym (s ∙ ap (finishes w into) t.2)) refl)
 
 pub does-turned : {A P : Type 0} (w : ExactWorld) (e : Event) (into : P → ExactWorld) (part : A → P) (turn : Turns P) (asks : Bool) (v u : A) (r : Result Effect StepFault) →
     step w e ≡ finishes w into turn → (asks ≡ true → asks_for_memory e ≡ true) → (asks ≡ true → OnlyActs turn) → into (part v) ≡ w → Turned asks part turn v r u → Does e (step w e) w r (into (part u))
@@ -238,7 +241,7 @@ did-keep-back {P} w e into turn sent f s may only is (inr (ok, why)) = go why
     go (inl (full, over)) =
         inl (s ∙ ap (finishes w into) t.3 ∙ ap (spoken w into t.0 t.1 t.2) (no-room-for w sent t.1 is (subst (λ l. MAX_MESSAGES - length sent < length l) says over)) ∙ ap Err (sym full))
     go (inr (memory, fits)) =
-        inr (memory, may, subst IsOk (sym (s ∙ ap (finishes w into) t.3 ∙ ap (spoken w into t.0 t.1 t.2) (room-for w sent t.1 is (subst (λ l. length l ≤ MAX_MESSAGES - length sent) says fits)))) tt)
+        inr (memory, may, subst IsOk (sym (s ∙ ap (finishes w into) t.3 ∙ ap (spoken w into t.0 t.1 t.2) (room-for w sent t.1 is (subst (λ l. length l ≤ MAX_MESSAGES - length sent) says fits)))) refl)
 
 pub does-spoke : {A P : Type 0} (w : ExactWorld) (e : Event) (into : P → ExactWorld) (part : A → P) (turn : Turns P) (sent : List Message) (v u : A) (r : Result Effect StepFault) (new : List Message) →
     step w e ≡ finishes w into turn → asks_for_memory e ≡ true → OnlySpeaks turn → into (part v) ≡ w → ((p : P) → (into p).sent ≡ w.sent) → w.sent ≡ sent → Spoke part turn sent v r u new →

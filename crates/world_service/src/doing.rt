@@ -1,6 +1,6 @@
 // One actor's turn, by the actor's own methods and the list of messages.
 
-ghost use Rattle.std.specs.Prelude.{◌≡◌, ◌+◌, ◌++◌, ◌≤◌, length, true, false};
+ghost use Rattle.std.specs.Prelude.{◌≡◌, ◌+◌, ◌++◌, ◌≤◌, ◌∷◌, [], length, true, false, OnOk, OnErr};
 ghost use Rattle.std.specs.Vec.{vec_len, vec_capacity};
 ghost use Rattle.world_model.specs.declared.TheConstants.{MAX_MESSAGES};
 ghost use Rattle.world_model.specs.ExactNodes.{says_in, takes_in};
@@ -10,6 +10,7 @@ ghost use Rattle.world_service.specs.Machines.{node_part, client_part};
 
 use crate::turns::{ClientAct, NodeAct};
 use lock_messages::{Message, NodeId};
+use std::alloc::AllocError;
 use world_actors::{WorldClient, WorldNode};
 use world_model::{Effect, MAX_MESSAGES, StepFault};
 
@@ -133,6 +134,15 @@ fn send_all(sent: &mut Vec<Message>, messages: &[Message])
     }
 }
 
+/// Sends a message.
+fn send_one(sent: &mut Vec<Message>, message: &Message) -> Result<(), AllocError>
+    ensures sent { OnOk result (sent.new.items ≡ sent.old.items ++ message.now ∷ []) }
+    ensures unchanged { OnErr result (sent.new.items ≡ sent.old.items) }
+{
+    sent.push(*message)?;
+    Ok(())
+}
+
 /// A node says its replies.
 pub(crate) fn node_says(node: &mut WorldNode, sent: &mut Vec<Message>) -> Result<Effect, StepFault>
     requires { length sent.old.items ≤ MAX_MESSAGES }
@@ -179,7 +189,7 @@ pub(crate) fn client_tells(
     if first >= MAX_MESSAGES as usize {
         return Err(StepFault::SentListFull);
     }
-    match sent.push(message) {
+    match send_one(sent, &message) {
         Err(_) => Err(StepFault::Memory),
         Ok(()) => Ok(Effect::Sent(first as u32 + 1, message)),
     }

@@ -1,6 +1,6 @@
 // An event, done by its actor among the others.
 
-ghost use Rattle.std.specs.Prelude.{◌≡◌, ◌≤◌, length, map};
+ghost use Rattle.std.specs.Prelude.{◌≡◌, ◌≤◌, length, map, slice_get};
 ghost use Rattle.lock_model.specs.Ballots.{Ballot as BallotValue};
 ghost use Rattle.world_model.specs.declared.TheConstants.{MAX_MESSAGES};
 ghost use Rattle.world_model.specs.declared.exact.ExactWorld.{ExactWorld};
@@ -16,6 +16,13 @@ use vote_weights::Ballot;
 use world_actors::{WorldClient, WorldNode};
 use world_model::{Effect, Event, StepFault};
 
+/// The message at a place that is counted from 0.
+fn message_at_place(sent: &[Message], place: usize) -> Option<Message>
+    ensures { result ≡ slice_get sent.now place }
+{
+    sent.get(place).copied()
+}
+
 /// The message of this number, from 1 on.
 pub(crate) fn message_at(sent: &[Message], number: u32) -> Option<Message>
     ensures { result ≡ numbered sent.now number }
@@ -23,7 +30,7 @@ pub(crate) fn message_at(sent: &[Message], number: u32) -> Option<Message>
     if number == 0 {
         return None;
     }
-    sent.get(number as usize - 1).copied()
+    message_at_place(sent, number as usize - 1)
 }
 
 /// The node of this number does something by itself.

@@ -12,14 +12,14 @@ use Rattle.world_service.proofs.ActorFacts.{act-node, node-unknown, nodes-stay}
 use Rattle.world_service.proofs.stepping.act_node.Goals as goal
 
 pub returns-then-index-len-clause-does : goal.returns-then-index-len-clause-does
-returns-then-index-len-clause-does c w is =
+returns-then-index-len-clause-does g c w is =
     let ns = c.args.nodes.now.items in
     let e = node_event c.args.id c.args.act in
     let none : numbered ns c.args.id ≡ None = numbered-past ns c.args.id (omega (arith, c.get.ensures.number, c.get.ensures.in_range)) (omega (arith, c.get.ensures.number, c.args.nodes.now.ok.0)) in
     (inl (node-unknown w e c.args.id (λ v. node_turn c.args.act v) ns (node-deed c.args.id c.args.act) is none), ap (with_nodes w) (sym is))
 
 pub returns-clause-does : goal.returns-clause-does
-returns-clause-does c w is =
+returns-clause-does g c w is =
     let ns = c.args.nodes.now.items in
     let id = c.args.id in
     let e = node_event id c.args.act in
@@ -31,7 +31,7 @@ returns-clause-does c w is =
     (act-node w id c.args.act ns v u c.node_acts.result is (subst (λ i. numbered ns i ≡ Some v) c.get.ensures.number at) c.node_acts.ensures.turned)
 
 pub returns-clause-order : goal.returns-clause-order
-returns-clause-order c order =
+returns-clause-order g c order =
     let ns = c.args.nodes.now.items in
     let k = c.get.result in
     let v = c.index_mut.result.now in

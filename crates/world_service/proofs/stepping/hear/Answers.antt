@@ -29,7 +29,7 @@ returns-clause-does c w is all order =
     let u = c.client_hears.new.client in
     let at : numbered cs k ≡ Some v = numbered-at cs k v (omega (arith, c.get.ensures.in_range)) (omega (arith, c.args.clients.now.ok.0)) c.index_mut.ensures.value in
     subst (λ i. Does e (step w e) w c.client_hears.result (with_clients w (map client_part (slice_set cs (i - 1) u)))) (sym c.get.ensures.number)
-    (hear-client w id c.args.number cs c.args.sent.now v u c.client_hears.result is all order (subst (λ i. numbered cs i ≡ Some v) c.get.ensures.number at) (subst (λ found. Turned false client_part (read_turn found (hears (length v.ballot.votes) v.number c.args.number v.part)) v c.client_hears.result u) c.message_at.ensures c.client_hears.ensures.turned))
+    (hear-client w id c.args.number cs c.args.sent.now v u c.client_hears.result is all order (subst (λ i. numbered cs i ≡ Some v) c.get.ensures.number at) (subst (λ found. Turned false client_part (read_turn found (hears (length v.ballot.votes) v.number c.args.number v.part)) v c.client_hears.result u) c.message_at-found.ensures c.client_hears.ensures.turned))
 
 pub returns-clause-order : goal.returns-clause-order
 returns-clause-order c b order =

@@ -12,8 +12,8 @@ use Rattle.world_service.proofs.TurnFacts.{node-deed, client-deed}
 use Rattle.world_service.proofs.ActorFacts.{tell-client, client-unknown, spoke-room}
 use Rattle.world_service.proofs.stepping.tell.Goals as goal
 
-pub returns-then-index-len-clause-does : goal.returns-then-index-len-clause-does
-returns-then-index-len-clause-does c w is all order =
+pub returns-then-index-clients-clause-does : goal.returns-then-index-clients-clause-does
+returns-then-index-clients-clause-does c w is all order =
     let cs = c.args.clients.now in
     let none : numbered cs c.args.id ≡ None = numbered-past cs c.args.id (omega (arith, c.get.ensures.number, c.get.ensures.in_range)) (omega (arith, c.get.ensures.number)) in
     (inl (client-unknown w (event.SayTo c.args.id c.args.node) c.args.id (λ b k. tells b c.args.id c.args.node k) cs refl is none), ap (with_sent w) (sym all))
@@ -22,8 +22,8 @@ pub returns-clause-does : goal.returns-clause-does
 returns-clause-does c w is all order =
     let cs = c.args.clients.now in
     let k = c.get.result in
-    let v = c.index.result.now in
-    let at : numbered cs k ≡ Some v = numbered-at cs k v (omega (arith, c.get.ensures.in_range)) (omega (arith)) c.index.ensures in
+    let v = c.index-clients-index.result in
+    let at : numbered cs k ≡ Some v = numbered-at cs k v (omega (arith, c.get.ensures.in_range)) (omega (arith, c.if-index-clients.false)) c.index-clients-index.is in
     tell-client w c.args.id c.args.node cs c.args.sent.now.items c.client_tells.new.sent.items v c.client_tells.result is all order (subst (λ i. numbered cs i ≡ Some v) c.get.ensures.number at) c.client_tells.ensures
 
 pub returns-clause-room : goal.returns-clause-room

@@ -1,0 +1,7 @@
+use Rattle.std.proofs.Common.{rules, ◌≡◌, ◌≤◌, length, map, ℕ, ◌+◌, ◌-◌, sym, ◌∙◌, ap, refl, arith}
+use Rattle.world_model.specs.ExactWorlds.{numbered}
+use Rattle.world_service.proofs.ListFacts.{past-zero}
+use Rattle.world_service.proofs.stepping.message_at.Goals as goal
+
+pub returns : goal.returns
+returns c = c.message_at_place.ensures ∙ sym (past-zero c.args.sent.now c.args.number (omega (arith, c.if-number-eq0.false)))
