@@ -6,7 +6,7 @@ use Rattle.world_service.proofs.RunFacts.{ran-next}
 use Rattle.world_service.proofs.world.World.run.Goals as goal
 
 pub returns-in-Err : goal.returns-in-Err
-returns-in-Err c =
+returns-in-Err g c =
     let events = c.args.events.now in
     let k = c.loop-taken.taken in
     let e = c.index-events-taken.result in (
@@ -17,7 +17,7 @@ returns-in-Err c =
     )
 
 pub loop-taken-preserved : goal.loop-taken-preserved
-loop-taken-preserved c =
+loop-taken-preserved g c =
     let events = c.args.events.now in
     let k = c.loop-taken.taken in
     let e = c.index-events-taken.result in

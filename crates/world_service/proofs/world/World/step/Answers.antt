@@ -6,14 +6,14 @@ use Rattle.world_service.proofs.TurnFacts.{does-sound}
 use Rattle.world_service.proofs.world.World.step.Goals as goal
 
 pub returns : goal.returns
-returns c =
+returns g c =
     let s = c.self.inside in
     let e = c.args.event.now in
     subst (λ w. Does e (step w e) w c.take_step.result (world_view s.ballot c.take_step.new.nodes.items c.take_step.new.clients.items c.take_step.new.sent.items)) c.self.view_is c.take_step.ensures.does
 
 -- each step leaves a sound world
 pub invariant_of-self : goal.invariant_of-self
-invariant_of-self c =
+invariant_of-self g c =
     let s = c.self.inside in
     record {
       order = c.take_step.ensures.order;
