@@ -1,12 +1,13 @@
 // Tickets listed, and records written.
 
-ghost use Rattle.std.specs.Prelude.{◌≡◌, ◌<◌, ◌≤◌, ◌++◌, length, map, slice_get, Some, IfOk, OnOk};
+ghost use Rattle.std.specs.Prelude.{◌≡◌, ◌≤◌, ◌++◌, map, slice_get, Some, IfOk, OnOk};
 ghost use Rattle.std.specs.List.{flat_map};
 ghost use Rattle.std.specs.Option.{option_to_list};
 ghost use Rattle.lock_messages.specs.declared.ids.TheConstants.{MAX_ATTEMPT};
+ghost use Rattle.lock_model.specs.declared.entries.Entry.{Entry as EntryValue};
 ghost use Rattle.stable_record.specs.Records.{client_record_of};
 ghost use Rattle.world_model.specs.declared.exact.ExactWorld.{ExactWorld};
-ghost use Rattle.world_model.specs.Views.{ticket_in, ticket_for, live_ticket, live_tickets};
+ghost use Rattle.world_model.specs.Views.{ticket_in, ticket_inside, ticket_for, live_ticket, live_tickets};
 ghost use Rattle.world_service.specs.Listing.{listed_by, listed, kept_bytes, Tells};
 ghost use Rattle.world_service.specs.Machines.{node_part, client_part};
 
@@ -18,7 +19,7 @@ use world_actors::{WorldClient, WorldNode};
 use world_model::StepFault;
 
 /// The ticket with which the client is inside the resource, if it is.
-fn ticket_inside(client: &WorldClient, resource: &ResourceName) -> Option<Ticket>
+fn ticket_for(client: &WorldClient, resource: &ResourceName) -> Option<Ticket>
     ensures { option_to_list result ≡ ticket_for resource.now (ticket_in client.now.part.phase) }
 {
     match client.inside() {
@@ -47,9 +48,20 @@ pub(crate) fn tickets_inside(
 {
     let mut tickets = Vec::new(alloc);
     for client in clients {
-        put(&mut tickets, ticket_inside(client, resource))?;
+        put(&mut tickets, ticket_for(client, resource))?;
     }
     Ok(tickets)
+}
+
+/// The ticket with which the client of this number is inside, if it is.
+pub(crate) fn ticket_inside(clients: &[WorldClient], id: ClientId) -> Option<Ticket>
+    ensures { (w : ExactWorld) → w.clients ≡ map client_part clients.now → result ≡ ticket_inside id w }
+{
+    let index = id.get() as usize - 1;
+    if index >= clients.len() {
+        return None;
+    }
+    clients[index].inside()
 }
 
 /// Whether the ticket is of this status, for this resource.
@@ -77,26 +89,34 @@ fn listed_ticket(entry: &Entry, status: Status, resource: &ResourceName) -> Opti
     }
 }
 
-fn entry_at(record: &NodeRecord, place: usize) -> Entry
-    requires { place < length record.now.entries }
-    ensures { slice_get record.now.entries place ≡ Some result }
+/// The ticket of the entry at this place, if it is listed.
+fn ticket_at(
+    kept: &NodeRecord,
+    place: usize,
+    status: Status,
+    resource: &ResourceName,
+) -> Option<Ticket>
+    ensures { (e : EntryValue) → slice_get kept.now.entries place ≡ Some e →
+        option_to_list result ≡ live_ticket (listed_by status resource.now) e.client e.live }
 {
-    record.entries.get(place).unwrap()
+    match kept.entries.get(place) {
+        Some(entry) => listed_ticket(&entry, status, resource),
+        None => None,
+    }
 }
 
 /// The tickets of a record that are listed, in the order of the entries.
 fn listed_tickets(
     alloc: Global,
-    record: &NodeRecord,
+    kept: &NodeRecord,
     status: Status,
     resource: &ResourceName,
 ) -> Result<Vec<Ticket>, AllocError>
-    ensures { IfOk result (λ v. v.items ≡ live_tickets (listed_by status resource.now) record.now.entries) }
+    ensures { IfOk result (λ v. v.items ≡ live_tickets (listed_by status resource.now) kept.now.entries) }
 {
     let mut tickets = Vec::new(alloc);
-    for place in 0..record.entries.len() {
-        let entry = entry_at(record, place);
-        put(&mut tickets, listed_ticket(&entry, status, resource))?;
+    for place in 0..kept.entries.len() {
+        put(&mut tickets, ticket_at(kept, place, status, resource))?;
     }
     Ok(tickets)
 }

@@ -11,7 +11,7 @@ ghost use Rattle.world_model.specs.Views.{inside, waiting, holding, ticket_insid
 ghost use Rattle.world_model.specs.Worlds.{Happens};
 ghost use Rattle.world_service.specs.Listing.{kept_bytes, Tells};
 
-use crate::listing::{client_bytes_at, node_bytes_at, tickets_at, tickets_inside};
+use crate::listing::{client_bytes_at, node_bytes_at, ticket_inside, tickets_at, tickets_inside};
 use crate::stepping::{message_at, take_step};
 use lock_messages::{Actor, ClientId, Message, Mode, NodeId, ResourceName, Ticket};
 use lock_model::Status;
@@ -110,6 +110,14 @@ impl World {
             return Err(StepFault::Memory);
         };
         Ok(tickets)
+    }
+
+    /// The ticket of a client that is inside, whatever the resource; `None` exactly where the client is
+    /// not inside, or there is no such client. One look-up, without memory.
+    pub fn ticket_inside(&self, client: ClientId) -> Option<Ticket>
+        ensures { result ≡ ticket_inside client self.now }
+    {
+        ticket_inside(&self.clients, client)
     }
 
     /// The tickets that wait for the node's vote for the resource, in the station that the node has
