@@ -1,5 +1,5 @@
 -- What came of a turn, as a step of the world.
-use Rattle.std.proofs.Common.{◌≡◌, ℕ, ◌+◌, ◌-◌, ◌<◌, ◌≤◌, ◌==◌, ◌⊎◌, Bool, true, false, cond, List, [], ◌∷◌, ◌++◌, length, Option, Some, None, Result, Ok, Err, IsOk, refl, sym, ◌∙◌, ap, subst, inl, inr, arith}
+use Rattle.std.proofs.Common.{◌≡◌, ℕ, ◌+◌, ◌-◌, ◌<◌, ◌≤◌, ◌==◌, ◌⊎◌, Bool, true, false, cond, List, [], ◌∷◌, ◌++◌, length, Option, Some, None, Result, Ok, Err, IsOk, OnOk, refl, sym, ◌∙◌, ap, subst, inl, inr, arith}
 use Rattle.std.proofs.lemmas.Bool.{le-leb, lt-leb}
 use Rattle.lock_messages.specs.declared.messages.Message.{Message}
 use Rattle.lock_messages.specs.declared.messages.Message.TheVariants as message
@@ -26,10 +26,11 @@ use Rattle.world_model.specs.declared.exact.ExactWorld.{ExactWorld}
 use Rattle.world_model.specs.ExactNodes.{tries_station_in, tries_station_with, node_rises_in, node_rises_with, says_in, takes_in, node_in, decided_on}
 use Rattle.world_model.specs.ExactClients.{tells, tells_in, says_one, hears, is_down, after_hearing, heard_in}
 use Rattle.world_model.specs.ExactWorlds.{numbered, Deed, NodeDoes, ClientDoes, deed_of, Steps, next_number, has_room, with_node_at, with_client_at, read_in, finished, finishes, by_actor, done_by, step}
-use Rattle.world_model.specs.Forgetting.{IsSound}
-use Rattle.world_model.specs.Laws.{StepsKeepSound}
+use Rattle.world_model.specs.Forgetting.{IsSound, forget, setting_of}
+use Rattle.world_model.specs.Laws.{ExactStepsAreAllowed, StepsKeepSound}
 use Rattle.world_model.specs.Parts.{turn_says}
 use Rattle.world_model.specs.StepsOf.{asks_for_memory, IsRefused, Does}
+use Rattle.world_model.specs.Worlds.{Happens}
 use Rattle.world_model.specs.Turns.{Turns, Acts, Speaks, Reads, acts, speaks, reads}
 use Rattle.world_service.specs.declared.turns.NodeAct.{NodeAct}
 use Rattle.world_service.specs.declared.turns.NodeAct.TheVariants as node_act
@@ -260,3 +261,13 @@ does-spoke w e into part turn sent v u (Err f) new s may only same kept is h = (
 pub does-sound : StepsKeepSound → (e : Event) (w v : ExactWorld) (r : Result Effect StepFault) → IsSound w → Does e (step w e) w r v → IsSound v
 does-sound keep e w v (Ok done) sound h = keep w v e done sound h
 does-sound keep e w v (Err f) sound h = subst IsSound (sym h.1) sound
+
+-- it is one of those that may happen, among the same actors
+
+pub does-allowed : ExactStepsAreAllowed → (e : Event) (w v : ExactWorld) (r : Result Effect StepFault) → IsSound w → Does e (step w e) w r v → OnOk r (Happens (setting_of w) (forget w) e (forget v))
+does-allowed law e w v (Ok done) sound h = (law w v e done sound h).0
+does-allowed law e w v (Err f) sound h = _
+
+pub does-setting : ExactStepsAreAllowed → (e : Event) (w v : ExactWorld) (r : Result Effect StepFault) → IsSound w → Does e (step w e) w r v → setting_of v ≡ setting_of w
+does-setting law e w v (Ok done) sound h = (law w v e done sound h).1
+does-setting law e w v (Err f) sound h = ap setting_of h.1

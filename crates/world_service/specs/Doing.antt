@@ -100,3 +100,8 @@ Spoke {A} {P} part turn sent before (Ok done) after new =
     (says : List Message) × (effect : ℕ → Effect) × (turn ≡ speaks (part after) says effect) × (length says ≤ MAX_MESSAGES - length sent)
     × (new ≡ sent ++ says) × (done ≡ effect (length sent + 1))
 Spoke part turn sent before (Err f) after new = ((turn ≡ Err f) ⊎ (IsOk turn × IsKeptBack turn (length sent) f)) × (after ≡ before) × (new ≡ sent)
+
+-- how many events a run took
+abbrev pub taken_of : Result ℕ (ℕ × StepFault) → ℕ
+taken_of (Ok k) = k
+taken_of (Err r) = r.0

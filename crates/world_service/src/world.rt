@@ -1,6 +1,6 @@
 // The world: its actors and all messages ever sent.
 
-ghost use Rattle.std.specs.Prelude.{◌≡◌, ◌↔◌, ℕ, ◌∷◌, [], IfOk, IsOkUnless};
+ghost use Rattle.std.specs.Prelude.{◌≡◌, ◌∷◌, [], take, IfOk, OnOk, IsOkUnless};
 ghost use Rattle.lock_messages.specs.declared.tickets.Ticket.{Ticket as TicketValue};
 ghost use Rattle.lock_model.specs.Decisions.{Among};
 ghost use Rattle.world_model.specs.Exclusion.{IsExclusive};
@@ -8,7 +8,8 @@ ghost use Rattle.world_model.specs.ExactWorlds.{numbered, step};
 ghost use Rattle.world_model.specs.Forgetting.{forget, setting_of};
 ghost use Rattle.world_model.specs.StepsOf.{Does, Runs};
 ghost use Rattle.world_model.specs.Views.{inside, waiting, holding, ticket_inside};
-ghost use Rattle.world_model.specs.Worlds.{Happens};
+ghost use Rattle.world_model.specs.Worlds.{Happens, Run};
+ghost use Rattle.world_service.specs.Doing.{taken_of};
 ghost use Rattle.world_service.specs.Listing.{kept_bytes, Tells};
 
 use crate::listing::{client_bytes_at, node_bytes_at, ticket_inside, tickets_at, tickets_inside};
@@ -59,7 +60,10 @@ impl World {
     /// and `Rise` of a node a copy of its record, `Say` one of the replies, every other a few steps.
     pub fn step(&mut self, event: &Event) -> Result<Effect, StepFault>
         requires { Unit {0} }
-        ensures { Does event.now (step self.old event.now) self.old result self.new }
+        ensures exact { Does event.now (step self.old event.now) self.old result self.new }
+        // It is one of the steps of which the exclusion theorem speaks, among the same actors.
+        ensures allowed { OnOk result (Happens (setting_of self.old) (forget self.old) event.now (forget self.new)) }
+        ensures setting { setting_of self.new ≡ setting_of self.old }
     {
         exact_steps_are_allowed();
         take_step(
@@ -78,7 +82,10 @@ impl World {
     /// costs what their steps cost.
     pub fn run(&mut self, events: &[Event]) -> Result<usize, (usize, StepFault)>
         requires { Unit {0} }
-        ensures { Runs events.now self.old result self.new }
+        ensures exact { Runs events.now self.old result self.new }
+        // The events that were taken are a run, of which the exclusion theorem speaks.
+        ensures allowed { Run (setting_of self.old) (forget self.old) (take (taken_of result) events.now) (forget self.new) }
+        ensures setting { setting_of self.new ≡ setting_of self.old }
     {
         for (taken, event) in events.iter().enumerate() {
             if let Err(fault) = self.step(event) {
