@@ -1,12 +1,15 @@
 -- What is asked of a world, beside what the world's own definitions name.
-use Rattle.std.specs.Prelude.{◌≡◌, ◌≢◌, ℕ, ◌⊎◌, Bool, List, Option, Some, None, Result, Ok, Err}
+use Rattle.std.specs.Prelude.{◌≡◌, ◌≢◌, ◌↔◌, ℕ, ◌⊎◌, Bool, List, Option, Some, None, Result, Ok, Err}
 use Rattle.std.specs.Option.{option_map}
 use Rattle.lock_messages.specs.declared.ids.Actor.{Actor}
 use Rattle.lock_messages.specs.declared.ids.Actor.TheVariants as actor
+use Rattle.lock_messages.specs.declared.tickets.Mode.{Mode}
 use Rattle.lock_messages.specs.declared.tickets.Ticket.{Ticket}
 use Rattle.lock_model.specs.declared.entries.Live.{Live}
 use Rattle.lock_model.specs.declared.entries.Status.{Status}
 use Rattle.lock_model.specs.declared.entries.Status.TheVariants.{Waiting, Holding}
+use Rattle.lock_model.specs.Stations.{Station, Holds, Waits, ticket_at}
+use Rattle.lock_model.specs.Decisions.{Among}
 use Rattle.lock_model.specs.ExactStations.{holds}
 use Rattle.stable_record.specs.Records.{node_record_of, client_record_of}
 use Rattle.world_model.specs.declared.events.StepFault.{StepFault}
@@ -15,6 +18,7 @@ use Rattle.world_model.specs.declared.exact.ExactStation.{ExactStation}
 use Rattle.world_model.specs.declared.exact.ExactWorld.{ExactWorld}
 use Rattle.world_model.specs.ExactWorlds.{numbered}
 use Rattle.world_model.specs.Views.{live_tickets, waits, waiting, holding}
+use Rattle.world_model.specs.Worlds.{World, IsInside}
 
 -- the test of tickets of this status, and the list that it gives
 abbrev pub listed_by : Status → List ℕ → Live → Bool
@@ -38,3 +42,19 @@ kept_bytes (actor.Client c) w = option_map (λ k. client_record_of k.kept) (numb
 abbrev pub Tells : {A B : Type 0} → (A → B) → Option B → Result A StepFault → Type 0
 Tells view there (Ok a) = there ≡ Some (view a)
 Tells view there (Err f) = ((f ≡ fault.UnknownActor) × (there ≡ None)) ⊎ ((f ≡ fault.Memory) × (there ≢ None))
+
+-- the list is that of those inside the resource, each with a ticket of its own
+abbrev pub AreInside : World → List ℕ → List Ticket → Type 0
+AreInside w x tickets = (c : ℕ) (m : Mode) → IsInside w c m x ↔ ((t : Ticket) × Among t tickets × (t.client ≡ c) × (t.mode ≡ m))
+
+-- the client is inside exactly where a ticket was found, and then with that
+abbrev pub IsInsideBy : World → ℕ → Option Ticket → Type 0
+IsInsideBy w c found = (m : Mode) (x : List ℕ) → IsInside w c m x ↔ ((t : Ticket) × (found ≡ Some t) × (t.mode ≡ m) × (t.resource ≡ x))
+
+-- the list is that of those who wait for the resource in the station, or hold it there, each with its
+-- ticket
+abbrev pub AreWaiting : Station → List ℕ → List Ticket → Type 0
+AreWaiting s x tickets = (t : Ticket) → Among t tickets ↔ (Waits s t.client t.mode x × (t ≡ ticket_at s t.client t.mode x))
+
+abbrev pub AreHolding : Station → List ℕ → List Ticket → Type 0
+AreHolding s x tickets = (t : Ticket) → Among t tickets ↔ (Holds s t.client t.mode x × (t ≡ ticket_at s t.client t.mode x))

@@ -10,7 +10,7 @@ ghost use Rattle.world_model.specs.StepsOf.{Does, Runs};
 ghost use Rattle.world_model.specs.Views.{inside, waiting, holding, ticket_inside};
 ghost use Rattle.world_model.specs.Worlds.{Happens, Run};
 ghost use Rattle.world_service.specs.Doing.{taken_of};
-ghost use Rattle.world_service.specs.Listing.{kept_bytes, Tells};
+ghost use Rattle.world_service.specs.Listing.{kept_bytes, Tells, AreInside, IsInsideBy, AreWaiting, AreHolding};
 
 use crate::listing::{client_bytes_at, node_bytes_at, ticket_inside, tickets_at, tickets_inside};
 use crate::stepping::{message_at, take_step};
@@ -108,6 +108,7 @@ impl World {
     /// It goes over all clients. The only error is want of memory (613).
     pub fn inside(&self, resource: &ResourceName) -> Result<Vec<Ticket>, StepFault>
         ensures inside { IfOk result (λ tickets. tickets.items ≡ inside resource.now self.now) }
+        ensures set { IfOk result (λ tickets. AreInside (forget self.now) resource.now tickets.items) }
         ensures alone { IfOk result (λ tickets. (t : TicketValue) → Among t tickets.items → t.mode ≡ Mode.Write → tickets.items ≡ t ∷ []) }
         ensures exclusive { IsExclusive (forget self.now) }
         ensures memory { IsOkUnless result StepFault.Memory }
@@ -122,7 +123,8 @@ impl World {
     /// The ticket of a client that is inside, whatever the resource; `None` exactly where the client is
     /// not inside, or there is no such client. One look-up, without memory.
     pub fn ticket_inside(&self, client: ClientId) -> Option<Ticket>
-        ensures { result ≡ ticket_inside client self.now }
+        ensures ticket { result ≡ ticket_inside client self.now }
+        ensures set { IsInsideBy (forget self.now) client result }
     {
         ticket_inside(&self.clients, client)
     }
@@ -132,8 +134,10 @@ impl World {
     ///
     /// Errors: there is no such node (601), want of memory (613).
     pub fn waiting(&self, node: NodeId, resource: &ResourceName) -> Result<Vec<Ticket>, StepFault>
-        ensures { Tells (λ v. v.items) (waiting node resource.now self.now) result }
+        ensures waiting { Tells (λ v. v.items) (waiting node resource.now self.now) result }
+        ensures set { IfOk result (λ tickets. AreWaiting ((forget self.now).nodes node).kept resource.now tickets.items) }
     {
+        lists_are_the_sets();
         tickets_at(self.alloc, &self.nodes, node, Status::Waiting, resource)
     }
 
@@ -142,8 +146,10 @@ impl World {
     ///
     /// Errors: there is no such node (601), want of memory (613).
     pub fn holding(&self, node: NodeId, resource: &ResourceName) -> Result<Vec<Ticket>, StepFault>
-        ensures { Tells (λ v. v.items) (holding node resource.now self.now) result }
+        ensures holding { Tells (λ v. v.items) (holding node resource.now self.now) result }
+        ensures set { IfOk result (λ tickets. AreHolding ((forget self.now).nodes node).kept resource.now tickets.items) }
     {
+        lists_are_the_sets();
         tickets_at(self.alloc, &self.nodes, node, Status::Holding, resource)
     }
 
