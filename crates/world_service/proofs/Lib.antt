@@ -3,3 +3,4 @@ mod TurnFacts
 mod ActorFacts
 mod RunFacts
 mod ListingFacts
+mod OpeningFacts

@@ -1,3 +1,4 @@
 pub mod Doing
 pub mod Machines
 pub mod Listing
+pub mod Opened

@@ -1,7 +1,6 @@
 //! The world of a lock service, as a machine: its nodes, its clients and all messages ever sent.
 //!
-//! NOT PROVED YET, and so not listed among the crates: what stands below is what it is to promise. A
-//! world can't be opened yet either; `world_opening` judges the records for it.
+//! NOT PROVED YET, and so not listed among the crates: what stands below is what it is to promise.
 //!
 //! One event is one atomic action of one actor, and `World::step` takes one event. The crate promises
 //! that `step` and `run` are the exact ones of `world_model`: the world after, the effect, or the lowest
@@ -13,8 +12,10 @@
 
 mod doing;
 mod listing;
+mod opening;
 mod stepping;
 mod turns;
 mod world;
 
 pub use world::World;
+pub use world_opening::OpeningFault;

@@ -29,11 +29,11 @@ use world_model::{Effect, Event, StepFault};
 /// each step keeps it.
 #[derive(Drop)]
 pub struct World {
-    alloc: Global,
-    ballot: Ballot,
-    nodes: Vec<WorldNode>,
-    clients: Vec<WorldClient>,
-    sent: Vec<Message>,
+    pub(crate) alloc: Global,
+    pub(crate) ballot: Ballot,
+    pub(crate) nodes: Vec<WorldNode>,
+    pub(crate) clients: Vec<WorldClient>,
+    pub(crate) sent: Vec<Message>,
 }
 
 impl Model for World {
