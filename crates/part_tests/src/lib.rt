@@ -19,6 +19,8 @@ mod frames;
 #[cfg(test)]
 mod guards;
 #[cfg(test)]
+mod indexes;
+#[cfg(test)]
 mod kept_records;
 #[cfg(test)]
 mod long_runs;
