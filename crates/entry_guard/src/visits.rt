@@ -1,6 +1,6 @@
 // A client core's visit by an entry of its own.
 
-ghost use Rattle.std.specs.Prelude.{◌≡◌, Some, IfOk};
+ghost use Rattle.std.specs.Prelude.{◌≡◌, ◌↔◌, Some, IsSome, IfSome, IfOk};
 ghost use Rattle.client_core.specs.Clients.{Client, ticket_of as client_ticket};
 ghost use Rattle.client_core.specs.Calls.{MayEnter, entered};
 ghost use Rattle.entry_guard.specs.Doors.{is_client_inside, ClientLeaves};
@@ -21,29 +21,28 @@ pub struct Seen {
     pub inside: bool,
 }
 
-/// A client's core enters by an `OwnedEntry` and leaves, and what is seen of it then.
+/// A client's core enters by an `OwnedEntry` and leaves, and what is seen of it then; `None` exactly
+/// where it may not enter.
 ///
-/// The caller owes that it may enter. The core left in its box as one does that is not boxed: it is
-/// idle after the same attempt, and has its release to say to each node of its ballot. The only
-/// error is want of memory for the box.
-pub fn visit(alloc: Global, core: ClientCore) -> Result<Seen, AllocError>
-    requires { MayEnter core }
-    ensures with { IfOk result (λ seen. client_ticket core ≡ Some seen.with) }
-    ensures left { IfOk result (λ seen. (after : Client) × ClientLeaves (entered core) after × (seen.ticket ≡ client_ticket after) × (seen.inside ≡ is_client_inside after)) }
+/// The core left in its box as one does that is not boxed: it is idle after the same attempt, and has
+/// its release to say to each node of its ballot. The only error is want of memory for the box.
+pub fn visit(alloc: Global, core: ClientCore) -> Result<Option<Seen>, AllocError>
+    ensures entered { IfOk result (λ o. IsSome o ↔ MayEnter core) }
+    ensures with { IfOk result (λ o. IfSome o (λ seen. client_ticket core ≡ Some seen.with)) }
+    ensures left { IfOk result (λ o. IfSome o (λ seen. (after : Client) × ClientLeaves (entered core) after × (seen.ticket ≡ client_ticket after) × (seen.inside ≡ is_client_inside after))) }
 {
     let door: Box<dyn Door + Send> = match Box::new(alloc, core) {
         Ok(boxed) => boxed,
         Err(_) => return Err(AllocError),
     };
-    // It may enter, so it is not handed back.
     let Ok(entry) = OwnedEntry::enter(door) else {
-        return Err(AllocError);
+        return Ok(None);
     };
     let with = entry.ticket();
     let door = entry.leave();
-    Ok(Seen {
+    Ok(Some(Seen {
         with,
         ticket: door.ticket(),
         inside: door.inside(),
-    })
+    }))
 }

@@ -1,9 +1,11 @@
 // Records: entries that grow, node records read and written (320), and records that are kept (304).
 
 use crate::failures::{Failure, Outcome, check, client, refused};
+use lock_messages::ResourceName;
 use lock_model::{Entry, Problem};
 use stable_record::{
-    Entries, FaultyRecord, Leaves, MemoryRecord, NodeRecord, StableRecord, node_bytes, read_node,
+    Entries, FaultyRecord, Leaves, MemoryRecord, NodeRecord, ResourceIndex, StableRecord,
+    node_bytes, read_node,
 };
 use std::alloc::{AllocError, Global};
 
@@ -48,10 +50,35 @@ fn reads_two(record: &NodeRecord) -> bool {
     record.policy == Problem::Second && record.entries.len() == 2 && record.lawful()
 }
 
+/// Whether one holds `a` as a reader, and one waits for it as a writer.
+fn indexes_two(index: &ResourceIndex) -> bool {
+    match ResourceName::of(b"a") {
+        Some(name) => match index.line(&name) {
+            Some(line) => {
+                line.holders() == 1 && line.waiting_writers() == 1 && line.waiting().len() == 1
+            }
+            None => false,
+        },
+        None => false,
+    }
+}
+
 #[test]
 fn read_a_node_record(rt: HostRuntime) -> Outcome {
     let record = read_node(rt.alloc(), &TWO)?;
     check(reads_two(&record))
+}
+
+#[test]
+fn index_a_node_record(rt: HostRuntime) -> Outcome {
+    let record = read_node(rt.alloc(), &TWO)?;
+    match ResourceIndex::of(rt.alloc(), &record) {
+        Ok(index) => check(indexes_two(&index)),
+        Err(fault) => {
+            check(reads_two(&record))?;
+            Err(fault.into())
+        }
+    }
 }
 
 #[test]

@@ -2,12 +2,13 @@
 
 use crate::outcomes::{Outcome, check};
 use client_core::ClientFault;
-use lock_messages::FrameFault;
+use lock_messages::{Actor, FrameFault, NodeId};
 use stable_record::RecordFault;
 use std::alloc::Global;
 use std::fmt;
 use vote_weights::BallotFault;
 use voter_core::VoterFault;
+use world_opening::OpeningFault;
 
 /// Adds the row of a fault.
 fn tell<T: fmt::Display>(rows: &mut String, number: u16, fault: &T) -> Option<()> {
@@ -105,9 +106,25 @@ const TEXTS: &str = "\
 501 the node record can't be read: the node record ends within a field
 502 the node record is of the other problem
 503 out of memory
+613 there was no memory
+621 an entry is above the attempt that its client has kept
+622 the actor's record can't be read, or is of the other problem
 701 an attempt is under way
 702 no attempt is left
 ";
+
+/// The rows of the faults of an opening, one of which names an actor.
+fn tell_openings(rows: &mut String) -> Option<()> {
+    let unread = OpeningFault::NoRecord(Actor::Node(NodeId::of(1)?));
+    for fault in [
+        OpeningFault::Memory,
+        OpeningFault::EntryAboveAttempt,
+        unread,
+    ] {
+        tell(rows, fault.number(), &fault)?;
+    }
+    Some(())
+}
 
 /// The rows of all faults.
 fn all(alloc: Global) -> Option<String> {
@@ -124,6 +141,7 @@ fn all(alloc: Global) -> Option<String> {
     for fault in &VOTERS {
         tell(&mut rows, fault.number(), fault)?;
     }
+    tell_openings(&mut rows)?;
     for fault in &CLIENTS {
         tell(&mut rows, fault.number(), fault)?;
     }

@@ -188,14 +188,15 @@ fn is_owned(alloc: Global) -> Option<bool> {
     Some(same && !door.inside() && !door.may_enter() && door.ticket().is_none())
 }
 
-/// Whether a core in a box enters with its ticket, and leaves.
+/// Whether a core in a box enters with its ticket, and leaves, and one with too few votes doesn't
+/// enter.
 fn is_visited(alloc: Global) -> Option<bool> {
-    let core = core_with(2)?;
-    if !core.may_enter() {
+    let (core, other) = (core_with(2)?, core_with(1)?);
+    let refused = visit(alloc, other).ok()?.is_none();
+    let Some(seen) = visit(alloc, core).ok()? else {
         return Some(false);
-    }
-    let seen = visit(alloc, core).ok()?;
-    Some(seen.with == ticket()? && seen.ticket.is_none() && !seen.inside)
+    };
+    Some(refused && seen.with == ticket()? && seen.ticket.is_none() && !seen.inside)
 }
 
 /// Whether an owned door that may not enter comes back as it was.

@@ -1,8 +1,8 @@
 //! Tests of the parts of the lock service, by their public calls alone.
 //!
 //! It has no code but tests, and stands on the crates that it tests: messages, ballots, records,
-//! policies, voters, clients and guards. Each file is named for what it shows. The rows of a table
-//! are lines of text that one function reads, one row after the other; a test that fails names the
+//! policies, voters, clients, guards and openings. Each file is named for what it shows. The rows of a
+//! table are lines of text that one function reads, one row after the other; a test that fails names the
 //! row, or says that memory was refused.
 #![tactic(auto)]
 
@@ -18,6 +18,8 @@ mod fault_texts;
 mod frames;
 #[cfg(test)]
 mod guards;
+#[cfg(test)]
+mod indexes;
 #[cfg(test)]
 mod kept_records;
 #[cfg(test)]

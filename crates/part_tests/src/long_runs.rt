@@ -7,11 +7,11 @@ use crate::decisions::new_core;
 use crate::nodes::{policy_of, risen, same_step};
 use crate::outcomes::{Outcome, check};
 use lock_messages::{Attempt, ClientId, Message, Mode, NodeId, ResourceName, Ticket};
-use lock_model::{Entry, Problem};
+use lock_model::{Entry, Live, Problem, Status};
 use rand_core::utils::NextWord;
 use rand_pcg::Pcg32;
-use stable_record::read_node;
 use std::alloc::Global;
+use voter_core::NodeCore;
 
 /// The seed of the messages.
 const SEED: u64 = 1971;
@@ -116,23 +116,60 @@ fn is_to(reply: &Message, number: u32) -> bool {
     }
 }
 
-/// Whether c1's release lets in c2 to c1024, in this order.
-fn lets_all_in(alloc: Global) -> Option<bool> {
-    let bytes = record_of_waiters(alloc)?;
-    let mut core = risen(alloc, &bytes, policy_of(alloc, Problem::First)?)?;
-    let record = read_node(alloc, &bytes).ok()?;
+/// Adds the entry of a client: c1 holds `a` as a writer, every other waits for it as a reader.
+fn add_waiter(entries: &mut Vec<Entry>, number: u32) -> Option<()> {
+    let (mode, status) = match number {
+        1 => (Mode::Write, Status::Holding),
+        _ => (Mode::Read, Status::Waiting),
+    };
+    let live = Live {
+        attempt: Attempt::of(1)?,
+        mode,
+        resource: ResourceName::of(b"a")?,
+        status,
+    };
+    let entry = Entry {
+        client: ClientId::of(number)?,
+        floor: 0,
+        live: Some(live),
+    };
+    entries.push(entry).ok()
+}
+
+/// The entries of that record.
+fn waiters(alloc: Global) -> Option<Vec<Entry>> {
     let mut entries: Vec<Entry> = Vec::new(alloc);
-    for place in 0..1_024usize {
-        entries.push(record.entries.get(place)?).ok()?;
-    }
-    let message = release(1, 1)?;
-    let decision = same_step(alloc, Problem::First, &mut core, &entries, &message)?;
     for number in 1..=1_024u32 {
-        if !is_to(decision.replies.get(number as usize - 1)?, number) {
-            return Some(false);
+        add_waiter(&mut entries, number)?;
+    }
+    Some(entries)
+}
+
+/// Whether the replies are one to c1 and one to each of c2 to c1024, in this order.
+fn are_to_all(replies: &[Message]) -> bool {
+    for number in 1..=1_024u32 {
+        match replies.get(number as usize - 1) {
+            Some(reply) if is_to(reply, number) => {}
+            _ => return false,
         }
     }
-    Some(decision.replies.len() == 1_024)
+    replies.len() == 1_024
+}
+
+/// Whether c1's release is done, and lets all others in.
+fn lets_in(alloc: Global, core: &mut NodeCore, entries: &[Entry]) -> Option<bool> {
+    let message = release(1, 1)?;
+    let decision = same_step(alloc, Problem::First, core, entries, &message)?;
+    Some(are_to_all(&decision.replies))
+}
+
+/// Whether c1's release lets in c2 to c1024, in this order.
+fn lets_all_in(alloc: Global) -> Option<bool> {
+    let policy = policy_of(alloc, Problem::First)?;
+    let bytes = record_of_waiters(alloc)?;
+    let mut core = risen(alloc, &bytes, policy)?;
+    let entries = waiters(alloc)?;
+    lets_in(alloc, &mut core, &entries)
 }
 
 #[test]

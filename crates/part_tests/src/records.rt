@@ -140,8 +140,8 @@ fn records_of_every_size(rt: HostRuntime) -> Outcome {
     Ok(())
 }
 
-/// Whether entries stand in the order in which they were pushed, each client once.
-fn are_in_order(alloc: Global) -> Option<bool> {
+/// c7, which holds `a` as a reader.
+fn holder() -> Option<Entry> {
     let Message::Grant(_, ticket) = message("grant n1 c7 1 read a")? else {
         return None;
     };
@@ -151,30 +151,48 @@ fn are_in_order(alloc: Global) -> Option<bool> {
         resource: ticket.resource,
         status: Status::Holding,
     };
-    let (client, other) = (ticket.client, ClientId::of(3)?);
-    let first = Entry {
-        client,
+    Some(Entry {
+        client: ticket.client,
         floor: 0,
         live: Some(holds),
-    };
-    let second = Entry {
-        client: other,
+    })
+}
+
+/// c3, which has no ticket.
+fn idler() -> Option<Entry> {
+    Some(Entry {
+        client: ClientId::of(3)?,
         floor: 0,
         live: None,
-    };
+    })
+}
+
+/// Pushes two entries, and answers how many of their clients were new.
+fn push_both(entries: &mut Entries, first: Entry, second: Entry) -> Option<u8> {
+    let one = entries.push(first).ok()?;
+    let other = entries.push(second).ok()?;
+    Some(u8::from(one) + u8::from(other))
+}
+
+/// Whether these two are the entries, in this order.
+fn are_these(entries: &Entries, first: Entry, second: Entry) -> bool {
+    entries.len() == 2
+        && entries.knows(first.client)
+        && entries.knows(second.client)
+        && entries.get(0) == Some(first)
+        && entries.get(1) == Some(second)
+        && entries.get(2).is_none()
+}
+
+/// Whether entries stand in the order in which they were pushed, each client once.
+fn are_in_order(alloc: Global) -> Option<bool> {
+    let (first, second) = (holder()?, idler()?);
+    let resource = first.live?.resource;
     let mut entries = Entries::new(alloc);
-    let pushed = entries.push(first).ok()? && entries.push(second).ok()?;
-    let again = entries.push(first).ok()? || entries.push(second).ok()?;
-    Some(
-        pushed
-            && !again
-            && entries.len() == 2
-            && entries.knows(client)
-            && entries.knows(other)
-            && entries.get(1) == Some(second)
-            && entries.get(2).is_none()
-            && admits(&entries, &ticket.resource),
-    )
+    let new = push_both(&mut entries, first, second)?;
+    let again = push_both(&mut entries, first, second)?;
+    let stand = are_these(&entries, first, second) && admits(&entries, &resource);
+    Some(new == 2 && again == 0 && stand)
 }
 
 /// Whether a reader, and no writer, is admitted.

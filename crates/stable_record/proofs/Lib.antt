@@ -4,3 +4,4 @@ pub mod FieldFacts
 pub mod RecordFacts
 pub mod ClientFacts
 pub mod CountFacts
+pub mod LineFacts

@@ -5,3 +5,4 @@ pub mod Reading
 pub mod Laws
 pub mod Finding
 pub mod Faulty
+pub mod Lines

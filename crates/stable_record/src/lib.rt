@@ -6,6 +6,8 @@
 //! (`RecordFault`). What `read_node` answers is lawful and caused. `laws::one_spelling` says that no
 //! spelling begins another. `client_bytes`, `read_client`, `lawful` and `caused` take no memory.
 //!
+//! `ResourceIndex` has the tickets of a record by resource: who holds each, and who waits for it.
+//!
 //! `StableRecord` says what it means to keep a record: which byte strings, one or two, a restart now
 //! may find, whether the record is stuck, and how often its device has failed. Code above is generic
 //! in it. `MemoryRecord` never fails but for memory; `FaultyRecord` fails when a test wants it.
@@ -21,9 +23,11 @@ mod formats;
 mod kept;
 pub mod laws;
 mod leaves;
+mod lines;
 mod memory_records;
 mod node_records;
 mod reading;
+mod resource_index;
 mod stable;
 mod writing;
 
@@ -33,9 +37,11 @@ pub use faults::RecordFault;
 pub use faulty_records::FaultyRecord;
 pub use formats::MAX_RECORD_LEN;
 pub use leaves::Leaves;
+pub use lines::Line;
 pub use lock_model::{Entry, Live, Status};
 pub use memory_records::MemoryRecord;
 pub use node_records::NodeRecord;
 pub use reading::read_node;
+pub use resource_index::ResourceIndex;
 pub use stable::StableRecord;
 pub use writing::node_bytes;

@@ -142,11 +142,11 @@ fn entry_within(attempts: &[u64], entry: Entry) -> bool
     entry.floor <= kept && live_within(kept, entry.live)
 }
 
-fn record_within(attempts: &[u64], record: &NodeRecord) -> bool
-    ensures { result ≡ entries_within attempts.now record.now.entries }
+fn record_within(attempts: &[u64], node: &NodeRecord) -> bool
+    ensures { result ≡ entries_within attempts.now node.now.entries }
 {
-    for place in 0..record.entries.len() {
-        if let Some(entry) = record.entries.get(place) {
+    for place in 0..node.entries.len() {
+        if let Some(entry) = node.entries.get(place) {
             if !entry_within(attempts, entry) {
                 return false;
             }

@@ -1,13 +1,29 @@
-use Rattle.std.proofs.Common.{◌≡◌, ◌∙◌, Some, Option, refl, sym, ap, subst}
+use Rattle.std.proofs.Common.{◌≡◌, ◌↔◌, ◌∙◌, true, false, Some, Option, refl, sym, ap, subst}
 use denote.Param.Object.{read_made}
 use Rattle.lock_messages.specs.declared.tickets.Ticket.{Ticket}
 use Rattle.client_core.specs.Clients.{Client}
 use Rattle.client_core.specs.Clients.{ticket_of as client_ticket}
-use Rattle.client_core.specs.Calls.{entered}
+use Rattle.client_core.specs.Calls.{MayEnter, entered}
 use Rattle.entry_guard.specs.Doors.{ClientLeaves}
 use Rattle.entry_guard.specs.Guards.{HasDoor}
 use Rattle.entry_guard.proofs.visits.visit.OwnLists.{own-1, at-1-1}
 use Rattle.entry_guard.proofs.visits.visit.Goals as goal
+
+pub returns-in_default-clause-entered : goal.returns-in_default-clause-entered
+returns-in_default-clause-entered c =
+    let box = c.into_dyn_box.result in
+    let same =
+    read_made own-1 (own-1.entry at-1-1) at-1-1 refl (Type 0) (λ j w. j.1.can_enter w) box.vtable box.value c.in-Ok.boxed.value c.into_dyn_box.ensures.1
+    ∙ ap (λ (k : Client). MayEnter k) c.in-Ok.ensures.ok in
+    subst (λ (t : Type 0). false ≡ true ↔ t) same c.in_default.ensures.entered
+
+pub returns-clause-entered : goal.returns-clause-entered
+returns-clause-entered c =
+    let box = c.into_dyn_box.result in
+    let same =
+    read_made own-1 (own-1.entry at-1-1) at-1-1 refl (Type 0) (λ j w. j.1.can_enter w) box.vtable box.value c.in-Ok.boxed.value c.into_dyn_box.ensures.1
+    ∙ ap (λ (k : Client). MayEnter k) c.in-Ok.ensures.ok in
+    subst (λ (t : Type 0). true ≡ true ↔ t) same c.in-Ok-enter.ensures.entered
 
 pub returns-clause-with : goal.returns-clause-with
 returns-clause-with c =

@@ -1,4 +1,4 @@
-use Rattle.std.proofs.Common.{◌≡◌, List, length, map, sym, ◌∙◌}
+use Rattle.std.proofs.Common.{map, sym, ◌∙◌}
 use Rattle.std.proofs.lemmas.List.{length-map}
 use Rattle.world_opening.proofs.JudgingFacts.{fit_to_open, fit_not}
 use Rattle.world_opening.proofs.judging.judge.Goals as goal
