@@ -2,3 +2,5 @@ pub mod SplitFacts
 pub mod NumberFacts
 pub mod WordFacts
 pub mod LineLaws
+pub mod EventLaws
+pub mod WishLaws

@@ -20,21 +20,21 @@ use Rattle.history_check.specs.Lines.{◌>>=◌, Kind, kinds_of, Arguments, valu
 use Rattle.history_check.specs.Laws.{IsAmong}
 use Rattle.history_check.proofs.WordFacts.{never_ok, at_most, value_is, value_says, Plain, plain_value, short_value}
 
-bind_ok : {A B : Type 0} (r : Result A LineFault) (f : A → Result B LineFault) (y : B) → (r >>= f) ≡ Ok y → (x : A) × (r ≡ Ok x) × (f x ≡ Ok y)
+pub bind_ok : {A B : Type 0} (r : Result A LineFault) (f : A → Result B LineFault) (y : B) → (r >>= f) ≡ Ok y → (x : A) × (r ≡ Ok x) × (f x ≡ Ok y)
 bind_ok (Ok x) f y h = (x, refl, h)
 bind_ok (Err e) f y h = absurd (let clash : Err e ≡ Ok y = h in cc)
 
-bound : {A B : Type 0} (r : Result A LineFault) (f : A → Result B LineFault) (x : A) (s : Result B LineFault) → r ≡ Ok x → f x ≡ s → (r >>= f) ≡ s
+pub bound : {A B : Type 0} (r : Result A LineFault) (f : A → Result B LineFault) (x : A) (s : Result B LineFault) → r ≡ Ok x → f x ≡ s → (r >>= f) ≡ s
 bound {A = A} r f x s h g = ap (λ (q : Result A LineFault). q >>= f) h ∙ g
 
-abbrev Same : {A : Type 0} → Result A LineFault → Result A LineFault → Type 0
+abbrev pub Same : {A : Type 0} → Result A LineFault → Result A LineFault → Type 0
 Same r s = r ≡ s
 
-ok_same : {A : Type 0} (x y : A) → Same (Ok x) (Ok y) → x ≡ y
+pub ok_same : {A : Type 0} (x y : A) → Same (Ok x) (Ok y) → x ≡ y
 ok_same x y h = let same : Ok x ≡ Ok y = h in cc
 
 -- Commands.
-abbrev joined : List (List ℕ) → List ℕ
+abbrev pub joined : List (List ℕ) → List ℕ
 joined ws = join_with_byte 32 ws
 
 -- what a word names
@@ -94,7 +94,7 @@ exactly_is (suc n) (w ∷ ws) us h =
     let (rest, e, g) = bind_ok (exactly n ws) (λ (vs : List (List ℕ)). Ok (w ∷ vs)) us h in
     ap (λ (vs : List (List ℕ)). w ∷ vs) (exactly_is n ws rest e) ∙ ok_same (w ∷ rest) us g
 
-abbrev Spell : (ks : List Kind) → List (List ℕ) → Arguments ks → Type 0
+abbrev pub Spell : (ks : List Kind) → List (List ℕ) → Arguments ks → Type 0
 Spell ks ws a = (ws ≡ argument_texts ks a) × AreValues ks a
 
 values_are : (ks : List Kind) (ws : List (List ℕ)) (a : Arguments ks) → values_in ks ws ≡ Ok a → Spell ks ws a
@@ -109,7 +109,7 @@ values_are (k ∷ ks) (w ∷ ws) a h =
     subst (λ (b : Arguments (k ∷ ks)). Spell (k ∷ ks) (w ∷ ws) b) (ok_same {A = Arguments (k ∷ ks)} (x, xs) a h2)
     (ap (λ (v : List ℕ). v ∷ ws) first.0 ∙ ap (λ (vs : List (List ℕ)). value_text k x ∷ vs) others.0, (first.1, others.1))
 
-arguments_are : (ks : List Kind) (ws : List (List ℕ)) (a : Arguments ks) → arguments_in ks ws ≡ Ok a → Spell ks ws a
+pub arguments_are : (ks : List Kind) (ws : List (List ℕ)) (a : Arguments ks) → arguments_in ks ws ≡ Ok a → Spell ks ws a
 arguments_are ks ws a h =
     let (us, e, g) = bind_ok (exactly (length ks) ws) (λ us. values_in ks us) a h in
     let s = values_are ks us a g in
@@ -154,7 +154,7 @@ all_words cs (first ∷ ws) l h =
     let (text, range, same) = said_is c ws l h1 in
     (ap (λ (w : List ℕ). joined (w ∷ ws)) word ∙ text, range, subst (λ (d : Command). IsAmong d cs) (sym same) there)
 
-short_line : (b : Bool) (r : Result Line LineFault) (l : Line) → cond b (Err fault.Words) r ≡ Ok l → r ≡ Ok l
+pub short_line : (b : Bool) (r : Result Line LineFault) (l : Line) → cond b (Err fault.Words) r ≡ Ok l → r ≡ Ok l
 short_line true r l h = never_ok fault.Words l h
 short_line false r l h = h
 
@@ -172,7 +172,7 @@ split_last : (w : List ℕ) → Plain w → slice_split is_space w ≡ w ∷ []
 split_last [] h = refl
 split_last (b ∷ bs) h = slice_split-cons_no is_space b bs h.0 ∙ ap (onto_first b) (split_last bs h.1)
 
-its_words : (w : List ℕ) (ks : List Kind) (a : Arguments ks) → Plain w → AreValues ks a → words (joined (w ∷ argument_texts ks a)) ≡ w ∷ argument_texts ks a
+pub its_words : (w : List ℕ) (ks : List Kind) (a : Arguments ks) → Plain w → AreValues ks a → words (joined (w ∷ argument_texts ks a)) ≡ w ∷ argument_texts ks a
 its_words w [] a h v = split_last w h
 its_words w (k ∷ ks) a h v =
     split_here w (joined (argument_texts (k ∷ ks) a)) h ∙ ap (λ (ws : List (List ℕ)). w ∷ ws) (its_words (value_text k a.0) ks a.1 (plain_value k a.0 v.0) v.1)
@@ -181,11 +181,11 @@ adds_up : (whole first rest next more : ℕ) → whole ≡ first + suc rest → 
 adds_up whole first rest next more e f g = omega arith
 
 -- how long the arguments and the spaces before them are at most
-abbrev room : List Kind → ℕ
+abbrev pub room : List Kind → ℕ
 room [] = 0
 room (k ∷ ks) = 33 + room ks
 
-its_length : (w : List ℕ) (ks : List Kind) (a : Arguments ks) → AreValues ks a → length (joined (w ∷ argument_texts ks a)) ≤ length w + room ks
+pub its_length : (w : List ℕ) (ks : List Kind) (a : Arguments ks) → AreValues ks a → length (joined (w ∷ argument_texts ks a)) ≤ length w + room ks
 its_length w [] a v = omega arith
 its_length w (k ∷ ks) a v =
     let rest = joined (value_text k a.0 ∷ argument_texts ks a.1) in
@@ -204,7 +204,7 @@ values_say (k ∷ ks) a v =
     bound (value_in k (value_text k a.0)) (λ x. values_in ks (argument_texts ks a.1) >>= (λ xs. Ok (x, xs))) a.0 (Ok a) (value_says k a.0 v.0)
     (bound (values_in ks (argument_texts ks a.1)) (λ xs. Ok (a.0, xs)) a.1 (Ok a) (values_say ks a.1 v.1) refl)
 
-arguments_say : (ks : List Kind) (a : Arguments ks) → AreValues ks a → arguments_in ks (argument_texts ks a) ≡ Ok a
+pub arguments_say : (ks : List Kind) (a : Arguments ks) → AreValues ks a → arguments_in ks (argument_texts ks a) ≡ Ok a
 arguments_say ks a v = bound (exactly (length ks) (argument_texts ks a)) (λ us. values_in ks us) (argument_texts ks a) (Ok a) (as_many ks a) (values_say ks a v)
 
 plain_word : (c : Command) → Plain (word_of c)
@@ -239,10 +239,10 @@ few_words command.Inside = refl
 few_words command.Waiting = refl
 few_words command.Holding = refl
 
-if_short : {A : Type 0} (n : ℕ) (x y : A) → n ≤ 128 → cond (nat_lt MAX_LINE_LEN n) x y ≡ y
+pub if_short : {A : Type 0} (n : ℕ) (x y : A) → n ≤ 128 → cond (nat_lt MAX_LINE_LEN n) x y ≡ y
 if_short n x y h = let t : nat_lt MAX_LINE_LEN n ≡ false = grind (arith, nat_tests) in ap (λ (b : Bool). cond b x y) t
 
-no_longer : (n m : ℕ) → n ≤ m → m ≤ 128 → n ≤ 128
+pub no_longer : (n m : ℕ) → n ≤ m → m ≤ 128 → n ≤ 128
 no_longer n m h g = omega arith
 
 back : (cs : List Command) (c : Command) (says : Arguments (kinds_of c) → Line) → ((ws : List (List ℕ)) → said_by c ws ≡ given c says ws) → (a : Arguments (kinds_of c)) → AreValues (kinds_of c) a → IsAmong c cs → line_of cs (parts_text c a) ≡ Ok (says a)

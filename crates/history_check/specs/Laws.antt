@@ -1,9 +1,13 @@
 -- Laws about lines.
 use Rattle.std.specs.Prelude.{◌≡◌, ◌⊎◌, ℕ, ◌<◌, ◌≤◌, ◌^◌, ◌↔◌, List, [], ◌∷◌, Some, Ok}
 use Rattle.std.specs.Fmt.{decimal}
+use Rattle.world_model.specs.declared.events.Event.{Event}
 use Rattle.history_check.specs.declared.commands.Command.{Command}
 use Rattle.history_check.specs.declared.lines.Line.{Line}
+use Rattle.history_check.specs.declared.wishes.Wish.{Wish}
 use Rattle.history_check.specs.Lines.{spelled, line_of, text_of, command_of, IsInRange}
+use Rattle.history_check.specs.Events.{event_of, IsSpelling}
+use Rattle.history_check.specs.Wishes.{wish_of, wish_text, IsWish}
 
 -- a word spells a number exactly where it is the number's decimal text
 abbrev pub NumbersAreSpelledOnce : Type 0
@@ -19,3 +23,12 @@ IsAmong c (d ∷ ds) = (c ≡ d) ⊎ IsAmong c ds
 -- has two.
 abbrev pub LinesAreSpelledOnce : Type 0
 LinesAreSpelledOnce = (commands : List Command) (bytes : List ℕ) (l : Line) → (line_of commands bytes ≡ Ok l) ↔ ((bytes ≡ text_of l) × IsInRange l × IsAmong (command_of l) commands)
+
+-- A line of a journal says an event exactly where it is the one text of it, byte for byte, and this is
+-- in range.
+abbrev pub EventsAreSpelledOnce : Type 0
+EventsAreSpelledOnce = (bytes : List ℕ) (e : Event) → (event_of bytes ≡ Ok e) ↔ IsSpelling bytes e
+
+-- a text wishes something exactly where it is the one text of it, and this is in range
+abbrev pub WishesAreSpelledOnce : Type 0
+WishesAreSpelledOnce = (bytes : List ℕ) (w : Wish) → (wish_of bytes ≡ Ok w) ↔ ((bytes ≡ wish_text w) × IsWish w)

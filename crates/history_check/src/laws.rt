@@ -1,6 +1,11 @@
 //! Laws about lines. Each function computes nothing: its contract is the law.
 
-ghost use Rattle.history_check.specs.Laws.{NumbersAreSpelledOnce, LinesAreSpelledOnce};
+ghost use Rattle.history_check.specs.Laws.{
+  EventsAreSpelledOnce,
+  LinesAreSpelledOnce,
+  NumbersAreSpelledOnce,
+  WishesAreSpelledOnce,
+};
 
 /// A word spells a number exactly where it is the number's decimal text, which has no leading zero.
 pub fn numbers_are_spelled_once()
@@ -11,4 +16,14 @@ pub fn numbers_are_spelled_once()
 /// range, and its command is read: so each text is read as what it says, and nothing has two texts.
 pub fn lines_are_spelled_once()
     ensures { LinesAreSpelledOnce }
+{}
+
+/// A line of a journal is read as an event exactly where it is the event's one text, in range.
+pub fn events_are_spelled_once()
+    ensures { EventsAreSpelledOnce }
+{}
+
+/// A text is read as a wish exactly where it is the wish's one text, in range.
+pub fn wishes_are_spelled_once()
+    ensures { WishesAreSpelledOnce }
 {}

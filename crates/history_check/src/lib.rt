@@ -6,18 +6,24 @@
 //! what is wrong with them are said of this table. The crate promises that `read_line` answers just
 //! that for every line, and `write_line` just the text of every event and query; the law
 //! `lines_are_spelled_once` says that the two are each other's inverse, so that each event and each
-//! query has one spelling, which is read as it.
+//! query has one spelling, which is read as it. `read_event` and `write_event` are the same for the
+//! lines of a journal, which are events alone (`Events`), and `read_wish` reads what a client is to do
+//! (`Wishes`).
 //!
 //! It stands on `lock_messages`, on `world_model` for events, and on `thiserror`.
 #![tactic(auto)]
 
 mod commands;
+mod events;
 mod faults;
 pub mod laws;
 mod lines;
+mod wishes;
 mod words;
 
 pub use commands::Command;
+pub use events::{read_event, write_event};
 pub use faults::LineFault;
 pub use lines::{Line, Query, read_line, write_line};
+pub use wishes::{Wish, read_wish};
 pub use words::MAX_LINE_LEN;

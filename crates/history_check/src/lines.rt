@@ -95,7 +95,10 @@ fn actor_and_age(rest: Option<&[u8]>) -> Result<(Actor, Age), LineFault>
     Ok((actor_of(first)?, age_of(second)?))
 }
 
-fn client_mode_and_name(rest: Option<&[u8]>) -> Result<(ClientId, Mode, ResourceName), LineFault>
+/// A client, a mode and a name, and nothing more.
+pub(crate) fn client_mode_and_name(
+    rest: Option<&[u8]>,
+) -> Result<(ClientId, Mode, ResourceName), LineFault>
     ensures { Gives (λ x. (x.0, (x.1, (x.2, tt)))) result (arguments_in (AClient ∷ AMode ∷ AName ∷ []) (words_behind rest.entry)) }
 {
     let (first, second, third) = three(rest)?;
@@ -180,8 +183,8 @@ pub fn read_line(commands: &[Command], line: &[u8]) -> Result<Line, LineFault>
     said_by(named(commands, first)?, rest)
 }
 
-/// The text of an event.
-fn push_event(text: &mut String, event: &Event) -> Result<(), AllocError>
+/// Adds the text of an event.
+pub(crate) fn push_event(text: &mut String, event: &Event) -> Result<(), AllocError>
     ensures { OnOk result (string_bytes text.new ≡ string_bytes text.old ++ text_of (line.Event event.now)) }
 {
     match *event {

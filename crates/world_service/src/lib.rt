@@ -1,13 +1,14 @@
 //! The world of a lock service, as a machine: its nodes, its clients and all messages ever sent.
 //!
-//! NOT PROVED YET, and so not listed among the crates: what stands below is what it is to promise.
-//!
-//! One event is one atomic action of one actor, and `World::step` takes one event. The crate promises
-//! that `step` and `run` are the exact ones of `world_model`: the world after, the effect, or the lowest
-//! refusal that applies, with nothing changed; that every `World` is sound, so that a writer inside a
-//! resource is there alone; and that `inside`, `waiting`, `holding` and `kept_bytes` answer what the
-//! definitions name. It stands on `world_model`, `world_actors`, `stable_record`, `lock_messages`,
-//! `lock_model` and `vote_weights`.
+//! One event is one atomic action of one actor, and `World::step` takes one event. `World::start` opens
+//! a world in which nothing is kept, `World::resume` one from the records that its actors have kept. The
+//! crate promises that `step` and `run` are the exact ones of `world_model`: the world after, the effect,
+//! or the lowest refusal that applies, with nothing changed; that what they did is a step, or a run, of
+//! which the exclusion theorem speaks; that every `World` is sound, so that a writer inside a resource is
+//! there alone; and that what is asked of it (`inside`, `ticket_inside`, `waiting`, `holding`,
+//! `kept_bytes`, `sent`) is answered as the definitions have it. It stands on `world_model`,
+//! `world_actors`, `world_opening`, `stable_record`, `admission_policy`, `lock_messages`, `lock_model`
+//! and `vote_weights`.
 #![tactic(auto)]
 
 mod doing;

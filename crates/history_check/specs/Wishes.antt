@@ -1,0 +1,29 @@
+-- Wishes: what a client is to do, as a text.
+use Rattle.std.specs.Prelude.{ℕ, nat_lt, if◌then◌else◌, List, [], ◌∷◌, length, Result, Ok, Err}
+use Rattle.std.specs.List.{join_with_byte}
+use Rattle.history_check.specs.declared.faults.LineFault.{LineFault}
+use Rattle.history_check.specs.declared.faults.LineFault.TheVariants as fault
+use Rattle.history_check.specs.declared.wishes.Wish.{Wish}
+use Rattle.history_check.specs.declared.words.TheConstants.{MAX_LINE_LEN}
+use Rattle.history_check.specs.Lines.{◌>>=◌, Kind, AClient, AMode, AName, Arguments, AreValues, argument_texts, arguments_in, words}
+
+-- what a wish has, in order
+abbrev pub wish_kinds : List Kind
+wish_kinds = AClient ∷ AMode ∷ AName ∷ []
+
+abbrev pub wish_parts : Wish → Arguments wish_kinds
+wish_parts w = (w.client, (w.mode, (w.resource, tt)))
+
+-- the one text of a wish: its parts, with a space between any two
+abbrev pub wish_text : Wish → List ℕ
+wish_text w = join_with_byte 32 (argument_texts wish_kinds (wish_parts w))
+
+-- its client and its name are some that there may be
+abbrev pub IsWish : Wish → Type 0
+IsWish w = AreValues wish_kinds (wish_parts w)
+
+-- What a text wishes, or what is wrong with it. It is judged as the arguments of a line are.
+unfoldable pub wish_of : List ℕ → Result Wish LineFault
+wish_of bytes =
+    if nat_lt MAX_LINE_LEN (length bytes) then Err fault.Words
+    else arguments_in wish_kinds (words bytes) >>= (λ a. Ok (record { client = a.0; mode = a.1.0; resource = a.1.1.0 }))

@@ -1,0 +1,59 @@
+// Records that were written by hand, each under a name.
+
+use crate::outcomes::Failure;
+use std::alloc::Global;
+
+/// The bytes of a record, each word a field, in hexadecimal digits.
+fn spelled(name: &str) -> Option<&'static str> {
+    match name {
+        // Of nodes: without entries, of problem 1 and of problem 2.
+        "first" => Some("01 01 0000"),
+        "second" => Some("01 02 0000"),
+        // c1's floor is 3; c1 holds `a` as a reader by its attempt 3; the floor of c9 is 1.
+        "floor3" => Some("01 01 0001 00000001 0000000000000003 00"),
+        "holds3" => Some("01 01 0001 00000001 0000000000000002 02 0000000000000003 00 01 61"),
+        "stranger" => Some("01 01 0001 00000009 0000000000000001 00"),
+        // Of clients: the last attempt was none, 2, 3, the greatest.
+        "none" => Some("01 0000000000000000"),
+        "two" => Some("01 0000000000000002"),
+        "three" => Some("01 0000000000000003"),
+        "spent" => Some("01 000000e8d4a51000"),
+        // Of neither: too short, of another version, past the greatest attempt, and no bytes at all.
+        "short" => Some("01"),
+        "version" => Some("02 01 0000"),
+        "past" => Some("01 000000e8d4a51001"),
+        "empty" => Some(""),
+        _ => None,
+    }
+}
+
+fn put_field(bytes: &mut Vec<u8>, word: &str) -> Result<(), Failure> {
+    let Ok(field) = u64::from_str_radix(word, 16) else {
+        return Err(Failure::Wrong(0));
+    };
+    let start = 8usize.saturating_sub(word.len() / 2);
+    for byte in field.to_be_bytes().iter().skip(start) {
+        bytes.push(*byte)?;
+    }
+    Ok(())
+}
+
+fn record(alloc: Global, name: &str) -> Result<Vec<u8>, Failure> {
+    let Some(spelled) = spelled(name) else {
+        return Err(Failure::Wrong(0));
+    };
+    let mut bytes = Vec::new(alloc);
+    for word in spelled.split_whitespace() {
+        put_field(&mut bytes, word)?;
+    }
+    Ok(bytes)
+}
+
+/// The records of these names.
+pub(crate) fn records(alloc: Global, names: &str) -> Result<Vec<Vec<u8>>, Failure> {
+    let mut records = Vec::new(alloc);
+    for name in names.split_whitespace() {
+        records.push(record(alloc, name)?)?;
+    }
+    Ok(records)
+}
