@@ -1,7 +1,7 @@
 -- What seats know, and what contracts see of a book's seat and of a berth's.
 use Rattle.std.specs.Prelude.{◌≡◌, ◌==◌, Bool, true, false, List, []}
 use Rattle.std.specs.List.{list_any}
-use Rattle.atomic_table.specs.Seated.{TableId}
+pub use Rattle.atomic_table.specs.Seated.{TableId}
 use Rattle.atomic_table.specs.Table.{Me}
 use Rattle.lock_messages.specs.declared.ids.Actor.{Actor}
 use Rattle.lock_messages.specs.declared.ids.Actor.TheVariants as actor
