@@ -38,7 +38,7 @@ known-entry c (d ∷ es) e h = go (λ k. known-entry c es e k) (is_of c d) refl
 abbrev pub ends_in : ℕ → ℕ → List Entry → List Entry
 ends_in c a es = map (λ e. cond (is_of c e) (ended_entry a e) e) es
 
-ends-unknown : (c a : ℕ) (es : List Entry) → knows c es ≡ false → ends_in c a es ≡ es
+pub ends-unknown : (c a : ℕ) (es : List Entry) → knows c es ≡ false → ends_in c a es ≡ es
 ends-unknown c a [] h = refl
 ends-unknown c a (e ∷ es) h =
     let k = or-none (is_of c e) (knows c es) h in
@@ -66,7 +66,7 @@ ends-replaces c a (d ∷ es) e f once h is client = go (λ k. ends-replaces c a 
         ∙ sym (ap (λ b. cond b f d ∷ replaced f es) (turned ∙ here))
 
 -- where the floor is high enough nothing ends
-ends-nothing : (c a : ℕ) (es : List Entry) (e : Entry) → EachOnce es → entry_of es c ≡ Some e → nat_lt e.floor a ≡ false → ends_in c a es ≡ es
+pub ends-nothing : (c a : ℕ) (es : List Entry) (e : Entry) → EachOnce es → entry_of es c ≡ Some e → nat_lt e.floor a ≡ false → ends_in c a es ≡ es
 ends-nothing c a [] e once h low = refl
 ends-nothing c a (d ∷ es) e once h low = go (λ k. ends-nothing c a es e once.1 k low) (is_of c d) refl
   where
@@ -86,10 +86,10 @@ ends-nothing c a (d ∷ es) e once h low = go (λ k. ends-nothing c a es e once.
 abbrev pub fresh : ℕ → ℕ → Entry
 fresh c a = record { client = c; floor = a; live = None }
 
-ended-known : (c a : ℕ) (es : List Entry) → knows c es ≡ true → ended c a es ≡ ends_in c a es
+pub ended-known : (c a : ℕ) (es : List Entry) → knows c es ≡ true → ended c a es ≡ ends_in c a es
 ended-known c a es h = ap (λ b. cond b (ends_in c a es) (es ++ fresh c a ∷ [])) h
 
-ended-unknown : (c a : ℕ) (es : List Entry) → knows c es ≡ false → ended c a es ≡ es ++ fresh c a ∷ []
+pub ended-unknown : (c a : ℕ) (es : List Entry) → knows c es ≡ false → ended c a es ≡ es ++ fresh c a ∷ []
 ended-unknown c a es h = ap (λ b. cond b (ends_in c a es) (es ++ fresh c a ∷ [])) h
 
 -- a stranger's entry is pushed, where memory is there

@@ -3,3 +3,4 @@ pub mod PassFacts
 pub mod EndFacts
 pub mod ChangeFacts
 pub mod RangeFacts
+pub mod FreedFacts

@@ -1,2 +1,3 @@
 pub mod Voters
 pub mod Faults
+pub mod Freed

@@ -9,13 +9,15 @@ ghost use Rattle.lock_model.specs.Laws.{IsAllowed};
 ghost use Rattle.stable_record.specs.Records.{IsNodeRecord};
 ghost use Rattle.lock_model.specs.ExactStations.{EachOnce, entry_of, knows};
 ghost use Rattle.lock_model.specs.ExactDecisions.{ended, moved_last, takes_up, releases, decision, Changes, changes};
+ghost use Rattle.lock_model.specs.Judgement.{is_caused};
+ghost use Rattle.voter_core.specs.Freed.{freed};
 ghost use Rattle.voter_core.specs.Voters.{ends_something, is_admitted, note_for, note_of};
 
 use crate::asking::note;
 use crate::settling::{admits, settle};
 use admission_policy::Admission;
-use lock_messages::{Attempt, ClientId, Message, NodeId, Ticket};
-use lock_model::laws::{changes_are_seen, decision_is_allowed};
+use lock_messages::{Attempt, ClientId, Message, NodeId, ResourceName, Ticket};
+use lock_model::laws::{changes_are_seen, decision_is_allowed, judgement_is_exact};
 use lock_model::{Entry, Problem, new_entry, reply_to_known};
 use stable_record::laws::entries_are_few;
 use stable_record::{Entries, NodeRecord};
@@ -53,6 +55,19 @@ fn end(entries: &mut Entries, client: ClientId, attempt: u64) -> Result<bool, Al
     Ok(true)
 }
 
+/// The resource of the ticket that ends with the client's attempts up to this one, if one does.
+fn freed(entries: &Entries, client: ClientId, attempt: u64) -> Option<ResourceName>
+    ensures freed { result ≡ freed attempt (entry_of entries.now client) }
+{
+    let Entry { floor, live, .. } = entries.entry_of(client)?;
+    let live = live?;
+    if floor < attempt {
+        Some(live.resource)
+    } else {
+        None
+    }
+}
+
 /// Whether there are more replies than the sender's.
 fn tells_grants(replies: &[Message]) -> bool
     ensures { result ≡ nat_lt 1 (length replies.now) }
@@ -73,13 +88,16 @@ fn release(
 ) -> Result<bool, AllocError>
     requires none { (replies.old.items ≡ []) × (vec_len replies.old ≡ 0) }
     requires room { length entries.old + 2 ≤ vec_capacity replies.old }
+    requires caused { is_caused problem entries.old ≡ true }
     ensures entries { entries.new ≡ (if is_ok result then (releases node problem entries.old client attempt).entries else entries.old) }
     ensures replies { OnOk result (replies.new.items ≡ (releases node problem entries.old client attempt).replies) }
     ensures changed { IfOk result (λ b. IsTrue b ↔ ((releases node problem entries.old client attempt).entries ≢ entries.old)) }
 {
-    let ended = end(entries, client, attempt.get())?;
+    let last = attempt.get();
+    let freed = freed(entries, client, last);
+    let ended = end(entries, client, last)?;
     replies.push_reserved(Message::Done(node, client, attempt));
-    settle(policy, problem, node, entries, replies);
+    settle(policy, problem, node, entries, freed, replies);
     Ok(ended || tells_grants(replies))
 }
 
@@ -111,15 +129,18 @@ fn take_up(
 ) -> Result<(), AllocError>
     requires none { (replies.old.items ≡ []) × (vec_len replies.old ≡ 0) }
     requires room { length entries.old + 2 ≤ vec_capacity replies.old }
+    requires caused { is_caused problem entries.old ≡ true }
     ensures entries { entries.new ≡ (if is_ok result then (takes_up node problem entries.old ticket.now).entries else entries.old) }
     ensures replies { OnOk result (replies.new.items ≡ (takes_up node problem entries.old ticket.now).replies) }
     ensures told { OnOk result ((b : Bool) → note_for ticket.now.mode (is_admitted problem entries.old ticket.now) ≡ Some b → (after : _) × notes policy.old b after × (policy.new ≡ (policy.old.0, after))) }
     ensures untold { OnOk result (note_for ticket.now.mode (is_admitted problem entries.old ticket.now) ≡ None → policy.new ≡ policy.old) }
     ensures refused { OnErr result (policy.new ≡ policy.old) }
 {
-    end(entries, ticket.client, ticket.attempt.get() - 1)?;
+    let last = ticket.attempt.get() - 1;
+    let freed = freed(entries, ticket.client, last);
+    end(entries, ticket.client, last)?;
     replies.push_reserved(Message::Busy(node, *ticket));
-    settle(policy, problem, node, entries, replies);
+    settle(policy, problem, node, entries, freed, replies);
     let admitted = admits(policy, problem, entries, ticket.mode, &ticket.resource);
     if admitted {
         set_first(replies, Message::Grant(node, *ticket));
@@ -140,6 +161,7 @@ fn request(
 ) -> Result<bool, AllocError>
     requires none { (replies.old.items ≡ []) × (vec_len replies.old ≡ 0) }
     requires room { length entries.old + 2 ≤ vec_capacity replies.old }
+    requires caused { is_caused problem entries.old ≡ true }
     ensures entries { entries.new ≡ (if is_ok result then (decision problem entries.old (Message.Request node ticket.now)).entries else entries.old) }
     ensures replies { OnOk result (replies.new.items ≡ (decision problem entries.old (Message.Request node ticket.now)).replies) }
     ensures changed { IfOk result (λ b. IsTrue b ↔ Changes problem entries.old (Message.Request node ticket.now)) }
@@ -170,6 +192,7 @@ pub(crate) fn decide(
 ) -> Result<bool, AllocError>
     requires none { (replies.old.items ≡ []) × (vec_len replies.old ≡ 0) }
     requires room { length entries.old + 2 ≤ vec_capacity replies.old }
+    requires caused { is_caused problem entries.old ≡ true }
     ensures entries { entries.new ≡ (if is_ok result then (decision problem entries.old message.now).entries else entries.old) }
     ensures replies { OnOk result (replies.new.items ≡ (decision problem entries.old message.now).replies) }
     ensures changed { IfOk result (λ b. IsTrue b ↔ Changes problem entries.old message.now) }
@@ -222,6 +245,15 @@ fn is_message(message: &Message)
             attempt.get();
         }
     }
+}
+
+/// Computes nothing: each ticket of a record that waits has a cause.
+pub(crate) fn is_caused(station: &NodeRecord)
+    requires record { IsNodeRecord station.now }
+    ensures caused { is_caused station.now.policy station.now.entries ≡ true }
+{
+    let _policy = station.policy;
+    judgement_is_exact();
 }
 
 /// Computes nothing: after the decision on a message for this node the station is one that can be

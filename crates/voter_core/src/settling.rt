@@ -4,9 +4,11 @@ ghost use Rattle.std.specs.Prelude.{◌≡◌, ◌≤◌, ◌<◌, ◌+◌, ◌+
 ghost use Rattle.std.specs.Vec.{vec_len, vec_capacity};
 ghost use Rattle.lock_messages.specs.declared.messages.Message.{Message};
 ghost use Rattle.lock_model.specs.declared.entries.Entry.{Entry};
-ghost use Rattle.lock_model.specs.ExactStations.{admits, settled_entry, settled};
+ghost use Rattle.lock_model.specs.ExactStations.{if_live, admits, settled_entry, settled};
 ghost use Rattle.lock_model.specs.ExactDecisions.{told, grants};
+ghost use Rattle.stable_record.specs.Lines.{is_for};
 ghost use Rattle.voter_core.specs.Voters.{admitted_now};
+ghost use Rattle.voter_core.specs.Freed.{OthersStay};
 
 use crate::asking::admits_reader;
 use admission_policy::Admission;
@@ -65,16 +67,29 @@ fn grant(node: NodeId, client: ClientId, live: &Live) -> Message
     Message::Grant(node, ticket)
 }
 
-/// Settles the entry at this place, and tells a Grant where it became a holder.
+/// Whether the ticket is for the resource.
+fn is_for(live: &Option<Live>, resource: &ResourceName) -> bool
+    ensures { result ≡ if_live (is_for resource.now) live.now }
+{
+    match live {
+        None => false,
+        Some(live) => live.resource == *resource,
+    }
+}
+
+/// Settles the entry at this place, and tells a Grant where it became a holder. A ticket for another
+/// resource stays.
 fn settle_at(
     policy: &(dyn Admission + Send),
     problem: Problem,
     node: NodeId,
     entries: &mut Entries,
     place: usize,
+    resource: &ResourceName,
     replies: &mut Vec<Message>,
 )
     requires room { vec_len replies.old < vec_capacity replies.old }
+    requires others { OthersStay problem (Some resource.now) entries.old }
     ensures entries { (e : Entry) → slice_get entries.old place ≡ Some e → entries.new ≡ slice_set entries.old place (settled_entry problem entries.old e) }
     ensures replies { (e : Entry) → slice_get entries.old place ≡ Some e → replies.new.items ≡ replies.old.items ++ told node e (settled_entry problem entries.old e) }
     ensures room { (vec_len replies.new ≤ vec_len replies.old + 1) × (vec_capacity replies.new ≡ vec_capacity replies.old) }
@@ -89,6 +104,9 @@ fn settle_at(
     else {
         return;
     };
+    if !is_for(&live, resource) {
+        return;
+    }
     let Some(live) = admitted_now(policy, problem, entries, live) else {
         return;
     };
@@ -100,19 +118,41 @@ fn settle_at(
     });
 }
 
-/// Settles the entries, and adds the Grants of those that became holders.
+/// Settles the entries of a resource, and adds the Grants of those that became holders.
+fn settle_resource(
+    policy: &(dyn Admission + Send),
+    problem: Problem,
+    node: NodeId,
+    entries: &mut Entries,
+    resource: &ResourceName,
+    replies: &mut Vec<Message>,
+)
+    requires room { vec_len replies.old + length entries.old ≤ vec_capacity replies.old }
+    requires others { OthersStay problem (Some resource.now) entries.old }
+    ensures entries { entries.new ≡ settled problem entries.old }
+    ensures replies { replies.new.items ≡ replies.old.items ++ grants node entries.old entries.new }
+{
+    for place in 0..entries.len() {
+        settle_at(policy, problem, node, entries, place, resource, replies);
+    }
+}
+
+/// Settles the entries where a ticket for this resource ended, and adds the Grants of those that
+/// became holders. Who waits for another resource has a cause still.
 pub(crate) fn settle(
     policy: &(dyn Admission + Send),
     problem: Problem,
     node: NodeId,
     entries: &mut Entries,
+    freed: Option<ResourceName>,
     replies: &mut Vec<Message>,
 )
     requires room { vec_len replies.old + length entries.old ≤ vec_capacity replies.old }
+    requires others { OthersStay problem freed entries.old }
     ensures entries { entries.new ≡ settled problem entries.old }
     ensures replies { replies.new.items ≡ replies.old.items ++ grants node entries.old entries.new }
 {
-    for place in 0..entries.len() {
-        settle_at(policy, problem, node, entries, place, replies);
+    if let Some(resource) = freed {
+        settle_resource(policy, problem, node, entries, &resource, replies);
     }
 }

@@ -1,16 +1,14 @@
-use Rattle.std.proofs.Common.{◌<◌, ◌+◌, length, sym, subst, arith}
-use Rattle.voter_core.proofs.EntryFacts.{some-at}
-use Rattle.voter_core.proofs.PassFacts.{SettledUpTo, settled-more}
+use Rattle.std.proofs.Common.{◌≡◌, None, Some, sym, ap, ◌∙◌, ◌++◌, List, ℕ, Option, subst}
+use Rattle.std.proofs.lemmas.List.{append-nil}
+use Rattle.voter_core.specs.Freed.{OthersStay}
+use Rattle.voter_core.proofs.FreedFacts.{idle-settled, grants-nothing, none-freed}
 use Rattle.voter_core.proofs.settling.settle.Goals as goal
 
-pub loop-place-preserved : goal.loop-place-preserved
-loop-place-preserved g c =
-    let now = c.loop-place.entries in
-    let old = c.args.entries.now in
-    let below : c.loop-place.place < length now = omega (arith, c.loop-place-test.true, c.len-place-end.ensures.len, c.loop-place.invariant.settled.size) in
-    let at = some-at now c.loop-place.place below in
-    record {
-      settled = subst (λ es. SettledUpTo c.args.problem c.args.node old c.args.replies.now.items (c.loop-place.place + 1) es c.settle_at.new.replies.items) (sym (c.settle_at.ensures.entries at.0 at.1))
-          (settled-more c.args.problem c.args.node old c.args.replies.now.items c.loop-place.place now c.loop-place.replies.items at.0 c.loop-place.invariant.settled below at.1 c.settle_at.new.replies.items (c.settle_at.ensures.replies at.0 at.1));
-      room = omega (arith, c.settle_at.ensures.room.0, c.settle_at.ensures.room.1, c.loop-place.invariant.room);
-    }
+pub returns-in_default-clause-entries : goal.returns-in_default-clause-entries
+returns-in_default-clause-entries g c =
+    let none : c.args.freed ≡ None = none-freed c.args.freed c.in_default.not-Some in
+    idle-settled c.args.problem c.args.entries.now (subst (λ o. OthersStay c.args.problem o c.args.entries.now) none c.requires.others)
+
+pub returns-in_default-clause-replies : goal.returns-in_default-clause-replies
+returns-in_default-clause-replies g c =
+    sym (append-nil c.args.replies.now.items) ∙ ap (λ ms. c.args.replies.now.items ++ ms) (sym (grants-nothing c.args.node c.args.entries.now))
