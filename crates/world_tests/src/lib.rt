@@ -7,10 +7,14 @@
 #![tactic(auto)]
 
 #[cfg(test)]
+mod generator;
+#[cfg(test)]
 mod openings;
 #[cfg(test)]
 mod outcomes;
 #[cfg(test)]
 mod policies;
+#[cfg(test)]
+mod random_events;
 #[cfg(test)]
 mod records;

@@ -1,0 +1,126 @@
+// Events of a fixed generator: 5 nodes and 6 clients, 2 resources. Messages come late, again and out of
+// order, or never; actors fall and rise; every client in turn asks, enters and releases.
+
+use crate::outcomes::Failure;
+use lock_messages::{Actor, ClientId, Message, Mode, NodeId, ResourceName};
+use rand_core::utils::NextWord;
+use rand_pcg::Pcg32;
+use world_model::{Age, Event};
+use world_service::World;
+
+pub(crate) const NODES: u8 = 5;
+
+pub(crate) const CLIENTS: u16 = 6;
+
+pub(crate) fn node(number: u32) -> Result<NodeId, Failure> {
+    match NodeId::of((number % NODES as u32 + 1) as u8) {
+        Some(node) => Ok(node),
+        None => Err(Failure::Wrong(0)),
+    }
+}
+
+pub(crate) fn client(number: u32) -> Result<ClientId, Failure> {
+    match ClientId::of(number % CLIENTS as u32 + 1) {
+        Some(client) => Ok(client),
+        None => Err(Failure::Wrong(0)),
+    }
+}
+
+pub(crate) fn name(number: u32) -> Result<ResourceName, Failure> {
+    let name = if number % 2 == 0 {
+        ResourceName::of(b"a")
+    } else {
+        ResourceName::of(b"b")
+    };
+    match name {
+        Some(name) => Ok(name),
+        None => Err(Failure::Wrong(0)),
+    }
+}
+
+fn some_actor(words: &mut Pcg32) -> Result<Actor, Failure> {
+    let number = words.next_word();
+    if words.next_word() % 2 == 0 {
+        let node = node(number)?;
+        Ok(Actor::Node(node))
+    } else {
+        let client = client(number)?;
+        Ok(Actor::Client(client))
+    }
+}
+
+/// What its actor does with a message.
+fn delivery(message: Message, number: u32) -> Event {
+    match message {
+        Message::Request(node, _) | Message::Release(node, _, _) => Event::Take(node, number),
+        Message::Grant(_, ticket) | Message::Busy(_, ticket) => Event::Hear(ticket.client, number),
+        Message::Over(_, client, _)
+        | Message::Done(_, client, _)
+        | Message::Muddled(_, client, _) => Event::Hear(client, number),
+    }
+}
+
+/// One of the last three messages comes to its actor, again perhaps; before there is one, a node takes
+/// what was never sent.
+fn some_delivery(words: &mut Pcg32, world: &World, sent: u32) -> Result<Event, Failure> {
+    let number = sent.saturating_sub(words.next_word() % 3);
+    match world.sent(number) {
+        Some(message) => Ok(delivery(message, number)),
+        None => {
+            let node = node(number)?;
+            Ok(Event::Take(node, number))
+        }
+    }
+}
+
+/// A step of an attempt, of 16: it is begun and kept, nodes are asked, and where it was left they are
+/// told.
+fn attempt_step(words: &mut Pcg32, round: u32) -> Result<Event, Failure> {
+    let client = client(round / 16)?;
+    let name = name(words.next_word())?;
+    let node = node(round)?;
+    let mode = if words.next_word() % 3 == 0 {
+        Mode::Write
+    } else {
+        Mode::Read
+    };
+    Ok(match round % 16 {
+        0 => Event::Begin(client, mode, name),
+        1 => Event::Try(Actor::Client(client)),
+        2 => Event::Kept(Actor::Client(client)),
+        9..=11 => Event::Enter(client),
+        12 => Event::Leave(client),
+        _ => Event::SayTo(client, node),
+    })
+}
+
+/// Mostly the client whose attempt it is enters; now and then an actor falls or rises.
+fn rare_event(words: &mut Pcg32, round: u32) -> Result<Event, Failure> {
+    let who = some_actor(words)?;
+    let client = client(round / 16)?;
+    Ok(match words.next_word() % 20 {
+        0 => Event::Fall(who),
+        1..=3 => Event::Rise(who, Age::New),
+        4..=8 => Event::Rise(who, Age::Old),
+        _ => Event::Enter(client),
+    })
+}
+
+/// The event of a turn, where this node was to take a message last and so many messages were sent.
+pub(crate) fn event_of_turn(
+    words: &mut Pcg32,
+    world: &World,
+    turn: u32,
+    last: NodeId,
+    sent: u32,
+) -> Result<Event, Failure> {
+    let round = turn / 8;
+    match turn % 8 {
+        1 => Ok(Event::Try(Actor::Node(last))),
+        2 => Ok(Event::Kept(Actor::Node(last))),
+        3 => Ok(Event::Say(last)),
+        5 | 6 => attempt_step(words, round),
+        7 => rare_event(words, round),
+        _ => some_delivery(words, world, sent),
+    }
+}

@@ -1,0 +1,158 @@
+// Long runs of a fixed generator: after each event a writer inside is alone. The contract of `inside`
+// says so of every world; this shows that it says it of worlds in which clients enter.
+
+use crate::generator::{CLIENTS, NODES, client, event_of_turn, name, node};
+use crate::outcomes::{Failure, Outcome, check};
+use admission_policy::{Admission, FirstProblem, SecondProblem};
+use lock_messages::{Actor, Mode};
+use lock_model::Problem;
+use rand_pcg::Pcg32;
+use std::alloc::Global;
+use vote_weights::Ballot;
+use world_model::{Age, Effect, Event, StepFault};
+use world_service::World;
+
+/// The seed of the events.
+const SEED: u64 = 9;
+
+/// The events that are tried; more than 3,000 of them are taken.
+const TURNS: u32 = 9_000;
+
+/// The plain policy of a problem.
+fn policy_of(alloc: Global, problem: Problem) -> Result<Box<dyn Admission + Send>, Failure> {
+    match problem {
+        Problem::First => {
+            let policy: Box<dyn Admission + Send> = Box::new(alloc, FirstProblem)?;
+            Ok(policy)
+        }
+        Problem::Second => {
+            let policy: Box<dyn Admission + Send> = Box::new(alloc, SecondProblem)?;
+            Ok(policy)
+        }
+    }
+}
+
+/// One for each node.
+fn policies_of(alloc: Global, problem: Problem) -> Result<Vec<Box<dyn Admission + Send>>, Failure> {
+    let mut policies = Vec::new(alloc);
+    for _ in 0..NODES {
+        let policy = policy_of(alloc, problem)?;
+        policies.push(policy)?;
+    }
+    Ok(policies)
+}
+
+fn ballot() -> Result<Ballot, Failure> {
+    match Ballot::of(&[3, 1, 2, 0, 1], 3, 5) {
+        Ok(ballot) => Ok(ballot),
+        Err(_) => Err(Failure::Wrong(0)),
+    }
+}
+
+/// A world of nodes with unlike votes, all down, nothing kept.
+fn new_world(alloc: Global, problem: Problem) -> Result<World, Failure> {
+    let ballot = ballot()?;
+    let policies = policies_of(alloc, problem)?;
+    if policies.len() != ballot.nodes() as usize {
+        return Err(Failure::Wrong(0));
+    }
+    match World::start(alloc, ballot, CLIENTS, policies) {
+        Ok(world) => Ok(world),
+        Err(_) => Err(Failure::Memory),
+    }
+}
+
+/// All actors rise.
+fn raise(world: &mut World) -> Outcome {
+    for number in 0..NODES as u32 {
+        let node = node(number)?;
+        world.step(&Event::Rise(Actor::Node(node), Age::Old))?;
+    }
+    for number in 0..CLIENTS as u32 {
+        let client = client(number)?;
+        world.step(&Event::Rise(Actor::Client(client), Age::Old))?;
+    }
+    Ok(())
+}
+
+/// Whether those inside this resource are readers, or one writer alone.
+fn is_exclusive(world: &World, number: u32) -> Result<bool, Failure> {
+    let name = name(number)?;
+    let tickets = world.inside(&name)?;
+    let writes = tickets.iter().any(|ticket| ticket.mode == Mode::Write);
+    Ok(!writes || tickets.len() == 1)
+}
+
+/// What a run has seen: the messages sent, the events taken and the entries.
+#[derive(Clone, Copy)]
+struct Seen {
+    sent: u32,
+    taken: u32,
+    entered: u32,
+}
+
+/// How many messages were sent, after an event with this effect.
+fn sent_after(sent: u32, effect: &Effect) -> u32 {
+    match effect {
+        Effect::Sent(number, _) => *number,
+        Effect::Said { count, .. } => sent.saturating_add(*count),
+        _ => sent,
+    }
+}
+
+fn seen_with(seen: Seen, effect: &Effect) -> Seen {
+    let entries = if *effect == Effect::Inside { 1 } else { 0 };
+    Seen {
+        sent: sent_after(seen.sent, effect),
+        taken: seen.taken.saturating_add(1),
+        entered: seen.entered.saturating_add(entries),
+    }
+}
+
+/// Takes an event, and looks who is inside then.
+fn seen_after(world: &mut World, event: &Event, seen: Seen) -> Result<Seen, Failure> {
+    let seen = match world.step(event) {
+        Ok(effect) => seen_with(seen, &effect),
+        Err(StepFault::Memory) => return Err(Failure::Memory),
+        Err(_) => seen,
+    };
+    for number in 0..2 {
+        let alone = is_exclusive(world, number)?;
+        check(alone)?;
+    }
+    Ok(seen)
+}
+
+/// What a run under this problem sees.
+fn run(alloc: Global, problem: Problem) -> Result<Seen, Failure> {
+    let mut world = new_world(alloc, problem)?;
+    raise(&mut world)?;
+    let mut words = Pcg32::new(SEED, 1);
+    let mut last = node(0)?;
+    let mut seen = Seen {
+        sent: 0,
+        taken: 0,
+        entered: 0,
+    };
+    for turn in 0..TURNS {
+        let Ok(event) = event_of_turn(&mut words, &world, turn, last, seen.sent) else {
+            return Err(Failure::Wrong(0));
+        };
+        if let Event::Take(node, _) = event {
+            last = node;
+        }
+        seen = seen_after(&mut world, &event, seen)?;
+    }
+    Ok(seen)
+}
+
+fn enters_often(alloc: Global, problem: Problem) -> Outcome {
+    let seen = run(alloc, problem)?;
+    check(seen.taken >= 3_000 && seen.entered >= 10)
+}
+
+#[test]
+fn writers_are_alone_in_random_runs(rt: HostRuntime) -> Outcome {
+    enters_often(rt.alloc(), Problem::First)?;
+    enters_often(rt.alloc(), Problem::Second)
+}
