@@ -1,6 +1,6 @@
 -- The pieces of an input, which stand between its line feeds, and how they are read one by one; and
 -- what becomes of texts that are gathered and written.
-use Rattle.std.specs.Prelude.{◌≡◌, ℕ, ◌<◌, ◌≤◌, ◌==◌, Bool, true, false, List, [], ◌∷◌, ◌++◌, length, take, drop, Option, Some, None, Result, Ok, Err}
+use Rattle.std.specs.Prelude.{◌≡◌, ℕ, ◌<◌, ◌≤◌, ◌==◌, if◌then◌else◌, Bool, true, false, List, [], ◌∷◌, ◌++◌, length, take, drop, Option, Some, None, Result, Ok, Err}
 use Rattle.std.specs.List.{slice_split, slice_range, All}
 use Rattle.std.specs.Io.KnownBytes.{prepend_known, append_known, Consumes, Keeps, Appends, IsAtEnd}
 use Rattle.line_streams.specs.declared.reading.End.{End}
@@ -13,6 +13,13 @@ is_line_feed b = b == 10
 -- bytes.
 abbrev pub pieces : List ℕ → List (List ℕ)
 pieces bytes = slice_split is_line_feed bytes
+
+-- The lines that pieces are: a last piece that is empty stands behind the last line feed and is none. So
+-- a last line counts without its line feed, and no bytes are no line.
+abbrev pub lines_in : List (List ℕ) → List (List ℕ)
+lines_in [] = []
+lines_in (p ∷ []) = if length p == 0 then [] else p ∷ []
+lines_in (p ∷ q ∷ qs) = p ∷ lines_in (q ∷ qs)
 
 -- none of the bytes is a line feed
 abbrev pub IsPlain : List ℕ → Type 0

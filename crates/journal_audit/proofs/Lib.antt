@@ -1,0 +1,5 @@
+pub mod RunFacts
+pub mod VerdictLaws
+pub mod LineFacts
+pub mod JudgeFacts
+pub mod AuditFacts

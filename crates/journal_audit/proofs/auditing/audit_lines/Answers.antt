@@ -1,0 +1,14 @@
+use Rattle.journal_audit.proofs.AuditFacts.{verdict_found, no_verdict, not_told}
+use Rattle.journal_audit.proofs.auditing.audit_lines.Goals as goal
+
+pub returns-in-Err-clause-told : goal.returns-in-Err-clause-told
+returns-in-Err-clause-told g c =
+    no_verdict c.events_are_spelled_once.ensures c.args.world c.args.source.now (g.W.Write.contents c.args.writer.now) c.in-Err.fault c.in-Err.ensures.found c.in-Err.ensures.fault
+
+pub returns-in-Ok-tell_verdict-clause-told : goal.returns-in-Ok-tell_verdict-clause-told
+returns-in-Ok-tell_verdict-clause-told g c = (verdict_found c.events_are_spelled_once.ensures c.args.world c.args.source.now c.in-Ok.verdict c.in-Ok.ensures.found, c.in-Ok-tell_verdict.ensures.text)
+
+pub returns-clause-told : goal.returns-clause-told
+returns-clause-told g c =
+    not_told c.events_are_spelled_once.ensures c.args.world c.args.source.now (g.W.Write.contents c.args.writer.now) (g.W.Write.contents c.tell_verdict.new.writer) c.in-Ok.verdict c.in-Err-tell_verdict.fault c.in-Err-tell_verdict.fault
+    c.in-Ok.ensures.found c.in-Err-tell_verdict.ensures.text c.in-Err-tell_verdict.ensures.fault

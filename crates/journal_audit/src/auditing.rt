@@ -1,0 +1,77 @@
+// The audit, from the bytes that come in to the line that goes out.
+
+ghost use Rattle.std.specs.Prelude.{◌≡◌};
+ghost use Rattle.journal_audit.specs.Audits.{Audits};
+ghost use Rattle.journal_audit.specs.Verdicts.{Finds};
+
+use crate::judging::judge_lines;
+use crate::telling::tell_verdict;
+use crate::{AuditFault, Verdict};
+use history_check::laws::events_are_spelled_once;
+use line_streams::{LineReader, MAX_READS};
+use std::alloc::Global;
+use std::io::{Read, Write};
+use world_service::World;
+
+/// Judges the lines that are left of an input, as `audit` does; the reads that were made before count
+/// with those that it makes.
+///
+/// # Errors
+///
+/// Those of `audit`.
+pub fn audit_lines<R: Read, W: Write>(
+    alloc: Global,
+    world: World,
+    source: &mut LineReader<R>,
+    writer: &mut W,
+) -> Result<Verdict, AuditFault>
+    requires { Unit {0} }
+    ensures verdict { Finds world source.old result }
+    ensures told { Audits world source.old (W.contents writer.old) (W.contents writer.new) result }
+{
+    events_are_spelled_once();
+    let mut world = world;
+    let verdict = match judge_lines(alloc, &mut world, source) {
+        Ok(verdict) => verdict,
+        Err(fault) => return Err(fault),
+    };
+    match tell_verdict(verdict, writer) {
+        Ok(()) => Ok(verdict),
+        Err(fault) => Err(fault),
+    }
+}
+
+/// Judges a journal: whether its lines are events that are a run from the world.
+///
+/// The lines are what stands between line feeds; a last one without a line feed counts, and nothing
+/// behind the last line feed is none. An empty line is no event (`Word`, 801), as is one of another
+/// letter or a carriage return, and a line over 128 bytes is `Words` (805). The audit ends at the first
+/// line that is no event or is refused, and asks the reader for nothing behind the answer that brought
+/// it. It writes the verdict's line: `sound N`, `unsound L fault N` or `unsound L refused N`. It keeps
+/// the world and one line, and each line costs what its event does in the world.
+///
+/// Contracts speak of what the reader has left and of what the writer holds, where these are known. The
+/// caller owes nothing.
+///
+/// # Errors
+///
+/// `Read` (816) where the reader fails or 600,000,000 reads were made, `Memory` (818) where memory was
+/// refused, `TooManyLines` (819) where there are more than `MAX_LINES` lines: each only where it is met
+/// before an unsound line, and then nothing is written. `Write` (817) where the writer fails or takes
+/// nothing; then a beginning of the verdict's line was written. A read or a write that a signal
+/// interrupts is made again.
+pub fn audit<R: Read, W: Write>(
+    alloc: Global,
+    world: World,
+    reader: R,
+    writer: &mut W,
+) -> Result<Verdict, AuditFault>
+where
+    R: Drop,
+    requires { Unit {0} }
+    ensures verdict { Finds world (R.remaining reader) result }
+    ensures told { Audits world (R.remaining reader) (W.contents writer.old) (W.contents writer.new) result }
+{
+    let mut source = LineReader::new(reader, MAX_READS);
+    audit_lines(alloc, world, &mut source, writer)
+}

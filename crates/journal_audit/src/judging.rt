@@ -1,0 +1,136 @@
+// The lines of a journal, one after another.
+
+ghost use Rattle.std.specs.Prelude.{◌≡◌, ◌≢◌, [], IfOk, IfErr};
+ghost use Rattle.history_check.specs.declared.words.TheConstants.{MAX_LINE_LEN};
+ghost use Rattle.history_check.specs.Events.{event_of};
+ghost use Rattle.line_streams.specs.Streams.{ReadsPiece};
+ghost use Rattle.journal_audit.specs.Judging.{CutsShort, EndsLines, is_last, judged_line, judged_piece};
+ghost use Rattle.journal_audit.specs.Verdicts.{Finds};
+
+use crate::{AuditFault, Cause, MAX_LINES, Verdict};
+use history_check::laws::events_are_spelled_once;
+use history_check::{LineFault, MAX_LINE_LEN, read_event};
+use line_streams::{End, LineReader, StreamFault};
+use std::alloc::Global;
+use std::io::Read;
+use world_model::{Event, StepFault};
+use world_service::World;
+
+/// What a piece of a journal says.
+#[derive(Clone, Copy, Debug, PartialEq, Eq)]
+pub enum Judged {
+    /// Nothing: it stands behind the last line.
+    End,
+    Says(Event),
+    Bad(LineFault),
+}
+
+/// What a line says.
+fn judged_line(line: &[u8]) -> Judged
+    ensures { result ≡ judged_line (event_of line.now) }
+{
+    match read_event(line) {
+        Ok(event) => Judged::Says(event),
+        Err(fault) => Judged::Bad(fault),
+    }
+}
+
+/// What a piece says, by how it ended.
+fn judged_piece(end: End, piece: &[u8]) -> Judged
+    ensures { result ≡ judged_piece end piece.now }
+{
+    match end {
+        End::LineFeed => judged_line(piece),
+        End::Input => {
+            if piece.is_empty() {
+                return Judged::End;
+            }
+            judged_line(piece)
+        }
+        End::Limit => Judged::Bad(LineFault::Words),
+    }
+}
+
+/// Whether the piece is the last one.
+fn is_last(end: End) -> bool
+    ensures { result ≡ is_last end }
+{
+    matches!(end, End::Input)
+}
+
+/// Reads a line.
+fn read_piece<R: Read>(source: &mut LineReader<R>, piece: &mut Vec<u8>) -> Result<End, AuditFault>
+    ensures line { IfOk result (λ end. ReadsPiece MAX_LINE_LEN source.old source.new piece.new.items end) }
+    ensures fault { IfErr result CutsShort }
+{
+    match source.read_line(piece, MAX_LINE_LEN) {
+        Ok(end) => Ok(end),
+        Err(StreamFault::Memory) => Err(AuditFault::Memory),
+        Err(_) => Err(AuditFault::Read),
+    }
+}
+
+/// What is found where the line of this number is refused.
+fn refused(number: u32, fault: StepFault) -> Result<Verdict, AuditFault>
+    ensures verdict { IfOk result (λ v. (v ≡ Verdict.Unsound number (Cause.Refused fault)) × (fault ≢ StepFault.Memory)) }
+    ensures memory { IfErr result CutsShort }
+{
+    match fault {
+        StepFault::Memory => Err(AuditFault::Memory),
+        _ => Ok(Verdict::Unsound(number, Cause::Refused(fault))),
+    }
+}
+
+/// What is found where as many lines were taken as a journal may have.
+fn end_lines<R: Read>(
+    source: &mut LineReader<R>,
+    piece: &mut Vec<u8>,
+) -> Result<Verdict, AuditFault>
+    ensures lines { EndsLines source.old result }
+    ensures fault { IfErr result (λ e. e ≢ AuditFault.Write) }
+{
+    let end = match read_piece(source, piece) {
+        Ok(end) => end,
+        Err(fault) => return Err(fault),
+    };
+    match judged_piece(end, piece.as_slice()) {
+        Judged::End => Ok(Verdict::Sound(MAX_LINES)),
+        Judged::Says(_) => Err(AuditFault::TooManyLines),
+        Judged::Bad(_) => Err(AuditFault::TooManyLines),
+    }
+}
+
+/// Takes the lines in the world, up to the end or to the first that is no event or is refused. A fault
+/// is `Read`, `Memory` or `TooManyLines`.
+pub fn judge_lines<R: Read>(
+    alloc: Global,
+    world: &mut World,
+    source: &mut LineReader<R>,
+) -> Result<Verdict, AuditFault>
+    requires { Unit {0} }
+    ensures found { Finds world.old source.old result }
+    ensures fault { IfErr result (λ e. e ≢ AuditFault.Write) }
+{
+    events_are_spelled_once();
+    let Ok(mut piece) = Vec::with_capacity(alloc, MAX_LINE_LEN + 1) else {
+        return Err(AuditFault::Memory);
+    };
+    for taken in 0..MAX_LINES {
+        let end = match read_piece(source, &mut piece) {
+            Ok(end) => end,
+            Err(fault) => return Err(fault),
+        };
+        let event = match judged_piece(end, piece.as_slice()) {
+            Judged::End => return Ok(Verdict::Sound(taken)),
+            Judged::Bad(fault) => return Ok(Verdict::Unsound(taken + 1, Cause::Line(fault))),
+            Judged::Says(event) => event,
+        };
+        if let Err(fault) = world.step(&event) {
+            return refused(taken + 1, fault);
+        }
+        if is_last(end) {
+            return Ok(Verdict::Sound(taken + 1));
+        }
+    }
+    end_lines(source, &mut piece)
+}

@@ -1,0 +1,25 @@
+// What an audit finds.
+
+use history_check::LineFault;
+use world_model::StepFault;
+
+/// The most lines that a journal has.
+pub const MAX_LINES: u32 = 4_194_304;
+
+/// What is wrong with a line of a journal.
+#[derive(Clone, Copy, Debug, PartialEq, Eq, Hash)]
+pub enum Cause {
+    /// It is no event.
+    Line(LineFault),
+    /// It is an event that the world refuses.
+    Refused(StepFault),
+}
+
+/// What is found of a journal.
+#[derive(Clone, Copy, Debug, PartialEq, Eq, Hash)]
+pub enum Verdict {
+    /// So many lines, which are a run.
+    Sound(u32),
+    /// The lines before that of this number, from 1 on, are a run, and this one doesn't go on with it.
+    Unsound(u32, Cause),
+}

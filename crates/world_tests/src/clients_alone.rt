@@ -1,0 +1,67 @@
+// One client of the world by itself: what it keeps over a restart, and what it says.
+
+use crate::outcomes::{Failure, Outcome, check};
+use crate::values::{attempt, client, node, resource, ticket};
+use lock_messages::{Message, Mode};
+use lock_model::Heard;
+use vote_weights::Ballot;
+use world_actors::WorldClient;
+use world_model::{Age, StepFault};
+
+/// c1 under a ballot of one node, down, with nothing kept.
+fn empty() -> Result<WorldClient, Failure> {
+    match Ballot::of(&[1], 1, 1) {
+        Ok(ballot) => Ok(WorldClient::opened(client(1)?, 0, ballot)),
+        Err(_) => Err(Failure::Wrong(0)),
+    }
+}
+
+/// c1, which has chosen its first attempt and tries to keep its number.
+fn trying() -> Result<WorldClient, Failure> {
+    let (resource, first) = (resource()?, attempt(1)?);
+    let mut one = empty()?;
+    one.rise(Age::Old)?;
+    check(one.begin(Mode::Write, resource) == Ok(first))?;
+    check(one.message_for(node(1)?) == Err(StepFault::NotStored))?;
+    one.start_keeping()?;
+    Ok(one)
+}
+
+/// c1 inside, on the vote of n1.
+fn entered() -> Result<WorldClient, Failure> {
+    let (to, ticket) = (node(1)?, ticket(1, Mode::Write)?);
+    let mut one = trying()?;
+    one.keep()?;
+    check(one.message_for(to) == Ok(Message::Request(to, ticket)))?;
+    check(one.enter() == Err(StepFault::NoQuorum))?;
+    check(one.hear(&Message::Grant(to, ticket)) == Heard::Counted)?;
+    one.enter()?;
+    Ok(one)
+}
+
+#[test]
+fn enters_and_leaves(_rt: HostRuntime) -> Outcome {
+    let (to, ticket) = (node(1)?, ticket(1, Mode::Write)?);
+    let mut one = entered()?;
+    check(one.inside() == Some(ticket) && one.kept() == 1)?;
+    one.leave()?;
+    let release = Message::Release(to, ticket.client, ticket.attempt);
+    check(one.inside().is_none() && one.message_for(to) == Ok(release))
+}
+
+#[test]
+fn falls_inside(_rt: HostRuntime) -> Outcome {
+    let mut one = entered()?;
+    one.fall()?;
+    check(one.inside().is_none() && one.may_hear() == Err(StepFault::Down))?;
+    one.rise(Age::Old)?;
+    check(one.inside().is_none() && one.kept() == 1)
+}
+
+#[test]
+fn restarted_client(_rt: HostRuntime) -> Outcome {
+    let mut one = trying()?;
+    one.fall()?;
+    one.rise(Age::New)?;
+    check(one.kept() == 1 && one.begin(Mode::Read, resource()?) == Ok(attempt(2)?))
+}

@@ -1,0 +1,93 @@
+// One node of the world by itself: what it keeps over a restart, and what it says.
+
+use crate::outcomes::{Failure, Outcome, check};
+use crate::values::{node, request, ticket};
+use admission_policy::{Admission, FirstProblem, SecondProblem};
+use lock_messages::{Message, Mode};
+use stable_record::read_node;
+use std::alloc::Global;
+use world_actors::WorldNode;
+use world_model::{Age, StepFault};
+
+/// The record of problem 1 in which c1 holds `a` as a reader.
+const ONE: [u8; 28] = [
+    0x01, 0x01, 0x00, 0x01, //
+    0x00, 0x00, 0x00, 0x01, 0x00, 0x00, 0x00, 0x00, 0x00, 0x00, 0x00, 0x00, 0x02, 0x00, 0x00, 0x00,
+    0x00, 0x00, 0x00, 0x00, 0x01, 0x00, 0x01, 0x61,
+];
+
+/// n1 under problem 1, down, with nothing kept.
+fn empty(alloc: Global) -> Result<WorldNode, Failure> {
+    let id = node(1)?;
+    let policy: Box<dyn Admission + Send> = Box::new(alloc, FirstProblem)?;
+    Ok(WorldNode::empty(alloc, id, policy))
+}
+
+/// n1, which has decided on c1's request and tries to keep that.
+fn trying(alloc: Global) -> Result<WorldNode, Failure> {
+    let message = request(1, Mode::Read)?;
+    let mut one = empty(alloc)?;
+    one.rise(Age::Old)?;
+    let changed = one.take(&message)?;
+    one.start_keeping()?;
+    check(changed && one.replies() == Err(StepFault::NotStored))?;
+    Ok(one)
+}
+
+/// n1 after it fell and rose with a record of this age.
+fn restarted(alloc: Global, age: Age) -> Result<WorldNode, Failure> {
+    let mut one = trying(alloc)?;
+    one.fall()?;
+    one.rise(age)?;
+    Ok(one)
+}
+
+#[test]
+fn first_reader(rt: HostRuntime) -> Outcome {
+    let grant = Message::Grant(node(1)?, ticket(1, Mode::Read)?);
+    let mut one = trying(rt.alloc())?;
+    one.keep()?;
+    check(one.kept().entries.len() == 1 && one.replies() == Ok(1))?;
+    let said = one.say()?;
+    check(said.as_slice() == [grant].as_slice() && one.may_take() == Ok(()))
+}
+
+#[test]
+fn restart_with_old_record(rt: HostRuntime) -> Outcome {
+    let one = restarted(rt.alloc(), Age::Old)?;
+    check(one.kept().entries.is_empty() && one.may_take() == Ok(()))
+}
+
+#[test]
+fn restart_with_new_record(rt: HostRuntime) -> Outcome {
+    let message = request(1, Mode::Read)?;
+    let mut one = restarted(rt.alloc(), Age::New)?;
+    let changed = one.take(&message)?;
+    check(!changed && one.kept().entries.len() == 1)
+}
+
+#[test]
+fn opened_with_a_record(rt: HostRuntime) -> Outcome {
+    let id = node(1)?;
+    let Ok(record) = read_node(rt.alloc(), &ONE) else {
+        return Err(Failure::Memory);
+    };
+    let policy: Box<dyn Admission + Send> = Box::new(rt.alloc(), FirstProblem)?;
+    match WorldNode::opened(rt.alloc(), id, record, policy) {
+        Ok(one) => check(one.number() == id && one.kept().entries.len() == 1),
+        Err(_) => Err(Failure::Wrong(0)),
+    }
+}
+
+#[test]
+fn opened_with_a_record_of_the_other_problem(rt: HostRuntime) -> Outcome {
+    let id = node(1)?;
+    let Ok(record) = read_node(rt.alloc(), &ONE) else {
+        return Err(Failure::Memory);
+    };
+    let policy: Box<dyn Admission + Send> = Box::new(rt.alloc(), SecondProblem)?;
+    match WorldNode::opened(rt.alloc(), id, record, policy) {
+        Ok(_) => Err(Failure::Wrong(0)),
+        Err((policy, record)) => check(policy.problem() == 2 && record.entries.len() == 1),
+    }
+}

@@ -1,0 +1,35 @@
+// The few values that tests share.
+
+use crate::outcomes::Failure;
+use lock_messages::{Attempt, ClientId, Message, Mode, NodeId, ResourceName, Ticket};
+
+pub(crate) fn node(number: u8) -> Result<NodeId, Failure> {
+    NodeId::of(number).ok_or(Failure::Wrong(0))
+}
+
+pub(crate) fn client(number: u32) -> Result<ClientId, Failure> {
+    ClientId::of(number).ok_or(Failure::Wrong(0))
+}
+
+pub(crate) fn attempt(number: u64) -> Result<Attempt, Failure> {
+    Attempt::of(number).ok_or(Failure::Wrong(0))
+}
+
+pub(crate) fn resource() -> Result<ResourceName, Failure> {
+    ResourceName::of(b"a").ok_or(Failure::Wrong(0))
+}
+
+/// The first ticket of a client, to use `a`.
+pub(crate) fn ticket(number: u32, mode: Mode) -> Result<Ticket, Failure> {
+    Ok(Ticket {
+        client: client(number)?,
+        attempt: attempt(1)?,
+        mode,
+        resource: resource()?,
+    })
+}
+
+/// The request of that ticket to n1.
+pub(crate) fn request(number: u32, mode: Mode) -> Result<Message, Failure> {
+    Ok(Message::Request(node(1)?, ticket(number, mode)?))
+}
