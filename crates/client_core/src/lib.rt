@@ -8,8 +8,8 @@
 //!
 //! The crate promises that the votes of an attempt are those of the nodes whose Grant of the very
 //! ticket was heard, each counted once (Gifford 1979); that a client which is inside has enough of
-//! them; and that no attempt's number is begun twice by one core (our own rule). No call takes
-//! memory or waits.
+//! them; and that each attempt that is begun has the number above the latest (our own rule), which a
+//! restart takes from the client's record. No call takes memory or waits.
 //!
 //! Contracts see a core as a `Client` of `specs/Clients`, and what each call does is defined in
 //! `specs/Calls`. The crate stands on `lock_messages`, `lock_model`, `vote_weights` and `thiserror`.

@@ -6,10 +6,12 @@
 //! names its node, so that who waits asks again; a nudge is no message.
 //!
 //! The crate promises that each fate is a stated function of the generator's next word; that a link
-//! hands over what each fate says, in order; that a `ListLink` gives just the posts that it was made
-//! of, in order, and lists all that was sent and told; and that each fault comes only where its cause
-//! is. It promises nothing of what a `ChannelLink` brings: of a post that is received only its type is
-//! known, and any parcel may be missing, come again or come in another order.
+//! draws one for each parcel, holds just the late one that is to go next, and brings its own actor
+//! what the fates make of its parcels, in order; that a `ListLink` gives just the posts that it was
+//! made of, in order, and lists all that was sent and told; and that no call answers another fault
+//! than it tells. It promises nothing of what a `ChannelLink` brings from others: of a post that is
+//! received only its type is known, and any parcel may be missing, come again or come in another
+//! order. That parcels come as their fates say is tested.
 //!
 //! Only `receive` of a `ChannelLink` waits for another actor. The crate stands on `lock_messages`,
 //! `bytes` for frames that several links share, `crossbeam_channel` for inboxes and `rand_pcg` for the

@@ -1,6 +1,6 @@
 // What stands between an actor and the channels: its weather, and a parcel that is held.
 
-ghost use Rattle.std.specs.Prelude.{◌≡◌, OnOk, IfOk, IsOkUnless};
+ghost use Rattle.std.specs.Prelude.{◌≡◌, OnOk, OnErr, IfOk, IsOkUnless};
 ghost use Rattle.lossy_link.specs.Passages.{same_actor, nudge_to, nudge_of, handed, held_after, mails_of, mail_of};
 ghost use Rattle.lossy_link.specs.Weathers.{next_fate, after_fate};
 
@@ -71,6 +71,7 @@ impl Passage {
         ensures weather { self.new.weather ≡ after_fate self.old.weather }
         ensures handed { IfOk result (λ d. mails_of d ≡ handed (next_fate self.old.weather) self.old.actor to parcel self.old.late) }
         ensures held { OnOk result (self.new.late ≡ held_after (next_fate self.old.weather) (mail_of to parcel)) }
+        ensures stays { OnErr result (self.new.late ≡ self.old.late) }
         ensures memory { IsOkUnless result LinkFault.Memory }
     {
         let mail = Mail {

@@ -245,7 +245,7 @@ fn stays(alloc: Global) -> Option<bool> {
     Some(refused && door.within && count.load(Ordering::SeqCst) == 0)
 }
 
-/// Whether an owned door leaves once, where the entry is spent or dropped.
+/// Whether an owned door leaves once, where the entry is spent or dropped, and is dropped then.
 fn owned_door_leaves_once(alloc: Global, spent: bool) -> Option<bool> {
     let count = Arc::new(alloc, AtomicUsize::new(0)).ok()?;
     let door = new_counter(count.clone().ok()?)?;
@@ -259,7 +259,8 @@ fn owned_door_leaves_once(alloc: Global, spent: bool) -> Option<bool> {
         drop(entry);
         true
     };
-    Some(outside && count.load(Ordering::SeqCst) == 1)
+    let gone = Arc::strong_count(&count) == 1;
+    Some(outside && gone && count.load(Ordering::SeqCst) == 1)
 }
 
 #[test]
