@@ -1,5 +1,5 @@
 -- An actor's turn, put into the lists.
-use Rattle.std.proofs.Common.{◌≡◌, ℕ, ◌+◌, ◌-◌, ◌<◌, ◌≤◌, Bool, true, false, List, ◌++◌, length, map, set, Option, Some, None, Result, Ok, Err, refl, sym, ◌∙◌, ap, subst, inl, inr, arith}
+use Rattle.std.proofs.Common.{◌≡◌, ℕ, ◌-◌, ◌≤◌, Bool, true, false, List, length, map, set, Some, None, Result, Ok, Err, refl, sym, ◌∙◌, ap, subst, arith}
 use Rattle.std.specs.Prelude.{slice_set}
 use Rattle.std.specs.Option.{option_map}
 use Rattle.std.proofs.lemmas.List.{map-set, length-append}
@@ -25,7 +25,7 @@ use Rattle.world_service.specs.declared.turns.ClientAct.{ClientAct}
 use Rattle.world_service.specs.Doing.{node_event, node_turn, node_asks, client_event, client_turn, Turned, read_turn, Spoke}
 use Rattle.world_service.specs.Machines.{node_part, client_part, AreNodes, AreClients, with_nodes, with_clients, with_sent}
 use Rattle.world_service.proofs.ListFacts.{numbered-map, here-or-there, set-same}
-use Rattle.world_service.proofs.TurnFacts.{OnlyActs, OnlySpeaks, node-deed, node-asks, client-deed, step-node, step-no-node, step-client, step-no-client, node-acts, node-speaks, client-speaks, take-once, take-acts, hear-once, does-turned, does-spoke}
+use Rattle.world_service.proofs.TurnFacts.{OnlyActs, node-deed, node-asks, client-deed, step-node, step-no-node, step-client, step-no-client, node-acts, node-speaks, client-speaks, take-once, take-acts, hear-once, does-turned, does-spoke}
 
 -- the part under a number
 node-there : (w : ExactWorld) (ns : List ActingNode) (n : ℕ) (v : ActingNode) → w.nodes ≡ map node_part ns → numbered ns n ≡ Some v → numbered w.nodes n ≡ Some v.part

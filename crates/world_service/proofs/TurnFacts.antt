@@ -1,5 +1,5 @@
 -- What came of a turn, as a step of the world.
-use Rattle.std.proofs.Common.{◌≡◌, ℕ, ◌+◌, ◌-◌, ◌<◌, ◌≤◌, ◌==◌, ◌⊎◌, Bool, true, false, cond, List, [], ◌∷◌, ◌++◌, length, Option, Some, None, Result, Ok, Err, IsOk, OnOk, refl, sym, ◌∙◌, ap, subst, inl, inr, arith}
+use Rattle.std.proofs.Common.{◌≡◌, ℕ, ◌+◌, ◌-◌, ◌<◌, ◌≤◌, ◌==◌, ◌⊎◌, Bool, true, false, cond, List, [], ◌∷◌, ◌++◌, length, Option, Some, None, Result, Ok, Err, IsOk, OnOk, refl, sym, ◌∙◌, ap, subst, inl, inr}
 use Rattle.std.proofs.lemmas.Bool.{le-leb, lt-leb}
 use Rattle.lock_messages.specs.declared.messages.Message.{Message}
 use Rattle.lock_messages.specs.declared.messages.Message.TheVariants as message
@@ -25,13 +25,13 @@ use Rattle.world_model.specs.declared.exact.ExactClientPhase.TheVariants as clie
 use Rattle.world_model.specs.declared.exact.ExactWorld.{ExactWorld}
 use Rattle.world_model.specs.ExactNodes.{tries_station_in, tries_station_with, node_rises_in, node_rises_with, says_in, takes_in, node_in, decided_on}
 use Rattle.world_model.specs.ExactClients.{tells, tells_in, says_one, hears, is_down, after_hearing, heard_in}
-use Rattle.world_model.specs.ExactWorlds.{numbered, Deed, NodeDoes, ClientDoes, deed_of, Steps, next_number, has_room, with_node_at, with_client_at, read_in, finished, finishes, by_actor, done_by, step}
+use Rattle.world_model.specs.ExactWorlds.{numbered, NodeDoes, ClientDoes, deed_of, Steps, next_number, has_room, with_node_at, with_client_at, read_in, finishes, by_actor, done_by, step}
 use Rattle.world_model.specs.Forgetting.{IsSound, forget, setting_of}
 use Rattle.world_model.specs.Laws.{ExactStepsAreAllowed, StepsKeepSound}
 use Rattle.world_model.specs.Parts.{turn_says}
 use Rattle.world_model.specs.StepsOf.{asks_for_memory, IsRefused, Does}
 use Rattle.world_model.specs.Worlds.{Happens}
-use Rattle.world_model.specs.Turns.{Turns, Acts, Speaks, Reads, acts, speaks, reads}
+use Rattle.world_model.specs.Turns.{Turns, acts, speaks, reads}
 use Rattle.world_service.specs.declared.turns.NodeAct.{NodeAct}
 use Rattle.world_service.specs.declared.turns.NodeAct.TheVariants as node_act
 use Rattle.world_service.specs.declared.turns.ClientAct.{ClientAct}

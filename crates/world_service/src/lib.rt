@@ -19,4 +19,5 @@ mod turns;
 mod world;
 
 pub use world::World;
+pub use world_model::{Age, Effect, Event, MAX_MESSAGES, StepFault, laws};
 pub use world_opening::OpeningFault;

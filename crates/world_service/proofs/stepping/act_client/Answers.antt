@@ -1,13 +1,10 @@
-use Rattle.std.proofs.Common.{◌≡◌, ◌-◌, ◌<◌, ◌≤◌, ℕ, length, map, None, Some, Err, refl, sym, ◌∙◌, ap, subst, inl, slice_set, arith}
-use Rattle.world_actors.specs.Acting.{ActingClient}
-use Rattle.world_model.specs.declared.events.Event.TheVariants as event
-use Rattle.world_model.specs.declared.exact.ExactWorld.{ExactWorld}
+use Rattle.std.proofs.Common.{◌≡◌, ◌-◌, map, None, Some, sym, ap, subst, inl, slice_set, arith}
 use Rattle.world_model.specs.ExactWorlds.{numbered, step}
 use Rattle.world_model.specs.StepsOf.{Does}
-use Rattle.world_service.specs.Doing.{node_event, node_turn, client_event, client_turn}
-use Rattle.world_service.specs.Machines.{node_part, client_part, AreNodes, AreClients, with_nodes, with_clients, with_sent}
+use Rattle.world_service.specs.Doing.{client_event, client_turn}
+use Rattle.world_service.specs.Machines.{client_part, with_clients}
 use Rattle.world_service.proofs.ListFacts.{numbered-at, numbered-past}
-use Rattle.world_service.proofs.TurnFacts.{node-deed, client-deed}
+use Rattle.world_service.proofs.TurnFacts.{client-deed}
 use Rattle.world_service.proofs.ActorFacts.{act-client, client-unknown, clients-stay}
 use Rattle.world_service.proofs.stepping.act_client.Goals as goal
 

@@ -1,5 +1,4 @@
-use Rattle.std.proofs.Common.{rules, ◌≡◌, ◌≤◌, length, map, ℕ, ◌+◌, ◌-◌, sym, ◌∙◌, ap, refl, arith}
-use Rattle.world_model.specs.ExactWorlds.{numbered}
+use Rattle.std.proofs.Common.{sym, ◌∙◌, arith}
 use Rattle.world_service.proofs.ListFacts.{past-zero}
 use Rattle.world_service.proofs.stepping.message_at.Goals as goal
 

@@ -1,14 +1,10 @@
-use Rattle.std.proofs.Common.{◌≡◌, ◌-◌, ◌<◌, ◌≤◌, ℕ, length, map, None, Some, Err, refl, sym, ◌∙◌, ap, subst, inl, slice_set, arith}
-use Rattle.world_actors.specs.Acting.{ActingNode}
+use Rattle.std.proofs.Common.{◌≡◌, ◌-◌, map, None, Some, refl, sym, ◌∙◌, ap, subst, inl, slice_set, arith}
 use Rattle.world_model.specs.declared.events.Event.TheVariants as event
-use Rattle.world_model.specs.declared.exact.ExactWorld.{ExactWorld}
 use Rattle.world_model.specs.ExactNodes.{says_in}
 use Rattle.world_model.specs.ExactWorlds.{numbered, step}
 use Rattle.world_model.specs.StepsOf.{Does}
-use Rattle.world_service.specs.Doing.{Spoke}
-use Rattle.world_service.specs.Machines.{node_part, client_part, AreNodes, AreClients, with_nodes, with_clients, with_sent}
+use Rattle.world_service.specs.Machines.{node_part, with_nodes, with_sent}
 use Rattle.world_service.proofs.ListFacts.{numbered-at, numbered-past}
-use Rattle.world_service.proofs.TurnFacts.{node-deed, client-deed}
 use Rattle.world_service.proofs.ActorFacts.{say-node, node-unknown, nodes-stay, spoke-room}
 use Rattle.world_service.proofs.stepping.say.Goals as goal
 

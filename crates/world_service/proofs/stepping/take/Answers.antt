@@ -1,14 +1,11 @@
-use Rattle.std.proofs.Common.{◌≡◌, ◌-◌, ◌<◌, ◌≤◌, ℕ, length, map, true, None, Some, Err, refl, sym, ◌∙◌, ap, subst, inl, slice_set, arith}
-use Rattle.world_actors.specs.Acting.{ActingNode}
+use Rattle.std.proofs.Common.{◌≡◌, ◌-◌, map, true, None, Some, refl, sym, ap, subst, inl, slice_set, arith}
 use Rattle.world_model.specs.declared.events.Event.TheVariants as event
-use Rattle.world_model.specs.declared.exact.ExactWorld.{ExactWorld}
 use Rattle.world_model.specs.ExactNodes.{takes_in}
 use Rattle.world_model.specs.ExactWorlds.{numbered, step}
 use Rattle.world_model.specs.StepsOf.{Does}
 use Rattle.world_service.specs.Doing.{Turned, read_turn}
-use Rattle.world_service.specs.Machines.{node_part, client_part, AreNodes, AreClients, with_nodes, with_clients, with_sent}
+use Rattle.world_service.specs.Machines.{node_part, with_nodes}
 use Rattle.world_service.proofs.ListFacts.{numbered-at, numbered-past}
-use Rattle.world_service.proofs.TurnFacts.{node-deed, client-deed}
 use Rattle.world_service.proofs.ActorFacts.{take-node, node-unknown, nodes-stay}
 use Rattle.world_service.proofs.stepping.take.Goals as goal
 

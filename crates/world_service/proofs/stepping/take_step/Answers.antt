@@ -1,6 +1,4 @@
-use Rattle.std.proofs.Common.{◌≡◌, List, map, refl, sym, ◌∙◌, ap, subst}
-use Rattle.lock_messages.specs.declared.messages.Message.{Message}
-use Rattle.world_actors.specs.Acting.{ActingNode, ActingClient}
+use Rattle.std.proofs.Common.{map, refl, sym, ◌∙◌, ap, subst}
 use Rattle.world_model.specs.ExactWorlds.{step}
 use Rattle.world_model.specs.StepsOf.{Does}
 use Rattle.world_service.specs.Doing.{event_of}

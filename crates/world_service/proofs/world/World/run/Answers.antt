@@ -1,4 +1,4 @@
-use Rattle.std.proofs.Common.{◌≡◌, ◌∙◌, ◌<◌, take, sym, ap, subst, refl, length, get_or, arith}
+use Rattle.std.proofs.Common.{◌≡◌, ◌∙◌, take, sym, ap, subst, refl, length, arith}
 use Rattle.std.proofs.lemmas.Option.{slice_get_read}
 use Rattle.world_model.specs.ExactWorlds.{step}
 use Rattle.world_model.specs.Forgetting.{forget, setting_of}

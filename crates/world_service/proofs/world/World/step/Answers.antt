@@ -1,4 +1,4 @@
-use Rattle.std.proofs.Common.{subst, sym}
+use Rattle.std.proofs.Common.{subst}
 use Rattle.world_model.specs.ExactWorlds.{step}
 use Rattle.world_model.specs.Forgetting.{IsSound}
 use Rattle.world_model.specs.StepsOf.{Does}
