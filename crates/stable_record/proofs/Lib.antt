@@ -5,3 +5,4 @@ pub mod RecordFacts
 pub mod ClientFacts
 pub mod CountFacts
 pub mod LineFacts
+pub mod JudgingFacts

@@ -186,7 +186,7 @@ tickets-none x es k =
     λ i. record { holders = p i; writing_holders = q i; waiting_writers = r i; waiting = s i }
 
 -- the line of the entries, or no tickets, are their tickets
-or-none-read : (es : List Entry) (x : List ℕ) → or_none (line_of es x) ≡ tickets_for x es
+pub or-none-read : (es : List Entry) (x : List ℕ) → or_none (line_of es x) ≡ tickets_for x es
 or-none-read es x = go (any_live (is_for x) es) refl
   where
     go : (b : Bool) → any_live (is_for x) es ≡ b → or_none (cond b (Some (tickets_for x es)) None) ≡ tickets_for x es

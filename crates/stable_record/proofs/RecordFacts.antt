@@ -20,7 +20,7 @@ use Rattle.stable_record.specs.declared.node_records.NodeRecord.{NodeRecord}
 use Rattle.lock_model.specs.Judgement.{is_lawful, is_caused}
 use Rattle.stable_record.specs.Records.{policy_number, entry_bytes, head_bytes, node_record_of, IsEntry, IsNodeRecord}
 use Rattle.lock_messages.specs.Fields.{◌>>=◌, AreBytes, FieldsAreExact}
-use Rattle.stable_record.specs.Reading.{IsOrRefused, AreGood, version_at, policy_at, count_at, entry_at, entries_at, head_at, record_at, judged, reading}
+use Rattle.stable_record.specs.Reading.{IsOrRefused, IsGoodSoFar, AreGood, version_at, policy_at, count_at, entry_at, entries_at, head_at, record_at, judged, reading}
 use Rattle.stable_record.specs.Laws.{OneSpelling}
 use Rattle.stable_record.proofs.MapFacts.{same-turned}
 use Rattle.stable_record.proofs.StepFacts.{bind_ok, bind_again, went_on, ok_is, Takes, Takes-then}
@@ -270,3 +270,27 @@ written_more old out head es i e lt at so_far =
     ap (λ (l : List Entry). flat_map entry_bytes l) one ∙ flat_map-append entry_bytes (take i es) (e ∷ []) ∙ ap (λ (t : List ℕ). flat_map entry_bytes (take i es) ++ t) last in
     ap (λ (t : List ℕ). t ++ entry_bytes e) so_far ∙ append_assoc old (head ++ flat_map entry_bytes (take i es)) (entry_bytes e)
     ∙ ap (λ (t : List ℕ). old ++ t) (append_assoc head (flat_map entry_bytes (take i es)) (entry_bytes e) ∙ ap (λ (t : List ℕ). head ++ t) (sym more))
+
+some-count : (count : ℕ) (bytes : List ℕ) (x : List Entry × List ℕ) → entries_at count [] bytes ≡ Ok x → (x.0 ≡ [] → ⊥) → 1 ≤ count
+unfolding entries_at
+some-count zero bytes x e some = absurd (some (sym (ap (λ (y : List Entry × List ℕ). y.0) (ok_is ([], bytes) x e))))
+some-count (suc n) bytes x e some = omega arith
+
+-- where a record with entries was read, the bytes are good up to the end of the last
+pub good-whole : (bytes : List ℕ) (x : NodeRecord × List ℕ) → record_at bytes ≡ Ok x → (x.0.entries ≡ [] → ⊥) → IsGoodSoFar bytes
+unfolding record_at
+good-whole bytes x e some =
+    let h = bind_ok (head_at bytes) (λ head. entries_at head.0.1 [] head.1 >>= λ entries. Ok (record { policy = head.0.0; entries = entries.0 }, entries.1)) x e in
+    let b = bind_ok (entries_at h.0.0.1 [] h.0.1) (λ entries. Ok (record { policy = h.0.0.0; entries = entries.0 }, entries.1)) x h.2 in
+    let same : b.0.0 ≡ x.0.entries = ap (λ (y : NodeRecord × List ℕ). y.0.entries) (ok_is (record { policy = h.0.0.0; entries = b.0.0 }, b.0.1) x b.2) in
+    record {
+      head = h.0;
+      read = h.1;
+      entries = record { n = h.0.0.1; some = some-count h.0.0.1 h.0.1 b.0 b.1 (λ z. some (sym same ∙ z)); within = omega arith; read = subst IsOk (sym b.1) refl };
+    }
+
+-- what judging the record answers is what reading the bytes gives, unless memory was refused
+pub whole-judged : (bytes : List ℕ) (r : NodeRecord) (left : List ℕ) (result : Result NodeRecord RecordFault) → record_at bytes ≡ Ok (r, left) → left ≡ [] →
+    IsOrRefused (r.entries ≡ [] → ⊥) result (judged (r, [])) → IsOrRefused (IsGoodSoFar bytes) result (record_at bytes >>= judged)
+whole-judged bytes r left result e none (inl m) = inl (m.0, good-whole bytes (r, left) e m.1)
+whole-judged bytes r left result e none (inr is) = inr (is ∙ ap (λ xs. judged (r, xs)) (sym none) ∙ sym (bind_again (record_at bytes) judged (r, left) e))

@@ -1,11 +1,14 @@
 -- What a node knows of one resource: who holds it, and who waits for it.
-use Rattle.std.specs.Prelude.{◌≡◌, ℕ, ◌+◌, ◌<◌, ◌&&◌, Bool, List, [], ◌∷◌, ◌++◌, Option, Some, None, map, filter, length, if◌then◌else◌}
+use Rattle.std.specs.Prelude.{◌≡◌, ℕ, ◌+◌, ◌<◌, ◌&&◌, ◌||◌, ◌==◌, Bool, true, false, not, nat_lt, List, [], ◌∷◌, ◌++◌, Option, Some, None, map, filter, length, if◌then◌else◌}
 use Rattle.std.specs.Map.{lookup}
 use Rattle.std.specs.Str.{bytes_eq}
 use Rattle.lock_messages.specs.declared.ids.TheConstants.{MAX_CLIENTS}
+use Rattle.lock_messages.specs.declared.tickets.Mode.{Mode}
+use Rattle.lock_messages.specs.declared.tickets.Mode.TheVariants.{Read, Write}
 use Rattle.lock_model.specs.declared.entries.Entry.{Entry}
 use Rattle.lock_model.specs.declared.entries.Live.{Live}
-use Rattle.lock_model.specs.ExactStations.{is_waiting, is_holding, is_write, if_live, any_live, holds, writer_holds, writer_waits}
+use Rattle.lock_model.specs.declared.problems.Problem.{Problem}
+use Rattle.lock_model.specs.ExactStations.{is_waiting, is_holding, is_write, if_live, any_live, holds, writer_holds, writer_waits, admits_reader}
 
 -- One resource's tickets: how many hold it, how many of these are writers', how many writers wait for
 -- it, and the clients whose tickets wait, in the order of the entries.
@@ -59,6 +62,26 @@ Indexes lines entries = (x : List ℕ) → line_in lines x ≡ line_of entries x
 abbrev pub no_tickets : Tickets
 no_tickets = record { holders = 0; writing_holders = 0; waiting_writers = 0; waiting = [] }
 
+-- the tickets of a line, or none
+abbrev pub or_none : Option Tickets → Tickets
+or_none None = no_tickets
+or_none (Some t) = t
+
+-- a ticket in this mode is admitted beside these
+abbrev pub admitted_beside : Problem → Mode → Tickets → Bool
+admitted_beside p Write t = not (nat_lt 0 t.holders)
+admitted_beside p Read t = admits_reader p (nat_lt 0 t.writing_holders) (nat_lt 0 t.waiting_writers)
+
+-- the ticket doesn't wait, or isn't admitted beside those of its line
+abbrev pub waits_by_line : Problem → List (List ℕ × Tickets) → Option Live → Bool
+waits_by_line p lines None = true
+waits_by_line p lines (Some l) = not (is_waiting l.status) || not (admitted_beside p l.mode (or_none (line_in lines l.resource)))
+
+-- the ticket isn't a writer's that holds, or is the only one of its line that holds
+abbrev pub alone_by_line : List (List ℕ × Tickets) → Option Live → Bool
+alone_by_line lines None = true
+alone_by_line lines (Some l) = not (is_write l.mode && is_holding l.status) || (or_none (line_in lines l.resource)).holders == 1
+
 -- the tickets with these numbers
 abbrev pub tickets_with : ℕ → ℕ → ℕ → List ℕ → Tickets
 tickets_with h w q cs = record { holders = h; writing_holders = w; waiting_writers = q; waiting = cs }
@@ -75,10 +98,6 @@ with_ticket c l t = record {
   waiting_writers = t.waiting_writers + one_if (is_write l.mode && is_waiting l.status);
   waiting = t.waiting ++ (if is_waiting l.status then c ∷ [] else []);
 }
-
-abbrev pub or_none : Option Tickets → Tickets
-or_none None = no_tickets
-or_none (Some t) = t
 
 -- the index has in addition the ticket of this client
 abbrev pub Joins : ℕ → Live → List (List ℕ × Tickets) → List (List ℕ × Tickets) → Type 0

@@ -7,10 +7,11 @@ ghost use Rattle.lock_messages.specs.declared.tickets.Mode.{Mode};
 ghost use Rattle.lock_model.specs.ExactStations.{knows, entry_of, EachOnce, if_live, any_live, holds, writer_holds, writer_waits, admits};
 ghost use Rattle.lock_model.specs.ExactDecisions.{moved_last};
 ghost use Rattle.stable_record.specs.EntryLists.{entries_in, replaced};
+ghost use Rattle.stable_record.specs.Lines.{Indexes, waits_by_line, alone_by_line};
 ghost use Rattle.lock_model.specs.Judgement.{leaves_alone, is_lawful, has_cause, is_caused};
 
-use crate::Entry;
 use crate::kept::{Kept, is_writing};
+use crate::{Entry, ResourceIndex, judging};
 use indexmap::IndexMap;
 use lock_messages::{ClientId, Mode, ResourceName};
 use lock_model::Problem;
@@ -121,6 +122,20 @@ fn is_caused(map: &Map, problem: Problem) -> bool
     ensures { result ≡ list_all (λ p. has_cause problem (entries_in map.now.entries) p.1.live) map.now.entries }
 {
     map.iter().all(|(_, kept)| has_cause(map, problem, kept))
+}
+
+fn is_lawful_by(map: &Map, index: &ResourceIndex) -> bool
+    ensures { result ≡ list_all (λ p. alone_by_line index.now p.1.live) map.now.entries }
+{
+    map.iter()
+        .all(|(_, kept)| judging::leaves_alone(index, kept))
+}
+
+fn is_caused_by(map: &Map, index: &ResourceIndex, problem: Problem) -> bool
+    ensures { result ≡ list_all (λ p. waits_by_line problem index.now p.1.live) map.now.entries }
+{
+    map.iter()
+        .all(|(_, kept)| judging::has_cause(index, problem, kept))
 }
 
 impl Entries {
@@ -349,5 +364,22 @@ impl Entries {
     {
         let _len = self.len();
         is_caused(&self.map, problem)
+    }
+
+    /// Whether the entries are lawful, by their index.
+    pub(crate) fn is_lawful_by(&self, index: &ResourceIndex) -> bool
+        requires { Indexes index.now self.now }
+        ensures { result ≡ is_lawful self.now }
+    {
+        let _len = self.len();
+        is_lawful_by(&self.map, index)
+    }
+
+    /// Whether the entries are caused, by their index.
+    pub(crate) fn is_caused_by(&self, index: &ResourceIndex, problem: Problem) -> bool
+        requires { Indexes index.now self.now }
+        ensures { result ≡ is_caused problem self.now }
+    {
+        is_caused_by(&self.map, index, problem)
     }
 }

@@ -20,6 +20,7 @@ mod entries;
 mod faults;
 mod faulty_records;
 mod formats;
+mod judging;
 mod kept;
 pub mod laws;
 mod leaves;

@@ -1,15 +1,15 @@
 // Reading a node's record, field by field from the front.
 
-ghost use Rattle.std.specs.Prelude.{◌≡◌, ◌⊎◌, ◌≤◌, [], IfOk, Ok, Err};
+ghost use Rattle.std.specs.Prelude.{◌≡◌, ◌≢◌, ◌⊎◌, ◌≤◌, [], IfOk, Ok, Err};
 ghost use Rattle.std.specs.Int.{w32, w64};
 ghost use Rattle.lock_messages.specs.Fields.{Gives, number_at, mode_at, name_at};
 ghost use Rattle.lock_model.specs.declared.entries.Entry.{Entry};
 ghost use Rattle.stable_record.specs.declared.node_records.NodeRecord.{NodeRecord};
 ghost use Rattle.stable_record.specs.Records.{IsNodeRecord, node_record_of};
-ghost use Rattle.stable_record.specs.Reading.{GivesOr, LeavesOr, IsOrRefused, AreGood, IsGoodSoFar, version_at, policy_at, count_at, client_at, floor_at, state_at, attempt_at, length_at, ticket_at, live_at, entry_at, entries_at, head_at, record_at, reading};
+ghost use Rattle.stable_record.specs.Reading.{GivesOr, LeavesOr, IsOrRefused, AreGood, IsGoodSoFar, version_at, policy_at, count_at, client_at, floor_at, state_at, attempt_at, length_at, ticket_at, live_at, entry_at, entries_at, head_at, record_at, judged, reading};
 
 use crate::formats::VERSION;
-use crate::{Entries, Entry, Live, NodeRecord, RecordFault, Status};
+use crate::{Entries, Entry, Live, NodeRecord, RecordFault, ResourceIndex, Status};
 use lock_messages::{
     Attempt, ClientId, MAX_ATTEMPT, MAX_CLIENTS, MAX_NAME_LEN, Mode, ResourceName, has_name_bytes,
 };
@@ -270,6 +270,24 @@ impl Unread<'_> {
     }
 }
 
+/// The record, where its writers that hold are alone and its tickets that wait have a cause; they are
+/// judged by its index.
+fn judge(alloc: Global, node: NodeRecord) -> Result<NodeRecord, RecordFault>
+    ensures { IsOrRefused (node.entries ≢ []) result (judged (node, [])) }
+{
+    let index = match ResourceIndex::of(alloc, &node) {
+        Ok(index) => index,
+        Err(_) => return Err(RecordFault::NoMemory),
+    };
+    if !node.entries.is_lawful_by(&index) {
+        return Err(RecordFault::WriterNotAlone);
+    }
+    if !node.entries.is_caused_by(&index, node.policy) {
+        return Err(RecordFault::NoCause);
+    }
+    Ok(node)
+}
+
 #[tactic(auto, unfolding(crate::specs::Reading::reading))]
 fn whole(alloc: Global, bytes: &[u8]) -> Result<NodeRecord, RecordFault>
     ensures { IsOrRefused (IsGoodSoFar bytes.now) result (reading bytes.now) }
@@ -279,13 +297,7 @@ fn whole(alloc: Global, bytes: &[u8]) -> Result<NodeRecord, RecordFault>
     if !unread.bytes.is_empty() {
         return Err(RecordFault::Trailing);
     }
-    if !record.entries.is_lawful() {
-        return Err(RecordFault::WriterNotAlone);
-    }
-    if !record.entries.is_caused(record.policy) {
-        return Err(RecordFault::NoCause);
-    }
-    Ok(record)
+    judge(alloc, record)
 }
 
 /// The node record that the bytes spell, all of the bytes.
@@ -296,8 +308,7 @@ fn whole(alloc: Global, bytes: &[u8]) -> Result<NodeRecord, RecordFault>
 /// the floor (316, behind the attempt's own range). Behind the last entry it is bytes that follow
 /// (319), a writer that holds beside another holder (317), a ticket that waits without a cause
 /// (318). Memory refused (320) is answered only where nothing before the refused growth was at
-/// fault. It takes time in proportion to the entries, but for 317 and 318. The layout and its faults
-/// are our own.
+/// fault; the last growth is that of the index by which 317 and 318 are judged. The layout and its faults are our own.
 pub fn read_node(alloc: Global, bytes: &[u8]) -> Result<NodeRecord, RecordFault>
     // What is read is spelled so, and is lawful and caused.
     ensures found { IfOk result (λ r. IsNodeRecord r × (bytes.now ≡ node_record_of r)) }

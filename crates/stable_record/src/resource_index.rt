@@ -1,6 +1,6 @@
 // A node's tickets by resource.
 
-ghost use Rattle.std.specs.Prelude.{◌≡◌, ◌<◌, [], ◌∷◌, ◌++◌, length, List, None, IfOk, OnOk, OnErr, IsOkUnless};
+ghost use Rattle.std.specs.Prelude.{◌≡◌, ◌≢◌, ◌<◌, [], ◌∷◌, ◌++◌, length, List, None, IfOk, OnOk, OnErr, IsOkUnless};
 ghost use Rattle.std.specs.Option.{option_copied};
 ghost use Rattle.lock_messages.specs.declared.ids.TheConstants.{MAX_CLIENTS};
 ghost use Rattle.lock_model.specs.declared.entries.Entry.{Entry};
@@ -87,6 +87,8 @@ impl ResourceIndex {
     pub fn of(alloc: Global, node: &NodeRecord) -> Result<ResourceIndex, RecordFault>
         ensures lines { IfOk result (λ index. Indexes index node.now.entries) }
         ensures memory { IsOkUnless result RecordFault.NoMemory }
+        // Without entries no memory is asked for.
+        ensures some { OnErr result (node.now.entries ≢ []) }
     {
         let mut index = ResourceIndex::empty(alloc);
         for place in 0..node.entries.len() {
