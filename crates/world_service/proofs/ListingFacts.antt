@@ -23,7 +23,7 @@ use Rattle.world_model.specs.declared.exact.ExactWorld.{ExactWorld}
 use Rattle.world_model.specs.ExactWorlds.{numbered}
 use Rattle.world_model.specs.Forgetting.{station_of, client_phase_of, node_at, client_at, forget}
 use Rattle.world_model.specs.Views.{ticket_in, ticket_at, ticket_inside}
-use Rattle.world_model.specs.Worlds.{ClientPhase, ClientDown, ClientIdle, Chosen, Asking, IsIn, IsInside}
+use Rattle.world_model.specs.Worlds.{ClientPhase, ClientDown, ClientIdle, Chosen, Asking, IsIn}
 use Rattle.world_service.specs.Listing.{Tells, IsInsideBy}
 use Rattle.world_service.specs.Machines.{node_part, client_part, world_view}
 use Rattle.world_service.proofs.ListFacts.{numbered-map}

@@ -17,7 +17,7 @@ use Rattle.world_model.specs.declared.events.StepFault.TheVariants as fault
 use Rattle.world_model.specs.declared.exact.ExactStation.{ExactStation}
 use Rattle.world_model.specs.declared.exact.ExactWorld.{ExactWorld}
 use Rattle.world_model.specs.ExactWorlds.{numbered}
-use Rattle.world_model.specs.Views.{live_tickets, waits, waiting, holding}
+use Rattle.world_model.specs.Views.{waits, waiting, holding}
 use Rattle.world_model.specs.Worlds.{World, IsInside}
 
 -- the test of tickets of this status, and the list that it gives
