@@ -7,7 +7,7 @@ use slot_record::SlotFault;
 use stable_record::RecordFault;
 use std::alloc::{AllocError, AllocFailed};
 use voter_core::VoterFault;
-use world_machine::StepFault;
+use world_model::StepFault;
 
 /// Why a test ended: memory was refused, or something is wrong.
 #[derive(Clone, Copy, Debug)]

@@ -8,6 +8,8 @@
 #![tactic(auto)]
 
 #[cfg(test)]
+mod actors;
+#[cfg(test)]
 mod decisions;
 #[cfg(test)]
 mod failures;

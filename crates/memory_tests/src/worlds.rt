@@ -1,19 +1,90 @@
-// The world: 613, of what opens it, takes, says and asks who is inside. After a refusal the same event
-// does what it would have done.
+// The world: 613, of what opens it, takes and says, and of what it is asked. After a refusal the same
+// event does what it would have done.
 
 use crate::failures::{
-    Failure, Outcome, check, client, first_attempt, node, request, resource, ticket,
+    Failure, Outcome, check, client, first_attempt, node, refused, request, resource, ticket,
 };
+use admission_policy::{Admission, Counted, FirstProblem};
 use lock_messages::{Actor, Message, Mode};
 use std::alloc::Global;
 use vote_weights::Ballot;
-use world_machine::{Effect, Event, World};
+use world_model::{Age, Effect, Event};
+use world_service::{OpeningFault, World};
 
-fn world(alloc: Global) -> Result<World, Failure> {
-    let Ok(ballot) = Ballot::of(&[1], 1, 1) else {
+/// The record of problem 1 in which c1 holds `a` as a reader, c2 waits for it as a writer.
+const TWO: [u8; 52] = [
+    0x01, 0x01, 0x00, 0x02, //
+    0x00, 0x00, 0x00, 0x01, 0x00, 0x00, 0x00, 0x00, 0x00, 0x00, 0x00, 0x00, 0x02, 0x00, 0x00, 0x00,
+    0x00, 0x00, 0x00, 0x00, 0x01, 0x00, 0x01, 0x61, //
+    0x00, 0x00, 0x00, 0x02, 0x00, 0x00, 0x00, 0x00, 0x00, 0x00, 0x00, 0x00, 0x01, 0x00, 0x00, 0x00,
+    0x00, 0x00, 0x00, 0x00, 0x01, 0x01, 0x01, 0x61,
+];
+
+/// A client's record: it has made one attempt.
+const FIRST: [u8; 9] = [1, 0, 0, 0, 0, 0, 0, 0, 1];
+
+/// The policy of n1, which was told of one reader.
+fn policies(alloc: Global) -> Result<Vec<Box<dyn Admission + Send>>, Failure> {
+    let mut told = Counted::of(FirstProblem);
+    told.note(true);
+    let policy: Box<dyn Admission + Send> = Box::new(alloc, told)?;
+    let mut policies = Vec::new(alloc);
+    policies.push(policy)?;
+    Ok(policies)
+}
+
+/// What an opening gives; where memory is refused the policy comes back as it was.
+fn opened(
+    answer: Result<World, (OpeningFault, Vec<Box<dyn Admission + Send>>)>,
+) -> Result<World, Failure> {
+    match answer {
+        Ok(world) => Ok(world),
+        Err((fault, policies)) => match policies.as_slice() {
+            [one] => refused(fault == OpeningFault::Memory && one.tally() == (1, 0)),
+            _ => Err(Failure::Wrong),
+        },
+    }
+}
+
+fn ballot() -> Result<Ballot, Failure> {
+    match Ballot::of(&[1], 1, 1) {
+        Ok(ballot) => Ok(ballot),
+        Err(_) => Err(Failure::Wrong),
+    }
+}
+
+fn started(alloc: Global) -> Result<World, Failure> {
+    let (ballot, policies) = (ballot()?, policies(alloc)?);
+    if policies.len() != ballot.nodes() as usize {
         return Err(Failure::Wrong);
-    };
-    Ok(World::start(alloc, ballot, 2)?)
+    }
+    opened(World::start(alloc, ballot, 2, policies))
+}
+
+fn resumed_from(
+    alloc: Global,
+    nodes: &[Vec<u8>; 1],
+    clients: &[Vec<u8>; 2],
+) -> Result<World, Failure> {
+    let (ballot, policies) = (ballot()?, policies(alloc)?);
+    if policies.len() != ballot.nodes() as usize || ballot.nodes() != 1 {
+        return Err(Failure::Wrong);
+    }
+    opened(World::resume(alloc, ballot, policies, nodes, clients))
+}
+
+/// A copy of a record.
+fn bytes(alloc: Global, record: &[u8]) -> Result<Vec<u8>, Failure> {
+    let mut bytes = Vec::new(alloc);
+    bytes.extend_from_slice(record)?;
+    Ok(bytes)
+}
+
+/// A world of these records.
+fn resumed(alloc: Global) -> Result<World, Failure> {
+    let nodes = [bytes(alloc, &TWO)?];
+    let clients = [bytes(alloc, &FIRST)?, bytes(alloc, &FIRST)?];
+    resumed_from(alloc, &nodes, &clients)
 }
 
 /// Takes an event; where memory is refused the same event is taken after that.
@@ -28,12 +99,21 @@ fn does(world: &mut World, event: &Event, effect: Effect) -> Outcome {
     }
 }
 
+/// A world in which n1 and c1 are up.
+fn up(alloc: Global) -> Result<World, Failure> {
+    let (one, other) = (Actor::Node(node(1)?), Actor::Client(client(1)?));
+    let mut world = started(alloc)?;
+    does(&mut world, &Event::Rise(one, Age::Old), Effect::Up)?;
+    does(&mut world, &Event::Rise(other, Age::Old), Effect::Up)?;
+    Ok(world)
+}
+
 /// A world in which c1 asks with its first ticket.
 fn asking(alloc: Global) -> Result<World, Failure> {
     let who = Actor::Client(client(1)?);
     let begin = Event::Begin(client(1)?, Mode::Read, resource()?);
     let chose = Effect::Chose(first_attempt()?);
-    let mut world = world(alloc)?;
+    let mut world = up(alloc)?;
     does(&mut world, &begin, chose)?;
     does(&mut world, &Event::Try(who), Effect::Tried)?;
     does(&mut world, &Event::Kept(who), Effect::Kept)?;
@@ -63,7 +143,14 @@ fn answered(alloc: Global) -> Result<World, Failure> {
 
 #[test]
 fn start_a_world(rt: HostRuntime) -> Outcome {
-    check(world(rt.alloc())?.sent(1).is_none())
+    check(started(rt.alloc())?.sent(1).is_none())
+}
+
+#[test]
+fn rise_after_a_resume(rt: HostRuntime) -> Outcome {
+    let who = Actor::Node(node(1)?);
+    let mut world = resumed(rt.alloc())?;
+    does(&mut world, &Event::Rise(who, Age::Old), Effect::Up)
 }
 
 #[test]
@@ -97,6 +184,26 @@ fn who_is_inside(rt: HostRuntime) -> Outcome {
     runs(&mut world, &events)?;
     let inside = world.inside(&resource)?;
     check(inside.as_slice() == [ticket].as_slice())
+}
+
+#[test]
+fn who_holds_and_who_waits(rt: HostRuntime) -> Outcome {
+    let (at, resource) = (node(1)?, resource()?);
+    let (reader, writer) = (ticket(1, Mode::Read)?, ticket(2, Mode::Write)?);
+    let world = resumed(rt.alloc())?;
+    let holding = world.holding(at, &resource)?;
+    check(holding.as_slice() == [reader].as_slice())?;
+    let waiting = world.waiting(at, &resource)?;
+    check(waiting.as_slice() == [writer].as_slice())
+}
+
+#[test]
+fn kept_bytes(rt: HostRuntime) -> Outcome {
+    let world = resumed(rt.alloc())?;
+    let of_node = world.kept_bytes(Actor::Node(node(1)?))?;
+    check(of_node.as_slice() == TWO.as_slice())?;
+    let of_client = world.kept_bytes(Actor::Client(client(2)?))?;
+    check(of_client.as_slice() == FIRST.as_slice())
 }
 
 /// A run that was stopped for want of memory goes on where it stopped.
