@@ -21,6 +21,8 @@ mod answers;
 mod faults;
 mod heads;
 mod lines;
+mod orders;
+mod raising;
 mod script;
 mod serving;
 mod settings;
@@ -28,4 +30,5 @@ mod texts;
 
 pub use faults::{ServeFault, SettingsFault};
 pub use history_check::LineFault;
-pub use serving::{Order, serve};
+pub use orders::{Command, Order, Policies};
+pub use serving::serve;
