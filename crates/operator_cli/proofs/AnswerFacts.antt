@@ -1,5 +1,4 @@
 -- What an event prints.
-use Rattle.std.proofs.Common.{ℕ}
 use Rattle.world_model.specs.declared.events.Effect.{Effect}
 use Rattle.world_model.specs.declared.events.Effect.TheVariants as effect
 use Rattle.world_model.specs.declared.exact.ExactWorld.{ExactWorld}

@@ -1,6 +1,5 @@
 -- Raising the actors, one after another.
 use Rattle.std.proofs.Common.{◌≡◌, ℕ, zero, suc, ◌+◌, ◌-◌, ◌<◌, ◌==◌, false, cond, List, [], ◌∷◌, ◌++◌, length, map, replicate, slice_get, slice_set, Some, None, refl, sym, ap, ◌∙◌, arith, append_assoc, length-append}
-use Rattle.std.proofs.Math.ListN.{get_or}
 use Rattle.std.proofs.Math.Seq.{get_or-append_seam, set-append_seam}
 use Rattle.std.proofs.lemmas.List.{append-nil, length-replicate, replicate-append-replicate}
 use Rattle.std.proofs.lemmas.Option.{slice_get-get_or}
@@ -10,7 +9,6 @@ use Rattle.world_model.specs.declared.events.Age.TheVariants as age
 use Rattle.world_model.specs.declared.events.Event.TheVariants as event
 use Rattle.world_model.specs.declared.exact.ExactNode.{ExactNode}
 use Rattle.world_model.specs.declared.exact.ExactClient.{ExactClient}
-use Rattle.world_model.specs.declared.exact.ExactWorld.{ExactWorld}
 use Rattle.world_model.specs.ExactNodes.{node_rises_in}
 use Rattle.world_model.specs.ExactClients.{client_rises_in}
 use Rattle.world_model.specs.ExactWorlds.{numbered, step, after, by_actor, world_after, with_node_at, with_client_at}

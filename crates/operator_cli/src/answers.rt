@@ -48,12 +48,7 @@ fn find(world: &World, query: &Query) -> Result<Vec<Ticket>, StepFault>
 }
 
 /// Answers a query.
-fn ask(
-    alloc: Global,
-    world: &World,
-    query: &Query,
-    text: &mut String,
-) -> Result<bool, ServeFault>
+fn ask(alloc: Global, world: &World, query: &Query, text: &mut String) -> Result<bool, ServeFault>
     ensures { AddsAnswer (told_query world.now query.now (found query.now world.now)) (string_bytes text.old) (string_bytes text.new) result world.now }
 {
     match find(world, query) {

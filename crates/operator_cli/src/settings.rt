@@ -144,7 +144,11 @@ fn values_of(alloc: Global, table: &Table) -> Result<Settings, SettingsFault>
     let problem = problem_at(table)?;
     let clients = number_at(table, "clients", 1, MAX_CLIENTS as u16)?;
     match Ballot::of(votes.as_slice(), read, write) {
-        Ok(ballot) => Ok(Settings { ballot, problem, clients }),
+        Ok(ballot) => Ok(Settings {
+            ballot,
+            problem,
+            clients,
+        }),
         Err(fault) => Err(SettingsFault::Ballot(fault)),
     }
 }
