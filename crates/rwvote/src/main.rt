@@ -23,15 +23,15 @@ fn main(rt: HostRuntime) -> ExitCode {
         let Ok(policy) = Box::new(alloc, FirstProblem) else {
             return end_without_memory(&rt);
         };
-        if first.push(policy).is_err() {
+        let Ok(()) = first.push(policy) else {
             return end_without_memory(&rt);
-        }
+        };
         let Ok(policy) = Box::new(alloc, SecondProblem) else {
             return end_without_memory(&rt);
         };
-        if second.push(policy).is_err() {
+        let Ok(()) = second.push(policy) else {
             return end_without_memory(&rt);
-        }
+        };
     }
     let ended = command_line::run(
         alloc,
