@@ -14,3 +14,8 @@ pub returns-in_default : goal.returns-in_default
 returns-in_default g c =
     let out = g.W.Write.contents in
     serves_nothing (g.R.Read.remaining c.args.reader) (out c.args.writer.now) (out c.args.writer.now) fault.Memory refl
+
+pub returns-then-is_err : goal.returns-then-is_err
+returns-then-is_err g c =
+    let out = g.W.Write.contents in
+    serves_nothing (g.R.Read.remaining c.args.reader) (out c.args.writer.now) (out c.args.writer.now) fault.Memory refl
