@@ -3,6 +3,7 @@ use Rattle.std.specs.Prelude.{◌≡◌, ◌⊎◌, ℕ, ◌+◌, ◌==◌, nat_
 use Rattle.std.specs.Str.{bytes_eq}
 use Rattle.std.specs.Io.KnownBytes.{Appends}
 use Rattle.lock_messages.specs.declared.tickets.Ticket.{Ticket}
+use Rattle.world_model.specs.declared.events.StepFault.{StepFault}
 use Rattle.world_model.specs.declared.events.StepFault.TheVariants as refusal
 use Rattle.world_model.specs.declared.exact.ExactWorld.{ExactWorld}
 use Rattle.world_model.specs.ExactWorlds.{Steps, step}
@@ -32,10 +33,14 @@ pub record Told : Type 0 where
   pub refused : Bool
   pub world : ExactWorld
 
--- an event: its effect, or its lowest refusal, which leaves the world as it was
+-- a refusal, which leaves the world as it was
+abbrev pub told_refusal : ExactWorld → StepFault → Told
+told_refusal w e = record { text = refused_text (fault_number e); refused = true; world = w }
+
+-- an event: its effect, or its lowest refusal
 abbrev pub told_step : ExactWorld → Steps → Told
 told_step w (Ok s) = record { text = effect_text s.world.sent s.effect; refused = false; world = s.world }
-told_step w (Err e) = record { text = refused_text (fault_number e); refused = true; world = w }
+told_step w (Err e) = told_refusal w e
 
 -- the tickets that a query asks for; none at all where it names a node that isn't there
 abbrev pub found : Query → ExactWorld → Option (List Ticket)
@@ -46,7 +51,7 @@ found (query.Holding n x) w = holding n x w
 -- a query: the tickets, or that there is no such node
 abbrev pub told_query : ExactWorld → Query → Option (List Ticket) → Told
 told_query w q (Some ts) = record { text = answer_text q ts; refused = false; world = w }
-told_query w q None = record { text = refused_text (fault_number refusal.UnknownActor); refused = true; world = w }
+told_query w q None = told_refusal w refusal.UnknownActor
 
 abbrev pub told : ExactWorld → Line → Told
 told w (line.Event e) = told_step w (step w e)

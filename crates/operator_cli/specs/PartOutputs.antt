@@ -10,6 +10,7 @@ use Rattle.world_model.specs.declared.events.Effect.TheVariants as effect
 use Rattle.world_model.specs.declared.events.StepFault.{StepFault}
 use Rattle.world_model.specs.declared.events.StepFault.TheVariants as refusal
 use Rattle.world_model.specs.declared.exact.ExactWorld.{ExactWorld}
+use Rattle.world_model.specs.Faults.{fault_number}
 use Rattle.world_model.specs.Openings.{empty_station, down_node, down_client}
 use Rattle.history_check.specs.declared.faults.LineFault.{LineFault}
 use Rattle.history_check.specs.declared.faults.LineFault.TheVariants as bad
@@ -31,6 +32,7 @@ use Rattle.operator_cli.specs.Lines.{line_of}
 use Rattle.operator_cli.specs.Openings.{risen_node, risen_client, all_risen}
 use Rattle.line_streams.specs.Streams.{pieces, KnownLeft, ReadsPiece, AppendsBeginning}
 use Rattle.operator_cli.specs.Settings.{Refuses}
+use Rattle.operator_cli.specs.Texts.{refused_text}
 use Rattle.operator_cli.specs.Outputs.{Told, Output, lines_output, lines_in, head_of, output_of, refusal_output, Writes}
 
 -- The world of the settings in which so many nodes, and so many clients, have risen, the first ones
@@ -59,7 +61,12 @@ abbrev pub AddsAnswer : Told → List ℕ → List ℕ → Result Bool ServeFaul
 AddsAnswer t old new (Ok refused) w = (new ≡ old ++ t.text) × (refused ≡ t.refused) × (w ≡ t.world)
 AddsAnswer t old new (Err e) w = e ≡ Memory
 
--- The same, written.
+-- The same of a refusal.
+abbrev pub AddsRefusal : StepFault → List ℕ → List ℕ → Result Bool ServeFault → Type 0
+AddsRefusal f old new (Ok refused) = (new ≡ old ++ refused_text (fault_number f)) × (refused ≡ true)
+AddsRefusal f old new (Err e) = e ≡ Memory
+
+-- An answer, written.
 abbrev pub WritesAnswer : Told → Option (List ℕ) → Option (List ℕ) → Result Bool ServeFault → ExactWorld → Type 0
 WritesAnswer t old new (Ok refused) w = Appends old new t.text × (refused ≡ t.refused) × (w ≡ t.world)
 WritesAnswer t old new (Err e) w = AppendsBeginning old new t.text

@@ -3,7 +3,7 @@
 ghost use Rattle.std.specs.Prelude.{string_bytes};
 ghost use Rattle.world_model.specs.ExactWorlds.{step};
 ghost use Rattle.operator_cli.specs.Outputs.{found, told, told_step, told_query};
-ghost use Rattle.operator_cli.specs.PartOutputs.{AddsAnswer, Finds};
+ghost use Rattle.operator_cli.specs.PartOutputs.{AddsAnswer, AddsRefusal, Finds};
 
 use crate::ServeFault;
 use crate::texts::{push_answer, push_effect, push_refused};
@@ -14,6 +14,16 @@ use world_model::laws::said_numbers_fit;
 use world_model::{Event, StepFault};
 use world_service::World;
 
+/// Adds that an event or a query is refused, and answers so.
+fn refuse(text: &mut String, fault: StepFault) -> Result<bool, ServeFault>
+    ensures { AddsRefusal fault (string_bytes text.old) (string_bytes text.new) result }
+{
+    if push_refused(text, fault.number()).is_err() {
+        return Err(ServeFault::Memory);
+    }
+    Ok(true)
+}
+
 /// Takes an event.
 fn take_event(world: &mut World, event: &Event, text: &mut String) -> Result<bool, ServeFault>
     ensures { AddsAnswer (told_step world.old (step world.old event.now)) (string_bytes text.old) (string_bytes text.new) result world.new }
@@ -21,12 +31,7 @@ fn take_event(world: &mut World, event: &Event, text: &mut String) -> Result<boo
     said_numbers_fit();
     match world.step(event) {
         Err(StepFault::Memory) => Err(ServeFault::Memory),
-        Err(fault) => {
-            if push_refused(text, fault.number()).is_err() {
-                return Err(ServeFault::Memory);
-            }
-            Ok(true)
-        }
+        Err(fault) => refuse(text, fault),
         Ok(effect) => {
             if push_effect(text, world, &effect).is_err() {
                 return Err(ServeFault::Memory);
@@ -52,12 +57,7 @@ fn ask(alloc: Global, world: &World, query: &Query, text: &mut String) -> Result
     ensures { AddsAnswer (told_query world.now query.now (found query.now world.now)) (string_bytes text.old) (string_bytes text.new) result world.now }
 {
     match find(world, query) {
-        Err(StepFault::UnknownActor) => {
-            if push_refused(text, StepFault::UnknownActor.number()).is_err() {
-                return Err(ServeFault::Memory);
-            }
-            Ok(true)
-        }
+        Err(StepFault::UnknownActor) => refuse(text, StepFault::UnknownActor),
         Err(_) => Err(ServeFault::Memory),
         Ok(tickets) => {
             if push_answer(alloc, text, query, tickets.as_slice()).is_err() {
