@@ -1,5 +1,5 @@
 -- The words that the program takes, and what `clap` says of others.
-use Rattle.std.proofs.Common.{◌≡◌, ◌⊎◌, inl, inr, true, List, [], ℕ, Option, Some, None, Result, Ok, Err, refl, subst}
+use Rattle.std.proofs.Common.{◌≡◌, ◌⊎◌, inl, inr, true, List, [], ℕ, Option, Some, None, Result, Err, refl, subst}
 use Rattle.std.specs.Io.KnownBytes.{Keeps}
 use Rattle.clap.proofs.OnLiterals.{clap_on_literals}
 use Rattle.clap.specs.Words.{App, Kinds, IsAmong, FailsBy, HasKind, fault_of, is_simple_and_free, kind_of}

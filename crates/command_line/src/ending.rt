@@ -1,16 +1,20 @@
 // A whole run of the program, from its words to its status.
 
-ghost use Rattle.std.specs.Prelude.{◌≡◌, map, string_bytes, IfOk, IfErr};
+ghost use Rattle.std.specs.Prelude.{◌≡◌, map, replicate, string_bytes, IfOk, IfErr};
 ghost use Rattle.std.specs.IoError.{error_kind};
 ghost use Rattle.std.specs.Io.KnownBytes.{Keeps};
 ghost use Rattle.std.specs.Vec.Iter.{into_iter_items};
 ghost use Rattle.clap.specs.Words.{fault_of};
+ghost use Rattle.lock_messages.specs.declared.ids.TheConstants.{MAX_NODES};
+ghost use Rattle.lock_model.specs.declared.problems.Problem.TheVariants.{First, Second};
 ghost use Rattle.operator_cli.specs.Outputs.{Serves};
+ghost use Rattle.operator_cli.specs.declared.faults.ServeFault.TheVariants as fault;
 ghost use Rattle.command_line.specs.CommandLine.{app, Says, EndsSaying, TellsFault, EndsUnread, EndsServed, RunsScript, Shows, ReadsWords, RunsBy, Runs, no_text_words, fault_text};
 
 use crate::reading::{Unserved, read_words};
+use admission_policy::Admission;
 use line_streams::write_text;
-use operator_cli::{Order, ServeFault, serve};
+use operator_cli::{Command, Order, Policies, ServeFault, serve};
 use std::alloc::{AllocError, Global};
 use std::env::Args;
 use std::io;
@@ -83,15 +87,22 @@ fn end_served<E: Write>(came: Result<u8, ServeFault>, errors: &mut E) -> Ended
 /// Runs a script.
 fn run_script<R: Read, W: Write, E: Write>(
     alloc: Global,
+    policies: Policies,
     reader: R,
     output: &mut W,
     errors: &mut E,
 ) -> Ended
 where
     R: Drop,
+    requires first { map ⟦<Box<dyn Admission + Send> as Admission>⟧.problem_of policies.first.items ≡ replicate MAX_NODES First }
+    requires second { map ⟦<Box<dyn Admission + Send> as Admission>⟧.problem_of policies.second.items ≡ replicate MAX_NODES Second }
     ensures { RunsScript (R.remaining reader) (record { old = W.contents output.old; new = W.contents output.new; errors_old = E.contents errors.old; errors_new = E.contents errors.new }) result }
 {
-    let came = serve(alloc, Order::Script, reader, output);
+    let order = Order {
+        command: Command::Script,
+        policies,
+    };
+    let came = serve(alloc, order, reader, output);
     end_served(came, errors)
 }
 
@@ -113,16 +124,19 @@ fn show<W: Write, E: Write>(text: &str, output: &mut W, errors: &mut E) -> Ended
 fn run_words<R: Read, W: Write, E: Write>(
     alloc: Global,
     words: &[String],
+    policies: Policies,
     reader: R,
     output: &mut W,
     errors: &mut E,
 ) -> Ended
 where
     R: Drop,
+    requires first { map ⟦<Box<dyn Admission + Send> as Admission>⟧.problem_of policies.first.items ≡ replicate MAX_NODES First }
+    requires second { map ⟦<Box<dyn Admission + Send> as Admission>⟧.problem_of policies.second.items ≡ replicate MAX_NODES Second }
     ensures { Runs (R.remaining reader) (map string_bytes words.now) (record { old = W.contents output.old; new = W.contents output.new; errors_old = E.contents errors.old; errors_new = E.contents errors.new }) result }
 {
     match read_words(alloc, words) {
-        Ok(()) => run_script(alloc, reader, output, errors),
+        Ok(()) => run_script(alloc, policies, reader, output, errors),
         Err(Unserved::NoMemory) => tell_fault(ServeFault::Memory, errors),
         Err(Unserved::Help(text)) => show(text.as_str(), output, errors),
         Err(Unserved::Wrong(text)) => say(2, text.as_str(), errors),
@@ -141,18 +155,28 @@ fn collected(alloc: Global, words: Args) -> Result<Vec<String>, AllocError>
 fn run_given<R: Read, W: Write, E: Write>(
     alloc: Global,
     given: Args,
+    policies: Policies,
     reader: R,
     output: &mut W,
     errors: &mut E,
 ) -> Ended
 where
     R: Drop,
+    requires first { map ⟦<Box<dyn Admission + Send> as Admission>⟧.problem_of policies.first.items ≡ replicate MAX_NODES First }
+    requires second { map ⟦<Box<dyn Admission + Send> as Admission>⟧.problem_of policies.second.items ≡ replicate MAX_NODES Second }
     ensures { Runs (R.remaining reader) (map string_bytes (into_iter_items given)) (record { old = W.contents output.old; new = W.contents output.new; errors_old = E.contents errors.old; errors_new = E.contents errors.new }) result }
 {
     let Ok(all) = collected(alloc, given) else {
         return tell_fault(ServeFault::Memory, errors);
     };
-    run_words(alloc, all.as_slice(), reader, output, errors)
+    run_words(alloc, all.as_slice(), policies, reader, output, errors)
+}
+
+/// Ends a run that has no memory to begin: tells `fault 933`, with status 1.
+pub fn end_without_memory<E: Write>(errors: &mut E) -> Ended
+    ensures { TellsFault fault.Memory (E.contents errors.old) (E.contents errors.new) result }
+{
+    tell_fault(ServeFault::Memory, errors)
 }
 
 /// Runs the program: does what the words say with the bytes of the reader, and answers how it ended.
@@ -165,22 +189,26 @@ where
 /// status is 2. Where memory is refused while words are read, `fault 933` is told, with status 1.
 ///
 /// Contracts speak of what the reader has left and of what the writers hold, where these are known.
-/// The caller owes nothing.
+/// The caller owes policies of the right problems, as `serve` does: sixteen that solve problem 1 and
+/// sixteen that solve problem 2.
 pub fn run<R: Read, W: Write, E: Write>(
     alloc: Global,
     words: io::Result<Args>,
+    policies: Policies,
     reader: R,
     output: &mut W,
     errors: &mut E,
 ) -> Ended
 where
     R: Drop,
+    requires first { map ⟦<Box<dyn Admission + Send> as Admission>⟧.problem_of policies.first.items ≡ replicate MAX_NODES First }
+    requires second { map ⟦<Box<dyn Admission + Send> as Admission>⟧.problem_of policies.second.items ≡ replicate MAX_NODES Second }
     ensures runs { IfOk words (λ all. Runs (R.remaining reader) (map string_bytes (into_iter_items all)) (record { old = W.contents output.old; new = W.contents output.new; errors_old = E.contents errors.old; errors_new = E.contents errors.new }) result) }
     ensures unread { IfErr words (λ error. EndsUnread (error_kind error ≡ ErrorKind.OutOfMemory) (E.contents errors.old) (E.contents errors.new) result) }
     ensures unread_keeps { IfErr words (λ error. Keeps (W.contents output.old) (W.contents output.new)) }
 {
     match words {
-        Ok(given) => run_given(alloc, given, reader, output, errors),
+        Ok(given) => run_given(alloc, given, policies, reader, output, errors),
         Err(error) => tell_unread(error, errors),
     }
 }

@@ -8,10 +8,10 @@
 //! and 1; wrong words as 2, by what `clap` says of them; a request for help or for the version as 0.
 //! `specs/CommandLine` says so.
 //!
-//! It stands on `operator_cli`, `line_streams` and `clap`.
+//! It stands on `operator_cli`, `line_streams`, `lock_messages`, `lock_model` and `clap`.
 #![tactic(auto)]
 
 mod ending;
 mod reading;
 
-pub use ending::{Ended, run};
+pub use ending::{Ended, end_without_memory, run};

@@ -12,8 +12,7 @@ const ABOUT: &str = "A voted readers-writers lock service, run in memory from a 
 
 const SCRIPT_HELP: &str = "\
 Runs a script: standard input begins with settings in TOML and a line `---`, and each line behind
-it is an event or the query `inside NAME`. This one can be pasted and run, once `rwvote` is on the
-path:
+it is an event or a query. This one can be pasted and run, once `rwvote` is on the path:
 
 rwvote script <<'END'
 votes = [1]
@@ -40,15 +39,19 @@ kept, sent 2 grant n1 c1 1 read a, counted, inside, inside a: c1 read.
 
 Settings: `votes` is a list with the votes of each node, 0 to 255, node 1 first, 16 nodes at most;
 `read` and `write` are how many votes a reader and a writer collect (read + write, and twice write,
-are over all votes); `problem` is 1; `clients` is how many clients there are, 1 to 1024.
+are over all votes); `problem` is 1 (a reader waits only where a writer holds) or 2 (it waits also
+where a writer waits); `clients` is how many clients there are, 1 to 1024.
 
-Events: `begin cC read|write NAME`, `try nN|cC`, `kept nN|cC`, `sayto cC nN`, `say nN`,
-`take nN K`, `hear cC K`, `enter cC`, `leave cC`. `nN` is node N, `cC` client C, `K` the number of a
-message, as `sent K` prints it, `NAME` 1 to 32 of a-z, 0-9 and -.
+All nodes and clients are up at first. Events: `begin cC read|write NAME`, `try nN|cC`, `kept nN|cC`,
+`sayto cC nN`, `say nN`, `take nN K`, `hear cC K`, `enter cC`, `leave cC`, `fall nN|cC`,
+`rise nN|cC old|new`. `nN` is node N, `cC` client C, `K` the number of a message, as `sent K` prints
+it, `NAME` 1 to 32 of a-z, 0-9 and -. Queries: `inside NAME`, and of what node N has kept,
+`waiting nN NAME` and `holding nN NAME`.
 
-`refused N`: 601 no such node or client, 604 not in this phase, 605 not kept yet, 606 nothing to
-say, 607 no such message, 608 for another, 609 too few votes, 610 no attempts left, 611 nothing was
-tried, 612 too many messages. Nothing has changed then, and the script goes on.
+`refused N`: 601 no such node or client, 602 it is down, 603 it is up, 604 not in this phase, 605 not
+kept yet, 606 nothing to say, 607 no such message, 608 for another, 609 too few votes, 610 no
+attempts left, 611 nothing was tried, 612 too many messages. Nothing has changed then, and the
+script goes on.
 
 `line L fault N` ends the script: line L behind `---` has 801 an unknown word, 802 no actor, 803 no
 number, 804 no name, 805 words missing or left over, or over 128 bytes.
@@ -57,9 +60,9 @@ number, 804 no name, 805 words missing or left over, or over 128 bytes.
 key, 924 no line `---` within 65536 bytes, 925 no memory; 201 no node, 202 more than 16, 203 a need
 over all votes, 204 a read and a write could miss each other, 205 two writes could.
 
-The status is 0; 1 where an event was refused, a line was bad, or `fault N` stands on standard error
-(931 the input failed, 932 the output, 933 no memory); 2 where the settings or the words were
-refused.";
+The status is 0; 1 where an event or a query was refused, a line was bad, or `fault N` stands on
+standard error (931 the input failed, 932 the output, 933 no memory); 2 where the settings or the
+words were refused.";
 
 /// The words that the program takes.
 fn words_taken<'a>(alloc: Global) -> Result<Command<'a>, AllocError>

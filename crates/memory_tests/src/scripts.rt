@@ -1,7 +1,9 @@
 // A whole run: 933, or 925 of the settings; what was written is a beginning of the output.
 
 use crate::failures::{Failure, Outcome, check, refused};
-use operator_cli::{Order, ServeFault, serve};
+use admission_policy::{Admission, FirstProblem, SecondProblem};
+use lock_messages::MAX_NODES;
+use operator_cli::{Command, Order, Policies, ServeFault, serve};
 use std::alloc::Global;
 use std::io;
 use std::io::{Error, ErrorKind, Write};
@@ -9,12 +11,12 @@ use std::io::{Error, ErrorKind, Write};
 const SCRIPT: &str = "\
 votes = [1]\nread = 1\nwrite = 1\nproblem = 1\nclients = 2\n---\n\
 begin c1 read a\ntry c1\nkept c1\nsayto c1 n1\ntake n1 1\ntry n1\n\
-kept n1\nsay n1\nhear c1 2\nenter c1\nenter c1\ninside a\ninside a b\n";
+kept n1\nsay n1\nhear c1 2\nenter c1\nenter c1\ninside a\nholding n1 a\ninside a b\n";
 
 const EXPECTED: &str = "\
 chose 1\ntried\nkept\nsent 1 request n1 c1 1 read a\nchanged\ntried\n\
 kept\nsent 2 grant n1 c1 1 read a\ncounted\ninside\nrefused 604\ninside a: c1 read\n\
-line 13 fault 805\n";
+holding n1 a: c1 read\nline 14 fault 805\n";
 
 const BAD_SETTINGS: &str = "votes = [1, 1]\nread = 1\nwrite = 1\nproblem = 1\nclients = 2\n---\n";
 
@@ -42,13 +44,38 @@ impl Write for Room {
     }
 }
 
+/// Serves a script.
+fn serve_script(alloc: Global, script: &str, out: &mut Room) -> Result<u8, ServeFault> {
+    let mut first: Vec<Box<dyn Admission + Send>> = Vec::new(alloc);
+    let mut second: Vec<Box<dyn Admission + Send>> = Vec::new(alloc);
+    for _ in 0..MAX_NODES {
+        let Ok(policy) = Box::new(alloc, FirstProblem) else {
+            return Err(ServeFault::Memory);
+        };
+        let Ok(()) = first.push(policy) else {
+            return Err(ServeFault::Memory);
+        };
+        let Ok(policy) = Box::new(alloc, SecondProblem) else {
+            return Err(ServeFault::Memory);
+        };
+        let Ok(()) = second.push(policy) else {
+            return Err(ServeFault::Memory);
+        };
+    }
+    let order = Order {
+        command: Command::Script,
+        policies: Policies { first, second },
+    };
+    serve(alloc, order, script.as_bytes(), out)
+}
+
 /// Serves a script, and judges what it wrote and its status.
 fn serves(alloc: Global, script: &str, expected: &str, status: u8) -> Outcome {
     let mut out = Room {
         bytes: [0; 256],
         used: 0,
     };
-    let served = serve(alloc, Order::Script, script.as_bytes(), &mut out);
+    let served = serve_script(alloc, script, &mut out);
     let told = out.bytes.get(..out.used).unwrap_or(&[]);
     match served {
         Ok(2) if told == b"settings fault 925\n".as_slice() => refused(true),

@@ -3,8 +3,8 @@ use Rattle.std.proofs.Common.{◌≡◌, ◌⊎◌, inl, inr, ℕ, Vec, List, []
 use Rattle.std.specs.Global.{Global}
 use Rattle.std.specs.Io.KnownBytes.{Appends}
 use Rattle.std.proofs.lemmas.List.{append-nil, append_cancel_left}
-use Rattle.world_machine.specs.declared.exact.ExactWorld.{ExactWorld}
-use Rattle.world_machine.specs.ExactWorlds.{opening}
+use Rattle.world_model.specs.declared.exact.ExactWorld.{ExactWorld}
+use Rattle.operator_cli.specs.Openings.{all_risen}
 use Rattle.operator_cli.specs.declared.faults.ServeFault.{ServeFault}
 use Rattle.operator_cli.specs.declared.faults.ServeFault.TheVariants as fault
 use Rattle.operator_cli.specs.declared.faults.SettingsFault.{SettingsFault}
@@ -81,7 +81,7 @@ serves_refusal (Some xs) left old new start.Read r h p =
     subst (λ (q : Result ℕ ServeFault). Serves (Some xs) old new q) (sym p.0) (serves_nothing (Some xs) old new fault.Read p.1)
 serves_refusal (Some xs) left old new (start.Settings e) r h p = by_fault xs old new e r h p
 
-pub serves_lines : (input left old new : Option (List ℕ)) (s : Settings) (w : ExactWorld) (r : Result ℕ ServeFault) → Starts input left (Ok s) → w ≡ opening s.ballot s.clients → WritesLines w left old new r → Serves input old new r
+pub serves_lines : (input left old new : Option (List ℕ)) (s : Settings) (w : ExactWorld) (r : Result ℕ ServeFault) → Starts input left (Ok s) → w ≡ all_risen s → WritesLines w left old new r → Serves input old new r
 serves_lines None left old new s w r h e p = tt
 serves_lines (Some xs) None old new s w r h e p = absurd h
 serves_lines (Some xs) (Some ys) old new s w r h e p =

@@ -2,24 +2,30 @@
 use Rattle.std.specs.Prelude.{◌≡◌, ◌⊎◌, ℕ, ◌+◌, ◌==◌, nat_lt, Bool, true, false, if◌then◌else◌, List, [], ◌∷◌, ◌++◌, length, Option, Some, None, Result, Ok, Err, codes}
 use Rattle.std.specs.Str.{bytes_eq}
 use Rattle.std.specs.Io.KnownBytes.{Appends}
-use Rattle.world_machine.specs.declared.exact.ExactWorld.{ExactWorld}
-use Rattle.world_machine.specs.Events.{action_of}
-use Rattle.world_machine.specs.ExactWorlds.{Steps, step, opening, inside}
-use Rattle.world_machine.specs.Faults.{fault_number}
+use Rattle.lock_messages.specs.declared.tickets.Ticket.{Ticket}
+use Rattle.world_model.specs.declared.events.StepFault.{StepFault}
+use Rattle.world_model.specs.declared.events.StepFault.TheVariants as refusal
+use Rattle.world_model.specs.declared.exact.ExactWorld.{ExactWorld}
+use Rattle.world_model.specs.ExactWorlds.{Steps, step}
+use Rattle.world_model.specs.Faults.{fault_number}
+use Rattle.world_model.specs.Views.{inside, waiting, holding}
 use Rattle.history_check.specs.declared.faults.LineFault.{LineFault}
 use Rattle.operator_cli.specs.declared.faults.ServeFault.{ServeFault}
 use Rattle.operator_cli.specs.declared.faults.SettingsFault.{SettingsFault}
 use Rattle.operator_cli.specs.declared.faults.SettingsFault.TheVariants as settings
 use Rattle.operator_cli.specs.declared.heads.TheConstants.{HEAD_ROOM}
-use Rattle.operator_cli.specs.declared.lines.Line.{Line}
-use Rattle.operator_cli.specs.declared.lines.Line.TheVariants as line
+use Rattle.history_check.specs.declared.lines.Line.{Line}
+use Rattle.history_check.specs.declared.lines.Line.TheVariants as line
+use Rattle.history_check.specs.declared.lines.Query.{Query}
+use Rattle.history_check.specs.declared.lines.Query.TheVariants as query
 use Rattle.operator_cli.specs.declared.settings.Settings.{Settings}
 use Rattle.history_check.specs.Faults.{line_fault_number}
 use Rattle.operator_cli.specs.Faults.{settings_fault_number}
 use Rattle.operator_cli.specs.Lines.{line_of}
+use Rattle.operator_cli.specs.Openings.{all_risen}
 use Rattle.line_streams.specs.Streams.{pieces, AppendsBeginning}
 use Rattle.operator_cli.specs.Settings.{settings_of}
-use Rattle.operator_cli.specs.Texts.{outcome_text, refused_text, inside_text, line_fault_text, settings_fault_text}
+use Rattle.operator_cli.specs.Texts.{effect_text, refused_text, answer_text, line_fault_text, settings_fault_text}
 
 -- What one event or query prints, whether it was refused, and the world after it.
 pub record Told : Type 0 where
@@ -27,14 +33,29 @@ pub record Told : Type 0 where
   pub refused : Bool
   pub world : ExactWorld
 
--- an event: its effect, or its lowest refusal, which leaves the world as it was
+-- a refusal, which leaves the world as it was
+abbrev pub told_refusal : ExactWorld → StepFault → Told
+told_refusal w e = record { text = refused_text (fault_number e); refused = true; world = w }
+
+-- an event: its effect, or its lowest refusal
 abbrev pub told_step : ExactWorld → Steps → Told
-told_step w (Ok s) = record { text = outcome_text s.world.sent s.outcome; refused = false; world = s.world }
-told_step w (Err e) = record { text = refused_text (fault_number e); refused = true; world = w }
+told_step w (Ok s) = record { text = effect_text s.world.sent s.effect; refused = false; world = s.world }
+told_step w (Err e) = told_refusal w e
+
+-- the tickets that a query asks for; none at all where it names a node that isn't there
+abbrev pub found : Query → ExactWorld → Option (List Ticket)
+found (query.Inside x) w = Some (inside x w)
+found (query.Waiting n x) w = waiting n x w
+found (query.Holding n x) w = holding n x w
+
+-- a query: the tickets, or that there is no such node
+abbrev pub told_query : ExactWorld → Query → Option (List Ticket) → Told
+told_query w q (Some ts) = record { text = answer_text q ts; refused = false; world = w }
+told_query w q None = told_refusal w refusal.UnknownActor
 
 abbrev pub told : ExactWorld → Line → Told
-told w (line.Event e) = told_step w (step w (action_of e))
-told w (line.Inside x) = record { text = inside_text x (inside x w); refused = false; world = w }
+told w (line.Event e) = told_step w (step w e)
+told w (line.Query q) = told_query w q (found q w)
 
 -- what is written, and the status
 pub record Output : Type 0 where
@@ -85,7 +106,7 @@ head_of ps = within_room (parts_at_dashes ps)
 -- refused settings print their fault and nothing else
 abbrev pub settings_output : Result Settings SettingsFault → List (List ℕ) → Output
 settings_output (Err e) lines = record { text = settings_fault_text (settings_fault_number e); status = 2 }
-settings_output (Ok s) lines = lines_output (opening s.ballot s.clients) 1 lines
+settings_output (Ok s) lines = lines_output (all_risen s) 1 lines
 
 abbrev pub parts_output : Result (List ℕ × List (List ℕ)) SettingsFault → Output
 parts_output (Err e) = record { text = settings_fault_text (settings_fault_number e); status = 2 }

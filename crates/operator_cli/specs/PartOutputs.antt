@@ -1,10 +1,17 @@
 -- Parts of an output: what the private functions of a run owe one another. Who reads what `serve`
 -- promises has no need of them.
-use Rattle.std.specs.Prelude.{◌≡◌, ◌⊎◌, ℕ, ◌==◌, Vec, Bool, true, false, if◌then◌else◌, List, ◌++◌, length, Option, Some, None, Result, Ok, Err}
+use Rattle.std.specs.Prelude.{◌≡◌, ◌⊎◌, ℕ, ◌+◌, ◌<◌, ◌≤◌, ◌-◌, ◌==◌, Vec, Bool, true, false, if◌then◌else◌, List, [], ◌++◌, length, replicate, Option, Some, None, Result, Ok, Err}
 use Rattle.std.specs.Global.{Global}
 use Rattle.std.specs.Io.KnownBytes.{Appends}
-use Rattle.world_machine.specs.declared.exact.ExactWorld.{ExactWorld}
-use Rattle.world_machine.specs.ExactWorlds.{opening}
+use Rattle.lock_messages.specs.declared.tickets.Ticket.{Ticket}
+use Rattle.world_model.specs.declared.TheConstants.{MAX_MESSAGES}
+use Rattle.world_model.specs.declared.events.Effect.{Effect}
+use Rattle.world_model.specs.declared.events.Effect.TheVariants as effect
+use Rattle.world_model.specs.declared.events.StepFault.{StepFault}
+use Rattle.world_model.specs.declared.events.StepFault.TheVariants as refusal
+use Rattle.world_model.specs.declared.exact.ExactWorld.{ExactWorld}
+use Rattle.world_model.specs.Faults.{fault_number}
+use Rattle.world_model.specs.Openings.{empty_station, down_node, down_client}
 use Rattle.history_check.specs.declared.faults.LineFault.{LineFault}
 use Rattle.history_check.specs.declared.faults.LineFault.TheVariants as bad
 use Rattle.operator_cli.specs.declared.faults.ServeFault.{ServeFault}
@@ -15,23 +22,51 @@ use Rattle.operator_cli.specs.declared.faults.SettingsFault.TheVariants as setti
 use Rattle.operator_cli.specs.declared.heads.TheConstants.{HEAD_ROOM}
 use Rattle.operator_cli.specs.declared.heads.StartFault.{StartFault}
 use Rattle.operator_cli.specs.declared.heads.StartFault.TheVariants as start
-use Rattle.operator_cli.specs.declared.lines.Line.{Line}
+use Rattle.history_check.specs.declared.lines.Line.{Line}
 use Rattle.line_streams.specs.declared.reading.End.{End}
 use Rattle.line_streams.specs.declared.reading.End.TheVariants.{LineFeed, Input, Limit}
 use Rattle.operator_cli.specs.declared.script.Judged.{Judged}
 use Rattle.operator_cli.specs.declared.script.Judged.TheVariants as judged
 use Rattle.operator_cli.specs.declared.settings.Settings.{Settings}
 use Rattle.operator_cli.specs.Lines.{line_of}
+use Rattle.operator_cli.specs.Openings.{risen_node, risen_client, all_risen}
 use Rattle.line_streams.specs.Streams.{pieces, KnownLeft, ReadsPiece, AppendsBeginning}
 use Rattle.operator_cli.specs.Settings.{Refuses}
+use Rattle.operator_cli.specs.Texts.{refused_text}
 use Rattle.operator_cli.specs.Outputs.{Told, Output, lines_output, lines_in, head_of, output_of, refusal_output, Writes}
+
+-- The world of the settings in which so many nodes, and so many clients, have risen, the first ones
+-- first, and the others are down.
+abbrev pub rising : Settings → ℕ → ℕ → ExactWorld
+rising s nodes clients = record {
+  ballot = s.ballot;
+  nodes = replicate nodes (risen_node s.problem) ++ replicate (length s.ballot.votes - nodes) (down_node (empty_station s.problem));
+  clients = replicate clients risen_client ++ replicate (s.clients - clients) (down_client 0);
+  sent = [];
+}
+
+-- the messages that are said have numbers that messages can have
+abbrev pub SaidFits : Effect → Type 0
+SaidFits (effect.Said first count) = 0 < count → first + count ≤ MAX_MESSAGES + 1
+SaidFits _ = Unit {0}
+
+-- What a call found of the tickets that a query asks for: these; or that the node isn't there; or
+-- memory was refused, and it is.
+abbrev pub Finds : Option (List Ticket) → Result (Vec Ticket Global) StepFault → Type 0
+Finds there (Ok tickets) = there ≡ Some tickets.items
+Finds there (Err f) = ((f ≡ refusal.UnknownActor) × (there ≡ None)) ⊎ (f ≡ refusal.Memory)
 
 -- What a call added to a text, of what there was to tell; after want of memory nothing is said.
 abbrev pub AddsAnswer : Told → List ℕ → List ℕ → Result Bool ServeFault → ExactWorld → Type 0
 AddsAnswer t old new (Ok refused) w = (new ≡ old ++ t.text) × (refused ≡ t.refused) × (w ≡ t.world)
 AddsAnswer t old new (Err e) w = e ≡ Memory
 
--- The same, written.
+-- The same of a refusal.
+abbrev pub AddsRefusal : StepFault → List ℕ → List ℕ → Result Bool ServeFault → Type 0
+AddsRefusal f old new (Ok refused) = (new ≡ old ++ refused_text (fault_number f)) × (refused ≡ true)
+AddsRefusal f old new (Err e) = e ≡ Memory
+
+-- An answer, written.
 abbrev pub WritesAnswer : Told → Option (List ℕ) → Option (List ℕ) → Result Bool ServeFault → ExactWorld → Type 0
 WritesAnswer t old new (Ok refused) w = Appends old new t.text × (refused ≡ t.refused) × (w ≡ t.world)
 WritesAnswer t old new (Err e) w = AppendsBeginning old new t.text
@@ -91,7 +126,7 @@ IsRefusal settings.Memory o = Unit {0}
 -- their opening; or that they are refused.
 abbrev pub Starts : Option (List ℕ) → Option (List ℕ) → Result Settings StartFault → Type 0
 Starts None new r = Unit {0}
-Starts (Some xs) new (Ok s) = KnownLeft new (λ ys. output_of xs ≡ lines_output (opening s.ballot s.clients) 1 (lines_in (pieces ys)))
+Starts (Some xs) new (Ok s) = KnownLeft new (λ ys. output_of xs ≡ lines_output (all_risen s) 1 (lines_in (pieces ys)))
 Starts (Some xs) new (Err start.Read) = Unit {0}
 Starts (Some xs) new (Err (start.Settings e)) = IsRefusal e (output_of xs)
 

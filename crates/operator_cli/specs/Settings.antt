@@ -1,11 +1,13 @@
 -- Settings: the TOML document that an input begins with, and what it says.
-use Rattle.std.specs.Prelude.{◌≡◌, ℕ, ◌&&◌, Bool, true, nat_le, if◌then◌else◌, List, [], ◌∷◌, ℤ, pos, negsuc, Option, Some, None, option_map, option_and_then, Result, Ok, Err, codes}
+use Rattle.std.specs.Prelude.{◌≡◌, ℕ, ◌&&◌, ◌==◌, Bool, true, nat_le, if◌then◌else◌, List, [], ◌∷◌, ℤ, pos, negsuc, Option, Some, None, option_map, option_and_then, Result, Ok, Err, codes}
 use Rattle.std.specs.List.{list_any}
 use Rattle.std.specs.Option.{ok_or}
 use Rattle.std.specs.Str.{bytes_eq, is_utf8}
 use Rattle.toml.specs.Data.{Items, no_items, item, Members, no_members, member, get_member, as_integer, as_array}
 use Rattle.toml.specs.Parse.{parse_document}
 use Rattle.lock_messages.specs.declared.ids.TheConstants.{MAX_CLIENTS}
+use Rattle.lock_model.specs.declared.problems.Problem.{Problem}
+use Rattle.lock_model.specs.declared.problems.Problem.TheVariants.{First, Second}
 use Rattle.lock_model.specs.Ballots.{Ballot}
 use Rattle.vote_weights.specs.Ballots.{ballot_of}
 use Rattle.vote_weights.specs.Faults.{fault_of, ballot_unless}
@@ -65,17 +67,24 @@ vote_list (item value rest) = put_first (option_and_then (within 0 255) (as_inte
 abbrev pub votes_at : Members → Result (List ℕ) SettingsFault
 votes_at document = ok_or (option_and_then vote_list (option_and_then as_array (get_member (codes "votes") document))) fault.Value
 
-abbrev pub with_ballot : ℕ → Result Ballot BallotFault → Result Settings SettingsFault
-with_ballot clients (Ok b) = Ok (record { ballot = b; clients = clients })
-with_ballot clients (Err f) = Err (fault.Ballot f)
+-- the problem of this number, 1 or 2
+abbrev pub problem_numbered : ℕ → Problem
+problem_numbered number = if number == 1 then First else Second
+
+abbrev pub problem_at : Members → Result Problem SettingsFault
+problem_at document = number_at 1 2 (codes "problem") document >>= (λ number. Ok (problem_numbered number))
+
+abbrev pub with_ballot : Problem → ℕ → Result Ballot BallotFault → Result Settings SettingsFault
+with_ballot problem clients (Ok b) = Ok (record { ballot = b; problem = problem; clients = clients })
+with_ballot problem clients (Err f) = Err (fault.Ballot f)
 
 -- Each value is needed: the votes of each node, how many a read and a write need, the problem that
--- each node solves, which is 1 so far, and how many clients there are.
+-- all nodes solve, 1 or 2, and how many clients there are.
 unfoldable pub values_of : Members → Result Settings SettingsFault
 values_of document =
     votes_at document >>= (λ votes. number_at 0 65535 (codes "read") document >>= (λ read. number_at 0 65535 (codes "write") document >>= (λ write.
-    number_at 1 1 (codes "problem") document >>= (λ problem. number_at 1 MAX_CLIENTS (codes "clients") document >>= (λ clients.
-    let b = ballot_of votes read write in with_ballot clients (ballot_unless (fault_of b) b))))))
+    problem_at document >>= (λ problem. number_at 1 MAX_CLIENTS (codes "clients") document >>= (λ clients.
+    let b = ballot_of votes read write in with_ballot problem clients (ballot_unless (fault_of b) b))))))
 
 abbrev pub document_settings : Option Members → Result Settings SettingsFault
 document_settings None = Err fault.NoDocument

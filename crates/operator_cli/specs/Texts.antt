@@ -7,8 +7,12 @@ use Rattle.lock_messages.specs.declared.messages.Message.{Message}
 use Rattle.lock_messages.specs.declared.tickets.Ticket.{Ticket}
 use Rattle.lock_model.specs.declared.hearing.Heard.{Heard}
 use Rattle.lock_model.specs.declared.hearing.Heard.TheVariants as heard
-use Rattle.world_machine.specs.Events.{Outcome, Chose, Tried, WasKept, Sent, Said, Took, HeardIt, Inside, Outside, Fell, Rose}
-use Rattle.world_machine.specs.ExactWorlds.{numbered}
+use Rattle.history_check.specs.declared.lines.Line.TheVariants as line
+use Rattle.history_check.specs.declared.lines.Query.{Query}
+use Rattle.history_check.specs.Lines.{text_of}
+use Rattle.world_model.specs.declared.events.Effect.{Effect}
+use Rattle.world_model.specs.declared.events.Effect.TheVariants as effect
+use Rattle.world_model.specs.ExactWorlds.{numbered}
 
 -- `sent 2 grant n1 c1 1 read a`
 abbrev pub sent_text : ℕ → Message → List ℕ
@@ -35,18 +39,18 @@ heard_text heard.Done = codes "done\n"
 heard_text heard.NotMine = codes "not mine\n"
 
 -- what an event prints, given the messages that were sent up to its end
-abbrev pub outcome_text : List Message → Outcome → List ℕ
-outcome_text sent (Chose a) = codes "chose " ++ decimal a ++ codes "\n"
-outcome_text sent Tried = codes "tried\n"
-outcome_text sent WasKept = codes "kept\n"
-outcome_text sent (Sent k m) = sent_text k m
-outcome_text sent (Said first count) = said_text sent first count
-outcome_text sent (Took m changed) = took_text changed
-outcome_text sent (HeardIt m heard) = heard_text heard
-outcome_text sent Inside = codes "inside\n"
-outcome_text sent Outside = codes "outside\n"
-outcome_text sent Fell = codes "down\n"
-outcome_text sent Rose = codes "up\n"
+abbrev pub effect_text : List Message → Effect → List ℕ
+effect_text sent (effect.Chose a) = codes "chose " ++ decimal a ++ codes "\n"
+effect_text sent effect.Tried = codes "tried\n"
+effect_text sent effect.Kept = codes "kept\n"
+effect_text sent (effect.Sent k m) = sent_text k m
+effect_text sent (effect.Said first count) = said_text sent first count
+effect_text sent (effect.Took m changed) = took_text changed
+effect_text sent (effect.Heard m heard) = heard_text heard
+effect_text sent effect.Inside = codes "inside\n"
+effect_text sent effect.Outside = codes "outside\n"
+effect_text sent effect.Down = codes "down\n"
+effect_text sent effect.Up = codes "up\n"
 
 -- `refused 609`
 abbrev pub refused_text : ℕ → List ℕ
@@ -65,9 +69,9 @@ abbrev pub members_text : List Ticket → List ℕ
 members_text [] = codes "nobody"
 members_text (t ∷ ts) = member_text t ++ flat_map other_text ts
 
--- `inside a: c1 read`
-abbrev pub inside_text : List ℕ → List Ticket → List ℕ
-inside_text x ts = codes "inside " ++ x ++ codes ": " ++ members_text ts ++ codes "\n"
+-- `waiting n1 a: c1 read`: the query again, and the tickets that it asks for
+abbrev pub answer_text : Query → List Ticket → List ℕ
+answer_text q ts = text_of (line.Query q) ++ codes ": " ++ members_text ts ++ codes "\n"
 
 -- `line 3 fault 805`
 abbrev pub line_fault_text : ℕ → ℕ → List ℕ

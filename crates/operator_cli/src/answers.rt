@@ -1,31 +1,37 @@
 // What one line of a script does, and what it prints.
 
 ghost use Rattle.std.specs.Prelude.{string_bytes};
-ghost use Rattle.world_machine.specs.Events.{action_of};
-ghost use Rattle.world_machine.specs.ExactWorlds.{step};
-ghost use Rattle.operator_cli.specs.Outputs.{told, told_step};
-ghost use Rattle.operator_cli.specs.PartOutputs.{AddsAnswer};
+ghost use Rattle.world_model.specs.ExactWorlds.{step};
+ghost use Rattle.operator_cli.specs.Outputs.{found, told, told_step, told_query};
+ghost use Rattle.operator_cli.specs.PartOutputs.{AddsAnswer, AddsRefusal, Finds};
 
 use crate::ServeFault;
-use crate::lines::Line;
-use crate::texts::{push_effect, push_inside, push_refused};
-use lock_messages::ResourceName;
-use world_machine::laws::said_numbers_fit;
-use world_machine::{Event, StepFault, World};
+use crate::texts::{push_answer, push_effect, push_refused};
+use history_check::{Line, Query};
+use lock_messages::Ticket;
+use std::alloc::Global;
+use world_model::laws::said_numbers_fit;
+use world_model::{Event, StepFault};
+use world_service::World;
+
+/// Adds that an event or a query is refused, and answers so.
+fn refuse(text: &mut String, fault: StepFault) -> Result<bool, ServeFault>
+    ensures { AddsRefusal fault (string_bytes text.old) (string_bytes text.new) result }
+{
+    if push_refused(text, fault.number()).is_err() {
+        return Err(ServeFault::Memory);
+    }
+    Ok(true)
+}
 
 /// Takes an event.
 fn take_event(world: &mut World, event: &Event, text: &mut String) -> Result<bool, ServeFault>
-    ensures { AddsAnswer (told_step world.old (step world.old (action_of event.now))) (string_bytes text.old) (string_bytes text.new) result world.new }
+    ensures { AddsAnswer (told_step world.old (step world.old event.now)) (string_bytes text.old) (string_bytes text.new) result world.new }
 {
     said_numbers_fit();
     match world.step(event) {
         Err(StepFault::Memory) => Err(ServeFault::Memory),
-        Err(fault) => {
-            if push_refused(text, fault.number()).is_err() {
-                return Err(ServeFault::Memory);
-            }
-            Ok(true)
-        }
+        Err(fault) => refuse(text, fault),
         Ok(effect) => {
             if push_effect(text, world, &effect).is_err() {
                 return Err(ServeFault::Memory);
@@ -35,26 +41,45 @@ fn take_event(world: &mut World, event: &Event, text: &mut String) -> Result<boo
     }
 }
 
-/// Who is inside the resource.
-fn ask_inside(world: &World, resource: &ResourceName, text: &mut String) -> Result<bool, ServeFault>
-    ensures { AddsAnswer (told world.now (Line.Inside resource.now)) (string_bytes text.old) (string_bytes text.new) result world.now }
+/// The tickets that a query asks for.
+fn find(world: &World, query: &Query) -> Result<Vec<Ticket>, StepFault>
+    ensures { Finds (found query.now world.now) result }
 {
-    let Ok(tickets) = world.inside(resource) else {
-        return Err(ServeFault::Memory);
-    };
-    if push_inside(text, resource, tickets.as_slice()).is_err() {
-        return Err(ServeFault::Memory);
+    match *query {
+        Query::Inside(name) => world.inside(&name),
+        Query::Waiting(node, name) => world.waiting(node, &name),
+        Query::Holding(node, name) => world.holding(node, &name),
     }
-    Ok(false)
+}
+
+/// Answers a query.
+fn ask(alloc: Global, world: &World, query: &Query, text: &mut String) -> Result<bool, ServeFault>
+    ensures { AddsAnswer (told_query world.now query.now (found query.now world.now)) (string_bytes text.old) (string_bytes text.new) result world.now }
+{
+    match find(world, query) {
+        Err(StepFault::UnknownActor) => refuse(text, StepFault::UnknownActor),
+        Err(_) => Err(ServeFault::Memory),
+        Ok(tickets) => {
+            if push_answer(alloc, text, query, tickets.as_slice()).is_err() {
+                return Err(ServeFault::Memory);
+            }
+            Ok(false)
+        }
+    }
 }
 
 /// Does what a line says, adds what it prints, and answers whether it was refused. The only fault is
 /// want of memory.
-pub fn answer_line(world: &mut World, line: &Line, text: &mut String) -> Result<bool, ServeFault>
+pub fn answer_line(
+    alloc: Global,
+    world: &mut World,
+    line: &Line,
+    text: &mut String,
+) -> Result<bool, ServeFault>
     ensures { AddsAnswer (told world.old line.now) (string_bytes text.old) (string_bytes text.new) result world.new }
 {
     match line {
         Line::Event(event) => take_event(world, event, text),
-        Line::Inside(resource) => ask_inside(world, resource, text),
+        Line::Query(query) => ask(alloc, world, query, text),
     }
 }

@@ -1,26 +1,29 @@
 //! What the operator's program does: from the bytes that come in to the bytes that go out.
 //!
 //! An input begins with settings in TOML, which a line `---` ends; behind it each line is an event
-//! of a world of voting nodes and clients, or the query who is inside a resource. `serve` takes the
-//! events one after another, prints what each did or why it was refused, and answers the status of
-//! the program.
+//! of a world of voting nodes and clients, or a query: who is inside a resource, and who waits for a
+//! node's vote or holds it. Every actor is up at first. `serve` takes the events one after another,
+//! prints what each did or why it was refused, and answers the status of the program.
 //!
 //! The crate promises that what `serve` writes is, byte for byte, a stated function of the bytes
 //! that it reads, and so is the status; after a fault a beginning of that output was written. The
-//! function stands in `specs/`: `Lines` (what a line, as `history_check` reads it, says to the world
-//! behind the script), `Settings` (what a TOML document says, and what is wrong with it), `Texts`
-//! (how effects are written) and `Outputs`, which puts them together over the exact world of
-//! `world_machine` (`output_of`). Want of memory alone may put `settings fault 925` in its place. The
-//! input is streamed: beside the world, the settings and one line are all that is kept of it.
+//! function stands in `specs/`: `Lines` (what a line says, as `history_check` reads it), `Settings`
+//! (what a TOML document says, and what is wrong with it), `Openings` (the world at the first line),
+//! `Texts` (how effects and answers are written) and `Outputs`, which puts them together over the
+//! exact world of `world_model` (`output_of`). Want of memory alone may put `settings fault 925` in its
+//! place. The input is streamed: beside the world, the settings and one line are all that is kept of
+//! it. The policies by which nodes decide are the caller's.
 //!
 //! It stands on `line_streams`, `history_check`, `lock_messages`, `lock_model`, `vote_weights`,
-//! `world_model`, `world_machine`, `toml` and `thiserror`.
+//! `admission_policy`, `world_model`, `world_service`, `toml` and `thiserror`.
 #![tactic(auto)]
 
 mod answers;
 mod faults;
 mod heads;
 mod lines;
+mod orders;
+mod raising;
 mod script;
 mod serving;
 mod settings;
@@ -28,4 +31,5 @@ mod texts;
 
 pub use faults::{ServeFault, SettingsFault};
 pub use history_check::LineFault;
-pub use serving::{Order, serve};
+pub use orders::{Command, Order, Policies};
+pub use serving::serve;

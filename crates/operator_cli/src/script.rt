@@ -11,13 +11,14 @@ ghost use Rattle.operator_cli.specs.PartOutputs.{WritesAnswer, WritesLines, judg
 ghost use Rattle.operator_cli.specs.Texts.{line_fault_text};
 
 use crate::answers::answer_line;
-use crate::lines::{Line, MAX_LINE_LEN, read_line};
+use crate::lines::read_line;
 use crate::texts::push_line_fault;
 use crate::{LineFault, ServeFault};
+use history_check::{Line, MAX_LINE_LEN};
 use line_streams::{End, Gathered, LineReader, StreamFault};
 use std::alloc::Global;
 use std::io::{Read, Write};
-use world_machine::World;
+use world_service::World;
 
 /// What a piece of the input says.
 #[derive(Clone, Copy, Debug, PartialEq, Eq)]
@@ -88,6 +89,7 @@ fn put<W: Write>(out: &mut Gathered, writer: &mut W, text: &[u8]) -> Result<(), 
 
 /// Does what a line says and prints it; answers whether it was refused.
 fn tell<W: Write>(
+    alloc: Global,
     world: &mut World,
     line: &Line,
     text: &mut String,
@@ -98,7 +100,7 @@ fn tell<W: Write>(
     ensures grows { Grows (W.contents writer.old) (W.contents writer.new) }
 {
     text.clear();
-    let refused = answer_line(world, line, text)?;
+    let refused = answer_line(alloc, world, line, text)?;
     put(out, writer, text.as_bytes())?;
     Ok(refused)
 }
@@ -193,7 +195,7 @@ pub fn tell_lines<R: Read, W: Write>(
             Judged::Bad(fault) => return tell_fault(number, fault, &mut text, out, writer),
             Judged::Says(line) => line,
         };
-        let now_refused = match tell(world, &line, &mut text, out, writer) {
+        let now_refused = match tell(alloc, world, &line, &mut text, out, writer) {
             Ok(now_refused) => now_refused,
             Err(fault) => return Err(fault),
         };

@@ -1,6 +1,8 @@
 // A whole run of the program, from the bytes that come in to the bytes that go out.
 
-ghost use Rattle.std.specs.Prelude.{◌≡◌};
+ghost use Rattle.std.specs.Prelude.{◌≡◌, map, replicate};
+ghost use Rattle.lock_messages.specs.declared.ids.TheConstants.{MAX_NODES};
+ghost use Rattle.lock_model.specs.declared.problems.Problem.TheVariants.{First, Second};
 ghost use Rattle.vote_weights.specs.Faults.{fault_number};
 ghost use Rattle.operator_cli.specs.Faults.{settings_fault_number};
 ghost use Rattle.operator_cli.specs.Outputs.{Serves, Writes, refusal_output};
@@ -8,20 +10,15 @@ ghost use Rattle.operator_cli.specs.PartOutputs.{WritesLines, Finishes, RefusesS
 ghost use Rattle.operator_cli.specs.Texts.{settings_fault_text};
 
 use crate::heads::{StartFault, read_start};
+use crate::orders::chosen;
+use crate::raising::raise_all;
 use crate::script::tell_lines;
-use crate::{ServeFault, SettingsFault};
+use crate::{Command, Order, Policies, ServeFault, SettingsFault};
 use line_streams::{Gathered, LineReader, MAX_READS, write_text};
 use std::alloc::Global;
 use std::io::{Read, Write};
 use vote_weights::BallotFault;
-use world_machine::World;
-
-/// What the program is asked to do.
-#[derive(Clone, Copy, Debug, PartialEq, Eq)]
-pub enum Order {
-    /// To take the events of a script, and to answer its queries.
-    Script,
-}
+use world_service::World;
 
 /// That numbers make no ballot.
 fn ballot_text(fault: BallotFault) -> &'static str
@@ -108,11 +105,14 @@ fn serve_lines<R: Read, W: Write>(
 /// Runs a script.
 fn serve_script<R: Read, W: Write>(
     alloc: Global,
+    policies: Policies,
     reader: R,
     writer: &mut W,
 ) -> Result<u8, ServeFault>
 where
     R: Drop,
+    requires first { map problem_of policies.first.items ≡ replicate MAX_NODES First }
+    requires second { map problem_of policies.second.items ≡ replicate MAX_NODES Second }
     ensures { Serves (R.remaining reader) (W.contents writer.old) (W.contents writer.new) result }
 {
     let mut source = LineReader::new(reader, MAX_READS);
@@ -120,24 +120,32 @@ where
         Ok(settings) => settings,
         Err(fault) => return refuse_start(fault, writer),
     };
-    let Ok(mut world) = World::start(alloc, settings.ballot, settings.clients) else {
+    let policies = chosen(policies, settings.problem, settings.ballot.nodes());
+    let Ok(mut world) = World::start(alloc, settings.ballot, settings.clients, policies) else {
         return Err(ServeFault::Memory);
     };
+    if raise_all(&mut world, &settings).is_err() {
+        return Err(ServeFault::Memory);
+    }
     serve_lines(alloc, &mut world, &mut source, writer)
 }
 
 /// Does what the order says with the bytes of the reader, and answers the status of the program.
 ///
 /// The bytes begin with settings, a TOML document with the keys `votes`, `read`, `write`, `problem`
-/// and `clients`. The first line that is exactly `---` ends them. Each line behind it is an event or
-/// the query `inside NAME`, and prints its effect, one line for each reply that a node says, or
-/// `refused N`; a line that is neither prints `line L fault N` (lines count from 1) and is the last.
-/// Refused settings print `settings fault N` and nothing else. The status is 0; 1 where an event was
-/// refused or a line was bad; 2 where the settings were refused.
+/// and `clients`. The first line that is exactly `---` ends them. Every node and then every client
+/// rises with nothing kept, which prints nothing. Each line behind the settings is an event, which
+/// prints its effect, one line for each reply that a node says, or `refused N`; or a query, `inside
+/// NAME`, `waiting nN NAME` or `holding nN NAME`, which prints the tickets, or `refused 601` for a node
+/// that isn't there. A line that is neither prints `line L fault N` (lines count from 1) and is the
+/// last. Refused settings print `settings fault N` and nothing else. The status is 0; 1 where an event
+/// or a query was refused or a line was bad; 2 where the settings were refused.
 ///
 /// Contracts speak of what the reader has left and of what the writer holds, where these are known.
 /// What is written is the output of the bytes that were left, or `settings fault 925` where memory
-/// was refused for the settings. The caller owes nothing. The texts are our own.
+/// was refused for the settings. The caller owes policies of the right problems: sixteen that solve
+/// problem 1 and sixteen that solve problem 2. The nodes get, in order, the first of those that solve
+/// the settings' problem; the others are dropped. The texts are our own.
 ///
 /// # Errors
 ///
@@ -152,9 +160,12 @@ pub fn serve<R: Read, W: Write>(
 ) -> Result<u8, ServeFault>
 where
     R: Drop,
+    requires first { map problem_of order.policies.first.items ≡ replicate MAX_NODES First }
+    requires second { map problem_of order.policies.second.items ≡ replicate MAX_NODES Second }
     ensures output { Serves (R.remaining reader) (W.contents writer.old) (W.contents writer.new) result }
 {
-    match order {
-        Order::Script => serve_script(alloc, reader, writer),
+    let Order { command, policies } = order;
+    match command {
+        Command::Script => serve_script(alloc, policies, reader, writer),
     }
 }

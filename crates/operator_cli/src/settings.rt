@@ -7,19 +7,22 @@ ghost use Rattle.std.specs.Option.{ok_or};
 ghost use Rattle.lock_messages.specs.declared.ids.TheConstants.{MAX_CLIENTS};
 ghost use Rattle.toml.specs.Data.{as_integer, get_member};
 ghost use Rattle.toml.specs.View.{view, items_view, table_view};
-ghost use Rattle.operator_cli.specs.Settings.{Judges, is_known, all_known, within, number_at, vote_list, votes_at, values_of, settings_of};
+ghost use Rattle.operator_cli.specs.Settings.{Judges, is_known, all_known, within, number_at, vote_list, votes_at, problem_numbered, problem_at, values_of, settings_of};
 
 use crate::SettingsFault;
 use lock_messages::MAX_CLIENTS;
+use lock_model::Problem;
 use std::alloc::Global;
 use std::str;
 use toml::{Table, Value};
 use vote_weights::Ballot;
 
-/// What settings say: the ballot, and how many clients there are, 1 to 1,024.
+/// What settings say: the ballot, the problem that all nodes solve, and how many clients there are, 1
+/// to 1,024.
 #[derive(Clone, Copy, Debug, PartialEq, Eq)]
 pub struct Settings {
     pub ballot: Ballot,
+    pub problem: Problem,
     pub clients: u16,
 }
 
@@ -110,6 +113,25 @@ fn votes_at(alloc: Global, table: &Table) -> Result<Vec<u8>, SettingsFault>
     }
 }
 
+/// The problem of this number.
+fn problem_numbered(number: u16) -> Problem
+    ensures { result ≡ problem_numbered number }
+{
+    if number == 1 {
+        Problem::First
+    } else {
+        Problem::Second
+    }
+}
+
+/// The problem that all nodes solve.
+fn problem_at(table: &Table) -> Result<Problem, SettingsFault>
+    ensures { Judges (λ p. p) result (problem_at (table_view table.now)) }
+{
+    let number = number_at(table, "problem", 1, 2)?;
+    Ok(problem_numbered(number))
+}
+
 /// What the values say.
 #[tactic(auto, unfolding(crate::specs::Settings::values_of))]
 fn values_of(alloc: Global, table: &Table) -> Result<Settings, SettingsFault>
@@ -119,10 +141,14 @@ fn values_of(alloc: Global, table: &Table) -> Result<Settings, SettingsFault>
     let votes = votes_at(alloc, table)?;
     let read = number_at(table, "read", 0, u16::MAX)?;
     let write = number_at(table, "write", 0, u16::MAX)?;
-    number_at(table, "problem", 1, 1)?;
+    let problem = problem_at(table)?;
     let clients = number_at(table, "clients", 1, MAX_CLIENTS as u16)?;
     match Ballot::of(votes.as_slice(), read, write) {
-        Ok(ballot) => Ok(Settings { ballot, clients }),
+        Ok(ballot) => Ok(Settings {
+            ballot,
+            problem,
+            clients,
+        }),
         Err(fault) => Err(SettingsFault::Ballot(fault)),
     }
 }

@@ -2,15 +2,17 @@
 
 ghost use Rattle.std.specs.Prelude.{◌≡◌, ◌+◌, ◌<◌, ◌≤◌, ◌++◌, OnOk, string_bytes};
 ghost use Rattle.std.specs.List.{flat_map};
-ghost use Rattle.world_machine.specs.Events.{outcome_of};
-ghost use Rattle.world_machine.specs.Numbers.{SaidFits};
-ghost use Rattle.operator_cli.specs.Texts.{sent_text, found_text, said_text, took_text, heard_text, outcome_text, refused_text, member_text, other_text, members_text, inside_text, line_fault_text};
-ghost use Rattle.world_machine.specs.ExactWorlds.{numbered};
+ghost use Rattle.operator_cli.specs.PartOutputs.{SaidFits};
+ghost use Rattle.operator_cli.specs.Texts.{sent_text, found_text, said_text, took_text, heard_text, effect_text, refused_text, member_text, other_text, members_text, answer_text, line_fault_text};
+ghost use Rattle.world_model.specs.declared.TheConstants.{MAX_MESSAGES};
+ghost use Rattle.world_model.specs.ExactWorlds.{numbered};
 
-use lock_messages::{Message, ResourceName, Ticket};
+use history_check::{Line, Query, write_line};
+use lock_messages::{Message, Ticket};
 use lock_model::Heard;
-use std::alloc::AllocError;
-use world_machine::{Effect, MAX_MESSAGES, World};
+use std::alloc::{AllocError, Global};
+use world_model::Effect;
+use world_service::World;
 
 /// Adds the line of a message that was sent.
 fn push_sent(text: &mut String, number: u32, message: &Message) -> Result<(), AllocError>
@@ -60,8 +62,8 @@ pub(crate) fn push_effect(
     world: &World,
     effect: &Effect,
 ) -> Result<(), AllocError>
-    requires { SaidFits (outcome_of effect.now) }
-    ensures { OnOk result (string_bytes text.new ≡ string_bytes text.old ++ outcome_text world.now.sent (outcome_of effect.now)) }
+    requires { SaidFits effect.now }
+    ensures { OnOk result (string_bytes text.new ≡ string_bytes text.old ++ effect_text world.now.sent effect.now) }
 {
     match *effect {
         Effect::Chose(attempt) => writeln!(text, "chose {attempt}"),
@@ -74,6 +76,8 @@ pub(crate) fn push_effect(
         Effect::Heard(_, heard) => text.push_str(heard_text(heard)),
         Effect::Inside => text.push_str("inside\n"),
         Effect::Outside => text.push_str("outside\n"),
+        Effect::Down => text.push_str("down\n"),
+        Effect::Up => text.push_str("up\n"),
     }
 }
 
@@ -84,7 +88,7 @@ pub fn push_refused(text: &mut String, number: u16) -> Result<(), AllocError>
     writeln!(text, "refused {number}")
 }
 
-/// Adds a client that is inside.
+/// Adds a ticket of a list.
 fn push_member(text: &mut String, ticket: &Ticket) -> Result<(), AllocError>
     ensures { OnOk result (string_bytes text.new ≡ string_bytes text.old ++ member_text ticket.now) }
 {
@@ -92,7 +96,7 @@ fn push_member(text: &mut String, ticket: &Ticket) -> Result<(), AllocError>
     write!(text, "{client} {mode}")
 }
 
-/// Adds the clients that are inside beside the first one.
+/// Adds the tickets of a list behind the first one.
 fn push_others(text: &mut String, tickets: &[Ticket]) -> Result<(), AllocError>
     ensures { OnOk result (string_bytes text.new ≡ string_bytes text.old ++ flat_map other_text tickets.now) }
 {
@@ -103,7 +107,7 @@ fn push_others(text: &mut String, tickets: &[Ticket]) -> Result<(), AllocError>
     Ok(())
 }
 
-/// Adds the clients that are inside.
+/// Adds the tickets of a list, or that there are none.
 fn push_members(text: &mut String, tickets: &[Ticket]) -> Result<(), AllocError>
     ensures { OnOk result (string_bytes text.new ≡ string_bytes text.old ++ members_text tickets.now) }
 {
@@ -114,15 +118,17 @@ fn push_members(text: &mut String, tickets: &[Ticket]) -> Result<(), AllocError>
     push_others(text, others)
 }
 
-/// Adds who is inside the resource.
-pub fn push_inside(
+/// Adds the query again, and the tickets that it asks for.
+pub fn push_answer(
+    alloc: Global,
     text: &mut String,
-    resource: &ResourceName,
+    query: &Query,
     tickets: &[Ticket],
 ) -> Result<(), AllocError>
-    ensures { OnOk result (string_bytes text.new ≡ string_bytes text.old ++ inside_text resource.now tickets.now) }
+    ensures { OnOk result (string_bytes text.new ≡ string_bytes text.old ++ answer_text query.now tickets.now) }
 {
-    write!(text, "inside {resource}: ")?;
+    let asked = write_line(alloc, &Line::Query(*query))?;
+    write!(text, "{asked}: ")?;
     push_members(text, tickets)?;
     text.push_str("\n")
 }

@@ -18,8 +18,14 @@ fn first_words(rt: HostRuntime) -> Outcome {
 }
 
 #[test]
-fn modes(rt: HostRuntime) -> Outcome {
-    let lines = ["begin c1 reed A", "begin c1 Read a", "begin c1  a"];
+fn modes_and_ages(rt: HostRuntime) -> Outcome {
+    let lines = [
+        "begin c1 reed A",
+        "begin c1 Read a",
+        "begin c1  a",
+        "rise n1 New",
+        "rise c1 ",
+    ];
     each_is_bad(rt.alloc(), 801, &lines)
 }
 
@@ -37,6 +43,10 @@ fn numbers_of_words(rt: HostRuntime) -> Outcome {
         "inside a b",
         "take n1",
         "say n1 1",
+        "fall",
+        "rise n1",
+        "waiting a",
+        "holding n1 a b",
     ];
     each_is_bad(rt.alloc(), 805, &lines)
 }
@@ -60,6 +70,10 @@ fn actors(rt: HostRuntime) -> Outcome {
         "leave n1",
         "enter c1\r",
         "say n1x",
+        "fall a",
+        "rise n01 old",
+        "waiting c1 a",
+        "holding a n1",
     ];
     each_is_bad(rt.alloc(), 802, &lines)
 }
@@ -86,6 +100,8 @@ fn names(rt: HostRuntime) -> Outcome {
         "begin c1 read a\r",
         "inside a_b",
         "inside ",
+        "waiting n1 A",
+        "holding n1 ",
         "inside a23456789012345678901234567890123",
     ];
     each_is_bad(rt.alloc(), 804, &lines)

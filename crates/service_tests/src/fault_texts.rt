@@ -5,7 +5,7 @@ use operator_cli::{LineFault, ServeFault, SettingsFault};
 use std::alloc::Global;
 use std::fmt::Display;
 use vote_weights::BallotFault;
-use world_machine::StepFault;
+use world_model::StepFault;
 
 /// Whether the number and the text of a fault are written so.
 fn tells<F: Display + Drop>(alloc: Global, number: u16, fault: F, text: &str) -> Outcome {

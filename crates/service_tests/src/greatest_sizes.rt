@@ -2,12 +2,12 @@
 // be, and inputs of many reads.
 
 use crate::outcomes::{Failure, Outcome, check};
-use crate::playing::{plays, served};
-use operator_cli::{Order, ServeFault, serve};
+use crate::playing::{plays, serve_script, served};
+use operator_cli::ServeFault;
 use std::alloc::Global;
 use std::io;
 use std::io::{Read, Write};
-use world_machine::MAX_MESSAGES;
+use world_model::MAX_MESSAGES;
 
 /// A script, and what it prints.
 #[derive(Drop)]
@@ -186,7 +186,7 @@ fn all_messages(rt: HostRuntime) -> Outcome {
         last: [0; 12],
     };
     let reader = reader_of(b"sayto c1 n1\n", MAX_MESSAGES + 1);
-    let ended = serve(rt.alloc(), Order::Script, reader, &mut out);
+    let ended = serve_script(rt.alloc(), reader, &mut out);
     if ended == Err(ServeFault::Memory) || ended == Ok(2) {
         return Err(Failure::Memory);
     }

@@ -19,9 +19,9 @@ mod greatest_sizes;
 #[cfg(test)]
 mod outcomes;
 #[cfg(test)]
-mod parsing;
-#[cfg(test)]
 mod playing;
+#[cfg(test)]
+mod restarts;
 #[cfg(test)]
 mod scripts;
 #[cfg(test)]

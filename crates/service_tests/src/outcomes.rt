@@ -2,7 +2,7 @@
 
 use std::alloc::{AllocError, AllocFailed};
 use std::fmt;
-use world_machine::StepFault;
+use world_model::StepFault;
 
 /// Why a test ended: memory was refused, or something is wrong; in a table, in the row of this number,
 /// counted from 0.

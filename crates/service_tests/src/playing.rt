@@ -1,18 +1,49 @@
 // Running a script through `serve`.
 
 use crate::outcomes::{Failure, Outcome, check_row};
-use operator_cli::{Order, ServeFault, serve};
+use admission_policy::{Admission, FirstProblem, SecondProblem};
+use lock_messages::MAX_NODES;
+use operator_cli::{Command, Order, Policies, ServeFault, serve};
 use std::alloc::Global;
-use std::io::Read;
+use std::io::{Read, Write};
 
 /// Settings of three nodes with a vote each, of which two read and two write, and four clients.
 const SETTINGS: &str = "votes = [1, 1, 1]\nread = 2\nwrite = 2\nproblem = 1\nclients = 4\n---\n";
+
+/// Serves the script that a reader gives.
+pub(crate) fn serve_script<R: Read + Drop, W: Write>(
+    alloc: Global,
+    reader: R,
+    writer: &mut W,
+) -> Result<u8, ServeFault> {
+    let mut first: Vec<Box<dyn Admission + Send>> = Vec::new(alloc);
+    let mut second: Vec<Box<dyn Admission + Send>> = Vec::new(alloc);
+    for _ in 0..MAX_NODES {
+        let Ok(policy) = Box::new(alloc, FirstProblem) else {
+            return Err(ServeFault::Memory);
+        };
+        let Ok(()) = first.push(policy) else {
+            return Err(ServeFault::Memory);
+        };
+        let Ok(policy) = Box::new(alloc, SecondProblem) else {
+            return Err(ServeFault::Memory);
+        };
+        let Ok(()) = second.push(policy) else {
+            return Err(ServeFault::Memory);
+        };
+    }
+    let order = Order {
+        command: Command::Script,
+        policies: Policies { first, second },
+    };
+    serve(alloc, order, reader, writer)
+}
 
 /// What the bytes of a reader print, and the status. A `Vec` takes what is written unless memory is
 /// refused.
 pub(crate) fn served<R: Read + Drop>(alloc: Global, reader: R) -> Result<(Vec<u8>, u8), Failure> {
     let mut out = Vec::new(alloc);
-    match serve(alloc, Order::Script, reader, &mut out) {
+    match serve_script(alloc, reader, &mut out) {
         Ok(2) if out.as_slice() == b"settings fault 925\n".as_slice() => Err(Failure::Memory),
         Ok(status) => Ok((out, status)),
         Err(ServeFault::Memory | ServeFault::Write) => Err(Failure::Memory),

@@ -1,8 +1,8 @@
 // Readers that give little, inputs that are cut, and readers and writers that fail.
 
 use crate::outcomes::{Failure, Outcome, check, check_row};
-use crate::playing::served;
-use operator_cli::{Order, ServeFault, serve};
+use crate::playing::{serve_script, served};
+use operator_cli::ServeFault;
 use std::alloc::Global;
 use std::io;
 use std::io::{Error, ErrorKind, Read, Write};
@@ -73,7 +73,7 @@ const READS: u32 = 24;
 fn fails_to_read(alloc: Global, reads: u32) -> Outcome {
     let mut out = Vec::new(alloc);
     let reader = sips_of(SCRIPT.as_bytes(), 7, reads);
-    match serve(alloc, Order::Script, reader, &mut out) {
+    match serve_script(alloc, reader, &mut out) {
         Err(ServeFault::Memory | ServeFault::Write) => Err(Failure::Memory),
         Err(ServeFault::Read) => { check(reads <= READS && EXPECTED.as_bytes().starts_with(&out)) }
         Ok(2) => Err(Failure::Memory),
@@ -122,7 +122,7 @@ fn writes_all(alloc: Global, most: usize, writes: u32) -> Result<bool, Failure> 
         most,
         writes,
     };
-    let ended = serve(alloc, Order::Script, SCRIPT.as_bytes(), &mut out);
+    let ended = serve_script(alloc, SCRIPT.as_bytes(), &mut out);
     if ended == Err(ServeFault::Memory) || ended == Ok(2) {
         return Err(Failure::Memory);
     }

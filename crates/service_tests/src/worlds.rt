@@ -3,21 +3,54 @@
 // A table has an event and what it does on each line.
 
 use crate::outcomes::{Failure, Outcome, check, check_row};
-use crate::parsing::{event, resource};
+use admission_policy::{Admission, FirstProblem};
+use history_check::read_event;
+use lock_messages::ResourceName;
 use std::alloc::Global;
 use vote_weights::Ballot;
-use world_machine::{Effect, Event, MAX_MESSAGES, StepFault, World};
+use world_model::{Effect, Event, MAX_MESSAGES, StepFault};
+use world_service::World;
 
-/// A world of nodes with these votes, and of four clients.
+fn resource(name: &str) -> Result<ResourceName, Failure> {
+    ResourceName::of(name.as_bytes()).ok_or(Failure::Wrong(0))
+}
+
+/// The event that a row of a table spells.
+fn event(row: &str) -> Option<Event> {
+    let Ok(event) = read_event(row.as_bytes()) else {
+        return None;
+    };
+    Some(event)
+}
+
+/// A world of nodes with these votes that solve problem 1, and of four clients, all down.
 fn world(alloc: Global, votes: &[u8], read: u16, write: u16) -> Result<World, Failure> {
-    match Ballot::of(votes, read, write) {
-        Ok(ballot) => Ok(World::start(alloc, ballot, 4)?),
-        Err(_) => Err(Failure::Wrong(0)),
+    let Ok(ballot) = Ballot::of(votes, read, write) else {
+        return Err(Failure::Wrong(0));
+    };
+    let mut policies: Vec<Box<dyn Admission + Send>> = Vec::new(alloc);
+    for _ in 0..ballot.nodes() {
+        policies.push(Box::new(alloc, FirstProblem)?)?;
+    }
+    match World::start(alloc, ballot, 4, policies) {
+        Ok(world) => Ok(world),
+        Err(_) => Err(Failure::Memory),
     }
 }
 
-fn three_nodes(alloc: Global) -> Result<World, Failure> {
-    world(alloc, &[1, 1, 1], 2, 2)
+const RISE: &str = "\
+rise n1 old > up
+rise n2 old > up
+rise n3 old > up
+rise c1 old > up
+rise c2 old > up
+rise c3 old > up
+rise c4 old > up";
+
+pub(crate) fn three_nodes(alloc: Global) -> Result<World, Failure> {
+    let mut world = world(alloc, &[1, 1, 1], 2, 2)?;
+    play(alloc, &mut world, RISE)?;
+    Ok(world)
 }
 
 /// What a step did, as text.
@@ -35,6 +68,8 @@ fn text(alloc: Global, did: &Result<Effect, StepFault>) -> Result<String, Failur
         Ok(Effect::Kept) => text.push_str("kept")?,
         Ok(Effect::Inside) => text.push_str("inside")?,
         Ok(Effect::Outside) => text.push_str("outside")?,
+        Ok(Effect::Down) => text.push_str("down")?,
+        Ok(Effect::Up) => text.push_str("up")?,
     }
     Ok(text)
 }
@@ -55,7 +90,7 @@ fn step(alloc: Global, world: &mut World, row: &str) -> Result<Option<bool>, Fai
     Ok(Some(told.as_str() == effect))
 }
 
-fn play(alloc: Global, world: &mut World, table: &str) -> Outcome {
+pub(crate) fn play(alloc: Global, world: &mut World, table: &str) -> Outcome {
     for (number, row) in table.lines().enumerate() {
         let right = step(alloc, world, row)?;
         check_row(right == Some(true), number)?;
@@ -109,7 +144,7 @@ hear c1 4 > Counted grant n2 c1 1 read a
 enter c1 > inside";
 
 /// A world in which c1 reads `a`.
-fn one_inside(alloc: Global) -> Result<World, Failure> {
+pub(crate) fn one_inside(alloc: Global) -> Result<World, Failure> {
     let mut world = three_nodes(alloc)?;
     play(alloc, &mut world, CHOOSES)?;
     play(alloc, &mut world, ASKS)?;
@@ -197,7 +232,11 @@ say n4 > refused 601
 take n4 1 > refused 601
 hear c5 1 > refused 601
 enter c5 > refused 601
-leave c5 > refused 601";
+leave c5 > refused 601
+fall c5 > refused 601
+fall n4 > refused 601
+rise c5 old > refused 601
+rise n4 new > refused 601";
 
 #[test]
 fn refused_strangers(rt: HostRuntime) -> Outcome {
@@ -212,7 +251,6 @@ kept n1 > refused 604
 sayto c1 n1 > refused 606
 say n1 > refused 606
 take n1 1 > refused 607
-take n1 0 > refused 607
 hear c1 1 > refused 607
 enter c1 > refused 604
 leave c1 > refused 604";
@@ -293,6 +331,8 @@ enter c1 > inside";
 #[test]
 fn weighted_votes(rt: HostRuntime) -> Outcome {
     let mut world = world(rt.alloc(), &[3, 1, 1, 0], 2, 4)?;
+    play(rt.alloc(), &mut world, "rise n4 old > up")?;
+    play(rt.alloc(), &mut world, RISE)?;
     play(rt.alloc(), &mut world, WEIGHTED)
 }
 
