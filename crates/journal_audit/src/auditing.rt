@@ -11,7 +11,7 @@ use history_check::laws::events_are_spelled_once;
 use line_streams::{LineReader, MAX_READS};
 use std::alloc::Global;
 use std::io::{Read, Write};
-use world_service::World;
+use world_machine::World;
 
 /// Judges the lines that are left of an input, as `audit` does; the reads that were made before count
 /// with those that it makes.

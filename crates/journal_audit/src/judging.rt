@@ -13,8 +13,8 @@ use history_check::{LineFault, MAX_LINE_LEN, read_event};
 use line_streams::{End, LineReader, StreamFault};
 use std::alloc::Global;
 use std::io::Read;
+use world_machine::World;
 use world_model::{Event, StepFault};
-use world_service::World;
 
 /// What a piece of a journal says.
 #[derive(Clone, Copy, Debug, PartialEq, Eq)]

@@ -11,7 +11,7 @@
 //! tells its bytes, however it cuts them. `Verdicts` in `specs/` has the words. It keeps the world and
 //! one line, never the journal, and says its verdict without asking for memory.
 //!
-//! It stands on `history_check` for lines, `line_streams`, `world_service`, `world_model`, `itoa`,
+//! It stands on `history_check` for lines, `line_streams`, `world_machine`, `world_model`, `itoa`,
 //! `arrayvec` and `thiserror`.
 #![tactic(auto)]
 

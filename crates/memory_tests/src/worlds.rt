@@ -8,8 +8,8 @@ use admission_policy::{Admission, Counted, FirstProblem};
 use lock_messages::{Actor, Message, Mode};
 use std::alloc::Global;
 use vote_weights::Ballot;
+use world_machine::{OpeningFault, World};
 use world_model::{Age, Effect, Event};
-use world_service::{OpeningFault, World};
 
 /// The record of problem 1 in which c1 holds `a` as a reader, c2 waits for it as a writer.
 const TWO: [u8; 52] = [

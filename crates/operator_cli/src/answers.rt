@@ -10,9 +10,9 @@ use crate::texts::{push_answer, push_effect, push_refused};
 use history_check::{Line, Query};
 use lock_messages::Ticket;
 use std::alloc::Global;
+use world_machine::World;
 use world_model::laws::said_numbers_fit;
 use world_model::{Event, StepFault};
-use world_service::World;
 
 /// Adds that an event or a query is refused, and answers so.
 fn refuse(text: &mut String, fault: StepFault) -> Result<bool, ServeFault>

@@ -15,7 +15,7 @@
 //! it. The policies by which nodes decide are the caller's.
 //!
 //! It stands on `line_streams`, `history_check`, `lock_messages`, `lock_model`, `vote_weights`,
-//! `admission_policy`, `world_model`, `world_service`, `toml` and `thiserror`.
+//! `admission_policy`, `world_model`, `world_machine`, `toml` and `thiserror`.
 #![tactic(auto)]
 
 mod answers;

@@ -18,7 +18,7 @@ use history_check::{Line, MAX_LINE_LEN};
 use line_streams::{End, Gathered, LineReader, StreamFault};
 use std::alloc::Global;
 use std::io::{Read, Write};
-use world_service::World;
+use world_machine::World;
 
 /// What a piece of the input says.
 #[derive(Clone, Copy, Debug, PartialEq, Eq)]

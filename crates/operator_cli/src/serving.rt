@@ -18,7 +18,7 @@ use line_streams::{Gathered, LineReader, MAX_READS, write_text};
 use std::alloc::Global;
 use std::io::{Read, Write};
 use vote_weights::BallotFault;
-use world_service::World;
+use world_machine::World;
 
 /// That numbers make no ballot.
 fn ballot_text(fault: BallotFault) -> &'static str

@@ -11,8 +11,8 @@ use history_check::{Line, Query, write_line};
 use lock_messages::{Message, Ticket};
 use lock_model::Heard;
 use std::alloc::{AllocError, Global};
+use world_machine::World;
 use world_model::Effect;
-use world_service::World;
 
 /// Adds the line of a message that was sent.
 fn push_sent(text: &mut String, number: u32, message: &Message) -> Result<(), AllocError>

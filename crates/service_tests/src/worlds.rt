@@ -8,8 +8,8 @@ use history_check::read_event;
 use lock_messages::ResourceName;
 use std::alloc::Global;
 use vote_weights::Ballot;
+use world_machine::World;
 use world_model::{Effect, Event, MAX_MESSAGES, StepFault};
-use world_service::World;
 
 fn resource(name: &str) -> Result<ResourceName, Failure> {
     ResourceName::of(name.as_bytes()).ok_or(Failure::Wrong(0))

@@ -1,174 +1,130 @@
--- An actor's turn in the exact world, seen as a change of that actor alone.
-use Rattle.std.proofs.Common.{◌≡◌, ◌≢◌, ◌↔◌, ℕ, ◌-◌, ◌<◌, ◌≤◌, ◌==◌, ◌⊎◌, Bool, true, false, cond, List, [], ◌∷◌, ◌++◌, length, set, zero, suc, Option, Some, None, Ok, Err, refl, sym, ◌∙◌, ap, subst, inl, inr, arith}
-use Rattle.std.specs.Prelude.{slice_get, slice_set}
-use Rattle.std.proofs.lemmas.Bool.{eq-eqb, eqb-true, ne_eqb}
-use Rattle.std.proofs.lemmas.List.{length-set, get_or-set_same}
-use Rattle.std.proofs.lemmas.Option.{slice_get_within, slice_get-get_or}
-use Rattle.lock_model.specs.Decisions.{Among}
-use Rattle.world_machine.specs.declared.events.StepFault.TheVariants as fault
-use Rattle.world_machine.specs.declared.exact.ExactNode.{ExactNode}
-use Rattle.world_machine.specs.declared.exact.ExactClient.{ExactClient}
-use Rattle.world_machine.specs.declared.exact.ExactWorld.{ExactWorld}
-use Rattle.world_machine.specs.Worlds.{OfNode, OfClient}
-use Rattle.world_machine.specs.ExactWorlds.{Turn, Turns, numbered, Stepped, has_room, with_client, with_node_turn, finishes, by_actor, client_steps, node_steps}
-use Rattle.world_machine.specs.Forgetting.{node_of, client_of, node_at, client_at, forget, setting_of, IsSoundNode, IsSound}
+-- An actor's turn, put into the lists.
+use Rattle.std.proofs.Common.{◌≡◌, ℕ, ◌-◌, ◌≤◌, Bool, true, false, List, length, map, set, Some, None, Result, Ok, Err, refl, sym, ◌∙◌, ap, subst, arith}
+use Rattle.std.specs.Prelude.{slice_set}
+use Rattle.std.specs.Option.{option_map}
+use Rattle.std.proofs.lemmas.List.{map-set, length-append}
+use Rattle.lock_messages.specs.declared.messages.Message.{Message}
+use Rattle.lock_model.specs.Ballots.{Ballot}
+use Rattle.world_actors.specs.Acting.{ActingNode, ActingClient}
+use Rattle.world_model.specs.declared.TheConstants.{MAX_MESSAGES}
+use Rattle.world_model.specs.declared.events.Effect.{Effect}
+use Rattle.world_model.specs.declared.events.Event.{Event}
+use Rattle.world_model.specs.declared.events.Event.TheVariants as event
+use Rattle.world_model.specs.declared.events.StepFault.{StepFault}
+use Rattle.world_model.specs.declared.events.StepFault.TheVariants as fault
+use Rattle.world_model.specs.declared.exact.ExactNode.{ExactNode}
+use Rattle.world_model.specs.declared.exact.ExactClient.{ExactClient}
+use Rattle.world_model.specs.declared.exact.ExactWorld.{ExactWorld}
+use Rattle.world_model.specs.ExactNodes.{says_in, takes_in}
+use Rattle.world_model.specs.ExactClients.{tells, hears}
+use Rattle.world_model.specs.ExactWorlds.{numbered, NodeDoes, ClientDoes, deed_of, finishes, with_node_at, with_client_at, step}
+use Rattle.world_model.specs.StepsOf.{asks_for_memory, Does}
+use Rattle.world_model.specs.Turns.{Turns}
+use Rattle.world_machine.specs.declared.turns.NodeAct.{NodeAct}
+use Rattle.world_machine.specs.declared.turns.ClientAct.{ClientAct}
+use Rattle.world_machine.specs.Doing.{node_event, node_turn, node_asks, client_event, client_turn, Turned, read_turn, Spoke}
+use Rattle.world_machine.specs.Machines.{node_part, client_part, AreNodes, AreClients, with_nodes, with_clients, with_sent}
+use Rattle.world_machine.proofs.ListFacts.{numbered-map, here-or-there, set-same}
+use Rattle.world_machine.proofs.TurnFacts.{OnlyActs, node-deed, node-asks, client-deed, step-node, step-no-node, step-client, step-no-client, node-acts, node-speaks, client-speaks, take-once, take-acts, hear-once, does-turned, does-spoke}
 
--- what is put into a list, and what it leaves
+-- the part under a number
+node-there : (w : ExactWorld) (ns : List ActingNode) (n : ℕ) (v : ActingNode) → w.nodes ≡ map node_part ns → numbered ns n ≡ Some v → numbered w.nodes n ≡ Some v.part
+node-there w ns n v is at = ap (λ xs. numbered xs n) is ∙ numbered-map node_part ns n ∙ ap (option_map node_part) at
 
-pub numbered-one : {A : Type 0} (xs : List A) (k : ℕ) (x : A) → numbered xs k ≡ Some x → (1 ≤ k) × (k ≤ length xs)
-numbered-one {A} xs k x h = go (k == 0) refl h
-  where
-    go : (b : Bool) → (k == 0) ≡ b → cond b None (slice_get xs (k - 1)) ≡ Some x → (1 ≤ k) × (k ≤ length xs)
-    go true e z = absurd (let q : None ≡ Some x = z in cc)
-    go false e z =
-        let apart : k ≢ 0 = λ q. let p : false ≡ true = sym e ∙ eq-eqb k 0 q in cc in
-        let one : 1 ≤ k = omega (arith, apart) in
-        (one, omega (arith, one, slice_get_within xs (k - 1) x z))
+client-there : (w : ExactWorld) (cs : List ActingClient) (c : ℕ) (k : ActingClient) → w.clients ≡ map client_part cs → numbered cs c ≡ Some k → numbered w.clients c ≡ Some k.part
+client-there w cs c k is at = ap (λ xs. numbered xs c) is ∙ numbered-map client_part cs c ∙ ap (option_map client_part) at
 
-past-zero : {A : Type 0} (xs : List A) (k : ℕ) → 1 ≤ k → numbered xs k ≡ slice_get xs (k - 1)
-past-zero xs k one = ap (λ b. cond b None (slice_get xs (k - 1))) (ne_eqb k 0 (λ z. absurd (omega arith)))
+node-put : (w : ExactWorld) (ns : List ActingNode) (n : ℕ) (u : ActingNode) → w.nodes ≡ map node_part ns → slice_set w.nodes (n - 1) u.part ≡ map node_part (slice_set ns (n - 1) u)
+node-put w ns n u is = ap (λ xs. set xs (n - 1) u.part) is ∙ sym (map-set node_part ns (n - 1) u)
 
-pub numbered-set-here : {A : Type 0} (xs : List A) (k : ℕ) (x y : A) → numbered xs k ≡ Some x → numbered (slice_set xs (k - 1) y) k ≡ Some y
-numbered-set-here xs k x y h =
-    let in_range = numbered-one xs k x h in
-    let within : k - 1 < length xs = omega (arith, in_range.0, in_range.1) in
-    past-zero (set xs (k - 1) y) k in_range.0 ∙ slice_get-get_or (set xs (k - 1) y) (k - 1) y (let w : k - 1 < length (set xs (k - 1) y) = omega (arith, within, length-set xs (k - 1) y) in w)
-    ∙ ap Some (get_or-set_same xs (k - 1) y y within)
+client-put : (w : ExactWorld) (cs : List ActingClient) (c : ℕ) (u : ActingClient) → w.clients ≡ map client_part cs → slice_set w.clients (c - 1) u.part ≡ map client_part (slice_set cs (c - 1) u)
+client-put w cs c u is = ap (λ xs. set xs (c - 1) u.part) is ∙ sym (map-set client_part cs (c - 1) u)
 
-slice_get-set-there : {A : Type 0} (xs : List A) (i j : ℕ) (y : A) → j ≢ i → slice_get (set xs i y) j ≡ slice_get xs j
-slice_get-set-there [] i j y apart = refl
-slice_get-set-there (x ∷ xs) zero zero y apart = absurd (apart refl)
-slice_get-set-there (x ∷ xs) zero (suc j) y apart = refl
-slice_get-set-there (x ∷ xs) (suc i) zero y apart = refl
-slice_get-set-there (x ∷ xs) (suc i) (suc j) y apart = slice_get-set-there xs i j y (λ e. apart (ap suc e))
+-- no actor of this number
 
-pub numbered-set-there : {A : Type 0} (xs : List A) (k d : ℕ) (y : A) → 1 ≤ k → d ≢ k → numbered (slice_set xs (k - 1) y) d ≡ numbered xs d
-numbered-set-there {A} xs k d y one apart = go (d == 0) refl
-  where
-    go : (b : Bool) → (d == 0) ≡ b → cond b None (slice_get (set xs (k - 1) y) (d - 1)) ≡ cond b None (slice_get xs (d - 1))
-    go true e = refl
-    go false e =
-        let past : d ≢ 0 = λ q. let p : false ≡ true = sym e ∙ eq-eqb d 0 q in cc in
-        slice_get-set-there xs (k - 1) (d - 1) y (λ q. apart (omega (arith, one, past, q)))
+pub node-unknown : (w : ExactWorld) (e : Event) (n : ℕ) (turn : ExactNode → Turns ExactNode) (ns : List ActingNode) → deed_of e ≡ NodeDoes n turn → w.nodes ≡ map node_part ns → numbered ns n ≡ None → step w e ≡ Err fault.UnknownActor
+node-unknown w e n turn ns d is none = step-no-node w e n turn d (ap (λ xs. numbered xs n) is ∙ numbered-map node_part ns n ∙ ap (option_map node_part) none)
 
--- among the messages of two lists
+pub client-unknown : (w : ExactWorld) (e : Event) (c : ℕ) (turn : Ballot → ExactClient → Turns ExactClient) (cs : List ActingClient) → deed_of e ≡ ClientDoes c turn → w.clients ≡ map client_part cs → numbered cs c ≡ None → step w e ≡ Err fault.UnknownActor
+client-unknown w e c turn cs d is none = step-no-client w e c turn d (ap (λ xs. numbered xs c) is ∙ numbered-map client_part cs c ∙ ap (option_map client_part) none)
 
-among-left : {A : Type 0} (x : A) (xs ys : List A) → Among x xs → Among x (xs ++ ys)
-among-left x [] ys m = absurd m
-among-left x (z ∷ xs) ys (inl e) = inl e
-among-left x (z ∷ xs) ys (inr m) = inr (among-left x xs ys m)
+-- a turn of the node, or of the client, of this number
 
-among-right : {A : Type 0} (x : A) (xs ys : List A) → Among x ys → Among x (xs ++ ys)
-among-right x [] ys m = m
-among-right x (z ∷ xs) ys m = inr (among-right x xs ys m)
+node-does : (w : ExactWorld) (e : Event) (n : ℕ) (turn : Turns ExactNode) (asks : Bool) (ns : List ActingNode) (v u : ActingNode) (r : Result Effect StepFault) → w.nodes ≡ map node_part ns → numbered ns n ≡ Some v →
+    step w e ≡ finishes w (with_node_at w n) turn → (asks ≡ true → asks_for_memory e ≡ true) → (asks ≡ true → OnlyActs turn) → Turned asks node_part turn v r u → Does e (step w e) w r (with_nodes w (map node_part (slice_set ns (n - 1) u)))
+node-does w e n turn asks ns v u r is at s may only h =
+    subst (λ xs. Does e (step w e) w r (with_nodes w xs)) (node-put w ns n u is)
+    (does-turned w e (with_node_at w n) node_part turn asks v u r s may only (ap (with_nodes w) (set-same w.nodes n v.part (node-there w ns n v is at))) h)
 
-among-either : {A : Type 0} (x : A) (xs ys : List A) → Among x (xs ++ ys) → Among x xs ⊎ Among x ys
-among-either x [] ys m = inr m
-among-either x (z ∷ xs) ys (inl e) = inl (inl e)
-among-either {A} x (z ∷ xs) ys (inr m) = go (among-either x xs ys m)
-  where
-    go : Among x xs ⊎ Among x ys → Among x (z ∷ xs) ⊎ Among x ys
-    go (inl h) = inl (inr h)
-    go (inr h) = inr h
+client-does : (w : ExactWorld) (e : Event) (c : ℕ) (turn : Turns ExactClient) (cs : List ActingClient) (k u : ActingClient) (r : Result Effect StepFault) → w.clients ≡ map client_part cs → numbered cs c ≡ Some k →
+    step w e ≡ finishes w (with_client_at w c) turn → Turned false client_part turn k r u → Does e (step w e) w r (with_clients w (map client_part (slice_set cs (c - 1) u)))
+client-does w e c turn cs k u r is at s h =
+    subst (λ xs. Does e (step w e) w r (with_clients w xs)) (client-put w cs c u is)
+    (does-turned w e (with_client_at w c) client_part turn false k u r s (λ q. absurd (let p : false ≡ true = q in cc)) (λ q. absurd (let p : false ≡ true = q in cc)) (ap (with_clients w) (set-same w.clients c k.part (client-there w cs c k is at))) h)
 
-joined : {A : Type 0} (x : A) (xs ys : List A) → Among x xs ⊎ Among x ys → Among x (xs ++ ys)
-joined x xs ys (inl m) = among-left x xs ys m
-joined x xs ys (inr m) = among-right x xs ys m
+pub act-node : (w : ExactWorld) (n : ℕ) (act : NodeAct) (ns : List ActingNode) (v u : ActingNode) (r : Result Effect StepFault) → w.nodes ≡ map node_part ns → numbered ns n ≡ Some v →
+    Turned (node_asks act) node_part (node_turn act v.part) v r u → Does (node_event n act) (step w (node_event n act)) w r (with_nodes w (map node_part (slice_set ns (n - 1) u)))
+act-node w n act ns v u r is at h =
+    node-does w (node_event n act) n (node_turn act v.part) (node_asks act) ns v u r is at (step-node w (node_event n act) n (λ x. node_turn act x) v.part (node-deed n act) (node-there w ns n v is at))
+    (λ q. node-asks n act ∙ q) (node-acts act v.part) h
 
-pub appended : {A : Type 0} (x : A) (xs ys : List A) → Among x (xs ++ ys) ↔ (Among x xs ⊎ Among x ys)
-appended x xs ys = (among-either x xs ys, joined x xs ys)
+pub act-client : (w : ExactWorld) (c : ℕ) (act : ClientAct) (cs : List ActingClient) (k u : ActingClient) (r : Result Effect StepFault) → w.clients ≡ map client_part cs → AreClients w.ballot cs → numbered cs c ≡ Some k →
+    Turned false client_part (client_turn act k.number k.ballot k.part) k r u → Does (client_event c act) (step w (client_event c act)) w r (with_clients w (map client_part (slice_set cs (c - 1) u)))
+act-client w c act cs k u r is order at h =
+    let own = order c k at in
+    client-does w (client_event c act) c (client_turn act c w.ballot k.part) cs k u r is at (step-client w (client_event c act) c (λ b x. client_turn act c b x) k.part (client-deed c act) (client-there w cs c k is at))
+    (subst (λ b. Turned false client_part (client_turn act c b k.part) k r u) own.1 (subst (λ m. Turned false client_part (client_turn act m k.ballot k.part) k r u) own.0 h))
 
-got-among : {A : Type 0} (xs : List A) (i : ℕ) (x : A) → slice_get xs i ≡ Some x → Among x xs
-got-among [] i x h = absurd (let q : None ≡ Some x = h in cc)
-got-among (y ∷ xs) zero x h = inl (let q : Some y ≡ Some x = h in let e : x ≡ y = cc in e)
-got-among (y ∷ xs) (suc i) x h = inr (got-among xs i x h)
+pub take-node : (w : ExactWorld) (n number : ℕ) (ns : List ActingNode) (sent : List Message) (v u : ActingNode) (r : Result Effect StepFault) → w.nodes ≡ map node_part ns → w.sent ≡ sent → AreNodes ns → numbered ns n ≡ Some v →
+    Turned true node_part (read_turn (numbered sent number) (takes_in v.number number v.part v.part.phase)) v r u → Does (event.Take n number) (step w (event.Take n number)) w r (with_nodes w (map node_part (slice_set ns (n - 1) u)))
+take-node w n number ns sent v u r is all order at h =
+    let own = order n v at in
+    let turn = read_turn (numbered w.sent number) (takes_in n number v.part v.part.phase) in
+    node-does w (event.Take n number) n turn true ns v u r is at
+    (step-node w (event.Take n number) n (λ x. takes_in n number x x.phase) v.part refl (node-there w ns n v is at) ∙ take-once w (with_node_at w n) n number v.part)
+    (λ q. refl) (λ q. take-acts n number v.part (numbered w.sent number))
+    (subst (λ m. Turned true node_part (read_turn (numbered w.sent number) (takes_in m number v.part v.part.phase)) v r u) own (subst (λ l. Turned true node_part (read_turn (numbered l number) (takes_in v.number number v.part v.part.phase)) v r u) (sym all) h))
 
-pub numbered-got : {A : Type 0} (xs : List A) (k : ℕ) (x : A) → numbered xs k ≡ Some x → slice_get xs (k - 1) ≡ Some x
-numbered-got xs k x h = sym (past-zero xs k (numbered-one xs k x h).0) ∙ h
+pub hear-client : (w : ExactWorld) (c number : ℕ) (cs : List ActingClient) (sent : List Message) (k u : ActingClient) (r : Result Effect StepFault) → w.clients ≡ map client_part cs → w.sent ≡ sent → AreClients w.ballot cs → numbered cs c ≡ Some k →
+    Turned false client_part (read_turn (numbered sent number) (hears (length k.ballot.votes) k.number number k.part)) k r u → Does (event.Hear c number) (step w (event.Hear c number)) w r (with_clients w (map client_part (slice_set cs (c - 1) u)))
+hear-client w c number cs sent k u r is all order at h =
+    let own = order c k at in
+    let turn = read_turn (numbered w.sent number) (hears (length w.ballot.votes) c number k.part) in
+    client-does w (event.Hear c number) c turn cs k u r is at
+    (step-client w (event.Hear c number) c (λ b x. hears (length b.votes) c number x) k.part refl (client-there w cs c k is at) ∙ hear-once w (with_client_at w c) (length w.ballot.votes) c number k.part)
+    (subst (λ (b : Ballot). Turned false client_part (read_turn (numbered w.sent number) (hears (length b.votes) c number k.part)) k r u) own.1
+    (subst (λ m. Turned false client_part (read_turn (numbered w.sent number) (hears (length k.ballot.votes) m number k.part)) k r u) own.0
+    (subst (λ l. Turned false client_part (read_turn (numbered l number) (hears (length k.ballot.votes) k.number number k.part)) k r u) (sym all) h)))
 
-pub numbered-among : {A : Type 0} (xs : List A) (k : ℕ) (x : A) → numbered xs k ≡ Some x → Among x xs
-numbered-among xs k x h = got-among xs (k - 1) x (numbered-got xs k x h)
+pub say-node : (w : ExactWorld) (n : ℕ) (ns : List ActingNode) (sent new : List Message) (v u : ActingNode) (r : Result Effect StepFault) → w.nodes ≡ map node_part ns → w.sent ≡ sent → numbered ns n ≡ Some v →
+    Spoke node_part (says_in v.part v.part.phase) sent v r u new → Does (event.Say n) (step w (event.Say n)) w r (with_sent (with_nodes w (map node_part (slice_set ns (n - 1) u))) new)
+say-node w n ns sent new v u r is all at h =
+    subst (λ xs. Does (event.Say n) (step w (event.Say n)) w r (with_sent (with_nodes w xs) new)) (node-put w ns n u is)
+    (does-spoke w (event.Say n) (with_node_at w n) node_part (says_in v.part v.part.phase) sent v u r new (step-node w (event.Say n) n (λ x. says_in x x.phase) v.part refl (node-there w ns n v is at)) refl
+    (node-speaks v.part) (ap (with_nodes w) (set-same w.nodes n v.part (node-there w ns n v is at))) (λ p. refl) all h)
 
--- an actor that was there took its turn
-pub record TookTurn (A : Type 0) (w : ExactWorld) (into : Turn A → ExactWorld) (found : Option A) (f : A → Turns A) (v : ExactWorld) : Type 0 where
-  pub before : A
-  pub turn : Turn A
-  pub was : found ≡ Some before
-  pub does : f before ≡ Ok turn
-  pub is : v ≡ into turn
+pub tell-client : (w : ExactWorld) (c n : ℕ) (cs : List ActingClient) (sent new : List Message) (k : ActingClient) (r : Result Effect StepFault) → w.clients ≡ map client_part cs → w.sent ≡ sent → AreClients w.ballot cs → numbered cs c ≡ Some k →
+    Spoke client_part (tells k.ballot k.number n k.part) sent k r k new → Does (event.SayTo c n) (step w (event.SayTo c n)) w r (with_sent w new)
+tell-client w c n cs sent new k r is all order at h =
+    let own = order c k at in
+    let there = client-there w cs c k is at in
+    let same = ap (with_clients w) (set-same w.clients c k.part there) in
+    subst (λ x. Does (event.SayTo c n) (step w (event.SayTo c n)) w r (with_sent x new)) same
+    (does-spoke w (event.SayTo c n) (with_client_at w c) client_part (tells w.ballot c n k.part) sent k k r new (step-client w (event.SayTo c n) c (λ b x. tells b c n x) k.part refl there) refl
+    (client-speaks w.ballot c n k.part) same (λ p. refl) all
+    (subst (λ b. Spoke client_part (tells b c n k.part) sent k r k new) own.1 (subst (λ m. Spoke client_part (tells k.ballot m n k.part) sent k r k new) own.0 h)))
 
-finished : {A : Type 0} (w : ExactWorld) (into : Turn A → ExactWorld) (found : Option A) (f : A → Turns A) (s : Stepped) (a : A) → found ≡ Some a →
-    (turns : Turns A) → f a ≡ turns → finishes w into turns ≡ Ok s → TookTurn A w into found f s.world
-finished w into found f s a was (Err e) does h = absurd (let q : Err e ≡ Ok s = h in cc)
-finished {A} w into found f s a was (Ok t) does h = go (has_room w t.says) h
-  where
-    go : (room : Bool) → cond room (Ok (record { world = into t; outcome = t.outcome })) (Err fault.SentListFull) ≡ Ok s → TookTurn A w into found f s.world
-    go true z =
-        let q : Ok (record { world = into t; outcome = t.outcome }) ≡ Ok s = z in
-        let e : record { world = into t; outcome = t.outcome } ≡ s = cc in
-        record { before = a; turn = t; was = was; does = does; is = sym (ap (λ (x : Stepped). x.world) e) }
-    go false z = absurd (let q : Err fault.SentListFull ≡ Ok s = z in cc)
+-- the actors stay in order
 
-took-turn : {A : Type 0} (w : ExactWorld) (into : Turn A → ExactWorld) (found : Option A) (f : A → Turns A) (s : Stepped) → by_actor w into found f ≡ Ok s → TookTurn A w into found f s.world
-took-turn w into None f s h = absurd (let q : Err fault.UnknownActor ≡ Ok s = h in cc)
-took-turn w into (Some a) f s h = finished w into (Some a) f s a refl (f a) refl h
+pub nodes-stay : (ns : List ActingNode) (n : ℕ) (v u : ActingNode) → numbered ns n ≡ Some v → u.number ≡ v.number → AreNodes ns → AreNodes (slice_set ns (n - 1) u)
+nodes-stay ns n v u at same order = here-or-there (λ m x. x.number ≡ m) ns n v u at (same ∙ order n v at) order
 
-abbrev pub ClientTook : (w : ExactWorld) (c : ℕ) (f : ExactClient → Turns ExactClient) (v : ExactWorld) → Type 0
-ClientTook w c f v = TookTurn ExactClient w (with_client w c) (numbered w.clients c) f v
+pub clients-stay : (b : Ballot) (cs : List ActingClient) (c : ℕ) (k u : ActingClient) → numbered cs c ≡ Some k → u.number ≡ k.number → u.ballot ≡ k.ballot → AreClients b cs → AreClients b (slice_set cs (c - 1) u)
+clients-stay b cs c k u at same by order =
+    let own = order c k at in
+    here-or-there (λ m x. (x.number ≡ m) × (x.ballot ≡ b)) cs c k u at (same ∙ own.0, by ∙ own.1) order
 
-pub client-took : (w : ExactWorld) (c : ℕ) (f : ExactClient → Turns ExactClient) (s : Stepped) → client_steps w c f ≡ Ok s → ClientTook w c f s.world
-client-took w c f s h = took-turn w (with_client w c) (numbered w.clients c) f s h
-
-abbrev pub NodeTook : (w : ExactWorld) (n : ℕ) (f : ExactNode → Turns ExactNode) (v : ExactWorld) → Type 0
-NodeTook w n f v = TookTurn ExactNode w (with_node_turn w n) (numbered w.nodes n) f v
-
-pub node-took : (w : ExactWorld) (n : ℕ) (f : ExactNode → Turns ExactNode) (s : Stepped) → node_steps w n f ≡ Ok s → NodeTook w n f s.world
-node-took w n f s h = took-turn w (with_node_turn w n) (numbered w.nodes n) f s h
-
-pub of-client : (w : ExactWorld) (c : ℕ) (k : ExactClient) (t : Turn ExactClient) → numbered w.clients c ≡ Some k →
-    OfClient (setting_of w) c (forget w) (client_of k) (client_of t.after) t.says (forget (with_client w c t))
-of-client w c k t was =
-    record {
-      known = numbered-one w.clients c k was;
-      was = ap client_at was;
-      is = ap client_at (numbered-set-here w.clients c k t.after was);
-      others = λ d apart. ap client_at (numbered-set-there w.clients c d t.after (numbered-one w.clients c k was).0 apart);
-      nodes = λ n. refl;
-      sends = λ m. appended m w.sent t.says;
-    }
-
--- nodes of a sound world are those of its ballot
-pub known-node : (w : ExactWorld) (n : ℕ) (v : ExactNode) → IsSound w → numbered w.nodes n ≡ Some v → (1 ≤ n) × (n ≤ length w.ballot.votes)
-known-node w n v sound was = let r = numbered-one w.nodes n v was in (r.0, omega (arith, r.1, sound.nodes))
-
-pub of-node : (w : ExactWorld) (n : ℕ) (v : ExactNode) (t : Turn ExactNode) → IsSound w → numbered w.nodes n ≡ Some v →
-    OfNode (setting_of w) n (forget w) (node_of v) (node_of t.after) t.says (forget (with_node_turn w n t))
-of-node w n v t sound was =
-    record {
-      known = known-node w n v sound was;
-      was = ap node_at was;
-      is = ap node_at (numbered-set-here w.nodes n v t.after was);
-      others = λ d apart. ap node_at (numbered-set-there w.nodes n d t.after (numbered-one w.nodes n v was).0 apart);
-      clients = λ c. refl;
-      sends = λ m. appended m w.sent t.says;
-    }
-
--- soundness is kept
-
-pub sound-client : (w : ExactWorld) (c : ℕ) (t : Turn ExactClient) → IsSound w → IsSound (with_client w c t)
-sound-client w c t sound = record { nodes = sound.nodes; each = sound.each }
-
-pub sound-node : (w : ExactWorld) (n : ℕ) (v : ExactNode) (t : Turn ExactNode) → IsSound w → numbered w.nodes n ≡ Some v → IsSoundNode t.after → IsSound (with_node_turn w n t)
-sound-node w n v t sound was after = record { nodes = length-set w.nodes (n - 1) t.after ∙ sound.nodes; each = each }
-  where
-    at : (d : ℕ) (u : ExactNode) (b : Bool) → (d == n) ≡ b → numbered (slice_set w.nodes (n - 1) t.after) d ≡ Some u → IsSoundNode u
-    at d u true e h =
-        let same : d ≡ n = eqb-true d n e in
-        let there : Some t.after ≡ Some u = sym (numbered-set-here w.nodes n v t.after was) ∙ ap (numbered (set w.nodes (n - 1) t.after)) (sym same) ∙ h in
-        let q : t.after ≡ u = cc in subst IsSoundNode q after
-    at d u false e h =
-        let apart : d ≢ n = λ q. let p : false ≡ true = sym e ∙ eq-eqb d n q in cc in
-        sound.each d u (sym (numbered-set-there w.nodes n d t.after (numbered-one w.nodes n v was).0 apart) ∙ h)
-
-    each : (d : ℕ) (u : ExactNode) → numbered (slice_set w.nodes (n - 1) t.after) d ≡ Some u → IsSoundNode u
-    each d u h = at d u (d == n) refl h
+-- the messages don't become too many
+pub spoke-room : {A P : Type 0} (part : A → P) (turn : Turns P) (sent : List Message) (v : A) (r : Result Effect StepFault) (u : A) (new : List Message) → length sent ≤ MAX_MESSAGES → Spoke part turn sent v r u new → length new ≤ MAX_MESSAGES
+spoke-room part turn sent v (Ok done) u new room h = subst (λ l. length l ≤ MAX_MESSAGES) (sym h.4) (omega (arith, length-append sent h.0, h.3, room))
+spoke-room part turn sent v (Err f) u new room h = subst (λ l. length l ≤ MAX_MESSAGES) (sym h.2) room

@@ -1,8 +1,6 @@
+mod ListFacts
+mod TurnFacts
+mod ActorFacts
 mod RunFacts
-pub mod WorldFacts
-pub mod ActorFacts
-pub mod ClientSteps
-pub mod NodeSteps
-pub mod StepFacts
-pub mod TakenFacts
-pub mod NumberFacts
+mod ListingFacts
+mod OpeningFacts

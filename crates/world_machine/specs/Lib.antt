@@ -1,11 +1,4 @@
-pub mod Faults
-pub mod Examples
-pub mod Events
-pub mod Worlds
-pub mod ExactWorlds
-pub mod Forgetting
-pub mod Numbers
-pub mod Clients
-pub mod Nodes
-pub mod WorldViews
-pub mod StepsOf
+pub mod Doing
+pub mod Machines
+pub mod Listing
+pub mod Opened

@@ -1,31 +1,23 @@
-//! The world of a lock service: its nodes, its clients and all messages ever sent, as a machine.
+//! The world of a lock service, as a machine: its nodes, its clients and all messages ever sent.
 //!
-//! One event is one atomic action of one actor, and `World::step` takes one event. In this first
-//! form all actors are up from the start and the problem is the first of readers and writers; the
-//! definitions speak of falls and rises too.
-//!
-//! The definitions stand in `specs/`: `Worlds` has the world as sets and maps, and what may happen
-//! next as a relation; `ExactWorlds` has it exactly, with entries in order and messages numbered
-//! from 1, and `step` as a function. The crate promises that `step` and `run` are these exactly:
-//! the world after, the effect, or the lowest refusal that applies, with nothing changed. That the
-//! exact steps are just those that may happen is a law (`laws::exact_steps_are_allowed`), over
-//! `Forgetting`, which says what world an exact one stands for. It stands on `lock_messages`,
-//! `lock_model`, `vote_weights` and `thiserror`.
+//! One event is one atomic action of one actor, and `World::step` takes one event. `World::start` opens
+//! a world in which nothing is kept, `World::resume` one from the records that its actors have kept. The
+//! crate promises that `step` and `run` are the exact ones of `world_model`: the world after, the effect,
+//! or the lowest refusal that applies, with nothing changed; that what they did is a step, or a run, of
+//! which the exclusion theorem speaks; that every `World` is sound, so that a writer inside a resource is
+//! there alone; and that what is asked of it (`inside`, `ticket_inside`, `waiting`, `holding`,
+//! `kept_bytes`, `sent`) is answered as the definitions have it. It stands on `world_model`,
+//! `world_actors`, `world_opening`, `stable_record`, `admission_policy`, `lock_messages`, `lock_model`
+//! and `vote_weights`.
 #![tactic(auto)]
 
-mod clients;
-mod events;
-mod exact;
-pub mod laws;
-mod nodes;
+mod doing;
+mod listing;
+mod opening;
+mod stepping;
+mod turns;
 mod world;
 
-/// The most messages that a world has. They are numbered from 1.
-pub const MAX_MESSAGES: u32 = 1_048_576;
-
-pub use events::{Effect, Event, StepFault};
-pub use exact::{
-    ExactClient, ExactClientPhase, ExactNode, ExactNodePhase, ExactStation, ExactWorld,
-};
-pub use lock_messages::Actor;
 pub use world::World;
+pub use world_model::{Age, Effect, Event, MAX_MESSAGES, StepFault, laws};
+pub use world_opening::OpeningFault;

@@ -1,272 +1,91 @@
-// The world: its nodes, its clients, and all messages ever sent.
+// The world: its actors and all messages ever sent.
 
-ghost use Rattle.std.specs.Prelude.{◌≡◌, ◌≤◌, length, map, replicate, slice_get, IfOk, IsOkUnless};
-ghost use Rattle.std.specs.List.{flat_map};
-ghost use Rattle.lock_messages.specs.declared.ids.TheConstants.{MAX_CLIENTS};
-ghost use Rattle.world_machine.specs.Clients.{client_turn, client_view};
-ghost use Rattle.world_machine.specs.Events.{action_of};
-ghost use Rattle.world_machine.specs.ExactWorlds.{client_steps, node_steps, step, ran, opening, new_node, new_client, inside, inside_in, numbered};
-ghost use Rattle.world_machine.specs.Events.{Try, Kept, SayTo, Say};
-ghost use Rattle.world_machine.specs.Nodes.{node_turn, node_view};
-ghost use Rattle.world_machine.specs.StepsOf.{Does, Runs, sends_one};
+ghost use Rattle.std.specs.Prelude.{◌≡◌, ◌∷◌, [], take, IfOk, OnOk, IsOkUnless};
+ghost use Rattle.lock_messages.specs.declared.tickets.Ticket.{Ticket as TicketValue};
+ghost use Rattle.lock_model.specs.Decisions.{Among};
+ghost use Rattle.world_model.specs.Exclusion.{IsExclusive};
+ghost use Rattle.world_model.specs.ExactWorlds.{numbered, step};
+ghost use Rattle.world_model.specs.Forgetting.{forget, setting_of};
+ghost use Rattle.world_model.specs.StepsOf.{Does, Runs};
+ghost use Rattle.world_model.specs.Views.{inside, waiting, holding, ticket_inside};
+ghost use Rattle.world_model.specs.Worlds.{Happens, Run};
+ghost use Rattle.world_machine.specs.Doing.{taken_of};
+ghost use Rattle.world_machine.specs.Listing.{kept_bytes, Tells, AreInside, IsInsideBy, AreWaiting, AreHolding};
 
-use crate::clients::{Client, ClientAct, ClientPhase};
-use crate::nodes::{Node, NodeAct, NodePhase};
-use crate::{Effect, Event, MAX_MESSAGES, StepFault};
-use lock_messages::{Actor, ClientId, Message, NodeId, ResourceName, Ticket};
-use std::alloc::{AllocError, Global};
+use crate::listing::{client_bytes_at, node_bytes_at, ticket_inside, tickets_at, tickets_inside};
+use crate::stepping::{message_at, take_step};
+use lock_messages::{Actor, ClientId, Message, Mode, NodeId, ResourceName, Ticket};
+use lock_model::Status;
+use std::alloc::Global;
 use std::marker::Model;
 use vote_weights::Ballot;
+use world_actors::{WorldClient, WorldNode};
+use world_model::laws::{exact_steps_are_allowed, lists_are_the_sets};
+use world_model::{Effect, Event, StepFault};
 
-/// A world of nodes and clients that are all up, in which nodes solve problem 1.
-#[derive(Debug, Drop)]
+/// A world: its nodes, its clients and all messages ever sent.
+///
+/// Contracts see it as an `ExactWorld`. Each is sound, as `world_model` has it: what opens one is, and
+/// each step keeps it.
+#[derive(Drop)]
 pub struct World {
-    ballot: Ballot,
-    nodes: Vec<Node>,
-    clients: Vec<Client>,
-    sent: Vec<Message>,
-    alloc: Global,
+    pub(crate) alloc: Global,
+    pub(crate) ballot: Ballot,
+    pub(crate) nodes: Vec<WorldNode>,
+    pub(crate) clients: Vec<WorldClient>,
+    pub(crate) sent: Vec<Message>,
 }
 
 impl Model for World {
-    ghost use Rattle.world_machine.specs.declared.exact.ExactWorld.{ExactWorld};
-    ghost use Rattle.world_machine.specs.WorldViews.{world_view, IsRoomy};
+    ghost use Rattle.world_model.specs.declared.exact.ExactWorld.{ExactWorld};
+    ghost use Rattle.world_machine.specs.Machines.{world_view, IsWorld};
 
     ghost Value = { ExactWorld };
 
     ghost view = { λ w. world_view w.ballot w.nodes.items w.clients.items w.sent.items };
 
-    ghost invariant = { λ w. IsRoomy w.sent.items };
-}
-
-fn new_nodes(alloc: Global, count: u8) -> Result<Vec<Node>, AllocError>
-    ensures { IfOk result (λ v. map node_view v.items ≡ replicate count new_node) }
-{
-    let mut nodes = Vec::with_capacity(alloc, count as usize)?;
-    for _i in 0..count {
-        nodes.push(Node {
-            entries: Vec::new(alloc),
-            phase: NodePhase::Idle,
-        })?;
-    }
-    Ok(nodes)
-}
-
-fn new_clients(alloc: Global, count: u16) -> Result<Vec<Client>, AllocError>
-    ensures { IfOk result (λ v. map client_view v.items ≡ replicate count new_client) }
-{
-    let mut clients = Vec::with_capacity(alloc, count as usize)?;
-    for _i in 0..count {
-        clients.push(Client {
-            kept: None,
-            phase: ClientPhase::Idle,
-        })?;
-    }
-    Ok(clients)
-}
-
-fn tickets_inside(
-    alloc: Global,
-    clients: &[Client],
-    resource: &ResourceName,
-) -> Result<Vec<Ticket>, AllocError>
-    ensures { IfOk result (λ v. v.items ≡ flat_map (λ k. inside_in resource.now (client_view k).phase) clients.now) }
-{
-    let mut tickets = Vec::new(alloc);
-    for client in clients {
-        if let Some(ticket) = client.inside(resource) {
-            tickets.push(ticket)?;
-        }
-    }
-    Ok(tickets)
-}
-
-/// The client of this number.
-fn client_at(clients: &[Client], id: ClientId) -> Option<Client>
-    ensures { result ≡ numbered clients.now id }
-{
-    clients.get(id.get() as usize - 1).copied()
-}
-
-/// The message at this index.
-fn message_at(sent: &[Message], index: usize) -> Option<Message>
-    ensures { result ≡ slice_get sent.now index }
-{
-    sent.get(index).copied()
+    ghost invariant = { λ w. IsWorld w.ballot w.nodes.items w.clients.items w.sent.items };
 }
 
 impl World {
-    /// What a client does by itself.
-    fn client_acts(&mut self, id: ClientId, act: &ClientAct) -> Result<Effect, StepFault>
-        ensures { Does (client_steps self.old id (client_turn self.old.ballot id act.now)) self.old result self.new }
-    {
-        let Some(client) = client_at(&self.clients, id) else {
-            return Err(StepFault::UnknownActor);
-        };
-        match client.act(&self.ballot, id, *act) {
-            Err(fault) => Err(fault),
-            Ok((after, effect)) => {
-                self.clients[id.get() as usize - 1] = after;
-                Ok(effect)
-            }
-        }
-    }
-
-    /// What a node does by itself.
-    fn node_acts(&mut self, id: NodeId, act: &NodeAct) -> Result<Effect, StepFault>
-        ensures { Does (node_steps self.old id (node_turn id act.now)) self.old result self.new }
-    {
-        let index = id.get() as usize - 1;
-        if index >= self.nodes.len() {
-            return Err(StepFault::UnknownActor);
-        }
-        self.nodes[index].act(self.alloc, id, *act)
-    }
-
-    /// An actor tries to keep what it chose or decided.
-    fn tries(&mut self, who: Actor) -> Result<Effect, StepFault>
-        ensures { Does (step self.old (Try who)) self.old result self.new }
-    {
-        match who {
-            Actor::Node(id) => self.node_acts(id, &NodeAct::Try),
-            Actor::Client(id) => self.client_acts(id, &ClientAct::Try),
-        }
-    }
-
-    /// An actor has kept what it tried.
-    fn keeps(&mut self, who: Actor) -> Result<Effect, StepFault>
-        ensures { Does (step self.old (Kept who)) self.old result self.new }
-    {
-        match who {
-            Actor::Node(id) => self.node_acts(id, &NodeAct::Kept),
-            Actor::Client(id) => self.client_acts(id, &ClientAct::Kept),
-        }
-    }
-
-    /// A client says something to a node.
-    fn tells(&mut self, id: ClientId, node: NodeId) -> Result<Effect, StepFault>
-        ensures { Does (step self.old (SayTo id node)) self.old result self.new }
-    {
-        if node.get() as usize > self.nodes.len() {
-            return Err(StepFault::UnknownActor);
-        }
-        let Some(client) = client_at(&self.clients, id) else {
-            return Err(StepFault::UnknownActor);
-        };
-        match client.message_for(id, node) {
-            Err(fault) => Err(fault),
-            Ok(message) => self.send(&message),
-        }
-    }
-
-    /// Sends a message, where there is room.
-    fn send(&mut self, message: &Message) -> Result<Effect, StepFault>
-        ensures { Does (sends_one self.old message.now) self.old result self.new }
-    {
-        let sent = self.sent.len();
-        if sent >= MAX_MESSAGES as usize {
-            return Err(StepFault::SentListFull);
-        }
-        match self.sent.push(*message) {
-            Err(_) => Err(StepFault::Memory),
-            Ok(()) => Ok(Effect::Sent(sent as u32 + 1, *message)),
-        }
-    }
-
-    /// A node says its replies.
-    fn says(&mut self, id: NodeId) -> Result<Effect, StepFault>
-        ensures { Does (step self.old (Say id)) self.old result self.new }
-    {
-        let index = id.get() as usize - 1;
-        if index >= self.nodes.len() {
-            return Err(StepFault::UnknownActor);
-        }
-        let first = self.sent.len();
-        let replies = match self.nodes[index].replies() {
-            Err(fault) => return Err(fault),
-            Ok(replies) => replies,
-        };
-        let count = replies.len();
-        if count > MAX_MESSAGES as usize - first {
-            return Err(StepFault::SentListFull);
-        }
-        let Ok(()) = self.sent.extend_from_slice(replies) else {
-            return Err(StepFault::Memory);
-        };
-        self.nodes[index].phase = NodePhase::Idle;
-        Ok(Effect::Said {
-            first: first as u32 + 1,
-            count: count as u32,
-        })
-    }
-
-    /// A world of this ballot's nodes and so many clients: all are up, nothing is kept and nothing
-    /// sent.
-    ///
-    /// Condition: there are 1 to `MAX_CLIENTS` clients. The only error is want of memory (613).
-    pub fn start(alloc: Global, ballot: Ballot, clients: u16) -> Result<World, StepFault>
-        requires some { 1 ≤ clients }
-        requires few { clients ≤ MAX_CLIENTS }
-        ensures opening { IfOk result (λ w. w ≡ opening ballot clients) }
-        ensures memory { IsOkUnless result StepFault.Memory }
-    {
-        let Ok(nodes) = new_nodes(alloc, ballot.nodes()) else {
-            return Err(StepFault::Memory);
-        };
-        let Ok(all) = new_clients(alloc, clients) else {
-            return Err(StepFault::Memory);
-        };
-        Ok(World {
-            ballot,
-            nodes,
-            clients: all,
-            sent: Vec::new(alloc),
-            alloc,
-        })
-    }
-
     /// Takes one event, and answers its effect.
     ///
-    /// A fault changes nothing. It is the one of the lowest number that applies: no such node or
-    /// client (601), another phase (604), not stored (605), nothing to say (606), no such message
-    /// (607), not addressed (608), no quorum (609), attempts spent (610), nothing tried (611), the
-    /// list of messages full (612), and behind all others want of memory (613). All actors of this
-    /// world are up, so 602 and 603 don't come. 612 comes only where what is said would pass
-    /// `MAX_MESSAGES`, and then none of it is sent.
+    /// A fault changes nothing. It is the one of the lowest number that applies: no such node or client
+    /// (601), down (602), up (603), another phase (604), not stored (605), nothing to say (606), no such
+    /// message (607), not addressed (608), no quorum (609), attempts spent (610), nothing tried (611),
+    /// the list of messages full (612), and behind all others want of memory (613). 612 comes only where
+    /// what is said would pass `MAX_MESSAGES`, and then none of it is sent.
     ///
-    /// An event costs what its actor does: `Take` what a decision over the node's entries costs,
-    /// `Say` a copy of the replies, every other a few steps. Nothing else of the world is copied.
+    /// An event costs what its actor does: `Take` what a decision over the node's entries costs, `Try`
+    /// and `Rise` of a node a copy of its record, `Say` one of the replies, every other a few steps.
     pub fn step(&mut self, event: &Event) -> Result<Effect, StepFault>
-        ensures { Does (step self.old (action_of event.now)) self.old result self.new }
+        requires { Unit {0} }
+        ensures exact { Does event.now (step self.old event.now) self.old result self.new }
+        // It is one of the steps of which the exclusion theorem speaks, among the same actors.
+        ensures allowed { OnOk result (Happens (setting_of self.old) (forget self.old) event.now (forget self.new)) }
+        ensures setting { setting_of self.new ≡ setting_of self.old }
     {
-        match *event {
-            Event::Begin(id, mode, resource) => {
-                self.client_acts(id, &ClientAct::Begin(mode, resource))
-            }
-            Event::Try(who) => self.tries(who),
-            Event::Kept(who) => self.keeps(who),
-            Event::SayTo(id, node) => self.tells(id, node),
-            Event::Say(id) => self.says(id),
-            Event::Take(id, number) => {
-                let found = self.sent(number);
-                self.node_acts(id, &NodeAct::Take(found))
-            }
-            Event::Hear(id, number) => {
-                let found = self.sent(number);
-                self.client_acts(id, &ClientAct::Hear(found))
-            }
-            Event::Enter(id) => self.client_acts(id, &ClientAct::Enter),
-            Event::Leave(id) => self.client_acts(id, &ClientAct::Leave),
-        }
+        exact_steps_are_allowed();
+        take_step(
+            &self.ballot,
+            &mut self.nodes,
+            &mut self.clients,
+            &mut self.sent,
+            event,
+        )
     }
 
     /// Takes the events in order, up to the first that is refused.
     ///
-    /// Answers how many events there were, where all were taken; else how many were taken before
-    /// the refused one, and its refusal as `step` gives it. The world is as it was after those
-    /// taken. It costs what their steps cost.
+    /// Answers how many events there were, where all were taken; else how many were taken before the
+    /// refused one, and its refusal as `step` gives it. The world is as it was after those taken. It
+    /// costs what their steps cost.
     pub fn run(&mut self, events: &[Event]) -> Result<usize, (usize, StepFault)>
-        ensures { Runs (map action_of events.now) self.old result self.new }
+        requires { Unit {0} }
+        ensures exact { Runs events.now self.old result self.new }
+        // The events that were taken are a run, of which the exclusion theorem speaks.
+        ensures allowed { Run (setting_of self.old) (forget self.old) (take (taken_of result) events.now) (forget self.new) }
+        ensures setting { setting_of self.new ≡ setting_of self.old }
     {
         for (taken, event) in events.iter().enumerate() {
             if let Err(fault) = self.step(event) {
@@ -276,27 +95,73 @@ impl World {
         Ok(events.len())
     }
 
-    /// The message of this number, from 1 on; `None` exactly where none was sent under it. One
-    /// look-up.
+    /// The message of this number, from 1 on; `None` exactly where none was sent under it. One look-up.
     pub fn sent(&self, number: u32) -> Option<Message>
         ensures { result ≡ numbered self.now.sent number }
     {
-        if number == 0 {
-            return None;
-        }
-        message_at(&self.sent, number as usize - 1)
+        message_at(&self.sent, number)
     }
 
-    /// The tickets of the clients that are inside the resource, in the order of the clients.
+    /// The tickets of the clients that are inside the resource, in the order of the clients. A writer
+    /// among them is the only one.
     ///
     /// It goes over all clients. The only error is want of memory (613).
     pub fn inside(&self, resource: &ResourceName) -> Result<Vec<Ticket>, StepFault>
         ensures inside { IfOk result (λ tickets. tickets.items ≡ inside resource.now self.now) }
+        ensures set { IfOk result (λ tickets. AreInside (forget self.now) resource.now tickets.items) }
+        ensures alone { IfOk result (λ tickets. (t : TicketValue) → Among t tickets.items → t.mode ≡ Mode.Write → tickets.items ≡ t ∷ []) }
+        ensures exclusive { IsExclusive (forget self.now) }
         ensures memory { IsOkUnless result StepFault.Memory }
     {
+        lists_are_the_sets();
         let Ok(tickets) = tickets_inside(self.alloc, &self.clients, resource) else {
             return Err(StepFault::Memory);
         };
         Ok(tickets)
+    }
+
+    /// The ticket of a client that is inside, whatever the resource; `None` exactly where the client is
+    /// not inside, or there is no such client. One look-up, without memory.
+    pub fn ticket_inside(&self, client: ClientId) -> Option<Ticket>
+        ensures ticket { result ≡ ticket_inside client self.now }
+        ensures set { IsInsideBy (forget self.now) client result }
+    {
+        ticket_inside(&self.clients, client)
+    }
+
+    /// The tickets that wait for the node's vote for the resource, in the station that the node has
+    /// kept, in the order of its entries.
+    ///
+    /// Errors: there is no such node (601), want of memory (613).
+    pub fn waiting(&self, node: NodeId, resource: &ResourceName) -> Result<Vec<Ticket>, StepFault>
+        ensures waiting { Tells (λ v. v.items) (waiting node resource.now self.now) result }
+        ensures set { IfOk result (λ tickets. AreWaiting ((forget self.now).nodes node).kept resource.now tickets.items) }
+    {
+        lists_are_the_sets();
+        tickets_at(self.alloc, &self.nodes, node, Status::Waiting, resource)
+    }
+
+    /// The tickets that hold the node's vote for the resource, in the station that the node has kept,
+    /// in the order of its entries.
+    ///
+    /// Errors: there is no such node (601), want of memory (613).
+    pub fn holding(&self, node: NodeId, resource: &ResourceName) -> Result<Vec<Ticket>, StepFault>
+        ensures holding { Tells (λ v. v.items) (holding node resource.now self.now) result }
+        ensures set { IfOk result (λ tickets. AreHolding ((forget self.now).nodes node).kept resource.now tickets.items) }
+    {
+        lists_are_the_sets();
+        tickets_at(self.alloc, &self.nodes, node, Status::Holding, resource)
+    }
+
+    /// The record of what the actor has kept.
+    ///
+    /// Errors: there is no such actor (601), want of memory (613).
+    pub fn kept_bytes(&self, who: Actor) -> Result<Vec<u8>, StepFault>
+        ensures { Tells (λ v. v.items) (kept_bytes who self.now) result }
+    {
+        match who {
+            Actor::Node(id) => node_bytes_at(self.alloc, &self.nodes, id),
+            Actor::Client(id) => client_bytes_at(self.alloc, &self.clients, id),
+        }
     }
 }

@@ -5,8 +5,8 @@ use crate::outcomes::Failure;
 use lock_messages::{Actor, ClientId, Message, Mode, NodeId, ResourceName};
 use rand_core::utils::NextWord;
 use rand_pcg::Pcg32;
+use world_machine::World;
 use world_model::{Age, Event};
-use world_service::World;
 
 pub(crate) const NODES: u8 = 5;
 

@@ -7,8 +7,8 @@ use admission_policy::Admission;
 use lock_messages::{Actor, ClientId, MAX_CLIENTS, Mode, NodeId, ResourceName};
 use std::alloc::Global;
 use vote_weights::Ballot;
+use world_machine::{OpeningFault, World};
 use world_model::{Age, Event, StepFault};
-use world_service::{OpeningFault, World};
 
 /// Three nodes of one vote each.
 fn ballot() -> Result<Ballot, Failure> {

@@ -6,8 +6,8 @@ use admission_policy::{Admission, FirstProblem};
 use lock_messages::{Actor, Message, Mode, ResourceName};
 use std::alloc::Global;
 use vote_weights::Ballot;
+use world_machine::World;
 use world_model::{Age, Event};
-use world_service::World;
 
 /// The record of n1 below: c2 and c1 hold `a` as readers, c3 waits for it as a writer.
 const KEPT: [u8; 76] = [

@@ -9,8 +9,8 @@ use lock_model::Problem;
 use rand_pcg::Pcg32;
 use std::alloc::Global;
 use vote_weights::Ballot;
+use world_machine::World;
 use world_model::{Age, Effect, Event, StepFault};
-use world_service::World;
 
 /// The seed of the events.
 const SEED: u64 = 9;

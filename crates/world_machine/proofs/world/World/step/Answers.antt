@@ -1,37 +1,31 @@
-use Rattle.std.proofs.Common.{sym, subst}
-use Rattle.world_machine.specs.Events.{action_of}
-use Rattle.world_machine.specs.Clients.{client_turn}
-use Rattle.world_machine.specs.Nodes.{node_turn}
-use Rattle.world_machine.specs.ExactWorlds.{client_steps, node_steps, step}
-use Rattle.world_machine.specs.StepsOf.{Does}
-use Rattle.world_machine.specs.declared.clients.ClientAct.TheVariants as client_act
-use Rattle.world_machine.specs.declared.nodes.NodeAct.TheVariants as node_act
+use Rattle.std.proofs.Common.{subst}
+use Rattle.world_model.specs.ExactWorlds.{step}
+use Rattle.world_model.specs.Forgetting.{IsSound}
+use Rattle.world_model.specs.StepsOf.{Does}
+use Rattle.world_machine.specs.Machines.{world_view}
+use Rattle.world_machine.proofs.TurnFacts.{does-sound, does-allowed, does-setting}
 use Rattle.world_machine.proofs.world.World.step.Goals as goal
 
-pub returns-in-Begin : goal.returns-in-Begin
-unfolding step
-returns-in-Begin c = subst (λ e. Does (step c.args.self.now (action_of e)) c.args.self.now c.client_acts.result c.client_acts.new.self) (sym c.in-Begin.is) c.client_acts.ensures
+pub returns-clause-exact : goal.returns-clause-exact
+returns-clause-exact g c =
+    let s = c.self.inside in
+    let e = c.args.event.now in
+    subst (λ w. Does e (step w e) w c.take_step.result (world_view s.ballot c.take_step.new.nodes.items c.take_step.new.clients.items c.take_step.new.sent.items)) c.self.view_is c.take_step.ensures.does
 
-pub returns-in-Take : goal.returns-in-Take
-unfolding step
-returns-in-Take c = subst (λ e. Does (step c.args.self.now (action_of e)) c.args.self.now c.node_acts.result c.node_acts.new.self) (sym c.in-Take.is)
-    (subst (λ found. Does (node_steps c.args.self.now c.in-Take.id (node_turn c.in-Take.id (node_act.Take found))) c.args.self.now c.node_acts.result c.node_acts.new.self) c.sent-found.ensures c.node_acts.ensures)
+pub returns-clause-allowed : goal.returns-clause-allowed
+returns-clause-allowed g c =
+    does-allowed c.exact_steps_are_allowed.ensures.steps c.args.event.now c.args.self.now _ c.take_step.result (subst IsSound c.self.view_is c.self.invariant.sound) (returns-clause-exact g c)
 
-pub returns-in-Hear : goal.returns-in-Hear
-unfolding step
-returns-in-Hear c = subst (λ e. Does (step c.args.self.now (action_of e)) c.args.self.now c.client_acts-in-Hear.result c.client_acts-in-Hear.new.self) (sym c.in-Hear.is)
-    (subst (λ found. Does (client_steps c.args.self.now c.in-Hear.id (client_turn c.args.self.now.ballot c.in-Hear.id (client_act.Hear found))) c.args.self.now c.client_acts-in-Hear.result c.client_acts-in-Hear.new.self) c.sent-found-in-Hear.ensures c.client_acts-in-Hear.ensures)
+pub returns-clause-setting : goal.returns-clause-setting
+returns-clause-setting g c =
+    does-setting c.exact_steps_are_allowed.ensures.steps c.args.event.now c.args.self.now _ c.take_step.result (subst IsSound c.self.view_is c.self.invariant.sound) (returns-clause-exact g c)
 
-pub returns-in-Enter : goal.returns-in-Enter
-unfolding step
-returns-in-Enter c = subst (λ e. Does (step c.args.self.now (action_of e)) c.args.self.now c.client_acts-in-Enter.result c.client_acts-in-Enter.new.self) (sym c.in-Enter.is) c.client_acts-in-Enter.ensures
-
-pub returns-in-Leave : goal.returns-in-Leave
-unfolding step
-returns-in-Leave c = subst (λ e. Does (step c.args.self.now (action_of e)) c.args.self.now c.client_acts-in-Leave.result c.client_acts-in-Leave.new.self) (sym c.in-Leave.is) c.client_acts-in-Leave.ensures
-
-pub returns-in-Try : goal.returns-in-Try
-returns-in-Try c = subst (λ e. Does (step c.args.self.now (action_of e)) c.args.self.now c.tries.result c.tries.new.self) (sym c.in-Try.is) c.tries.ensures
-
-pub returns-in-Kept : goal.returns-in-Kept
-returns-in-Kept c = subst (λ e. Does (step c.args.self.now (action_of e)) c.args.self.now c.keeps.result c.keeps.new.self) (sym c.in-Kept.is) c.keeps.ensures
+-- each step leaves a sound world
+pub invariant_of-self : goal.invariant_of-self
+invariant_of-self g c =
+    let s = c.self.inside in
+    record {
+      order = c.take_step.ensures.order;
+      sound = does-sound c.exact_steps_are_allowed.ensures.sound c.args.event.now (world_view s.ballot s.nodes.items s.clients.items s.sent.items)
+          (world_view s.ballot c.take_step.new.nodes.items c.take_step.new.clients.items c.take_step.new.sent.items) c.take_step.result c.self.invariant.sound c.take_step.ensures.does;
+    }

@@ -1,0 +1,101 @@
+-- Tickets listed one entry after the other, and what is asked of an actor.
+use Rattle.std.proofs.Common.{◌≡◌, ◌↔◌, ℕ, ◌+◌, ◌<◌, Bool, List, [], ◌∷◌, ◌++◌, length, take, get_or, map, suc, Option, Some, None, Result, Ok, Err, refl, sym, ◌∙◌, ap, subst, arith}
+use Rattle.std.specs.Prelude.{slice_get, IfOk}
+use Rattle.std.specs.List.{flat_map}
+use Rattle.std.specs.Option.{option_map}
+use Rattle.std.proofs.Math.Seq.{take-suc}
+use Rattle.std.proofs.lemmas.List.{append-nil}
+use Rattle.std.proofs.lemmas.Grind.{flat_map-append}
+use Rattle.std.proofs.lemmas.Option.{slice_get_within, slice_get-get_or, get_or_from_slice_get}
+use Rattle.lock_messages.specs.declared.tickets.Mode.{Mode}
+use Rattle.lock_messages.specs.declared.tickets.Ticket.{Ticket}
+use Rattle.lock_messages.specs.declared.messages.Message.{Message}
+use Rattle.lock_model.specs.Ballots.{Ballot}
+use Rattle.lock_model.specs.Stations.{Station}
+use Rattle.vote_weights.specs.Sets.{has_node}
+use Rattle.world_actors.specs.Acting.{ActingNode, ActingClient}
+use Rattle.world_model.specs.declared.events.StepFault.{StepFault}
+use Rattle.world_model.specs.declared.exact.ExactNode.{ExactNode}
+use Rattle.world_model.specs.declared.exact.ExactClient.{ExactClient}
+use Rattle.world_model.specs.declared.exact.ExactClientPhase.{ExactClientPhase}
+use Rattle.world_model.specs.declared.exact.ExactClientPhase.TheVariants as client
+use Rattle.world_model.specs.declared.exact.ExactWorld.{ExactWorld}
+use Rattle.world_model.specs.ExactWorlds.{numbered}
+use Rattle.world_model.specs.Forgetting.{station_of, client_phase_of, node_at, client_at, forget}
+use Rattle.world_model.specs.Views.{ticket_in, ticket_at, ticket_inside}
+use Rattle.world_model.specs.Worlds.{ClientPhase, ClientDown, ClientIdle, Chosen, Asking, IsIn}
+use Rattle.world_machine.specs.Listing.{Tells, IsInsideBy}
+use Rattle.world_machine.specs.Machines.{node_part, client_part, world_view}
+use Rattle.world_machine.proofs.ListFacts.{numbered-map}
+
+-- one element more
+flat_map-next : {A B : Type 0} (f : A → List B) (xs : List A) (i : ℕ) (x : A) → slice_get xs i ≡ Some x → flat_map f (take (i + 1) xs) ≡ flat_map f (take i xs) ++ f x
+flat_map-next f xs i x h =
+    ap (λ n. flat_map f (take n xs)) (let e : i + 1 ≡ suc i = omega arith in e)
+    ∙ ap (flat_map f) (take-suc xs i x (slice_get_within xs i x h) ∙ ap (λ y. take i xs ++ y ∷ []) (get_or_from_slice_get xs i x x h))
+    ∙ flat_map-append f (take i xs) (x ∷ []) ∙ ap (λ ys. flat_map f (take i xs) ++ ys) (append-nil (f x))
+
+-- each place within a list has something
+there : {A : Type 0} (xs : List A) (i : ℕ) → i < length xs → (x : A) × (slice_get xs i ≡ Some x)
+there [] i within = absurd (omega (arith, within))
+there (x ∷ xs) i within = (get_or (x ∷ xs) i x, slice_get-get_or (x ∷ xs) i x within)
+
+-- what the element at a place gives is what comes behind that of those before it
+pub flat_map-more : {A B : Type 0} (f : A → List B) (xs : List A) (i : ℕ) (ys : List B) → i < length xs → ((x : A) → slice_get xs i ≡ Some x → ys ≡ f x) →
+    flat_map f (take i xs) ++ ys ≡ flat_map f (take (i + 1) xs)
+flat_map-more f xs i ys within gives =
+    let at = there xs i within in
+    ap (λ zs. flat_map f (take i xs) ++ zs) (gives at.0 at.1) ∙ sym (flat_map-next f xs i at.0 at.1)
+
+-- the part of a client under its number
+pub client-at : (w : ExactWorld) (cs : List ActingClient) (c : ℕ) (k : ActingClient) → w.clients ≡ map client_part cs → numbered cs c ≡ Some k → numbered w.clients c ≡ Some k.part
+client-at w cs c k is at = ap (λ xs. numbered xs c) is ∙ numbered-map client_part cs c ∙ ap (option_map client_part) at
+
+-- the actors of a world, from the lists that it is seen by
+pub nodes-of : (w : ExactWorld) (b : Ballot) (ns : List ActingNode) (cs : List ActingClient) (sent : List Message) (seen : List ActingNode) → world_view b ns cs sent ≡ w → seen ≡ ns → w.nodes ≡ map node_part seen
+nodes-of w b ns cs sent seen is same = ap (λ (v : ExactWorld). v.nodes) (sym is) ∙ ap (map node_part) (sym same)
+
+pub clients-of : (w : ExactWorld) (b : Ballot) (ns : List ActingNode) (cs : List ActingClient) (sent : List Message) (seen : List ActingClient) → world_view b ns cs sent ≡ w → seen ≡ cs → w.clients ≡ map client_part seen
+clients-of w b ns cs sent seen is same = ap (λ (v : ExactWorld). v.clients) (sym is) ∙ ap (map client_part) (sym same)
+
+-- what is answered is such, where all that is there is
+pub tells-such : {A B : Type 0} (view : A → B) (there : Option B) (P : B → Type 0) (r : Result A StepFault) → ((b : B) → there ≡ Some b → P b) → Tells view there r → IfOk r (λ a. P (view a))
+tells-such view there P (Ok a) such told = such (view a) told
+tells-such view there P (Err f) such told = tt
+
+-- a list made of what a node has kept is such, where that of each such station is
+pub listed-such : (f : ExactNode → List Ticket) (P : Station → List Ticket → Type 0) (w : ExactWorld) (n : ℕ) (l : List Ticket) → ((v : ExactNode) → numbered w.nodes n ≡ Some v → P (station_of v.kept) (f v)) →
+    option_map f (numbered w.nodes n) ≡ Some l → P ((forget w).nodes n).kept l
+listed-such f P w n l each = go (numbered w.nodes n) refl
+  where
+    go : (o : Option ExactNode) → numbered w.nodes n ≡ o → option_map f o ≡ Some l → P (node_at o).kept l
+    go None is h = absurd (let q : None ≡ Some l = h in cc)
+    go (Some v) is h =
+        let q : Some (f v) ≡ Some l = h in
+        let same : f v ≡ l = cc in subst (P (station_of v.kept)) same (each v is)
+
+-- a client is inside by the ticket of its phase
+
+abbrev InsideBy : ClientPhase → Option Ticket → Mode → List ℕ → Type 0
+InsideBy phase found m x =
+    ((t : Ticket) × (granted : ℕ → Bool) × (phase ≡ IsIn t granted) × (t.mode ≡ m) × (t.resource ≡ x)) ↔ ((t : Ticket) × (found ≡ Some t) × (t.mode ≡ m) × (t.resource ≡ x))
+
+nobody-by : (phase : ClientPhase) (m : Mode) (x : List ℕ) → ((t : Ticket) (granted : ℕ → Bool) → phase ≡ IsIn t granted → ⊥) → InsideBy phase None m x
+nobody-by phase m x none = (λ h. absurd (none h.0 h.1 h.2), λ h. absurd (let q : None ≡ Some h.0 = h.1 in cc))
+
+phase-by : (p : ExactClientPhase) (m : Mode) (x : List ℕ) → InsideBy (client_phase_of p) (ticket_in p) m x
+phase-by client.Down m x = nobody-by ClientDown m x (λ t granted e. let q : ClientDown ≡ IsIn t granted = e in cc)
+phase-by client.Idle m x = nobody-by ClientIdle m x (λ t granted e. let q : ClientIdle ≡ IsIn t granted = e in cc)
+phase-by (client.Chosen u) m x = nobody-by (Chosen u) m x (λ t granted e. let q : Chosen u ≡ IsIn t granted = e in cc)
+phase-by (client.Asking u by) m x = nobody-by (Asking u (has_node by)) m x (λ t granted e. let q : Asking u (has_node by) ≡ IsIn t granted = e in cc)
+phase-by (client.Inside u by) m x = (
+  λ h. let q : IsIn u (has_node by) ≡ IsIn h.0 h.1 = h.2 in let same : u ≡ h.0 = cc in (h.0, ap Some same, h.3, h.4),
+  λ h. let q : Some u ≡ Some h.0 = h.1 in let same : u ≡ h.0 = cc in (h.0, has_node by, ap (λ t. IsIn t (has_node by)) same, h.2, h.3),
+)
+
+pub inside-by : (w : ExactWorld) (c : ℕ) → IsInsideBy (forget w) c (ticket_inside c w)
+inside-by w c m x = go (numbered w.clients c)
+  where
+    go : (o : Option ExactClient) → InsideBy (client_at o).phase (ticket_at o) m x
+    go None = nobody-by ClientDown m x (λ t granted e. let q : ClientDown ≡ IsIn t granted = e in cc)
+    go (Some k) = phase-by k.phase m x

@@ -1,0 +1,174 @@
+-- Actors put in order one after the other, and the records from which a world is opened.
+use Rattle.std.proofs.Common.{◌≡◌, ℕ, ◌+◌, ◌-◌, ◌<◌, ◌≤◌, ◌⊎◌, List, [], ◌∷◌, ◌++◌, length, get_or, map, replicate, take, zero, suc, Some, None, refl, sym, ◌∙◌, ap, subst, inl, inr, append_assoc, arith}
+use Rattle.std.specs.Prelude.{slice_get}
+use Rattle.std.specs.List.{AllByRecursion, remove}
+use Rattle.std.proofs.lemmas.List.{length-map, map-append, length-replicate, take_more}
+use Rattle.lock_messages.specs.declared.ids.TheConstants.{MAX_NODES, MAX_CLIENTS}
+use Rattle.lock_messages.specs.declared.messages.Message.{Message}
+use Rattle.lock_model.specs.declared.problems.Problem.{Problem}
+use Rattle.lock_model.specs.Ballots.{Ballot}
+use Rattle.stable_record.specs.declared.node_records.NodeRecord.{NodeRecord}
+use Rattle.stable_record.specs.Records.{IsNodeRecord}
+use Rattle.world_actors.specs.Acting.{ActingNode, ActingClient}
+use Rattle.world_model.specs.declared.exact.ExactStation.{ExactStation}
+use Rattle.world_model.specs.ExactWorlds.{numbered}
+use Rattle.world_model.specs.Forgetting.{IsSound}
+use Rattle.world_model.specs.Openings.{down_node, down_client, empty_station, resumed, IsResumable}
+use Rattle.world_opening.specs.Openings.{AreRecords, AreAttempts, station_in, stations_in}
+use Rattle.world_machine.specs.Machines.{node_part, client_part, world_view, AreNodes, AreClients, IsWorld}
+use Rattle.world_machine.specs.Opened.{problems_in, CanOpen}
+use Rattle.world_machine.proofs.ListFacts.{past-zero, numbered-one, numbered-next}
+
+-- lists with one more
+
+get-last : {A : Type 0} (xs : List A) (y : A) (i : ℕ) (x : A) → slice_get (xs ++ y ∷ []) i ≡ Some x → (slice_get xs i ≡ Some x) ⊎ ((i ≡ length xs) × (y ≡ x))
+get-last [] y zero x h = inr (refl, cc)
+get-last [] y (suc i) x h = absurd (let q : None ≡ Some x = h in cc)
+get-last (z ∷ xs) y zero x h = inl h
+get-last {A} (z ∷ xs) y (suc i) x h = go (get-last xs y i x h)
+  where
+    go : (slice_get xs i ≡ Some x) ⊎ ((i ≡ length xs) × (y ≡ x)) → (slice_get (z ∷ xs) (suc i) ≡ Some x) ⊎ ((suc i ≡ length (z ∷ xs)) × (y ≡ x))
+    go (inl e) = inl e
+    go (inr e) = inr (ap suc e.0, e.1)
+
+-- what holds of each under its number does so of one more
+each-more : {A : Type 0} (P : ℕ → A → Type 0) (xs : List A) (y : A) → ((n : ℕ) (x : A) → numbered xs n ≡ Some x → P n x) → P (length xs + 1) y → (n : ℕ) (x : A) → numbered (xs ++ y ∷ []) n ≡ Some x → P n x
+each-more {A} P xs y old new n x h = go (get-last xs y (n - 1) x (sym (past-zero (xs ++ y ∷ []) n one) ∙ h))
+  where
+    one : 1 ≤ n
+    one = (numbered-one (xs ++ y ∷ []) n x h).0
+
+    go : (slice_get xs (n - 1) ≡ Some x) ⊎ ((n - 1 ≡ length xs) × (y ≡ x)) → P n x
+    go (inl e) = old n x (past-zero xs n one ∙ e)
+    go (inr e) = subst (P n) e.1 (subst (λ m. P m y) (let q : length xs + 1 ≡ n = omega (arith, one, e.0) in q) new)
+
+pub nodes-more : (vs : List ActingNode) (v : ActingNode) → AreNodes vs → v.number ≡ length vs + 1 → AreNodes (vs ++ v ∷ [])
+nodes-more vs v old is = each-more (λ n u. u.number ≡ n) vs v old is
+
+pub clients-more : (b : Ballot) (ks : List ActingClient) (k : ActingClient) → AreClients b ks → k.number ≡ length ks + 1 → k.ballot ≡ b → AreClients b (ks ++ k ∷ [])
+clients-more b ks k old is same = each-more (λ c u. (u.number ≡ c) × (u.ballot ≡ b)) ks k old (is, same)
+
+-- one more of what was made of a list, one after the other
+pub map-more : {A B C : Type 0} (f : A → C) (g : B → C) (xs : List A) (ys : List B) (i : ℕ) (x : A) (d : B) → map f xs ≡ map g (take i ys) → i < length ys → f x ≡ g (get_or ys i d) → map f (xs ++ x ∷ []) ≡ map g (take (i + 1) ys)
+map-more f g xs ys i x d h within is =
+    map-append f xs (x ∷ []) ∙ ap (λ l. l ++ f x ∷ []) h ∙ ap (λ z. map g (take i ys) ++ z ∷ []) is
+    ∙ sym (map-append g (take i ys) (get_or ys i d ∷ [])) ∙ ap (map g) (sym (take_more ys i d within))
+
+-- the first of a list, and the rest
+
+pub first-solves : {X : Type 0} (f : X → Problem) (rs : List NodeRecord) (ps : List X) (r : NodeRecord) (p : X) → problems_in rs ≡ map f ps → 0 < length rs → r ≡ get_or rs 0 r → p ≡ get_or ps 0 p → r.policy ≡ f p
+first-solves f [] ps r p same some at_r at_p = absurd (omega arith)
+first-solves f (x ∷ rs) [] r p same some at_r at_p = absurd (cc)
+first-solves f (x ∷ rs) (y ∷ ps) r p same some at_r at_p = ap (λ s. s.policy) at_r ∙ (let e : x.policy ≡ f y = cc in e) ∙ ap f (sym at_p)
+
+pub rest-solves : {X : Type 0} (f : X → Problem) (rs : List NodeRecord) (ps qs : List X) → problems_in rs ≡ map f ps → 0 < length rs → qs ≡ remove ps 0 → problems_in (remove rs 0) ≡ map f qs
+rest-solves f [] ps qs same some left = absurd (omega arith)
+rest-solves f (x ∷ rs) [] qs same some left = absurd (cc)
+rest-solves f (x ∷ rs) (y ∷ ps) qs same some left = let e : problems_in rs ≡ map f ps = cc in e ∙ ap (map f) (sym left)
+
+pub first-good : (rs : List NodeRecord) (r : NodeRecord) → AllByRecursion IsNodeRecord rs → 0 < length rs → r ≡ get_or rs 0 r → IsNodeRecord r
+first-good [] r good some at = absurd (omega arith)
+first-good (x ∷ rs) r good some at = subst IsNodeRecord (sym at) good.0
+
+pub rest-good : (rs : List NodeRecord) → AllByRecursion IsNodeRecord rs → AllByRecursion IsNodeRecord (remove rs 0)
+rest-good [] good = tt
+rest-good (x ∷ rs) good = good.1
+
+pub rest-length : {A : Type 0} (xs : List A) → 0 < length xs → length (remove xs 0) + 1 ≡ length xs
+rest-length [] some = absurd (omega arith)
+rest-length (x ∷ xs) some = omega arith
+
+-- the first of the records goes over to the nodes
+pub parts-more : (vs : List ActingNode) (n : ℕ) (rs : List NodeRecord) (r : NodeRecord) → 0 < length rs → r ≡ get_or rs 0 r →
+    map node_part (vs ++ record { number = n; part = down_node (station_in r) } ∷ []) ++ map down_node (stations_in (remove rs 0)) ≡ map node_part vs ++ map down_node (stations_in rs)
+parts-more vs n [] r some at = absurd (omega arith)
+parts-more vs n (x ∷ rs) r some at =
+    let v : ActingNode = record { number = n; part = down_node (station_in r) } in
+    ap (λ l. l ++ map down_node (stations_in rs)) (map-append node_part vs (v ∷ []))
+    ∙ append_assoc (map node_part vs) (v.part ∷ []) (map down_node (stations_in rs))
+    ∙ ap (λ s. map node_part vs ++ down_node (station_in s) ∷ map down_node (stations_in rs)) at
+
+-- what records spell
+
+all-numbered : {A : Type 0} (P : A → Type 0) (xs : List A) → ((n : ℕ) (a : A) → numbered xs n ≡ Some a → P a) → AllByRecursion P xs
+all-numbered P [] h = tt
+all-numbered {A} P (x ∷ xs) h = (h 1 x refl, all-numbered P xs (λ n a e. h (n + 1) a (numbered-next (x ∷ xs) n ∙ next n a e)))
+  where
+    next : (n : ℕ) (a : A) → numbered xs n ≡ Some a → slice_get (x ∷ xs) n ≡ Some a
+    next n a e =
+        let one = (numbered-one xs n a e).0 in
+        ap (slice_get (x ∷ xs)) (let m : n ≡ suc (n - 1) = omega (arith, one) in m) ∙ (sym (past-zero xs n one) ∙ e)
+
+same-each : (rs : List NodeRecord) (ps : List Problem) → length rs ≡ length ps → ((i : ℕ) (r : NodeRecord) → slice_get rs i ≡ Some r → slice_get ps i ≡ Some r.policy) → problems_in rs ≡ ps
+same-each [] [] long h = refl
+same-each [] (p ∷ ps) long h = absurd (omega (arith, long))
+same-each (r ∷ rs) [] long h = absurd (omega (arith, long))
+same-each (r ∷ rs) (p ∷ ps) long h =
+    let first : Some p ≡ Some r.policy = h 0 r refl in
+    let rest : problems_in rs ≡ ps = same-each rs ps (omega (arith, long)) (λ i s e. h (suc i) s e) in
+    cc
+
+kept-good : (problems : List Problem) (found : List (List ℕ)) (records : List NodeRecord) → AreRecords problems found records → AllByRecursion IsNodeRecord records
+kept-good problems found records are = all-numbered IsNodeRecord records (λ n r e. (are.each n r e).reads.good)
+
+kept-problems : (problems : List Problem) (found : List (List ℕ)) (records : List NodeRecord) → AreRecords problems found records → length found ≡ length problems → problems_in records ≡ problems
+kept-problems problems found records are long = same-each records problems (are.count_is ∙ long) (λ i r e.
+    let h = are.each (i + 1) r (numbered-next records i ∙ e) in
+    sym (numbered-next problems i) ∙ h.solves ∙ ap Some (sym h.reads.problem))
+
+-- a world can be opened from what was judged, by policies that solve the problems
+pub can-open : {X V : Type 0} (f : X → Problem) (h : V → List ℕ) (b : Ballot) (policies lent : List X) (problems : List Problem) (nodes clients : List V) (records : List NodeRecord) (attempts : List ℕ) → lent ≡ policies → problems ≡ map f lent →
+    length policies ≡ length b.votes → length nodes ≡ length b.votes → length b.votes ≤ MAX_NODES → length clients ≤ MAX_CLIENTS → AreRecords problems (map h nodes) records → AreAttempts (map h clients) attempts →
+    (length problems ≡ length b.votes → IsResumable b (stations_in records) attempts) → CanOpen b (map f policies) records attempts
+can-open f h b policies lent problems nodes clients records attempts same told long nodes_long few_nodes few_clients are made fits =
+    let solved : problems ≡ map f policies = told ∙ ap (map f) same in
+    let solved_long : length problems ≡ length b.votes = ap length solved ∙ length-map policies f ∙ long in
+    let found_long : length (map h nodes) ≡ length problems = length-map nodes h ∙ nodes_long ∙ sym solved_long in
+    record {
+      good = kept-good problems (map h nodes) records are;
+      solve = kept-problems problems (map h nodes) records are found_long ∙ solved;
+      few_nodes = subst (λ n. n ≤ MAX_NODES) (sym (are.count_is ∙ found_long ∙ solved_long)) few_nodes;
+      few_clients = subst (λ n. n ≤ MAX_CLIENTS) (sym (made.count_is ∙ length-map clients h)) few_clients;
+      resumable = fits solved_long;
+    }
+
+empty-problems : (rs : List NodeRecord) (ps : List Problem) → stations_in rs ≡ map empty_station ps → problems_in rs ≡ ps
+empty-problems [] [] same = refl
+empty-problems [] (p ∷ ps) same = absurd (cc)
+empty-problems (r ∷ rs) [] same = absurd (cc)
+empty-problems (r ∷ rs) (p ∷ ps) same =
+    let first : station_in r ≡ empty_station p = cc in
+    let rest : stations_in rs ≡ map empty_station ps = cc in
+    let problem : r.policy ≡ p = ap (λ s. s.problem) first in
+    let others : problems_in rs ≡ ps = empty-problems rs ps rest in
+    cc
+
+-- and where nothing is kept
+pub can-open-empty : {X : Type 0} (f : X → Problem) (b : Ballot) (policies lent : List X) (n : ℕ) (records : List NodeRecord) (attempts : List ℕ) → lent ≡ policies → length policies ≡ length b.votes → length b.votes ≤ MAX_NODES → n ≤ MAX_CLIENTS →
+    AllByRecursion IsNodeRecord records → stations_in records ≡ map empty_station (map f lent) → attempts ≡ replicate n 0 →
+    (length (map f policies) ≡ length b.votes → IsResumable b (map empty_station (map f policies)) (replicate n 0)) → CanOpen b (map f policies) records attempts
+can-open-empty f b policies lent n records attempts same long few_nodes few_clients good made zeros fits =
+    let problems : List Problem = map f policies in
+    let stations : stations_in records ≡ map empty_station problems = made ∙ ap (λ ps. map empty_station (map f ps)) same in
+    let solve : problems_in records ≡ problems = empty-problems records problems stations in
+    let solved_long : length problems ≡ length b.votes = length-map policies f ∙ long in
+    record {
+      good = good;
+      solve = solve;
+      few_nodes = subst (λ k. k ≤ MAX_NODES) (sym (sym (length-map records (λ r. r.policy)) ∙ ap length solve ∙ solved_long)) few_nodes;
+      few_clients = subst (λ k. k ≤ MAX_CLIENTS) (sym (ap length zeros ∙ length-replicate n 0)) few_clients;
+      resumable = subst (λ ss. IsResumable b ss attempts) (sym stations) (subst (IsResumable b (map empty_station problems)) (sym zeros) (fits solved_long));
+    }
+
+-- the world that is opened
+
+pub opened-view : (b : Ballot) (vs : List ActingNode) (ks : List ActingClient) (sent : List Message) (stations : List ExactStation) (attempts : List ℕ) →
+    map node_part vs ≡ map down_node stations → map client_part ks ≡ map down_client attempts → sent ≡ [] → world_view b vs ks sent ≡ resumed b stations attempts
+opened-view b vs ks sent stations attempts nodes clients none = λ i. record { ballot = b; nodes = nodes i; clients = clients i; sent = none i }
+
+pub opened-world : (b : Ballot) (vs : List ActingNode) (ks : List ActingClient) (sent : List Message) (stations : List ExactStation) (attempts : List ℕ) →
+    map node_part vs ≡ map down_node stations → map client_part ks ≡ map down_client attempts → sent ≡ [] → AreNodes vs → AreClients b ks → IsSound (resumed b stations attempts) → IsWorld b vs ks sent
+opened-world b vs ks sent stations attempts nodes clients none in_order with_ballot sound = record {
+  order = record { nodes = in_order; clients = with_ballot; room = omega (arith, ap length none) };
+  sound = subst IsSound (sym (opened-view b vs ks sent stations attempts nodes clients none)) sound;
+}

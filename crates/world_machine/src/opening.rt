@@ -1,0 +1,263 @@
+// Opening a world: with nothing kept, or from records.
+
+ghost use Rattle.std.specs.Prelude.{◌≡◌, ◌∷◌, [], ◌+◌, ◌<◌, ◌≤◌, ◌++◌, length, map, replicate, IfOk, IfErr};
+ghost use Rattle.std.specs.List.{AllByRecursion};
+ghost use Rattle.std.specs.Vec.{vec_len, vec_capacity};
+ghost use Rattle.lock_messages.specs.declared.ids.TheConstants.{MAX_NODES, MAX_CLIENTS, MAX_ATTEMPT};
+ghost use Rattle.stable_record.specs.Records.{IsNodeRecord};
+ghost use Rattle.world_model.specs.Forgetting.{forget, setting_of};
+ghost use Rattle.world_model.specs.Openings.{down_node, down_client, empty_station, opening, resumed};
+ghost use Rattle.world_model.specs.Worlds.{IsLawfulOpening};
+ghost use Rattle.world_opening.specs.Openings.{IsRefusedOpening, station_in, stations_in};
+ghost use Rattle.world_opening.specs.declared.faults.OpeningFault.TheVariants as fault;
+ghost use Rattle.world_machine.specs.Machines.{node_part, client_part, AreNodes, AreClients};
+ghost use Rattle.world_machine.specs.Opened.{IsResumed, CanOpen, problems_in};
+
+use crate::World;
+use admission_policy::{Admission, problem_of};
+use lock_messages::{ClientId, NodeId};
+use lock_model::Problem;
+use stable_record::{Entries, NodeRecord};
+use std::alloc::{AllocError, Global};
+use vote_weights::Ballot;
+use world_actors::{WorldClient, WorldNode};
+use world_model::laws::openings_are_lawful;
+use world_opening::{Opening, OpeningFault, judge};
+
+/// The problem that a policy in a box solves.
+fn solved_by(policy: &Box<dyn Admission + Send>) -> Problem
+    ensures { result ≡ problem_of policy.now }
+{
+    problem_of(&**policy)
+}
+
+/// The problems that the policies solve, in order.
+fn problems_of(
+    alloc: Global,
+    policies: &[Box<dyn Admission + Send>],
+) -> Result<Vec<Problem>, AllocError>
+    ensures { IfOk result (λ v. v.items ≡ map (λ p. problem_of p) policies.now) }
+{
+    let mut problems = Vec::new(alloc);
+    for policy in policies {
+        problems.push(solved_by(policy))?;
+    }
+    Ok(problems)
+}
+
+/// The node, or the client, at a place that is counted from 0.
+fn node_at(place: usize) -> NodeId
+    requires { place < MAX_NODES }
+    ensures { result ≡ place + 1 }
+{
+    NodeId::of(place as u8 + 1).unwrap()
+}
+
+fn client_at(place: usize) -> ClientId
+    requires { place < MAX_CLIENTS }
+    ensures { result ≡ place + 1 }
+{
+    ClientId::of(place as u32 + 1).unwrap()
+}
+
+/// Clients that are down and have kept these attempts.
+fn clients_of(
+    alloc: Global,
+    ballot: Ballot,
+    attempts: &[u64],
+) -> Result<Vec<WorldClient>, AllocError>
+    requires few { length attempts.now ≤ MAX_CLIENTS }
+    requires in_range { AllByRecursion (λ a. a ≤ MAX_ATTEMPT) attempts.now }
+    ensures parts { IfOk result (λ v. map client_part v.items ≡ map down_client attempts.now) }
+    ensures order { IfOk result (λ v. AreClients ballot v.items) }
+{
+    let mut clients = Vec::with_capacity(alloc, attempts.len())?;
+    for place in 0..attempts.len() {
+        let client = WorldClient::opened(client_at(place), attempts[place], ballot);
+        clients.push(client)?;
+    }
+    Ok(clients)
+}
+
+/// One node more, down with this station kept. There is room for it.
+fn put_node(
+    alloc: Global,
+    nodes: &mut Vec<WorldNode>,
+    id: NodeId,
+    station: NodeRecord,
+    policy: Box<dyn Admission + Send>,
+)
+    requires room { vec_len nodes.old < vec_capacity nodes.old }
+    requires good { IsNodeRecord station }
+    requires problem { station.policy ≡ problem_of policy }
+    ensures node { nodes.new.items ≡ nodes.old.items ++ record { number = id; part = down_node (station_in station) } ∷ [] }
+    ensures capacity { vec_capacity nodes.old ≤ vec_capacity nodes.new }
+{
+    let Ok(node) = WorldNode::opened(alloc, id, station, policy) else {
+        unreachable!();
+    };
+    let Ok(()) = nodes.push(node) else {
+        unreachable!();
+    };
+}
+
+/// Nodes that are down and have kept these records; the policies back where memory was refused.
+fn nodes_of(
+    alloc: Global,
+    records: Vec<NodeRecord>,
+    policies: Vec<Box<dyn Admission + Send>>,
+) -> Result<Vec<WorldNode>, Vec<Box<dyn Admission + Send>>>
+    requires good { AllByRecursion IsNodeRecord records.items }
+    requires few { length records.items ≤ MAX_NODES }
+    requires problems { problems_in records.items ≡ map (λ p. problem_of p) policies.items }
+    ensures parts { IfOk result (λ nodes. map node_part nodes.items ≡ map down_node (stations_in records.items)) }
+    ensures order { IfOk result (λ nodes. AreNodes nodes.items) }
+    ensures back { IfErr result (λ back. back.items ≡ policies.items) }
+{
+    let count = records.len();
+    let Ok(mut nodes) = Vec::with_capacity(alloc, count) else {
+        return Err(policies);
+    };
+    let mut records = records;
+    let mut policies = policies;
+    for place in 0..count {
+        let station = records.remove(0);
+        let policy = policies.remove(0);
+        put_node(alloc, &mut nodes, node_at(place), station, policy);
+    }
+    Ok(nodes)
+}
+
+/// Records without entries, of these problems.
+fn empty_records(alloc: Global, problems: &[Problem]) -> Result<Vec<NodeRecord>, AllocError>
+    ensures stations { IfOk result (λ v. stations_in v.items ≡ map empty_station problems.now) }
+    ensures good { IfOk result (λ v. AllByRecursion IsNodeRecord v.items) }
+{
+    let mut records = Vec::with_capacity(alloc, problems.len())?;
+    for problem in problems {
+        records.push(NodeRecord {
+            policy: *problem,
+            entries: Entries::new(alloc),
+        })?;
+    }
+    Ok(records)
+}
+
+/// What is kept by nodes with these policies, and by so many clients, before anything was.
+fn nothing_kept(
+    alloc: Global,
+    policies: &[Box<dyn Admission + Send>],
+    clients: u16,
+) -> Result<Opening, AllocError>
+    ensures stations { IfOk result (λ o. stations_in o.records.items ≡ map empty_station (map (λ p. problem_of p) policies.now)) }
+    ensures good { IfOk result (λ o. AllByRecursion IsNodeRecord o.records.items) }
+    ensures attempts { IfOk result (λ o. o.attempts.items ≡ replicate clients 0) }
+{
+    let problems = problems_of(alloc, policies)?;
+    let records = empty_records(alloc, &problems)?;
+    let attempts = vec![in alloc; 0; clients as usize]?;
+    Ok(Opening { records, attempts })
+}
+
+/// The world in which each actor is down with what is kept; the policies back where memory was refused.
+fn opened(
+    alloc: Global,
+    ballot: Ballot,
+    policies: Vec<Box<dyn Admission + Send>>,
+    kept: Opening,
+) -> Result<World, Vec<Box<dyn Admission + Send>>>
+    requires { CanOpen ballot (map (λ p. problem_of p) policies.items) kept.records.items kept.attempts.items }
+    ensures world { IfOk result (λ w. w ≡ resumed ballot (stations_in kept.records.items) kept.attempts.items) }
+    ensures lawful { IfOk result (λ w. IsLawfulOpening (setting_of w) (forget w)) }
+    ensures back { IfErr result (λ back. back.items ≡ policies.items) }
+{
+    openings_are_lawful();
+    let Opening { records, attempts } = kept;
+    let Ok(clients) = clients_of(alloc, ballot, &attempts) else {
+        return Err(policies);
+    };
+    match nodes_of(alloc, records, policies) {
+        Ok(nodes) => Ok(World {
+            alloc,
+            ballot,
+            nodes,
+            clients,
+            sent: Vec::new(alloc),
+        }),
+        Err(policies) => Err(policies),
+    }
+}
+
+impl World {
+    /// The world in which nothing is kept: all actors are down, the nodes' records are empty, no client
+    /// has made an attempt, and nothing is sent. Node 1 has the first policy, node 2 the second and so on.
+    ///
+    /// The caller owes 1 to `MAX_CLIENTS` clients, and one policy for each node of the ballot. The only
+    /// error is want of memory (613), and then the policies come back as they were.
+    pub fn start(
+        alloc: Global,
+        ballot: Ballot,
+        clients: u16,
+        policies: Vec<Box<dyn Admission + Send>>,
+    ) -> Result<World, (OpeningFault, Vec<Box<dyn Admission + Send>>)>
+        requires some_client { 1 ≤ clients }
+        requires few_clients { clients ≤ MAX_CLIENTS }
+        requires policies { length policies.items ≡ length ballot.votes }
+        ensures world { IfOk result (λ w. w ≡ opening ballot (map (λ p. problem_of p) policies.items) clients) }
+        ensures lawful { IfOk result (λ w. IsLawfulOpening (setting_of w) (forget w)) }
+        ensures memory { IfErr result (λ refused. refused.0 ≡ fault.Memory) }
+        ensures back { IfErr result (λ refused. refused.1.items ≡ policies.items) }
+    {
+        openings_are_lawful();
+        let _nodes = ballot.nodes();
+        let Ok(kept) = nothing_kept(alloc, &policies, clients) else {
+            return Err((OpeningFault::Memory, policies));
+        };
+        match opened(alloc, ballot, policies, kept) {
+            Ok(world) => Ok(world),
+            Err(policies) => Err((OpeningFault::Memory, policies)),
+        }
+    }
+
+    /// The world in which each actor has kept what its record says: all are down, nothing is tried and
+    /// nothing sent. Node 1 has the first policy and the first of `nodes`, client 1 the first of
+    /// `clients`, and so on. Each record is read once.
+    ///
+    /// The caller owes one policy and one record for each node of the ballot, and 1 to `MAX_CLIENTS`
+    /// records of clients.
+    ///
+    /// Errors: a record can't be read or is of the other problem than its node's policy (622), with the
+    /// first such actor, nodes first; then an entry's floor or attempt is above the attempt of its
+    /// client (621), where a client that isn't there counts as 0; and want of memory (613), which may
+    /// come before both. With each the policies come back as they were.
+    pub fn resume(
+        alloc: Global,
+        ballot: Ballot,
+        policies: Vec<Box<dyn Admission + Send>>,
+        nodes: &[Vec<u8>],
+        clients: &[Vec<u8>],
+    ) -> Result<World, (OpeningFault, Vec<Box<dyn Admission + Send>>)>
+        requires nodes { length nodes.now ≡ length ballot.votes }
+        requires policies { length policies.items ≡ length ballot.votes }
+        requires some_client { 1 ≤ length clients.now }
+        requires few_clients { length clients.now ≤ MAX_CLIENTS }
+        ensures world { IfOk result (IsResumed ballot (map (λ p. problem_of p) policies.items) (map (λ v. v.items) nodes.now) (map (λ v. v.items) clients.now)) }
+        ensures lawful { IfOk result (λ w. IsLawfulOpening (setting_of w) (forget w)) }
+        ensures refused { IfErr result (λ refused. IsRefusedOpening (map (λ p. problem_of p) policies.items) (map (λ v. v.items) nodes.now) (map (λ v. v.items) clients.now) refused.0) }
+        ensures back { IfErr result (λ refused. refused.1.items ≡ policies.items) }
+    {
+        openings_are_lawful();
+        let _nodes = ballot.nodes();
+        let Ok(problems) = problems_of(alloc, &policies) else {
+            return Err((OpeningFault::Memory, policies));
+        };
+        let kept = match judge(alloc, &problems, nodes, clients) {
+            Ok(kept) => kept,
+            Err(fault) => return Err((fault, policies)),
+        };
+        match opened(alloc, ballot, policies, kept) {
+            Ok(world) => Ok(world),
+            Err(policies) => Err((OpeningFault::Memory, policies)),
+        }
+    }
+}

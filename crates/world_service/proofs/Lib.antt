@@ -1,6 +1,0 @@
-mod ListFacts
-mod TurnFacts
-mod ActorFacts
-mod RunFacts
-mod ListingFacts
-mod OpeningFacts

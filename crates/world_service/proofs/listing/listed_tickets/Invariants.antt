@@ -1,7 +1,0 @@
-use Rattle.std.proofs.Common.{◌≡◌, take}
-use Rattle.world_model.specs.Views.{live_tickets}
-use Rattle.world_service.specs.Listing.{listed_by}
-use Rattle.world_service.proofs.listing.listed_tickets.Given as goal
-
-abbrev pub invariant-loop-place : goal.invariant-loop-place
-invariant-loop-place l = l.tickets.items ≡ live_tickets (listed_by l.status l.resource) (take l.place l.kept.entries)

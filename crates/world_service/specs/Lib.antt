@@ -1,4 +1,0 @@
-pub mod Doing
-pub mod Machines
-pub mod Listing
-pub mod Opened
