@@ -1,5 +1,5 @@
 -- Tickets for other resources than the freed one stay where they are.
-use Rattle.std.proofs.Common.{◌≡◌, ◌⊎◌, inl, inr, ℕ, zero, suc, ◌==◌, Bool, true, false, not, ◌||◌, ◌&&◌, cond, nat_lt, List, [], ◌∷◌, ◌++◌, map, Option, Some, None, set, slice_get, refl, sym, ap, ◌∙◌, subst}
+use Rattle.std.proofs.Common.{◌≡◌, ◌⊎◌, inl, inr, ℕ, zero, suc, ◌+◌, ◌≤◌, ◌==◌, Bool, true, false, not, ◌||◌, ◌&&◌, cond, nat_lt, List, [], ◌∷◌, ◌++◌, length, map, Option, Some, None, set, slice_get, refl, sym, ap, ◌∙◌, subst, arith}
 use Rattle.std.specs.List.{AllByRecursion, list_all}
 use Rattle.std.specs.Option.{option_map}
 use Rattle.std.specs.Str.{bytes_eq}
@@ -17,8 +17,10 @@ use Rattle.lock_model.specs.declared.problems.Problem.{Problem}
 use Rattle.lock_model.specs.ExactStations.{is_of, knows, entry_of, EachOnce, is_waiting, is_holding, is_write, if_live, any_live, holds, writer_holds, writer_waits, admits_reader, admits, promoted, settled_live, settled_entry, settle, settled}
 use Rattle.lock_model.specs.ExactDecisions.{ended_entry, ended, grant_of, told, grants}
 use Rattle.lock_model.specs.Judgement.{has_cause, is_caused}
-use Rattle.stable_record.specs.Lines.{is_for}
-use Rattle.voter_core.specs.Freed.{freed, is_freed, OthersStay}
+use Rattle.stable_record.specs.Lines.{is_for, waits_for, count_live, one_if}
+use Rattle.voter_core.specs.Freed.{freed, is_freed, OthersStay, waiting_for}
+use Rattle.voter_core.specs.Voters.{admitted_now}
+use Rattle.voter_core.proofs.PassFacts.{count-first, count-few}
 use Rattle.voter_core.proofs.EntryFacts.{set-same}
 use Rattle.voter_core.proofs.EndFacts.{ends_in, fresh, ends-unknown, ends-nothing, ended-known, ended-unknown, unknown-entry, known-entry}
 
@@ -291,3 +293,51 @@ none-freed (Some x) h = absurd (h x refl)
 pub others-freed : (p : Problem) (c a : ℕ) (es : List Entry) (o : Option (List ℕ)) (new : List Entry) → EachOnce es → is_caused p es ≡ true → o ≡ freed a (entry_of es c) → new ≡ ended c a es → OthersStay p o new
 others-freed p c a es o new once caused is made =
     subst (λ l. OthersStay p o l) (sym made) (subst (λ f. OthersStay p f (ended c a es)) (sym is) (freed-others p c a es once caused))
+
+-- ---- who is told a Grant waits for the freed resource
+
+pub waits-admitted : (p : Problem) (es : List Entry) (x : List ℕ) (live : Option Live) (m : Live) → Some m ≡ admitted_now p es live → if_live (is_for x) live ≡ true → if_live (waits_for x) live ≡ true
+waits-admitted p es x None m is h = cc
+waits-admitted p es x (Some l) m is h = go (is_waiting l.status) refl
+  where
+    go : (b : Bool) → is_waiting l.status ≡ b → (is_waiting l.status && bytes_eq l.resource x) ≡ true
+    go true w = ap (λ b. b && bytes_eq l.resource x) w ∙ h
+    go false w =
+        let clash : Some m ≡ None = is ∙ ap (λ b. cond (b && admits p l.mode l.resource es) (Some (promoted l)) None) w in
+        cc
+
+fewer : (o : Option (List ℕ)) (test : Live → Bool) (es fs : List Entry) → Sheds o es fs → count_live test fs ≤ count_live test es
+fewer o test [] [] h = omega arith
+fewer o test [] (f ∷ fs) h =
+    let none : count_live test (f ∷ fs) ≡ one_if false + count_live test fs = count-first test f fs ∙ ap (λ l. one_if (if_live test l) + count_live test fs) h.0 in
+    let rest : count_live test fs ≤ count_live test [] = fewer o test [] fs h.1 in
+    omega (arith, none, rest)
+fewer o test (e ∷ es) [] h = absurd h
+fewer o test (e ∷ es) (f ∷ fs) h = go (fewer o test es fs h.1) h.0
+  where
+    some : (b : Bool) → 0 ≤ one_if b
+    some b = omega arith
+
+    go : count_live test fs ≤ count_live test es → StaysOrSheds o e f → count_live test (f ∷ fs) ≤ count_live test (e ∷ es)
+    go rest (inl is) =
+        let new : count_live test (f ∷ fs) ≡ one_if (if_live test e.live) + count_live test fs = count-first test f fs ∙ ap (λ (x : Entry). one_if (if_live test x.live) + count_live test fs) is in
+        let old : count_live test (e ∷ es) ≡ one_if (if_live test e.live) + count_live test es = count-first test e es in
+        omega (arith, new, old, rest)
+    go rest (inr k) =
+        let new : count_live test (f ∷ fs) ≡ one_if false + count_live test fs = count-first test f fs ∙ ap (λ l. one_if (if_live test l) + count_live test fs) k.0 in
+        let old : count_live test (e ∷ es) ≡ one_if (if_live test e.live) + count_live test es = count-first test e es in
+        omega (arith, new, old, rest, some (if_live test e.live))
+
+fewer-waiting : (o : Option (List ℕ)) (es fs : List Entry) → Sheds o es fs → waiting_for o fs ≤ waiting_for o es
+fewer-waiting None es fs h = omega arith
+fewer-waiting (Some x) es fs h = fewer (Some x) (waits_for x) es fs h
+
+-- once the attempts have ended no more wait for the freed resource than before
+pub waiting-ended : (c a : ℕ) (es : List Entry) (o : Option (List ℕ)) (new : List Entry) → EachOnce es → o ≡ freed a (entry_of es c) → new ≡ ended c a es → waiting_for o new ≤ waiting_for (freed a (entry_of es c)) es
+waiting-ended c a es o new once is made =
+    subst (λ l. waiting_for o l ≤ waiting_for (freed a (entry_of es c)) es) (sym made)
+    (subst (λ f. waiting_for f (ended c a es) ≤ waiting_for (freed a (entry_of es c)) es) (sym is) (fewer-waiting (freed a (entry_of es c)) es (ended c a es) (sheds-ended c a es once)))
+
+pub waiting-few : (o : Option (List ℕ)) (es : List Entry) → waiting_for o es ≤ length es
+waiting-few None es = omega arith
+waiting-few (Some x) es = count-few (waits_for x) es

@@ -1,12 +1,15 @@
 -- Settling by one pass over the places.
-use Rattle.std.proofs.Common.{◌≡◌, ℕ, ◌+◌, ◌<◌, ◌≤◌, List, [], ◌∷◌, ◌++◌, length, Some, slice_get, get_or, set, take, drop, refl, sym, ◌∙◌, ap, arith}
+use Rattle.std.proofs.Common.{◌≡◌, ℕ, suc, Bool, true, false, cond, filter, ◌+◌, ◌<◌, ◌≤◌, List, [], ◌∷◌, ◌++◌, length, Some, slice_get, get_or, set, take, drop, refl, sym, ◌∙◌, ap, arith}
 use Rattle.std.proofs.lemmas.List.{append_assoc, append-nil, take_more, take_more_set, drop_more, drop-set-lt, length-set, take-append-drop, length-take-le, take_all, drop_all}
+use Rattle.std.proofs.lemmas.List.Filters.{length-filter_more}
 use Rattle.std.proofs.lemmas.Option.{get_or_from_slice_get}
 use Rattle.lock_messages.specs.declared.messages.Message.{Message}
 use Rattle.lock_model.specs.declared.entries.Entry.{Entry}
+use Rattle.lock_model.specs.declared.entries.Live.{Live}
 use Rattle.lock_model.specs.declared.problems.Problem.{Problem}
-use Rattle.lock_model.specs.ExactStations.{settled_entry, settle, settled}
+use Rattle.lock_model.specs.ExactStations.{if_live, settled_entry, settle, settled}
 use Rattle.lock_model.specs.ExactDecisions.{told, grants}
+use Rattle.stable_record.specs.Lines.{count_live, one_if}
 
 -- the first k entries have settled, the others are as they were, and the Grants of the first are told
 pub record SettledUpTo (p : Problem) (n : ℕ) (old : List Entry) (first : List Message) (k : ℕ) (now : List Entry) (replies : List Message) : Type 0 where
@@ -58,3 +61,48 @@ settled-all p n old first k now replies s h =
 pub told-all : (p : Problem) (n : ℕ) (old : List Entry) (first : List Message) (k : ℕ) (now : List Entry) (replies : List Message) → SettledUpTo p n old first k now replies → length now ≤ k → replies ≡ first ++ grants n old now
 told-all p n old first k now replies s h =
     s.told_so ∙ ap (λ es. first ++ grants n es (take k now)) (take_all k old (omega (arith, s.size))) ∙ ap (λ fs. first ++ grants n old fs) (take_all k now h)
+
+pub count-first : (test : Live → Bool) (e : Entry) (es : List Entry) → count_live test (e ∷ es) ≡ one_if (if_live test e.live) + count_live test es
+count-first test e es = go (if_live test e.live)
+  where
+    left : List Entry
+    left = filter (λ d. if_live test d.live) es
+
+    go : (b : Bool) → length (cond b (e ∷ left) left) ≡ one_if b + length left
+    go true = omega arith
+    go false = omega arith
+
+-- of those that are left, the next counts or doesn't
+pub count-next : (p : Problem) (n : ℕ) (old : List Entry) (first : List Message) (k : ℕ) (now : List Entry) (replies : List Message) (test : Live → Bool) (e : Entry) → SettledUpTo p n old first k now replies →
+    k < length now → slice_get now k ≡ Some e → count_live test (drop k old) ≡ one_if (if_live test e.live) + count_live test (drop (k + 1) old)
+count-next p n old first k now replies test e s below found =
+    let is : e ≡ get_or now k e = sym (get_or_from_slice_get now k e e found) in
+    let inside : k < length old = omega (arith, s.size) in
+    let split : drop k now ≡ e ∷ drop (k + 1) now = drop_more now k e below ∙ ap (λ x. x ∷ drop (k + 1) now) (sym is) in
+    let old_split : drop k old ≡ get_or old k e ∷ drop (k + 1) old = drop_more old k e inside in
+    let heads : e ∷ drop (k + 1) now ≡ get_or old k e ∷ drop (k + 1) old = sym split ∙ s.rest ∙ old_split in
+    let same : e ≡ get_or old k e = cc in
+    ap (count_live test) (old_split ∙ ap (λ x. x ∷ drop (k + 1) old) (sym same)) ∙ count-first test e (drop (k + 1) old)
+
+-- so there is room for it
+pub room-next : (left len most total : ℕ) (b : Bool) → len + total ≤ most → total ≡ one_if b + left → b ≡ true → len < most
+room-next left len most total b room is k =
+    let one : total ≡ 1 + left = is ∙ ap (λ c. one_if c + left) k in
+    omega (arith, one, room)
+
+pub count-few : (test : Live → Bool) (es : List Entry) → count_live test es ≤ length es
+count-few test [] = omega arith
+count-few test (f ∷ es) = go (if_live test f.live) (count-few test es)
+  where
+    left : List Entry
+    left = filter (λ d. if_live test d.live) es
+
+    go : (b : Bool) → length left ≤ length es → length (cond b (f ∷ left) left) ≤ suc (length es)
+    go true h = omega (arith, h)
+    go false h = omega (arith, h)
+
+-- the count of the first entries, one more
+pub count-more : (test : Live → Bool) (es : List Entry) (k : ℕ) (e : Entry) → k < length es → slice_get es k ≡ Some e → count_live test (take (k + 1) es) ≡ count_live test (take k es) + one_if (if_live test e.live)
+count-more test es k e lt at =
+    length-filter_more (λ d. if_live test d.live) es k e lt
+    ∙ ap (λ (d : Entry). count_live test (take k es) + one_if (if_live test d.live)) (get_or_from_slice_get es k e e at)

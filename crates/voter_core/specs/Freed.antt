@@ -1,12 +1,14 @@
 -- What a node has to settle: the tickets of the resource of a ticket that ended. No other waits in vain.
-use Rattle.std.specs.Prelude.{◌≡◌, ℕ, Bool, true, false, List, Option, Some, None, nat_lt, if◌then◌else◌}
+use Rattle.std.specs.Prelude.{◌≡◌, ℕ, ◌-◌, Bool, true, false, List, Option, Some, None, nat_lt, if◌then◌else◌}
 use Rattle.std.specs.List.{AllByRecursion}
 use Rattle.std.specs.Option.{option_map}
+use Rattle.lock_messages.specs.declared.messages.Message.{Message}
+use Rattle.lock_messages.specs.declared.messages.Message.TheVariants.{Request, Release, Grant, Busy, Over, Done, Muddled}
 use Rattle.lock_model.specs.declared.entries.Entry.{Entry}
 use Rattle.lock_model.specs.declared.entries.Live.{Live}
 use Rattle.lock_model.specs.declared.problems.Problem.{Problem}
-use Rattle.lock_model.specs.ExactStations.{if_live, settled_entry}
-use Rattle.stable_record.specs.Lines.{is_for}
+use Rattle.lock_model.specs.ExactStations.{entry_of, if_live, settled_entry}
+use Rattle.stable_record.specs.Lines.{is_for, waits_for, count_live}
 
 -- the resource of the ticket that ends with the client's attempts up to a, if one does
 abbrev pub freed : ℕ → Option Entry → Option (List ℕ)
@@ -21,3 +23,18 @@ is_freed (Some x) l = is_for x l
 -- no ticket but those for the freed resource would settle among the entries
 abbrev pub OthersStay : Problem → Option (List ℕ) → List Entry → Type 0
 OthersStay p freed entries = AllByRecursion (λ e. if_live (is_freed freed) e.live ≡ false → settled_entry p entries e ≡ e) entries
+
+-- the resource of the ticket that ends where the message is taken, if one does
+abbrev pub freed_by : List Entry → Message → Option (List ℕ)
+freed_by entries (Request n t) = freed (t.attempt - 1) (entry_of entries t.client)
+freed_by entries (Release n c a) = freed a (entry_of entries c)
+freed_by entries (Grant n t) = None
+freed_by entries (Busy n t) = None
+freed_by entries (Over n c a) = None
+freed_by entries (Done n c a) = None
+freed_by entries (Muddled n c a) = None
+
+-- how many tickets wait for the freed resource: no more than these are told a Grant
+abbrev pub waiting_for : Option (List ℕ) → List Entry → ℕ
+waiting_for None entries = 0
+waiting_for (Some x) entries = count_live (waits_for x) entries

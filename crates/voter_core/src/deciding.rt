@@ -1,16 +1,18 @@
 // A node's decision on a message, made in its entries.
 
-ghost use Rattle.std.specs.Prelude.{◌≡◌, ◌≢◌, ◌≤◌, ◌<◌, ◌+◌, ◌↔◌, [], length, Bool, true, Some, None, nat_lt, is_ok, IfOk, OnOk, OnErr, IsTrue, slice_set, if◌then◌else◌};
+ghost use Rattle.std.specs.Prelude.{◌≡◌, ◌≢◌, ◌≤◌, ◌<◌, ◌+◌, ◌-◌, ◌↔◌, [], length, Bool, true, Some, None, nat_lt, is_ok, IfOk, OnOk, OnErr, IsTrue, slice_get, slice_set, if◌then◌else◌};
 ghost use Rattle.std.specs.Vec.{vec_len, vec_capacity};
 ghost use Rattle.lock_messages.specs.declared.ids.TheConstants.{MAX_CLIENTS};
 ghost use Rattle.lock_messages.specs.declared.messages.Message.{Message};
 ghost use Rattle.lock_messages.specs.Messages.{IsTicket, IsMessage, is_for_node};
+ghost use Rattle.lock_model.specs.declared.entries.Entry.{Entry};
 ghost use Rattle.lock_model.specs.Laws.{IsAllowed};
 ghost use Rattle.stable_record.specs.Records.{IsNodeRecord};
-ghost use Rattle.lock_model.specs.ExactStations.{EachOnce, entry_of, knows};
+ghost use Rattle.lock_model.specs.ExactStations.{EachOnce, entry_of, knows, if_live};
 ghost use Rattle.lock_model.specs.ExactDecisions.{ended, moved_last, takes_up, releases, decision, Changes, changes};
 ghost use Rattle.lock_model.specs.Judgement.{is_caused};
-ghost use Rattle.voter_core.specs.Freed.{freed};
+ghost use Rattle.stable_record.specs.Lines.{waits_for, count_live};
+ghost use Rattle.voter_core.specs.Freed.{freed, freed_by, waiting_for};
 ghost use Rattle.voter_core.specs.Voters.{ends_something, is_admitted, note_for, note_of};
 
 use crate::asking::note;
@@ -18,18 +20,81 @@ use crate::settling::{admits, settle};
 use admission_policy::Admission;
 use lock_messages::{Attempt, ClientId, Message, NodeId, ResourceName, Ticket};
 use lock_model::laws::{changes_are_seen, decision_is_allowed, judgement_is_exact};
-use lock_model::{Entry, Problem, new_entry, reply_to_known};
+use lock_model::{Entry, Live, Problem, new_entry, reply_to_known};
 use stable_record::laws::entries_are_few;
 use stable_record::{Entries, NodeRecord};
 use std::alloc::{AllocError, Global};
 
-/// No replies yet, with room for the sender's and for a Grant to each client that has an entry then.
-pub(crate) fn room_for(alloc: Global, entries: &Entries) -> Result<Vec<Message>, AllocError>
+/// Whether the ticket waits for the resource.
+fn waits_for(live: &Option<Live>, resource: &ResourceName) -> bool
+    ensures { result ≡ if_live (waits_for resource.now) live.now }
+{
+    match live {
+        None => false,
+        Some(live) => live.waits() && live.resource == *resource,
+    }
+}
+
+/// Whether the entry at a place waits for the resource.
+fn waits_at(entries: &Entries, place: usize, resource: &ResourceName) -> bool
+    ensures { (e : Entry) → slice_get entries.now place ≡ Some e → result ≡ if_live (waits_for resource.now) e.live }
+{
+    match entries.get(place) {
+        None => false,
+        Some(entry) => waits_for(&entry.live, resource),
+    }
+}
+
+/// How many tickets wait for the resource.
+fn count_waiting(entries: &Entries, resource: &ResourceName) -> usize
+    ensures { result ≡ count_live (waits_for resource.now) entries.now }
+{
+    let mut count = 0usize;
+    for place in 0..entries.len() {
+        if waits_at(entries, place, resource) {
+            count += 1;
+        }
+    }
+    count
+}
+
+/// The resource of the ticket that ends where the message is taken, if one does.
+pub(crate) fn freed_by(entries: &Entries, message: &Message) -> Option<ResourceName>
+    ensures { result ≡ freed_by entries.now message.now }
+{
+    match message {
+        Message::Request(_, ticket) => freed(entries, ticket.client, ticket.attempt.get() - 1),
+        Message::Release(_, client, attempt) => freed(entries, *client, attempt.get()),
+        Message::Grant(..)
+        | Message::Busy(..)
+        | Message::Over(..)
+        | Message::Done(..)
+        | Message::Muddled(..) => None,
+    }
+}
+
+/// How many tickets wait for the freed resource.
+fn waiting_for(entries: &Entries, freed: &Option<ResourceName>) -> usize
+    ensures { result ≡ waiting_for freed.now entries.now }
+{
+    match freed {
+        None => 0,
+        Some(resource) => count_waiting(entries, resource),
+    }
+}
+
+/// No replies yet, with room for the sender's and for a Grant to each ticket that waits for the freed
+/// resource.
+pub(crate) fn room_for(
+    alloc: Global,
+    entries: &Entries,
+    freed: Option<ResourceName>,
+) -> Result<Vec<Message>, AllocError>
     requires { length entries.now ≤ MAX_CLIENTS }
-    ensures { IfOk result (λ replies. (replies.items ≡ []) × (vec_len replies ≡ 0) × (length entries.now + 2 ≤ vec_capacity replies)) }
+    ensures { IfOk result (λ replies. (replies.items ≡ []) × (vec_len replies ≡ 0) × (waiting_for freed entries.now + 1 ≤ vec_capacity replies)) }
 {
     let mut replies = Vec::new(alloc);
-    replies.reserve(entries.len() + 2)?;
+    replies.reserve(waiting_for(entries, &freed) + 1)?;
     Ok(replies)
 }
 
@@ -87,7 +152,7 @@ fn release(
     replies: &mut Vec<Message>,
 ) -> Result<bool, AllocError>
     requires none { (replies.old.items ≡ []) × (vec_len replies.old ≡ 0) }
-    requires room { length entries.old + 2 ≤ vec_capacity replies.old }
+    requires room { waiting_for (freed attempt (entry_of entries.old client)) entries.old + 1 ≤ vec_capacity replies.old }
     requires caused { is_caused problem entries.old ≡ true }
     ensures entries { entries.new ≡ (if is_ok result then (releases node problem entries.old client attempt).entries else entries.old) }
     ensures replies { OnOk result (replies.new.items ≡ (releases node problem entries.old client attempt).replies) }
@@ -128,7 +193,7 @@ fn take_up(
     replies: &mut Vec<Message>,
 ) -> Result<(), AllocError>
     requires none { (replies.old.items ≡ []) × (vec_len replies.old ≡ 0) }
-    requires room { length entries.old + 2 ≤ vec_capacity replies.old }
+    requires room { waiting_for (freed (ticket.now.attempt - 1) (entry_of entries.old ticket.now.client)) entries.old + 1 ≤ vec_capacity replies.old }
     requires caused { is_caused problem entries.old ≡ true }
     ensures entries { entries.new ≡ (if is_ok result then (takes_up node problem entries.old ticket.now).entries else entries.old) }
     ensures replies { OnOk result (replies.new.items ≡ (takes_up node problem entries.old ticket.now).replies) }
@@ -160,7 +225,7 @@ fn request(
     replies: &mut Vec<Message>,
 ) -> Result<bool, AllocError>
     requires none { (replies.old.items ≡ []) × (vec_len replies.old ≡ 0) }
-    requires room { length entries.old + 2 ≤ vec_capacity replies.old }
+    requires room { waiting_for (freed (ticket.now.attempt - 1) (entry_of entries.old ticket.now.client)) entries.old + 1 ≤ vec_capacity replies.old }
     requires caused { is_caused problem entries.old ≡ true }
     ensures entries { entries.new ≡ (if is_ok result then (decision problem entries.old (Message.Request node ticket.now)).entries else entries.old) }
     ensures replies { OnOk result (replies.new.items ≡ (decision problem entries.old (Message.Request node ticket.now)).replies) }
@@ -191,7 +256,7 @@ pub(crate) fn decide(
     replies: &mut Vec<Message>,
 ) -> Result<bool, AllocError>
     requires none { (replies.old.items ≡ []) × (vec_len replies.old ≡ 0) }
-    requires room { length entries.old + 2 ≤ vec_capacity replies.old }
+    requires room { waiting_for (freed_by entries.old message.now) entries.old + 1 ≤ vec_capacity replies.old }
     requires caused { is_caused problem entries.old ≡ true }
     ensures entries { entries.new ≡ (if is_ok result then (decision problem entries.old message.now).entries else entries.old) }
     ensures replies { OnOk result (replies.new.items ≡ (decision problem entries.old message.now).replies) }

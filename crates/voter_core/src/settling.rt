@@ -1,14 +1,14 @@
 // Settling, by one pass over the entries.
 
-ghost use Rattle.std.specs.Prelude.{◌≡◌, ◌≤◌, ◌<◌, ◌+◌, ◌++◌, length, Some, slice_get, slice_set};
+ghost use Rattle.std.specs.Prelude.{◌≡◌, ◌≤◌, ◌<◌, ◌+◌, ◌++◌, Some, true, slice_get, slice_set};
 ghost use Rattle.std.specs.Vec.{vec_len, vec_capacity};
 ghost use Rattle.lock_messages.specs.declared.messages.Message.{Message};
 ghost use Rattle.lock_model.specs.declared.entries.Entry.{Entry};
 ghost use Rattle.lock_model.specs.ExactStations.{if_live, admits, settled_entry, settled};
 ghost use Rattle.lock_model.specs.ExactDecisions.{told, grants};
-ghost use Rattle.stable_record.specs.Lines.{is_for};
+ghost use Rattle.stable_record.specs.Lines.{is_for, waits_for, count_live, one_if};
 ghost use Rattle.voter_core.specs.Voters.{admitted_now};
-ghost use Rattle.voter_core.specs.Freed.{OthersStay};
+ghost use Rattle.voter_core.specs.Freed.{OthersStay, waiting_for};
 
 use crate::asking::admits_reader;
 use admission_policy::Admission;
@@ -88,11 +88,11 @@ fn settle_at(
     resource: &ResourceName,
     replies: &mut Vec<Message>,
 )
-    requires room { vec_len replies.old < vec_capacity replies.old }
+    requires room { (e : Entry) → slice_get entries.old place ≡ Some e → if_live (waits_for resource.now) e.live ≡ true → vec_len replies.old < vec_capacity replies.old }
     requires others { OthersStay problem (Some resource.now) entries.old }
     ensures entries { (e : Entry) → slice_get entries.old place ≡ Some e → entries.new ≡ slice_set entries.old place (settled_entry problem entries.old e) }
     ensures replies { (e : Entry) → slice_get entries.old place ≡ Some e → replies.new.items ≡ replies.old.items ++ told node e (settled_entry problem entries.old e) }
-    ensures room { (vec_len replies.new ≤ vec_len replies.old + 1) × (vec_capacity replies.new ≡ vec_capacity replies.old) }
+    ensures room { (e : Entry) → slice_get entries.old place ≡ Some e → (vec_len replies.new ≤ vec_len replies.old + one_if (if_live (waits_for resource.now) e.live)) × (vec_capacity replies.new ≡ vec_capacity replies.old) }
 {
     let Some(
         Entry {
@@ -127,7 +127,7 @@ fn settle_resource(
     resource: &ResourceName,
     replies: &mut Vec<Message>,
 )
-    requires room { vec_len replies.old + length entries.old ≤ vec_capacity replies.old }
+    requires room { vec_len replies.old + count_live (waits_for resource.now) entries.old ≤ vec_capacity replies.old }
     requires others { OthersStay problem (Some resource.now) entries.old }
     ensures entries { entries.new ≡ settled problem entries.old }
     ensures replies { replies.new.items ≡ replies.old.items ++ grants node entries.old entries.new }
@@ -147,7 +147,7 @@ pub(crate) fn settle(
     freed: Option<ResourceName>,
     replies: &mut Vec<Message>,
 )
-    requires room { vec_len replies.old + length entries.old ≤ vec_capacity replies.old }
+    requires room { vec_len replies.old + waiting_for freed entries.old ≤ vec_capacity replies.old }
     requires others { OthersStay problem freed entries.old }
     ensures entries { entries.new ≡ settled problem entries.old }
     ensures replies { replies.new.items ≡ replies.old.items ++ grants node entries.old entries.new }

@@ -8,7 +8,7 @@ ghost use Rattle.stable_record.specs.Records.{IsNodeRecord, node_record_of};
 ghost use Rattle.voter_core.specs.Voters.{phase_in, replies_in, record_of, risen, taken, Allows, kept, spoken, IsRecordOf, IsRefusedFor};
 
 use crate::asking::same_problem;
-use crate::deciding::{decide, is_caused, room_for, stays_a_record};
+use crate::deciding::{decide, freed_by, is_caused, room_for, stays_a_record};
 use crate::phases::phase_after;
 use crate::rising::read_record;
 use crate::{Phase, VoterFault};
@@ -178,7 +178,8 @@ impl NodeCore {
     /// Parnas 1971), for the node's own vote; attempts, floors and the order of entries are our own.
     /// The policy is told once of each new reader's ticket, and of nothing else. The only error is
     /// want of memory (503), and then nothing has changed. Where a ticket ends, those that wait for its
-    /// resource are asked one after the other, each by a scan of the entries; no others are.
+    /// resource are asked one after the other, each by a scan of the entries; no others are, and
+    /// the replies take room for these alone.
     pub fn take(&mut self, message: &Message) -> Result<bool, VoterFault>
         requires idle { phase_in self.old.state ≡ Phase.Idle }
         requires for_node { is_for_node message.now self.old.node ≡ true }
@@ -192,7 +193,8 @@ impl NodeCore {
     {
         stays_a_record(&self.station, self.id, message);
         is_caused(&self.station);
-        let Ok(mut replies) = room_for(self.alloc, &self.station.entries) else {
+        let freed = freed_by(&self.station.entries, message);
+        let Ok(mut replies) = room_for(self.alloc, &self.station.entries, freed) else {
             return Err(VoterFault::Memory);
         };
         let problem = self.station.policy;

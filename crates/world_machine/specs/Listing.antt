@@ -1,5 +1,5 @@
 -- What is asked of a world, beside what the world's own definitions name.
-use Rattle.std.specs.Prelude.{◌≡◌, ◌≢◌, ◌↔◌, ℕ, ◌⊎◌, Bool, List, Option, Some, None, Result, Ok, Err}
+use Rattle.std.specs.Prelude.{◌≡◌, ◌≢◌, ◌↔◌, ℕ, ◌⊎◌, Bool, nat_le, List, length, Option, Some, None, Result, Ok, Err}
 use Rattle.std.specs.Option.{option_map}
 use Rattle.lock_messages.specs.declared.ids.Actor.{Actor}
 use Rattle.lock_messages.specs.declared.ids.Actor.TheVariants as actor
@@ -28,6 +28,11 @@ listed_by Holding x = holds x
 abbrev pub listed : Status → ℕ → List ℕ → ExactWorld → Option (List Ticket)
 listed Waiting n x w = waiting n x w
 listed Holding n x w = holding n x w
+
+-- whether there is such an actor: nodes and clients are numbered from 1
+abbrev pub has_actor : ExactWorld → Actor → Bool
+has_actor w (actor.Node n) = nat_le n (length w.nodes)
+has_actor w (actor.Client c) = nat_le c (length w.clients)
 
 -- the bytes of a station's record
 abbrev pub station_bytes : ExactStation → List ℕ

@@ -5,12 +5,12 @@ ghost use Rattle.lock_messages.specs.declared.tickets.Ticket.{Ticket as TicketVa
 ghost use Rattle.lock_model.specs.Decisions.{Among};
 ghost use Rattle.world_model.specs.Exclusion.{IsExclusive};
 ghost use Rattle.world_model.specs.ExactWorlds.{numbered, step};
-ghost use Rattle.world_model.specs.Forgetting.{forget, setting_of};
+ghost use Rattle.world_model.specs.Forgetting.{forget, setting_of, IsSound};
 ghost use Rattle.world_model.specs.StepsOf.{Does, Runs};
 ghost use Rattle.world_model.specs.Views.{inside, waiting, holding, ticket_inside};
 ghost use Rattle.world_model.specs.Worlds.{Happens, Run};
 ghost use Rattle.world_machine.specs.Doing.{taken_of};
-ghost use Rattle.world_machine.specs.Listing.{kept_bytes, Tells, AreInside, IsInsideBy, AreWaiting, AreHolding};
+ghost use Rattle.world_machine.specs.Listing.{has_actor, kept_bytes, Tells, AreInside, IsInsideBy, AreWaiting, AreHolding};
 
 use crate::listing::{client_bytes_at, node_bytes_at, ticket_inside, tickets_at, tickets_inside};
 use crate::stepping::{message_at, take_step};
@@ -100,6 +100,23 @@ impl World {
         ensures { result ≡ numbered self.now.sent number }
     {
         message_at(&self.sent, number)
+    }
+
+    /// Whether there is such an actor. One comparison.
+    pub fn has(&self, who: Actor) -> bool
+        ensures { result ≡ has_actor self.now who }
+    {
+        match who {
+            Actor::Node(id) => id.get() as usize <= self.nodes.len(),
+            Actor::Client(id) => id.get() as usize <= self.clients.len(),
+        }
+    }
+
+    /// Tells that the world is sound, as each is. It computes nothing.
+    pub fn soundness(&self)
+        ensures { IsSound self.now }
+    {
+        let _actors = self.nodes.len();
     }
 
     /// The tickets of the clients that are inside the resource, in the order of the clients. A writer

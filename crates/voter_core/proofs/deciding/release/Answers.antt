@@ -1,9 +1,10 @@
-use Rattle.std.proofs.Common.{◌≡◌, ap, ◌∙◌}
+use Rattle.std.proofs.Common.{◌≡◌, ap, ◌∙◌, arith}
 use Rattle.lock_model.specs.ExactStations.{entry_of, settled}
 use Rattle.lock_model.specs.ExactDecisions.{ended, grants}
 use Rattle.voter_core.specs.Voters.{ends_something}
 use Rattle.voter_core.proofs.ChangeFacts.{release-ended, release-told, said-length}
-use Rattle.voter_core.proofs.FreedFacts.{others-freed}
+use Rattle.voter_core.specs.Freed.{freed}
+use Rattle.voter_core.proofs.FreedFacts.{others-freed, waiting-ended}
 use Rattle.voter_core.proofs.deciding.release.Goals as goal
 
 pub returns-then-ended-clause-changed : goal.returns-then-ended-clause-changed
@@ -28,3 +29,10 @@ returns-else-ended-clause-changed g c =
 pub settle-requires-clause-others : goal.settle-requires-clause-others
 settle-requires-clause-others g c =
     others-freed c.args.problem c.args.client c.get-last.result c.args.entries.now c.freed-freed.result c.end.new.entries c.in_ok-ended.ensures.once c.requires.caused c.freed-freed.ensures.freed c.in_ok-ended.ensures.ended
+
+pub settle-requires-clause-room : goal.settle-requires-clause-room
+settle-requires-clause-room g c =
+    let es = c.args.entries.now in
+    let w = waiting-ended c.args.client c.args.attempt es c.freed-freed.result c.end.new.entries c.in_ok-ended.ensures.once
+    (c.freed-freed.ensures.freed ∙ ap (λ n. freed (n) (entry_of es c.args.client)) c.get-last.ensures.number) (c.in_ok-ended.ensures.ended ∙ ap (λ n. ended c.args.client (n) es) c.get-last.ensures.number) in
+    omega (arith, w, c.push_reserved.ensures.len, c.push_reserved.ensures.capacity, c.requires.room, c.requires.none.1)

@@ -1,10 +1,11 @@
-use Rattle.std.proofs.Common.{◌-◌, [], Bool, ap, subst, ◌∙◌}
+use Rattle.std.proofs.Common.{◌-◌, [], Bool, ap, subst, ◌∙◌, arith}
 use Rattle.lock_model.specs.declared.entries.Entry.{Entry}
-use Rattle.lock_model.specs.ExactStations.{knows}
+use Rattle.lock_model.specs.ExactStations.{knows, entry_of}
 use Rattle.lock_model.specs.ExactDecisions.{ended}
 use Rattle.voter_core.proofs.EndFacts.{knows-ended}
 use Rattle.voter_core.proofs.ChangeFacts.{knows-settle, note-reader, note-writer, asked-is}
-use Rattle.voter_core.proofs.FreedFacts.{others-freed}
+use Rattle.voter_core.specs.Freed.{freed}
+use Rattle.voter_core.proofs.FreedFacts.{others-freed, waiting-ended}
 use Rattle.voter_core.proofs.deciding.take_up.Goals as goal
 
 pub put_last-requires : goal.put_last-requires
@@ -27,3 +28,10 @@ returns-clause-untold g c = λ h. c.note.ensures.writer (note-writer c.args.tick
 pub settle-requires-clause-others : goal.settle-requires-clause-others
 settle-requires-clause-others g c =
     others-freed c.args.problem c.args.ticket.now.client (c.get-last.result - 1) c.args.entries.now c.freed-freed.result c.end.new.entries c.in_ok-end.ensures.once c.requires.caused c.freed-freed.ensures.freed c.in_ok-end.ensures.ended
+
+pub settle-requires-clause-room : goal.settle-requires-clause-room
+settle-requires-clause-room g c =
+    let es = c.args.entries.now in
+    let w = waiting-ended c.args.ticket.now.client (c.args.ticket.now.attempt - 1) es c.freed-freed.result c.end.new.entries c.in_ok-end.ensures.once
+    (c.freed-freed.ensures.freed ∙ ap (λ n. freed (n - 1) (entry_of es c.args.ticket.now.client)) c.get-last.ensures.number) (c.in_ok-end.ensures.ended ∙ ap (λ n. ended c.args.ticket.now.client (n - 1) es) c.get-last.ensures.number) in
+    omega (arith, w, c.push_reserved.ensures.len, c.push_reserved.ensures.capacity, c.requires.room, c.requires.none.1)

@@ -1,7 +1,7 @@
 use Rattle.std.proofs.Common.{sym, ap, ◌∙◌, ◌++◌, slice_set}
 use Rattle.std.proofs.lemmas.List.{append-nil}
 use Rattle.voter_core.proofs.EntryFacts.{knows-at, none-of, stays-at, turns-at, set-same}
-use Rattle.voter_core.proofs.FreedFacts.{passed-over, passed-told}
+use Rattle.voter_core.proofs.FreedFacts.{passed-over, passed-told, waits-admitted}
 use Rattle.voter_core.proofs.settling.settle_at.Goals as goal
 
 pub returns-then-not-is_for-clause-entries : goal.returns-then-not-is_for-clause-entries
@@ -24,3 +24,7 @@ returns-in_default-admitted_now-clause-entries g c = λ e h.
 pub returns-clause-entries : goal.returns-clause-entries
 returns-clause-entries g c = λ e h.
     turns-at c.args.problem c.args.entries.now c.args.place _ e _ c.replace.new.self c.get.ensures.once c.in-Some.ensures.found h c.in-Some-admitted_now.ensures c.replace.ensures
+
+pub push_reserved-requires : goal.push_reserved-requires
+push_reserved-requires g c =
+    c.requires.room _ (sym c.in-Some.ensures.found) (waits-admitted c.args.problem c.args.entries.now c.args.resource.now _ _ c.in-Some-admitted_now.ensures (sym c.is_for.ensures ∙ c.if-not-is_for.false))

@@ -1,0 +1,175 @@
+-- What contracts see of a book and of a berth.
+use Rattle.std.specs.Prelude.{◌≡◌, ◌≢◌, ◌⊎◌, ℕ, ◌+◌, ◌<◌, ◌≤◌, Bool, true, false, List, [], ◌∷◌, ◌++◌, length, Option, Some, None, Err, Result, Ok, not, ◌&&◌, ◌==◌}
+use Rattle.std.specs.Str.{bytes_eq}
+use mathlib.Core.List.{IsPrefix}
+use Rattle.berth_seats.specs.declared.views.BookView.{BookView}
+use Rattle.berth_seats.specs.Views.{TableId, is_given}
+use Rattle.lock_messages.specs.declared.ids.Actor.{Actor}
+use Rattle.world_model.specs.declared.events.Effect.{Effect}
+use Rattle.world_model.specs.declared.events.Event.{Event}
+use Rattle.world_model.specs.declared.events.Event.TheVariants as event
+use Rattle.world_model.specs.declared.events.StepFault.{StepFault}
+use Rattle.world_model.specs.declared.events.StepFault.TheVariants as fault
+use Rattle.world_model.specs.declared.exact.ExactWorld.{ExactWorld}
+use Rattle.world_model.specs.ExactWorlds.{step}
+use Rattle.world_model.specs.Forgetting.{IsSound}
+use Rattle.world_model.specs.Laws.{Takes}
+use Rattle.world_model.specs.Locality.{own_events, local_part, IsHistory, IsLocalRefusal}
+use Rattle.world_model.specs.Parts.{is_own, Part, NoPart, NodePart, ClientPart, part, own_refusal}
+use Rattle.world_model.specs.Views.{ticket_in}
+use Rattle.lock_messages.specs.declared.tickets.Ticket.{Ticket}
+use Rattle.history_book.specs.declared.books.TheConstants.{MAX_EVENTS}
+use Rattle.history_book.specs.declared.faults.BookFault.{BookFault}
+use Rattle.history_book.specs.declared.faults.BookFault.TheVariants as bf
+
+-- A book: its number, the table that ties its berths, the world that it was opened with, its history, the
+-- actors that were given a berth, and the world as it is now.
+pub record BookValue : Type 0 where
+  pub number : ℕ
+  pub table : TableId
+  pub opening : ExactWorld
+  pub history : List (Event × Effect)
+  pub given : List Actor
+  pub world : ExactWorld
+
+-- A berth: its book's number and table, its actor, the world that its book was opened with, and the
+-- beginning of the history that it has seen.
+pub record BerthValue : Type 0 where
+  pub number : ℕ
+  pub table : TableId
+  pub actor : Actor
+  pub opening : ExactWorld
+  pub seen : List (Event × Effect)
+
+-- the berth's own list: its actor's events, with their effects
+abbrev pub own_of : BerthValue → List (Event × Effect)
+own_of k = own_events k.actor k.seen
+
+-- the actor's part of the world, as the berth's own list tells it
+abbrev pub own_part : BerthValue → Part
+own_part k = local_part k.opening.ballot (part k.opening k.actor) (own_of k)
+
+-- What is known of a book and a berth of it: the history is a run from the opening and leaves the book's
+-- world; what the berth has seen begins it; the actor's events in it are the berth's own; they agree on
+-- the opening; and the actor's part of the book's world is that of the own list.
+pub record Known (b : BookValue) (k : BerthValue) : Type 0 where
+  pub run : IsHistory b.opening b.history b.world
+  pub begins : IsPrefix k.seen b.history
+  pub own : own_events k.actor b.history ≡ own_of k
+  pub opening : k.opening ≡ b.opening
+  pub part : part b.world k.actor ≡ own_part k
+
+-- the berth has seen all of the history
+abbrev pub sees : BookValue → BerthValue → BerthValue
+sees b k = record { number = k.number; table = k.table; actor = k.actor; opening = k.opening; seen = b.history }
+
+-- the book with one event more, and the world after it
+abbrev pub longer : BookValue → Event → Effect → ExactWorld → BookValue
+longer b e done v = record { number = b.number; table = b.table; opening = b.opening; history = b.history ++ (e, done) ∷ []; given = b.given; world = v }
+
+-- nothing changed
+pub record IsSame (b : BookValue) (k : BerthValue) (b' : BookValue) (k' : BerthValue) : Type 0 where
+  pub book : b' ≡ b
+  pub berth : k' ≡ k
+
+-- the berth has the book's number, and the event is its actor's
+pub record MayLog (b : BookValue) (k : BerthValue) (e : Event) : Type 0 where
+  pub number : k.number ≡ b.number
+  pub actor : is_own k.actor e ≡ true
+
+-- The event was taken: it may happen in the book's world, this is the step's effect. It joins the
+-- history, and nothing else of the book changes but the world; the berth has seen all of the history.
+pub record IsLogged (b : BookValue) (k : BerthValue) (e : Event) (done : Effect) (b' : BookValue) (k' : BerthValue) : Type 0 where
+  pub may : MayLog b k e
+  pub room : length b.history < MAX_EVENTS
+  pub known : Known b k
+  pub takes : Takes b.world e done b'.world
+  pub book : b' ≡ longer b e done b'.world
+  pub berth : k' ≡ sees b' k
+
+-- The event is no step, for this reason. It is the one that the berth's own list gives or, where that
+-- gives none, the list of messages'. The berth has seen all of the history, and nothing else changed.
+pub record IsNoStep (f : StepFault) (b : BookValue) (k : BerthValue) (e : Event) (b' : BookValue) (k' : BerthValue) : Type 0 where
+  pub known : Known b k
+  pub refused : step b.world e ≡ Err f
+  pub own : IsLocalRefusal e (own_refusal b.opening.ballot e (own_part k)) (Some f)
+  pub book : b' ≡ b
+  pub berth : k' ≡ sees b k
+
+-- what comes of a fault of the world's step
+abbrev pub IsRefusedBy : BookFault → BookValue → BerthValue → Event → BookValue → BerthValue → Type 0
+IsRefusedBy bf.OtherBook b k e b' k' = ⊥
+IsRefusedBy bf.OtherActor b k e b' k' = ⊥
+IsRefusedBy bf.Full b k e b' k' = (step b.world e ≡ Err fault.SentListFull) × IsSame b k b' k'
+IsRefusedBy bf.Memory b k e b' k' = IsSame b k b' k'
+IsRefusedBy (bf.NotAStep f) b k e b' k' = IsNoStep f b k e b' k'
+
+-- why an event was not logged, in the order in which it is asked
+abbrev pub IsRefused : BookFault → BookValue → BerthValue → Event → BookValue → BerthValue → Type 0
+IsRefused bf.OtherBook b k e b' k' = (k.number ≢ b.number) × IsSame b k b' k'
+IsRefused bf.OtherActor b k e b' k' = (k.number ≡ b.number) × (is_own k.actor e ≡ false) × IsSame b k b' k'
+IsRefused bf.Full b k e b' k' = MayLog b k e × ((MAX_EVENTS ≤ length b.history) ⊎ (step b.world e ≡ Err fault.SentListFull)) × IsSame b k b' k'
+IsRefused bf.Memory b k e b' k' = MayLog b k e × (length b.history < MAX_EVENTS) × IsSame b k b' k'
+IsRefused (bf.NotAStep f) b k e b' k' = MayLog b k e × (length b.history < MAX_EVENTS) × IsNoStep f b k e b' k'
+
+-- 1 for an Enter, else 0
+abbrev pub enters_by : Event → ℕ
+enters_by (event.Enter c) = 1
+enters_by _ = 0
+
+-- how many Enters a history has
+abbrev pub enters : List (Event × Effect) → ℕ
+enters [] = 0
+enters (p ∷ history) = enters_by p.0 + enters history
+
+-- What holds of each book: the seat knows what the fields have, the history leaves the world, and the
+-- world that it was opened with is sound.
+pub record IsBook (items : List (Event × Effect)) (actors : List Actor) (count : ℕ) (b : BookView) (w : ExactWorld) : Type 0 where
+  pub kept : b.history ≡ items
+  pub given : b.given ≡ actors
+  pub run : IsHistory b.opening b.history w
+  pub entered : count ≡ enters b.history
+  pub room : length items ≤ MAX_EVENTS
+  pub sound : IsSound b.opening
+
+-- a book as it is opened
+pub record IsOpened (n : ℕ) (w : ExactWorld) (b : BookValue) : Type 0 where
+  pub number : b.number ≡ n
+  pub opening : b.opening ≡ w
+  pub world : b.world ≡ w
+  pub history : b.history ≡ []
+  pub given : b.given ≡ []
+
+-- the book gave the actor its berth, which has seen all of the history
+pub record IsGiven (who : Actor) (b : BookValue) (k : BerthValue) (b' : BookValue) : Type 0 where
+  pub first : is_given b.given who ≡ false
+  pub number : k.number ≡ b.number
+  pub table : k.table ≡ b.table
+  pub actor : k.actor ≡ who
+  pub opening : k.opening ≡ b.opening
+  pub seen : k.seen ≡ b.history
+  pub own : own_of k ≡ []
+  pub book : b' ≡ record { number = b.number; table = b.table; opening = b.opening; history = b.history; given = b.given ++ who ∷ []; world = b.world }
+
+-- the ticket of an actor that is inside, by its part of the world
+abbrev pub inside_ticket : Part → Option Ticket
+inside_ticket NoPart = None
+inside_ticket (NodePart v) = None
+inside_ticket (ClientPart k) = ticket_in k.phase
+
+-- two tickets of two clients for one resource
+abbrev pub are_together : Ticket → Ticket → Bool
+are_together t u = not (t.client == u.client) && bytes_eq t.resource u.resource
+
+abbrev pub in_one_resource : Option Ticket → Option Ticket → Bool
+in_one_resource None u = false
+in_one_resource (Some t) None = false
+in_one_resource (Some t) (Some u) = are_together t u
+
+-- whether the two are inside one resource is told by their own lists; both have seen the history
+pub record IsMet (answer : Bool) (b : BookValue) (k l k' l' : BerthValue) : Type 0 where
+  pub one : Known b k
+  pub other : Known b l
+  pub met : answer ≡ in_one_resource (inside_ticket (own_part k)) (inside_ticket (own_part l))
+  pub one_sees : k' ≡ sees b k
+  pub other_sees : l' ≡ sees b l

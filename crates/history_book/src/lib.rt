@@ -1,0 +1,17 @@
+//! Books and berths: one history of what all actors did, and a token by which each actor logs.
+//!
+//! A `Book` takes events in a world and keeps them, with their effects, in order. A `Berth` is one
+//! actor's token; no event is logged but by the berth of its actor. The crate promises that a book's
+//! history is always a run from the world that it was opened with, which leaves the book's world; that
+//! the history has of a berth's actor just what was logged by that berth, whatever others log between;
+//! and so that an actor's part of the world, and what is refused to it, is told by its own events. It
+//! stands on `world_machine`, `berth_seats`, `world_model`, `lock_messages` and `thiserror`.
+#![tactic(auto)]
+
+mod books;
+mod faults;
+mod meeting;
+mod owners;
+
+pub use books::{Berth, Book, MAX_EVENTS};
+pub use faults::BookFault;

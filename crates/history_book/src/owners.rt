@@ -1,0 +1,73 @@
+// Whose an event is, and what it counts for.
+
+ghost use Rattle.std.specs.Prelude.{◌≡◌};
+ghost use Rattle.berth_seats.specs.Views.{is_given};
+ghost use Rattle.world_model.specs.ExactWorlds.{actor_of};
+ghost use Rattle.world_model.specs.Parts.{is_own, place};
+ghost use Rattle.history_book.specs.Books.{enters_by};
+
+use lock_messages::Actor;
+use world_model::Event;
+
+/// Whose event it is.
+fn whose(event: Event) -> Actor
+    ensures { result ≡ actor_of event }
+{
+    match event {
+        Event::Begin(c, _, _) => Actor::Client(c),
+        Event::Try(who) => who,
+        Event::Kept(who) => who,
+        Event::SayTo(c, _) => Actor::Client(c),
+        Event::Say(n) => Actor::Node(n),
+        Event::Take(n, _) => Actor::Node(n),
+        Event::Hear(c, _) => Actor::Client(c),
+        Event::Enter(c) => Actor::Client(c),
+        Event::Leave(c) => Actor::Client(c),
+        Event::Fall(who) => who,
+        Event::Rise(who, _) => who,
+    }
+}
+
+/// Whether the actor is among these.
+pub(crate) fn has_given(given: &[Actor], actor: Actor) -> bool
+    ensures { result ≡ is_given given.now actor }
+{
+    let wanted = place(actor);
+    given.iter().any(|other| place(*other) == wanted)
+}
+
+/// 1 for an Enter, else 0.
+pub(crate) fn enters_by(event: &Event) -> u32
+    ensures { result ≡ enters_by event.now }
+{
+    match event {
+        Event::Enter(_) => 1,
+        Event::Begin(..)
+        | Event::Try(_)
+        | Event::Kept(_)
+        | Event::SayTo(..)
+        | Event::Say(_)
+        | Event::Take(..)
+        | Event::Hear(..)
+        | Event::Leave(_)
+        | Event::Fall(_)
+        | Event::Rise(..) => 0,
+    }
+}
+
+/// Whether the event is the actor's.
+pub(crate) fn is_of(actor: Actor, event: Event) -> bool
+    ensures { result ≡ is_own actor event }
+{
+    place(whose(event)) == place(actor)
+}
+
+/// A number for each actor, of which no other has the same.
+fn place(actor: Actor) -> u32
+    ensures { result ≡ place actor }
+{
+    match actor {
+        Actor::Node(n) => 2 * u32::from(n.get()),
+        Actor::Client(c) => 2 * u32::from(c.get()) + 1,
+    }
+}
