@@ -2,7 +2,7 @@
 
 use crate::outcomes::Failure;
 use admission_policy::{Admission, FirstProblem};
-use journal_audit::{AuditFault, audit};
+use journal_audit::{AuditFault, Verdict, audit};
 use std::alloc::Global;
 use std::io::Read;
 use vote_weights::Ballot;
@@ -36,5 +36,18 @@ pub(crate) fn audited<R: Read + Drop>(alloc: Global, reader: R) -> Result<Vec<u8
         Ok(_) => Ok(out),
         Err(AuditFault::Memory | AuditFault::Write) => Err(Failure::Memory),
         Err(_) => Err(Failure::Wrong(0)),
+    }
+}
+
+/// What is found of the bytes of a reader that may fail.
+pub(crate) fn found<R: Read + Drop>(
+    alloc: Global,
+    reader: R,
+) -> Result<Result<Verdict, AuditFault>, Failure> {
+    let world = world(alloc)?;
+    let mut out = Vec::new(alloc);
+    match audit(alloc, world, reader, &mut out) {
+        Err(AuditFault::Memory | AuditFault::Write) => Err(Failure::Memory),
+        found => Ok(found),
     }
 }

@@ -1,7 +1,8 @@
 // Readers that give little, fail in the middle or bring too much, and a writer that takes nothing.
 
-use crate::auditing::{audited, world};
+use crate::auditing::{audited, found, world};
 use crate::outcomes::{Failure, Outcome, check, check_row};
+use history_check::LineFault;
 use journal_audit::{AuditFault, Cause, MAX_LINES, Verdict, audit, audit_lines};
 use line_streams::LineReader;
 use std::alloc::Global;
@@ -181,19 +182,23 @@ impl Read for Turns {
     }
 }
 
-/// A journal of so many lines, of which the last one is a rise.
-fn long_journal(alloc: Global, lines: u32) -> Result<Result<Verdict, AuditFault>, Failure> {
-    let world = world(alloc)?;
-    let mut out = Vec::new(alloc);
-    match audit(alloc, world, Turns { lines }, &mut out) {
-        Err(AuditFault::Memory | AuditFault::Write) => Err(Failure::Memory),
-        found => Ok(found),
-    }
-}
-
 /// As many lines as a journal may have, and one more.
 #[test]
 fn too_many_lines(rt: HostRuntime) -> Outcome {
-    let found = long_journal(rt.alloc(), MAX_LINES + 1)?;
+    let lines = MAX_LINES + 1;
+    let found = found(rt.alloc(), Turns { lines })?;
     check(found == Err(AuditFault::TooManyLines))
+}
+
+/// A line of 130 bytes, one a read: byte 129 ends the audit, and no more is read.
+#[test]
+fn long_line(rt: HostRuntime) -> Outcome {
+    let long = "\
+        0123456789012345678901234567890123456789012345678901234567890123456789\
+        012345678901234567890123456789012345678901234567890123456789";
+    let words = Cause::Line(LineFault::Words);
+    let cut = found(rt.alloc(), sips_of(long, 1, 128))?;
+    check_row(cut == Err(AuditFault::Read), 128)?;
+    let whole = found(rt.alloc(), sips_of(long, 1, 129))?;
+    check_row(whole == Ok(Verdict::Unsound(1, words)), 129)
 }
