@@ -43,12 +43,13 @@ pub fn audit_lines<R: Read, W: Write>(
 
 /// Judges a journal: whether its lines are events that are a run from the world.
 ///
-/// The lines are what stands between line feeds; a last one without a line feed counts, and nothing
-/// behind the last line feed is none. An empty line is no event (`Word`, 801), as is one of another
-/// letter or a carriage return, and a line over 128 bytes is `Words` (805). The audit ends at the first
-/// line that is no event or is refused, and asks the reader for nothing behind the answer that brought
-/// it. It writes the verdict's line: `sound N`, `unsound L fault N` or `unsound L refused N`. It keeps
-/// the world and one line, and each line costs what its event does in the world.
+/// The lines are what stands between line feeds; a last one without a line feed counts, and what is
+/// empty behind the last line feed is none. A line is no event as `read_event` judges it: an empty one
+/// is `Word` (801), a carriage return belongs to its word, and a line over 128 bytes is `Words` (805) as
+/// soon as its byte 129 has come. The audit ends at the first line that is no event or is refused, and
+/// asks the reader for nothing behind the answer that brought it. It writes the verdict's line:
+/// `sound N`, `unsound L fault N` or `unsound L refused N`. It keeps the world and one line, and each
+/// line costs what its event does in the world.
 ///
 /// Contracts speak of what the reader has left and of what the writer holds, where these are known. The
 /// caller owes nothing.

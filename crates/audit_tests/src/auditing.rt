@@ -1,0 +1,53 @@
+// Auditing a journal from a world in which all are down.
+
+use crate::outcomes::Failure;
+use admission_policy::{Admission, FirstProblem};
+use journal_audit::{AuditFault, Verdict, audit};
+use std::alloc::Global;
+use std::io::Read;
+use vote_weights::Ballot;
+use world_service::World;
+
+/// A world of three nodes with a vote each, of which two read and two write, under problem 1, and of
+/// four clients.
+pub(crate) fn world(alloc: Global) -> Result<World, Failure> {
+    let Ok(ballot) = Ballot::of(&[1, 1, 1], 2, 2) else {
+        return Err(Failure::Wrong(0));
+    };
+    let mut policies = Vec::new(alloc);
+    for _ in 0..3 {
+        let policy: Box<dyn Admission + Send> = Box::new(alloc, FirstProblem)?;
+        policies.push(policy)?;
+    }
+    if policies.len() != ballot.nodes() as usize {
+        return Err(Failure::Wrong(0));
+    }
+    match World::start(alloc, ballot, 4, policies) {
+        Ok(world) => Ok(world),
+        Err(_) => Err(Failure::Memory),
+    }
+}
+
+/// What is written of the bytes of a reader. A `Vec` takes what is written unless memory is refused.
+pub(crate) fn audited<R: Read + Drop>(alloc: Global, reader: R) -> Result<Vec<u8>, Failure> {
+    let world = world(alloc)?;
+    let mut out = Vec::new(alloc);
+    match audit(alloc, world, reader, &mut out) {
+        Ok(_) => Ok(out),
+        Err(AuditFault::Memory | AuditFault::Write) => Err(Failure::Memory),
+        Err(_) => Err(Failure::Wrong(0)),
+    }
+}
+
+/// What is found of the bytes of a reader that may fail.
+pub(crate) fn found<R: Read + Drop>(
+    alloc: Global,
+    reader: R,
+) -> Result<Result<Verdict, AuditFault>, Failure> {
+    let world = world(alloc)?;
+    let mut out = Vec::new(alloc);
+    match audit(alloc, world, reader, &mut out) {
+        Err(AuditFault::Memory | AuditFault::Write) => Err(Failure::Memory),
+        found => Ok(found),
+    }
+}

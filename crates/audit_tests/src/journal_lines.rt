@@ -1,0 +1,74 @@
+// The lines of journals, read and written again, and wishes.
+
+use crate::outcomes::{Failure, Outcome, check_row};
+use history_check::{read_event, read_wish, write_event};
+use std::alloc::Global;
+
+/// The line of each event, and of the greatest numbers.
+const EVENTS: [&str; 18] = [
+    "begin c1 read a",
+    "begin c1024 write abcdefghijklmnopqrstuvwxyz-01234",
+    "try n1",
+    "try c3",
+    "kept n16",
+    "kept c4",
+    "sayto c1 n2",
+    "say n3",
+    "take n1 1",
+    "take n16 1048576",
+    "hear c2 17",
+    "enter c1",
+    "leave c1",
+    "fall n2",
+    "fall c1",
+    "rise n1 old",
+    "rise c1 old",
+    "rise c1024 new",
+];
+
+/// Whether the line is read as an event whose line it is.
+fn is_read(alloc: Global, line: &str) -> Result<bool, Failure> {
+    let Ok(event) = read_event(line.as_bytes()) else {
+        return Ok(false);
+    };
+    let text = write_event(alloc, &event)?;
+    Ok(text.as_str() == line)
+}
+
+#[test]
+fn events_there_and_back(rt: HostRuntime) -> Outcome {
+    for (row, line) in EVENTS.iter().enumerate() {
+        let right = is_read(rt.alloc(), line)?;
+        check_row(right, row)?;
+    }
+    Ok(())
+}
+
+/// Texts, each with the number of its fault; 0 where it is a wish.
+const WISHES: [(&str, u16); 10] = [
+    ("c1 read a", 0),
+    ("c1024 write db-1", 0),
+    ("", 805),
+    ("c1 read", 805),
+    ("c1 read a ", 805),
+    ("n1 read a", 802),
+    ("c1025 reed A", 802),
+    ("c1 reed A", 801),
+    ("c1 read A", 804),
+    ("c1 read ", 804),
+];
+
+fn fault_of(text: &str) -> u16 {
+    match read_wish(text.as_bytes()) {
+        Ok(_) => 0,
+        Err(fault) => fault.number(),
+    }
+}
+
+#[test]
+fn wishes(_rt: HostRuntime) -> Outcome {
+    for (row, (text, number)) in WISHES.into_iter().enumerate() {
+        check_row(fault_of(text) == number, row)?;
+    }
+    Ok(())
+}

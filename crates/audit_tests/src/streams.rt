@@ -1,0 +1,204 @@
+// Readers that give little, fail in the middle or bring too much, and a writer that takes nothing.
+
+use crate::auditing::{audited, found, world};
+use crate::outcomes::{Failure, Outcome, check, check_row};
+use history_check::LineFault;
+use journal_audit::{AuditFault, Cause, MAX_LINES, Verdict, audit, audit_lines};
+use line_streams::LineReader;
+use std::alloc::Global;
+use std::io;
+use std::io::{Error, ErrorKind, Read, Write};
+use world_model::StepFault;
+
+/// A reader asks two nodes, hears two grants and enters.
+const FIRST_READER: &str = "\
+rise n1 old\nrise n2 old\nrise n3 old\nrise c1 old\nrise c2 old\nrise c3 old\nrise c4 old\n\
+begin c1 read a\ntry c1\nkept c1\nsayto c1 n1\ntake n1 1\ntry n1\nkept n1\nsay n1\nhear c1 2\n\
+sayto c1 n2\ntake n2 3\ntry n2\nkept n2\nsay n2\nhear c1 4\nenter c1\n";
+
+const UNSOUND: &str = "rise c1 old\nbegin c1 read a\nenter c1\n";
+
+/// A reader that gives at most so many bytes a read, is interrupted before each, and fails after so
+/// many reads.
+#[derive(Drop)]
+struct Sips<'a> {
+    bytes: &'a [u8],
+    most: usize,
+    reads: u32,
+    interrupted: bool,
+}
+
+impl Read for Sips<'_> {
+    fn read(&mut self, buf: &mut [u8]) -> io::Result<usize> {
+        if self.interrupted {
+            self.interrupted = false;
+            return Err(Error::from(ErrorKind::Interrupted));
+        }
+        self.interrupted = true;
+        if self.reads == 0 {
+            return Err(Error::from(ErrorKind::BrokenPipe));
+        }
+        self.reads -= 1;
+        let count = self.most.min(self.bytes.len()).min(buf.len());
+        let (now, later) = self.bytes.split_at(count);
+        buf[..count].copy_from_slice(now);
+        self.bytes = later;
+        Ok(count)
+    }
+}
+
+fn sips_of(text: &str, most: usize, reads: u32) -> Sips<'_> {
+    Sips {
+        bytes: text.as_bytes(),
+        most,
+        reads,
+        interrupted: true,
+    }
+}
+
+#[test]
+fn pieces_of_any_size(rt: HostRuntime) -> Outcome {
+    for most in [1, 2, 7, 4_096] {
+        let out = audited(rt.alloc(), sips_of(FIRST_READER, most, u32::MAX))?;
+        check_row(out.as_slice() == b"sound 23\n".as_slice(), most)?;
+    }
+    Ok(())
+}
+
+/// A reader that gives so many bytes of the unsound journal, one a read, and then fails: before the
+/// end of the unsound line that is told, and behind it it was never asked.
+fn fails_behind(alloc: Global, bytes: u32) -> Outcome {
+    let world = world(alloc)?;
+    let mut out = Vec::new(alloc);
+    let found = audit(alloc, world, sips_of(UNSOUND, 1, bytes), &mut out);
+    if matches!(found, Err(AuditFault::Memory | AuditFault::Write)) {
+        return Err(Failure::Memory);
+    }
+    if (bytes as usize) < UNSOUND.len() {
+        return check(found == Err(AuditFault::Read) && out.is_empty());
+    }
+    check(found == Ok(Verdict::Unsound(3, Cause::Refused(StepFault::WrongPhase))))?;
+    check(out.as_slice() == b"unsound 3 refused 604\n".as_slice())
+}
+
+#[test]
+fn failing_reader(rt: HostRuntime) -> Outcome {
+    for bytes in 0..38 {
+        fails_behind(rt.alloc(), bytes)?;
+    }
+    Ok(())
+}
+
+/// A writer that takes nothing.
+#[derive(Drop)]
+struct Full;
+
+impl Write for Full {
+    fn write(&mut self, _buf: &[u8]) -> io::Result<usize> {
+        Ok(0)
+    }
+
+    fn flush(&mut self) -> io::Result<()> {
+        Ok(())
+    }
+}
+
+#[test]
+fn full_writer(rt: HostRuntime) -> Outcome {
+    let world = world(rt.alloc())?;
+    match audit(rt.alloc(), world, UNSOUND.as_bytes(), &mut Full) {
+        Err(AuditFault::Memory) => Err(Failure::Memory),
+        found => check(found == Err(AuditFault::Write)),
+    }
+}
+
+/// The lines behind a first one that was read before.
+#[test]
+fn lines_behind_a_head(rt: HostRuntime) -> Outcome {
+    let world = world(rt.alloc())?;
+    let mut source = LineReader::new(b"head\nrise c1 old\nfall c1".as_slice(), 100);
+    let mut line = Vec::new(rt.alloc());
+    if source.read_line(&mut line, 4).is_err() {
+        return Err(Failure::Memory);
+    }
+    let mut out = Vec::new(rt.alloc());
+    match audit_lines(rt.alloc(), world, &mut source, &mut out) {
+        Err(AuditFault::Memory | AuditFault::Write) => Err(Failure::Memory),
+        found => check(found == Ok(Verdict::Sound(2))),
+    }
+}
+
+/// Whether the verdict on a journal that was cut is right: the whole lines are sound, and what is left
+/// of the next one is no line, the whole of it, or no event.
+fn is_right_cut(alloc: Global, out: &[u8], cut: usize) -> Result<bool, Failure> {
+    let bytes = FIRST_READER.as_bytes();
+    let (now, later) = bytes.split_at_checked(cut).ok_or(Failure::Wrong(0))?;
+    let lines = now.iter().filter(|byte| **byte == b'\n').count();
+    let (lines, next) = (lines, lines.saturating_add(1));
+    let expected = if now.is_empty() || now.ends_with(b"\n") {
+        format!(in alloc; "sound {lines}\n")?
+    } else if later.starts_with(b"\n") {
+        format!(in alloc; "sound {next}\n")?
+    } else {
+        format!(in alloc; "unsound {next} fault ")?
+    };
+    Ok(out.starts_with(expected.as_bytes()))
+}
+
+#[test]
+fn cut_journal(rt: HostRuntime) -> Outcome {
+    for cut in 0..FIRST_READER.len() {
+        let (now, _) = FIRST_READER
+            .as_bytes()
+            .split_at_checked(cut)
+            .ok_or(Failure::Wrong(0))?;
+        let out = audited(rt.alloc(), now)?;
+        let right = is_right_cut(rt.alloc(), out.as_slice(), cut)?;
+        check_row(right, cut)?;
+    }
+    Ok(())
+}
+
+/// A reader that gives two lines in turn, so many lines in all, and a line a read.
+#[derive(Drop)]
+struct Turns {
+    lines: u32,
+}
+
+impl Read for Turns {
+    fn read(&mut self, buf: &mut [u8]) -> io::Result<usize> {
+        if self.lines == 0 {
+            return Ok(0);
+        }
+        self.lines -= 1;
+        let line: &[u8] = if self.lines % 2 == 0 {
+            b"rise c1 old\n"
+        } else {
+            b"fall c1\n"
+        };
+        let count = line.len().min(buf.len());
+        buf[..count].copy_from_slice(&line[..count]);
+        Ok(count)
+    }
+}
+
+/// As many lines as a journal may have, and one more.
+#[test]
+fn too_many_lines(rt: HostRuntime) -> Outcome {
+    let lines = MAX_LINES + 1;
+    let found = found(rt.alloc(), Turns { lines })?;
+    check(found == Err(AuditFault::TooManyLines))
+}
+
+/// A line of 130 bytes, one a read: byte 129 ends the audit, and no more is read.
+#[test]
+fn long_line(rt: HostRuntime) -> Outcome {
+    let long = "\
+        0123456789012345678901234567890123456789012345678901234567890123456789\
+        012345678901234567890123456789012345678901234567890123456789";
+    let words = Cause::Line(LineFault::Words);
+    let cut = found(rt.alloc(), sips_of(long, 1, 128))?;
+    check_row(cut == Err(AuditFault::Read), 128)?;
+    let whole = found(rt.alloc(), sips_of(long, 1, 129))?;
+    check_row(whole == Ok(Verdict::Unsound(1, words)), 129)
+}
