@@ -6,7 +6,7 @@ use journal_audit::{AuditFault, Verdict, audit};
 use std::alloc::Global;
 use std::io::Read;
 use vote_weights::Ballot;
-use world_service::World;
+use world_machine::World;
 
 /// A world of three nodes with a vote each, of which two read and two write, under problem 1, and of
 /// four clients.
