@@ -1,0 +1,25 @@
+use Rattle.line_streams.specs.Streams.{with_gathered}
+use Rattle.journal_text.specs.Journals.{history_text}
+use Rattle.journal_text.proofs.TextFacts.{grows_on, from_nothing, begun_from_nothing, beginning_out, all_out, whole_is_beginning, lets_out_grows}
+use Rattle.journal_text.proofs.writing.write_history.Goals as goal
+
+pub returns-in-Err-clause-text : goal.returns-in-Err-clause-text
+returns-in-Err-clause-text g c =
+    let put = g.W.Write.contents in
+    let old = put c.args.writer.now in
+    let new = put c.put_lines.new.writer in
+    beginning_out old new c.put_lines.new.out (history_text c.args.history.now)
+    (begun_from_nothing old (with_gathered new c.put_lines.new.out) c.new-out.result (history_text c.args.history.now) c.new-out.ensures c.in-Err.ensures.text)
+    c.in-Err.ensures.grows
+
+pub returns-in-Err-let_out-clause-text : goal.returns-in-Err-let_out-clause-text
+returns-in-Err-let_out-clause-text g c =
+    let put = g.W.Write.contents in
+    let text = history_text c.args.history.now in
+    let old = put c.args.writer.now in
+    let mid = put c.put_lines.new.writer in
+    let new = put c.let_out.new.writer in
+    let all = from_nothing old (with_gathered mid c.put_lines.new.out) c.new-out.result text c.new-out.ensures c.in-Ok.ensures.text in
+    beginning_out old new c.let_out.new.self text
+    (whole_is_beginning old (with_gathered new c.let_out.new.self) text (all_out old mid new c.put_lines.new.out c.let_out.new.self text all c.let_out.ensures.bytes))
+    (grows_on old mid new c.in-Ok.ensures.grows (lets_out_grows mid new c.put_lines.new.out c.let_out.new.self c.let_out.ensures.bytes))

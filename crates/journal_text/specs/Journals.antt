@@ -1,0 +1,35 @@
+-- The text of a journal, and what the events that stand in it name.
+use Rattle.std.specs.Prelude.{ℕ, List, [], ◌∷◌, ◌++◌}
+use Rattle.std.specs.List.{flat_map, AllByRecursion}
+use Rattle.lock_messages.specs.Ids.{IsNode, IsClient}
+use Rattle.lock_messages.specs.Names.{IsName}
+use Rattle.world_model.specs.declared.events.Effect.{Effect}
+use Rattle.world_model.specs.declared.events.Event.{Event}
+use Rattle.world_model.specs.declared.events.Event.TheVariants as event
+use Rattle.history_check.specs.Lines.{IsActor}
+use Rattle.history_check.specs.Events.{event_text}
+
+-- the line of an event, with its line feed
+abbrev pub event_line : Event → List ℕ
+event_line e = event_text e ++ 10 ∷ []
+
+-- The journal of a history: the line of each event, in order.
+abbrev pub history_text : List (Event × Effect) → List ℕ
+history_text history = flat_map (λ p. event_line p.0) history
+
+-- the nodes, the clients and the resource that an event names may be some
+abbrev pub IsWellNamed : Event → Type 0
+IsWellNamed (event.Begin c m x) = IsClient c × IsName x
+IsWellNamed (event.Try who) = IsActor who
+IsWellNamed (event.Kept who) = IsActor who
+IsWellNamed (event.SayTo c n) = IsClient c × IsNode n
+IsWellNamed (event.Say n) = IsNode n
+IsWellNamed (event.Take n k) = IsNode n
+IsWellNamed (event.Hear c k) = IsClient c
+IsWellNamed (event.Enter c) = IsClient c
+IsWellNamed (event.Leave c) = IsClient c
+IsWellNamed (event.Fall who) = IsActor who
+IsWellNamed (event.Rise who age) = IsActor who
+
+abbrev pub AreWellNamed : List (Event × Effect) → Type 0
+AreWellNamed history = AllByRecursion (λ p. IsWellNamed p.0) history
