@@ -176,7 +176,7 @@ where
 pub fn end_without_memory<E: Write>(errors: &mut E) -> Ended
     ensures { TellsFault fault.Memory (E.contents errors.old) (E.contents errors.new) result }
 {
-    tell_fault(ServeFault::Memory, errors)
+    end_served(Err(ServeFault::Memory), errors)
 }
 
 /// Runs the program: does what the words say with the bytes of the reader, and answers how it ended.
