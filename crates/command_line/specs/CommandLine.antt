@@ -1,15 +1,18 @@
 -- What the program does with its words: the status that it ends with, what it writes, and what it
 -- says on the second writer.
-use Rattle.std.specs.Prelude.{◌≡◌, ◌⊎◌, ℕ, Bool, true, false, List, [], ◌++◌, Option, Result, Ok, Err, codes}
+use Rattle.std.specs.Prelude.{◌≡◌, ◌⊎◌, ℕ, Bool, true, false, List, [], ◌++◌, Option, Some, None, Result, Ok, Err, codes, option_map}
 use Rattle.std.specs.Fmt.{decimal}
 use Rattle.std.specs.Io.KnownBytes.{Keeps, Appends}
-use Rattle.clap.specs.Words.{App, with_subcommand, fault_of, IsAmong, Kinds}
+use Rattle.clap.specs.Words.{App, with_subcommand, subcommand_of, fault_of, HasKind, IsAmong, Kinds}
 use Rattle.clap.specs.Simple.{new_shape}
+use Rattle.clap.specs.declared.error.Error.{Error}
 use Rattle.clap.specs.declared.error.kind.ErrorKind.{ErrorKind}
 use Rattle.clap.specs.declared.error.kind.ErrorKind.TheVariants as kind
 use Rattle.line_streams.specs.Streams.{AppendsBeginning}
 use Rattle.operator_cli.specs.declared.faults.ServeFault.{ServeFault}
 use Rattle.operator_cli.specs.declared.faults.ServeFault.TheVariants as fault
+use Rattle.operator_cli.specs.declared.orders.Command.{Command}
+use Rattle.operator_cli.specs.declared.orders.Command.TheVariants as command
 use Rattle.operator_cli.specs.Faults.{serve_fault_number}
 use Rattle.operator_cli.specs.Outputs.{Serves}
 use Rattle.command_line.specs.declared.ending.Ended.{Ended}
@@ -18,15 +21,38 @@ use Rattle.command_line.specs.declared.reading.Sort.TheVariants as sort
 use Rattle.command_line.specs.declared.reading.Unserved.{Unserved}
 use Rattle.command_line.specs.declared.reading.Unserved.TheVariants as unserved
 
--- The words that the program takes: `script` and nothing else, and on either level a request for
--- help; on the upper one also a request for the version.
+-- The words that the program takes: one of `script`, `audit` and `ballot` and nothing else, and on
+-- either level a request for help; on the upper one also a request for the version.
+
+abbrev pub name_of : Command → List ℕ
+name_of command.Script = codes "script"
+name_of command.Audit = codes "audit"
+name_of command.Ballot = codes "ballot"
+
+-- without the commands
+abbrev pub top_app : App
+top_app = record {
+  top = record (new_shape (codes "rwvote")) { has_version = true; subcommand_required = true; disable_help_subcommand = true };
+  subs = [];
+}
+
+abbrev pub with_command : App → Command → App
+with_command a c = with_subcommand a (new_shape (name_of c))
+
 abbrev pub app : App
-app = with_subcommand
-    (record {
-      top = record (new_shape (codes "rwvote")) { has_version = true; subcommand_required = true; disable_help_subcommand = true };
-      subs = [];
-    })
-    (new_shape (codes "script"))
+app = with_command (with_command (with_command top_app command.Script) command.Audit) command.Ballot
+
+-- the name of a command
+abbrev pub IsNamed : List ℕ → Type 0
+IsNamed name = (c : Command) × (name ≡ name_of c)
+
+abbrev pub NamesOne : Option (List ℕ) → Type 0
+NamesOne None = ⊥
+NamesOne (Some name) = IsNamed name
+
+-- the name of the command that `clap` finds in the words
+unfoldable pub named_in : List (List ℕ) → Option (List ℕ)
+named_in words = option_map (λ found. found.0) (subcommand_of app words)
 
 -- What `clap` says of words that name no command: it lacked memory, help or the version is asked
 -- for, or they are wrong.
@@ -45,12 +71,17 @@ IsOfSort s unserved.NoMemory = Unit {0}
 IsOfSort s (unserved.Help text) = s ≡ sort.Help
 IsOfSort s (unserved.Wrong text) = s ≡ sort.Wrong
 
--- how words were read that may fail by these kinds
-abbrev pub ReadsWords : Kinds → Result (Unit {0}) Unserved → Type 0
-ReadsWords kinds (Ok u) = kinds ≡ []
-ReadsWords kinds (Err unserved.NoMemory) = Unit {0}
-ReadsWords kinds (Err (unserved.Help text)) = HasSort sort.Help kinds
-ReadsWords kinds (Err (unserved.Wrong text)) = HasSort sort.Wrong kinds
+-- How words were parsed that may fail by these kinds, or else name a command.
+abbrev pub Parses : Kinds → Option (List ℕ) → Result Command Error → Type 0
+Parses kinds named (Ok c) = (kinds ≡ []) × (named ≡ Some (name_of c))
+Parses kinds named (Err e) = HasKind kinds e
+
+-- The same, and what is to be said where no command is named.
+abbrev pub ReadsWords : Kinds → Option (List ℕ) → Result Command Unserved → Type 0
+ReadsWords kinds named (Ok c) = (kinds ≡ []) × (named ≡ Some (name_of c))
+ReadsWords kinds named (Err unserved.NoMemory) = Unit {0}
+ReadsWords kinds named (Err (unserved.Help text)) = HasSort sort.Help kinds
+ReadsWords kinds named (Err (unserved.Wrong text)) = HasSort sort.Wrong kinds
 
 -- A text went to the second writer: all of it, or a beginning.
 abbrev pub Says : Option (List ℕ) → Option (List ℕ) → List ℕ → Bool → Type 0
@@ -90,8 +121,8 @@ abbrev pub EndsServed : Result ℕ ServeFault → Option (List ℕ) → Option (
 EndsServed (Ok status) old new e = (e.status ≡ status) × (e.told ≡ true) × Keeps old new
 EndsServed (Err f) old new e = TellsFault f old new e
 
-abbrev pub RunsScript : Option (List ℕ) → Writers → Ended → Type 0
-RunsScript input w e = (r : Result ℕ ServeFault) × Serves input w.old w.new r × EndsServed r w.errors_old w.errors_new e
+abbrev pub RunsCommand : Command → Option (List ℕ) → Writers → Ended → Type 0
+RunsCommand c input w e = (r : Result ℕ ServeFault) × Serves c input w.old w.new r × EndsServed r w.errors_old w.errors_new e
 
 -- A text went to the first writer, and the status is 0; or that failed, which is told as such.
 abbrev pub Shows : List ℕ → Writers → Ended → Type 0
@@ -110,11 +141,15 @@ RefusesWords w e = (text : List ℕ) × Keeps w.old w.new × EndsSaying 2 text w
 abbrev pub LacksMemory : Writers → Ended → Type 0
 LacksMemory w e = Keeps w.old w.new × TellsFault fault.Memory w.errors_old w.errors_new e
 
+-- the command is the one that is named
+abbrev pub RunsNamed : Option (List ℕ) → Option (List ℕ) → Writers → Ended → Type 0
+RunsNamed named input w e = (c : Command) × (named ≡ Some (name_of c)) × RunsCommand c input w e
+
 -- What a run does with words that were read. `clap` says which are right, and of which kind the
--- others are: `fault_of` is empty where `script` is named.
-abbrev pub RunsBy : Option (List ℕ) → Kinds → Writers → Ended → Type 0
-RunsBy input kinds w e =
-    LacksMemory w e ⊎ (((kinds ≡ []) × RunsScript input w e) ⊎ ((HasSort sort.Help kinds × ShowsHelp w e) ⊎ (HasSort sort.Wrong kinds × RefusesWords w e)))
+-- others are: `fault_of` is empty where a command is named.
+abbrev pub RunsBy : Option (List ℕ) → Kinds → Option (List ℕ) → Writers → Ended → Type 0
+RunsBy input kinds named w e =
+    LacksMemory w e ⊎ (((kinds ≡ []) × RunsNamed named input w e) ⊎ ((HasSort sort.Help kinds × ShowsHelp w e) ⊎ (HasSort sort.Wrong kinds × RefusesWords w e)))
 
 abbrev pub Runs : Option (List ℕ) → List (List ℕ) → Writers → Ended → Type 0
-Runs input words w e = RunsBy input (fault_of app words) w e
+Runs input words w e = RunsBy input (fault_of app words) (named_in words) w e

@@ -9,12 +9,12 @@ ghost use Rattle.lock_messages.specs.declared.ids.TheConstants.{MAX_NODES};
 ghost use Rattle.lock_model.specs.declared.problems.Problem.TheVariants.{First, Second};
 ghost use Rattle.operator_cli.specs.Outputs.{Serves};
 ghost use Rattle.operator_cli.specs.declared.faults.ServeFault.TheVariants as fault;
-ghost use Rattle.command_line.specs.CommandLine.{app, Says, EndsSaying, TellsFault, EndsUnread, EndsServed, RunsScript, Shows, ReadsWords, RunsBy, Runs, no_text_words, fault_text};
+ghost use Rattle.command_line.specs.CommandLine.{app, Says, EndsSaying, TellsFault, EndsUnread, EndsServed, RunsCommand, Shows, ReadsWords, RunsBy, Runs, no_text_words, fault_text};
 
 use crate::reading::{Unserved, read_words};
 use admission_policy::Admission;
 use line_streams::write_text;
-use operator_cli::{Command, Order, Policies, ServeFault, serve};
+use operator_cli::{AuditFault, Order, Policies, ServeFault, serve};
 use std::alloc::{AllocError, Global};
 use std::env::Args;
 use std::io;
@@ -42,6 +42,18 @@ fn say<E: Write>(status: u8, text: &str, errors: &mut E) -> Ended
     }
 }
 
+/// What is said of a fault of an audit.
+fn audit_fault_text(met: AuditFault) -> &'static str
+    ensures { result.now ≡ fault_text (fault.Audit met) }
+{
+    match met {
+        AuditFault::Read => "fault 816\n",
+        AuditFault::Write => "fault 817\n",
+        AuditFault::Memory => "fault 818\n",
+        AuditFault::TooManyLines => "fault 819\n",
+    }
+}
+
 /// What is said of a fault: a fixed text, so that want of memory can be told without memory.
 fn fault_text(fault: ServeFault) -> &'static str
     ensures { result.now ≡ fault_text fault }
@@ -50,6 +62,7 @@ fn fault_text(fault: ServeFault) -> &'static str
         ServeFault::Read => "fault 931\n",
         ServeFault::Write => "fault 932\n",
         ServeFault::Memory => "fault 933\n",
+        ServeFault::Audit(fault) => audit_fault_text(fault),
     }
 }
 
@@ -84,24 +97,20 @@ fn end_served<E: Write>(came: Result<u8, ServeFault>, errors: &mut E) -> Ended
     }
 }
 
-/// Runs a script.
-fn run_script<R: Read, W: Write, E: Write>(
+/// Runs a command.
+fn run_command<R: Read, W: Write, E: Write>(
     alloc: Global,
-    policies: Policies,
+    order: Order,
     reader: R,
     output: &mut W,
     errors: &mut E,
 ) -> Ended
 where
     R: Drop,
-    requires first { map ⟦<Box<dyn Admission + Send> as Admission>⟧.problem_of policies.first.items ≡ replicate MAX_NODES First }
-    requires second { map ⟦<Box<dyn Admission + Send> as Admission>⟧.problem_of policies.second.items ≡ replicate MAX_NODES Second }
-    ensures { RunsScript (R.remaining reader) (record { old = W.contents output.old; new = W.contents output.new; errors_old = E.contents errors.old; errors_new = E.contents errors.new }) result }
+    requires first { map ⟦<Box<dyn Admission + Send> as Admission>⟧.problem_of order.policies.first.items ≡ replicate MAX_NODES First }
+    requires second { map ⟦<Box<dyn Admission + Send> as Admission>⟧.problem_of order.policies.second.items ≡ replicate MAX_NODES Second }
+    ensures { RunsCommand order.command (R.remaining reader) (record { old = W.contents output.old; new = W.contents output.new; errors_old = E.contents errors.old; errors_new = E.contents errors.new }) result }
 {
-    let order = Order {
-        command: Command::Script,
-        policies,
-    };
     let came = serve(alloc, order, reader, output);
     end_served(came, errors)
 }
@@ -120,7 +129,7 @@ fn show<W: Write, E: Write>(text: &str, output: &mut W, errors: &mut E) -> Ended
 }
 
 /// Does what the words say.
-#[tactic(auto, using(crate::proofs::WordFacts::runs_lacking, crate::proofs::WordFacts::runs_script, crate::proofs::WordFacts::runs_help, crate::proofs::WordFacts::runs_wrong))]
+#[tactic(auto, using(crate::proofs::WordFacts::runs_lacking, crate::proofs::WordFacts::runs_command, crate::proofs::WordFacts::runs_help, crate::proofs::WordFacts::runs_wrong))]
 fn run_words<R: Read, W: Write, E: Write>(
     alloc: Global,
     words: &[String],
@@ -136,7 +145,7 @@ where
     ensures { Runs (R.remaining reader) (map string_bytes words.now) (record { old = W.contents output.old; new = W.contents output.new; errors_old = E.contents errors.old; errors_new = E.contents errors.new }) result }
 {
     match read_words(alloc, words) {
-        Ok(()) => run_script(alloc, policies, reader, output, errors),
+        Ok(command) => run_command(alloc, Order { command, policies }, reader, output, errors),
         Err(Unserved::NoMemory) => tell_fault(ServeFault::Memory, errors),
         Err(Unserved::Help(text)) => show(text.as_str(), output, errors),
         Err(Unserved::Wrong(text)) => say(2, text.as_str(), errors),
@@ -181,11 +190,11 @@ pub fn end_without_memory<E: Write>(errors: &mut E) -> Ended
 
 /// Runs the program: does what the words say with the bytes of the reader, and answers how it ended.
 ///
-/// The words are those of `std::env::args`, the program's name first. `script` serves what the
-/// reader gives, as `operator_cli::serve` does, onto `output`: the status is that of `serve`, and
-/// nothing goes to `errors`; a fault of `serve` is told there as `fault N`, with status 1. `--help`
-/// and `--version`, also `script --help`, go to `output`, with status 0 (`fault 932` and 1 where that
-/// fails). Other words are wrong, and so is one that is not UTF-8: a text on `errors` says so, and the
+/// The words are those of `std::env::args`, the program's name first. `script`, `audit` and `ballot`
+/// serve what the reader gives, as `operator_cli::serve` does for the command of this name, onto
+/// `output`: the status is that of `serve`, and nothing goes to `errors`; a fault of `serve` is told
+/// there as `fault N`, with status 1. `--help` and `--version`, also `script --help` and the like, go to
+/// `output`, with status 0 (`fault 932` and 1 where that fails). Other words are wrong, and so is one that is not UTF-8: a text on `errors` says so, and the
 /// status is 2. Where memory is refused while words are read, `fault 933` is told, with status 1.
 ///
 /// Contracts speak of what the reader has left and of what the writers hold, where these are known.

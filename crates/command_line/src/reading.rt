@@ -1,14 +1,17 @@
 // The words that the program takes, and their help.
 
-ghost use Rattle.std.specs.Prelude.{◌≡◌, IfOk, map, string_bytes};
-ghost use Rattle.clap.specs.Words.{app_of, fault_of, kind_of, FailsBy};
-ghost use Rattle.command_line.specs.CommandLine.{app, sort_of, IsOfSort, ReadsWords};
+ghost use Rattle.std.specs.Prelude.{◌≡◌, IfOk, Some, false, map, string_bytes};
+ghost use Rattle.clap.specs.Words.{app_of, shape_of, fault_of, kind_of, subcommand_name_of};
+ghost use Rattle.clap.specs.Simple.{new_shape};
+ghost use Rattle.clap.specs.declared.builder.command.Command.TheViews.{out-Command};
+ghost use Rattle.command_line.specs.CommandLine.{app, top_app, sort_of, name_of, named_in, IsNamed, NamesOne, IsOfSort, Parses, ReadsWords};
 
+use clap::ArgMatches;
 use clap::error::ErrorKind;
-use clap::{ArgMatches, Command};
+use operator_cli::Command;
 use std::alloc::{AllocError, Global};
 
-const ABOUT: &str = "A voted readers-writers lock service, run in memory from a script.";
+const ABOUT: &str = "A voted readers-writers lock service in memory.";
 
 const SCRIPT_HELP: &str = "\
 Runs a script: standard input begins with settings in TOML and a line `---`, and each line behind
@@ -64,19 +67,86 @@ The status is 0; 1 where an event or a query was refused, a line was bad, or `fa
 standard error (931 the input failed, 932 the output, 933 no memory); 2 where the settings or the
 words were refused.";
 
-/// The words that the program takes.
-fn words_taken<'a>(alloc: Global) -> Result<Command<'a>, AllocError>
-    ensures { IfOk result (λ c. app_of c ≡ app) }
+const AUDIT_HELP: &str = "\
+Judges a journal: standard input begins with settings in TOML and a line `---`, and each line behind
+it is an event. This one can be pasted and run, once `rwvote` is on the path:
+
+rwvote audit <<'END'
+votes = [1]
+read = 1
+write = 1
+problem = 1
+clients = 2
+---
+rise n1 old
+rise c1 old
+begin c1 read a
+END
+
+It prints `sound 3`: the three lines are events that can happen one after another, from a world in
+which all nodes and clients are down and nothing is kept. Of a journal that can't be it names the
+first line that is wrong: `unsound L refused N` where the event can't happen then, `unsound L fault N`
+where the line is no event. Lines count from 1 behind `---`, and the numbers are those of
+`rwvote script --help`. Nothing behind that line is read. The settings and the events are written as
+for `script`; a query is no event.
+
+The status is 0 for a sound journal; 1 for another one, and where `fault N` stands on standard error:
+931 the input failed in front of `---`, 816 behind it, 817 the output failed, 933 and 818 no memory,
+819 over 4194304 lines; 2 where the settings or the words were refused.";
+
+const BALLOT_HELP: &str = "\
+Says what a ballot is: standard input begins with settings in TOML and a line `---`, and what stands
+behind it is ignored. This one can be pasted and run, once `rwvote` is on the path:
+
+rwvote ballot <<'END'
+votes = [2, 1, 1]
+read = 2
+write = 3
+problem = 1
+clients = 2
+---
+END
+
+It prints `total 4 read 2 write 3`: all votes, and how many a reader and a writer collect. The
+settings are those of `script`.
+
+`refused N` says that the votes make no ballot: 201 no node, 202 more than 16, 203 a need over all
+votes, 204 a read and a write could miss each other, 205 two writes could.
+
+The status is 0; 1 where the ballot was refused, or where `fault N` stands on standard error (931 the
+input failed, 932 the output, 933 no memory); 2 where the settings or the words were refused.";
+
+/// A command of the program.
+fn below<'a>(alloc: Global, name: &'a str, about: &'a str, help: &'a str) -> clap::Command<'a>
+    ensures shape { shape_of result ≡ new_shape name.entry.now }
+    ensures local { (out-Command result).has_globals ≡ false }
 {
-    let script = Command::new(alloc, "script")
-        .about("Runs a script")
-        .long_about(SCRIPT_HELP);
-    Command::new(alloc, "rwvote")
+    clap::Command::new(alloc, name)
+        .about(about)
+        .long_about(help)
+}
+
+/// The program without its commands.
+fn top<'a>(alloc: Global) -> clap::Command<'a>
+    ensures { app_of result ≡ top_app }
+{
+    clap::Command::new(alloc, "rwvote")
         .version("0.1.0")
         .about(ABOUT)
         .subcommand_required(true)
         .disable_help_subcommand(true)
-        .subcommand(script)
+}
+
+/// The words that the program takes.
+fn words_taken<'a>(alloc: Global) -> Result<clap::Command<'a>, AllocError>
+    ensures { IfOk result (λ c. app_of c ≡ app) }
+{
+    let script = below(alloc, "script", "Runs a script", SCRIPT_HELP);
+    let audit = below(alloc, "audit", "Judges a journal", AUDIT_HELP);
+    let ballot = below(alloc, "ballot", "Says what a ballot is", BALLOT_HELP);
+    let with_script = top(alloc).subcommand(script)?;
+    let with_audit = with_script.subcommand(audit)?;
+    with_audit.subcommand(ballot)
 }
 
 /// What `clap` says of words that name no command.
@@ -122,36 +192,57 @@ fn unserved_by(alloc: Global, error: &clap::Error) -> Unserved
     }
 }
 
-/// What `clap` makes of the words by a command.
-fn parse_by<'a>(command: Command<'a>, words: &'a [String]) -> Result<ArgMatches<'a>, clap::Error>
-    requires { app_of command ≡ app }
-    ensures { FailsBy (fault_of app (map string_bytes words.now)) result }
+/// The command of this name.
+fn command_of(name: &str) -> Command
+    requires { IsNamed name.now }
+    ensures { name.now ≡ name_of result }
 {
-    command.try_get_matches_from(words)
+    if name == "script" {
+        return Command::Script;
+    }
+    if name == "audit" {
+        return Command::Audit;
+    }
+    Command::Ballot
 }
 
-/// What `clap` makes of the words.
-fn parse(alloc: Global, words: &[String]) -> Result<(), clap::Error>
-    ensures { FailsBy (fault_of app (map string_bytes words.now)) result }
+/// The command that the words name.
+fn command_in(matches: &ArgMatches) -> Command
+    requires { NamesOne (subcommand_name_of matches.now) }
+    ensures { subcommand_name_of matches.now ≡ Some (name_of result) }
 {
-    let command = match words_taken(alloc) {
-        Ok(command) => command,
-        Err(error) => return Err(clap::Error::from(error)),
-    };
-    match parse_by(command, words) {
-        Ok(_) => Ok(()),
+    command_of(matches.subcommand_name().unwrap())
+}
+
+/// What `clap` makes of the words by a command.
+fn parse_by<'a>(command: clap::Command<'a>, words: &'a [String]) -> Result<Command, clap::Error>
+    requires { app_of command ≡ app }
+    ensures { Parses (fault_of app (map string_bytes words.now)) (named_in (map string_bytes words.now)) result }
+{
+    match command.try_get_matches_from(words) {
+        Ok(matches) => Ok(command_in(&matches)),
         Err(error) => Err(error),
     }
 }
 
+/// What `clap` makes of the words.
+fn parse(alloc: Global, words: &[String]) -> Result<Command, clap::Error>
+    ensures { Parses (fault_of app (map string_bytes words.now)) (named_in (map string_bytes words.now)) result }
+{
+    match words_taken(alloc) {
+        Ok(command) => parse_by(command, words),
+        Err(error) => Err(clap::Error::from(error)),
+    }
+}
+
 /// Reads the words, of which the first is the program's name. They are right where they name
-/// `script`.
+/// a command.
 #[tactic(auto, using(crate::proofs::WordFacts::unserved_so))]
-pub fn read_words(alloc: Global, words: &[String]) -> Result<(), Unserved>
-    ensures { ReadsWords (fault_of app (map string_bytes words.now)) result }
+pub fn read_words(alloc: Global, words: &[String]) -> Result<Command, Unserved>
+    ensures { ReadsWords (fault_of app (map string_bytes words.now)) (named_in (map string_bytes words.now)) result }
 {
     match parse(alloc, words) {
-        Ok(()) => Ok(()),
+        Ok(command) => Ok(command),
         Err(error) => Err(unserved_by(alloc, &error)),
     }
 }

@@ -9,8 +9,8 @@ use Rattle.operator_cli.specs.declared.faults.SettingsFault.TheVariants as setti
 use Rattle.operator_cli.specs.declared.heads.TheConstants.{HEAD_ROOM}
 use Rattle.line_streams.specs.declared.reading.End.{End}
 use Rattle.line_streams.specs.declared.reading.End.TheVariants.{LineFeed, Input, Limit}
-use Rattle.line_streams.specs.Streams.{pieces, KnownLeft, ReadsPiece}
-use Rattle.operator_cli.specs.Outputs.{dashes, with_line, parts_at_dashes, within_room, head_of, lines_in}
+use Rattle.line_streams.specs.Streams.{lines_in, pieces, KnownLeft, ReadsPiece}
+use Rattle.operator_cli.specs.Outputs.{dashes, with_line, parts_at_dashes, within_room, head_of}
 use Rattle.operator_cli.specs.PartOutputs.{FindsHead}
 use Rattle.operator_cli.specs.declared.heads.StartFault.TheVariants as start
 use Rattle.std.specs.Global.{Global}

@@ -15,8 +15,8 @@ use Rattle.operator_cli.specs.declared.script.Judged.TheVariants as judged
 use Rattle.history_check.specs.Faults.{line_fault_number}
 use Rattle.history_check.specs.Lines.{line_of as said_in}
 use Rattle.operator_cli.specs.Lines.{line_of}
-use Rattle.line_streams.specs.Streams.{is_line_feed, pieces, KnownLeft, EndsPiece, ReadsPiece, AppendsBeginning, Grows}
-use Rattle.operator_cli.specs.Outputs.{Told, Output, told, before, line_output, lines_output, lines_in, Writes}
+use Rattle.line_streams.specs.Streams.{lines_in, is_line_feed, pieces, KnownLeft, EndsPiece, ReadsPiece, AppendsBeginning, Grows}
+use Rattle.operator_cli.specs.Outputs.{Told, Output, told, before, line_output, lines_output, Writes}
 use Rattle.operator_cli.specs.PartOutputs.{judged_line, judged_piece, is_last, status_of, WritesAnswer, WritesLines}
 use Rattle.operator_cli.specs.Texts.{line_fault_text}
 use Rattle.operator_cli.proofs.SplitFacts.{some_part}

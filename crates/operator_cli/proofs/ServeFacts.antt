@@ -1,30 +1,40 @@
 -- From the settings to the whole output.
-use Rattle.std.proofs.Common.{◌≡◌, ◌⊎◌, inl, inr, ℕ, Vec, List, [], ◌++◌, Option, Some, None, Result, Ok, Err, refl, sym, ap, subst, ◌∙◌, append_assoc}
+use Rattle.std.proofs.Common.{◌≡◌, ◌⊎◌, inl, inr, ℕ, ◌<◌, ◌≤◌, nat_le, Bool, true, false, cond, Vec, List, [], ◌++◌, Option, Some, None, Result, Ok, Err, refl, sym, ap, subst, ◌∙◌, append_assoc}
 use Rattle.std.specs.Global.{Global}
 use Rattle.std.specs.Io.KnownBytes.{Appends}
+use Rattle.std.proofs.lemmas.Bool.{leb-true, leb-false}
 use Rattle.std.proofs.lemmas.List.{append-nil, append_cancel_left}
 use Rattle.world_model.specs.declared.exact.ExactWorld.{ExactWorld}
-use Rattle.operator_cli.specs.Openings.{all_risen}
+use Rattle.operator_cli.specs.Openings.{all_risen, all_down}
 use Rattle.operator_cli.specs.declared.faults.ServeFault.{ServeFault}
 use Rattle.operator_cli.specs.declared.faults.ServeFault.TheVariants as fault
 use Rattle.operator_cli.specs.declared.faults.SettingsFault.{SettingsFault}
 use Rattle.operator_cli.specs.declared.faults.SettingsFault.TheVariants as settings
+use Rattle.journal_audit.specs.declared.faults.AuditFault.{AuditFault}
+use Rattle.journal_audit.specs.declared.faults.AuditFault.TheVariants as audit
+use Rattle.journal_audit.specs.declared.verdicts.TheConstants.{MAX_LINES}
+use Rattle.journal_audit.specs.declared.verdicts.Verdict.{Verdict}
+use Rattle.journal_audit.specs.Audits.{Audits, found_in}
+use Rattle.journal_audit.specs.Verdicts.{verdict_of, verdict_text, reaches}
+use Rattle.operator_cli.specs.declared.orders.Command.{Command}
+use Rattle.operator_cli.specs.declared.orders.Command.TheVariants as command
 use Rattle.operator_cli.specs.declared.heads.StartFault.{StartFault}
 use Rattle.operator_cli.specs.declared.heads.StartFault.TheVariants as start
 use Rattle.operator_cli.specs.declared.settings.Settings.{Settings}
 use Rattle.operator_cli.specs.Settings.{settings_of, Refuses}
-use Rattle.line_streams.specs.Streams.{pieces, AppendsBeginning, Grows, LetsOut, with_gathered}
-use Rattle.operator_cli.specs.Outputs.{Output, output_of, head_of, lines_in, lines_output, parts_output, settings_output, refusal_output, Writes, Serves}
-use Rattle.operator_cli.specs.PartOutputs.{IsRefusal, FindsHead, Starts, RefusesStart, WritesLines, Finishes}
+use Rattle.line_streams.specs.Streams.{pieces, lines_in, AppendsBeginning, Grows, LetsOut, with_gathered}
+use Rattle.operator_cli.specs.Outputs.{Output, output_of, opened, start_of, with_lines, head_of, lines_output, settings_output, command_output, verdict_output, verdict_status, refusal_output, refused_ballot_output, refused_output, KeepsLimit, IsLimited, IsLimitedIn, Writes, Serves}
+use Rattle.operator_cli.specs.Texts.{ballot_text}
+use Rattle.operator_cli.specs.PartOutputs.{FindsHead, Starts, RefusesStart, WritesLines, WritesBehind, WritesVerdict, Finishes}
 use Rattle.operator_cli.proofs.ScriptFacts.{appends_nothing}
 
-no_head : (xs : List ℕ) (e : SettingsFault) → Refuses e (head_of (pieces xs)) → IsRefusal e (output_of xs)
-unfolding output_of
-no_head xs settings.NoEnd h = ap parts_output h
-no_head xs settings.NoDocument h = ap parts_output h
-no_head xs settings.UnknownKey h = ap parts_output h
-no_head xs settings.Value h = ap parts_output h
-no_head xs (settings.Ballot f) h = ap parts_output h
+no_head : (xs : List ℕ) (e : SettingsFault) → Refuses e (head_of (pieces xs)) → Refuses e (opened xs)
+unfolding opened
+no_head xs settings.NoEnd h = ap start_of h
+no_head xs settings.NoDocument h = ap start_of h
+no_head xs settings.UnknownKey h = ap start_of h
+no_head xs settings.Value h = ap start_of h
+no_head xs (settings.Ballot f) h = ap start_of h
 no_head xs settings.Memory h = tt
 
 -- there is no head
@@ -33,23 +43,23 @@ not_started None new f h = tt
 not_started (Some xs) new start.Read h = tt
 not_started (Some xs) new (start.Settings e) h = no_head xs e h
 
-behind_head : (xs head : List ℕ) (lines : List (List ℕ)) → head_of (pieces xs) ≡ Ok (head, lines) → output_of xs ≡ settings_output (settings_of head) lines
-unfolding output_of
-behind_head xs head lines h = ap parts_output h
+behind_head : (xs head : List ℕ) (lines : List (List ℕ)) → head_of (pieces xs) ≡ Ok (head, lines) → opened xs ≡ with_lines lines (settings_of head)
+unfolding opened
+behind_head xs head lines h = ap start_of h
 
 -- the head gives settings
 pub started : (old new : Option (List ℕ)) (head : Vec ℕ Global) (text : List ℕ) (s : Settings) → FindsHead old new (Ok head) → text ≡ head.items → settings_of text ≡ Ok s → Starts old new (Ok s)
 started None new head text s h same e = tt
 started (Some xs) None head text s h same e = absurd h
 started (Some xs) (Some ys) head text s h same e =
-    behind_head xs head.items (lines_in (pieces ys)) h ∙ ap (λ q. settings_output q (lines_in (pieces ys))) (ap settings_of (sym same) ∙ e)
+    behind_head xs head.items (lines_in (pieces ys)) h ∙ ap (λ q. with_lines (lines_in (pieces ys)) q) (ap settings_of (sym same) ∙ e)
 
-bad_settings : (xs head : List ℕ) (lines : List (List ℕ)) (e : SettingsFault) → output_of xs ≡ settings_output (settings_of head) lines → Refuses e (settings_of head) → IsRefusal e (output_of xs)
-bad_settings xs head lines settings.NoEnd o h = o ∙ ap (λ q. settings_output q lines) h
-bad_settings xs head lines settings.NoDocument o h = o ∙ ap (λ q. settings_output q lines) h
-bad_settings xs head lines settings.UnknownKey o h = o ∙ ap (λ q. settings_output q lines) h
-bad_settings xs head lines settings.Value o h = o ∙ ap (λ q. settings_output q lines) h
-bad_settings xs head lines (settings.Ballot f) o h = o ∙ ap (λ q. settings_output q lines) h
+bad_settings : (xs head : List ℕ) (lines : List (List ℕ)) (e : SettingsFault) → opened xs ≡ with_lines lines (settings_of head) → Refuses e (settings_of head) → Refuses e (opened xs)
+bad_settings xs head lines settings.NoEnd o h = o ∙ ap (with_lines lines) h
+bad_settings xs head lines settings.NoDocument o h = o ∙ ap (with_lines lines) h
+bad_settings xs head lines settings.UnknownKey o h = o ∙ ap (with_lines lines) h
+bad_settings xs head lines settings.Value o h = o ∙ ap (with_lines lines) h
+bad_settings xs head lines (settings.Ballot f) o h = o ∙ ap (with_lines lines) h
 bad_settings xs head lines settings.Memory o h = tt
 
 -- the head gives none
@@ -63,29 +73,129 @@ refused (Some xs) (Some ys) head text e h same r =
 nothing_yet : (o : Output) (old new : Option (List ℕ)) → new ≡ old → AppendsBeginning old new o.text
 nothing_yet o old new e = ([], o.text, refl, subst (λ (n : Option (List ℕ)). Appends old n []) (sym e) (appends_nothing old))
 
-pub serves_nothing : (input old new : Option (List ℕ)) (f : ServeFault) → new ≡ old → Serves input old new (Err f)
-serves_nothing None old new f e = tt
-serves_nothing (Some xs) old new f e = inl (nothing_yet (output_of xs) old new e)
+-- the faults that are not an audit's own
+abbrev pub IsOwnFault : ServeFault → Type 0
+IsOwnFault fault.Read = Unit {0}
+IsOwnFault fault.Write = Unit {0}
+IsOwnFault fault.Memory = Unit {0}
+IsOwnFault (fault.Audit f) = ⊥
 
-by_fault : (xs : List ℕ) (old new : Option (List ℕ)) (e : SettingsFault) (r : Result ℕ ServeFault) → IsRefusal e (output_of xs) → Writes (refusal_output e) old new r → Writes (output_of xs) old new r ⊎ Writes (refusal_output settings.Memory) old new r
-by_fault xs old new settings.NoEnd r h p = inl (subst (λ (o : Output). Writes o old new r) (sym h) p)
-by_fault xs old new settings.NoDocument r h p = inl (subst (λ (o : Output). Writes o old new r) (sym h) p)
-by_fault xs old new settings.UnknownKey r h p = inl (subst (λ (o : Output). Writes o old new r) (sym h) p)
-by_fault xs old new settings.Value r h p = inl (subst (λ (o : Output). Writes o old new r) (sym h) p)
-by_fault xs old new (settings.Ballot f) r h p = inl (subst (λ (o : Output). Writes o old new r) (sym h) p)
-by_fault xs old new settings.Memory r h p = inr p
+nothing_limited : (v : Verdict) (f : ServeFault) → IsOwnFault f → KeepsLimit v (Err f)
+nothing_limited v fault.Read h = tt
+nothing_limited v fault.Write h = tt
+nothing_limited v fault.Memory h = tt
+nothing_limited v (fault.Audit f) h = absurd h
 
-pub serves_refusal : (input left old new : Option (List ℕ)) (f : StartFault) (r : Result ℕ ServeFault) → Starts input left (Err f) → RefusesStart f old new r → Serves input old new r
-serves_refusal None left old new f r h p = tt
-serves_refusal (Some xs) left old new start.Read r h p =
-    subst (λ (q : Result ℕ ServeFault). Serves (Some xs) old new q) (sym p.0) (serves_nothing (Some xs) old new fault.Read p.1)
-serves_refusal (Some xs) left old new (start.Settings e) r h p = by_fault xs old new e r h p
+no_limit : (c : Command) (s : Settings) (lines : List (List ℕ)) (f : ServeFault) → IsOwnFault f → IsLimited c s lines (Err f)
+no_limit command.Script s lines f h = tt
+no_limit command.Audit s lines f h = nothing_limited (verdict_of (all_down s) lines) f h
+no_limit command.Ballot s lines f h = tt
 
-pub serves_lines : (input left old new : Option (List ℕ)) (s : Settings) (w : ExactWorld) (r : Result ℕ ServeFault) → Starts input left (Ok s) → w ≡ all_risen s → WritesLines w left old new r → Serves input old new r
-serves_lines None left old new s w r h e p = tt
-serves_lines (Some xs) None old new s w r h e p = absurd h
-serves_lines (Some xs) (Some ys) old new s w r h e p =
-    inl (subst (λ (o : Output). Writes o old new r) (ap (λ (v : ExactWorld). lines_output v 1 (lines_in (pieces ys))) e ∙ sym h) p)
+no_limit_in : (c : Command) (o : Result (Settings × List (List ℕ)) SettingsFault) (f : ServeFault) → IsOwnFault f → IsLimitedIn c o (Err f)
+no_limit_in c (Err e) f h = tt
+no_limit_in c (Ok parts) f h = no_limit c parts.0 parts.1 f h
+
+pub nothing_behind : (c : Command) (s : Settings) (left old new : Option (List ℕ)) (f : ServeFault) → IsOwnFault f → new ≡ old → WritesBehind c s left old new (Err f)
+nothing_behind c s None old new f h e = tt
+nothing_behind c s (Some xs) old new f h e = (nothing_yet (settings_output c s (lines_in (pieces xs))) old new e, no_limit c s (lines_in (pieces xs)) f h)
+
+pub serves_nothing : (c : Command) (input old new : Option (List ℕ)) (f : ServeFault) → IsOwnFault f → new ≡ old → Serves c input old new (Err f)
+serves_nothing c None old new f h e = tt
+serves_nothing c (Some xs) old new f h e = inl (nothing_yet (output_of c xs) old new e, no_limit_in c (opened xs) f h)
+
+-- refused settings are what the output tells
+refusal_told : (c : Command) (xs : List ℕ) (e : SettingsFault) (old new : Option (List ℕ)) (r : Result ℕ ServeFault) → opened xs ≡ Err e → Writes (refused_output c e) old new r → Serves c (Some xs) old new r
+unfolding output_of
+refusal_told c xs e old new r h p =
+    inl (subst (λ (o : Output). Writes o old new r) (sym (ap (command_output c) h)) p, subst (λ (o : Result (Settings × List (List ℕ)) SettingsFault). IsLimitedIn c o r) (sym h) tt)
+
+-- only votes that make no ballot are told otherwise where the ballot is asked for
+pub plain_refusal : (e : SettingsFault) → (e ≡ settings.NoEnd) ⊎ ((e ≡ settings.NoDocument) ⊎ ((e ≡ settings.UnknownKey) ⊎ ((e ≡ settings.Value) ⊎ (e ≡ settings.Memory)))) → refusal_output e ≡ refused_ballot_output e
+plain_refusal settings.NoEnd h = refl
+plain_refusal settings.NoDocument h = refl
+plain_refusal settings.UnknownKey h = refl
+plain_refusal settings.Value h = refl
+plain_refusal settings.Memory h = refl
+plain_refusal (settings.Ballot f) (inl e) = cc
+plain_refusal (settings.Ballot f) (inr (inl e)) = cc
+plain_refusal (settings.Ballot f) (inr (inr (inl e))) = cc
+plain_refusal (settings.Ballot f) (inr (inr (inr (inl e)))) = cc
+plain_refusal (settings.Ballot f) (inr (inr (inr (inr e)))) = cc
+
+-- want of memory is told the same way for each command
+memory_told : (c : Command) (xs : List ℕ) (old new : Option (List ℕ)) (r : Result ℕ ServeFault) → Writes (refused_output c settings.Memory) old new r → Serves c (Some xs) old new r
+memory_told command.Script xs old new r p = inr p
+memory_told command.Audit xs old new r p = inr p
+memory_told command.Ballot xs old new r p = inr p
+
+by_fault : (c : Command) (xs : List ℕ) (old new : Option (List ℕ)) (e : SettingsFault) (r : Result ℕ ServeFault) → Refuses e (opened xs) → Writes (refused_output c e) old new r → Serves c (Some xs) old new r
+by_fault c xs old new settings.NoEnd r h p = refusal_told c xs settings.NoEnd old new r h p
+by_fault c xs old new settings.NoDocument r h p = refusal_told c xs settings.NoDocument old new r h p
+by_fault c xs old new settings.UnknownKey r h p = refusal_told c xs settings.UnknownKey old new r h p
+by_fault c xs old new settings.Value r h p = refusal_told c xs settings.Value old new r h p
+by_fault c xs old new (settings.Ballot f) r h p = refusal_told c xs (settings.Ballot f) old new r h p
+by_fault c xs old new settings.Memory r h p = memory_told c xs old new r p
+
+pub serves_refusal : (c : Command) (input left old new : Option (List ℕ)) (f : StartFault) (r : Result ℕ ServeFault) → Starts input left (Err f) → RefusesStart c f old new r → Serves c input old new r
+serves_refusal c None left old new f r h p = tt
+serves_refusal c (Some xs) left old new start.Read r h p =
+    subst (λ (q : Result ℕ ServeFault). Serves c (Some xs) old new q) (sym p.0) (serves_nothing c (Some xs) old new fault.Read tt p.1)
+serves_refusal c (Some xs) left old new (start.Settings e) r h p = by_fault c xs old new e r h p
+
+-- what is written for the settings and the lines behind them is the output
+pub serves_behind : (c : Command) (input left old new : Option (List ℕ)) (s : Settings) (r : Result ℕ ServeFault) → Starts input left (Ok s) → WritesBehind c s left old new r → Serves c input old new r
+unfolding output_of
+serves_behind c None left old new s r h p = tt
+serves_behind c (Some xs) None old new s r h p = absurd h
+serves_behind c (Some xs) (Some ys) old new s r h p =
+    inl (subst (λ (o : Output). Writes o old new r) (sym (ap (command_output c) h)) p.0, subst (λ (o : Result (Settings × List (List ℕ)) SettingsFault). IsLimitedIn c o r) (sym h) p.1)
+
+-- the lines of a script are told from the world in which all have risen
+pub lines_behind : (s : Settings) (w : ExactWorld) (left old new : Option (List ℕ)) (r : Result ℕ ServeFault) → w ≡ all_risen s → WritesLines w left old new r → WritesBehind command.Script s left old new r
+lines_behind s w None old new r e p = tt
+lines_behind s w (Some xs) old new r e p = (subst (λ (v : ExactWorld). Writes (lines_output v 1 (lines_in (pieces xs))) old new r) e p, tt)
+
+-- the verdict is that from the world in which all are down
+pub verdict_behind : (s : Settings) (w : ExactWorld) (left old new : Option (List ℕ)) (r : Result ℕ ServeFault) → w ≡ all_down s → WritesVerdict w left old new r → WritesBehind command.Audit s left old new r
+verdict_behind s w None old new r e p = tt
+verdict_behind s w (Some xs) old new r e p =
+    subst (λ (v : ExactWorld). Writes (verdict_output (verdict_of v (lines_in (pieces xs)))) old new r × KeepsLimit (verdict_of v (lines_in (pieces xs))) r) e p
+
+-- the ballot is told, whatever the lines are
+pub ballot_behind : (s : Settings) (left old new : Option (List ℕ)) (r : Result ℕ ServeFault) → Writes (record { text = ballot_text s.ballot; status = 0 }) old new r → WritesBehind command.Ballot s left old new r
+ballot_behind s None old new r p = tt
+ballot_behind s (Some xs) old new r p = (p, tt)
+
+-- What an audit found is the verdict of the lines.
+
+within : (b : Bool) (v u : Verdict) → nat_le (reaches v) MAX_LINES ≡ b → cond b (Ok v) (Err audit.TooManyLines) ≡ Ok u → (v ≡ u) × (reaches v ≤ MAX_LINES)
+within true v u e h = (let same : Ok v ≡ Ok u = h in cc, leb-true _ _ e)
+within false v u e h = let clash : Err audit.TooManyLines ≡ Ok u = h in cc
+
+beyond : (b : Bool) (v : Verdict) → nat_le (reaches v) MAX_LINES ≡ b → cond b (Ok v) (Err audit.TooManyLines) ≡ Err audit.TooManyLines → MAX_LINES < reaches v
+beyond true v e h = let clash : Ok v ≡ Err audit.TooManyLines = h in cc
+beyond false v e h = leb-false _ _ e
+
+pub is_verdict : (w : ExactWorld) (lines : List (List ℕ)) (v : Verdict) → found_in w lines ≡ Ok v → (verdict_of w lines ≡ v) × (reaches (verdict_of w lines) ≤ MAX_LINES)
+is_verdict w lines v h = within (nat_le (reaches (verdict_of w lines)) MAX_LINES) (verdict_of w lines) v refl h
+
+pub verdict_written : (w : ExactWorld) (left old new : Option (List ℕ)) (v : Verdict) (status : ℕ) → Audits w left old new (Ok v) → status ≡ verdict_status v → WritesVerdict w left old new (Ok status)
+verdict_written w None old new v status h e = tt
+verdict_written w (Some xs) old new v status h e =
+    let same = is_verdict w (lines_in (pieces xs)) v h.0 in
+    ((subst (λ (u : Verdict). Appends old new (verdict_text u)) (sym same.0) h.1, e ∙ ap verdict_status (sym same.0)), same.1)
+
+pub verdict_unwritten : (w : ExactWorld) (left old new : Option (List ℕ)) (f : AuditFault) → Audits w left old new (Err f) → WritesVerdict w left old new (Err (fault.Audit f))
+verdict_unwritten w None old new f h = tt
+verdict_unwritten w (Some xs) old new audit.Read h = (nothing_yet (verdict_output (verdict_of w (lines_in (pieces xs)))) old new h, tt)
+verdict_unwritten w (Some xs) old new audit.Write h =
+    let (v, found, begun) = h in
+    (subst (λ (u : Verdict). AppendsBeginning old new (verdict_text u)) (sym (is_verdict w (lines_in (pieces xs)) v found).0) begun, tt)
+verdict_unwritten w (Some xs) old new audit.Memory h = (nothing_yet (verdict_output (verdict_of w (lines_in (pieces xs)))) old new h, tt)
+verdict_unwritten w (Some xs) old new audit.TooManyLines h = (
+  nothing_yet (verdict_output (verdict_of w (lines_in (pieces xs)))) old new h.1,
+  beyond (nat_le (reaches (verdict_of w (lines_in (pieces xs)))) MAX_LINES) (verdict_of w (lines_in (pieces xs))) refl h.0,
+)
 
 -- What was written and gathered is let out.
 

@@ -1,6 +1,7 @@
 -- The numbers of faults.
 use Rattle.std.specs.Prelude.{ℕ}
 use Rattle.vote_weights.specs.Faults.{fault_number}
+use Rattle.journal_audit.specs.Faults.{audit_fault_number}
 use Rattle.operator_cli.specs.declared.faults.SettingsFault.{SettingsFault}
 use Rattle.operator_cli.specs.declared.faults.SettingsFault.TheVariants as settings
 use Rattle.operator_cli.specs.declared.faults.ServeFault.{ServeFault}
@@ -18,3 +19,4 @@ abbrev pub serve_fault_number : ServeFault → ℕ
 serve_fault_number serving.Read = 931
 serve_fault_number serving.Write = 932
 serve_fault_number serving.Memory = 933
+serve_fault_number (serving.Audit fault) = audit_fault_number fault

@@ -1,4 +1,4 @@
--- The world that a script begins with.
+-- The worlds that a script and a journal begin with.
 use Rattle.std.specs.Prelude.{[], length, replicate, None}
 use Rattle.lock_model.specs.declared.problems.Problem.{Problem}
 use Rattle.world_model.specs.declared.exact.ExactNode.{ExactNode}
@@ -6,7 +6,7 @@ use Rattle.world_model.specs.declared.exact.ExactNodePhase.TheVariants as node
 use Rattle.world_model.specs.declared.exact.ExactClient.{ExactClient}
 use Rattle.world_model.specs.declared.exact.ExactClientPhase.TheVariants as client
 use Rattle.world_model.specs.declared.exact.ExactWorld.{ExactWorld}
-use Rattle.world_model.specs.Openings.{empty_station}
+use Rattle.world_model.specs.Openings.{empty_station, opening}
 use Rattle.operator_cli.specs.declared.settings.Settings.{Settings}
 
 -- an actor that rose and has kept nothing yet
@@ -20,3 +20,7 @@ risen_client = record { kept = 0; tried = None; phase = client.Idle }
 -- was sent yet.
 abbrev pub all_risen : Settings → ExactWorld
 all_risen s = record { ballot = s.ballot; nodes = replicate (length s.ballot.votes) (risen_node s.problem); clients = replicate s.clients risen_client; sent = [] }
+
+-- Every node and every client of the settings is down, and nothing is kept.
+abbrev pub all_down : Settings → ExactWorld
+all_down s = opening s.ballot (replicate (length s.ballot.votes) s.problem) s.clients

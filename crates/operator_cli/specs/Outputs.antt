@@ -1,5 +1,5 @@
 -- What the program writes for an input, and its status.
-use Rattle.std.specs.Prelude.{◌≡◌, ◌⊎◌, ℕ, ◌+◌, ◌==◌, nat_lt, Bool, true, false, if◌then◌else◌, List, [], ◌∷◌, ◌++◌, length, Option, Some, None, Result, Ok, Err, codes}
+use Rattle.std.specs.Prelude.{◌≡◌, ◌⊎◌, ℕ, ◌+◌, ◌<◌, ◌≤◌, nat_lt, Bool, true, false, if◌then◌else◌, List, [], ◌∷◌, ◌++◌, length, Option, Some, None, Result, Ok, Err, codes}
 use Rattle.std.specs.Str.{bytes_eq}
 use Rattle.std.specs.Io.KnownBytes.{Appends}
 use Rattle.lock_messages.specs.declared.tickets.Ticket.{Ticket}
@@ -7,10 +7,12 @@ use Rattle.world_model.specs.declared.events.StepFault.{StepFault}
 use Rattle.world_model.specs.declared.events.StepFault.TheVariants as refusal
 use Rattle.world_model.specs.declared.exact.ExactWorld.{ExactWorld}
 use Rattle.world_model.specs.ExactWorlds.{Steps, step}
+use Rattle.vote_weights.specs.Faults.{fault_number as ballot_fault_number}
 use Rattle.world_model.specs.Faults.{fault_number}
 use Rattle.world_model.specs.Views.{inside, waiting, holding}
 use Rattle.history_check.specs.declared.faults.LineFault.{LineFault}
 use Rattle.operator_cli.specs.declared.faults.ServeFault.{ServeFault}
+use Rattle.operator_cli.specs.declared.faults.ServeFault.TheVariants as serving
 use Rattle.operator_cli.specs.declared.faults.SettingsFault.{SettingsFault}
 use Rattle.operator_cli.specs.declared.faults.SettingsFault.TheVariants as settings
 use Rattle.operator_cli.specs.declared.heads.TheConstants.{HEAD_ROOM}
@@ -20,12 +22,19 @@ use Rattle.history_check.specs.declared.lines.Query.{Query}
 use Rattle.history_check.specs.declared.lines.Query.TheVariants as query
 use Rattle.operator_cli.specs.declared.settings.Settings.{Settings}
 use Rattle.history_check.specs.Faults.{line_fault_number}
+use Rattle.journal_audit.specs.declared.faults.AuditFault.TheVariants as audit
+use Rattle.journal_audit.specs.declared.verdicts.TheConstants.{MAX_LINES}
+use Rattle.journal_audit.specs.declared.verdicts.Verdict.{Verdict}
+use Rattle.journal_audit.specs.declared.verdicts.Verdict.TheVariants.{Sound, Unsound}
+use Rattle.journal_audit.specs.Verdicts.{verdict_of, verdict_text, reaches}
+use Rattle.operator_cli.specs.declared.orders.Command.{Command}
+use Rattle.operator_cli.specs.declared.orders.Command.TheVariants as command
 use Rattle.operator_cli.specs.Faults.{settings_fault_number}
 use Rattle.operator_cli.specs.Lines.{line_of}
-use Rattle.operator_cli.specs.Openings.{all_risen}
-use Rattle.line_streams.specs.Streams.{pieces, AppendsBeginning}
+use Rattle.operator_cli.specs.Openings.{all_risen, all_down}
+use Rattle.line_streams.specs.Streams.{pieces, lines_in, AppendsBeginning}
 use Rattle.operator_cli.specs.Settings.{settings_of}
-use Rattle.operator_cli.specs.Texts.{effect_text, refused_text, answer_text, line_fault_text, settings_fault_text}
+use Rattle.operator_cli.specs.Texts.{effect_text, refused_text, answer_text, line_fault_text, settings_fault_text, ballot_text}
 
 -- What one event or query prints, whether it was refused, and the world after it.
 pub record Told : Type 0 where
@@ -76,12 +85,6 @@ abbrev pub lines_output : ExactWorld → ℕ → List (List ℕ) → Output
 lines_output w number [] = record { text = []; status = 0 }
 lines_output w number (l ∷ ls) = line_output w number (line_of l) (λ v. lines_output v (number + 1) ls)
 
--- The lines that pieces are: a last piece that is empty stands behind the last line feed and is none.
-abbrev pub lines_in : List (List ℕ) → List (List ℕ)
-lines_in [] = []
-lines_in (p ∷ []) = if length p == 0 then [] else p ∷ []
-lines_in (p ∷ q ∷ qs) = p ∷ lines_in (q ∷ qs)
-
 -- the line that ends the settings
 abbrev pub dashes : List ℕ
 dashes = codes "---"
@@ -103,29 +106,89 @@ within_room (Some parts) = if nat_lt (length parts.0) HEAD_ROOM then Ok (parts.0
 unfoldable pub head_of : List (List ℕ) → Result (List ℕ × List (List ℕ)) SettingsFault
 head_of ps = within_room (parts_at_dashes ps)
 
+-- The settings of an input and the lines behind them, or what is wrong with the settings.
+abbrev pub with_lines : List (List ℕ) → Result Settings SettingsFault → Result (Settings × List (List ℕ)) SettingsFault
+with_lines lines (Err e) = Err e
+with_lines lines (Ok s) = Ok (s, lines)
+
+abbrev pub start_of : Result (List ℕ × List (List ℕ)) SettingsFault → Result (Settings × List (List ℕ)) SettingsFault
+start_of (Err e) = Err e
+start_of (Ok parts) = with_lines parts.1 (settings_of parts.0)
+
+unfoldable pub opened : List ℕ → Result (Settings × List (List ℕ)) SettingsFault
+opened input = start_of (head_of (pieces input))
+
 -- refused settings print their fault and nothing else
-abbrev pub settings_output : Result Settings SettingsFault → List (List ℕ) → Output
-settings_output (Err e) lines = record { text = settings_fault_text (settings_fault_number e); status = 2 }
-settings_output (Ok s) lines = lines_output (all_risen s) 1 lines
-
-abbrev pub parts_output : Result (List ℕ × List (List ℕ)) SettingsFault → Output
-parts_output (Err e) = record { text = settings_fault_text (settings_fault_number e); status = 2 }
-parts_output (Ok parts) = settings_output (settings_of parts.0) parts.1
-
--- The output of `script`: what it writes for these bytes, and its status.
-unfoldable pub output_of : List ℕ → Output
-output_of input = parts_output (head_of (pieces input))
-
 abbrev pub refusal_output : SettingsFault → Output
 refusal_output e = record { text = settings_fault_text (settings_fault_number e); status = 2 }
+
+-- Where the ballot is asked for, votes that make none are an answer.
+abbrev pub refused_ballot_output : SettingsFault → Output
+refused_ballot_output settings.NoEnd = refusal_output settings.NoEnd
+refused_ballot_output settings.NoDocument = refusal_output settings.NoDocument
+refused_ballot_output settings.UnknownKey = refusal_output settings.UnknownKey
+refused_ballot_output settings.Value = refusal_output settings.Value
+refused_ballot_output (settings.Ballot f) = record { text = refused_text (ballot_fault_number f); status = 1 }
+refused_ballot_output settings.Memory = refusal_output settings.Memory
+
+abbrev pub refused_output : Command → SettingsFault → Output
+refused_output command.Script e = refusal_output e
+refused_output command.Audit e = refusal_output e
+refused_output command.Ballot e = refused_ballot_output e
+
+-- the verdict on a journal, which is a refusal unless it is sound
+abbrev pub verdict_status : Verdict → ℕ
+verdict_status (Sound n) = 0
+verdict_status (Unsound number c) = 1
+
+abbrev pub verdict_output : Verdict → Output
+verdict_output v = record { text = verdict_text v; status = verdict_status v }
+
+-- What each command writes for settings and the lines behind them: what a script prints from the world
+-- in which all have risen; the verdict on a journal from the world in which all are down; or what the
+-- ballot is, whatever the lines are.
+abbrev pub settings_output : Command → Settings → List (List ℕ) → Output
+settings_output command.Script s lines = lines_output (all_risen s) 1 lines
+settings_output command.Audit s lines = verdict_output (verdict_of (all_down s) lines)
+settings_output command.Ballot s lines = record { text = ballot_text s.ballot; status = 0 }
+
+abbrev pub command_output : Command → Result (Settings × List (List ℕ)) SettingsFault → Output
+command_output c (Err e) = refused_output c e
+command_output c (Ok parts) = settings_output c parts.0 parts.1
+
+-- The output of a command: what it writes for these bytes, and its status.
+unfoldable pub output_of : Command → List ℕ → Output
+output_of c input = command_output c (opened input)
 
 -- The output was written, and the status is its own; after a fault a beginning of it was written.
 abbrev pub Writes : Output → Option (List ℕ) → Option (List ℕ) → Result ℕ ServeFault → Type 0
 Writes o old new (Ok status) = Appends old new o.text × (status ≡ o.status)
 Writes o old new (Err e) = AppendsBeginning old new o.text
 
--- What `serve` does with known bytes: it writes their output and answers its status or, where memory
--- was refused for the settings, the line that says so and 2. After a fault a beginning of it was written.
-abbrev pub Serves : Option (List ℕ) → Option (List ℕ) → Option (List ℕ) → Result ℕ ServeFault → Type 0
-Serves None old new r = Unit {0}
-Serves (Some input) old new r = Writes (output_of input) old new r ⊎ Writes (refusal_output settings.Memory) old new r
+-- How the greatest number of lines limits the audit of a journal: a status is answered only where the
+-- verdict speaks of no line behind it, and the fault of too many lines only where it does.
+abbrev pub KeepsLimit : Verdict → Result ℕ ServeFault → Type 0
+KeepsLimit v (Ok status) = reaches v ≤ MAX_LINES
+KeepsLimit v (Err serving.Read) = Unit {0}
+KeepsLimit v (Err serving.Write) = Unit {0}
+KeepsLimit v (Err serving.Memory) = Unit {0}
+KeepsLimit v (Err (serving.Audit audit.Read)) = Unit {0}
+KeepsLimit v (Err (serving.Audit audit.Write)) = Unit {0}
+KeepsLimit v (Err (serving.Audit audit.Memory)) = Unit {0}
+KeepsLimit v (Err (serving.Audit audit.TooManyLines)) = MAX_LINES < reaches v
+
+abbrev pub IsLimited : Command → Settings → List (List ℕ) → Result ℕ ServeFault → Type 0
+IsLimited command.Script s lines r = Unit {0}
+IsLimited command.Audit s lines r = KeepsLimit (verdict_of (all_down s) lines) r
+IsLimited command.Ballot s lines r = Unit {0}
+
+abbrev pub IsLimitedIn : Command → Result (Settings × List (List ℕ)) SettingsFault → Result ℕ ServeFault → Type 0
+IsLimitedIn c (Err e) r = Unit {0}
+IsLimitedIn c (Ok parts) r = IsLimited c parts.0 parts.1 r
+
+-- What `serve` does for a command with known bytes: it writes their output and answers its status or,
+-- where memory was refused for the settings, the line that says so and 2. After a fault a beginning of
+-- it was written. Of a journal the greatest number of lines is kept.
+abbrev pub Serves : Command → Option (List ℕ) → Option (List ℕ) → Option (List ℕ) → Result ℕ ServeFault → Type 0
+Serves c None old new r = Unit {0}
+Serves c (Some input) old new r = (Writes (output_of c input) old new r × IsLimitedIn c (opened input) r) ⊎ Writes (refusal_output settings.Memory) old new r

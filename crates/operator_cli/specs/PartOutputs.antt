@@ -17,7 +17,6 @@ use Rattle.history_check.specs.declared.faults.LineFault.TheVariants as bad
 use Rattle.operator_cli.specs.declared.faults.ServeFault.{ServeFault}
 use Rattle.operator_cli.specs.declared.faults.ServeFault.TheVariants.{Memory}
 use Rattle.operator_cli.specs.declared.faults.ServeFault.TheVariants as fault
-use Rattle.operator_cli.specs.declared.faults.SettingsFault.{SettingsFault}
 use Rattle.operator_cli.specs.declared.faults.SettingsFault.TheVariants as settings
 use Rattle.operator_cli.specs.declared.heads.TheConstants.{HEAD_ROOM}
 use Rattle.operator_cli.specs.declared.heads.StartFault.{StartFault}
@@ -25,15 +24,17 @@ use Rattle.operator_cli.specs.declared.heads.StartFault.TheVariants as start
 use Rattle.history_check.specs.declared.lines.Line.{Line}
 use Rattle.line_streams.specs.declared.reading.End.{End}
 use Rattle.line_streams.specs.declared.reading.End.TheVariants.{LineFeed, Input, Limit}
+use Rattle.journal_audit.specs.Verdicts.{verdict_of}
+use Rattle.operator_cli.specs.declared.orders.Command.{Command}
 use Rattle.operator_cli.specs.declared.script.Judged.{Judged}
 use Rattle.operator_cli.specs.declared.script.Judged.TheVariants as judged
 use Rattle.operator_cli.specs.declared.settings.Settings.{Settings}
 use Rattle.operator_cli.specs.Lines.{line_of}
-use Rattle.operator_cli.specs.Openings.{risen_node, risen_client, all_risen}
-use Rattle.line_streams.specs.Streams.{pieces, KnownLeft, ReadsPiece, AppendsBeginning}
+use Rattle.operator_cli.specs.Openings.{risen_node, risen_client}
+use Rattle.line_streams.specs.Streams.{pieces, lines_in, KnownLeft, ReadsPiece, AppendsBeginning}
 use Rattle.operator_cli.specs.Settings.{Refuses}
 use Rattle.operator_cli.specs.Texts.{refused_text}
-use Rattle.operator_cli.specs.Outputs.{Told, Output, lines_output, lines_in, head_of, output_of, refusal_output, Writes}
+use Rattle.operator_cli.specs.Outputs.{Told, lines_output, settings_output, verdict_output, KeepsLimit, IsLimited, head_of, opened, refused_output, Writes}
 
 -- The world of the settings in which so many nodes, and so many clients, have risen, the first ones
 -- first, and the others are down.
@@ -113,24 +114,25 @@ FindsHead (Some xs) new (Ok head) = KnownLeft new (λ ys. head_of (pieces xs) �
 FindsHead (Some xs) new (Err start.Read) = Unit {0}
 FindsHead (Some xs) new (Err (start.Settings e)) = Refuses e (head_of (pieces xs))
 
--- the output is that these settings are refused; of want of memory it says nothing
-abbrev pub IsRefusal : SettingsFault → Output → Type 0
-IsRefusal settings.NoEnd o = o ≡ refusal_output settings.NoEnd
-IsRefusal settings.NoDocument o = o ≡ refusal_output settings.NoDocument
-IsRefusal settings.UnknownKey o = o ≡ refusal_output settings.UnknownKey
-IsRefusal settings.Value o = o ≡ refusal_output settings.Value
-IsRefusal (settings.Ballot f) o = o ≡ refusal_output (settings.Ballot f)
-IsRefusal settings.Memory o = Unit {0}
-
--- What a call read as the settings, of known bytes: the output is that of the lines behind them, from
--- their opening; or that they are refused.
+-- What a call read as the settings, of known bytes: these, and behind them the bytes that are left; or
+-- that they are refused.
 abbrev pub Starts : Option (List ℕ) → Option (List ℕ) → Result Settings StartFault → Type 0
 Starts None new r = Unit {0}
-Starts (Some xs) new (Ok s) = KnownLeft new (λ ys. output_of xs ≡ lines_output (all_risen s) 1 (lines_in (pieces ys)))
+Starts (Some xs) new (Ok s) = KnownLeft new (λ ys. opened xs ≡ Ok (s, lines_in (pieces ys)))
 Starts (Some xs) new (Err start.Read) = Unit {0}
-Starts (Some xs) new (Err (start.Settings e)) = IsRefusal e (output_of xs)
+Starts (Some xs) new (Err (start.Settings e)) = Refuses e (opened xs)
 
 -- how a run ends that has no settings
-abbrev pub RefusesStart : StartFault → Option (List ℕ) → Option (List ℕ) → Result ℕ ServeFault → Type 0
-RefusesStart start.Read old new r = (r ≡ Err fault.Read) × (new ≡ old)
-RefusesStart (start.Settings e) old new r = Writes (refusal_output e) old new r
+abbrev pub RefusesStart : Command → StartFault → Option (List ℕ) → Option (List ℕ) → Result ℕ ServeFault → Type 0
+RefusesStart c start.Read old new r = (r ≡ Err fault.Read) × (new ≡ old)
+RefusesStart c (start.Settings e) old new r = Writes (refused_output c e) old new r
+
+-- How a run ends that has settings, with what is left of known bytes.
+abbrev pub WritesBehind : Command → Settings → Option (List ℕ) → Option (List ℕ) → Option (List ℕ) → Result ℕ ServeFault → Type 0
+WritesBehind c s None old new r = Unit {0}
+WritesBehind c s (Some xs) old new r = Writes (settings_output c s (lines_in (pieces xs))) old new r × IsLimited c s (lines_in (pieces xs)) r
+
+-- The verdict on the lines of known bytes, written.
+abbrev pub WritesVerdict : ExactWorld → Option (List ℕ) → Option (List ℕ) → Option (List ℕ) → Result ℕ ServeFault → Type 0
+WritesVerdict w None old new r = Unit {0}
+WritesVerdict w (Some xs) old new r = let v = verdict_of w (lines_in (pieces xs)) in Writes (verdict_output v) old new r × KeepsLimit v r

@@ -1,10 +1,11 @@
--- What a script prints.
+-- What the commands print.
 use Rattle.std.specs.Prelude.{ℕ, true, false, Bool, List, [], ◌∷◌, ◌++◌, Option, Some, None, codes}
 use Rattle.std.specs.List.{flat_map, range_with_len}
 use Rattle.std.specs.Fmt.{decimal}
 use Rattle.lock_messages.specs.Texts.{client_text, mode_text, message_text}
 use Rattle.lock_messages.specs.declared.messages.Message.{Message}
 use Rattle.lock_messages.specs.declared.tickets.Ticket.{Ticket}
+use Rattle.lock_model.specs.Ballots.{Ballot, total}
 use Rattle.lock_model.specs.declared.hearing.Heard.{Heard}
 use Rattle.lock_model.specs.declared.hearing.Heard.TheVariants as heard
 use Rattle.history_check.specs.declared.lines.Line.TheVariants as line
@@ -80,3 +81,7 @@ line_fault_text line number = codes "line " ++ decimal line ++ codes " fault " +
 -- `settings fault 924`
 abbrev pub settings_fault_text : ℕ → List ℕ
 settings_fault_text number = codes "settings fault " ++ decimal number ++ codes "\n"
+
+-- `total 3 read 2 write 2`
+abbrev pub ballot_text : Ballot → List ℕ
+ballot_text b = codes "total " ++ decimal (total b) ++ codes " read " ++ decimal b.read ++ codes " write " ++ decimal b.write ++ codes "\n"

@@ -3,6 +3,7 @@
 ghost use Rattle.std.specs.Prelude.{◌≡◌};
 ghost use Rattle.operator_cli.specs.Faults.{settings_fault_number, serve_fault_number};
 
+use journal_audit::AuditFault;
 use thiserror::Error;
 use vote_weights::BallotFault;
 
@@ -57,10 +58,13 @@ pub enum ServeFault {
     /// 933: memory was refused.
     #[error("there was no memory")]
     Memory,
+    /// 816 to 819: the audit of a journal met this.
+    #[error("the audit came to no verdict, or couldn't tell it: {0}")]
+    Audit(AuditFault),
 }
 
 impl ServeFault {
-    /// The number by which programs print the fault: 931 to 933.
+    /// The number by which programs print the fault: 931 to 933, or the audit's 816 to 819.
     pub fn number(self) -> u16
         ensures { result ≡ serve_fault_number self }
     {
@@ -68,6 +72,7 @@ impl ServeFault {
             ServeFault::Read => 931,
             ServeFault::Write => 932,
             ServeFault::Memory => 933,
+            ServeFault::Audit(fault) => fault.number(),
         }
     }
 }

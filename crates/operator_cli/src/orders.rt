@@ -12,6 +12,10 @@ use lock_model::Problem;
 pub enum Command {
     /// To take the events of a script, and to answer its queries.
     Script,
+    /// To judge a journal: whether its lines are events that are a run.
+    Audit,
+    /// To say what the ballot is.
+    Ballot,
 }
 
 /// Policies for as many nodes as there may be, of either problem: sixteen that solve problem 1, and

@@ -1,26 +1,32 @@
 // A whole run of the program, from the bytes that come in to the bytes that go out.
 
-ghost use Rattle.std.specs.Prelude.{◌≡◌, map, replicate};
-ghost use Rattle.lock_messages.specs.declared.ids.TheConstants.{MAX_NODES};
+ghost use Rattle.std.specs.Prelude.{◌≡◌, ◌≤◌, map, replicate, IfOk};
+ghost use Rattle.lock_messages.specs.declared.ids.TheConstants.{MAX_NODES, MAX_CLIENTS};
 ghost use Rattle.lock_model.specs.declared.problems.Problem.TheVariants.{First, Second};
 ghost use Rattle.vote_weights.specs.Faults.{fault_number};
 ghost use Rattle.operator_cli.specs.Faults.{settings_fault_number};
-ghost use Rattle.operator_cli.specs.Outputs.{Serves, Writes, refusal_output};
-ghost use Rattle.operator_cli.specs.PartOutputs.{WritesLines, Finishes, RefusesStart};
-ghost use Rattle.operator_cli.specs.Texts.{settings_fault_text};
+ghost use Rattle.operator_cli.specs.Openings.{all_down};
+ghost use Rattle.operator_cli.specs.Outputs.{Serves, Writes, refusal_output, refused_ballot_output, refused_output, verdict_status};
+ghost use Rattle.operator_cli.specs.PartOutputs.{WritesLines, Finishes, RefusesStart, WritesBehind, WritesVerdict};
+ghost use Rattle.operator_cli.specs.Texts.{settings_fault_text, refused_text, ballot_text};
+ghost use Rattle.operator_cli.specs.declared.faults.SettingsFault.TheVariants as settings;
+ghost use Rattle.operator_cli.specs.declared.orders.Command.TheVariants as command;
 
 use crate::heads::{StartFault, read_start};
 use crate::orders::chosen;
 use crate::raising::raise_all;
 use crate::script::tell_lines;
+use crate::settings::Settings;
+use crate::texts::push_ballot;
 use crate::{Command, Order, Policies, ServeFault, SettingsFault};
+use journal_audit::{Verdict, audit_lines};
 use line_streams::{Gathered, LineReader, MAX_READS, write_text};
 use std::alloc::Global;
 use std::io::{Read, Write};
-use vote_weights::BallotFault;
+use vote_weights::{Ballot, BallotFault};
 use world_machine::World;
 
-/// That numbers make no ballot.
+/// That numbers make no ballot, told as wrong settings.
 fn ballot_text(fault: BallotFault) -> &'static str
     ensures { result.now ≡ settings_fault_text (fault_number fault) }
 {
@@ -47,23 +53,83 @@ fn settings_text(fault: SettingsFault) -> &'static str
     }
 }
 
+/// Prints a text, and answers the status that goes with it.
+fn print<W: Write>(text: &[u8], status: u8, writer: &mut W) -> Result<u8, ServeFault>
+    ensures { Writes (record { text = text.now; status = status }) (W.contents writer.old) (W.contents writer.new) result }
+{
+    match write_text(writer, text) {
+        Ok(()) => Ok(status),
+        Err(_) => Err(ServeFault::Write),
+    }
+}
+
 /// Prints that settings are refused.
 fn refuse_settings<W: Write>(fault: SettingsFault, writer: &mut W) -> Result<u8, ServeFault>
     ensures { Writes (refusal_output fault) (W.contents writer.old) (W.contents writer.new) result }
 {
-    if write_text(writer, settings_text(fault).as_bytes()).is_err() {
-        return Err(ServeFault::Write);
+    print(settings_text(fault).as_bytes(), 2, writer)
+}
+
+/// That numbers make no ballot, told as the answer.
+fn refused_ballot_text(fault: BallotFault) -> &'static str
+    ensures { result.now ≡ refused_text (fault_number fault) }
+{
+    match fault {
+        BallotFault::NoNode => "refused 201\n",
+        BallotFault::TooManyNodes => "refused 202\n",
+        BallotFault::OverTotal => "refused 203\n",
+        BallotFault::ReadsMissWrites => "refused 204\n",
+        BallotFault::WritesMiss => "refused 205\n",
     }
-    Ok(2)
+}
+
+/// Prints that the ballot which is asked for is none.
+fn refuse_ballot<W: Write>(fault: BallotFault, writer: &mut W) -> Result<u8, ServeFault>
+    ensures { Writes (refused_ballot_output (settings.Ballot fault)) (W.contents writer.old) (W.contents writer.new) result }
+{
+    print(refused_ballot_text(fault).as_bytes(), 1, writer)
+}
+
+/// Prints that settings are refused where the ballot is asked for.
+fn refuse_asked<W: Write>(fault: SettingsFault, writer: &mut W) -> Result<u8, ServeFault>
+    ensures { Writes (refused_ballot_output fault) (W.contents writer.old) (W.contents writer.new) result }
+{
+    match fault {
+        SettingsFault::Ballot(fault) => refuse_ballot(fault, writer),
+        SettingsFault::NoEnd
+        | SettingsFault::NoDocument
+        | SettingsFault::UnknownKey
+        | SettingsFault::Value
+        | SettingsFault::Memory => refuse_settings(fault, writer),
+    }
+}
+
+/// Prints for a command that settings are refused.
+fn refuse_for<W: Write>(
+    command: Command,
+    fault: SettingsFault,
+    writer: &mut W,
+) -> Result<u8, ServeFault>
+    ensures { Writes (refused_output command fault) (W.contents writer.old) (W.contents writer.new) result }
+{
+    match command {
+        Command::Script => refuse_settings(fault, writer),
+        Command::Audit => refuse_settings(fault, writer),
+        Command::Ballot => refuse_asked(fault, writer),
+    }
 }
 
 /// Ends a run that has no settings.
-fn refuse_start<W: Write>(fault: StartFault, writer: &mut W) -> Result<u8, ServeFault>
-    ensures { RefusesStart fault (W.contents writer.old) (W.contents writer.new) result }
+fn refuse_start<W: Write>(
+    command: Command,
+    fault: StartFault,
+    writer: &mut W,
+) -> Result<u8, ServeFault>
+    ensures { RefusesStart command fault (W.contents writer.old) (W.contents writer.new) result }
 {
     match fault {
         StartFault::Read => Err(ServeFault::Read),
-        StartFault::Settings(fault) => refuse_settings(fault, writer),
+        StartFault::Settings(fault) => refuse_for(command, fault, writer),
     }
 }
 
@@ -102,56 +168,155 @@ fn serve_lines<R: Read, W: Write>(
     finish(came, &mut out, writer)
 }
 
+/// The world of the settings in which all actors are down. The only fault is want of memory.
+fn world_down(alloc: Global, settings: &Settings, policies: Policies) -> Result<World, ServeFault>
+    requires some_client { 1 ≤ settings.now.clients }
+    requires few_clients { settings.now.clients ≤ MAX_CLIENTS }
+    requires first { map problem_of policies.first.items ≡ replicate MAX_NODES First }
+    requires second { map problem_of policies.second.items ≡ replicate MAX_NODES Second }
+    ensures { IfOk result (λ w. w ≡ all_down settings.now) }
+{
+    let policies = chosen(policies, settings.problem, settings.ballot.nodes());
+    match World::start(alloc, settings.ballot, settings.clients, policies) {
+        Ok(world) => Ok(world),
+        Err(_) => Err(ServeFault::Memory),
+    }
+}
+
 /// Runs a script.
 fn serve_script<R: Read, W: Write>(
     alloc: Global,
+    settings: &Settings,
     policies: Policies,
-    reader: R,
+    source: &mut LineReader<R>,
     writer: &mut W,
 ) -> Result<u8, ServeFault>
-where
-    R: Drop,
+    requires some_client { 1 ≤ settings.now.clients }
+    requires few_clients { settings.now.clients ≤ MAX_CLIENTS }
     requires first { map problem_of policies.first.items ≡ replicate MAX_NODES First }
     requires second { map problem_of policies.second.items ≡ replicate MAX_NODES Second }
-    ensures { Serves (R.remaining reader) (W.contents writer.old) (W.contents writer.new) result }
+    ensures { WritesBehind command.Script settings.now source.old (W.contents writer.old) (W.contents writer.new) result }
 {
-    let mut source = LineReader::new(reader, MAX_READS);
-    let settings = match read_start(alloc, &mut source) {
-        Ok(settings) => settings,
-        Err(fault) => return refuse_start(fault, writer),
-    };
-    let policies = chosen(policies, settings.problem, settings.ballot.nodes());
-    let Ok(mut world) = World::start(alloc, settings.ballot, settings.clients, policies) else {
+    let Ok(mut world) = world_down(alloc, settings, policies) else {
         return Err(ServeFault::Memory);
     };
-    if raise_all(&mut world, &settings).is_err() {
+    if raise_all(&mut world, settings).is_err() {
         return Err(ServeFault::Memory);
     }
-    serve_lines(alloc, &mut world, &mut source, writer)
+    serve_lines(alloc, &mut world, source, writer)
+}
+
+/// The status of a verdict.
+fn verdict_status(verdict: Verdict) -> u8
+    ensures { result ≡ verdict_status verdict }
+{
+    match verdict {
+        Verdict::Sound(_) => 0,
+        Verdict::Unsound(_, _) => 1,
+    }
+}
+
+/// Judges the lines that are left, and prints the verdict.
+fn judge<R: Read, W: Write>(
+    alloc: Global,
+    world: World,
+    source: &mut LineReader<R>,
+    writer: &mut W,
+) -> Result<u8, ServeFault>
+    requires { Unit {0} }
+    ensures { WritesVerdict world source.old (W.contents writer.old) (W.contents writer.new) result }
+{
+    match audit_lines(alloc, world, source, writer) {
+        Ok(verdict) => Ok(verdict_status(verdict)),
+        Err(fault) => Err(ServeFault::Audit(fault)),
+    }
+}
+
+/// Judges a journal.
+fn serve_audit<R: Read, W: Write>(
+    alloc: Global,
+    settings: &Settings,
+    policies: Policies,
+    source: &mut LineReader<R>,
+    writer: &mut W,
+) -> Result<u8, ServeFault>
+    requires some_client { 1 ≤ settings.now.clients }
+    requires few_clients { settings.now.clients ≤ MAX_CLIENTS }
+    requires first { map problem_of policies.first.items ≡ replicate MAX_NODES First }
+    requires second { map problem_of policies.second.items ≡ replicate MAX_NODES Second }
+    ensures { WritesBehind command.Audit settings.now source.old (W.contents writer.old) (W.contents writer.new) result }
+{
+    let Ok(world) = world_down(alloc, settings, policies) else {
+        return Err(ServeFault::Memory);
+    };
+    judge(alloc, world, source, writer)
+}
+
+/// Prints what the ballot is.
+fn serve_ballot<W: Write>(alloc: Global, ballot: Ballot, writer: &mut W) -> Result<u8, ServeFault>
+    ensures { Writes (record { text = ballot_text ballot; status = 0 }) (W.contents writer.old) (W.contents writer.new) result }
+{
+    let mut text = String::new(alloc);
+    if push_ballot(&mut text, ballot).is_err() {
+        return Err(ServeFault::Memory);
+    }
+    print(text.as_bytes(), 0, writer)
+}
+
+/// Does what the order says with the lines that are left behind the settings.
+fn serve_behind<R: Read, W: Write>(
+    alloc: Global,
+    order: Order,
+    settings: &Settings,
+    source: &mut LineReader<R>,
+    writer: &mut W,
+) -> Result<u8, ServeFault>
+    requires some_client { 1 ≤ settings.now.clients }
+    requires few_clients { settings.now.clients ≤ MAX_CLIENTS }
+    requires first { map problem_of order.policies.first.items ≡ replicate MAX_NODES First }
+    requires second { map problem_of order.policies.second.items ≡ replicate MAX_NODES Second }
+    ensures { WritesBehind order.command settings.now source.old (W.contents writer.old) (W.contents writer.new) result }
+{
+    let Order { command, policies } = order;
+    match command {
+        Command::Script => serve_script(alloc, settings, policies, source, writer),
+        Command::Audit => serve_audit(alloc, settings, policies, source, writer),
+        Command::Ballot => serve_ballot(alloc, settings.ballot, writer),
+    }
 }
 
 /// Does what the order says with the bytes of the reader, and answers the status of the program.
 ///
 /// The bytes begin with settings, a TOML document with the keys `votes`, `read`, `write`, `problem`
-/// and `clients`. The first line that is exactly `---` ends them. Every node and then every client
-/// rises with nothing kept, which prints nothing. Each line behind the settings is an event, which
-/// prints its effect, one line for each reply that a node says, or `refused N`; or a query, `inside
-/// NAME`, `waiting nN NAME` or `holding nN NAME`, which prints the tickets, or `refused 601` for a node
-/// that isn't there. A line that is neither prints `line L fault N` (lines count from 1) and is the
-/// last. Refused settings print `settings fault N` and nothing else. The status is 0; 1 where an event
-/// or a query was refused or a line was bad; 2 where the settings were refused.
+/// and `clients`. The first line that is exactly `---` ends them. Refused settings print `settings
+/// fault N` and nothing else, and the status is 2.
+///
+/// - `Script`: every node and then every client rises with nothing kept, which prints nothing. Each line
+///   behind the settings is an event, which prints its effect, one line for each reply that a node says,
+///   or `refused N`; or a query, `inside NAME`, `waiting nN NAME` or `holding nN NAME`, which prints the
+///   tickets, or `refused 601` for a node that isn't there. A line that is neither prints `line L fault
+///   N` (lines count from 1) and is the last. The status is 1 where an event or a query was refused or
+///   a line was bad, else 0.
+/// - `Audit`: the lines behind the settings are a journal from the world in which all actors are down.
+///   They are judged as they come, as `journal_audit::audit` does it, and the verdict's line is printed.
+///   The status is 0 where the journal is sound, else 1.
+/// - `Ballot`: what stands behind the settings is ignored. It prints `total T read R write W`, and the
+///   status is 0; or `refused N` and 1 where the votes make no ballot (201 to 205), which is no fault of
+///   the settings here.
 ///
 /// Contracts speak of what the reader has left and of what the writer holds, where these are known.
-/// What is written is the output of the bytes that were left, or `settings fault 925` where memory
-/// was refused for the settings. The caller owes policies of the right problems: sixteen that solve
-/// problem 1 and sixteen that solve problem 2. The nodes get, in order, the first of those that solve
-/// the settings' problem; the others are dropped. The texts are our own.
+/// What is written is the command's output of the bytes that were left, or `settings fault 925` where
+/// memory was refused for the settings. The caller owes policies of the right problems: sixteen that
+/// solve problem 1 and sixteen that solve problem 2. The nodes get, in order, the first of those that
+/// solve the settings' problem; the others are dropped. The texts are our own.
 ///
 /// # Errors
 ///
 /// `Read` (931) where the reader fails or 600,000,000 reads were made, `Write` (932) where the writer
-/// fails or takes nothing, `Memory` (933) where memory was refused. A read or a write that a signal
-/// interrupts is made again. After a fault a beginning of the output was written.
+/// fails or takes nothing, `Memory` (933) where memory was refused. Once the world of a journal stands,
+/// the faults are those of the audit, `Audit` (816 to 819); 819 comes just where the verdict would speak
+/// of a line behind the greatest number. A read or a write that a signal interrupts is made again.
+/// After a fault a beginning of the output was written.
 pub fn serve<R: Read, W: Write>(
     alloc: Global,
     order: Order,
@@ -162,10 +327,12 @@ where
     R: Drop,
     requires first { map problem_of order.policies.first.items ≡ replicate MAX_NODES First }
     requires second { map problem_of order.policies.second.items ≡ replicate MAX_NODES Second }
-    ensures output { Serves (R.remaining reader) (W.contents writer.old) (W.contents writer.new) result }
+    ensures output { Serves order.command (R.remaining reader) (W.contents writer.old) (W.contents writer.new) result }
 {
-    let Order { command, policies } = order;
-    match command {
-        Command::Script => serve_script(alloc, policies, reader, writer),
-    }
+    let mut source = LineReader::new(reader, MAX_READS);
+    let settings = match read_start(alloc, &mut source) {
+        Ok(settings) => settings,
+        Err(fault) => return refuse_start(order.command, fault, writer),
+    };
+    serve_behind(alloc, order, &settings, &mut source, writer)
 }

@@ -1,9 +1,9 @@
-// What a script prints.
+// What the commands print.
 
 ghost use Rattle.std.specs.Prelude.{◌≡◌, ◌+◌, ◌<◌, ◌≤◌, ◌++◌, OnOk, string_bytes};
 ghost use Rattle.std.specs.List.{flat_map};
 ghost use Rattle.operator_cli.specs.PartOutputs.{SaidFits};
-ghost use Rattle.operator_cli.specs.Texts.{sent_text, found_text, said_text, took_text, heard_text, effect_text, refused_text, member_text, other_text, members_text, answer_text, line_fault_text};
+ghost use Rattle.operator_cli.specs.Texts.{sent_text, found_text, said_text, took_text, heard_text, effect_text, refused_text, member_text, other_text, members_text, answer_text, line_fault_text, ballot_text};
 ghost use Rattle.world_model.specs.declared.TheConstants.{MAX_MESSAGES};
 ghost use Rattle.world_model.specs.ExactWorlds.{numbered};
 
@@ -11,6 +11,7 @@ use history_check::{Line, Query, write_line};
 use lock_messages::{Message, Ticket};
 use lock_model::Heard;
 use std::alloc::{AllocError, Global};
+use vote_weights::Ballot;
 use world_machine::World;
 use world_model::Effect;
 
@@ -138,4 +139,12 @@ pub fn push_line_fault(text: &mut String, line: u64, number: u16) -> Result<(), 
     ensures { OnOk result (string_bytes text.new ≡ string_bytes text.old ++ line_fault_text line number) }
 {
     writeln!(text, "line {line} fault {number}")
+}
+
+/// Adds what a ballot is.
+pub fn push_ballot(text: &mut String, ballot: Ballot) -> Result<(), AllocError>
+    ensures { OnOk result (string_bytes text.new ≡ string_bytes text.old ++ ballot_text ballot) }
+{
+    let (total, read, write) = (ballot.total(), ballot.read(), ballot.write());
+    writeln!(text, "total {total} read {read} write {write}")
 }

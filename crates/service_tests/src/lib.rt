@@ -13,6 +13,8 @@ mod bad_lines;
 #[cfg(test)]
 mod bad_settings;
 #[cfg(test)]
+mod commands;
+#[cfg(test)]
 mod fault_texts;
 #[cfg(test)]
 mod greatest_sizes;

@@ -2,17 +2,20 @@
 
 use crate::outcomes::{Failure, Outcome, check_row};
 use admission_policy::{Admission, FirstProblem, SecondProblem};
+use journal_audit::AuditFault;
 use lock_messages::MAX_NODES;
 use operator_cli::{Command, Order, Policies, ServeFault, serve};
 use std::alloc::Global;
 use std::io::{Read, Write};
 
 /// Settings of three nodes with a vote each, of which two read and two write, and four clients.
-const SETTINGS: &str = "votes = [1, 1, 1]\nread = 2\nwrite = 2\nproblem = 1\nclients = 4\n---\n";
+pub(crate) const SETTINGS: &str =
+    "votes = [1, 1, 1]\nread = 2\nwrite = 2\nproblem = 1\nclients = 4\n---\n";
 
-/// Serves the script that a reader gives.
-pub(crate) fn serve_script<R: Read + Drop, W: Write>(
+/// Serves a command with what a reader gives.
+fn serve_command<R: Read + Drop, W: Write>(
     alloc: Global,
+    command: Command,
     reader: R,
     writer: &mut W,
 ) -> Result<u8, ServeFault> {
@@ -33,22 +36,53 @@ pub(crate) fn serve_script<R: Read + Drop, W: Write>(
         };
     }
     let order = Order {
-        command: Command::Script,
+        command,
         policies: Policies { first, second },
     };
     serve(alloc, order, reader, writer)
 }
 
-/// What the bytes of a reader print, and the status. A `Vec` takes what is written unless memory is
-/// refused.
-pub(crate) fn served<R: Read + Drop>(alloc: Global, reader: R) -> Result<(Vec<u8>, u8), Failure> {
-    let mut out = Vec::new(alloc);
-    match serve_script(alloc, reader, &mut out) {
+/// Serves the script that a reader gives.
+pub(crate) fn serve_script<R: Read + Drop, W: Write>(
+    alloc: Global,
+    reader: R,
+    writer: &mut W,
+) -> Result<u8, ServeFault> {
+    serve_command(alloc, Command::Script, reader, writer)
+}
+
+/// What came of a run that wrote into a `Vec`, which takes what is written unless memory is refused.
+fn outcome(out: Vec<u8>, came: Result<u8, ServeFault>) -> Result<(Vec<u8>, u8), Failure> {
+    match came {
         Ok(2) if out.as_slice() == b"settings fault 925\n".as_slice() => Err(Failure::Memory),
         Ok(status) => Ok((out, status)),
         Err(ServeFault::Memory | ServeFault::Write) => Err(Failure::Memory),
-        Err(ServeFault::Read) => Err(Failure::Wrong(0)),
+        Err(ServeFault::Audit(AuditFault::Memory | AuditFault::Write)) => Err(Failure::Memory),
+        Err(ServeFault::Read | ServeFault::Audit(_)) => Err(Failure::Wrong(0)),
     }
+}
+
+/// What the bytes of a reader print as a script, and the status.
+pub(crate) fn served<R: Read + Drop>(alloc: Global, reader: R) -> Result<(Vec<u8>, u8), Failure> {
+    let mut out = Vec::new(alloc);
+    let came = serve_script(alloc, reader, &mut out);
+    outcome(out, came)
+}
+
+/// Serves a command of a table, and compares what it prints and its status.
+pub(crate) fn answers_row(
+    alloc: Global,
+    row: usize,
+    command: Command,
+    input: &str,
+    expected: &str,
+    status: u8,
+) -> Outcome {
+    let mut out = Vec::new(alloc);
+    let came = serve_command(alloc, command, input.as_bytes(), &mut out);
+    let (out, ended) = outcome(out, came)?;
+    let right = out.as_slice() == expected.as_bytes() && ended == status;
+    check_row(right, row)
 }
 
 /// Runs a script of a table, and compares what it prints and its status.

@@ -76,6 +76,7 @@ fn fails_to_read(alloc: Global, reads: u32) -> Outcome {
     match serve_script(alloc, reader, &mut out) {
         Err(ServeFault::Memory | ServeFault::Write) => Err(Failure::Memory),
         Err(ServeFault::Read) => { check(reads <= READS && EXPECTED.as_bytes().starts_with(&out)) }
+        Err(ServeFault::Audit(_)) => Err(Failure::Wrong(0)),
         Ok(2) => Err(Failure::Memory),
         Ok(_) => check(reads > READS),
     }

@@ -1,7 +1,7 @@
 use Rattle.std.proofs.Common.{◌≡◌, map, replicate}
 use Rattle.lock_model.specs.declared.problems.Problem.TheVariants.{First, Second}
-use Rattle.service_tests.proofs.playing.serve_script.OwnLists.{own-1}
-use Rattle.service_tests.proofs.playing.serve_script.Given as goal
+use Rattle.service_tests.proofs.playing.serve_command.OwnLists.{own-1}
+use Rattle.service_tests.proofs.playing.serve_command.Given as goal
 
 abbrev pub invariant-loop : goal.invariant-loop
 invariant-loop g l = record {

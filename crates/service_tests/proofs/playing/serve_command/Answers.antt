@@ -1,8 +1,8 @@
 use Rattle.std.proofs.Common.{◌≡◌, refl, sym, subst}
 use Rattle.lock_model.specs.declared.problems.Problem.TheVariants.{First, Second}
 use Rattle.service_tests.proofs.Boxes.{pushed}
-use Rattle.service_tests.proofs.playing.serve_script.OwnLists.{own-1}
-use Rattle.service_tests.proofs.playing.serve_script.Goals as goal
+use Rattle.service_tests.proofs.playing.serve_command.OwnLists.{own-1}
+use Rattle.service_tests.proofs.playing.serve_command.Goals as goal
 
 pub loop-preserved : goal.loop-preserved
 loop-preserved g c =

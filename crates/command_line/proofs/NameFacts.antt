@@ -1,0 +1,103 @@
+-- The command that words name is one of the program's.
+use Rattle.std.proofs.Common.{◌≡◌, ◌⊎◌, inl, inr, ◌&&◌, not, Bool, true, false, cond, ℕ, List, [], ◌∷◌, map, codes, Option, Some, None, option_map, find, is_some, refl, sym, ap, subst, ◌∙◌, Box}
+use Rattle.std.specs.Box.{box_value}
+use Rattle.clap.proofs.CallerLemmas.{subcommand_required}
+use Rattle.clap.proofs.OnLiterals.{clap_on_literals}
+use Rattle.clap.specs.Built.{IsParsedFrom}
+use Rattle.clap.specs.Matches.{subcommand_name_of}
+use Rattle.clap.specs.Simple.{App, Shape, app_of, built, entered, rows_at, names_of, argument_words, is_simple, subcommand_of, subcommand_rows, HasMatchesOf}
+use Rattle.clap.specs.Walk.{Row, Text, stop_after}
+use Rattle.clap.specs.declared.builder.command.Command.TheViews.{out-Command}
+use Rattle.clap.specs.declared.builder.command.Command as clap
+use Rattle.clap.specs.declared.parser.matches.ArgMatches.{ArgMatches}
+use Rattle.clap.specs.declared.parser.matches.ArgMatches.TheViews.{out-ArgMatches, out-SubCommand}
+use Rattle.clap.specs.declared.parser.matches.SubCommand.{SubCommand}
+use Rattle.operator_cli.specs.declared.orders.Command.TheVariants as command
+use Rattle.command_line.specs.CommandLine.{app, named_in, IsNamed, NamesOne}
+
+-- one of some names
+abbrev pub OneOf : List Text → Text → Type 0
+OneOf [] n = ⊥
+OneOf (x ∷ xs) n = (n ≡ x) ⊎ OneOf xs n
+
+abbrev names : List Shape → List Text
+names = map (λ s. s.name)
+
+-- a shape that is found has one of the names
+abbrev FoundOne : List Shape → Option (Text × List Row) → Type 0
+FoundOne subs None = Unit {0}
+FoundOne subs (Some found) = OneOf (names subs) found.0
+
+one_more : (s : Shape) (subs : List Shape) (found : Option (Text × List Row)) → FoundOne subs found → FoundOne (s ∷ subs) found
+one_more s subs None h = tt
+one_more s subs (Some found) h = inr h
+
+find_by : (b : Bool) (s : Shape) (subs : List Shape) (rest : Option Shape) (words : List Text) → FoundOne subs (option_map (λ t. rows_at t words) rest)
+    → FoundOne (s ∷ subs) (option_map (λ t. rows_at t words) (cond b (Some s) rest))
+find_by true s subs rest words h = inl refl
+find_by false s subs rest words h = one_more s subs (option_map (λ t. rows_at t words) rest) h
+
+found_one : (f : Shape → Bool) (subs : List Shape) (words : List Text) → FoundOne subs (option_map (λ t. rows_at t words) (find f subs))
+found_one f [] words = tt
+found_one f (s ∷ subs) words = find_by (f s) s subs (find f subs) words (found_one f subs words)
+
+entered_one : (a : App) (stop : Option (Text × List Text)) → FoundOne a.subs (entered a stop)
+entered_one a None = tt
+entered_one a (Some stop) = found_one _ a.subs stop.1
+
+-- the program's commands have these names
+names_are : names (built app).subs ≡ codes "script" ∷ codes "audit" ∷ codes "ballot" ∷ []
+unfolding clap_on_literals
+names_are = refl
+
+is_command : (n : Text) → OneOf (codes "script" ∷ codes "audit" ∷ codes "ballot" ∷ []) n → IsNamed n
+is_command n (inl e) = (command.Script, e)
+is_command n (inr (inl e)) = (command.Audit, e)
+is_command n (inr (inr (inl e))) = (command.Ballot, e)
+is_command n (inr (inr (inr e))) = absurd e
+
+some_command : (subs : List Shape) (found : Option (Text × List Row)) (n : Text) → names subs ≡ codes "script" ∷ codes "audit" ∷ codes "ballot" ∷ [] → FoundOne subs found → option_map (λ p. p.0) found ≡ Some n → IsNamed n
+some_command subs None n e h k = let clash : None ≡ Some n = k in cc
+some_command subs (Some found) n e h k =
+    let same : found.0 ≡ n = let s : Some found.0 ≡ Some n = k in cc in
+    is_command n (subst (λ (m : Text). OneOf (codes "script" ∷ codes "audit" ∷ codes "ballot" ∷ []) m) same (subst (λ (ns : List Text). OneOf ns found.0) e h))
+
+pub named_is_command : (words : List Text) (n : Text) → named_in words ≡ Some n → IsNamed n
+unfolding named_in
+named_is_command words n h = some_command (built app).subs (subcommand_of app words) n names_are (entered_one (built app) (stop_after (built app).top.rules (names_of (built app)) (argument_words app words))) h
+
+-- what a parse met
+
+name_of_rows : {Z : Type 0} (o : Option (Box SubCommand Z)) → option_map (λ b. (out-SubCommand (box_value b)).name.now) o ≡ option_map (λ p. p.0) (subcommand_rows o)
+name_of_rows None = refl
+name_of_rows (Some b) = refl
+
+some_mapped : {A B : Type 0} (f : A → B) (o : Option A) → is_some (option_map f o) ≡ is_some o
+some_mapped f None = refl
+some_mapped f (Some x) = refl
+
+names_one : (o : Option (List ℕ)) → is_some o ≡ true → ((n : List ℕ) → o ≡ Some n → IsNamed n) → NamesOne o
+names_one None h f = let clash : false ≡ true = h in cc
+names_one (Some n) h f = f n refl
+
+no_globals : (a b c d : Bool) → (a && (not b && (not c && d))) ≡ true → c ≡ false
+no_globals true false false d h = refl
+no_globals true false true d h = let clash : false ≡ true = h in cc
+no_globals true true c d h = let clash : false ≡ true = h in cc
+no_globals false b c d h = let clash : false ≡ true = h in cc
+
+is_simple_app : is_simple app ≡ true
+unfolding clap_on_literals
+is_simple_app = refl
+
+pub met_name : (c : clap.Command) (words : List (List ℕ)) (m : ArgMatches) → app_of c ≡ app → HasMatchesOf (app_of c) words m → subcommand_name_of m ≡ named_in words
+unfolding named_in
+met_name c words m e h =
+    let rows = (h (ap is_simple e ∙ is_simple_app)).1 in
+    name_of_rows (out-ArgMatches m).subcommand ∙ ap (option_map (λ p. p.0)) (rows ∙ ap (λ (a : App). subcommand_of a words) e)
+
+pub met_one : (c : clap.Command) (words : List (List ℕ)) (m : ArgMatches) → app_of c ≡ app → IsParsedFrom c m → HasMatchesOf (app_of c) words m → NamesOne (subcommand_name_of m)
+met_one c words m e p h =
+    let locals = no_globals _ _ (out-Command c).has_globals _ (ap (λ (a : App). a.top.is_plain) e) in
+    let met = subcommand_required c m p locals (ap (λ (a : App). a.top.subcommand_required) e) in
+    names_one (subcommand_name_of m) (some_mapped _ (out-ArgMatches m).subcommand ∙ met) (λ n k. named_is_command words n (sym (met_name c words m e h) ∙ k))

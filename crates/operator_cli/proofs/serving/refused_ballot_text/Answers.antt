@@ -1,0 +1,41 @@
+use Rattle.std.proofs.Common.{◌≡◌, ◌∙◌, codes, refl, sym, ap}
+use Rattle.std.specs.Fmt.{digits}
+use Rattle.vote_weights.specs.declared.faults.BallotFault.{BallotFault}
+use Rattle.vote_weights.specs.Faults.{fault_number}
+use Rattle.operator_cli.specs.Texts.{refused_text}
+use Rattle.operator_cli.proofs.serving.refused_ballot_text.Goals as goal
+
+text_201 : codes "refused 201\n" ≡ refused_text 201
+unfolding digits
+text_201 = refl
+
+pub returns-in-NoNode : goal.returns-in-NoNode
+returns-in-NoNode c = text_201 ∙ ap (λ (f : BallotFault). refused_text (fault_number f)) (sym c.in-NoNode.is)
+
+text_202 : codes "refused 202\n" ≡ refused_text 202
+unfolding digits
+text_202 = refl
+
+pub returns-in-TooManyNodes : goal.returns-in-TooManyNodes
+returns-in-TooManyNodes c = text_202 ∙ ap (λ (f : BallotFault). refused_text (fault_number f)) (sym c.in-TooManyNodes.is)
+
+text_203 : codes "refused 203\n" ≡ refused_text 203
+unfolding digits
+text_203 = refl
+
+pub returns-in-OverTotal : goal.returns-in-OverTotal
+returns-in-OverTotal c = text_203 ∙ ap (λ (f : BallotFault). refused_text (fault_number f)) (sym c.in-OverTotal.is)
+
+text_204 : codes "refused 204\n" ≡ refused_text 204
+unfolding digits
+text_204 = refl
+
+pub returns-in-ReadsMissWrites : goal.returns-in-ReadsMissWrites
+returns-in-ReadsMissWrites c = text_204 ∙ ap (λ (f : BallotFault). refused_text (fault_number f)) (sym c.in-ReadsMissWrites.is)
+
+text_205 : codes "refused 205\n" ≡ refused_text 205
+unfolding digits
+text_205 = refl
+
+pub returns-in-WritesMiss : goal.returns-in-WritesMiss
+returns-in-WritesMiss c = text_205 ∙ ap (λ (f : BallotFault). refused_text (fault_number f)) (sym c.in-WritesMiss.is)

@@ -1,0 +1,83 @@
+// What `ballot` and `audit` print, through `serve`.
+
+use crate::outcomes::{Failure, Outcome};
+use crate::playing::{SETTINGS, answers_row};
+use operator_cli::Command;
+use std::alloc::Global;
+
+/// Votes with what a read and a write need, what is printed of them, and the status.
+const BALLOTS: [(&str, &str, u8); 8] = [
+    (
+        "votes = [3, 1, 1, 0]\nread = 2\nwrite = 4\n",
+        "total 5 read 2 write 4\n",
+        0,
+    ),
+    ("votes = [1, 1]\nread = 1\nwrite = 1\n", "refused 204\n", 1),
+    ("votes = [2, 2]\nread = 4\nwrite = 2\n", "refused 205\n", 1),
+    ("votes = []\nread = 1\nwrite = 1\n", "refused 201\n", 1),
+    ("votes = [0]\nread = 0\nwrite = 0\n", "refused 204\n", 1),
+    ("votes = [1]\nread = 2\nwrite = 1\n", "refused 203\n", 1),
+    (
+        "votes = [256]\nread = 1\nwrite = 1\n",
+        "settings fault 922\n",
+        2,
+    ),
+    (
+        "vote = [1]\nread = 1\nwrite = 1\n",
+        "settings fault 923\n",
+        2,
+    ),
+];
+
+/// What follows the settings is ignored.
+const BEHIND_VOTES: &str = "problem = 1\nclients = 1\n---\nno line of anything\n";
+
+#[test]
+fn refused_ballots(rt: HostRuntime) -> Outcome {
+    for (row, (votes, expected, status)) in BALLOTS.iter().enumerate() {
+        let input = format!(in rt.alloc(); "{votes}{BEHIND_VOTES}")?;
+        answers_row(
+            rt.alloc(),
+            row,
+            Command::Ballot,
+            input.as_str(),
+            expected,
+            *status,
+        )?;
+    }
+    Ok(())
+}
+
+/// Lines of journals, and what is found of them.
+const JOURNALS: [(&str, &str, u8); 10] = [
+    ("", "sound 0\n", 0),
+    ("rise c1 old\nbegin c1 read a\n", "sound 2\n", 0),
+    (
+        "rise c1 old\nbegin c1 read a\nenter c1",
+        "unsound 3 refused 604\n",
+        1,
+    ),
+    ("rise n1\n", "unsound 1 fault 805\n", 1),
+    ("rise c01 old\n", "unsound 1 fault 802\n", 1),
+    ("take n1 0\n", "unsound 1 fault 803\n", 1),
+    ("begin c1 read A\n", "unsound 1 fault 804\n", 1),
+    ("begin c1 reed a\n", "unsound 1 fault 801\n", 1),
+    ("rise c5 old\n", "unsound 1 refused 601\n", 1),
+    ("begin c1 read a\n", "unsound 1 refused 602\n", 1),
+];
+
+#[test]
+fn audits_of_journals(rt: HostRuntime) -> Outcome {
+    for (row, (lines, expected, status)) in JOURNALS.iter().enumerate() {
+        let input = format!(in rt.alloc(); "{SETTINGS}{lines}")?;
+        answers_row(
+            rt.alloc(),
+            row,
+            Command::Audit,
+            input.as_str(),
+            expected,
+            *status,
+        )?;
+    }
+    Ok(())
+}
