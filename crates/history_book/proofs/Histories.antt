@@ -1,5 +1,5 @@
 -- Histories, one event longer.
-use Rattle.std.proofs.Common.{◌≡◌, ℕ, ◌+◌, ◌≤◌, length, arith, suc, List, [], ◌∷◌, ◌++◌, refl, sym, subst, Ok}
+use Rattle.std.proofs.Common.{◌≡◌, ◌+◌, ◌≤◌, length, arith, List, [], ◌∷◌, ◌++◌, refl, subst}
 use Rattle.world_model.specs.declared.events.Effect.{Effect}
 use Rattle.world_model.specs.declared.events.Event.{Event}
 use Rattle.world_model.specs.declared.exact.ExactWorld.{ExactWorld}

@@ -1,5 +1,5 @@
 -- What a refusal tells.
-use Rattle.std.proofs.Common.{◌≡◌, ◌≢◌, ◌⊎◌, Bool, true, false, true≢false, List, refl, sym, ap, ◌∙◌, subst, inl, inr, ⊎_elim, Err, Some, eqb-true}
+use Rattle.std.proofs.Common.{◌≡◌, Bool, true, false, List, sym, ap, ◌∙◌, subst, Err, Some, eqb-true}
 use mathlib.Core.List.{IsPrefix}
 use Rattle.lock_messages.specs.declared.ids.Actor.{Actor}
 use Rattle.world_model.specs.declared.events.Effect.{Effect}
@@ -7,7 +7,6 @@ use Rattle.world_model.specs.declared.events.Event.{Event}
 use Rattle.world_model.specs.declared.events.StepFault.{StepFault}
 use Rattle.world_model.specs.declared.events.StepFault.TheVariants as fault
 use Rattle.world_model.specs.ExactWorlds.{step, actor_of, refusal, refusal_of}
-use Rattle.world_model.specs.StepsOf.{IsRefused}
 use Rattle.world_model.specs.Locality.{PlacesAreApart, RefusalsAreLocal, PartsAreLocal, IsLocalRefusal, own_events, local_part, IsHistory}
 use Rattle.world_model.specs.Parts.{place, is_own, part, own_refusal}
 use Rattle.history_book.specs.Books.{BookValue, BerthValue, Known, own_of, own_part}

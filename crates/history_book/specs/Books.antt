@@ -1,10 +1,13 @@
 -- What contracts see of a book and of a berth.
-use Rattle.std.specs.Prelude.{◌≡◌, ◌≢◌, ◌⊎◌, ℕ, ◌+◌, ◌<◌, ◌≤◌, Bool, true, false, List, [], ◌∷◌, ◌++◌, length, Option, Some, None, Err, Result, Ok, not, ◌&&◌, ◌==◌}
+use Rattle.std.specs.Prelude.{◌≡◌, ◌≢◌, ◌⊎◌, ℕ, ◌+◌, ◌<◌, ◌≤◌, Bool, true, false, List, [], ◌∷◌, ◌++◌, length, Option, Some, None, Err, not, ◌&&◌, ◌==◌}
 use Rattle.std.specs.Str.{bytes_eq}
 use mathlib.Core.List.{IsPrefix}
 use Rattle.berth_seats.specs.declared.views.BookView.{BookView}
 use Rattle.berth_seats.specs.Views.{TableId, is_given}
 use Rattle.lock_messages.specs.declared.ids.Actor.{Actor}
+use Rattle.lock_messages.specs.declared.ids.Actor.TheVariants as actor
+use Rattle.lock_messages.specs.declared.tickets.Mode.TheVariants.{Read}
+use Rattle.lock_messages.specs.declared.tickets.Ticket.{Ticket}
 use Rattle.world_model.specs.declared.events.Effect.{Effect}
 use Rattle.world_model.specs.declared.events.Event.{Event}
 use Rattle.world_model.specs.declared.events.Event.TheVariants as event
@@ -15,9 +18,10 @@ use Rattle.world_model.specs.ExactWorlds.{step}
 use Rattle.world_model.specs.Forgetting.{IsSound}
 use Rattle.world_model.specs.Laws.{Takes}
 use Rattle.world_model.specs.Locality.{own_events, local_part, IsHistory, IsLocalRefusal}
-use Rattle.world_model.specs.Parts.{is_own, Part, NoPart, NodePart, ClientPart, part, own_refusal}
+use Rattle.world_model.specs.Parts.{place, is_own, Part, NoPart, NodePart, ClientPart, part, own_refusal}
 use Rattle.world_model.specs.Views.{ticket_in}
-use Rattle.lock_messages.specs.declared.tickets.Ticket.{Ticket}
+use Rattle.world_model.specs.Worlds.{World}
+use Rattle.world_machine.specs.Listing.{IsInsideBy}
 use Rattle.history_book.specs.declared.books.TheConstants.{MAX_EVENTS}
 use Rattle.history_book.specs.declared.faults.BookFault.{BookFault}
 use Rattle.history_book.specs.declared.faults.BookFault.TheVariants as bf
@@ -87,9 +91,16 @@ pub record IsLogged (b : BookValue) (k : BerthValue) (e : Event) (done : Effect)
   pub book : b' ≡ longer b e done b'.world
   pub berth : k' ≡ sees b' k
 
+-- the event can't happen now: 601 to 611, and not that the list of messages is full or want of memory
+abbrev pub IsOfEvent : StepFault → Type 0
+IsOfEvent fault.SentListFull = ⊥
+IsOfEvent fault.Memory = ⊥
+IsOfEvent _ = Unit {0}
+
 -- The event is no step, for this reason. It is the one that the berth's own list gives or, where that
 -- gives none, the list of messages'. The berth has seen all of the history, and nothing else changed.
 pub record IsNoStep (f : StepFault) (b : BookValue) (k : BerthValue) (e : Event) (b' : BookValue) (k' : BerthValue) : Type 0 where
+  pub of_event : IsOfEvent f
   pub known : Known b k
   pub refused : step b.world e ≡ Err f
   pub own : IsLocalRefusal e (own_refusal b.opening.ballot e (own_part k)) (Some f)
@@ -157,19 +168,30 @@ inside_ticket NoPart = None
 inside_ticket (NodePart v) = None
 inside_ticket (ClientPart k) = ticket_in k.phase
 
--- two tickets of two clients for one resource
-abbrev pub are_together : Ticket → Ticket → Bool
-are_together t u = not (t.client == u.client) && bytes_eq t.resource u.resource
+-- two tickets, for one resource
+abbrev pub for_one_resource : Option Ticket → Option Ticket → Bool
+for_one_resource None u = false
+for_one_resource (Some t) None = false
+for_one_resource (Some t) (Some u) = bytes_eq t.resource u.resource
 
-abbrev pub in_one_resource : Option Ticket → Option Ticket → Bool
-in_one_resource None u = false
-in_one_resource (Some t) None = false
-in_one_resource (Some t) (Some u) = are_together t u
+-- two actors, each with a ticket, for one resource
+abbrev pub are_together : Actor → Option Ticket → Actor → Option Ticket → Bool
+are_together a t b u = not (place a == place b) && for_one_resource t u
+
+-- a ticket, if there is one, is a reader's
+abbrev pub Reads : Option Ticket → Type 0
+Reads None = Unit {0}
+Reads (Some t) = t.mode ≡ Read
+
+-- a ticket was found exactly where the actor is a client that is inside
+abbrev pub IsInsideAs : World → Actor → Option Ticket → Type 0
+IsInsideAs w (actor.Node n) found = found ≡ None
+IsInsideAs w (actor.Client c) found = IsInsideBy w c found
 
 -- whether the two are inside one resource is told by their own lists; both have seen the history
 pub record IsMet (answer : Bool) (b : BookValue) (k l k' l' : BerthValue) : Type 0 where
   pub one : Known b k
   pub other : Known b l
-  pub met : answer ≡ in_one_resource (inside_ticket (own_part k)) (inside_ticket (own_part l))
+  pub met : answer ≡ are_together k.actor (inside_ticket (own_part k)) l.actor (inside_ticket (own_part l))
   pub one_sees : k' ≡ sees b k
   pub other_sees : l' ≡ sees b l

@@ -8,15 +8,19 @@ ghost use Rattle.world_model.specs.Forgetting.{forget};
 ghost use Rattle.world_model.specs.Locality.{IsHistory, IsRunOf, IsAsListed};
 ghost use Rattle.world_machine.specs.Listing.{has_actor};
 ghost use Rattle.world_model.specs.Parts.{is_own};
-ghost use Rattle.history_book.specs.Books.{BookValue, BerthValue, Known, sees, IsLogged, IsRefused, IsRefusedBy, IsNoStep, IsBook, IsOpened, IsGiven, enters, IsMet};
+ghost use Rattle.history_book.specs.Books.{BookValue, BerthValue, Known, sees, IsLogged, IsRefused, IsRefusedBy, IsNoStep, IsOfEvent, IsBook, IsOpened, IsGiven, enters, IsMet, Reads, inside_ticket, own_part};
 ghost use Rattle.berth_seats.specs.Views.{is_given};
+ghost use Rattle.journal_text.specs.Journals.{history_text, IsRecorded};
+ghost use Rattle.line_streams.specs.Streams.{Puts};
 
 use crate::faults::BookFault;
-use crate::meeting::{in_one_resource, ticket_of};
+use crate::meeting::are_inside_together;
 use crate::owners::{enters_by, has_given, is_of};
 use berth_seats::{BerthSeat, BookSeat, Opening};
+use journal_text::{JournalFault, write_history};
 use lock_messages::Actor;
 use std::alloc::Global;
+use std::io::Write;
 use std::marker::{Brand, Model};
 use world_machine::World;
 use world_model::laws::{lists_are_the_sets, locality, steps_change_one_part};
@@ -154,6 +158,18 @@ impl Book {
         self.entered
     }
 
+    /// Writes the journal of the history: each event's one text and a line feed, in order. An audit from
+    /// the world that the book was opened with finds it sound (`journal_laws`).
+    ///
+    /// The errors: `Write` (817) where the writer fails or takes nothing, `Memory` (818) where memory was
+    /// refused. Then a beginning of the journal was written.
+    pub fn write_journal<W: Write>(&self, alloc: Global, writer: &mut W) -> Result<(), JournalFault>
+        ensures text { Puts (W.contents writer.old) (W.contents writer.new) (history_text self.now.history) result }
+        ensures recorded { OnOk result (IsRecorded self.now.opening self.now.history self.now.world) }
+    {
+        write_history(alloc, self.history.as_slice(), writer)
+    }
+
     /// Shows the berth all of the history.
     ///
     /// The only error is that the berth has another book's number (815), which changes nothing. The
@@ -249,6 +265,7 @@ impl Book {
         requires table { berth.old.table ≡ self.old.table }
         requires own { is_own berth.old.actor event.now ≡ true }
         requires refused { step self.old.world event.now ≡ Err fault }
+        requires of_event { IsOfEvent fault }
         ensures { IsNoStep fault self.old berth.old event.now self.new berth.new }
     {
         self.seat.look(&mut berth.seat);
@@ -257,7 +274,8 @@ impl Book {
         let _ = fault;
     }
 
-    /// Whether the berths are of two clients inside one resource. It shows both all of the history.
+    /// Whether the berths are of two clients inside one resource; then both read. It shows both all of the
+    /// history.
     ///
     /// The only error is that one of them has another book's number (815), which changes nothing. The
     /// caller owes of each that a berth of this number is this book's own.
@@ -266,6 +284,7 @@ impl Book {
         requires other { other.old.number ≡ self.old.number → other.old.table ≡ self.old.table }
         ensures book { self.new ≡ self.old }
         ensures ok { IfOk result (λ met. IsMet met self.old one.old other.old one.new other.new) }
+        ensures read { IfOk result (λ met. met ≡ true → Reads (inside_ticket (own_part one.old)) × Reads (inside_ticket (own_part other.old))) }
         ensures err { IfErr result (λ f. (f ≡ BookFault.OtherBook) × ((one.old.number ≢ self.old.number) ⊎ (other.old.number ≢ self.old.number)) × (one.new ≡ one.old) × (other.new ≡ other.old)) }
     {
         if one.number != self.number || other.number != self.number {
@@ -274,8 +293,6 @@ impl Book {
         self.seat.look(&mut one.seat);
         self.seat.look(&mut other.seat);
         locality();
-        let one = ticket_of(&self.world, one.actor);
-        let other = ticket_of(&self.world, other.actor);
-        Ok(in_one_resource(one, other))
+        Ok(are_inside_together(&self.world, one.actor, other.actor))
     }
 }

@@ -5,7 +5,8 @@
 //! history is always a run from the world that it was opened with, which leaves the book's world; that
 //! the history has of a berth's actor just what was logged by that berth, whatever others log between;
 //! and so that an actor's part of the world, and what is refused to it, is told by its own events. It
-//! stands on `world_machine`, `berth_seats`, `world_model`, `lock_messages` and `thiserror`.
+//! stands on `world_machine`, `berth_seats`, `journal_text` for the journal, `line_streams`,
+//! `world_model`, `lock_messages` and `thiserror`.
 #![tactic(auto)]
 
 mod books;
@@ -15,3 +16,4 @@ mod owners;
 
 pub use books::{Berth, Book, MAX_EVENTS};
 pub use faults::BookFault;
+pub use journal_text::JournalFault;

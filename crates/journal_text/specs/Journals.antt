@@ -6,6 +6,9 @@ use Rattle.lock_messages.specs.Names.{IsName}
 use Rattle.world_model.specs.declared.events.Effect.{Effect}
 use Rattle.world_model.specs.declared.events.Event.{Event}
 use Rattle.world_model.specs.declared.events.Event.TheVariants as event
+use Rattle.world_model.specs.declared.exact.ExactWorld.{ExactWorld}
+use Rattle.world_model.specs.Forgetting.{IsSound}
+use Rattle.world_model.specs.Locality.{IsHistory}
 use Rattle.history_check.specs.Lines.{IsActor}
 use Rattle.history_check.specs.Events.{event_text}
 
@@ -33,3 +36,9 @@ IsWellNamed (event.Rise who age) = IsActor who
 
 abbrev pub AreWellNamed : List (Event × Effect) → Type 0
 AreWellNamed history = AllByRecursion (λ p. IsWellNamed p.0) history
+
+-- A history that can be read back: it is a run from a sound world, and its events name what there may be.
+pub record IsRecorded (w : ExactWorld) (history : List (Event × Effect)) (v : ExactWorld) : Type 0 where
+  pub opening : IsSound w
+  pub run : IsHistory w history v
+  pub named : AreWellNamed history

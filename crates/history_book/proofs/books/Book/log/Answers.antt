@@ -1,7 +1,7 @@
-use Rattle.std.proofs.Common.{rules, ap, sym, subst, ◌≡◌, ◌+◌, ◌++◌, ◌∷◌, [], ◌∙◌, arith, length, length-append}
+use Rattle.std.proofs.Common.{rules, ap, sym, subst, ◌++◌, ◌∷◌, [], ◌∙◌, arith}
 use Rattle.world_model.specs.Forgetting.{IsSound}
 use Rattle.world_model.specs.Locality.{IsHistory, IsAsListed}
-use Rattle.history_book.specs.Books.{enters, enters_by}
+use Rattle.history_book.specs.Books.{enters}
 use Rattle.history_book.proofs.Histories.{history_more, enters_more, enters_within, enters_once}
 use Rattle.history_book.proofs.books.Book.log.Goals as goal
 

@@ -1,0 +1,125 @@
+-- The journal of a history is sound.
+use Rattle.std.proofs.Common.{◌≡◌, ◌≢◌, ℕ, ◌+◌, ◌-◌, ◌≤◌, ◌==◌, Bool, true, false, cond, List, [], ◌∷◌, length, map, Some, None, Result, Ok, Err, refl, sym, ap, subst, ◌∙◌, arith, length-append, eq-eqb}
+use Rattle.std.specs.Prelude.{slice_get}
+use Rattle.std.proofs.lemmas.Option.{slice_get_within}
+use Rattle.lock_messages.specs.declared.messages.Message.{Message}
+use Rattle.world_model.specs.declared.TheConstants.{MAX_MESSAGES}
+use Rattle.world_model.specs.declared.events.Effect.{Effect}
+use Rattle.world_model.specs.declared.events.Event.{Event}
+use Rattle.world_model.specs.declared.events.Event.TheVariants as event
+use Rattle.world_model.specs.declared.exact.ExactWorld.{ExactWorld}
+use Rattle.world_model.specs.ExactWorlds.{numbered, one_more, ran_on, ran}
+use Rattle.world_model.specs.Forgetting.{IsSound}
+use Rattle.world_model.specs.Laws.{Takes, StepsKeepSound}
+use Rattle.world_model.specs.Locality.{IsHistory, EffectsAreOfTheirEvents, MessagesAreAsListed}
+use Rattle.world_model.specs.Parts.{message_of}
+use Rattle.world_model.specs.StepsOf.{took}
+use Rattle.history_check.specs.Events.{event_text, IsEventInRange, AreJournal}
+use Rattle.journal_text.specs.Journals.{history_text, IsWellNamed, AreWellNamed}
+use Rattle.journal_audit.specs.declared.faults.AuditFault.{AuditFault}
+use Rattle.journal_audit.specs.declared.faults.AuditFault.TheVariants as fault
+use Rattle.journal_audit.specs.declared.verdicts.TheConstants.{MAX_LINES}
+use Rattle.journal_audit.specs.declared.verdicts.Verdict.{Verdict}
+use Rattle.journal_audit.specs.declared.verdicts.Verdict.TheVariants.{Sound}
+use Rattle.journal_audit.specs.Verdicts.{IsVerdict, IsTooLong, Finds, VerdictsAreExact, text_lines}
+use Rattle.journal_laws.specs.Laws.{LinesAreTheEvents, JournalsAreSound, JournalsAreFoundSound, Answers}
+use Rattle.journal_laws.proofs.PlainTexts.{AreInRange, lines_of}
+
+-- what is there has a number in range
+numbered_within : {A : Type 0} (xs : List A) (k : ℕ) (x : A) → numbered xs k ≡ Some x → (1 ≤ k) × (k ≤ length xs)
+numbered_within {A} xs k x h = go (k == 0) refl h
+  where
+    go : (b : Bool) → (k == 0) ≡ b → cond b None (slice_get xs (k - 1)) ≡ Some x → (1 ≤ k) × (k ≤ length xs)
+    go true e z = absurd (let q : None ≡ Some x = z in cc)
+    go false e z =
+        let apart : k ≢ 0 = λ q. let p : false ≡ true = sym e ∙ eq-eqb k 0 q in cc in
+        let one : 1 ≤ k = omega (arith, apart) in
+        (one, omega (arith, one, slice_get_within xs (k - 1) x z))
+
+number_in_range : (w : ExactWorld) (k : ℕ) (m : Message) (done : Effect) → IsSound w → message_of done ≡ Some m → message_of done ≡ numbered w.sent k → (1 ≤ k) × (k ≤ MAX_MESSAGES)
+number_in_range w k m done sound e listed =
+    let within = numbered_within w.sent k m (sym listed ∙ e) in
+    (within.0, omega (arith, within.1, sound.room))
+
+-- an event that was taken has its line
+in_range : EffectsAreOfTheirEvents → MessagesAreAsListed → (w u : ExactWorld) (e : Event) (done : Effect) → IsSound w → Takes w e done u → IsWellNamed e → IsEventInRange e
+in_range kinds listed w u (event.Begin c m x) done sound t h = (h.0, (tt, (h.1, tt)))
+in_range kinds listed w u (event.Try who) done sound t h = (h, tt)
+in_range kinds listed w u (event.Kept who) done sound t h = (h, tt)
+in_range kinds listed w u (event.SayTo c n) done sound t h = (h.0, (h.1, tt))
+in_range kinds listed w u (event.Say n) done sound t h = (h, tt)
+in_range kinds listed w u (event.Take n k) done sound t h =
+    let (m, changed, mine, same) = kinds w u (event.Take n k) done t in
+    (h, (number_in_range w k m done sound (ap message_of same) (listed w u (event.Take n k) done t), tt))
+in_range kinds listed w u (event.Hear c k) done sound t h =
+    let (m, heard, mine, same) = kinds w u (event.Hear c k) done t in
+    (h, (number_in_range w k m done sound (ap message_of same) (listed w u (event.Hear c k) done t), tt))
+in_range kinds listed w u (event.Enter c) done sound t h = (h, tt)
+in_range kinds listed w u (event.Leave c) done sound t h = (h, tt)
+in_range kinds listed w u (event.Fall who) done sound t h = (h, tt)
+in_range kinds listed w u (event.Rise who age) done sound t h = (h, (tt, tt))
+
+all_in_range : StepsKeepSound → EffectsAreOfTheirEvents → MessagesAreAsListed → (w v : ExactWorld) (history : List (Event × Effect)) → IsSound w → IsHistory w history v → AreWellNamed history → AreInRange history
+all_in_range keep kinds listed w v [] sound run named = tt
+all_in_range keep kinds listed w v (p ∷ history) sound run named =
+    let (u, t, more) = run in
+    (in_range kinds listed w u p.0 p.1 sound t named.0, all_in_range keep kinds listed u v history (keep w u p.0 p.1 sound t) more named.1)
+
+-- the lines are a journal of a run
+
+abbrev events_of : List (Event × Effect) → List Event
+events_of history = map (λ p. p.0) history
+
+abbrev texts_of : List (Event × Effect) → List (List ℕ)
+texts_of history = map (λ p. event_text p.0) history
+
+journal : (history : List (Event × Effect)) → AreInRange history → AreJournal (texts_of history) (events_of history)
+journal [] h = tt
+journal (p ∷ history) h = ((refl, h.0), journal history h.1)
+
+runs : (w v : ExactWorld) (history : List (Event × Effect)) → IsHistory w history v → ran (events_of history) w ≡ took (length (events_of history)) v
+runs w v [] h = ap (λ x. took 0 x) (sym h)
+runs w v (p ∷ history) h =
+    let (u, t, more) = h in
+    let es = events_of history in
+    let long : length es + 1 ≡ length (p.0 ∷ es) = omega arith in
+    ap (λ q. ran_on w q (λ x. ran es x)) t ∙ ap one_more (runs u v history more) ∙ ap (λ n. took n v) long
+
+texts_count : (history : List (Event × Effect)) → length history ≡ length (texts_of history)
+texts_count [] = refl
+texts_count (p ∷ history) = let more = texts_count history in omega (arith, more)
+
+pub lines_are_events : StepsKeepSound → EffectsAreOfTheirEvents → MessagesAreAsListed → LinesAreTheEvents
+lines_are_events keep kinds listed w v history is = lines_of history (all_in_range keep kinds listed w v history is.opening is.run is.named)
+
+pub journals_sound : StepsKeepSound → EffectsAreOfTheirEvents → MessagesAreAsListed → JournalsAreSound
+journals_sound keep kinds listed w v history is =
+    let ranges = all_in_range keep kinds listed w v history is.opening is.run is.named in
+    subst (λ (ls : List (List ℕ)). IsVerdict w ls (Sound (length history))) (sym (lines_of history ranges))
+    (texts_count history, (v, (events_of history, journal history ranges, runs w v history is.run)))
+
+too_long : (w : ExactWorld) (lines : List (List ℕ)) → length lines ≤ MAX_LINES → IsTooLong w lines → ⊥
+too_long w lines few h =
+    let (before, l, behind, v, cut, long, leads) = h in
+    let all : length lines ≡ length before + length (l ∷ behind) = ap length cut ∙ length-append before (l ∷ behind) in
+    let more : 1 ≤ length (l ∷ behind) = omega arith in
+    omega (arith, all, long, few, more)
+
+pub journals_found : StepsKeepSound → EffectsAreOfTheirEvents → MessagesAreAsListed → VerdictsAreExact → JournalsAreFoundSound
+journals_found keep kinds listed exact w v history is few found h = go found h
+  where
+    lines : List (List ℕ)
+    lines = text_lines (history_text history)
+
+    right : IsVerdict w lines (Sound (length history))
+    right = journals_sound keep kinds listed w v history is
+
+    short : length lines ≤ MAX_LINES
+    short = omega (arith, few, right.0)
+
+    go : (r : Result Verdict AuditFault) → Finds w (Some (history_text history)) r → Answers (Sound (length history)) r
+    go (Ok verdict) f = sym ((exact w lines verdict).1 f.0) ∙ (exact w lines (Sound (length history))).1 right
+    go (Err fault.Read) f = tt
+    go (Err fault.Write) f = tt
+    go (Err fault.Memory) f = tt
+    go (Err fault.TooManyLines) f = too_long w lines short f
