@@ -4,8 +4,8 @@ use crate::failures::{Failure, Outcome, check, client, refused};
 use lock_messages::ResourceName;
 use lock_model::{Entry, Problem};
 use stable_record::{
-    Entries, FaultyRecord, Leaves, MemoryRecord, NodeRecord, ResourceIndex, StableRecord,
-    node_bytes, read_node,
+    Entries, FaultyRecord, IndexedRecord, Leaves, MemoryRecord, NodeRecord, ResourceIndex,
+    StableRecord, node_bytes, read_node,
 };
 use std::alloc::{AllocError, Global};
 
@@ -79,6 +79,39 @@ fn index_a_node_record(rt: HostRuntime) -> Outcome {
             Err(fault.into())
         }
     }
+}
+
+#[test]
+fn keep_a_record_with_its_index(rt: HostRuntime) -> Outcome {
+    let record = read_node(rt.alloc(), &TWO)?;
+    match IndexedRecord::of(rt.alloc(), record) {
+        Ok(indexed) => check(reads_two(indexed.record()) && indexes_two(indexed.index())),
+        Err((record, fault)) => {
+            check(reads_two(&record))?;
+            Err(fault.into())
+        }
+    }
+}
+
+/// Announces c3 for a resource for which so many wait; where memory is refused nothing has changed.
+fn announces(alloc: Global, name: &[u8], before: usize) -> Outcome {
+    let name = ResourceName::of(name).ok_or(Failure::Wrong)?;
+    let record = read_node(alloc, &TWO)?;
+    let mut index = ResourceIndex::of(alloc, &record)?;
+    match index.announce(alloc, client(3)?, &name) {
+        Ok(()) => check(index.waiting_count(&name) > before),
+        Err(_) => refused(index.waiting_count(&name) == before && indexes_two(&index)),
+    }
+}
+
+#[test]
+fn announce_behind_another(rt: HostRuntime) -> Outcome {
+    announces(rt.alloc(), b"a", 1)
+}
+
+#[test]
+fn announce_for_a_new_resource(rt: HostRuntime) -> Outcome {
+    announces(rt.alloc(), b"b", 0)
 }
 
 #[test]

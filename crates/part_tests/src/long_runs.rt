@@ -4,12 +4,13 @@
 ghost use Rattle.std.specs.Prelude.{◌≤◌};
 
 use crate::decisions::new_core;
-use crate::nodes::{policy_of, risen, same_step};
+use crate::nodes::{keeps, policy_of, risen, same_step, speaks, takes};
 use crate::outcomes::{Outcome, check};
 use lock_messages::{Attempt, ClientId, Message, Mode, NodeId, ResourceName, Ticket};
 use lock_model::{Entry, Live, Problem, Status};
 use rand_core::utils::NextWord;
 use rand_pcg::Pcg32;
+use stable_record::{Line, ResourceIndex};
 use std::alloc::Global;
 use voter_core::NodeCore;
 
@@ -72,6 +73,53 @@ fn agrees(alloc: Global, problem: Problem) -> Option<bool> {
 fn long_runs_as_plain(rt: HostRuntime) -> Outcome {
     check(agrees(rt.alloc(), Problem::First), 1)?;
     check(agrees(rt.alloc(), Problem::Second), 2)
+}
+
+/// Whether both have the same tickets.
+fn same_tickets(one: &Line, other: &Line) -> bool {
+    one.holders() == other.holders()
+        && one.has_writing_holder() == other.has_writing_holder()
+        && one.waiting_writers() == other.waiting_writers()
+        && one.waiting() == other.waiting()
+}
+
+/// Whether both have the same line of a resource, or none.
+fn same_line(one: &ResourceIndex, other: &ResourceIndex, resource: &ResourceName) -> bool {
+    match (one.line(resource), other.line(resource)) {
+        (Some(one), Some(other)) => same_tickets(one, other),
+        (None, None) => true,
+        (Some(_), None) | (None, Some(_)) => false,
+    }
+}
+
+/// Whether the index that the core keeps is that of its record, at the three resources.
+fn keeps_its_index(alloc: Global, core: &NodeCore) -> Option<bool> {
+    let fresh = ResourceIndex::of(alloc, core.record()).ok()?;
+    let same = same_line(core.index(), &fresh, &ResourceName::of(b"a")?)
+        && same_line(core.index(), &fresh, &ResourceName::of(b"b")?)
+        && same_line(core.index(), &fresh, &ResourceName::of(b"c")?);
+    Some(same)
+}
+
+/// Whether the index goes along with the entries over the same 2,000 messages.
+fn goes_along(alloc: Global, problem: Problem) -> Option<bool> {
+    let mut core = new_core(alloc, problem)?;
+    let mut words = Pcg32::new(SEED, 1);
+    for turn in 0..2_000u64 {
+        takes(&mut core, &some_message(&mut words, turn / 100)?)?;
+        keeps(&mut core);
+        speaks(&mut core)?;
+        if !keeps_its_index(alloc, &core)? {
+            return Some(false);
+        }
+    }
+    Some(true)
+}
+
+#[test]
+fn index_of_long_runs(rt: HostRuntime) -> Outcome {
+    check(goes_along(rt.alloc(), Problem::First), 1)?;
+    check(goes_along(rt.alloc(), Problem::Second), 2)
 }
 
 /// Whether a hundred readers of one resource come and go again, each with one reply.

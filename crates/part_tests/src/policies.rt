@@ -1,13 +1,16 @@
 //! The rules of the two problems, what is counted, and a counting policy watched through a node's
 //! calls.
 
+ghost use Rattle.std.specs.Prelude.{IfSome};
+ghost use Rattle.stable_record.specs.Records.{IsNodeRecord};
+
 use crate::nodes::{FIRST, SECOND, WRITER_WAITS, keeps, risen, speaks, takes};
 use crate::outcomes::{Outcome, check};
 use crate::rows::{bytes, message};
 use admission_policy::{Admission, Counted, FirstProblem, SecondProblem};
 use lock_messages::NodeId;
 use lock_model::Problem;
-use stable_record::read_node;
+use stable_record::{IndexedRecord, read_node};
 use std::alloc::Global;
 use voter_core::NodeCore;
 
@@ -75,6 +78,19 @@ fn counting(alloc: Global, problem: u8) -> Option<Box<dyn Admission + Send>> {
     Some(policy)
 }
 
+/// The record that these bytes spell, with its index.
+fn indexed(alloc: Global, record: &[u8]) -> Option<IndexedRecord>
+    ensures { IfSome result IsNodeRecord }
+{
+    let Ok(station) = read_node(alloc, record) else {
+        return None;
+    };
+    match IndexedRecord::of(alloc, station) {
+        Ok(station) => Some(station),
+        Err(_) => None,
+    }
+}
+
 /// Calls `take` with a reader's request, `kept`, `speak`, `restart` and `restart_with`: the first so
 /// many of them.
 fn goes_on(alloc: Global, core: &mut NodeCore, record: &[u8], calls: u64) -> Option<()> {
@@ -90,7 +106,7 @@ fn goes_on(alloc: Global, core: &mut NodeCore, record: &[u8], calls: u64) -> Opt
     if calls > 3 {
         core.restart(record).ok()?;
     }
-    if calls > 4 && !core.restart_with(read_node(alloc, record).ok()?) {
+    if calls > 4 && !core.restart_with(indexed(alloc, record)?) {
         return None;
     }
     Some(())

@@ -1,8 +1,8 @@
 -- What the index tells of entries, where it is theirs.
-use Rattle.std.proofs.Common.{◌≡◌, ◌⊎◌, inl, inr, ℕ, zero, suc, ◌+◌, ◌<◌, ◌≤◌, ◌==◌, Bool, true, false, not, ◌||◌, ◌&&◌, cond, nat_lt, List, [], ◌∷◌, ◌++◌, length, filter, Option, Some, None, slice_get, refl, sym, ap, ◌∙◌, subst, arith}
+use Rattle.std.proofs.Common.{◌≡◌, ◌⊎◌, inl, inr, ℕ, zero, suc, ◌≤◌, ◌==◌, Bool, true, false, not, ◌||◌, ◌&&◌, cond, nat_lt, List, [], ◌∷◌, ◌++◌, length, filter, Option, Some, None, slice_get, refl, sym, ap, ◌∙◌, arith}
 use Rattle.std.specs.List.{list_all}
 use Rattle.std.specs.Str.{bytes_eq}
-use Rattle.std.proofs.lemmas.Bool.{eqb-true, eq-eqb, ne_eqb, cases_eq, cases_Bool, or_parts, and_parts, lt-ltb}
+use Rattle.std.proofs.lemmas.Bool.{eqb-true, eq-eqb, ne_eqb, cases_eq, or_parts, and_parts, lt-ltb}
 use Rattle.std.proofs.lemmas.List.{append_assoc}
 use Rattle.std.proofs.lemmas.Slice.Eq.{bytes_eq-Decides}
 use Rattle.lock_messages.specs.declared.tickets.Mode.{Mode}
@@ -16,7 +16,7 @@ use Rattle.stable_record.specs.Lines.{Tickets, count_live, tickets_for, line_in,
 use Rattle.stable_record.proofs.LineFacts.{or-none-read}
 
 -- some ticket passes exactly where the count is above 0
-count-any : (test : Live → Bool) (es : List Entry) → nat_lt 0 (count_live test es) ≡ any_live test es
+pub count-any : (test : Live → Bool) (es : List Entry) → nat_lt 0 (count_live test es) ≡ any_live test es
 count-any test [] = refl
 count-any test (e ∷ es) = go (if_live test e.live) (count-any test es)
   where

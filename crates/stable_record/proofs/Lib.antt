@@ -6,3 +6,7 @@ pub mod ClientFacts
 pub mod CountFacts
 pub mod LineFacts
 pub mod JudgingFacts
+pub mod QueueFacts
+pub mod EditFacts
+pub mod IndexFacts
+pub mod QuestionFacts

@@ -38,7 +38,7 @@ line-in-updated key old new w h x =
 
 -- ---- counts and lists, one entry more
 
-count-snoc : (test : Live → Bool) (es : List Entry) (e : Entry) → count_live test (es ++ e ∷ []) ≡ count_live test es + one_if (if_live test e.live)
+pub count-snoc : (test : Live → Bool) (es : List Entry) (e : Entry) → count_live test (es ++ e ∷ []) ≡ count_live test es + one_if (if_live test e.live)
 count-snoc test [] e = go (if_live test e.live)
   where
     go : (b : Bool) → length (cond b (e ∷ []) []) ≡ 0 + one_if b
@@ -57,7 +57,7 @@ count-snoc test (f ∷ es) e = go (if_live test f.live) (count-snoc test es e)
     go true h = omega (arith, h)
     go false h = h
 
-clients-snoc : (test : Live → Bool) (es : List Entry) (e : Entry) → clients_of test (es ++ e ∷ []) ≡ clients_of test es ++ cond (if_live test e.live) (e.client ∷ []) []
+pub clients-snoc : (test : Live → Bool) (es : List Entry) (e : Entry) → clients_of test (es ++ e ∷ []) ≡ clients_of test es ++ cond (if_live test e.live) (e.client ∷ []) []
 clients-snoc test [] e = go (if_live test e.live)
   where
     go : (b : Bool) → map (λ (d : Entry). d.client) (cond b (e ∷ []) []) ≡ cond b (e.client ∷ []) []
@@ -79,7 +79,7 @@ clients-snoc test (f ∷ es) e = go (if_live test f.live) (clients-snoc test es 
     go true h = ap (λ (l : List ℕ). f.client ∷ l) h
     go false h = h
 
-any-snoc : (test : Live → Bool) (es : List Entry) (e : Entry) → any_live test (es ++ e ∷ []) ≡ (any_live test es || if_live test e.live)
+pub any-snoc : (test : Live → Bool) (es : List Entry) (e : Entry) → any_live test (es ++ e ∷ []) ≡ (any_live test es || if_live test e.live)
 any-snoc test [] e = go (if_live test e.live)
   where
     go : (b : Bool) → (b || false) ≡ b
@@ -92,7 +92,7 @@ any-snoc test (f ∷ es) e = go (if_live test f.live) (any-snoc test es e)
     go true h = refl
     go false h = h
 
-count-few : (test : Live → Bool) (es : List Entry) → count_live test es ≤ length es
+pub count-few : (test : Live → Bool) (es : List Entry) → count_live test es ≤ length es
 count-few test [] = omega arith
 count-few test (f ∷ es) = go (if_live test f.live) (count-few test es)
   where
@@ -105,39 +105,39 @@ count-few test (f ∷ es) = go (if_live test f.live) (count-few test es)
 
 -- ---- which tickets a test passes
 
-and-yes : (b c : Bool) → c ≡ true → (b && c) ≡ b
+pub and-yes : (b c : Bool) → c ≡ true → (b && c) ≡ b
 and-yes true c h = h
 and-yes false c h = refl
 
-and-no : (b c : Bool) → c ≡ false → (b && c) ≡ false
+pub and-no : (b c : Bool) → c ≡ false → (b && c) ≡ false
 and-no true c h = h
 and-no false c h = refl
 
-or-yes : (b c : Bool) → c ≡ true → (b || c) ≡ true
+pub or-yes : (b c : Bool) → c ≡ true → (b || c) ≡ true
 or-yes true c h = refl
 or-yes false c h = h
 
-or-no : (b c : Bool) → c ≡ false → (b || c) ≡ b
+pub or-no : (b c : Bool) → c ≡ false → (b || c) ≡ b
 or-no true c h = refl
 or-no false c h = h
 
 -- the test passes tickets for the resource alone
-abbrev IsWithin : (test : Live → Bool) → List ℕ → Type 0
+abbrev pub IsWithin : (test : Live → Bool) → List ℕ → Type 0
 IsWithin test x = (l : Live) → is_for x l ≡ false → test l ≡ false
 
-holds-within : (x : List ℕ) → IsWithin (holds x) x
+pub holds-within : (x : List ℕ) → IsWithin (holds x) x
 holds-within x l k = and-no (is_holding l.status) (bytes_eq l.resource x) k
 
-writer_holds-within : (x : List ℕ) → IsWithin (writer_holds x) x
+pub writer_holds-within : (x : List ℕ) → IsWithin (writer_holds x) x
 writer_holds-within x l k = and-no (is_write l.mode) (holds x l) (holds-within x l k)
 
-waits_for-within : (x : List ℕ) → IsWithin (waits_for x) x
+pub waits_for-within : (x : List ℕ) → IsWithin (waits_for x) x
 waits_for-within x l k = and-no (is_waiting l.status) (bytes_eq l.resource x) k
 
-writer_waits-within : (x : List ℕ) → IsWithin (writer_waits x) x
+pub writer_waits-within : (x : List ℕ) → IsWithin (writer_waits x) x
 writer_waits-within x l k = and-no (is_write l.mode) (waits_for x l) (waits_for-within x l k)
 
-off-live : (test : Live → Bool) (x : List ℕ) → IsWithin test x → (o : Option Live) → if_live (is_for x) o ≡ false → if_live test o ≡ false
+pub off-live : (test : Live → Bool) (x : List ℕ) → IsWithin test x → (o : Option Live) → if_live (is_for x) o ≡ false → if_live test o ≡ false
 off-live test x h None k = refl
 off-live test x h (Some l) k = h l k
 
@@ -160,7 +160,7 @@ tickets-other x es e k =
     let s = same-clients (waits_for x) es e (off-live (waits_for x) x (waits_for-within x) e.live k) in
     λ i. record { holders = p i; writing_holders = q i; waiting_writers = r i; waiting = s i }
 
-tickets-here : (x : List ℕ) (es : List Entry) (e : Entry) (l : Live) → e.live ≡ Some l → is_for x l ≡ true → tickets_for x (es ++ e ∷ []) ≡ with_ticket e.client l (tickets_for x es)
+pub tickets-here : (x : List ℕ) (es : List Entry) (e : Entry) (l : Live) → e.live ≡ Some l → is_for x l ≡ true → tickets_for x (es ++ e ∷ []) ≡ with_ticket e.client l (tickets_for x es)
 tickets-here x es e l is k =
     let hold : holds x l ≡ is_holding l.status = and-yes (is_holding l.status) (bytes_eq l.resource x) k in
     let wait : waits_for x l ≡ is_waiting l.status = and-yes (is_waiting l.status) (bytes_eq l.resource x) k in
@@ -177,7 +177,7 @@ none-pass test x h (e ∷ es) k =
     let rest = filter (λ (d : Entry). if_live test d.live) es in
     ap (λ b. cond b (e ∷ rest) rest) (off-live test x h e.live p.0) ∙ none-pass test x h es p.1
 
-tickets-none : (x : List ℕ) (es : List Entry) → any_live (is_for x) es ≡ false → tickets_for x es ≡ no_tickets
+pub tickets-none : (x : List ℕ) (es : List Entry) → any_live (is_for x) es ≡ false → tickets_for x es ≡ no_tickets
 tickets-none x es k =
     let p = ap length (none-pass (holds x) x (holds-within x) es k) in
     let q = ap length (none-pass (writer_holds x) x (writer_holds-within x) es k) in
@@ -195,13 +195,13 @@ or-none-read es x = go (any_live (is_for x) es) refl
 
 -- ---- the index, one entry more
 
-line-other : (x : List ℕ) (es : List Entry) (e : Entry) → if_live (is_for x) e.live ≡ false → line_of (es ++ e ∷ []) x ≡ line_of es x
+pub line-other : (x : List ℕ) (es : List Entry) (e : Entry) → if_live (is_for x) e.live ≡ false → line_of (es ++ e ∷ []) x ≡ line_of es x
 line-other x es e k =
     let any : any_live (is_for x) (es ++ e ∷ []) ≡ any_live (is_for x) es = any-snoc (is_for x) es e ∙ or-no (any_live (is_for x) es) (if_live (is_for x) e.live) k in
     ap (λ b. cond b (Some (tickets_for x (es ++ e ∷ []))) None) any
     ∙ ap (λ t. cond (any_live (is_for x) es) (Some t) None) (tickets-other x es e k)
 
-line-here : (x : List ℕ) (es : List Entry) (e : Entry) (l : Live) → e.live ≡ Some l → is_for x l ≡ true → line_of (es ++ e ∷ []) x ≡ Some (with_ticket e.client l (tickets_for x es))
+pub line-here : (x : List ℕ) (es : List Entry) (e : Entry) (l : Live) → e.live ≡ Some l → is_for x l ≡ true → line_of (es ++ e ∷ []) x ≡ Some (with_ticket e.client l (tickets_for x es))
 line-here x es e l is k =
     let any : any_live (is_for x) (es ++ e ∷ []) ≡ true = any-snoc (is_for x) es e ∙ or-yes (any_live (is_for x) es) (if_live (is_for x) e.live) (ap (if_live (is_for x)) is ∙ k) in
     ap (λ b. cond b (Some (tickets_for x (es ++ e ∷ []))) None) any ∙ ap (λ t. Some t) (tickets-here x es e l is k)

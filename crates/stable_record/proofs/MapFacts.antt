@@ -1,5 +1,5 @@
 -- Entries that lie in a map, as a list.
-use Rattle.std.proofs.Common.{◌≡◌, ◌⊎◌, inl, inr, ℕ, zero, suc, ◌+◌, ◌-◌, ◌<◌, ◌==◌, Bool, true, false, not, ◌||◌, ◌&&◌, cond, List, [], ◌∷◌, ◌++◌, length, take, drop, get_or, filter, find, position, map, Option, Some, None, refl, sym, ap, ◌∙◌, is_some, arith}
+use Rattle.std.proofs.Common.{◌≡◌, ◌⊎◌, inl, inr, ℕ, zero, suc, ◌-◌, ◌<◌, ◌==◌, Bool, true, false, not, ◌||◌, ◌&&◌, cond, List, [], ◌∷◌, ◌++◌, length, take, drop, get_or, filter, position, map, Option, Some, None, refl, sym, ap, ◌∙◌, is_some, arith}
 use Rattle.std.specs.List.{list_any, list_all, IsDistinct, AllByRecursion}
 use Rattle.std.specs.Map.{lookup, keys_of}
 use Rattle.std.specs.Option.{option_map_or}
@@ -134,7 +134,7 @@ known-at c (e ∷ es) (suc i) h is = go (e.0 == c) (known-at c es i (omega arith
 abbrev pub others : ℕ → List Entry → List Entry
 others c es = filter (λ e. not (is_of c e)) es
 
-others-unknown : (c : ℕ) (es : List Entry) → knows c es ≡ false → others c es ≡ es
+pub others-unknown : (c : ℕ) (es : List Entry) → knows c es ≡ false → others c es ≡ es
 others-unknown c [] h = refl
 others-unknown c (e ∷ es) h =
     let k = or_parts (is_of c e) (knows c es) h in

@@ -1,11 +1,13 @@
 -- What follows from the definitions, as statements; each is proved as the contract of a function of
 -- `laws`.
-use Rattle.std.specs.Prelude.{◌≡◌, ℕ, ◌+◌, ◌%◌, ◌≤◌, List, ◌++◌, length}
+use Rattle.std.specs.Prelude.{◌≡◌, ℕ, ◌+◌, ◌%◌, ◌≤◌, List, [], ◌∷◌, ◌++◌, length, Option, None}
 use Rattle.std.specs.List.{AllByRecursion}
 use Rattle.lock_messages.specs.declared.ids.TheConstants.{MAX_CLIENTS, MAX_ATTEMPT}
 use Rattle.lock_model.specs.declared.entries.Entry.{Entry}
 use Rattle.lock_model.specs.ExactStations.{EachOnce}
 use Rattle.stable_record.specs.declared.node_records.NodeRecord.{NodeRecord}
+use Rattle.stable_record.specs.Lines.{Tickets}
+use Rattle.stable_record.specs.Indexing.{IndexesWith}
 use Rattle.stable_record.specs.Faulty.{Faulty, next_call}
 use Rattle.stable_record.specs.Records.{IsEntry, IsNodeRecord, node_record_of, client_record_of}
 
@@ -29,3 +31,8 @@ EntriesAreFew = (entries : List Entry) → EachOnce entries → AllByRecursion I
 -- last; so of any `every` calls in a row just one fails, however many there are.
 abbrev pub CallsGoOn : Type 0
 CallsGoOn = (f : Faulty) → next_call f % f.every ≡ (f.calls + 1) % f.every
+
+-- An entry without a live ticket that comes behind the others leaves an index that of the entries.
+abbrev pub StrangersLeaveTheIndex : Type 0
+StrangersLeaveTheIndex = (a : Option (ℕ × List ℕ)) (lines : List (List ℕ × Tickets)) (entries : List Entry) (e : Entry) →
+    e.live ≡ None → IndexesWith a lines entries → IndexesWith a lines (entries ++ e ∷ [])

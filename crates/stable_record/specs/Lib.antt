@@ -6,3 +6,4 @@ pub mod Laws
 pub mod Finding
 pub mod Faulty
 pub mod Lines
+pub mod Indexing

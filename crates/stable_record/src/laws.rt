@@ -1,6 +1,6 @@
 //! Laws of the definitions. Each function computes nothing: its contract is a theorem.
 
-ghost use Rattle.stable_record.specs.Laws.{OneSpelling, OneClientSpelling, EntriesAreFew, CallsGoOn};
+ghost use Rattle.stable_record.specs.Laws.{OneSpelling, OneClientSpelling, EntriesAreFew, CallsGoOn, StrangersLeaveTheIndex};
 
 use crate::RecordFault;
 
@@ -20,4 +20,9 @@ pub fn entries_are_few()
 /// The calls of a failing device are numbered one after the other, as far as multiples go.
 pub fn calls_go_on()
     ensures { CallsGoOn }
+{}
+
+/// An entry without a live ticket that comes behind the others leaves an index that of the entries.
+pub fn strangers_leave_the_index()
+    ensures { StrangersLeaveTheIndex }
 {}

@@ -6,7 +6,9 @@
 //! (`RecordFault`). What `read_node` answers is lawful and caused. `laws::one_spelling` says that no
 //! spelling begins another. `client_bytes`, `read_client`, `lawful` and `caused` take no memory.
 //!
-//! `ResourceIndex` has the tickets of a record by resource: who holds each, and who waits for it.
+//! `ResourceIndex` has the tickets of a record by resource: who holds each, and who waits for it. It
+//! can be kept beside entries that change: it is told of each ticket that ends, becomes a holder or
+//! comes new, and asks for memory before any of these. `IndexedRecord` is a record with its index.
 //!
 //! `StableRecord` says what it means to keep a record: which byte strings, one or two, a restart now
 //! may find, whether the record is stuck, and how often its device has failed. Code above is generic
@@ -20,6 +22,7 @@ mod entries;
 mod faults;
 mod faulty_records;
 mod formats;
+mod indexed_records;
 mod judging;
 mod kept;
 pub mod laws;
@@ -27,6 +30,7 @@ mod leaves;
 mod lines;
 mod memory_records;
 mod node_records;
+mod questions;
 mod reading;
 mod resource_index;
 mod stable;
@@ -37,6 +41,7 @@ pub use entries::Entries;
 pub use faults::RecordFault;
 pub use faulty_records::FaultyRecord;
 pub use formats::MAX_RECORD_LEN;
+pub use indexed_records::IndexedRecord;
 pub use leaves::Leaves;
 pub use lines::Line;
 pub use lock_model::{Entry, Live, Status};

@@ -1,6 +1,8 @@
 // The tickets of one resource.
 
-ghost use Rattle.std.specs.Prelude.{◌≡◌, OnOk, OnErr, nat_lt};
+ghost use Rattle.std.specs.Prelude.{◌≡◌, ◌==◌, ℕ, List, OnOk, OnErr, nat_lt};
+ghost use Rattle.std.specs.List.{position};
+ghost use Rattle.stable_record.specs.Indexing.{AreCounted, announced_ticket, is_no_tickets, with_confirmed, with_holder, with_promoted, without_first, without_last, without_ticket};
 ghost use Rattle.stable_record.specs.Lines.{no_tickets, with_ticket, AreFew};
 
 use crate::{Live, Status};
@@ -24,6 +26,22 @@ impl Model for Line {
     ghost Value = { Tickets };
 
     ghost view = { λ l. tickets_with l.held l.held_to_write l.writers l.queue.items };
+}
+
+/// Where the client stands first in a queue.
+fn place_of(queue: &[ClientId], client: ClientId) -> Option<usize>
+    ensures { result ≡ position (λ other. other == client) queue.now }
+{
+    queue.iter().position(|other| *other == client)
+}
+
+/// Takes a client's first place from a queue.
+fn drop_first(queue: &mut Vec<ClientId>, client: ClientId)
+    ensures { queue.new.items ≡ without_first client queue.old.items }
+{
+    if let Some(place) = place_of(queue.as_slice(), client) {
+        queue.remove(place);
+    }
 }
 
 impl Line {
@@ -58,6 +76,86 @@ impl Line {
             }
         }
         Ok(())
+    }
+
+    /// Announces a client: it waits behind the others, and counts nowhere. Where memory is refused
+    /// nothing has changed.
+    pub(crate) fn announce(&mut self, client: ClientId) -> Result<(), AllocError>
+        ensures announced { OnOk result ((x : List ℕ) → self.new ≡ with_ticket client (announced_ticket x) self.old) }
+        ensures refused { OnErr result (self.new ≡ self.old) }
+    {
+        self.queue.push(client)?;
+        Ok(())
+    }
+
+    /// Takes away the last that waits.
+    pub(crate) fn withdraw(&mut self)
+        ensures { self.new ≡ without_last self.old }
+    {
+        self.queue.pop();
+    }
+
+    /// Takes away a client's ticket. A count that is 0 stays.
+    pub(crate) fn end(&mut self, client: ClientId, live: &Live)
+        ensures { self.new ≡ without_ticket client live.now self.old }
+    {
+        match (live.status, live.mode) {
+            (Status::Holding, Mode::Read) => self.held = self.held.saturating_sub(1),
+            (Status::Holding, Mode::Write) => {
+                self.held = self.held.saturating_sub(1);
+                self.held_to_write = self.held_to_write.saturating_sub(1);
+            }
+            (Status::Waiting, Mode::Read) => drop_first(&mut self.queue, client),
+            (Status::Waiting, Mode::Write) => {
+                drop_first(&mut self.queue, client);
+                self.writers = self.writers.saturating_sub(1);
+            }
+        }
+    }
+
+    /// Counts a ticket in this mode that holds.
+    fn hold(&mut self, mode: Mode)
+        ensures { AreCounted self.old → self.new ≡ with_holder mode self.old }
+    {
+        self.held = self.held.saturating_add(1);
+        match mode {
+            Mode::Read => {}
+            Mode::Write => self.held_to_write = self.held_to_write.saturating_add(1),
+        }
+    }
+
+    /// Makes a client's ticket hold, if it waits.
+    pub(crate) fn promote(&mut self, client: ClientId, live: &Live)
+        ensures { AreCounted self.old → self.new ≡ with_promoted client live.now self.old }
+    {
+        match live.status {
+            Status::Holding => {}
+            Status::Waiting => {
+                self.end(client, live);
+                self.hold(live.mode);
+            }
+        }
+    }
+
+    /// Puts in the ticket of the client that was announced last.
+    pub(crate) fn confirm(&mut self, live: &Live)
+        ensures { AreCounted self.old → self.new ≡ with_confirmed live.now self.old }
+    {
+        match (live.status, live.mode) {
+            (Status::Holding, mode) => {
+                self.withdraw();
+                self.hold(mode);
+            }
+            (Status::Waiting, Mode::Read) => {}
+            (Status::Waiting, Mode::Write) => self.writers = self.writers.saturating_add(1),
+        }
+    }
+
+    /// Whether it has no tickets.
+    pub(crate) fn is_empty(&self) -> bool
+        ensures { result ≡ is_no_tickets self.now }
+    {
+        self.held == 0 && self.queue.is_empty()
     }
 
     /// How many tickets hold the resource.

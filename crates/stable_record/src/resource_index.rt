@@ -1,9 +1,13 @@
 // A node's tickets by resource.
 
-ghost use Rattle.std.specs.Prelude.{◌≡◌, ◌≢◌, ◌<◌, [], ◌∷◌, ◌++◌, length, List, None, IfOk, OnOk, OnErr, IsOkUnless};
-ghost use Rattle.std.specs.Option.{option_copied};
+ghost use Rattle.std.specs.Prelude.{◌≡◌, ◌≢◌, ◌<◌, [], ◌∷◌, ◌++◌, ℕ, length, List, Option, None, Some, IfOk, OnOk, OnErr, IsOkUnless};
+ghost use Rattle.std.specs.Option.{option_copied, option_map};
 ghost use Rattle.lock_messages.specs.declared.ids.TheConstants.{MAX_CLIENTS};
 ghost use Rattle.lock_model.specs.declared.entries.Entry.{Entry};
+ghost use Rattle.lock_model.specs.declared.entries.Live.{Live};
+ghost use Rattle.lock_model.specs.ExactDecisions.{moved_last};
+ghost use Rattle.stable_record.specs.EntryLists.{replaced};
+ghost use Rattle.stable_record.specs.Indexing.{AreCounted, announced_ticket, HasNoTicket, IndexesWith, IsEntryAmong, Puts, unless_empty, with_confirmed, with_holding, with_promoted, without_last, without_live, without_ticket};
 ghost use Rattle.stable_record.specs.Lines.{line_in, or_none, Joins, Indexes, AreFew};
 
 use crate::lines::Line;
@@ -13,6 +17,9 @@ use std::alloc::{AllocError, Global};
 use std::collections::BTreeMap;
 use std::marker::Model;
 
+// The standard ordered map: a look-up costs the logarithm of the number of lines whatever the names
+// are, and its iteration goes by the names. A hash map's has no order, and `indexmap` keeps that of
+// insertion.
 type Lines = BTreeMap<ResourceName, Line>;
 
 /// The tickets of a node's entries by resource, in the order of the resources' names. A resource for
@@ -62,8 +69,93 @@ fn join(lines: &mut Lines, alloc: Global, client: ClientId, live: &Live) -> Resu
     }
 }
 
+/// Adds a line for a resource that has none, with a client that is announced. Where memory is refused
+/// nothing has changed.
+fn open_announced(
+    lines: &mut Lines,
+    alloc: Global,
+    client: ClientId,
+    resource: &ResourceName,
+) -> Result<(), AllocError>
+    requires { line_in lines.old.entries resource.now ≡ None }
+    ensures announced { OnOk result (Joins client (announced_ticket resource.now) lines.old.entries lines.new.entries) }
+    ensures refused { OnErr result (lines.new.entries ≡ lines.old.entries) }
+{
+    let mut line = Line::new(alloc);
+    line.announce(client)?;
+    match lines.insert(*resource, line) {
+        Ok(_) => Ok(()),
+        Err(_) => Err(AllocError),
+    }
+}
+
+/// Announces a client for a resource. Where memory is refused nothing has changed.
+fn announce(
+    lines: &mut Lines,
+    alloc: Global,
+    client: ClientId,
+    resource: &ResourceName,
+) -> Result<(), AllocError>
+    ensures announced { OnOk result (Joins client (announced_ticket resource.now) lines.old.entries lines.new.entries) }
+    ensures refused { OnErr result (lines.new.entries ≡ lines.old.entries) }
+{
+    match lines.get_mut(resource) {
+        Some(line) => line.announce(client),
+        None => open_announced(lines, alloc, client, resource),
+    }
+}
+
+/// Takes the last that waits from a resource's line.
+fn withdraw(lines: &mut Lines, resource: &ResourceName)
+    ensures { Puts resource.now (option_map without_last (line_in lines.old.entries resource.now)) lines.old.entries lines.new.entries }
+{
+    if let Some(line) = lines.get_mut(resource) {
+        line.withdraw();
+    }
+}
+
+/// Takes a client's ticket from its resource's line.
+fn end(lines: &mut Lines, client: ClientId, live: &Live)
+    ensures { Puts live.now.resource (option_map (without_ticket client live.now) (line_in lines.old.entries live.now.resource)) lines.old.entries lines.new.entries }
+{
+    if let Some(line) = lines.get_mut(&live.resource) {
+        line.end(client, live);
+    }
+}
+
+/// Makes a client's ticket hold, if it waits.
+fn promote(lines: &mut Lines, client: ClientId, live: &Live)
+    ensures { AreCounted (or_none (line_in lines.old.entries live.now.resource)) → Puts live.now.resource (option_map (with_promoted client live.now) (line_in lines.old.entries live.now.resource)) lines.old.entries lines.new.entries }
+{
+    if let Some(line) = lines.get_mut(&live.resource) {
+        line.promote(client, live);
+    }
+}
+
+/// Puts in the ticket of the client that was announced last for its resource.
+fn confirm(lines: &mut Lines, live: &Live)
+    ensures { AreCounted (or_none (line_in lines.old.entries live.now.resource)) → Puts live.now.resource (option_map (with_confirmed live.now) (line_in lines.old.entries live.now.resource)) lines.old.entries lines.new.entries }
+{
+    if let Some(line) = lines.get_mut(&live.resource) {
+        line.confirm(live);
+    }
+}
+
+/// Takes a resource's line away, where it has no tickets.
+fn drop_empty(lines: &mut Lines, resource: &ResourceName)
+    ensures { Puts resource.now (unless_empty (line_in lines.old.entries resource.now)) lines.old.entries lines.new.entries }
+{
+    let Some(line) = lines.get(resource) else {
+        return;
+    };
+    if line.is_empty() {
+        lines.remove(resource);
+    }
+}
+
 impl ResourceIndex {
-    fn empty(alloc: Global) -> ResourceIndex
+    /// The index of no entries. It takes no memory.
+    pub(crate) fn empty(alloc: Global) -> ResourceIndex
         ensures { result ≡ [] }
     {
         ResourceIndex {
@@ -107,5 +199,60 @@ impl ResourceIndex {
         ensures { option_copied result ≡ line_in self.now resource.now }
     {
         self.map.get(resource)
+    }
+
+    /// Announces a client for a resource, before a message of it is decided: the memory that its
+    /// ticket will need is asked for here. Until the client is confirmed or withdrawn it waits
+    /// uncounted behind the others of the resource. The only error is want of memory, and then
+    /// nothing has changed.
+    pub fn announce(
+        &mut self,
+        alloc: Global,
+        client: ClientId,
+        resource: &ResourceName,
+    ) -> Result<(), AllocError>
+        ensures announced { OnOk result ((entries : List Entry) → Indexes self.old entries → IndexesWith (Some (client, resource.now)) self.new entries) }
+        ensures unchanged { OnErr result (self.new ≡ self.old) }
+    {
+        announce(&mut self.map, alloc, client, resource)
+    }
+
+    /// Takes an announcement for this resource back. It takes no memory.
+    pub fn withdraw(&mut self, resource: &ResourceName)
+        ensures { (client : ℕ) (entries : List Entry) → IndexesWith (Some (client, resource.now)) self.old entries → Indexes self.new entries }
+    {
+        withdraw(&mut self.map, resource);
+        drop_empty(&mut self.map, resource);
+    }
+
+    /// Takes away the live ticket of a client, if it has one; `entry` is its entry before. It takes no
+    /// memory.
+    pub fn end(&mut self, entry: &Entry)
+        ensures { (a : Option (ℕ × List ℕ)) (entries : List Entry) (floor : ℕ) → IsEntryAmong entry.now entries → IndexesWith a self.old entries → IndexesWith a self.new (replaced (without_live floor entry.now) entries) }
+    {
+        if let Some(live) = &entry.live {
+            end(&mut self.map, entry.client, live);
+            drop_empty(&mut self.map, &live.resource);
+        }
+    }
+
+    /// Makes the live ticket of a client hold, if it has one; `entry` is its entry before. It takes no
+    /// memory.
+    pub fn promote(&mut self, entry: &Entry)
+        ensures { (a : Option (ℕ × List ℕ)) (entries : List Entry) → IsEntryAmong entry.now entries → IndexesWith a self.old entries → IndexesWith a self.new (replaced (with_holding entry.now) entries) }
+    {
+        if let Some(live) = &entry.live {
+            promote(&mut self.map, entry.client, live);
+        }
+    }
+
+    /// Puts in the live ticket of the client that is announced; `entry` is its entry after, which goes
+    /// behind the others. It takes no memory.
+    pub fn confirm(&mut self, entry: &Entry)
+        ensures { (live : Live) (entries : List Entry) → entry.now.live ≡ Some live → HasNoTicket entry.now.client entries → IndexesWith (Some (entry.now.client, live.resource)) self.old entries → Indexes self.new (moved_last entry.now entries) }
+    {
+        if let Some(live) = &entry.live {
+            confirm(&mut self.map, live);
+        }
     }
 }

@@ -171,7 +171,7 @@ abbrev pub floor_seen : Option Entry → Option ℕ
 floor_seen None = None
 floor_seen (Some e) = Some e.floor
 
-find-last : (c : ℕ) (es : List Entry) (f : Entry) → knows c es ≡ false → f.client ≡ c → entry_of (es ++ f ∷ []) c ≡ Some f
+pub find-last : (c : ℕ) (es : List Entry) (f : Entry) → knows c es ≡ false → f.client ≡ c → entry_of (es ++ f ∷ []) c ≡ Some f
 find-last c [] f none h = ap (λ b. cond b (Some f) None) (eq-eqb f.client c h)
 find-last c (e ∷ es) f none h =
     let k = or-none (is_of c e) (knows c es) none in

@@ -103,7 +103,7 @@ not-both : (s : Status) → (is_waiting s && is_holding s) ≡ false
 not-both Waiting = refl
 not-both Holding = refl
 
-told-nothing : (n client floor : ℕ) (live : Option Live) → told n (record { client = client; floor = floor; live = live }) (record { client = client; floor = floor; live = live }) ≡ []
+pub told-nothing : (n client floor : ℕ) (live : Option Live) → told n (record { client = client; floor = floor; live = live }) (record { client = client; floor = floor; live = live }) ≡ []
 told-nothing n client floor None = refl
 told-nothing n client floor (Some l) = ap (λ b. cond b (grant_of n client (Some l)) []) (not-both l.status)
 
@@ -113,7 +113,7 @@ grants-nothing n (e ∷ es) = ap (λ ms. ms ++ grants n es es) (told-nothing n e
 
 -- ---- one entry settles, of a ticket for the freed resource
 
-all-at : (P : Entry → Type 0) (es : List Entry) (i : ℕ) (e : Entry) → AllByRecursion P es → slice_get es i ≡ Some e → P e
+pub all-at : (P : Entry → Type 0) (es : List Entry) (i : ℕ) (e : Entry) → AllByRecursion P es → slice_get es i ≡ Some e → P e
 all-at P [] i e h at = cc
 all-at P (d ∷ es) zero e h at = let is : d ≡ e = cc in subst P is h.0
 all-at P (d ∷ es) (suc i) e h at = all-at P es i e h.1 at

@@ -4,3 +4,5 @@ pub mod EndFacts
 pub mod ChangeFacts
 pub mod RangeFacts
 pub mod FreedFacts
+pub mod QueueFacts
+pub mod TakingFacts

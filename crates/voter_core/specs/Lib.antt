@@ -1,3 +1,4 @@
 pub mod Voters
 pub mod Faults
 pub mod Freed
+pub mod Queues

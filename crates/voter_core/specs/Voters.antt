@@ -15,6 +15,7 @@ use Rattle.lock_model.specs.ExactDecisions.{decision, changes, ended, reply_to_k
 use Rattle.stable_record.specs.declared.node_records.NodeRecord.{NodeRecord}
 use Rattle.stable_record.specs.declared.faults.RecordFault.{RecordFault}
 use Rattle.stable_record.specs.declared.faults.RecordFault.TheVariants as record_fault
+use Rattle.stable_record.specs.Lines.{Tickets, Indexes}
 use Rattle.stable_record.specs.Records.{IsNodeRecord, node_record_of}
 use Rattle.stable_record.specs.Reading.{reading}
 use Rattle.voter_core.specs.declared.phases.Phase.{Phase}
@@ -35,6 +36,11 @@ pub record Voter : Type 0 where
   pub problem : Problem
   pub entries : List Entry
   pub state : State
+
+-- the station is a record that can be kept and read again, and the index is that of its entries
+pub record IsIndexed (station : NodeRecord) (index : List (List ℕ × Tickets)) : Type 0 where
+  pub good : IsNodeRecord station
+  pub indexed : Indexes index station.entries
 
 -- the state of this phase, with these replies
 abbrev pub state_of : Phase → List Message → State

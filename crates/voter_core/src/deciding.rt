@@ -1,17 +1,23 @@
 // A node's decision on a message, made in its entries.
 
-ghost use Rattle.std.specs.Prelude.{◌≡◌, ◌≢◌, ◌≤◌, ◌<◌, ◌+◌, ◌-◌, ◌↔◌, [], length, Bool, true, Some, None, nat_lt, is_ok, IfOk, OnOk, OnErr, IsTrue, slice_get, slice_set, if◌then◌else◌};
+ghost use Rattle.std.specs.Prelude.{◌≡◌, ◌≢◌, ◌≤◌, ◌<◌, ◌+◌, ◌-◌, ◌↔◌, ℕ, List, [], length, Bool, true, false, Option, Some, None, nat_lt, is_ok, IfSome, IfOk, OnOk, OnErr, IsTrue, slice_set, if◌then◌else◌};
+ghost use Rattle.std.specs.List.{AllByRecursion};
+ghost use Rattle.std.specs.Option.{option_map_or};
+ghost use Rattle.std.specs.Str.{bytes_eq};
 ghost use Rattle.std.specs.Vec.{vec_len, vec_capacity};
 ghost use Rattle.lock_messages.specs.declared.ids.TheConstants.{MAX_CLIENTS};
 ghost use Rattle.lock_messages.specs.declared.messages.Message.{Message};
 ghost use Rattle.lock_messages.specs.Messages.{IsTicket, IsMessage, is_for_node};
 ghost use Rattle.lock_model.specs.declared.entries.Entry.{Entry};
+ghost use Rattle.lock_model.specs.declared.entries.Live.{Live};
 ghost use Rattle.lock_model.specs.Laws.{IsAllowed};
 ghost use Rattle.stable_record.specs.Records.{IsNodeRecord};
-ghost use Rattle.lock_model.specs.ExactStations.{EachOnce, entry_of, knows, if_live};
-ghost use Rattle.lock_model.specs.ExactDecisions.{ended, moved_last, takes_up, releases, decision, Changes, changes};
+ghost use Rattle.lock_model.specs.ExactStations.{EachOnce, IsAboveFloor, entry_of, knows};
+ghost use Rattle.lock_model.specs.ExactDecisions.{ended, moved_last, reply_to_known, takes_up, releases, decision, Changes, changes};
 ghost use Rattle.lock_model.specs.Judgement.{is_caused};
-ghost use Rattle.stable_record.specs.Lines.{waits_for, count_live};
+ghost use Rattle.stable_record.specs.EntryLists.{replaced};
+ghost use Rattle.stable_record.specs.Indexing.{IndexesWith, IsEntryAmong, without_live};
+ghost use Rattle.stable_record.specs.Lines.{Indexes};
 ghost use Rattle.voter_core.specs.Freed.{freed, freed_by, waiting_for};
 ghost use Rattle.voter_core.specs.Voters.{ends_something, is_admitted, note_for, note_of};
 
@@ -20,43 +26,10 @@ use crate::settling::{admits, settle};
 use admission_policy::Admission;
 use lock_messages::{Attempt, ClientId, Message, NodeId, ResourceName, Ticket};
 use lock_model::laws::{changes_are_seen, decision_is_allowed, judgement_is_exact};
-use lock_model::{Entry, Live, Problem, new_entry, reply_to_known};
-use stable_record::laws::entries_are_few;
-use stable_record::{Entries, NodeRecord};
+use lock_model::{Entry, Problem, new_entry, reply_to_known};
+use stable_record::laws::{entries_are_few, strangers_leave_the_index};
+use stable_record::{Entries, NodeRecord, ResourceIndex};
 use std::alloc::{AllocError, Global};
-
-/// Whether the ticket waits for the resource.
-fn waits_for(live: &Option<Live>, resource: &ResourceName) -> bool
-    ensures { result ≡ if_live (waits_for resource.now) live.now }
-{
-    match live {
-        None => false,
-        Some(live) => live.waits() && live.resource == *resource,
-    }
-}
-
-/// Whether the entry at a place waits for the resource.
-fn waits_at(entries: &Entries, place: usize, resource: &ResourceName) -> bool
-    ensures { (e : Entry) → slice_get entries.now place ≡ Some e → result ≡ if_live (waits_for resource.now) e.live }
-{
-    match entries.get(place) {
-        None => false,
-        Some(entry) => waits_for(&entry.live, resource),
-    }
-}
-
-/// How many tickets wait for the resource.
-fn count_waiting(entries: &Entries, resource: &ResourceName) -> usize
-    ensures { result ≡ count_live (waits_for resource.now) entries.now }
-{
-    let mut count = 0usize;
-    for place in 0..entries.len() {
-        if waits_at(entries, place, resource) {
-            count += 1;
-        }
-    }
-    count
-}
 
 /// The resource of the ticket that ends where the message is taken, if one does.
 pub(crate) fn freed_by(entries: &Entries, message: &Message) -> Option<ResourceName>
@@ -73,13 +46,40 @@ pub(crate) fn freed_by(entries: &Entries, message: &Message) -> Option<ResourceN
     }
 }
 
-/// How many tickets wait for the freed resource.
-fn waiting_for(entries: &Entries, freed: &Option<ResourceName>) -> usize
-    ensures { result ≡ waiting_for freed.now entries.now }
+/// How many tickets wait for the freed resource; a client that is announced for it is counted as well.
+fn waiting_for(index: &ResourceIndex, freed: &Option<ResourceName>) -> usize
+    ensures { (entries : List Entry) → Indexes index.now entries → result ≡ waiting_for freed.now entries }
 {
     match freed {
         None => 0,
-        Some(resource) => count_waiting(entries, resource),
+        Some(resource) => index.waiting_count(resource),
+    }
+}
+
+/// Whether this is the freed resource.
+fn is_freed(freed: &Option<ResourceName>, resource: &ResourceName) -> bool
+    ensures { result ≡ option_map_or (λ x. bytes_eq resource.now x) freed.now false }
+{
+    match freed {
+        None => false,
+        Some(freed) => *resource == *freed,
+    }
+}
+
+/// How many tickets wait for the freed resource, where a client is announced for this one.
+fn waiting_beside(
+    index: &ResourceIndex,
+    freed: &Option<ResourceName>,
+    announced: &ResourceName,
+) -> usize
+    requires { (c : ℕ) × (entries : List Entry) × IndexesWith (Some (c, announced.now)) index.now entries }
+    ensures { (c : ℕ) (entries : List Entry) → IndexesWith (Some (c, announced.now)) index.now entries → result ≡ waiting_for freed.now entries }
+{
+    let waiting = waiting_for(index, freed);
+    if is_freed(freed, announced) {
+        waiting - 1
+    } else {
+        waiting
     }
 }
 
@@ -87,36 +87,59 @@ fn waiting_for(entries: &Entries, freed: &Option<ResourceName>) -> usize
 /// resource.
 pub(crate) fn room_for(
     alloc: Global,
-    entries: &Entries,
+    index: &ResourceIndex,
     freed: Option<ResourceName>,
 ) -> Result<Vec<Message>, AllocError>
-    requires { length entries.now ≤ MAX_CLIENTS }
-    ensures { IfOk result (λ replies. (replies.items ≡ []) × (vec_len replies ≡ 0) × (waiting_for freed entries.now + 1 ≤ vec_capacity replies)) }
+    requires { (entries : List Entry) × Indexes index.now entries × (length entries ≤ MAX_CLIENTS) }
+    ensures none { IfOk result (λ replies. (replies.items ≡ []) × (vec_len replies ≡ 0)) }
+    ensures room { IfOk result (λ replies. (entries : List Entry) → Indexes index.now entries → waiting_for freed entries + 1 ≤ vec_capacity replies) }
 {
     let mut replies = Vec::new(alloc);
-    replies.reserve(waiting_for(entries, &freed) + 1)?;
+    replies.reserve(waiting_for(index, &freed) + 1)?;
     Ok(replies)
+}
+
+/// Ends the attempts of a client that has this entry, in the entries and in their index.
+fn end_known(entries: &mut Entries, index: &mut ResourceIndex, entry: &Entry, attempt: u64)
+    requires { IsEntryAmong entry.now entries.old }
+    ensures entries { entries.new ≡ replaced (without_live attempt entry.now) entries.old }
+    ensures indexed { (a : Option (ℕ × List ℕ)) → IndexesWith a index.old entries.old → IndexesWith a index.new entries.new }
+{
+    index.end(entry);
+    entries.replace(Entry {
+        client: entry.client,
+        floor: attempt,
+        live: None,
+    });
 }
 
 /// Ends the client's attempts up to this one, and answers whether that changed an entry, or added
 /// one. Memory is refused for a stranger's entry alone, and then nothing has changed.
-fn end(entries: &mut Entries, client: ClientId, attempt: u64) -> Result<bool, AllocError>
+fn end(
+    entries: &mut Entries,
+    index: &mut ResourceIndex,
+    client: ClientId,
+    attempt: u64,
+) -> Result<bool, AllocError>
     ensures ended { entries.new ≡ (if is_ok result then ended client attempt entries.old else entries.old) }
     ensures changed { IfOk result (λ b. b ≡ ends_something attempt (entry_of entries.old client)) }
+    ensures indexed { (a : Option (ℕ × List ℕ)) → IndexesWith a index.old entries.old → IndexesWith a index.new entries.new }
     ensures once { EachOnce entries.old }
 {
-    let entry = Entry {
-        client,
-        floor: attempt,
-        live: None,
+    let _len = entries.len();
+    let Some(entry) = entries.entry_of(client) else {
+        strangers_leave_the_index();
+        return entries.push(Entry {
+            client,
+            floor: attempt,
+            live: None,
+        });
     };
-    let Some(Entry { floor, .. }) = entries.entry_of(client) else {
-        return entries.push(entry);
-    };
+    let floor = entry.floor;
     if floor >= attempt {
         return Ok(false);
     }
-    entries.replace(entry);
+    end_known(entries, index, &entry, attempt);
     Ok(true)
 }
 
@@ -147,6 +170,7 @@ fn release(
     problem: Problem,
     node: NodeId,
     entries: &mut Entries,
+    index: &mut ResourceIndex,
     client: ClientId,
     attempt: Attempt,
     replies: &mut Vec<Message>,
@@ -154,32 +178,72 @@ fn release(
     requires none { (replies.old.items ≡ []) × (vec_len replies.old ≡ 0) }
     requires room { waiting_for (freed attempt (entry_of entries.old client)) entries.old + 1 ≤ vec_capacity replies.old }
     requires caused { is_caused problem entries.old ≡ true }
+    requires indexed { Indexes index.old entries.old }
     ensures entries { entries.new ≡ (if is_ok result then (releases node problem entries.old client attempt).entries else entries.old) }
     ensures replies { OnOk result (replies.new.items ≡ (releases node problem entries.old client attempt).replies) }
     ensures changed { IfOk result (λ b. IsTrue b ↔ ((releases node problem entries.old client attempt).entries ≢ entries.old)) }
+    ensures indexed { Indexes index.new entries.new }
 {
     let last = attempt.get();
     let freed = freed(entries, client, last);
-    let ended = end(entries, client, last)?;
+    let ended = end(entries, index, client, last)?;
     replies.push_reserved(Message::Done(node, client, attempt));
-    settle(policy, problem, node, entries, freed, replies);
+    let waiting = waiting_for(index, &freed);
+    settle(
+        policy, problem, node, entries, index, freed, waiting, replies,
+    );
     Ok(ended || tells_grants(replies))
 }
 
-/// Writes over the first reply.
-fn set_first(replies: &mut Vec<Message>, first: Message)
+/// Says in the first reply that the ticket holds, where it is admitted.
+fn answer(replies: &mut Vec<Message>, node: NodeId, ticket: &Ticket, admitted: bool)
     requires { 0 < vec_len replies.old }
-    ensures { replies.new.items ≡ slice_set replies.old.items 0 first }
+    ensures { replies.new.items ≡ (if admitted then slice_set replies.old.items 0 (Message.Grant node ticket.now) else replies.old.items) }
 {
-    replies[0] = first;
+    if admitted {
+        replies[0] = Message::Grant(node, *ticket);
+    }
 }
 
-/// Moves a client's entry behind the others, as this one.
-fn put_last(entries: &mut Entries, entry: Entry)
-    requires { knows entry.client entries.old ≡ true }
-    ensures { entries.new ≡ moved_last entry entries.old }
+/// Moves a client's entry behind the others, as this one, whose ticket was announced.
+fn put_last(entries: &mut Entries, index: &mut ResourceIndex, entry: Entry)
+    requires known { knows entry.client entries.old ≡ true }
+    requires none { IfSome (entry_of entries.old entry.client) (λ e. e.live ≡ None) }
+    requires indexed { (live : Live) × (entry.live ≡ Some live) × IndexesWith (Some (entry.client, live.resource)) index.old entries.old }
+    ensures entries { entries.new ≡ moved_last entry entries.old }
+    ensures indexed { Indexes index.new entries.new }
 {
-    entries.move_last(entry);
+    let _len = entries.len();
+    let _known = entries.entry_of(entry.client);
+    let entry = &entry;
+    index.confirm(entry);
+    entries.move_last(*entry);
+}
+
+/// Announces the new ticket to the index, and ends the attempts before it. Memory is refused before
+/// an entry has changed, and then no ticket is announced.
+fn make_way(
+    entries: &mut Entries,
+    index: &mut ResourceIndex,
+    alloc: Global,
+    ticket: &Ticket,
+) -> Result<(), AllocError>
+    requires { Indexes index.old entries.old }
+    ensures entries { entries.new ≡ (if is_ok result then ended ticket.now.client (ticket.now.attempt - 1) entries.old else entries.old) }
+    ensures announced { OnOk result (IndexesWith (Some (ticket.now.client, ticket.now.resource)) index.new entries.new) }
+    ensures refused { OnErr result (Indexes index.new entries.new) }
+    ensures once { EachOnce entries.old }
+{
+    let _len = entries.len();
+    let last = ticket.attempt.get() - 1;
+    index.announce(alloc, ticket.client, &ticket.resource)?;
+    match end(entries, index, ticket.client, last) {
+        Ok(_) => Ok(()),
+        Err(fault) => {
+            index.withdraw(&ticket.resource);
+            Err(fault)
+        }
+    }
 }
 
 /// Takes up a new ticket: the attempts before it end, the others settle, and then it is admitted or
@@ -189,29 +253,36 @@ fn take_up(
     problem: Problem,
     node: NodeId,
     entries: &mut Entries,
+    index: &mut ResourceIndex,
+    alloc: Global,
     ticket: &Ticket,
     replies: &mut Vec<Message>,
 ) -> Result<(), AllocError>
     requires none { (replies.old.items ≡ []) × (vec_len replies.old ≡ 0) }
     requires room { waiting_for (freed (ticket.now.attempt - 1) (entry_of entries.old ticket.now.client)) entries.old + 1 ≤ vec_capacity replies.old }
     requires caused { is_caused problem entries.old ≡ true }
+    requires new { reply_to_known node ticket.now (entry_of entries.old ticket.now.client) ≡ None }
+    requires attempts { AllByRecursion IsAboveFloor entries.old }
+    requires indexed { Indexes index.old entries.old }
     ensures entries { entries.new ≡ (if is_ok result then (takes_up node problem entries.old ticket.now).entries else entries.old) }
     ensures replies { OnOk result (replies.new.items ≡ (takes_up node problem entries.old ticket.now).replies) }
     ensures told { OnOk result ((b : Bool) → note_for ticket.now.mode (is_admitted problem entries.old ticket.now) ≡ Some b → (after : _) × notes policy.old b after × (policy.new ≡ (policy.old.0, after))) }
     ensures untold { OnOk result (note_for ticket.now.mode (is_admitted problem entries.old ticket.now) ≡ None → policy.new ≡ policy.old) }
     ensures refused { OnErr result (policy.new ≡ policy.old) }
+    ensures indexed { Indexes index.new entries.new }
 {
     let last = ticket.attempt.get() - 1;
     let freed = freed(entries, ticket.client, last);
-    end(entries, ticket.client, last)?;
+    make_way(entries, index, alloc, ticket)?;
     replies.push_reserved(Message::Busy(node, *ticket));
-    settle(policy, problem, node, entries, freed, replies);
-    let admitted = admits(policy, problem, entries, ticket.mode, &ticket.resource);
-    if admitted {
-        set_first(replies, Message::Grant(node, *ticket));
-    }
+    let waiting = waiting_beside(index, &freed, &ticket.resource);
+    settle(
+        policy, problem, node, entries, index, freed, waiting, replies,
+    );
+    let admitted = admits(policy, problem, index, ticket.mode, &ticket.resource);
+    answer(replies, node, ticket, admitted);
     note(policy, ticket.mode, admitted);
-    put_last(entries, new_entry(ticket, admitted));
+    put_last(entries, index, new_entry(ticket, admitted));
     Ok(())
 }
 
@@ -221,18 +292,23 @@ fn request(
     problem: Problem,
     node: NodeId,
     entries: &mut Entries,
+    index: &mut ResourceIndex,
+    alloc: Global,
     ticket: &Ticket,
     replies: &mut Vec<Message>,
 ) -> Result<bool, AllocError>
     requires none { (replies.old.items ≡ []) × (vec_len replies.old ≡ 0) }
     requires room { waiting_for (freed (ticket.now.attempt - 1) (entry_of entries.old ticket.now.client)) entries.old + 1 ≤ vec_capacity replies.old }
     requires caused { is_caused problem entries.old ≡ true }
+    requires attempts { AllByRecursion IsAboveFloor entries.old }
+    requires indexed { Indexes index.old entries.old }
     ensures entries { entries.new ≡ (if is_ok result then (decision problem entries.old (Message.Request node ticket.now)).entries else entries.old) }
     ensures replies { OnOk result (replies.new.items ≡ (decision problem entries.old (Message.Request node ticket.now)).replies) }
     ensures changed { IfOk result (λ b. IsTrue b ↔ Changes problem entries.old (Message.Request node ticket.now)) }
     ensures told { OnOk result ((b : Bool) → note_of problem entries.old (Message.Request node ticket.now) ≡ Some b → (after : _) × notes policy.old b after × (policy.new ≡ (policy.old.0, after))) }
     ensures untold { OnOk result (note_of problem entries.old (Message.Request node ticket.now) ≡ None → policy.new ≡ policy.old) }
     ensures refused { OnErr result (policy.new ≡ policy.old) }
+    ensures indexed { Indexes index.new entries.new }
 {
     match reply_to_known(node, ticket, entries.entry_of(ticket.client)) {
         Some(reply) => {
@@ -240,7 +316,9 @@ fn request(
             Ok(false)
         }
         None => {
-            take_up(policy, problem, node, entries, ticket, replies)?;
+            take_up(
+                policy, problem, node, entries, index, alloc, ticket, replies,
+            )?;
             Ok(true)
         }
     }
@@ -252,12 +330,16 @@ pub(crate) fn decide(
     policy: &mut (dyn Admission + Send),
     problem: Problem,
     entries: &mut Entries,
+    index: &mut ResourceIndex,
+    alloc: Global,
     message: &Message,
     replies: &mut Vec<Message>,
 ) -> Result<bool, AllocError>
     requires none { (replies.old.items ≡ []) × (vec_len replies.old ≡ 0) }
     requires room { waiting_for (freed_by entries.old message.now) entries.old + 1 ≤ vec_capacity replies.old }
     requires caused { is_caused problem entries.old ≡ true }
+    requires attempts { AllByRecursion IsAboveFloor entries.old }
+    requires indexed { Indexes index.old entries.old }
     ensures entries { entries.new ≡ (if is_ok result then (decision problem entries.old message.now).entries else entries.old) }
     ensures replies { OnOk result (replies.new.items ≡ (decision problem entries.old message.now).replies) }
     ensures changed { IfOk result (λ b. IsTrue b ↔ Changes problem entries.old message.now) }
@@ -265,13 +347,18 @@ pub(crate) fn decide(
     ensures told { OnOk result ((b : Bool) → note_of problem entries.old message.now ≡ Some b → (after : _) × notes policy.old b after × (policy.new ≡ (policy.old.0, after))) }
     ensures untold { OnOk result (note_of problem entries.old message.now ≡ None → policy.new ≡ policy.old) }
     ensures refused { OnErr result (policy.new ≡ policy.old) }
+    ensures indexed { Indexes index.new entries.new }
 {
     match message {
         Message::Request(node, ticket) => {
-            request(policy, problem, *node, entries, ticket, replies)
+            request(
+                policy, problem, *node, entries, index, alloc, ticket, replies,
+            )
         }
         Message::Release(node, client, attempt) => {
-            release(policy, problem, *node, entries, *client, *attempt, replies)
+            release(
+                policy, problem, *node, entries, index, *client, *attempt, replies,
+            )
         }
         Message::Grant(..)
         | Message::Busy(..)
@@ -312,10 +399,13 @@ fn is_message(message: &Message)
     }
 }
 
-/// Computes nothing: each ticket of a record that waits has a cause.
+/// Computes nothing: each ticket of a record that waits has a cause, and its attempt is one above its
+/// client's floor.
 pub(crate) fn is_caused(station: &NodeRecord)
     requires record { IsNodeRecord station.now }
     ensures caused { is_caused station.now.policy station.now.entries ≡ true }
+    ensures attempts { AllByRecursion IsAboveFloor station.now.entries }
+    ensures few { length station.now.entries ≤ MAX_CLIENTS }
 {
     let _policy = station.policy;
     judgement_is_exact();

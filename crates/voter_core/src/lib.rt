@@ -8,8 +8,10 @@
 //! The crate promises that `take` is the exact decision of `lock_model`, so that it is one that a node
 //! may take, and that every station is lawful and caused: no writer that holds is beside another
 //! holder, and who waits has a cause (Courtois, Heymans and Parnas 1971, for the node's own vote). Its
-//! only refusal is want of memory, and then nothing has changed. It stands on `lock_messages`,
-//! `lock_model`, `stable_record` and `admission_policy`, by their public contracts alone.
+//! only refusal is want of memory, and then nothing has changed. Beside its entries a core keeps their
+//! index by resource, which is always theirs: a decision costs what the resource of its message costs,
+//! and not what all entries cost. The crate stands on `lock_messages`, `lock_model`, `stable_record`
+//! and `admission_policy`, by their public contracts alone.
 #![tactic(auto)]
 
 mod asking;

@@ -1,52 +1,56 @@
-// Settling, by one pass over the entries.
+// Settling, by going over the clients that wait for the freed resource.
 
-ghost use Rattle.std.specs.Prelude.{◌≡◌, ◌≤◌, ◌<◌, ◌+◌, ◌++◌, Some, true, slice_get, slice_set};
+ghost use Rattle.std.specs.Prelude.{◌≡◌, ◌≤◌, ◌<◌, ◌+◌, ◌++◌, ℕ, List, Option, Some, true, is_some};
 ghost use Rattle.std.specs.Vec.{vec_len, vec_capacity};
 ghost use Rattle.lock_messages.specs.declared.messages.Message.{Message};
 ghost use Rattle.lock_model.specs.declared.entries.Entry.{Entry};
-ghost use Rattle.lock_model.specs.ExactStations.{if_live, admits, settled_entry, settled};
-ghost use Rattle.lock_model.specs.ExactDecisions.{told, grants};
-ghost use Rattle.stable_record.specs.Lines.{is_for, waits_for, count_live, one_if};
+ghost use Rattle.lock_model.specs.ExactStations.{EachOnce, entry_of, admits, promoted, settled};
+ghost use Rattle.lock_model.specs.ExactDecisions.{grants, live_in};
+ghost use Rattle.stable_record.specs.Lines.{waits_for, count_live};
+ghost use Rattle.stable_record.specs.EntryLists.{replaced};
+ghost use Rattle.stable_record.specs.Indexing.{IndexesWith, IsEntryAmong, with_holding};
+ghost use Rattle.std.specs.Option.{option_map};
 ghost use Rattle.voter_core.specs.Voters.{admitted_now};
 ghost use Rattle.voter_core.specs.Freed.{OthersStay, waiting_for};
+ghost use Rattle.voter_core.specs.Queues.{settle_one, told_one};
 
 use crate::asking::admits_reader;
 use admission_policy::Admission;
 use lock_messages::{ClientId, Message, Mode, NodeId, ResourceName, Ticket};
 use lock_model::{Entry, Live, Problem, Status};
-use stable_record::Entries;
+use stable_record::{Entries, ResourceIndex};
 
-/// Whether a ticket in this mode for this resource is admitted among the entries.
+/// Whether a ticket in this mode for this resource is admitted among the entries that are indexed.
 pub(crate) fn admits(
     policy: &(dyn Admission + Send),
     problem: Problem,
-    entries: &Entries,
+    index: &ResourceIndex,
     mode: Mode,
     resource: &ResourceName,
 ) -> bool
-    ensures { result ≡ admits problem mode resource.now entries.now }
+    ensures { (a : Option (ℕ × List ℕ)) (entries : List Entry) → IndexesWith a index.now entries → result ≡ admits problem mode resource.now entries }
 {
     match mode {
-        Mode::Write => !entries.has_holder(resource),
+        Mode::Write => !index.has_holder(resource),
         Mode::Read => {
-            let writer_holds = entries.has_writing_holder(resource);
-            let writer_waits = entries.has_waiting_writer(resource);
+            let writer_holds = index.has_writing_holder(resource);
+            let writer_waits = index.has_waiting_writer(resource);
             admits_reader(policy, problem, writer_holds, writer_waits)
         }
     }
 }
 
-/// The ticket, holding, where it waits and is admitted among the entries.
+/// The ticket, holding, where it waits and is admitted among the entries that are indexed.
 fn admitted_now(
     policy: &(dyn Admission + Send),
     problem: Problem,
-    entries: &Entries,
+    index: &ResourceIndex,
     live: Option<Live>,
 ) -> Option<Live>
-    ensures { result ≡ admitted_now problem entries.now live }
+    ensures { (a : Option (ℕ × List ℕ)) (entries : List Entry) → IndexesWith a index.now entries → result ≡ admitted_now problem entries live }
 {
     let live = live?;
-    if live.waits() && admits(policy, problem, entries, live.mode, &live.resource) {
+    if live.waits() && admits(policy, problem, index, live.mode, &live.resource) {
         let status = Status::Holding;
         Some(Live { status, ..live })
     } else {
@@ -67,92 +71,106 @@ fn grant(node: NodeId, client: ClientId, live: &Live) -> Message
     Message::Grant(node, ticket)
 }
 
-/// Whether the ticket is for the resource.
-fn is_for(live: &Option<Live>, resource: &ResourceName) -> bool
-    ensures { result ≡ if_live (is_for resource.now) live.now }
+/// A client's ticket becomes this one, which holds, in the entries and in their index.
+fn hold(entries: &mut Entries, index: &mut ResourceIndex, entry: &Entry, live: Live)
+    requires among { IsEntryAmong entry.now entries.old }
+    requires live { option_map promoted entry.now.live ≡ Some live }
+    ensures entries { entries.new ≡ replaced (with_holding entry.now) entries.old }
+    ensures indexed { (a : Option (ℕ × List ℕ)) → IndexesWith a index.old entries.old → IndexesWith a index.new entries.new }
 {
-    match live {
-        None => false,
-        Some(live) => live.resource == *resource,
-    }
-}
-
-/// Settles the entry at this place, and tells a Grant where it became a holder. A ticket for another
-/// resource stays.
-fn settle_at(
-    policy: &(dyn Admission + Send),
-    problem: Problem,
-    node: NodeId,
-    entries: &mut Entries,
-    place: usize,
-    resource: &ResourceName,
-    replies: &mut Vec<Message>,
-)
-    requires room { (e : Entry) → slice_get entries.old place ≡ Some e → if_live (waits_for resource.now) e.live ≡ true → vec_len replies.old < vec_capacity replies.old }
-    requires others { OthersStay problem (Some resource.now) entries.old }
-    ensures entries { (e : Entry) → slice_get entries.old place ≡ Some e → entries.new ≡ slice_set entries.old place (settled_entry problem entries.old e) }
-    ensures replies { (e : Entry) → slice_get entries.old place ≡ Some e → replies.new.items ≡ replies.old.items ++ told node e (settled_entry problem entries.old e) }
-    ensures room { (e : Entry) → slice_get entries.old place ≡ Some e → (vec_len replies.new ≤ vec_len replies.old + one_if (if_live (waits_for resource.now) e.live)) × (vec_capacity replies.new ≡ vec_capacity replies.old) }
-{
-    let Some(
-        Entry {
-            client,
-            floor,
-            live,
-        },
-    ) = entries.get(place)
-    else {
-        return;
-    };
-    if !is_for(&live, resource) {
-        return;
-    }
-    let Some(live) = admitted_now(policy, problem, entries, live) else {
-        return;
-    };
-    replies.push_reserved(grant(node, client, &live));
+    index.promote(entry);
     entries.replace(Entry {
-        client,
-        floor,
+        client: entry.client,
+        floor: entry.floor,
         live: Some(live),
     });
 }
 
-/// Settles the entries of a resource, and adds the Grants of those that became holders.
+/// It is a client's turn: where its ticket is admitted it becomes a holder and is told a Grant. It
+/// answers whether it did.
+fn settle_client(
+    policy: &(dyn Admission + Send),
+    problem: Problem,
+    node: NodeId,
+    entries: &mut Entries,
+    index: &mut ResourceIndex,
+    client: ClientId,
+    replies: &mut Vec<Message>,
+) -> bool
+    requires room { vec_len replies.old < vec_capacity replies.old }
+    requires indexed { (a : Option (ℕ × List ℕ)) × IndexesWith a index.old entries.old }
+    ensures entries { entries.new ≡ settle_one problem client entries.old }
+    ensures replies { replies.new.items ≡ replies.old.items ++ told_one problem node client entries.old }
+    ensures room { (vec_len replies.new ≤ vec_len replies.old + 1) × (vec_capacity replies.new ≡ vec_capacity replies.old) }
+    ensures answer { result ≡ is_some (admitted_now problem entries.old (live_in (entry_of entries.old client))) }
+    ensures indexed { (a : Option (ℕ × List ℕ)) → IndexesWith a index.old entries.old → IndexesWith a index.new entries.new }
+    ensures once { EachOnce entries.old }
+{
+    let _len = entries.len();
+    let Some(entry) = entries.entry_of(client) else {
+        return false;
+    };
+    let Some(live) = admitted_now(policy, problem, index, entry.live) else {
+        return false;
+    };
+    replies.push_reserved(grant(node, client, &live));
+    hold(entries, index, &entry, live);
+    true
+}
+
+/// Settles the entries of a resource for which so many wait, and adds the Grants of those that became
+/// holders. A client that becomes a holder leaves its place to the next.
 fn settle_resource(
     policy: &(dyn Admission + Send),
     problem: Problem,
     node: NodeId,
     entries: &mut Entries,
+    index: &mut ResourceIndex,
     resource: &ResourceName,
+    waiting: usize,
     replies: &mut Vec<Message>,
 )
-    requires room { vec_len replies.old + count_live (waits_for resource.now) entries.old ≤ vec_capacity replies.old }
+    requires room { vec_len replies.old + waiting ≤ vec_capacity replies.old }
+    requires waiting { waiting ≡ count_live (waits_for resource.now) entries.old }
     requires others { OthersStay problem (Some resource.now) entries.old }
+    requires indexed { (a : Option (ℕ × List ℕ)) × IndexesWith a index.old entries.old }
     ensures entries { entries.new ≡ settled problem entries.old }
     ensures replies { replies.new.items ≡ replies.old.items ++ grants node entries.old entries.new }
+    ensures indexed { (a : Option (ℕ × List ℕ)) → IndexesWith a index.old entries.old → IndexesWith a index.new entries.new }
 {
-    for place in 0..entries.len() {
-        settle_at(policy, problem, node, entries, place, resource, replies);
+    let _len = entries.len();
+    let mut place = 0usize;
+    for turn in 0..waiting {
+        let client = index.waiting_at(resource, place).unwrap();
+        if !settle_client(policy, problem, node, entries, index, client, replies) {
+            place += 1;
+        }
     }
 }
 
-/// Settles the entries where a ticket for this resource ended, and adds the Grants of those that
-/// became holders. Who waits for another resource has a cause still.
+/// Settles the entries where a ticket for this resource ended, for which so many wait, and adds the
+/// Grants of those that became holders. Who waits for another resource has a cause still.
 pub(crate) fn settle(
     policy: &(dyn Admission + Send),
     problem: Problem,
     node: NodeId,
     entries: &mut Entries,
+    index: &mut ResourceIndex,
     freed: Option<ResourceName>,
+    waiting: usize,
     replies: &mut Vec<Message>,
 )
-    requires room { vec_len replies.old + waiting_for freed entries.old ≤ vec_capacity replies.old }
+    requires room { vec_len replies.old + waiting ≤ vec_capacity replies.old }
+    requires waiting { waiting ≡ waiting_for freed entries.old }
     requires others { OthersStay problem freed entries.old }
+    requires indexed { (a : Option (ℕ × List ℕ)) × IndexesWith a index.old entries.old }
     ensures entries { entries.new ≡ settled problem entries.old }
     ensures replies { replies.new.items ≡ replies.old.items ++ grants node entries.old entries.new }
+    ensures indexed { (a : Option (ℕ × List ℕ)) → IndexesWith a index.old entries.old → IndexesWith a index.new entries.new }
 {
     if let Some(resource) = freed {
-        settle_resource(policy, problem, node, entries, &resource, replies);
+        settle_resource(
+            policy, problem, node, entries, index, &resource, waiting, replies,
+        );
     }
 }

@@ -4,6 +4,7 @@ ghost use Rattle.std.specs.Prelude.{◌≡◌, ◌≢◌, ◌↔◌, if◌then�
 ghost use Rattle.lock_messages.specs.Messages.{is_for_node};
 ghost use Rattle.lock_model.specs.ExactDecisions.{Changes, changes};
 ghost use Rattle.stable_record.specs.declared.node_records.NodeRecord.{NodeRecord};
+ghost use Rattle.stable_record.specs.Lines.{Indexes};
 ghost use Rattle.stable_record.specs.Records.{IsNodeRecord, node_record_of};
 ghost use Rattle.voter_core.specs.Voters.{phase_in, replies_in, record_of, risen, taken, Allows, kept, spoken, IsRecordOf, IsRefusedFor};
 
@@ -14,7 +15,7 @@ use crate::rising::read_record;
 use crate::{Phase, VoterFault};
 use admission_policy::{Admission, problem_of};
 use lock_messages::{Message, NodeId};
-use stable_record::{NodeRecord, node_bytes};
+use stable_record::{IndexedRecord, NodeRecord, ResourceIndex, node_bytes};
 use std::alloc::Global;
 use std::marker::Model;
 use std::mem;
@@ -29,20 +30,20 @@ pub struct NodeCore {
     alloc: Global,
     id: NodeId,
     station: NodeRecord,
+    index: ResourceIndex,
     policy: Box<dyn Admission + Send>,
     about: Phase,
     told: Vec<Message>,
 }
 
 impl Model for NodeCore {
-    ghost use Rattle.stable_record.specs.Records.{IsNodeRecord};
-    ghost use Rattle.voter_core.specs.Voters.{Voter, state_of};
+    ghost use Rattle.voter_core.specs.Voters.{Voter, IsIndexed, state_of};
 
     ghost Value = { Voter };
 
     ghost view = { λ c. record { node = c.id; problem = c.station.policy; entries = c.station.entries; state = state_of c.about c.told.items } };
 
-    ghost invariant = { λ c. IsNodeRecord c.station };
+    ghost invariant = { λ c. IsIndexed c.station c.index };
 }
 
 impl NodeCore {
@@ -68,13 +69,16 @@ impl NodeCore {
             Ok(station) => station,
             Err(fault) => return Err((policy, fault)),
         };
+        let Ok(station) = IndexedRecord::of(alloc, station) else {
+            return Err((policy, VoterFault::Memory));
+        };
         match NodeCore::rise_with(alloc, node, station, policy) {
             Ok(core) => Ok(core),
             Err((policy, _)) => Err((policy, VoterFault::OtherProblem)),
         }
     }
 
-    /// The node with this number, at rest, with this station. It takes no memory.
+    /// The node with this number, at rest, with this station and its index. It takes no memory.
     ///
     /// The caller owes that the station is a record that can be kept and read again: one that
     /// `read_node` answered, that of a core (`record`), or a copy of either; one without entries is.
@@ -83,25 +87,26 @@ impl NodeCore {
     pub fn rise_with(
         alloc: Global,
         node: NodeId,
-        station: NodeRecord,
+        station: IndexedRecord,
         policy: Box<dyn Admission + Send>,
-    ) -> Result<NodeCore, (Box<dyn Admission + Send>, NodeRecord)>
+    ) -> Result<NodeCore, (Box<dyn Admission + Send>, IndexedRecord)>
         requires { IsNodeRecord station }
         ensures risen { IfOk result (λ core. (station.policy ≡ problem_of policy) × (core ≡ risen node station)) }
         ensures refused { IfErr result (λ back. (back.0 ≡ policy) × (back.1 ≡ station) × (station.policy ≢ problem_of policy)) }
     {
-        if same_problem(station.policy, problem_of(&*policy)) {
-            Ok(NodeCore {
-                alloc,
-                id: node,
-                station,
-                policy,
-                about: Phase::Idle,
-                told: Vec::new(alloc),
-            })
-        } else {
-            Err((policy, station))
+        if !same_problem(station.record().policy, problem_of(&*policy)) {
+            return Err((policy, station));
         }
+        let (station, index) = station.into_parts();
+        Ok(NodeCore {
+            alloc,
+            id: node,
+            station,
+            index,
+            policy,
+            about: Phase::Idle,
+            told: Vec::new(alloc),
+        })
     }
 
     /// Puts the node back at rest with the station that its record has, as a restart does; the policy
@@ -119,6 +124,9 @@ impl NodeCore {
             Ok(station) => station,
             Err(fault) => return Err(fault),
         };
+        let Ok(station) = IndexedRecord::of(self.alloc, station) else {
+            return Err(VoterFault::Memory);
+        };
         if self.restart_with(station) {
             Ok(())
         } else {
@@ -131,15 +139,17 @@ impl NodeCore {
     ///
     /// The caller owes that the station is a record, as in `rise_with`. A station of the other
     /// problem changes nothing.
-    pub fn restart_with(&mut self, station: NodeRecord) -> bool
+    pub fn restart_with(&mut self, station: IndexedRecord) -> bool
         requires { IsNodeRecord station }
         ensures answer { IsTrue result ↔ (station.policy ≡ self.old.problem) }
         ensures risen { self.new ≡ (if result then risen self.old.node station else self.old) }
     {
-        if !same_problem(station.policy, self.station.policy) {
+        if !same_problem(station.record().policy, self.station.policy) {
             return false;
         }
+        let (station, index) = station.into_parts();
         self.station = station;
+        self.index = index;
         self.about = Phase::Idle;
         self.told = Vec::new(self.alloc);
         true
@@ -152,6 +162,13 @@ impl NodeCore {
         ensures good { IsNodeRecord result.now }
     {
         &self.station
+    }
+
+    /// The tickets of the node's station by resource; from `take` on of the decided one.
+    pub fn index(&self) -> &ResourceIndex
+        ensures { Indexes result.now self.now.entries }
+    {
+        &self.index
     }
 
     /// The node's number.
@@ -178,8 +195,9 @@ impl NodeCore {
     /// Parnas 1971), for the node's own vote; attempts, floors and the order of entries are our own.
     /// The policy is told once of each new reader's ticket, and of nothing else. The only error is
     /// want of memory (503), and then nothing has changed. Where a ticket ends, those that wait for its
-    /// resource are asked one after the other, each by a scan of the entries; no others are, and
-    /// the replies take room for these alone.
+    /// resource are asked one after the other, each by look-ups; no others are, and the replies take
+    /// room for these alone. Only a new ticket's entry costs more, where entries stand behind it: they
+    /// move up by one place each.
     pub fn take(&mut self, message: &Message) -> Result<bool, VoterFault>
         requires idle { phase_in self.old.state ≡ Phase.Idle }
         requires for_node { is_for_node message.now self.old.node ≡ true }
@@ -194,12 +212,22 @@ impl NodeCore {
         stays_a_record(&self.station, self.id, message);
         is_caused(&self.station);
         let freed = freed_by(&self.station.entries, message);
-        let Ok(mut replies) = room_for(self.alloc, &self.station.entries, freed) else {
+        let Ok(mut replies) = room_for(self.alloc, &self.index, freed) else {
             return Err(VoterFault::Memory);
         };
         let problem = self.station.policy;
         let entries = &mut self.station.entries;
-        let Ok(changed) = decide(&mut *self.policy, problem, entries, message, &mut replies) else {
+        let index = &mut self.index;
+        let policy = &mut *self.policy;
+        let Ok(changed) = decide(
+            policy,
+            problem,
+            entries,
+            index,
+            self.alloc,
+            message,
+            &mut replies,
+        ) else {
             return Err(VoterFault::Memory);
         };
         self.told = replies;

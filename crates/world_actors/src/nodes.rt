@@ -16,8 +16,8 @@ ghost use Rattle.world_actors.specs.Nodes.{station_in};
 use admission_policy::{Admission, problem_of};
 use lock_messages::{Message, NodeId};
 use lock_model::{Problem, laws};
-use stable_record::{Entries, NodeRecord};
-use std::alloc::Global;
+use stable_record::{Entries, IndexedRecord, NodeRecord};
+use std::alloc::{AllocError, Global};
 use std::marker::Model;
 use voter_core::{NodeCore, Phase};
 use world_model::{Age, StepFault};
@@ -27,6 +27,7 @@ use world_model::{Age, StepFault};
 /// Contracts see its number and its part of the world. They do not see the policy, which stays for good.
 #[derive(Drop)]
 pub struct WorldNode {
+    alloc: Global,
     core: NodeCore,
     kept: NodeRecord,
     tried: Option<NodeRecord>,
@@ -55,6 +56,25 @@ fn empty_record(alloc: Global, problem: Problem) -> NodeRecord
     }
 }
 
+/// The same, with its index.
+fn empty_indexed(alloc: Global, problem: Problem) -> IndexedRecord
+    ensures empty { station_in result ≡ empty_station problem }
+    ensures good { IsNodeRecord result }
+{
+    IndexedRecord::empty(alloc, problem)
+}
+
+/// A copy of a record, with its index. The only error is want of memory.
+fn indexed_copy(alloc: Global, station: &NodeRecord) -> Result<IndexedRecord, AllocError>
+    ensures { IfOk result (λ copy. copy ≡ station.now) }
+{
+    let copy = station.clone()?;
+    match IndexedRecord::of(alloc, copy) {
+        Ok(copy) => Ok(copy),
+        Err(_) => Err(AllocError),
+    }
+}
+
 impl WorldNode {
     /// The node with this number, down, with this record kept and nothing tried. It takes no memory.
     ///
@@ -72,9 +92,10 @@ impl WorldNode {
         ensures down { IfOk result (λ node. node.part ≡ down_node (station_in station)) }
         ensures refused { IfErr result (λ back. (back.0 ≡ policy) × (back.1 ≡ station) × (station.policy ≢ problem_of policy)) }
     {
-        let empty = empty_record(alloc, station.policy);
+        let empty = empty_indexed(alloc, station.policy);
         match NodeCore::rise_with(alloc, id, empty, policy) {
             Ok(core) => Ok(WorldNode {
+                alloc,
                 core,
                 kept: station,
                 tried: None,
@@ -92,10 +113,11 @@ impl WorldNode {
         ensures down { result.part ≡ down_node (empty_station (problem_of policy)) }
     {
         let problem = problem_of(&*policy);
-        let Ok(core) = NodeCore::rise_with(alloc, id, empty_record(alloc, problem), policy) else {
+        let Ok(core) = NodeCore::rise_with(alloc, id, empty_indexed(alloc, problem), policy) else {
             unreachable!();
         };
         WorldNode {
+            alloc,
             core,
             kept: empty_record(alloc, problem),
             tried: None,
@@ -272,7 +294,7 @@ impl WorldNode {
         ensures unchanged { OnErr result (self.new ≡ self.old) }
         ensures number { self.new.number ≡ self.old.number }
     {
-        let Ok(copy) = self.kept.clone() else {
+        let Ok(copy) = indexed_copy(self.alloc, &self.kept) else {
             return Err(StepFault::Memory);
         };
         self.core.restart_with(copy);
@@ -292,7 +314,7 @@ impl WorldNode {
         let Some(found) = &self.tried else {
             return Err(StepFault::NothingTried);
         };
-        let Ok(copy) = found.clone() else {
+        let Ok(copy) = indexed_copy(self.alloc, found) else {
             return Err(StepFault::Memory);
         };
         if let Some(next) = self.tried.take() {
@@ -304,7 +326,7 @@ impl WorldNode {
     }
 
     /// The node rises with the record that it finds: the kept one or, of the age `New`, the one that
-    /// it was trying to keep. It copies that record once.
+    /// it was trying to keep. It copies that record once, and indexes the copy.
     ///
     /// Refused while it is up (603), for `New` with nothing tried (611), and then for want of memory
     /// (613).

@@ -1,6 +1,6 @@
 use Rattle.std.proofs.Common.{◌≡◌, ℕ, ◌+◌, ◌*◌, ◌/◌, ◌%◌, Bool, true, false, cond, nat_lt, refl, sym, ap, ◌∙◌, arith}
 use Rattle.std.proofs.Math.Nat.{mul-add-mod_self_left, div-add-mod}
-use Rattle.stable_record.specs.Faulty.{Faulty, most_calls}
+use Rattle.stable_record.specs.Faulty.{most_calls}
 use Rattle.stable_record.proofs.laws.calls_go_on.Goals as goal
 
 rest-more : (n k : ℕ) → (n % k + 1) % k ≡ (n + 1) % k

@@ -1,4 +1,4 @@
-use Rattle.std.proofs.Common.{◌≡◌, ap, ◌∙◌, arith}
+use Rattle.std.proofs.Common.{◌≡◌, None, ap, ◌∙◌, arith}
 use Rattle.lock_model.specs.ExactStations.{entry_of, settled}
 use Rattle.lock_model.specs.ExactDecisions.{ended, grants}
 use Rattle.voter_core.specs.Voters.{ends_something}
@@ -35,4 +35,20 @@ settle-requires-clause-room g c =
     let es = c.args.entries.now in
     let w = waiting-ended c.args.client c.args.attempt es c.freed-freed.result c.end.new.entries c.in_ok-ended.ensures.once
     (c.freed-freed.ensures.freed ∙ ap (λ n. freed (n) (entry_of es c.args.client)) c.get-last.ensures.number) (c.in_ok-ended.ensures.ended ∙ ap (λ n. ended c.args.client (n) es) c.get-last.ensures.number) in
-    omega (arith, w, c.push_reserved.ensures.len, c.push_reserved.ensures.capacity, c.requires.room, c.requires.none.1)
+    let same = c.waiting_for-waiting.ensures c.end.new.entries (c.in_ok-ended.ensures.indexed None c.requires.indexed) in
+    omega (arith, w, same, c.push_reserved.ensures.len, c.push_reserved.ensures.capacity, c.requires.room, c.requires.none.1)
+
+pub settle-requires-clause-waiting : goal.settle-requires-clause-waiting
+settle-requires-clause-waiting g c = c.waiting_for-waiting.ensures c.end.new.entries (c.in_ok-ended.ensures.indexed None c.requires.indexed)
+
+pub settle-requires-clause-indexed : goal.settle-requires-clause-indexed
+settle-requires-clause-indexed g c = (None, c.in_ok-ended.ensures.indexed None c.requires.indexed)
+
+pub returns-then-ended-clause-indexed : goal.returns-then-ended-clause-indexed
+returns-then-ended-clause-indexed g c = c.settle.ensures.indexed None (c.in_ok-ended.ensures.indexed None c.requires.indexed)
+
+pub returns-else-ended-clause-indexed : goal.returns-else-ended-clause-indexed
+returns-else-ended-clause-indexed g c = c.settle.ensures.indexed None (c.in_ok-ended.ensures.indexed None c.requires.indexed)
+
+pub returns-in_err-ended-clause-indexed : goal.returns-in_err-ended-clause-indexed
+returns-in_err-ended-clause-indexed g c = c.end.ensures.indexed None c.requires.indexed

@@ -15,3 +15,6 @@ pub returns-in_ok-take_up-in-None-clause-untold : goal.returns-in_ok-take_up-in-
 returns-in_ok-take_up-in-None-clause-untold g c = λ h.
     c.in_ok-take_up-in-None.ensures.untold
     (sym (ap (λ o. note_unless o c.args.problem c.args.entries.now c.args.ticket.now) (ap (reply_to_known c.args.node c.args.ticket.now) (sym c.entry_of.ensures.found) ∙ sym c.in-None.ensures)) ∙ h)
+
+pub take_up-requires-clause-new : goal.take_up-requires-clause-new
+take_up-requires-clause-new g c = ap (reply_to_known c.args.node c.args.ticket.now) (sym c.entry_of.ensures.found) ∙ sym c.in-None.ensures
