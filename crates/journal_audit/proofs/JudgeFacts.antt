@@ -1,5 +1,5 @@
 -- Judging line after line.
-use Rattle.std.proofs.Common.{◌≡◌, ◌≢◌, inl, inr, ℕ, ◌+◌, ◌<◌, ◌≤◌, true, false, List, [], ◌∷◌, ◌++◌, length, Option, Some, None, Result, Ok, Err, IfOk, IfErr, refl, sym, ap, subst, ◌∙◌, arith, append_assoc}
+use Rattle.std.proofs.Common.{◌≡◌, ◌≢◌, inl, inr, ℕ, ◌+◌, ◌<◌, ◌≤◌, Bool, true, false, List, [], ◌∷◌, ◌++◌, length, Option, Some, None, Result, Ok, Err, IfOk, IfErr, refl, sym, ap, subst, ◌∙◌, arith, append_assoc}
 use Rattle.std.proofs.lemmas.List.{append-nil, length-append}
 use Rattle.world_model.specs.declared.events.Event.{Event}
 use Rattle.world_model.specs.declared.events.Effect.{Effect}
@@ -14,19 +14,18 @@ use Rattle.history_check.specs.Events.{event_of}
 use Rattle.history_check.specs.Laws.{EventsAreSpelledOnce}
 use Rattle.line_streams.specs.declared.reading.End.{End}
 use Rattle.line_streams.specs.declared.reading.End.TheVariants.{LineFeed, Input, Limit}
-use Rattle.line_streams.specs.Streams.{KnownLeft, ReadsPiece}
+use Rattle.line_streams.specs.Streams.{is_last, ends_no_line, KnownLeft, ReadsPiece}
+use Rattle.line_streams.proofs.LineFacts.{no_line_left, next_line}
 use Rattle.journal_audit.specs.declared.faults.AuditFault.{AuditFault}
 use Rattle.journal_audit.specs.declared.faults.AuditFault.TheVariants as fault
-use Rattle.journal_audit.specs.declared.judging.Judged.{Judged}
-use Rattle.journal_audit.specs.declared.judging.Judged.TheVariants as judged
 use Rattle.journal_audit.specs.declared.verdicts.Cause.{Cause}
 use Rattle.journal_audit.specs.declared.verdicts.Cause.TheVariants as cause
 use Rattle.journal_audit.specs.declared.verdicts.TheConstants.{MAX_LINES}
 use Rattle.journal_audit.specs.declared.verdicts.Verdict.{Verdict}
 use Rattle.journal_audit.specs.declared.verdicts.Verdict.TheVariants.{Sound, Unsound}
-use Rattle.journal_audit.specs.Judging.{judged_piece, is_last, CutsShort, EndsIn, EndsLines}
+use Rattle.journal_audit.specs.Judging.{CutsShort, EndsIn, EndsLines}
 use Rattle.journal_audit.specs.Verdicts.{Leads, IsUnsound, Finds, FindsIn, text_lines}
-use Rattle.journal_audit.proofs.LineFacts.{nothing_left, bad_comes, good_comes}
+use Rattle.journal_audit.proofs.LineFacts.{line_comes, never_long}
 use Rattle.journal_audit.proofs.RunFacts.{leads_nowhere, leads_on}
 
 -- so many lines of the text were taken and lead from w to v, and these are left
@@ -42,9 +41,12 @@ pub begins : (w : ExactWorld) (left : Option (List ℕ)) → SoFar w left left w
 begins w None = tt
 begins w (Some xs) = ([], refl, refl, leads_nowhere w)
 
--- what a piece says is what a call answered of the same bytes
-pub judged_so : (end : End) (piece text : List ℕ) (r j : Judged) → text ≡ piece → r ≡ judged_piece end text → r ≡ j → judged_piece end piece ≡ j
-judged_so end piece text r j same is found = ap (judged_piece end) (sym same) ∙ sym is ∙ found
+-- what is said of a copy of bytes is said of them
+pub same_said : (piece text : List ℕ) (says : Result Event LineFault) → text ≡ piece → event_of text ≡ says → event_of piece ≡ says
+same_said piece text says same e = ap event_of (sym same) ∙ e
+
+pub same_line : (end : End) (piece text : List ℕ) (b : Bool) → text ≡ piece → ends_no_line end text ≡ b → ends_no_line end piece ≡ b
+same_line end piece text b same e = ap (ends_no_line end) (sym same) ∙ e
 
 -- an audit that was cut short says nothing
 short_in : (w : ExactWorld) (lines : List (List ℕ)) (e : AuditFault) → CutsShort e → FindsIn w lines (Err e)
@@ -74,10 +76,10 @@ all_taken w v lines rest taken h none few =
     let all : lines ≡ before = cut ∙ ap (λ ls. before ++ ls) none ∙ append-nil before in
     ((sym count ∙ ap length (sym all), (v, subst (λ ls. Leads w ls v) (sym all) leads)), few)
 
-pub is_over : (w v : ExactWorld) (text left next : Option (List ℕ)) (taken : ℕ) (piece : List ℕ) (end : End) → SoFar w text left v taken → taken ≤ MAX_LINES → ReadsPiece MAX_LINE_LEN left next piece end → judged_piece end piece ≡ judged.End → Finds w text (Ok (Sound taken))
+pub is_over : (w v : ExactWorld) (text left next : Option (List ℕ)) (taken : ℕ) (piece : List ℕ) (end : End) → SoFar w text left v taken → taken ≤ MAX_LINES → ReadsPiece MAX_LINE_LEN left next piece end → ends_no_line end piece ≡ true → Finds w text (Ok (Sound taken))
 is_over w v None left next taken piece end h few r j = tt
 is_over w v (Some xs) None next taken piece end h few r j = absurd h
-is_over w v (Some xs) (Some ys) next taken piece end h few r j = all_taken w v (text_lines xs) (text_lines ys) taken h (nothing_left MAX_LINE_LEN ys next piece end r j) few
+is_over w v (Some xs) (Some ys) next taken piece end h few r j = all_taken w v (text_lines xs) (text_lines ys) taken h (no_line_left MAX_LINE_LEN ys next piece end r j) few
 
 -- the next line doesn't go on
 pub no_further : (w v : ExactWorld) (lines rest : List (List ℕ)) (taken number : ℕ) (l : List ℕ) (more : List (List ℕ)) (c : Cause) → After w lines v taken rest → rest ≡ l ∷ more → number ≡ taken + 1 → taken < MAX_LINES → IsUnsound v l c → FindsIn w lines (Ok (Unsound number c))
@@ -86,11 +88,11 @@ no_further w v lines rest taken number l more c h next at few bad =
     ((before, l, more, v, cut ∙ ap (λ ls. before ++ ls) next, at ∙ ap (λ n. n + 1) (sym count), leads, bad), let e : number ≤ MAX_LINES = omega (arith, at, few) in e)
 
 pub is_bad : (w v : ExactWorld) (text left next : Option (List ℕ)) (taken number : ℕ) (piece : List ℕ) (end : End) (f : LineFault)
-    → SoFar w text left v taken → number ≡ taken + 1 → taken < MAX_LINES → ReadsPiece MAX_LINE_LEN left next piece end → judged_piece end piece ≡ judged.Bad f → Finds w text (Ok (Unsound number (cause.Line f)))
-is_bad w v None left next taken number piece end f h at few r j = tt
-is_bad w v (Some xs) None next taken number piece end f h at few r j = absurd h
-is_bad w v (Some xs) (Some ys) next taken number piece end f h at few r j =
-    let (l, more, e, b) = bad_comes ys next piece end f r j in
+    → SoFar w text left v taken → number ≡ taken + 1 → taken < MAX_LINES → ReadsPiece MAX_LINE_LEN left next piece end → ends_no_line end piece ≡ false → event_of piece ≡ Err f → Finds w text (Ok (Unsound number (cause.Line f)))
+is_bad w v None left next taken number piece end f h at few r j q = tt
+is_bad w v (Some xs) None next taken number piece end f h at few r j q = absurd h
+is_bad w v (Some xs) (Some ys) next taken number piece end f h at few r j q =
+    let (l, more, e, b, behind) = line_comes ys next piece end (Err f) r j q in
     no_further w v (text_lines xs) (text_lines ys) taken number l more (cause.Line f) h e at few b
 
 -- a refusal is one of the step, or want of memory
@@ -103,12 +105,12 @@ abbrev pub IsToldSo : ℕ → StepFault → Verdict → Type 0
 IsToldSo number f v = (v ≡ Unsound number (cause.Refused f)) × (f ≢ refusal.Memory)
 
 pub is_refused : (spelled : EventsAreSpelledOnce) (w v : ExactWorld) (text left next : Option (List ℕ)) (taken number : ℕ) (piece : List ℕ) (end : End) (x : Event) (f : StepFault) (result : Result Verdict AuditFault)
-    → SoFar w text left v taken → number ≡ taken + 1 → taken < MAX_LINES → ReadsPiece MAX_LINE_LEN left next piece end → judged_piece end piece ≡ judged.Says x → IsRefused x (step v x) f → IfOk result (IsToldSo number f) → IfErr result CutsShort → Finds w text result
-is_refused spelled w v text left next taken number piece end x f (Err e) h at few r j refused so short = cut_short w text e short
-is_refused spelled w v None left next taken number piece end x f (Ok q) h at few r j refused so short = tt
-is_refused spelled w v (Some xs) None next taken number piece end x f (Ok q) h at few r j refused so short = absurd h
-is_refused spelled w v (Some xs) (Some ys) next taken number piece end x f (Ok q) h at few r j refused so short =
-    let (l, more, e, k, b) = good_comes MAX_LINE_LEN ys next piece end x r j in
+    → SoFar w text left v taken → number ≡ taken + 1 → taken < MAX_LINES → ReadsPiece MAX_LINE_LEN left next piece end → ends_no_line end piece ≡ false → event_of piece ≡ Ok x → IsRefused x (step v x) f → IfOk result (IsToldSo number f) → IfErr result CutsShort → Finds w text result
+is_refused spelled w v text left next taken number piece end x f (Err e) h at few r j said refused so short = cut_short w text e short
+is_refused spelled w v None left next taken number piece end x f (Ok q) h at few r j said refused so short = tt
+is_refused spelled w v (Some xs) None next taken number piece end x f (Ok q) h at few r j said refused so short = absurd h
+is_refused spelled w v (Some xs) (Some ys) next taken number piece end x f (Ok q) h at few r j said refused so short =
+    let (l, more, e, k, b) = line_comes ys next piece end (Ok x) r j said in
     subst (λ (p : Verdict). FindsIn w (text_lines xs) (Ok p)) (sym so.0)
     (no_further w v (text_lines xs) (text_lines ys) taken number l more (cause.Refused f) h e at few (x, (spelled l x).0 k, refused_so x (step v x) f refused so.1))
 
@@ -125,25 +127,24 @@ one_taken spelled w v u lines rest taken l more x o h next k s =
     )
 
 pub goes_on : (spelled : EventsAreSpelledOnce) (w v u : ExactWorld) (text left next : Option (List ℕ)) (taken : ℕ) (piece : List ℕ) (end : End) (x : Event) (o : Effect)
-    → SoFar w text left v taken → ReadsPiece MAX_LINE_LEN left next piece end → judged_piece end piece ≡ judged.Says x → Does x (step v x) v (Ok o) u → is_last end ≡ false → SoFar w text next u (taken + 1)
-goes_on spelled w v u None left next taken piece end x o h r j s z = tt
-goes_on spelled w v u (Some xs) None next taken piece end x o h r j s z = absurd h
-goes_on spelled w v u (Some xs) (Some ys) None taken piece LineFeed x o h r j s z = absurd r
-goes_on spelled w v u (Some xs) (Some ys) (Some zs) taken piece LineFeed x o h r j s z =
-    let (l, more, e, k, b) = good_comes MAX_LINE_LEN ys (Some zs) piece LineFeed x r j in
+    → SoFar w text left v taken → ReadsPiece MAX_LINE_LEN left next piece end → ends_no_line end piece ≡ false → event_of piece ≡ Ok x → Does x (step v x) v (Ok o) u → is_last end ≡ false → SoFar w text next u (taken + 1)
+goes_on spelled w v u None left next taken piece end x o h r j said s z = tt
+goes_on spelled w v u (Some xs) None next taken piece end x o h r j said s z = absurd h
+goes_on spelled w v u (Some xs) (Some ys) None taken piece LineFeed x o h r j said s z = absurd r
+goes_on spelled w v u (Some xs) (Some ys) (Some zs) taken piece LineFeed x o h r j said s z =
+    let (l, more, e, k, b) = line_comes ys (Some zs) piece LineFeed (Ok x) r j said in
     subst (λ ls. After w (text_lines xs) u (taken + 1) ls) b (one_taken spelled w v u (text_lines xs) (text_lines ys) taken l more x o h e k s)
-goes_on spelled w v u (Some xs) (Some ys) next taken piece Input x o h r j s z = cc
-goes_on spelled w v u (Some xs) (Some ys) next taken piece Limit x o h r j s z =
-    let (l, more, e, k, b) = good_comes MAX_LINE_LEN ys next piece Limit x r j in absurd b
+goes_on spelled w v u (Some xs) (Some ys) next taken piece Input x o h r j said s z = cc
+goes_on spelled w v u (Some xs) (Some ys) next taken piece Limit x o h r j said s z = absurd (never_long ys next piece x r said)
 
 pub is_over_now : (spelled : EventsAreSpelledOnce) (w v u : ExactWorld) (text left next : Option (List ℕ)) (taken number : ℕ) (piece : List ℕ) (end : End) (x : Event) (o : Effect)
-    → SoFar w text left v taken → number ≡ taken + 1 → taken < MAX_LINES → ReadsPiece MAX_LINE_LEN left next piece end → judged_piece end piece ≡ judged.Says x → Does x (step v x) v (Ok o) u → is_last end ≡ true → Finds w text (Ok (Sound number))
-is_over_now spelled w v u None left next taken number piece end x o h at few r j s z = tt
-is_over_now spelled w v u (Some xs) None next taken number piece end x o h at few r j s z = absurd h
-is_over_now spelled w v u (Some xs) (Some ys) next taken number piece LineFeed x o h at few r j s z = let clash : false ≡ true = z in absurd (cc)
-is_over_now spelled w v u (Some xs) (Some ys) next taken number piece Limit x o h at few r j s z = let clash : false ≡ true = z in absurd (cc)
-is_over_now spelled w v u (Some xs) (Some ys) next taken number piece Input x o h at few r j s z =
-    let (l, more, e, k, b) = good_comes MAX_LINE_LEN ys next piece Input x r j in
+    → SoFar w text left v taken → number ≡ taken + 1 → taken < MAX_LINES → ReadsPiece MAX_LINE_LEN left next piece end → ends_no_line end piece ≡ false → event_of piece ≡ Ok x → Does x (step v x) v (Ok o) u → is_last end ≡ true → Finds w text (Ok (Sound number))
+is_over_now spelled w v u None left next taken number piece end x o h at few r j said s z = tt
+is_over_now spelled w v u (Some xs) None next taken number piece end x o h at few r j said s z = absurd h
+is_over_now spelled w v u (Some xs) (Some ys) next taken number piece LineFeed x o h at few r j said s z = let clash : false ≡ true = z in absurd (cc)
+is_over_now spelled w v u (Some xs) (Some ys) next taken number piece Limit x o h at few r j said s z = let clash : false ≡ true = z in absurd (cc)
+is_over_now spelled w v u (Some xs) (Some ys) next taken number piece Input x o h at few r j said s z =
+    let (l, more, e, k, b) = line_comes ys next piece Input (Ok x) r j said in
     let few_still : number ≤ MAX_LINES = omega (arith, at, few) in
     all_taken w u (text_lines xs) more number (subst (λ n. After w (text_lines xs) u n more) (sym at) (one_taken spelled w v u (text_lines xs) (text_lines ys) taken l more x o h e k s)) b few_still
 
@@ -174,14 +175,10 @@ cuts_end (Some ys) fault.Write h = absurd h
 cuts_end (Some ys) fault.Memory h = tt
 cuts_end (Some ys) fault.TooManyLines h = absurd h
 
-pub none_more : (left next : Option (List ℕ)) (piece : List ℕ) (end : End) → ReadsPiece MAX_LINE_LEN left next piece end → judged_piece end piece ≡ judged.End → EndsLines left (Ok (Sound MAX_LINES))
+pub none_more : (left next : Option (List ℕ)) (piece : List ℕ) (end : End) → ReadsPiece MAX_LINE_LEN left next piece end → ends_no_line end piece ≡ true → EndsLines left (Ok (Sound MAX_LINES))
 none_more None next piece end r j = tt
-none_more (Some ys) next piece end r j = (refl, nothing_left MAX_LINE_LEN ys next piece end r j)
+none_more (Some ys) next piece end r j = (refl, no_line_left MAX_LINE_LEN ys next piece end r j)
 
-pub one_bad_more : (left next : Option (List ℕ)) (piece : List ℕ) (end : End) (f : LineFault) → ReadsPiece MAX_LINE_LEN left next piece end → judged_piece end piece ≡ judged.Bad f → EndsLines left (Err fault.TooManyLines)
-one_bad_more None next piece end f r j = tt
-one_bad_more (Some ys) next piece end f r j = let (l, more, e, b) = bad_comes ys next piece end f r j in (l, more, e)
-
-pub one_good_more : (left next : Option (List ℕ)) (piece : List ℕ) (end : End) (x : Event) → ReadsPiece MAX_LINE_LEN left next piece end → judged_piece end piece ≡ judged.Says x → EndsLines left (Err fault.TooManyLines)
-one_good_more None next piece end x r j = tt
-one_good_more (Some ys) next piece end x r j = let (l, more, e, k, b) = good_comes MAX_LINE_LEN ys next piece end x r j in (l, more, e)
+pub one_more : (left next : Option (List ℕ)) (piece : List ℕ) (end : End) → ReadsPiece MAX_LINE_LEN left next piece end → ends_no_line end piece ≡ false → EndsLines left (Err fault.TooManyLines)
+one_more None next piece end r j = tt
+one_more (Some ys) next piece end r j = let (l, more, e, kept, behind) = next_line MAX_LINE_LEN ys next piece end r j in (l, more, e)

@@ -2,61 +2,18 @@
 
 ghost use Rattle.std.specs.Prelude.{◌≡◌, ◌≢◌, [], IfOk, IfErr};
 ghost use Rattle.history_check.specs.declared.words.TheConstants.{MAX_LINE_LEN};
-ghost use Rattle.history_check.specs.Events.{event_of};
 ghost use Rattle.line_streams.specs.Streams.{ReadsPiece};
-ghost use Rattle.journal_audit.specs.Judging.{CutsShort, EndsLines, is_last, judged_line, judged_piece};
+ghost use Rattle.journal_audit.specs.Judging.{CutsShort, EndsLines};
 ghost use Rattle.journal_audit.specs.Verdicts.{Finds};
 
 use crate::{AuditFault, Cause, MAX_LINES, Verdict};
 use history_check::laws::events_are_spelled_once;
-use history_check::{LineFault, MAX_LINE_LEN, read_event};
+use history_check::{MAX_LINE_LEN, read_event};
 use line_streams::{End, LineReader, StreamFault};
 use std::alloc::Global;
 use std::io::Read;
 use world_machine::World;
-use world_model::{Event, StepFault};
-
-/// What a piece of a journal says.
-#[derive(Clone, Copy, Debug, PartialEq, Eq)]
-pub enum Judged {
-    /// Nothing: it stands behind the last line.
-    End,
-    Says(Event),
-    Bad(LineFault),
-}
-
-/// What a line says.
-fn judged_line(line: &[u8]) -> Judged
-    ensures { result ≡ judged_line (event_of line.now) }
-{
-    match read_event(line) {
-        Ok(event) => Judged::Says(event),
-        Err(fault) => Judged::Bad(fault),
-    }
-}
-
-/// What a piece says, by how it ended.
-fn judged_piece(end: End, piece: &[u8]) -> Judged
-    ensures { result ≡ judged_piece end piece.now }
-{
-    match end {
-        End::LineFeed => judged_line(piece),
-        End::Input => {
-            if piece.is_empty() {
-                return Judged::End;
-            }
-            judged_line(piece)
-        }
-        End::Limit => Judged::Bad(LineFault::Words),
-    }
-}
-
-/// Whether the piece is the last one.
-fn is_last(end: End) -> bool
-    ensures { result ≡ is_last end }
-{
-    matches!(end, End::Input)
-}
+use world_model::StepFault;
 
 /// Reads a line.
 fn read_piece<R: Read>(source: &mut LineReader<R>, piece: &mut Vec<u8>) -> Result<End, AuditFault>
@@ -93,11 +50,10 @@ fn end_lines<R: Read>(
         Ok(end) => end,
         Err(fault) => return Err(fault),
     };
-    match judged_piece(end, piece.as_slice()) {
-        Judged::End => Ok(Verdict::Sound(MAX_LINES)),
-        Judged::Says(_) => Err(AuditFault::TooManyLines),
-        Judged::Bad(_) => Err(AuditFault::TooManyLines),
+    if end.ends_no_line(piece.as_slice()) {
+        return Ok(Verdict::Sound(MAX_LINES));
     }
+    Err(AuditFault::TooManyLines)
 }
 
 /// Takes the lines in the world, up to the end or to the first that is no event or is refused. A fault
@@ -120,15 +76,18 @@ pub fn judge_lines<R: Read>(
             Ok(end) => end,
             Err(fault) => return Err(fault),
         };
-        let event = match judged_piece(end, piece.as_slice()) {
-            Judged::End => return Ok(Verdict::Sound(taken)),
-            Judged::Bad(fault) => return Ok(Verdict::Unsound(taken + 1, Cause::Line(fault))),
-            Judged::Says(event) => event,
+        let line = piece.as_slice();
+        if end.ends_no_line(line) {
+            return Ok(Verdict::Sound(taken));
+        }
+        let event = match read_event(line) {
+            Ok(event) => event,
+            Err(fault) => return Ok(Verdict::Unsound(taken + 1, Cause::Line(fault))),
         };
         if let Err(fault) = world.step(&event) {
             return refused(taken + 1, fault);
         }
-        if is_last(end) {
+        if end.is_last() {
             return Ok(Verdict::Sound(taken + 1));
         }
     }

@@ -1,1 +1,2 @@
 pub mod StreamFacts
+pub mod LineFacts

@@ -1,5 +1,5 @@
 -- Reading a line, and writing a text, a part at a time.
-use Rattle.std.proofs.Common.{◌≡◌, ℕ, suc, ◌+◌, ◌-◌, ◌<◌, ◌≤◌, min, Bool, true, false, cond, List, [], ◌∷◌, ◌++◌, length, take, drop, Option, Some, None, IfSome, Ok, refl, sym, ap, subst, ◌∙◌, arith, append_assoc, length-append}
+use Rattle.std.proofs.Common.{◌≡◌, ℕ, suc, ◌+◌, ◌-◌, ◌<◌, ◌≤◌, min, Bool, true, false, cond, List, [], ◌∷◌, ◌++◌, length, take, drop, Option, Some, None, IfSome, Ok, refl, sym, ap, subst, ◌∙◌, arith, append_assoc}
 use Rattle.std.specs.List.{All, onto_first, slice_split, slice_range, copy_within, list_any}
 use Rattle.std.specs.Io.KnownBytes.{Consumes, Keeps, Appends, IsAtEnd}
 use Rattle.std.proofs.lemmas.List.{append-nil, take-append-drop, length-take, length-take-le, length-drop, drop-take, drop-drop, take_all, take_at}
@@ -22,7 +22,7 @@ choose_part : {X : Type 0} (b : Bool) (x : X) (parts : List (List X)) → (q : L
 choose_part true x parts = ([], parts, refl)
 choose_part false x parts = first_part x parts
 
-some_part : {X : Type 0} (p : X → Bool) (xs : List X) → (q : List X) × (qs : List (List X)) × (slice_split p xs ≡ q ∷ qs)
+pub some_part : {X : Type 0} (p : X → Bool) (xs : List X) → (q : List X) × (qs : List (List X)) × (slice_split p xs ≡ q ∷ qs)
 some_part p [] = ([], [], refl)
 some_part p (x ∷ xs) = choose_part (p x) x (slice_split p xs)
 
@@ -78,7 +78,7 @@ is_too_long limit None new line taken plain long = tt
 is_too_long limit (Some xs) None line taken plain long = absurd taken
 is_too_long limit (Some xs) (Some ys) line taken plain long =
     let (q, qs, e) = split_front is_line_feed line ys plain in
-    (line ++ q, qs, ap pieces taken ∙ e, simp length-append (omega arith))
+    (q, qs, ap pieces taken ∙ e, long)
 
 -- the bytes that are held
 

@@ -34,12 +34,24 @@ abbrev pub KnownLeft : Option (List ℕ) → (List ℕ → Type 0) → Type 0
 KnownLeft None P = ⊥
 KnownLeft (Some xs) P = P xs
 
+-- nothing follows a piece that ended so
+abbrev pub is_last : End → Bool
+is_last LineFeed = false
+is_last Input = true
+is_last Limit = false
+
+-- A piece that ended so is no line: it is empty, and stands behind the last line feed.
+abbrev pub ends_no_line : End → List ℕ → Bool
+ends_no_line LineFeed piece = false
+ends_no_line Input piece = length piece == 0
+ends_no_line Limit piece = false
+
 -- How a piece of xs was read, of which `piece` was kept: all of it, with the line feed behind it or up
--- to the end; or it is longer than the limit.
+-- to the end; or a beginning of it that is longer than the limit.
 abbrev pub EndsPiece : ℕ → List ℕ → Option (List ℕ) → List ℕ → End → Type 0
 EndsPiece limit xs new piece LineFeed = KnownLeft new (λ ys. pieces xs ≡ piece ∷ pieces ys)
 EndsPiece limit xs new piece Input = (pieces xs ≡ piece ∷ []) × KnownLeft new (λ ys. ys ≡ [])
-EndsPiece limit xs new piece Limit = (whole : List ℕ) × (more : List (List ℕ)) × (pieces xs ≡ whole ∷ more) × (limit < length whole)
+EndsPiece limit xs new piece Limit = (rest : List ℕ) × (more : List (List ℕ)) × (pieces xs ≡ (piece ++ rest) ∷ more) × (limit < length piece)
 
 -- the same, where the bytes are known
 abbrev pub ReadsPiece : ℕ → Option (List ℕ) → Option (List ℕ) → List ℕ → End → Type 0

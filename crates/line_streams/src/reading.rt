@@ -4,7 +4,7 @@ ghost use Rattle.std.specs.Prelude.{◌≡◌, ◌≢◌, ◌+◌, ◌≤◌, �
 ghost use Rattle.std.specs.List.{list_any};
 ghost use Rattle.std.specs.Io.{ReadsAtMost};
 ghost use Rattle.std.specs.Io.KnownBytes.{ReadConsumes};
-ghost use Rattle.line_streams.specs.Streams.{is_line_feed, FindsFront, Fetches, TakesHeld, ReadsPiece};
+ghost use Rattle.line_streams.specs.Streams.{is_line_feed, is_last, ends_no_line, FindsFront, Fetches, TakesHeld, ReadsPiece};
 
 use crate::StreamFault;
 use std::io::{ErrorKind, Read};
@@ -25,6 +25,27 @@ pub enum End {
     Input,
     /// Not yet: it is longer than the limit.
     Limit,
+}
+
+impl End {
+    /// Whether nothing follows a piece that ended so.
+    pub fn is_last(self) -> bool
+        ensures { result ≡ is_last self }
+    {
+        matches!(self, End::Input)
+    }
+
+    /// Whether a piece that ended so is no line: it is empty, and stands behind the last line feed. So
+    /// a last line counts without its line feed, and of a line that is longer than the limit its
+    /// beginning, which is longer too, stands for it.
+    pub fn ends_no_line(self, piece: &[u8]) -> bool
+        ensures { result ≡ ends_no_line self piece.now }
+    {
+        match self {
+            End::LineFeed | End::Limit => false,
+            End::Input => piece.is_empty(),
+        }
+    }
 }
 
 /// The bytes of a reader, line by line. The reader is asked in large blocks, and so often as the
@@ -114,7 +135,8 @@ impl<R: Read> LineReader<R> {
     }
 
     /// Reads on to the next line feed or to the end, and leaves in `line` what stands before it, in
-    /// place of what stood there. A line that is longer than the limit is left there.
+    /// place of what stood there. Of a line that is longer than the limit a beginning is left there that
+    /// is longer too.
     ///
     /// # Errors
     ///

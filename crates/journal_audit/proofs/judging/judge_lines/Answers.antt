@@ -1,43 +1,47 @@
 use Rattle.std.proofs.Common.{◌≡◌, ◌≤◌, ◌+◌, sym, subst, ◌∙◌, refl, arith}
 use Rattle.journal_audit.specs.declared.verdicts.TheConstants.{MAX_LINES}
-use Rattle.journal_audit.proofs.JudgeFacts.{SoFar, no_write_in, is_over, is_bad, is_refused, is_over_now, goes_on, ends, judged_so}
+use Rattle.journal_audit.proofs.JudgeFacts.{SoFar, no_write_in, is_over, is_bad, is_refused, is_over_now, goes_on, ends, same_said, same_line}
 use Rattle.journal_audit.proofs.judging.judge_lines.Goals as goal
 
-pub returns-in-End-clause-found : goal.returns-in-End-clause-found
-returns-in-End-clause-found g c =
+pub returns-then-ends_no_line-clause-found : goal.returns-then-ends_no_line-clause-found
+returns-then-ends_no_line-clause-found g c =
     let few : c.loop-taken.taken ≤ MAX_LINES = omega (arith, c.loop-taken-test.true) in
     is_over c.args.world.now c.loop-taken.world c.args.source.now c.loop-taken.source c.read_piece.new.source c.loop-taken.taken c.read_piece.new.piece.items c.in-Ok-read_piece.end
     c.loop-taken.invariant few c.in-Ok-read_piece.ensures.line
-    (judged_so c.in-Ok-read_piece.end c.read_piece.new.piece.items c.as_slice.result.now c.judged_piece.result _ c.as_slice.ensures.value c.judged_piece.ensures c.in-End.is)
+    (same_line c.in-Ok-read_piece.end c.read_piece.new.piece.items c.as_slice-line.result.now _ c.as_slice-line.ensures.value (sym c.ends_no_line.ensures ∙ c.if-ends_no_line.true))
 
-pub returns-in-Bad-clause-found : goal.returns-in-Bad-clause-found
-returns-in-Bad-clause-found g c =
-    is_bad c.args.world.now c.loop-taken.world c.args.source.now c.loop-taken.source c.read_piece.new.source c.loop-taken.taken (c.loop-taken.taken + 1) c.read_piece.new.piece.items c.in-Ok-read_piece.end c.in-Bad.fault
+pub returns-in-Err-read_event-clause-found : goal.returns-in-Err-read_event-clause-found
+returns-in-Err-read_event-clause-found g c =
+    is_bad c.args.world.now c.loop-taken.world c.args.source.now c.loop-taken.source c.read_piece.new.source c.loop-taken.taken (c.loop-taken.taken + 1) c.read_piece.new.piece.items c.in-Ok-read_piece.end c.in-Err-read_event.fault
     c.loop-taken.invariant refl c.loop-taken-test.true c.in-Ok-read_piece.ensures.line
-    (judged_so c.in-Ok-read_piece.end c.read_piece.new.piece.items c.as_slice.result.now c.judged_piece.result _ c.as_slice.ensures.value c.judged_piece.ensures c.in-Bad.is)
+    (same_line c.in-Ok-read_piece.end c.read_piece.new.piece.items c.as_slice-line.result.now _ c.as_slice-line.ensures.value (sym c.ends_no_line.ensures ∙ c.if-ends_no_line.false))
+    (same_said c.read_piece.new.piece.items c.as_slice-line.result.now _ c.as_slice-line.ensures.value (sym c.in-Err-read_event.ensures))
 
 pub returns-in-Err-step-clause-found : goal.returns-in-Err-step-clause-found
 returns-in-Err-step-clause-found g c =
     is_refused c.events_are_spelled_once.ensures c.args.world.now c.loop-taken.world c.args.source.now c.loop-taken.source c.read_piece.new.source c.loop-taken.taken (c.loop-taken.taken + 1)
-    c.read_piece.new.piece.items c.in-Ok-read_piece.end c.in-Says.event c.in-Err-step.fault c.refused.result
+    c.read_piece.new.piece.items c.in-Ok-read_piece.end c.in-Ok-read_event.event c.in-Err-step.fault c.refused.result
     c.loop-taken.invariant refl c.loop-taken-test.true c.in-Ok-read_piece.ensures.line
-    (judged_so c.in-Ok-read_piece.end c.read_piece.new.piece.items c.as_slice.result.now c.judged_piece.result _ c.as_slice.ensures.value c.judged_piece.ensures c.in-Says.is)
+    (same_line c.in-Ok-read_piece.end c.read_piece.new.piece.items c.as_slice-line.result.now _ c.as_slice-line.ensures.value (sym c.ends_no_line.ensures ∙ c.if-ends_no_line.false))
+    (same_said c.read_piece.new.piece.items c.as_slice-line.result.now _ c.as_slice-line.ensures.value (sym c.in-Ok-read_event.ensures))
     c.in-Err-step.ensures.exact.0 c.refused.ensures.verdict c.refused.ensures.memory
 
 pub returns-then-is_last-clause-found : goal.returns-then-is_last-clause-found
 returns-then-is_last-clause-found g c =
     is_over_now c.events_are_spelled_once.ensures c.args.world.now c.loop-taken.world c.step.new.self c.args.source.now c.loop-taken.source c.read_piece.new.source c.loop-taken.taken (c.loop-taken.taken + 1)
-    c.read_piece.new.piece.items c.in-Ok-read_piece.end c.in-Says.event c.in_default-step.field-0
+    c.read_piece.new.piece.items c.in-Ok-read_piece.end c.in-Ok-read_event.event c.in_default-step.field-0
     c.loop-taken.invariant refl c.loop-taken-test.true c.in-Ok-read_piece.ensures.line
-    (judged_so c.in-Ok-read_piece.end c.read_piece.new.piece.items c.as_slice.result.now c.judged_piece.result _ c.as_slice.ensures.value c.judged_piece.ensures c.in-Says.is)
+    (same_line c.in-Ok-read_piece.end c.read_piece.new.piece.items c.as_slice-line.result.now _ c.as_slice-line.ensures.value (sym c.ends_no_line.ensures ∙ c.if-ends_no_line.false))
+    (same_said c.read_piece.new.piece.items c.as_slice-line.result.now _ c.as_slice-line.ensures.value (sym c.in-Ok-read_event.ensures))
     c.in_default-step.ensures.exact (sym c.is_last.ensures ∙ c.if-is_last.true)
 
 pub loop-taken-preserved : goal.loop-taken-preserved
 loop-taken-preserved g c =
     goes_on c.events_are_spelled_once.ensures c.args.world.now c.loop-taken.world c.step.new.self c.args.source.now c.loop-taken.source c.read_piece.new.source c.loop-taken.taken
-    c.read_piece.new.piece.items c.in-Ok-read_piece.end c.in-Says.event c.in_default-step.field-0
+    c.read_piece.new.piece.items c.in-Ok-read_piece.end c.in-Ok-read_event.event c.in_default-step.field-0
     c.loop-taken.invariant c.in-Ok-read_piece.ensures.line
-    (judged_so c.in-Ok-read_piece.end c.read_piece.new.piece.items c.as_slice.result.now c.judged_piece.result _ c.as_slice.ensures.value c.judged_piece.ensures c.in-Says.is)
+    (same_line c.in-Ok-read_piece.end c.read_piece.new.piece.items c.as_slice-line.result.now _ c.as_slice-line.ensures.value (sym c.ends_no_line.ensures ∙ c.if-ends_no_line.false))
+    (same_said c.read_piece.new.piece.items c.as_slice-line.result.now _ c.as_slice-line.ensures.value (sym c.in-Ok-read_event.ensures))
     c.in_default-step.ensures.exact (sym c.is_last.ensures ∙ c.if-is_last.false)
 
 pub returns-clause-found : goal.returns-clause-found
