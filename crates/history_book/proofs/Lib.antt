@@ -1,3 +1,4 @@
 pub mod Histories
 pub mod Refusals
 pub mod Meetings
+pub mod Stays

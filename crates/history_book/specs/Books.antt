@@ -18,8 +18,8 @@ use Rattle.world_model.specs.ExactWorlds.{step}
 use Rattle.world_model.specs.Forgetting.{IsSound}
 use Rattle.world_model.specs.Laws.{Takes}
 use Rattle.world_model.specs.Locality.{own_events, local_part, IsHistory, IsLocalRefusal}
-use Rattle.world_model.specs.Parts.{place, is_own, Part, NoPart, NodePart, ClientPart, part, own_refusal}
-use Rattle.world_model.specs.Views.{ticket_in}
+use Rattle.world_model.specs.Parts.{place, is_own, Part, part, own_refusal}
+pub use Rattle.world_model.specs.Staying.{inside_ticket}
 use Rattle.world_model.specs.Worlds.{World}
 use Rattle.world_machine.specs.Listing.{IsInsideBy}
 use Rattle.history_book.specs.declared.books.TheConstants.{MAX_EVENTS}
@@ -161,12 +161,6 @@ pub record IsGiven (who : Actor) (b : BookValue) (k : BerthValue) (b' : BookValu
   pub seen : k.seen ≡ b.history
   pub own : own_of k ≡ []
   pub book : b' ≡ record { number = b.number; table = b.table; opening = b.opening; history = b.history; given = b.given ++ who ∷ []; world = b.world }
-
--- the ticket of an actor that is inside, by its part of the world
-abbrev pub inside_ticket : Part → Option Ticket
-inside_ticket NoPart = None
-inside_ticket (NodePart v) = None
-inside_ticket (ClientPart k) = ticket_in k.phase
 
 -- two tickets, for one resource
 abbrev pub for_one_resource : Option Ticket → Option Ticket → Bool

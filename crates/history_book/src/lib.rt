@@ -4,13 +4,15 @@
 //! actor's token; no event is logged but by the berth of its actor. The crate promises that a book's
 //! history is always a run from the world that it was opened with, which leaves the book's world; that
 //! the history has of a berth's actor just what was logged by that berth, whatever others log between;
-//! and so that an actor's part of the world, and what is refused to it, is told by its own events. It
+//! and so that an actor's part of the world, and what is refused to it, is told by its own events. The
+//! module `laws` says what that means for a client inside: it is inside until its own Leave or Fall. It
 //! stands on `world_machine`, `berth_seats`, `journal_text` for the journal, `line_streams`,
 //! `world_model`, `lock_messages` and `thiserror`.
 #![tactic(auto)]
 
 mod books;
 mod faults;
+pub mod laws;
 mod meeting;
 mod owners;
 

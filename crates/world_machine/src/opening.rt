@@ -220,11 +220,11 @@ impl World {
     }
 
     /// The world in which each actor has kept what its record says: all are down, nothing is tried and
-    /// nothing sent. Node 1 has the first policy and the first of `nodes`, client 1 the first of
-    /// `clients`, and so on. Each record is read once.
+    /// nothing sent. Node 1 has the first policy and the first of `node_records`, client 1 the first of
+    /// `client_records`, and so on. Each record is read once.
     ///
-    /// The caller owes one policy and one record for each node of the ballot, and 1 to `MAX_CLIENTS`
-    /// records of clients.
+    /// The caller owes 1 to `MAX_CLIENTS` clients with one record each, and one policy and one record for
+    /// each node of the ballot.
     ///
     /// Errors: a record can't be read or is of the other problem than its node's policy (622), with the
     /// first such actor, nodes first; then an entry's floor or attempt is above the attempt of its
@@ -233,25 +233,27 @@ impl World {
     pub fn resume(
         alloc: Global,
         ballot: Ballot,
+        clients: u16,
         policies: Vec<Box<dyn Admission + Send>>,
-        nodes: &[Vec<u8>],
-        clients: &[Vec<u8>],
+        node_records: &[Vec<u8>],
+        client_records: &[Vec<u8>],
     ) -> Result<World, (OpeningFault, Vec<Box<dyn Admission + Send>>)>
-        requires nodes { length nodes.now ≡ length ballot.votes }
+        requires some_client { 1 ≤ clients }
+        requires few_clients { clients ≤ MAX_CLIENTS }
         requires policies { length policies.items ≡ length ballot.votes }
-        requires some_client { 1 ≤ length clients.now }
-        requires few_clients { length clients.now ≤ MAX_CLIENTS }
-        ensures world { IfOk result (IsResumed ballot (map (λ p. problem_of p) policies.items) (map (λ v. v.items) nodes.now) (map (λ v. v.items) clients.now)) }
+        requires nodes { length node_records.now ≡ length ballot.votes }
+        requires clients { length client_records.now ≡ clients }
+        ensures world { IfOk result (IsResumed ballot (map (λ p. problem_of p) policies.items) (map (λ v. v.items) node_records.now) (map (λ v. v.items) client_records.now)) }
         ensures lawful { IfOk result (λ w. IsLawfulOpening (setting_of w) (forget w)) }
-        ensures refused { IfErr result (λ refused. IsRefusedOpening (map (λ p. problem_of p) policies.items) (map (λ v. v.items) nodes.now) (map (λ v. v.items) clients.now) refused.0) }
+        ensures refused { IfErr result (λ refused. IsRefusedOpening (map (λ p. problem_of p) policies.items) (map (λ v. v.items) node_records.now) (map (λ v. v.items) client_records.now) refused.0) }
         ensures back { IfErr result (λ refused. refused.1.items ≡ policies.items) }
     {
         openings_are_lawful();
-        let _nodes = ballot.nodes();
+        let (_nodes, _clients) = (ballot.nodes(), clients);
         let Ok(problems) = problems_of(alloc, &policies) else {
             return Err((OpeningFault::Memory, policies));
         };
-        let kept = match judge(alloc, &problems, nodes, clients) {
+        let kept = match judge(alloc, &problems, node_records, client_records) {
             Ok(kept) => kept,
             Err(fault) => return Err((fault, policies)),
         };

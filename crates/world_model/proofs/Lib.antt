@@ -24,5 +24,6 @@ pub mod ClientEvents
 pub mod SafeRuns
 pub mod ExclusionFacts
 pub mod LocalityFacts
+pub mod StayFacts
 pub mod InsideFacts
 pub mod HoldingFacts

@@ -13,4 +13,5 @@ pub mod StepsOf
 pub mod Parts
 pub mod Laws
 pub mod Locality
+pub mod Staying
 pub mod Examples

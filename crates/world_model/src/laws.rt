@@ -4,6 +4,7 @@ ghost use Rattle.world_model.specs.Examples.{FirstReader, OneGrantIsTooFew, SayB
 ghost use Rattle.world_model.specs.Exclusion.{WritersAreAlone, StationsStaySound, NothingIsMuddled};
 ghost use Rattle.world_model.specs.Laws.{ExactStepsAreAllowed, StepsKeepSound, AllowedStepsAreTaken, ExactRunsAreRuns, ResumedIsSound, ResumedIsLawful, OnlyWithinIsLawful, OpeningIsResumable, SaidNumbersFit, SoundIsExclusive, InsideIsTheSet, WriterInsideIsOnly, WaitingIsTheSet, HoldingIsTheSet};
 ghost use Rattle.world_model.specs.Locality.{PlacesAreApart, StepsChangeOnePart, OwnRefusalsComeFirst, ListRefusalsComeSecond, FullOnlyWithoutRoom, MemoryIsNoRefusal, EffectsAreOfTheirEvents, MessagesAreAsListed, PartsAreLocal, RefusalsAreLocal, HistoriesAreRuns};
+ghost use Rattle.world_model.specs.Staying.{PartsStayInside, ClientsStayInside, LeavingEndsIt};
 
 /// The exclusion theorem. After every run from a lawful opening, under a ballot that crosses, a
 /// writer inside a resource is there alone, and in every station of every node each reader waits only
@@ -91,6 +92,17 @@ pub fn locality()
     lock_model::laws::decision_is_allowed();
     lock_model::laws::changes_are_seen();
     lock_model::laws::hearing_is_exact();
+}
+
+/// A client that is inside a resource is inside it, with the same ticket, until its own Leave or Fall,
+/// whatever events of others come between; and each of these two ends it. So its own events tell it.
+pub fn inside_until_leave_or_fall()
+    ensures parts { PartsStayInside }
+    ensures clients { ClientsStayInside }
+    ensures ends { LeavingEndsIt }
+{
+    steps_change_one_part();
+    locality();
 }
 
 /// What the exact world does in worked runs, each under the name of what it shows.

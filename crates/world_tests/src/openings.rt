@@ -50,7 +50,8 @@ fn resumed(alloc: Global, nodes: &[Vec<u8>], clients: &[Vec<u8>]) -> Result<Open
     if clients.is_empty() || clients.len() > MAX_CLIENTS as usize {
         return Err(Failure::Wrong(0));
     }
-    opened(World::resume(alloc, ballot, policies, nodes, clients))
+    let number = clients.len() as u16;
+    opened(World::resume(alloc, ballot, number, policies, nodes, clients))
 }
 
 fn node(number: u8) -> Result<NodeId, Failure> {
