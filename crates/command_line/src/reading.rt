@@ -43,7 +43,10 @@ kept, sent 2 grant n1 c1 1 read a, counted, inside, inside a: c1 read.
 Settings: `votes` is a list with the votes of each node, 0 to 255, node 1 first, 16 nodes at most;
 `read` and `write` are how many votes a reader and a writer collect (read + write, and twice write,
 are over all votes); `problem` is 1 (a reader waits only where a writer holds) or 2 (it waits also
-where a writer waits); `clients` is how many clients there are, 1 to 1024.
+where a writer waits); `clients` is how many clients there are, 1 to 1024. These are needed. Of a run
+of all parts together tell `seed`, the number of the weather; `lose`, `twice` and `late`, how many of
+a thousand parcels are lost, go twice and are late, 1000 together at most; and `wishes`, a list of at
+most 4096 texts as `c1 read a`. They are judged, and not used by any command yet.
 
 All nodes and clients are up at first. Events: `begin cC read|write NAME`, `try nN|cC`, `kept nN|cC`,
 `sayto cC nN`, `say nN`, `take nN K`, `hear cC K`, `enter cC`, `leave cC`, `fall nN|cC`,
@@ -61,7 +64,8 @@ number, 804 no name, 805 words missing or left over, or over 128 bytes.
 
 `settings fault N` stands alone: 921 no TOML, 922 a value missing or out of range, 923 an unknown
 key, 924 no line `---` within 65536 bytes, 925 no memory; 201 no node, 202 more than 16, 203 a need
-over all votes, 204 a read and a write could miss each other, 205 two writes could.
+over all votes, 204 a read and a write could miss each other, 205 two writes could; 901 `lose`, `twice`
+and `late` over 1000 together; 801, 802, 804 or 805 the first wish that is none, as of a line.
 
 The status is 0; 1 where an event or a query was refused, a line was bad, or `fault N` stands on
 standard error (931 the input failed, 932 the output, 933 no memory); 2 where the settings or the
@@ -108,7 +112,7 @@ clients = 2
 END
 
 It prints `total 4 read 2 write 3`: all votes, and how many a reader and a writer collect. The
-settings are those of `script`.
+settings are those of `script`, but that `problem` and `clients` may be missing.
 
 `refused N` says that the votes make no ballot: 201 no node, 202 more than 16, 203 a need over all
 votes, 204 a read and a write could miss each other, 205 two writes could.

@@ -1,11 +1,11 @@
 -- Wishes: what a client is to do, as a text.
-use Rattle.std.specs.Prelude.{ℕ, nat_lt, if◌then◌else◌, List, [], ◌∷◌, length, Result, Ok, Err}
+use Rattle.std.specs.Prelude.{ℕ, nat_le, nat_lt, if◌then◌else◌, List, [], ◌∷◌, length, Result, Ok, Err}
 use Rattle.std.specs.List.{join_with_byte}
 use Rattle.history_check.specs.declared.faults.LineFault.{LineFault}
 use Rattle.history_check.specs.declared.faults.LineFault.TheVariants as fault
 use Rattle.history_check.specs.declared.wishes.Wish.{Wish}
 use Rattle.history_check.specs.declared.words.TheConstants.{MAX_LINE_LEN}
-use Rattle.history_check.specs.Lines.{◌>>=◌, Kind, AClient, AMode, AName, Arguments, AreValues, argument_texts, arguments_in, words}
+use Rattle.history_check.specs.Lines.{◌>>=◌, Kind, AClient, AMode, AName, Arguments, AreValues, argument_texts, arguments_in, words, exactly, client_word, mode_word, name_word}
 
 -- what a wish has, in order
 abbrev pub wish_kinds : List Kind
@@ -27,3 +27,17 @@ unfoldable pub wish_of : List ℕ → Result Wish LineFault
 wish_of bytes =
     if nat_lt MAX_LINE_LEN (length bytes) then Err fault.Words
     else arguments_in wish_kinds (words bytes) >>= (λ a. Ok (record { client = a.0; mode = a.1.0; resource = a.1.1.0 }))
+
+-- the client of a word, where there are so many
+abbrev pub client_among : ℕ → List ℕ → Result ℕ LineFault
+client_among clients word = client_word word >>= (λ c. if nat_le c clients then Ok c else Err fault.Actor)
+
+abbrev pub words_wish : ℕ → List (List ℕ) → Result Wish LineFault
+words_wish clients (c ∷ m ∷ x ∷ []) =
+    client_among clients c >>= (λ client. mode_word m >>= (λ mode. name_word x >>= (λ name. Ok (record { client = client; mode = mode; resource = name }))))
+words_wish clients _ = Err fault.Words
+
+-- What a text wishes where there are so many clients. It is judged as before, and a client behind the
+-- last one is judged where its word stands.
+unfoldable pub wish_among : ℕ → List ℕ → Result Wish LineFault
+wish_among clients bytes = if nat_lt MAX_LINE_LEN (length bytes) then Err fault.Words else exactly 3 (words bytes) >>= (λ ws. words_wish clients ws)

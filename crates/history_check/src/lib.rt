@@ -7,8 +7,8 @@
 //! that for every line, and `write_line` just the text of every event and query; the law
 //! `lines_are_spelled_once` says that the two are each other's inverse, so that each event and each
 //! query has one spelling, which is read as it. `read_event` and `write_event` are the same for the
-//! lines of a journal, which are events alone (`Events`), and `read_wish` reads what a client is to do
-//! (`Wishes`).
+//! lines of a journal, which are events alone (`Events`); `read_wish` and `read_wish_among` read what a
+//! client is to do (`Wishes`).
 //!
 //! It stands on `lock_messages`, on `world_model` for events, and on `thiserror`.
 #![tactic(auto)]
@@ -25,5 +25,5 @@ pub use commands::Command;
 pub use events::{read_event, write_event};
 pub use faults::LineFault;
 pub use lines::{Line, Query, read_line, write_line};
-pub use wishes::{Wish, read_wish};
+pub use wishes::{Wish, read_wish, read_wish_among};
 pub use words::MAX_LINE_LEN;

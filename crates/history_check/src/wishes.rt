@@ -1,11 +1,11 @@
 // Wishes: what a client is to do, as a text.
 
 ghost use Rattle.std.specs.Prelude.{◌≡◌};
-ghost use Rattle.history_check.specs.Wishes.{wish_of};
+ghost use Rattle.history_check.specs.Wishes.{wish_of, client_among, wish_among};
 
 use crate::LineFault;
 use crate::lines::client_mode_and_name;
-use crate::words::MAX_LINE_LEN;
+use crate::words::{MAX_LINE_LEN, client_of, mode_of, name_of, three};
 use lock_messages::{ClientId, Mode, ResourceName};
 
 /// That a client is to use a resource once, in this mode.
@@ -35,5 +35,37 @@ pub fn read_wish(text: &[u8]) -> Result<Wish, LineFault>
         client,
         mode,
         resource,
+    })
+}
+
+/// The client of a word, where there are so many clients.
+fn client_among(clients: u16, word: &[u8]) -> Result<ClientId, LineFault>
+    ensures { result ≡ client_among clients word.now }
+{
+    let client = client_of(word)?;
+    if client.get() > u32::from(clients) {
+        return Err(LineFault::Actor);
+    }
+    Ok(client)
+}
+
+/// What a text wishes where there are so many clients: `read_wish`, but that the word of another
+/// client is none.
+///
+/// # Errors
+///
+/// Those of `read_wish`, in the same order; a client behind the last one is `Actor` (802) too.
+#[tactic(auto, unfolding(crate::specs::Wishes::wish_among))]
+pub fn read_wish_among(clients: u16, text: &[u8]) -> Result<Wish, LineFault>
+    ensures { result ≡ wish_among clients text.now }
+{
+    if MAX_LINE_LEN < text.len() {
+        return Err(LineFault::Words);
+    }
+    let (first, second, third) = three(Some(text))?;
+    Ok(Wish {
+        client: client_among(clients, first)?,
+        mode: mode_of(second)?,
+        resource: name_of(third)?,
     })
 }

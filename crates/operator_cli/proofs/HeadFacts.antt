@@ -110,7 +110,9 @@ unfolding head_of
 line_too_long None mid new head piece h r = tt
 line_too_long (Some xs) None new head piece h r = absurd h
 line_too_long (Some xs) (Some ys) new head piece h r =
-    let (whole, more, e, long) = r in
+    let (rest, more, e, kept) = r in
+    let whole = piece ++ rest in
+    let long : HEAD_ROOM < length whole = simp length-append (omega arith) in
     ap within_room (h ∙ ap (λ ps. behind head (parts_at_dashes ps)) e ∙ ap (λ (b : Bool). behind head (cond b (Some ([], more)) (with_line whole (parts_at_dashes more)))) (long_line whole long))
     ∙ no_room head whole (parts_at_dashes more) long
 

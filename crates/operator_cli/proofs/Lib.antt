@@ -1,4 +1,3 @@
-pub mod SplitFacts
 pub mod SettingsFacts
 pub mod TextFacts
 pub mod AnswerFacts

@@ -1,5 +1,5 @@
 -- The lines of a script, one after another.
-use Rattle.std.proofs.Common.{◌≡◌, ℕ, ◌+◌, ◌<◌, ◌==◌, Bool, true, false, cond, nat_lt, ◌||◌, List, [], ◌∷◌, ◌++◌, length, Option, Some, None, Result, Ok, Err, refl, sym, ap, subst, ◌∙◌, arith, append_assoc}
+use Rattle.std.proofs.Common.{◌≡◌, ℕ, ◌+◌, ◌<◌, Bool, true, false, cond, nat_lt, ◌||◌, List, [], ◌∷◌, ◌++◌, length, Option, Some, None, Result, Ok, Err, refl, sym, ap, subst, ◌∙◌, arith, append_assoc}
 use Rattle.std.specs.Io.KnownBytes.{Appends, Keeps}
 use Rattle.std.proofs.lemmas.List.{append-nil}
 use Rattle.std.proofs.lemmas.Bool.Decides.{nat_tests}
@@ -11,15 +11,14 @@ use Rattle.history_check.specs.declared.lines.Line.{Line}
 use Rattle.history_check.specs.declared.words.TheConstants.{MAX_LINE_LEN}
 use Rattle.line_streams.specs.declared.reading.End.{End}
 use Rattle.line_streams.specs.declared.reading.End.TheVariants.{LineFeed, Input, Limit}
-use Rattle.operator_cli.specs.declared.script.Judged.TheVariants as judged
 use Rattle.history_check.specs.Faults.{line_fault_number}
 use Rattle.history_check.specs.Lines.{line_of as said_in}
 use Rattle.operator_cli.specs.Lines.{line_of}
-use Rattle.line_streams.specs.Streams.{lines_in, is_line_feed, pieces, KnownLeft, EndsPiece, ReadsPiece, AppendsBeginning, Grows}
+use Rattle.line_streams.specs.Streams.{is_last, ends_no_line, lines_in, pieces, KnownLeft, EndsPiece, ReadsPiece, AppendsBeginning, Grows}
 use Rattle.operator_cli.specs.Outputs.{Told, Output, told, before, line_output, lines_output, Writes}
-use Rattle.operator_cli.specs.PartOutputs.{judged_line, judged_piece, is_last, status_of, WritesAnswer, WritesLines}
+use Rattle.operator_cli.specs.PartOutputs.{status_of, WritesAnswer, WritesLines}
 use Rattle.operator_cli.specs.Texts.{line_fault_text}
-use Rattle.operator_cli.proofs.SplitFacts.{some_part}
+use Rattle.line_streams.proofs.LineFacts.{IsKept, Behind, no_line_left, next_line}
 
 -- what was written before the rest, and whether anything was refused
 abbrev pub onto : List ℕ → Bool → Output → Output
@@ -63,79 +62,36 @@ pub begins : (w : ExactWorld) (left out : Option (List ℕ)) → SoFar w left le
 begins w None out = tt
 begins w (Some xs) out = ([], appends_nothing out, refl)
 
--- the lines that pieces are
-line_and_more : (p : List ℕ) (more : List (List ℕ)) → (length p == 0) ≡ false → lines_in (p ∷ more) ≡ p ∷ lines_in more
-line_and_more p [] h = rw h
-line_and_more p (q ∷ qs) h = refl
+-- what is said of a copy of bytes is said of them
+pub same_said : (piece text : List ℕ) (says : Result Line LineFault) → text ≡ piece → line_of text ≡ says → line_of piece ≡ says
+same_said piece text says same e = ap line_of (sym same) ∙ e
 
-line_then_bytes : (p zs : List ℕ) → lines_in (p ∷ pieces zs) ≡ p ∷ lines_in (pieces zs)
-line_then_bytes p zs = let (q, qs, e) = some_part is_line_feed zs in ap (λ ps. lines_in (p ∷ ps)) e ∙ ap (λ ps. p ∷ lines_in ps) (sym e)
+pub same_line : (end : End) (piece text : List ℕ) (b : Bool) → text ≡ piece → ends_no_line end text ≡ b → ends_no_line end piece ≡ b
+same_line end piece text b same e = ap (ends_no_line end) (sym same) ∙ e
 
--- what a judgement tells of the line
-says_line : (r : Result Line LineFault) (l : Line) → judged_line r ≡ judged.Says l → r ≡ Ok l
-says_line (Ok k) l h = cc
-says_line (Err e) l h = cc
-
-is_bad_line : (r : Result Line LineFault) (f : LineFault) → judged_line r ≡ judged.Bad f → r ≡ Err f
-is_bad_line (Ok k) f h = cc
-is_bad_line (Err e) f h = cc
-
-is_no_end : (r : Result Line LineFault) → judged_line r ≡ judged.End → ⊥
-is_no_end (Ok k) h = cc
-is_no_end (Err e) h = cc
-
--- no line is left
-unless_empty : (b : Bool) (r : Result Line LineFault) (p : List ℕ) → cond b judged.End (judged_line r) ≡ judged.End → cond b [] (p ∷ []) ≡ []
-unless_empty true r p h = refl
-unless_empty false r p h = absurd (is_no_end r h)
-
-nothing_left : (limit : ℕ) (ys : List ℕ) (new : Option (List ℕ)) (piece : List ℕ) (end : End) → EndsPiece limit ys new piece end → judged_piece end piece ≡ judged.End → lines_in (pieces ys) ≡ []
-nothing_left limit ys new piece LineFeed r h = absurd (is_no_end (line_of piece) h)
-nothing_left limit ys new piece Input r h = ap lines_in r.0 ∙ unless_empty (length piece == 0) (line_of piece) piece h
-nothing_left limit ys new piece Limit r h = cc
-
--- a bad line comes
-abbrev BadLine : List (List ℕ) → LineFault → Type 0
-BadLine lines f = (l : List ℕ) × (more : List (List ℕ)) × (lines ≡ l ∷ more) × (line_of l ≡ Err f)
-
-bad_last : (b : Bool) (piece : List ℕ) (f : LineFault) → (length piece == 0) ≡ b → cond b judged.End (judged_line (line_of piece)) ≡ judged.Bad f → BadLine (lines_in (piece ∷ [])) f
-bad_last true piece f e h = let clash : judged.End ≡ judged.Bad f = h in absurd (cc)
-bad_last false piece f e h = (piece, [], line_and_more piece [] e, is_bad_line (line_of piece) f h)
-
-too_long : (whole : List ℕ) → MAX_LINE_LEN < length whole → line_of whole ≡ Err bad.Words
+too_long : (line : List ℕ) → MAX_LINE_LEN < length line → line_of line ≡ Err bad.Words
 unfolding line_of said_in
-too_long whole h = let t : nat_lt MAX_LINE_LEN (length whole) ≡ true = grind (arith, nat_tests) in rw t
+too_long line h = let t : nat_lt MAX_LINE_LEN (length line) ≡ true = grind (arith, nat_tests) in rw t
 
-bad_comes : (ys : List ℕ) (new : Option (List ℕ)) (piece : List ℕ) (end : End) (f : LineFault) → EndsPiece MAX_LINE_LEN ys new piece end → judged_piece end piece ≡ judged.Bad f → BadLine (lines_in (pieces ys)) f
-bad_comes ys None piece LineFeed f r h = absurd r
-bad_comes ys (Some zs) piece LineFeed f r h = (piece, lines_in (pieces zs), ap lines_in r ∙ line_then_bytes piece zs, is_bad_line (line_of piece) f h)
-bad_comes ys new piece Input f r h =
-    let (l, more, e, j) = bad_last (length piece == 0) piece f refl h in (l, more, ap lines_in r.0 ∙ e, j)
-bad_comes ys new piece Limit f r h =
-    let (whole, more, e, long) = r in
-    let some : (length whole == 0) ≡ false = grind (arith, nat_tests) in
-    let same : bad.Words ≡ f = cc in
-    (whole, lines_in more, ap lines_in e ∙ line_and_more whole more some, too_long whole long ∙ ap Err same)
+-- a line says what was kept of it says
+says_kept : (piece line : List ℕ) (end : End) → IsKept MAX_LINE_LEN piece end line → line_of line ≡ line_of piece
+says_kept piece line LineFeed k = ap line_of k
+says_kept piece line Input k = ap line_of k
+says_kept piece line Limit k = too_long line k.1 ∙ sym (too_long piece k.0)
 
--- a good line comes, and what is behind it
-abbrev pub Behind : End → Option (List ℕ) → List (List ℕ) → Type 0
-Behind LineFeed new more = KnownLeft new (λ zs. more ≡ lines_in (pieces zs))
-Behind Input new more = more ≡ []
-Behind Limit new more = ⊥
+-- a line comes that says this, and what is behind it
+abbrev LineComes : List (List ℕ) → Result Line LineFault → End → Option (List ℕ) → Type 0
+LineComes lines says end new = (l : List ℕ) × (more : List (List ℕ)) × (lines ≡ l ∷ more) × (line_of l ≡ says) × Behind end new more
 
-abbrev GoodLine : List (List ℕ) → Line → End → Option (List ℕ) → Type 0
-GoodLine lines x end new = (l : List ℕ) × (more : List (List ℕ)) × (lines ≡ l ∷ more) × (line_of l ≡ Ok x) × Behind end new more
+line_comes : (ys : List ℕ) (new : Option (List ℕ)) (piece : List ℕ) (end : End) (says : Result Line LineFault)
+    → EndsPiece MAX_LINE_LEN ys new piece end → ends_no_line end piece ≡ false → line_of piece ≡ says → LineComes (lines_in (pieces ys)) says end new
+line_comes ys new piece end says r some e =
+    let (l, more, cut, kept, behind) = next_line MAX_LINE_LEN ys new piece end r some in
+    (l, more, cut, says_kept piece l end kept ∙ e, behind)
 
-good_last : (b : Bool) (piece : List ℕ) (x : Line) (new : Option (List ℕ)) → (length piece == 0) ≡ b → cond b judged.End (judged_line (line_of piece)) ≡ judged.Says x → GoodLine (lines_in (piece ∷ [])) x Input new
-good_last true piece x new e h = let clash : judged.End ≡ judged.Says x = h in absurd (cc)
-good_last false piece x new e h = (piece, [], line_and_more piece [] e, says_line (line_of piece) x h, refl)
-
-good_comes : (limit : ℕ) (ys : List ℕ) (new : Option (List ℕ)) (piece : List ℕ) (end : End) (x : Line) → EndsPiece limit ys new piece end → judged_piece end piece ≡ judged.Says x → GoodLine (lines_in (pieces ys)) x end new
-good_comes limit ys None piece LineFeed x r h = absurd r
-good_comes limit ys (Some zs) piece LineFeed x r h = (piece, lines_in (pieces zs), ap lines_in r ∙ line_then_bytes piece zs, says_line (line_of piece) x h, refl)
-good_comes limit ys new piece Input x r h =
-    let (l, more, e, j, k) = good_last (length piece == 0) piece x new refl h in (l, more, ap lines_in r.0 ∙ e, j, k)
-good_comes limit ys new piece Limit x r h = let clash : judged.Bad bad.Words ≡ judged.Says x = h in absurd (cc)
+-- a line that is too long is bad
+never_long : (ys : List ℕ) (new : Option (List ℕ)) (piece : List ℕ) (x : Line) → EndsPiece MAX_LINE_LEN ys new piece Limit → line_of piece ≡ Ok x → ⊥
+never_long ys new piece x r e = let (rest, more, cut, long) = r in let clash : Err bad.Words ≡ Ok x = sym (too_long piece long) ∙ e in cc
 
 -- Putting outputs together.
 
@@ -179,22 +135,22 @@ stops w v (Some xs) (Some ys) out new refused number f h =
     let (text, a, e) = h in (text, (lines_output v number (lines_in (pieces ys))).text, ap (λ (p : Output). p.text) e, a)
 
 pub is_over : (w v : ExactWorld) (old left next out new : Option (List ℕ)) (refused : Bool) (number : ℕ) (piece : List ℕ) (end : End) (status : ℕ)
-    → SoFar w old left out new refused v number → ReadsPiece MAX_LINE_LEN left next piece end → judged_piece end piece ≡ judged.End → status ≡ status_of refused → WritesLines w old out new (Ok status)
+    → SoFar w old left out new refused v number → ReadsPiece MAX_LINE_LEN left next piece end → ends_no_line end piece ≡ true → status ≡ status_of refused → WritesLines w old out new (Ok status)
 is_over w v None left next out new refused number piece end status h r j s = tt
 is_over w v (Some xs) None next out new refused number piece end status h r j s = absurd h
 is_over w v (Some xs) (Some ys) next out new refused number piece end status h r j s =
     let (text, a, e) = h in
     finish (lines_output w 1 (lines_in (pieces xs))) out new text refused status a
-    (e ∙ ap (λ ls. onto text refused (lines_output v number ls)) (nothing_left MAX_LINE_LEN ys next piece end r j)) s
+    (e ∙ ap (λ ls. onto text refused (lines_output v number ls)) (no_line_left MAX_LINE_LEN ys next piece end r j)) s
 
 pub is_bad : (w v : ExactWorld) (old left next out mid new : Option (List ℕ)) (refused : Bool) (number : ℕ) (piece : List ℕ) (end : End) (f : LineFault) (result : Result ℕ ServeFault)
-    → SoFar w old left out mid refused v number → ReadsPiece MAX_LINE_LEN left next piece end → judged_piece end piece ≡ judged.Bad f
+    → SoFar w old left out mid refused v number → ReadsPiece MAX_LINE_LEN left next piece end → ends_no_line end piece ≡ false → line_of piece ≡ Err f
     → Writes (record { text = line_fault_text number (line_fault_number f); status = 1 }) mid new result → WritesLines w old out new result
-is_bad w v None left next out mid new refused number piece end f result h r j p = tt
-is_bad w v (Some xs) None next out mid new refused number piece end f result h r j p = absurd h
-is_bad w v (Some xs) (Some ys) next out mid new refused number piece end f result h r j p =
+is_bad w v None left next out mid new refused number piece end f result h r j said p = tt
+is_bad w v (Some xs) None next out mid new refused number piece end f result h r j said p = absurd h
+is_bad w v (Some xs) (Some ys) next out mid new refused number piece end f result h r j said p =
     let (text, a, e) = h in
-    let (l, more, g, k) = bad_comes ys next piece end f r j in
+    let (l, more, g, k, behind) = line_comes ys next piece end (Err f) r j said in
     ends_with (lines_output w 1 (lines_in (pieces xs))) out mid new text (line_fault_text number (line_fault_number f)) refused result a
     (e ∙ ap (λ ls. onto text refused (lines_output v number ls)) g ∙ ap (λ q. onto text refused (line_output v number q (λ u. lines_output u (number + 1) more))) k) p
 
@@ -205,13 +161,13 @@ good_output o text refused v number lines l more x e g k =
     e ∙ ap (λ ls. onto text refused (lines_output v number ls)) g ∙ ap (λ q. onto text refused (line_output v number q (λ u. lines_output u (number + 1) more))) k
 
 pub breaks : (w v : ExactWorld) (old left next out mid new : Option (List ℕ)) (refused : Bool) (number : ℕ) (piece : List ℕ) (end : End) (x : Line) (u : ExactWorld) (f g : ServeFault)
-    → SoFar w old left out mid refused v number → ReadsPiece MAX_LINE_LEN left next piece end → judged_piece end piece ≡ judged.Says x
+    → SoFar w old left out mid refused v number → ReadsPiece MAX_LINE_LEN left next piece end → ends_no_line end piece ≡ false → line_of piece ≡ Ok x
     → WritesAnswer (told v x) mid new (Err f) u → WritesLines w old out new (Err g)
-breaks w v None left next out mid new refused number piece end x u f g h r j p = tt
-breaks w v (Some xs) None next out mid new refused number piece end x u f g h r j p = absurd h
-breaks w v (Some xs) (Some ys) next out mid new refused number piece end x u f g h r j p =
+breaks w v None left next out mid new refused number piece end x u f g h r j said p = tt
+breaks w v (Some xs) None next out mid new refused number piece end x u f g h r j said p = absurd h
+breaks w v (Some xs) (Some ys) next out mid new refused number piece end x u f g h r j said p =
     let (text, a, e) = h in
-    let (l, more, m, k, b) = good_comes MAX_LINE_LEN ys next piece end x r j in
+    let (l, more, m, k, b) = line_comes ys next piece end (Ok x) r j said in
     let o = lines_output w 1 (lines_in (pieces xs)) in
     breaks_off o out mid new text (told v x).text refused (lines_output (told v x).world (number + 1) more) a
     (ap (λ (q : Output). q.text) (good_output o text refused v number (lines_in (pieces ys)) l more x e m k)) p
@@ -241,27 +197,26 @@ told_one w v u xs out mid new refused now number lines l more x h g k p =
     )
 
 pub goes_on : (w v u : ExactWorld) (old left next out mid new : Option (List ℕ)) (refused now both : Bool) (number : ℕ) (piece : List ℕ) (end : End) (x : Line)
-    → SoFar w old left out mid refused v number → ReadsPiece MAX_LINE_LEN left next piece end → judged_piece end piece ≡ judged.Says x
+    → SoFar w old left out mid refused v number → ReadsPiece MAX_LINE_LEN left next piece end → ends_no_line end piece ≡ false → line_of piece ≡ Ok x
     → WritesAnswer (told v x) mid new (Ok now) u → both ≡ (refused || now) → is_last end ≡ false → SoFar w old next out new both u (number + 1)
-goes_on w v u None left next out mid new refused now both number piece end x h r j p b z = tt
-goes_on w v u (Some xs) None next out mid new refused now both number piece end x h r j p b z = absurd h
-goes_on w v u (Some xs) (Some ys) None out mid new refused now both number piece LineFeed x h r j p b z = absurd r
-goes_on w v u (Some xs) (Some ys) (Some zs) out mid new refused now both number piece LineFeed x h r j p b z =
-    let (l, more, m, k, e) = good_comes MAX_LINE_LEN ys (Some zs) piece LineFeed x r j in
+goes_on w v u None left next out mid new refused now both number piece end x h r j said p b z = tt
+goes_on w v u (Some xs) None next out mid new refused now both number piece end x h r j said p b z = absurd h
+goes_on w v u (Some xs) (Some ys) None out mid new refused now both number piece LineFeed x h r j said p b z = absurd r
+goes_on w v u (Some xs) (Some ys) (Some zs) out mid new refused now both number piece LineFeed x h r j said p b z =
+    let (l, more, m, k, e) = line_comes ys (Some zs) piece LineFeed (Ok x) r j said in
     let t = told_one w v u xs out mid new refused now number (lines_in (pieces ys)) l more x h m k p in
     subst (λ ls. After w xs out new both u (number + 1) ls) e (subst (λ (c : Bool). After w xs out new c u (number + 1) more) (sym b) t)
-goes_on w v u (Some xs) (Some ys) next out mid new refused now both number piece Input x h r j p b z = cc
-goes_on w v u (Some xs) (Some ys) next out mid new refused now both number piece Limit x h r j p b z =
-    let (l, more, m, k, e) = good_comes MAX_LINE_LEN ys next piece Limit x r j in absurd e
+goes_on w v u (Some xs) (Some ys) next out mid new refused now both number piece Input x h r j said p b z = cc
+goes_on w v u (Some xs) (Some ys) next out mid new refused now both number piece Limit x h r j said p b z = absurd (never_long ys next piece x r said)
 
 pub is_over_now : (w v u : ExactWorld) (old left next out mid new : Option (List ℕ)) (refused now both : Bool) (number : ℕ) (piece : List ℕ) (end : End) (x : Line) (status : ℕ)
-    → SoFar w old left out mid refused v number → ReadsPiece MAX_LINE_LEN left next piece end → judged_piece end piece ≡ judged.Says x
+    → SoFar w old left out mid refused v number → ReadsPiece MAX_LINE_LEN left next piece end → ends_no_line end piece ≡ false → line_of piece ≡ Ok x
     → WritesAnswer (told v x) mid new (Ok now) u → both ≡ (refused || now) → is_last end ≡ true → status ≡ status_of both → WritesLines w old out new (Ok status)
-is_over_now w v u None left next out mid new refused now both number piece end x status h r j p b z s = tt
-is_over_now w v u (Some xs) None next out mid new refused now both number piece end x status h r j p b z s = absurd h
-is_over_now w v u (Some xs) (Some ys) next out mid new refused now both number piece LineFeed x status h r j p b z s = let clash : false ≡ true = z in absurd (cc)
-is_over_now w v u (Some xs) (Some ys) next out mid new refused now both number piece Limit x status h r j p b z s = let clash : false ≡ true = z in absurd (cc)
-is_over_now w v u (Some xs) (Some ys) next out mid new refused now both number piece Input x status h r j p b z s =
-    let (l, more, m, k, e) = good_comes MAX_LINE_LEN ys next piece Input x r j in
+is_over_now w v u None left next out mid new refused now both number piece end x status h r j said p b z s = tt
+is_over_now w v u (Some xs) None next out mid new refused now both number piece end x status h r j said p b z s = absurd h
+is_over_now w v u (Some xs) (Some ys) next out mid new refused now both number piece LineFeed x status h r j said p b z s = let clash : false ≡ true = z in absurd (cc)
+is_over_now w v u (Some xs) (Some ys) next out mid new refused now both number piece Limit x status h r j said p b z s = let clash : false ≡ true = z in absurd (cc)
+is_over_now w v u (Some xs) (Some ys) next out mid new refused now both number piece Input x status h r j said p b z s =
+    let (l, more, m, k, e) = line_comes ys next piece Input (Ok x) r j said in
     let (text, a, q) = told_one w v u xs out mid new refused now number (lines_in (pieces ys)) l more x h m k p in
     finish (lines_output w 1 (lines_in (pieces xs))) out new text (refused || now) status a (q ∙ ap (λ ls. onto text (refused || now) (lines_output u (number + 1) ls)) e) (s ∙ ap status_of b)

@@ -21,53 +21,60 @@ use Rattle.operator_cli.specs.declared.orders.Command.TheVariants as command
 use Rattle.operator_cli.specs.declared.heads.StartFault.{StartFault}
 use Rattle.operator_cli.specs.declared.heads.StartFault.TheVariants as start
 use Rattle.operator_cli.specs.declared.settings.Settings.{Settings}
-use Rattle.operator_cli.specs.Settings.{settings_of, Refuses}
+use Rattle.operator_cli.specs.declared.settings.Start.{Start}
+use Rattle.operator_cli.specs.Settings.{Given, given, settings_of, Refuses}
+use Rattle.history_check.specs.declared.faults.LineFault.{LineFault}
+use Rattle.lossy_link.specs.declared.faults.WeatherFault.{WeatherFault}
 use Rattle.line_streams.specs.Streams.{pieces, lines_in, AppendsBeginning, Grows, LetsOut, with_gathered}
 use Rattle.operator_cli.specs.Outputs.{Output, output_of, opened, start_of, with_lines, head_of, lines_output, settings_output, command_output, verdict_output, verdict_status, refusal_output, refused_ballot_output, refused_output, KeepsLimit, IsLimited, IsLimitedIn, Writes, Serves}
 use Rattle.operator_cli.specs.Texts.{ballot_text}
 use Rattle.operator_cli.specs.PartOutputs.{FindsHead, Starts, RefusesStart, WritesLines, WritesBehind, WritesVerdict, Finishes}
 use Rattle.operator_cli.proofs.ScriptFacts.{appends_nothing}
 
-no_head : (xs : List ℕ) (e : SettingsFault) → Refuses e (head_of (pieces xs)) → Refuses e (opened xs)
+no_head : (c : Command) (xs : List ℕ) (e : SettingsFault) → Refuses e (head_of (pieces xs)) → Refuses e (opened c xs)
 unfolding opened
-no_head xs settings.NoEnd h = ap start_of h
-no_head xs settings.NoDocument h = ap start_of h
-no_head xs settings.UnknownKey h = ap start_of h
-no_head xs settings.Value h = ap start_of h
-no_head xs (settings.Ballot f) h = ap start_of h
-no_head xs settings.Memory h = tt
+no_head c xs settings.NoEnd h = ap (start_of c) h
+no_head c xs settings.NoDocument h = ap (start_of c) h
+no_head c xs settings.UnknownKey h = ap (start_of c) h
+no_head c xs settings.Value h = ap (start_of c) h
+no_head c xs (settings.Ballot f) h = ap (start_of c) h
+no_head c xs (settings.Weather f) h = ap (start_of c) h
+no_head c xs (settings.Wish f) h = ap (start_of c) h
+no_head c xs settings.Memory h = tt
 
 -- there is no head
-pub not_started : (old new : Option (List ℕ)) (f : StartFault) → FindsHead old new (Err f) → Starts old new (Err f)
-not_started None new f h = tt
-not_started (Some xs) new start.Read h = tt
-not_started (Some xs) new (start.Settings e) h = no_head xs e h
+pub not_started : (c : Command) (old new : Option (List ℕ)) (f : StartFault) → FindsHead old new (Err f) → Starts c old new (Err f)
+not_started c None new f h = tt
+not_started c (Some xs) new start.Read h = tt
+not_started c (Some xs) new (start.Settings e) h = no_head c xs e h
 
-behind_head : (xs head : List ℕ) (lines : List (List ℕ)) → head_of (pieces xs) ≡ Ok (head, lines) → opened xs ≡ with_lines lines (settings_of head)
+behind_head : (c : Command) (xs head : List ℕ) (lines : List (List ℕ)) → head_of (pieces xs) ≡ Ok (head, lines) → opened c xs ≡ with_lines lines (settings_of c head)
 unfolding opened
-behind_head xs head lines h = ap start_of h
+behind_head c xs head lines h = ap (start_of c) h
 
 -- the head gives settings
-pub started : (old new : Option (List ℕ)) (head : Vec ℕ Global) (text : List ℕ) (s : Settings) → FindsHead old new (Ok head) → text ≡ head.items → settings_of text ≡ Ok s → Starts old new (Ok s)
-started None new head text s h same e = tt
-started (Some xs) None head text s h same e = absurd h
-started (Some xs) (Some ys) head text s h same e =
-    behind_head xs head.items (lines_in (pieces ys)) h ∙ ap (λ q. with_lines (lines_in (pieces ys)) q) (ap settings_of (sym same) ∙ e)
+pub started : (c : Command) (old new : Option (List ℕ)) (head : Vec ℕ Global) (text : List ℕ) (s : Start) → FindsHead old new (Ok head) → text ≡ head.items → settings_of c text ≡ Ok (given s) → Starts c old new (Ok s)
+started c None new head text s h same e = tt
+started c (Some xs) None head text s h same e = absurd h
+started c (Some xs) (Some ys) head text s h same e =
+    behind_head c xs head.items (lines_in (pieces ys)) h ∙ ap (λ q. with_lines (lines_in (pieces ys)) q) (ap (settings_of c) (sym same) ∙ e)
 
-bad_settings : (xs head : List ℕ) (lines : List (List ℕ)) (e : SettingsFault) → opened xs ≡ with_lines lines (settings_of head) → Refuses e (settings_of head) → Refuses e (opened xs)
-bad_settings xs head lines settings.NoEnd o h = o ∙ ap (with_lines lines) h
-bad_settings xs head lines settings.NoDocument o h = o ∙ ap (with_lines lines) h
-bad_settings xs head lines settings.UnknownKey o h = o ∙ ap (with_lines lines) h
-bad_settings xs head lines settings.Value o h = o ∙ ap (with_lines lines) h
-bad_settings xs head lines (settings.Ballot f) o h = o ∙ ap (with_lines lines) h
-bad_settings xs head lines settings.Memory o h = tt
+bad_settings : (c : Command) (xs head : List ℕ) (lines : List (List ℕ)) (e : SettingsFault) → opened c xs ≡ with_lines lines (settings_of c head) → Refuses e (settings_of c head) → Refuses e (opened c xs)
+bad_settings c xs head lines settings.NoEnd o h = o ∙ ap (with_lines lines) h
+bad_settings c xs head lines settings.NoDocument o h = o ∙ ap (with_lines lines) h
+bad_settings c xs head lines settings.UnknownKey o h = o ∙ ap (with_lines lines) h
+bad_settings c xs head lines settings.Value o h = o ∙ ap (with_lines lines) h
+bad_settings c xs head lines (settings.Ballot f) o h = o ∙ ap (with_lines lines) h
+bad_settings c xs head lines (settings.Weather f) o h = o ∙ ap (with_lines lines) h
+bad_settings c xs head lines (settings.Wish f) o h = o ∙ ap (with_lines lines) h
+bad_settings c xs head lines settings.Memory o h = tt
 
 -- the head gives none
-pub refused : (old new : Option (List ℕ)) (head : Vec ℕ Global) (text : List ℕ) (e : SettingsFault) → FindsHead old new (Ok head) → text ≡ head.items → Refuses e (settings_of text) → Starts old new (Err (start.Settings e))
-refused None new head text e h same r = tt
-refused (Some xs) None head text e h same r = absurd h
-refused (Some xs) (Some ys) head text e h same r =
-    bad_settings xs head.items (lines_in (pieces ys)) e (behind_head xs head.items (lines_in (pieces ys)) h) (subst (λ (t : List ℕ). Refuses e (settings_of t)) same r)
+pub refused : (c : Command) (old new : Option (List ℕ)) (head : Vec ℕ Global) (text : List ℕ) (e : SettingsFault) → FindsHead old new (Ok head) → text ≡ head.items → Refuses e (settings_of c text) → Starts c old new (Err (start.Settings e))
+refused c None new head text e h same r = tt
+refused c (Some xs) None head text e h same r = absurd h
+refused c (Some xs) (Some ys) head text e h same r =
+    bad_settings c xs head.items (lines_in (pieces ys)) e (behind_head c xs head.items (lines_in (pieces ys)) h) (subst (λ (t : List ℕ). Refuses e (settings_of c t)) same r)
 
 -- nothing was written
 nothing_yet : (o : Output) (old new : Option (List ℕ)) → new ≡ old → AppendsBeginning old new o.text
@@ -91,9 +98,9 @@ no_limit command.Script s lines f h = tt
 no_limit command.Audit s lines f h = nothing_limited (verdict_of (all_down s) lines) f h
 no_limit command.Ballot s lines f h = tt
 
-no_limit_in : (c : Command) (o : Result (Settings × List (List ℕ)) SettingsFault) (f : ServeFault) → IsOwnFault f → IsLimitedIn c o (Err f)
+no_limit_in : (c : Command) (o : Result (Given × List (List ℕ)) SettingsFault) (f : ServeFault) → IsOwnFault f → IsLimitedIn c o (Err f)
 no_limit_in c (Err e) f h = tt
-no_limit_in c (Ok parts) f h = no_limit c parts.0 parts.1 f h
+no_limit_in c (Ok parts) f h = no_limit c parts.0.settings parts.1 f h
 
 pub nothing_behind : (c : Command) (s : Settings) (left old new : Option (List ℕ)) (f : ServeFault) → IsOwnFault f → new ≡ old → WritesBehind c s left old new (Err f)
 nothing_behind c s None old new f h e = tt
@@ -101,13 +108,13 @@ nothing_behind c s (Some xs) old new f h e = (nothing_yet (settings_output c s (
 
 pub serves_nothing : (c : Command) (input old new : Option (List ℕ)) (f : ServeFault) → IsOwnFault f → new ≡ old → Serves c input old new (Err f)
 serves_nothing c None old new f h e = tt
-serves_nothing c (Some xs) old new f h e = inl (nothing_yet (output_of c xs) old new e, no_limit_in c (opened xs) f h)
+serves_nothing c (Some xs) old new f h e = inl (nothing_yet (output_of c xs) old new e, no_limit_in c (opened c xs) f h)
 
 -- refused settings are what the output tells
-refusal_told : (c : Command) (xs : List ℕ) (e : SettingsFault) (old new : Option (List ℕ)) (r : Result ℕ ServeFault) → opened xs ≡ Err e → Writes (refused_output c e) old new r → Serves c (Some xs) old new r
+refusal_told : (c : Command) (xs : List ℕ) (e : SettingsFault) (old new : Option (List ℕ)) (r : Result ℕ ServeFault) → opened c xs ≡ Err e → Writes (refused_output c e) old new r → Serves c (Some xs) old new r
 unfolding output_of
 refusal_told c xs e old new r h p =
-    inl (subst (λ (o : Output). Writes o old new r) (sym (ap (command_output c) h)) p, subst (λ (o : Result (Settings × List (List ℕ)) SettingsFault). IsLimitedIn c o r) (sym h) tt)
+    inl (subst (λ (o : Output). Writes o old new r) (sym (ap (command_output c) h)) p, subst (λ (o : Result (Given × List (List ℕ)) SettingsFault). IsLimitedIn c o r) (sym h) tt)
 
 -- only votes that make no ballot are told otherwise where the ballot is asked for
 pub plain_refusal : (e : SettingsFault) → (e ≡ settings.NoEnd) ⊎ ((e ≡ settings.NoDocument) ⊎ ((e ≡ settings.UnknownKey) ⊎ ((e ≡ settings.Value) ⊎ (e ≡ settings.Memory)))) → refusal_output e ≡ refused_ballot_output e
@@ -121,6 +128,23 @@ plain_refusal (settings.Ballot f) (inr (inl e)) = cc
 plain_refusal (settings.Ballot f) (inr (inr (inl e))) = cc
 plain_refusal (settings.Ballot f) (inr (inr (inr (inl e)))) = cc
 plain_refusal (settings.Ballot f) (inr (inr (inr (inr e)))) = cc
+plain_refusal (settings.Weather f) (inl e) = cc
+plain_refusal (settings.Weather f) (inr (inl e)) = cc
+plain_refusal (settings.Weather f) (inr (inr (inl e))) = cc
+plain_refusal (settings.Weather f) (inr (inr (inr (inl e)))) = cc
+plain_refusal (settings.Weather f) (inr (inr (inr (inr e)))) = cc
+plain_refusal (settings.Wish f) (inl e) = cc
+plain_refusal (settings.Wish f) (inr (inl e)) = cc
+plain_refusal (settings.Wish f) (inr (inr (inl e))) = cc
+plain_refusal (settings.Wish f) (inr (inr (inr (inl e)))) = cc
+plain_refusal (settings.Wish f) (inr (inr (inr (inr e)))) = cc
+
+-- weather and wishes are no answer there
+pub weather_refusal : (e : SettingsFault) (f : WeatherFault) → e ≡ settings.Weather f → refusal_output e ≡ refused_ballot_output e
+weather_refusal e f h = ap refusal_output h ∙ sym (ap refused_ballot_output h)
+
+pub wish_refusal : (e : SettingsFault) (f : LineFault) → e ≡ settings.Wish f → refusal_output e ≡ refused_ballot_output e
+wish_refusal e f h = ap refusal_output h ∙ sym (ap refused_ballot_output h)
 
 -- want of memory is told the same way for each command
 memory_told : (c : Command) (xs : List ℕ) (old new : Option (List ℕ)) (r : Result ℕ ServeFault) → Writes (refused_output c settings.Memory) old new r → Serves c (Some xs) old new r
@@ -128,27 +152,29 @@ memory_told command.Script xs old new r p = inr p
 memory_told command.Audit xs old new r p = inr p
 memory_told command.Ballot xs old new r p = inr p
 
-by_fault : (c : Command) (xs : List ℕ) (old new : Option (List ℕ)) (e : SettingsFault) (r : Result ℕ ServeFault) → Refuses e (opened xs) → Writes (refused_output c e) old new r → Serves c (Some xs) old new r
+by_fault : (c : Command) (xs : List ℕ) (old new : Option (List ℕ)) (e : SettingsFault) (r : Result ℕ ServeFault) → Refuses e (opened c xs) → Writes (refused_output c e) old new r → Serves c (Some xs) old new r
 by_fault c xs old new settings.NoEnd r h p = refusal_told c xs settings.NoEnd old new r h p
 by_fault c xs old new settings.NoDocument r h p = refusal_told c xs settings.NoDocument old new r h p
 by_fault c xs old new settings.UnknownKey r h p = refusal_told c xs settings.UnknownKey old new r h p
 by_fault c xs old new settings.Value r h p = refusal_told c xs settings.Value old new r h p
 by_fault c xs old new (settings.Ballot f) r h p = refusal_told c xs (settings.Ballot f) old new r h p
+by_fault c xs old new (settings.Weather f) r h p = refusal_told c xs (settings.Weather f) old new r h p
+by_fault c xs old new (settings.Wish f) r h p = refusal_told c xs (settings.Wish f) old new r h p
 by_fault c xs old new settings.Memory r h p = memory_told c xs old new r p
 
-pub serves_refusal : (c : Command) (input left old new : Option (List ℕ)) (f : StartFault) (r : Result ℕ ServeFault) → Starts input left (Err f) → RefusesStart c f old new r → Serves c input old new r
+pub serves_refusal : (c : Command) (input left old new : Option (List ℕ)) (f : StartFault) (r : Result ℕ ServeFault) → Starts c input left (Err f) → RefusesStart c f old new r → Serves c input old new r
 serves_refusal c None left old new f r h p = tt
 serves_refusal c (Some xs) left old new start.Read r h p =
     subst (λ (q : Result ℕ ServeFault). Serves c (Some xs) old new q) (sym p.0) (serves_nothing c (Some xs) old new fault.Read tt p.1)
 serves_refusal c (Some xs) left old new (start.Settings e) r h p = by_fault c xs old new e r h p
 
 -- what is written for the settings and the lines behind them is the output
-pub serves_behind : (c : Command) (input left old new : Option (List ℕ)) (s : Settings) (r : Result ℕ ServeFault) → Starts input left (Ok s) → WritesBehind c s left old new r → Serves c input old new r
+pub serves_behind : (c : Command) (input left old new : Option (List ℕ)) (s : Start) (r : Result ℕ ServeFault) → Starts c input left (Ok s) → WritesBehind c s.settings left old new r → Serves c input old new r
 unfolding output_of
 serves_behind c None left old new s r h p = tt
 serves_behind c (Some xs) None old new s r h p = absurd h
 serves_behind c (Some xs) (Some ys) old new s r h p =
-    inl (subst (λ (o : Output). Writes o old new r) (sym (ap (command_output c) h)) p.0, subst (λ (o : Result (Settings × List (List ℕ)) SettingsFault). IsLimitedIn c o r) (sym h) p.1)
+    inl (subst (λ (o : Output). Writes o old new r) (sym (ap (command_output c) h)) p.0, subst (λ (o : Result (Given × List (List ℕ)) SettingsFault). IsLimitedIn c o r) (sym h) p.1)
 
 -- the lines of a script are told from the world in which all have risen
 pub lines_behind : (s : Settings) (w : ExactWorld) (left old new : Option (List ℕ)) (r : Result ℕ ServeFault) → w ≡ all_risen s → WritesLines w left old new r → WritesBehind command.Script s left old new r

@@ -33,7 +33,7 @@ use Rattle.operator_cli.specs.Faults.{settings_fault_number}
 use Rattle.operator_cli.specs.Lines.{line_of}
 use Rattle.operator_cli.specs.Openings.{all_risen, all_down}
 use Rattle.line_streams.specs.Streams.{pieces, lines_in, AppendsBeginning}
-use Rattle.operator_cli.specs.Settings.{settings_of}
+use Rattle.operator_cli.specs.Settings.{Given, settings_of}
 use Rattle.operator_cli.specs.Texts.{effect_text, refused_text, answer_text, line_fault_text, settings_fault_text, ballot_text}
 
 -- What one event or query prints, whether it was refused, and the world after it.
@@ -106,17 +106,18 @@ within_room (Some parts) = if nat_lt (length parts.0) HEAD_ROOM then Ok (parts.0
 unfoldable pub head_of : List (List ℕ) → Result (List ℕ × List (List ℕ)) SettingsFault
 head_of ps = within_room (parts_at_dashes ps)
 
--- The settings of an input and the lines behind them, or what is wrong with the settings.
-abbrev pub with_lines : List (List ℕ) → Result Settings SettingsFault → Result (Settings × List (List ℕ)) SettingsFault
+-- What the settings of an input give to a command, and the lines behind them, or what is wrong with the
+-- settings.
+abbrev pub with_lines : List (List ℕ) → Result Given SettingsFault → Result (Given × List (List ℕ)) SettingsFault
 with_lines lines (Err e) = Err e
 with_lines lines (Ok s) = Ok (s, lines)
 
-abbrev pub start_of : Result (List ℕ × List (List ℕ)) SettingsFault → Result (Settings × List (List ℕ)) SettingsFault
-start_of (Err e) = Err e
-start_of (Ok parts) = with_lines parts.1 (settings_of parts.0)
+abbrev pub start_of : Command → Result (List ℕ × List (List ℕ)) SettingsFault → Result (Given × List (List ℕ)) SettingsFault
+start_of c (Err e) = Err e
+start_of c (Ok parts) = with_lines parts.1 (settings_of c parts.0)
 
-unfoldable pub opened : List ℕ → Result (Settings × List (List ℕ)) SettingsFault
-opened input = start_of (head_of (pieces input))
+unfoldable pub opened : Command → List ℕ → Result (Given × List (List ℕ)) SettingsFault
+opened c input = start_of c (head_of (pieces input))
 
 -- refused settings print their fault and nothing else
 abbrev pub refusal_output : SettingsFault → Output
@@ -129,6 +130,8 @@ refused_ballot_output settings.NoDocument = refusal_output settings.NoDocument
 refused_ballot_output settings.UnknownKey = refusal_output settings.UnknownKey
 refused_ballot_output settings.Value = refusal_output settings.Value
 refused_ballot_output (settings.Ballot f) = record { text = refused_text (ballot_fault_number f); status = 1 }
+refused_ballot_output (settings.Weather f) = refusal_output (settings.Weather f)
+refused_ballot_output (settings.Wish f) = refusal_output (settings.Wish f)
 refused_ballot_output settings.Memory = refusal_output settings.Memory
 
 abbrev pub refused_output : Command → SettingsFault → Output
@@ -152,13 +155,13 @@ settings_output command.Script s lines = lines_output (all_risen s) 1 lines
 settings_output command.Audit s lines = verdict_output (verdict_of (all_down s) lines)
 settings_output command.Ballot s lines = record { text = ballot_text s.ballot; status = 0 }
 
-abbrev pub command_output : Command → Result (Settings × List (List ℕ)) SettingsFault → Output
+abbrev pub command_output : Command → Result (Given × List (List ℕ)) SettingsFault → Output
 command_output c (Err e) = refused_output c e
-command_output c (Ok parts) = settings_output c parts.0 parts.1
+command_output c (Ok parts) = settings_output c parts.0.settings parts.1
 
 -- The output of a command: what it writes for these bytes, and its status.
 unfoldable pub output_of : Command → List ℕ → Output
-output_of c input = command_output c (opened input)
+output_of c input = command_output c (opened c input)
 
 -- The output was written, and the status is its own; after a fault a beginning of it was written.
 abbrev pub Writes : Output → Option (List ℕ) → Option (List ℕ) → Result ℕ ServeFault → Type 0
@@ -182,13 +185,13 @@ IsLimited command.Script s lines r = Unit {0}
 IsLimited command.Audit s lines r = KeepsLimit (verdict_of (all_down s) lines) r
 IsLimited command.Ballot s lines r = Unit {0}
 
-abbrev pub IsLimitedIn : Command → Result (Settings × List (List ℕ)) SettingsFault → Result ℕ ServeFault → Type 0
+abbrev pub IsLimitedIn : Command → Result (Given × List (List ℕ)) SettingsFault → Result ℕ ServeFault → Type 0
 IsLimitedIn c (Err e) r = Unit {0}
-IsLimitedIn c (Ok parts) r = IsLimited c parts.0 parts.1 r
+IsLimitedIn c (Ok parts) r = IsLimited c parts.0.settings parts.1 r
 
 -- What `serve` does for a command with known bytes: it writes their output and answers its status or,
 -- where memory was refused for the settings, the line that says so and 2. After a fault a beginning of
 -- it was written. Of a journal the greatest number of lines is kept.
 abbrev pub Serves : Command → Option (List ℕ) → Option (List ℕ) → Option (List ℕ) → Result ℕ ServeFault → Type 0
 Serves c None old new r = Unit {0}
-Serves c (Some input) old new r = (Writes (output_of c input) old new r × IsLimitedIn c (opened input) r) ⊎ Writes (refusal_output settings.Memory) old new r
+Serves c (Some input) old new r = (Writes (output_of c input) old new r × IsLimitedIn c (opened c input) r) ⊎ Writes (refusal_output settings.Memory) old new r

@@ -1,6 +1,6 @@
 -- Parts of an output: what the private functions of a run owe one another. Who reads what `serve`
 -- promises has no need of them.
-use Rattle.std.specs.Prelude.{◌≡◌, ◌⊎◌, ℕ, ◌+◌, ◌<◌, ◌≤◌, ◌-◌, ◌==◌, Vec, Bool, true, false, if◌then◌else◌, List, [], ◌++◌, length, replicate, Option, Some, None, Result, Ok, Err}
+use Rattle.std.specs.Prelude.{◌≡◌, ◌⊎◌, ℕ, ◌+◌, ◌<◌, ◌≤◌, ◌-◌, Vec, Bool, true, if◌then◌else◌, List, [], ◌++◌, length, replicate, Option, Some, None, Result, Ok, Err}
 use Rattle.std.specs.Global.{Global}
 use Rattle.std.specs.Io.KnownBytes.{Appends}
 use Rattle.lock_messages.specs.declared.tickets.Ticket.{Ticket}
@@ -12,8 +12,6 @@ use Rattle.world_model.specs.declared.events.StepFault.TheVariants as refusal
 use Rattle.world_model.specs.declared.exact.ExactWorld.{ExactWorld}
 use Rattle.world_model.specs.Faults.{fault_number}
 use Rattle.world_model.specs.Openings.{empty_station, down_node, down_client}
-use Rattle.history_check.specs.declared.faults.LineFault.{LineFault}
-use Rattle.history_check.specs.declared.faults.LineFault.TheVariants as bad
 use Rattle.operator_cli.specs.declared.faults.ServeFault.{ServeFault}
 use Rattle.operator_cli.specs.declared.faults.ServeFault.TheVariants.{Memory}
 use Rattle.operator_cli.specs.declared.faults.ServeFault.TheVariants as fault
@@ -21,18 +19,14 @@ use Rattle.operator_cli.specs.declared.faults.SettingsFault.TheVariants as setti
 use Rattle.operator_cli.specs.declared.heads.TheConstants.{HEAD_ROOM}
 use Rattle.operator_cli.specs.declared.heads.StartFault.{StartFault}
 use Rattle.operator_cli.specs.declared.heads.StartFault.TheVariants as start
-use Rattle.history_check.specs.declared.lines.Line.{Line}
 use Rattle.line_streams.specs.declared.reading.End.{End}
-use Rattle.line_streams.specs.declared.reading.End.TheVariants.{LineFeed, Input, Limit}
 use Rattle.journal_audit.specs.Verdicts.{verdict_of}
 use Rattle.operator_cli.specs.declared.orders.Command.{Command}
-use Rattle.operator_cli.specs.declared.script.Judged.{Judged}
-use Rattle.operator_cli.specs.declared.script.Judged.TheVariants as judged
 use Rattle.operator_cli.specs.declared.settings.Settings.{Settings}
-use Rattle.operator_cli.specs.Lines.{line_of}
+use Rattle.operator_cli.specs.declared.settings.Start.{Start}
 use Rattle.operator_cli.specs.Openings.{risen_node, risen_client}
 use Rattle.line_streams.specs.Streams.{pieces, lines_in, KnownLeft, ReadsPiece, AppendsBeginning}
-use Rattle.operator_cli.specs.Settings.{Refuses}
+use Rattle.operator_cli.specs.Settings.{Refuses, given}
 use Rattle.operator_cli.specs.Texts.{refused_text}
 use Rattle.operator_cli.specs.Outputs.{Told, lines_output, settings_output, verdict_output, KeepsLimit, IsLimited, head_of, opened, refused_output, Writes}
 
@@ -72,21 +66,6 @@ abbrev pub WritesAnswer : Told → Option (List ℕ) → Option (List ℕ) → R
 WritesAnswer t old new (Ok refused) w = Appends old new t.text × (refused ≡ t.refused) × (w ≡ t.world)
 WritesAnswer t old new (Err e) w = AppendsBeginning old new t.text
 
--- what a piece says, by how it ended; a last piece that is empty is no line
-abbrev pub judged_line : Result Line LineFault → Judged
-judged_line (Ok l) = judged.Says l
-judged_line (Err e) = judged.Bad e
-
-abbrev pub judged_piece : End → List ℕ → Judged
-judged_piece LineFeed piece = judged_line (line_of piece)
-judged_piece Input piece = if length piece == 0 then judged.End else judged_line (line_of piece)
-judged_piece Limit piece = judged.Bad bad.Words
-
-abbrev pub is_last : End → Bool
-is_last LineFeed = false
-is_last Input = true
-is_last Limit = false
-
 abbrev pub status_of : Bool → ℕ
 status_of refused = if refused then 1 else 0
 
@@ -114,13 +93,13 @@ FindsHead (Some xs) new (Ok head) = KnownLeft new (λ ys. head_of (pieces xs) �
 FindsHead (Some xs) new (Err start.Read) = Unit {0}
 FindsHead (Some xs) new (Err (start.Settings e)) = Refuses e (head_of (pieces xs))
 
--- What a call read as the settings, of known bytes: these, and behind them the bytes that are left; or
--- that they are refused.
-abbrev pub Starts : Option (List ℕ) → Option (List ℕ) → Result Settings StartFault → Type 0
-Starts None new r = Unit {0}
-Starts (Some xs) new (Ok s) = KnownLeft new (λ ys. opened xs ≡ Ok (s, lines_in (pieces ys)))
-Starts (Some xs) new (Err start.Read) = Unit {0}
-Starts (Some xs) new (Err (start.Settings e)) = Refuses e (opened xs)
+-- What a call read as the settings of a command, of known bytes: these, and behind them the bytes that
+-- are left; or that they are refused.
+abbrev pub Starts : Command → Option (List ℕ) → Option (List ℕ) → Result Start StartFault → Type 0
+Starts c None new r = Unit {0}
+Starts c (Some xs) new (Ok s) = KnownLeft new (λ ys. opened c xs ≡ Ok (given s, lines_in (pieces ys)))
+Starts c (Some xs) new (Err start.Read) = Unit {0}
+Starts c (Some xs) new (Err (start.Settings e)) = Refuses e (opened c xs)
 
 -- how a run ends that has no settings
 abbrev pub RefusesStart : Command → StartFault → Option (List ℕ) → Option (List ℕ) → Result ℕ ServeFault → Type 0

@@ -1,9 +1,9 @@
 -- Settings: the TOML document that an input begins with, and what it says.
-use Rattle.std.specs.Prelude.{◌≡◌, ℕ, ◌&&◌, ◌==◌, Bool, true, nat_le, if◌then◌else◌, List, [], ◌∷◌, ℤ, pos, negsuc, Option, Some, None, option_map, option_and_then, Result, Ok, Err, codes}
+use Rattle.std.specs.Prelude.{◌≡◌, ℕ, suc, ◌+◌, ◌&&◌, ◌||◌, ◌==◌, Bool, true, false, nat_le, if◌then◌else◌, List, [], ◌∷◌, ℤ, pos, negsuc, Option, Some, None, option_map, option_and_then, is_some, Result, Ok, Err, codes}
 use Rattle.std.specs.List.{list_any}
 use Rattle.std.specs.Option.{ok_or}
 use Rattle.std.specs.Str.{bytes_eq, is_utf8}
-use Rattle.toml.specs.Data.{Items, no_items, item, Members, no_members, member, get_member, as_integer, as_array}
+use Rattle.toml.specs.Data.{Items, no_items, item, Data, Members, no_members, member, get_member, as_integer, as_str, as_array}
 use Rattle.toml.specs.Parse.{parse_document}
 use Rattle.lock_messages.specs.declared.ids.TheConstants.{MAX_CLIENTS}
 use Rattle.lock_model.specs.declared.problems.Problem.{Problem}
@@ -14,7 +14,17 @@ use Rattle.vote_weights.specs.Faults.{fault_of, ballot_unless}
 use Rattle.vote_weights.specs.declared.faults.BallotFault.{BallotFault}
 use Rattle.operator_cli.specs.declared.faults.SettingsFault.{SettingsFault}
 use Rattle.operator_cli.specs.declared.faults.SettingsFault.TheVariants as fault
+use Rattle.history_check.specs.declared.faults.LineFault.{LineFault}
+use Rattle.history_check.specs.declared.wishes.Wish.{Wish}
+use Rattle.history_check.specs.Wishes.{wish_among}
+use Rattle.lossy_link.specs.declared.faults.WeatherFault.TheVariants.{OverThousand}
+use Rattle.lossy_link.specs.Weathers.{Climate, climate_of, odds_of}
+use Rattle.operator_cli.specs.declared.orders.Command.{Command}
+use Rattle.operator_cli.specs.declared.orders.Command.TheVariants as command
+use Rattle.operator_cli.specs.declared.settings.RunValues.{RunValues}
 use Rattle.operator_cli.specs.declared.settings.Settings.{Settings}
+use Rattle.operator_cli.specs.declared.settings.Start.{Start}
+use Rattle.operator_cli.specs.declared.settings.TheConstants.{MAX_WISHES}
 
 infixl 10 ◌>>=◌
 -- the next value is judged where no fault was met
@@ -29,18 +39,23 @@ Refuses fault.NoDocument judged = judged ≡ Err fault.NoDocument
 Refuses fault.UnknownKey judged = judged ≡ Err fault.UnknownKey
 Refuses fault.Value judged = judged ≡ Err fault.Value
 Refuses (fault.Ballot f) judged = judged ≡ Err (fault.Ballot f)
+Refuses (fault.Weather f) judged = judged ≡ Err (fault.Weather f)
+Refuses (fault.Wish f) judged = judged ≡ Err (fault.Wish f)
 Refuses fault.Memory judged = Unit {0}
 
 abbrev pub Judges : {X Y : Type 0} → (X → Y) → Result X SettingsFault → Result Y SettingsFault → Type 0
 Judges view (Ok x) judged = judged ≡ Ok (view x)
 Judges view (Err e) judged = Refuses e judged
 
--- the keys that settings have
-abbrev pub known_keys : List (List ℕ)
-known_keys = codes "votes" ∷ codes "read" ∷ codes "write" ∷ codes "problem" ∷ codes "clients" ∷ []
+-- the keys that settings have: those that tell of the world, and those that tell of a run
+abbrev pub world_keys : List (List ℕ)
+world_keys = codes "votes" ∷ codes "read" ∷ codes "write" ∷ codes "problem" ∷ codes "clients" ∷ []
+
+abbrev pub run_keys : List (List ℕ)
+run_keys = codes "seed" ∷ codes "lose" ∷ codes "twice" ∷ codes "late" ∷ codes "wishes" ∷ []
 
 abbrev pub is_known : List ℕ → Bool
-is_known key = list_any (bytes_eq key) known_keys
+is_known key = list_any (bytes_eq key) world_keys || list_any (bytes_eq key) run_keys
 
 abbrev pub all_known : Members → Bool
 all_known no_members = true
@@ -54,6 +69,32 @@ within least most (negsuc n) = None
 -- the integer at a key, from least to most
 abbrev pub number_at : ℕ → ℕ → List ℕ → Members → Result ℕ SettingsFault
 number_at least most key document = ok_or (option_and_then (within least most) (option_and_then as_integer (get_member key document))) fault.Value
+
+-- the same, and another one where there is no such key
+abbrev pub unless_missing : Option Data → ℕ → Result ℕ SettingsFault → Result ℕ SettingsFault
+unless_missing None absent found = Ok absent
+unless_missing (Some value) absent found = found
+
+abbrev pub number_or : ℕ → ℕ → ℕ → List ℕ → Members → Result ℕ SettingsFault
+number_or absent least most key document = unless_missing (get_member key document) absent (number_at least most key document)
+
+-- the integer at a key that only the question for the ballot can do without
+abbrev pub number_for : Command → ℕ → ℕ → ℕ → List ℕ → Members → Result ℕ SettingsFault
+number_for command.Script absent least most key document = number_at least most key document
+number_for command.Audit absent least most key document = number_at least most key document
+number_for command.Ballot absent least most key document = number_or absent least most key document
+
+-- the number of the weather: no negative one, and 0 where there is none
+abbrev pub natural : ℤ → Option ℕ
+natural (pos n) = Some n
+natural (negsuc n) = None
+
+abbrev pub seed_in : Option Data → Result ℕ SettingsFault
+seed_in None = Ok 0
+seed_in (Some value) = ok_or (option_and_then natural (as_integer value)) fault.Value
+
+abbrev pub seed_at : Members → Result ℕ SettingsFault
+seed_at document = seed_in (get_member (codes "seed") document)
 
 -- a list of numbers from 0 to 255
 abbrev pub put_first : Option ℕ → Option (List ℕ) → Option (List ℕ)
@@ -71,25 +112,101 @@ votes_at document = ok_or (option_and_then vote_list (option_and_then as_array (
 abbrev pub problem_numbered : ℕ → Problem
 problem_numbered number = if number == 1 then First else Second
 
-abbrev pub problem_at : Members → Result Problem SettingsFault
-problem_at document = number_at 1 2 (codes "problem") document >>= (λ number. Ok (problem_numbered number))
+abbrev pub problem_at : Command → Members → Result Problem SettingsFault
+problem_at c document = number_for c 1 1 2 (codes "problem") document >>= (λ number. Ok (problem_numbered number))
+
+abbrev pub clients_at : Command → Members → Result ℕ SettingsFault
+clients_at c document = number_for c MAX_CLIENTS 1 MAX_CLIENTS (codes "clients") document
 
 abbrev pub with_ballot : Problem → ℕ → Result Ballot BallotFault → Result Settings SettingsFault
 with_ballot problem clients (Ok b) = Ok (record { ballot = b; problem = problem; clients = clients })
 with_ballot problem clients (Err f) = Err (fault.Ballot f)
 
--- Each value is needed: the votes of each node, how many a read and a write need, the problem that
--- all nodes solve, 1 or 2, and how many clients there are.
-unfoldable pub values_of : Members → Result Settings SettingsFault
-values_of document =
+-- What the values say of the world: the votes of each node, how many a read and a write need, the
+-- problem that all nodes solve, 1 or 2, and how many clients there are. Each is needed, but that the
+-- question for the ballot does without the last two.
+unfoldable pub world_of : Command → Members → Result Settings SettingsFault
+world_of c document =
     votes_at document >>= (λ votes. number_at 0 65535 (codes "read") document >>= (λ read. number_at 0 65535 (codes "write") document >>= (λ write.
-    problem_at document >>= (λ problem. number_at 1 MAX_CLIENTS (codes "clients") document >>= (λ clients.
+    problem_at c document >>= (λ problem. clients_at c document >>= (λ clients.
     let b = ballot_of votes read write in with_ballot problem clients (ballot_unless (fault_of b) b))))))
 
-abbrev pub document_settings : Option Members → Result Settings SettingsFault
-document_settings None = Err fault.NoDocument
-document_settings (Some document) = if all_known document then values_of document else Err fault.UnknownKey
+-- the values at `wishes` are texts, and no more than there may be
+abbrev pub count : Items → ℕ
+count no_items = 0
+count (item value rest) = suc (count rest)
 
--- the settings that a head gives, or the first thing that is wrong with them
-unfoldable pub settings_of : List ℕ → Result Settings SettingsFault
-settings_of head = if is_utf8 head then document_settings (parse_document head) else Err fault.NoDocument
+abbrev pub are_texts : Items → Bool
+are_texts no_items = true
+are_texts (item value rest) = is_some (as_str value) && are_texts rest
+
+abbrev pub are_few_texts : Items → Bool
+are_few_texts items = nat_le (count items) MAX_WISHES && are_texts items
+
+abbrev pub few_texts_in : Option Items → Bool
+few_texts_in None = false
+few_texts_in (Some items) = are_few_texts items
+
+abbrev pub wish_texts_in : Option Data → Bool
+wish_texts_in None = true
+wish_texts_in (Some value) = few_texts_in (as_array value)
+
+abbrev pub has_wish_texts : Members → Bool
+has_wish_texts document = wish_texts_in (get_member (codes "wishes") document)
+
+-- The numbers that a weather is made of; a missing one is 0. What is said of the wishes here is only
+-- that they are texts.
+unfoldable pub run_values : Members → Result RunValues SettingsFault
+run_values document =
+    seed_at document >>= (λ seed. number_or 0 0 1000 (codes "lose") document >>= (λ lose. number_or 0 0 1000 (codes "twice") document >>= (λ twice.
+    number_or 0 0 1000 (codes "late") document >>= (λ late.
+    if has_wish_texts document then Ok (record { seed = seed; lose = lose; twice = twice; late = late }) else Err fault.Value))))
+
+-- the weather of these numbers
+abbrev pub weather_of : RunValues → Result Climate SettingsFault
+weather_of run =
+    if nat_le (run.lose + run.twice + run.late) 1000 then Ok (climate_of run.seed (odds_of run.lose run.twice run.late)) else Err (fault.Weather OverThousand)
+
+-- the wishes that texts are, in order, or the first fault of one
+abbrev pub wish_said : Result Wish LineFault → Result Wish SettingsFault
+wish_said (Ok w) = Ok w
+wish_said (Err f) = Err (fault.Wish f)
+
+abbrev pub wish_from : ℕ → Option (List ℕ) → Result Wish SettingsFault
+wish_from clients None = Err fault.Value
+wish_from clients (Some text) = wish_said (wish_among clients text)
+
+abbrev pub wishes_in : ℕ → Items → Result (List Wish) SettingsFault
+wishes_in clients no_items = Ok []
+wishes_in clients (item value rest) = wish_from clients (as_str value) >>= (λ w. wishes_in clients rest >>= (λ ws. Ok (w ∷ ws)))
+
+abbrev pub wishes_of : ℕ → Option Items → Result (List Wish) SettingsFault
+wishes_of clients None = Ok []
+wishes_of clients (Some items) = wishes_in clients items
+
+abbrev pub wishes_at : ℕ → Members → Result (List Wish) SettingsFault
+wishes_at clients document = wishes_of clients (option_and_then as_array (get_member (codes "wishes") document))
+
+-- What settings give: the world, the weather of each link of a run, and the wishes, in order.
+pub record Given : Type 0 where
+  pub settings : Settings
+  pub weather : Climate
+  pub wishes : List Wish
+
+abbrev pub given : Start → Given
+given s = record { settings = s.settings; weather = s.weather; wishes = s.wishes.items }
+
+-- What the values say. First each is judged by itself, then the ballot, then the weather, and then the
+-- wishes.
+unfoldable pub values_of : Command → Members → Result Given SettingsFault
+values_of c document =
+    run_values document >>= (λ run. world_of c document >>= (λ s. weather_of run >>= (λ w. wishes_at s.clients document >>= (λ ws.
+    Ok (record { settings = s; weather = w; wishes = ws })))))
+
+abbrev pub document_settings : Command → Option Members → Result Given SettingsFault
+document_settings c None = Err fault.NoDocument
+document_settings c (Some document) = if all_known document then values_of c document else Err fault.UnknownKey
+
+-- what a head gives to a command, or the first thing that is wrong with it
+unfoldable pub settings_of : Command → List ℕ → Result Given SettingsFault
+settings_of c head = if is_utf8 head then document_settings c (parse_document head) else Err fault.NoDocument

@@ -3,7 +3,9 @@
 ghost use Rattle.std.specs.Prelude.{◌≡◌};
 ghost use Rattle.operator_cli.specs.Faults.{settings_fault_number, serve_fault_number};
 
+use history_check::LineFault;
 use journal_audit::AuditFault;
+use lossy_link::WeatherFault;
 use thiserror::Error;
 use vote_weights::BallotFault;
 
@@ -25,13 +27,20 @@ pub enum SettingsFault {
     /// 201 to 205: the votes make no ballot.
     #[error("the votes make no ballot: {0}")]
     Ballot(BallotFault),
+    /// 901: of a thousand parcels more than a thousand would be lost, go twice or be late.
+    #[error("the settings make no weather: {0}")]
+    Weather(WeatherFault),
+    /// 801, 802, 804 or 805: what is wrong with the first wish that is none.
+    #[error("a wish of the settings is none: {0}")]
+    Wish(LineFault),
     /// 925: memory was refused.
     #[error("there was no memory for the settings")]
     Memory,
 }
 
 impl SettingsFault {
-    /// The number by which programs print the fault: 921 to 925, or the ballot's 201 to 205.
+    /// The number by which programs print the fault: 921 to 925, or that of the ballot (201 to 205), of
+    /// the weather (901) or of the wish.
     pub fn number(self) -> u16
         ensures { result ≡ settings_fault_number self }
     {
@@ -41,6 +50,8 @@ impl SettingsFault {
             SettingsFault::UnknownKey => 923,
             SettingsFault::Value => 922,
             SettingsFault::Ballot(fault) => fault.number(),
+            SettingsFault::Weather(fault) => fault.number(),
+            SettingsFault::Wish(fault) => fault.number(),
             SettingsFault::Memory => 925,
         }
     }

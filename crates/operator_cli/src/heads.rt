@@ -6,8 +6,8 @@ ghost use Rattle.std.specs.Str.{bytes_eq};
 ghost use Rattle.operator_cli.specs.Outputs.{dashes};
 ghost use Rattle.operator_cli.specs.PartOutputs.{HeadPiece, FindsHead, Starts};
 
-use crate::SettingsFault;
-use crate::settings::{Settings, read_settings};
+use crate::settings::{Start, read_settings};
+use crate::{Command, SettingsFault};
 use line_streams::{End, LineReader, StreamFault};
 use std::alloc::{AllocError, Global};
 use std::io::Read;
@@ -83,20 +83,21 @@ fn read_head<R: Read>(alloc: Global, source: &mut LineReader<R>) -> Result<Vec<u
     Err(StartFault::Settings(SettingsFault::NoEnd))
 }
 
-/// Reads the settings.
+/// Reads the settings of a command.
 pub fn read_start<R: Read>(
     alloc: Global,
+    command: Command,
     source: &mut LineReader<R>,
-) -> Result<Settings, StartFault>
-    ensures settings { Starts source.old source.new result }
-    ensures in_range { IfOk result (λ s. (1 ≤ s.clients) × (s.clients ≤ MAX_CLIENTS)) }
+) -> Result<Start, StartFault>
+    ensures start { Starts command source.old source.new result }
+    ensures in_range { IfOk result (λ s. (1 ≤ s.settings.clients) × (s.settings.clients ≤ MAX_CLIENTS)) }
 {
     let head = match read_head(alloc, source) {
         Ok(head) => head,
         Err(fault) => return Err(fault),
     };
-    match read_settings(alloc, head.as_slice()) {
-        Ok(settings) => Ok(settings),
+    match read_settings(alloc, command, head.as_slice()) {
+        Ok(start) => Ok(start),
         Err(fault) => Err(StartFault::Settings(fault)),
     }
 }

@@ -1,11 +1,12 @@
 //! What the operator's program does: from the bytes that come in to the bytes that go out.
 //!
-//! An input begins with settings in TOML, which a line `---` ends. Of a script each line behind it is
-//! an event of a world of voting nodes and clients, or a query: who is inside a resource, and who waits
-//! for a node's vote or holds it. Every actor is up at first. `serve` takes the events one after
-//! another, prints what each did or why it was refused, and answers the status of the program. Of a
-//! journal the lines are events from a world in which all actors are down, and `serve` prints whether
-//! they are a run. Asked for the ballot, it prints that of the settings alone.
+//! An input begins with settings in TOML, which a line `---` ends; they tell of the world, and of the
+//! weather and the wishes of a run, which are judged here and used by no command yet. Of a script each
+//! line behind it is an event of a world of voting nodes and clients, or a query: who is inside a
+//! resource, and who waits for a node's vote or holds it. Every actor is up at first. `serve` takes the
+//! events one after another, prints what each did or why it was refused, and answers the status of the
+//! program. Of a journal the lines are events from a world in which all actors are down, and `serve`
+//! prints whether they are a run. Asked for the ballot, it prints that of the settings alone.
 //!
 //! The crate promises that what `serve` writes for a command is, byte for byte, a stated function of the
 //! bytes that it reads, and so is the status; after a fault a beginning of that output was written. The
@@ -16,8 +17,9 @@
 //! place. The input is streamed: beside the world, the settings and one line are all that is kept of
 //! it. The policies by which nodes decide are the caller's.
 //!
-//! It stands on `line_streams`, `history_check`, `journal_audit`, `lock_messages`, `lock_model`,
-//! `vote_weights`, `admission_policy`, `world_model`, `world_machine`, `toml` and `thiserror`.
+//! It stands on `line_streams`, `history_check`, `journal_audit`, `lossy_link` for the weather,
+//! `lock_messages`, `lock_model`, `vote_weights`, `admission_policy`, `world_model`, `world_machine`,
+//! `toml` and `thiserror`.
 #![tactic(auto)]
 
 mod answers;
@@ -34,5 +36,6 @@ mod texts;
 pub use faults::{ServeFault, SettingsFault};
 pub use history_check::LineFault;
 pub use journal_audit::AuditFault;
+pub use lossy_link::WeatherFault;
 pub use orders::{Command, Order, Policies};
 pub use serving::serve;

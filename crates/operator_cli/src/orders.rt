@@ -43,7 +43,11 @@ fn front(policies: Vec<Box<dyn Admission + Send>>, count: u8) -> Vec<Box<dyn Adm
 }
 
 /// The policies of so many nodes that solve the problem.
-pub fn chosen(policies: Policies, problem: Problem, nodes: u8) -> Vec<Box<dyn Admission + Send>>
+pub(crate) fn chosen(
+    policies: Policies,
+    problem: Problem,
+    nodes: u8,
+) -> Vec<Box<dyn Admission + Send>>
     requires first { map problem_of policies.first.items ≡ replicate MAX_NODES First }
     requires second { map problem_of policies.second.items ≡ replicate MAX_NODES Second }
     requires few { nodes ≤ MAX_NODES }

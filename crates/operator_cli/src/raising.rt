@@ -66,7 +66,7 @@ fn raise_clients(world: &mut World, settings: &Settings) -> Result<(), ServeFaul
 
 /// Raises every node and then every client of a world in which nothing is kept. The only fault is want
 /// of memory, at a node.
-pub fn raise_all(world: &mut World, settings: &Settings) -> Result<(), ServeFault>
+pub(crate) fn raise_all(world: &mut World, settings: &Settings) -> Result<(), ServeFault>
     requires in_range { settings.now.clients ≤ MAX_CLIENTS }
     requires opening { world.old ≡ opening settings.now.ballot (replicate (length settings.now.ballot.votes) settings.now.problem) settings.now.clients }
     ensures { OnOk result (world.new ≡ all_risen settings.now) }

@@ -4,10 +4,9 @@ ghost use Rattle.std.specs.Prelude.{◌≡◌, ◌||◌, IfOk};
 ghost use Rattle.std.specs.Io.KnownBytes.{Keeps};
 ghost use Rattle.line_streams.specs.Streams.{ReadsPiece, Grows, with_gathered, Puts};
 ghost use Rattle.history_check.specs.Faults.{line_fault_number};
-ghost use Rattle.operator_cli.specs.Lines.{line_of};
 ghost use Rattle.history_check.specs.declared.words.TheConstants.{MAX_LINE_LEN};
 ghost use Rattle.operator_cli.specs.Outputs.{Writes, told};
-ghost use Rattle.operator_cli.specs.PartOutputs.{WritesAnswer, WritesLines, judged_line, judged_piece, is_last, status_of};
+ghost use Rattle.operator_cli.specs.PartOutputs.{WritesAnswer, WritesLines, status_of};
 ghost use Rattle.operator_cli.specs.Texts.{line_fault_text};
 
 use crate::answers::answer_line;
@@ -19,48 +18,6 @@ use line_streams::{End, Gathered, LineReader, StreamFault};
 use std::alloc::Global;
 use std::io::{Read, Write};
 use world_machine::World;
-
-/// What a piece of the input says.
-#[derive(Clone, Copy, Debug, PartialEq, Eq)]
-pub enum Judged {
-    /// Nothing: it stands behind the last line.
-    End,
-    Says(Line),
-    Bad(LineFault),
-}
-
-/// What a line says.
-fn judged_line(line: &[u8]) -> Judged
-    ensures { result ≡ judged_line (line_of line.now) }
-{
-    match read_line(line) {
-        Ok(line) => Judged::Says(line),
-        Err(fault) => Judged::Bad(fault),
-    }
-}
-
-/// What a piece says, by how it ended.
-fn judged_piece(end: End, piece: &[u8]) -> Judged
-    ensures { result ≡ judged_piece end piece.now }
-{
-    match end {
-        End::LineFeed => judged_line(piece),
-        End::Input => {
-            if piece.is_empty() {
-                return Judged::End;
-            }
-            judged_line(piece)
-        }
-        End::Limit => Judged::Bad(LineFault::Words),
-    }
-}
-
-/// Whether the piece is the last one.
-fn is_last(end: End) -> bool
-    ensures { result ≡ is_last end }
-{
-    matches!(end, End::Input)
-}
 
 /// The status of a run in which something was refused, or nothing.
 fn status_of(refused: bool) -> u8
@@ -190,17 +147,20 @@ pub fn tell_lines<R: Read, W: Write>(
             Ok(end) => end,
             Err(fault) => return Err(fault),
         };
-        let line = match judged_piece(end, piece.as_slice()) {
-            Judged::End => return Ok(status_of(refused)),
-            Judged::Bad(fault) => return tell_fault(number, fault, &mut text, out, writer),
-            Judged::Says(line) => line,
+        let bytes = piece.as_slice();
+        if end.ends_no_line(bytes) {
+            return Ok(status_of(refused));
+        }
+        let line = match read_line(bytes) {
+            Ok(line) => line,
+            Err(fault) => return tell_fault(number, fault, &mut text, out, writer),
         };
         let now_refused = match tell(alloc, world, &line, &mut text, out, writer) {
             Ok(now_refused) => now_refused,
             Err(fault) => return Err(fault),
         };
         refused = either(refused, now_refused);
-        if is_last(end) {
+        if end.is_last() {
             return Ok(status_of(refused));
         }
     }

@@ -4,6 +4,8 @@ ghost use Rattle.std.specs.Prelude.{◌≡◌, ◌≤◌, map, replicate, IfOk};
 ghost use Rattle.lock_messages.specs.declared.ids.TheConstants.{MAX_NODES, MAX_CLIENTS};
 ghost use Rattle.lock_model.specs.declared.problems.Problem.TheVariants.{First, Second};
 ghost use Rattle.vote_weights.specs.Faults.{fault_number};
+ghost use Rattle.history_check.specs.Faults.{line_fault_number};
+ghost use Rattle.lossy_link.specs.Faults.{weather_fault_number};
 ghost use Rattle.operator_cli.specs.Faults.{settings_fault_number};
 ghost use Rattle.operator_cli.specs.Openings.{all_down};
 ghost use Rattle.operator_cli.specs.Outputs.{Serves, Writes, refusal_output, refused_ballot_output, refused_output, verdict_status};
@@ -18,9 +20,10 @@ use crate::raising::raise_all;
 use crate::script::tell_lines;
 use crate::settings::Settings;
 use crate::texts::push_ballot;
-use crate::{Command, Order, Policies, ServeFault, SettingsFault};
+use crate::{Command, LineFault, Order, Policies, ServeFault, SettingsFault};
 use journal_audit::{Verdict, audit_lines};
 use line_streams::{Gathered, LineReader, MAX_READS, write_text};
+use lossy_link::WeatherFault;
 use std::alloc::Global;
 use std::io::{Read, Write};
 use vote_weights::{Ballot, BallotFault};
@@ -39,6 +42,28 @@ fn ballot_text(fault: BallotFault) -> &'static str
     }
 }
 
+/// That numbers make no weather, told as wrong settings.
+fn weather_text(fault: WeatherFault) -> &'static str
+    ensures { result.now ≡ settings_fault_text (weather_fault_number fault) }
+{
+    match fault {
+        WeatherFault::OverThousand => "settings fault 901\n",
+    }
+}
+
+/// That a text is no wish, told as wrong settings.
+fn wish_text(fault: LineFault) -> &'static str
+    ensures { result.now ≡ settings_fault_text (line_fault_number fault) }
+{
+    match fault {
+        LineFault::Word => "settings fault 801\n",
+        LineFault::Actor => "settings fault 802\n",
+        LineFault::Number => "settings fault 803\n",
+        LineFault::Name => "settings fault 804\n",
+        LineFault::Words => "settings fault 805\n",
+    }
+}
+
 /// That settings are refused: a fixed text, so that want of memory can be told without memory.
 fn settings_text(fault: SettingsFault) -> &'static str
     ensures { result.now ≡ settings_fault_text (settings_fault_number fault) }
@@ -50,6 +75,8 @@ fn settings_text(fault: SettingsFault) -> &'static str
         SettingsFault::NoEnd => "settings fault 924\n",
         SettingsFault::Memory => "settings fault 925\n",
         SettingsFault::Ballot(fault) => ballot_text(fault),
+        SettingsFault::Weather(fault) => weather_text(fault),
+        SettingsFault::Wish(fault) => wish_text(fault),
     }
 }
 
@@ -101,6 +128,8 @@ fn refuse_asked<W: Write>(fault: SettingsFault, writer: &mut W) -> Result<u8, Se
         | SettingsFault::UnknownKey
         | SettingsFault::Value
         | SettingsFault::Memory => refuse_settings(fault, writer),
+        SettingsFault::Weather(_) => refuse_settings(fault, writer),
+        SettingsFault::Wish(_) => refuse_settings(fault, writer),
     }
 }
 
@@ -287,9 +316,11 @@ fn serve_behind<R: Read, W: Write>(
 
 /// Does what the order says with the bytes of the reader, and answers the status of the program.
 ///
-/// The bytes begin with settings, a TOML document with the keys `votes`, `read`, `write`, `problem`
-/// and `clients`. The first line that is exactly `---` ends them. Refused settings print `settings
-/// fault N` and nothing else, and the status is 2.
+/// The bytes begin with settings, a TOML document. Its keys `votes`, `read`, `write`, `problem` and
+/// `clients` tell of the world, and `ballot` needs the first three alone. `seed`, `lose`, `twice`, `late`
+/// and `wishes` tell of a run: every command reads and judges them, and none here uses them. The first
+/// line that is exactly `---` ends the settings. Refused ones print `settings fault N` and nothing else,
+/// and the status is 2.
 ///
 /// - `Script`: every node and then every client rises with nothing kept, which prints nothing. Each line
 ///   behind the settings is an event, which prints its effect, one line for each reply that a node says,
@@ -330,9 +361,9 @@ where
     ensures output { Serves order.command (R.remaining reader) (W.contents writer.old) (W.contents writer.new) result }
 {
     let mut source = LineReader::new(reader, MAX_READS);
-    let settings = match read_start(alloc, &mut source) {
-        Ok(settings) => settings,
+    let start = match read_start(alloc, order.command, &mut source) {
+        Ok(start) => start,
         Err(fault) => return refuse_start(order.command, fault, writer),
     };
-    serve_behind(alloc, order, &settings, &mut source, writer)
+    serve_behind(alloc, order, &start.settings, &mut source, writer)
 }

@@ -1,24 +1,31 @@
 // Settings: the TOML document that an input begins with.
 
-ghost use Rattle.std.specs.Prelude.{◌≡◌, ◌≤◌, option_map, option_and_then, string_bytes, IfOk, IfSome};
-ghost use Rattle.std.specs.List.{list_all};
+ghost use Rattle.std.specs.Prelude.{◌≡◌, ◌≤◌, ◌&&◌, option_map, option_and_then, is_some, string_bytes, nat_le, IfOk, IfSome};
+ghost use Rattle.std.specs.List.{list_all, list_any};
 ghost use Rattle.std.specs.Map.{keys_of};
 ghost use Rattle.std.specs.Option.{ok_or};
 ghost use Rattle.lock_messages.specs.declared.ids.TheConstants.{MAX_CLIENTS};
-ghost use Rattle.toml.specs.Data.{as_integer, get_member};
+ghost use Rattle.std.specs.Str.{bytes_eq};
+ghost use Rattle.toml.specs.Data.{as_integer, as_str, get_member};
 ghost use Rattle.toml.specs.View.{view, items_view, table_view};
-ghost use Rattle.operator_cli.specs.Settings.{Judges, is_known, all_known, within, number_at, vote_list, votes_at, problem_numbered, problem_at, values_of, settings_of};
+ghost use Rattle.operator_cli.specs.Settings.{Judges, world_keys, run_keys, is_known, all_known, within, number_at, number_or, number_for, seed_at, vote_list, votes_at, problem_numbered, problem_at, clients_at, count, are_texts, are_few_texts, has_wish_texts, run_values, weather_of, wish_from, wishes_in, wishes_at, world_of, given, values_of, settings_of};
+ghost use Rattle.operator_cli.specs.declared.settings.TheConstants.{MAX_WISHES};
 
-use crate::SettingsFault;
+use crate::{Command, SettingsFault};
+use history_check::{Wish, read_wish_among};
 use lock_messages::MAX_CLIENTS;
 use lock_model::Problem;
+use lossy_link::Weather;
 use std::alloc::Global;
 use std::str;
 use toml::{Table, Value};
 use vote_weights::Ballot;
 
-/// What settings say: the ballot, the problem that all nodes solve, and how many clients there are, 1
-/// to 1,024.
+/// The most wishes that settings have.
+const MAX_WISHES: usize = 4_096;
+
+/// What settings say of the world: the ballot, the problem that all nodes solve, and how many clients
+/// there are, 1 to 1,024.
 #[derive(Clone, Copy, Debug, PartialEq, Eq)]
 pub struct Settings {
     pub ballot: Ballot,
@@ -26,11 +33,43 @@ pub struct Settings {
     pub clients: u16,
 }
 
+/// What an input begins with: what its settings say of the world, the weather of each link of a run,
+/// and what clients are to do in it, in this order.
+#[derive(Drop)]
+pub struct Start {
+    pub settings: Settings,
+    pub weather: Weather,
+    pub wishes: Vec<Wish>,
+}
+
+/// The numbers that a weather is made of.
+#[derive(Clone, Copy, Debug, PartialEq, Eq)]
+pub struct RunValues {
+    pub seed: u64,
+    pub lose: u16,
+    pub twice: u16,
+    pub late: u16,
+}
+
+/// Whether the key tells of the world.
+fn tells_world(key: &str) -> bool
+    ensures { result ≡ list_any (bytes_eq key.now) world_keys }
+{
+    key == "votes" || key == "read" || key == "write" || key == "problem" || key == "clients"
+}
+
+/// Whether the key tells of a run.
+fn tells_run(key: &str) -> bool
+    ensures { result ≡ list_any (bytes_eq key.now) run_keys }
+{
+    key == "seed" || key == "lose" || key == "twice" || key == "late" || key == "wishes"
+}
+
 /// Whether settings have this key.
 fn is_known(key: &str) -> bool
     ensures { result ≡ is_known key.now }
 {
-    key == "votes" || key == "read" || key == "write" || key == "problem" || key == "clients"
+    tells_world(key) || tells_run(key)
 }
 
 /// Whether settings have each of the table's keys.
@@ -79,6 +118,62 @@ fn number_at(table: &Table, key: &str, least: u16, most: u16) -> Result<u16, Set
     within(number, least, most).ok_or(SettingsFault::Value)
 }
 
+/// The integer at the key, from `least` to `most`; where there is no such key, another one.
+fn number_or(
+    table: &Table,
+    key: &str,
+    least: u16,
+    most: u16,
+    absent: u16,
+) -> Result<u16, SettingsFault>
+    requires least { least ≤ absent }
+    requires most { absent ≤ most }
+    ensures number { result ≡ number_or absent least most key.now (table_view table.now) }
+    ensures in_range { IfOk result (λ n. (least ≤ n) × (n ≤ most)) }
+{
+    match value_at(table, key) {
+        None => Ok(absent),
+        Some(_) => number_at(table, key, least, most),
+    }
+}
+
+/// The integer at a key that only the question for the ballot can do without.
+fn number_for(
+    command: Command,
+    table: &Table,
+    key: &str,
+    least: u16,
+    most: u16,
+    absent: u16,
+) -> Result<u16, SettingsFault>
+    requires least { least ≤ absent }
+    requires most { absent ≤ most }
+    ensures number { result ≡ number_for command absent least most key.now (table_view table.now) }
+    ensures in_range { IfOk result (λ n. (least ≤ n) × (n ≤ most)) }
+{
+    match command {
+        Command::Script => number_at(table, key, least, most),
+        Command::Audit => number_at(table, key, least, most),
+        Command::Ballot => number_or(table, key, least, most, absent),
+    }
+}
+
+/// The number of the weather.
+fn seed_at(table: &Table) -> Result<u64, SettingsFault>
+    ensures { result ≡ seed_at (table_view table.now) }
+{
+    let Some(value) = value_at(table, "seed") else {
+        return Ok(0);
+    };
+    let Some(number) = value.as_integer() else {
+        return Err(SettingsFault::Value);
+    };
+    if number < 0 {
+        return Err(SettingsFault::Value);
+    }
+    Ok(number as u64)
+}
+
 /// A number of votes.
 fn vote(value: &Value) -> Option<u8>
     ensures { result ≡ option_and_then (within 0 255) (as_integer (view value.now)) }
@@ -125,24 +220,39 @@ fn problem_numbered(number: u16) -> Problem
 }
 
 /// The problem that all nodes solve.
-fn problem_at(table: &Table) -> Result<Problem, SettingsFault>
-    ensures { Judges (λ p. p) result (problem_at (table_view table.now)) }
+fn problem_at(command: Command, table: &Table) -> Result<Problem, SettingsFault>
+    ensures { Judges (λ p. p) result (problem_at command (table_view table.now)) }
 {
-    let number = number_at(table, "problem", 1, 2)?;
+    let number = number_for(command, table, "problem", 1, 2, 1)?;
     Ok(problem_numbered(number))
 }
 
-/// What the values say.
-#[tactic(auto, unfolding(crate::specs::Settings::values_of))]
-fn values_of(alloc: Global, table: &Table) -> Result<Settings, SettingsFault>
-    ensures settings { Judges (λ s. s) result (values_of (table_view table.now)) }
+/// How many clients there are.
+fn clients_at(command: Command, table: &Table) -> Result<u16, SettingsFault>
+    ensures number { result ≡ clients_at command (table_view table.now) }
+    ensures in_range { IfOk result (λ n. (1 ≤ n) × (n ≤ MAX_CLIENTS)) }
+{
+    number_for(
+        command,
+        table,
+        "clients",
+        1,
+        MAX_CLIENTS as u16,
+        MAX_CLIENTS as u16,
+    )
+}
+
+/// What the values say of the world.
+#[tactic(auto, unfolding(crate::specs::Settings::world_of))]
+fn world_of(alloc: Global, command: Command, table: &Table) -> Result<Settings, SettingsFault>
+    ensures settings { Judges (λ s. s) result (world_of command (table_view table.now)) }
     ensures in_range { IfOk result (λ s. (1 ≤ s.clients) × (s.clients ≤ MAX_CLIENTS)) }
 {
     let votes = votes_at(alloc, table)?;
     let read = number_at(table, "read", 0, u16::MAX)?;
     let write = number_at(table, "write", 0, u16::MAX)?;
-    let problem = problem_at(table)?;
-    let clients = number_at(table, "clients", 1, MAX_CLIENTS as u16)?;
+    let problem = problem_at(command, table)?;
+    let clients = clients_at(command, table)?;
     match Ballot::of(votes.as_slice(), read, write) {
         Ok(ballot) => Ok(Settings {
             ballot,
@@ -153,17 +263,143 @@ fn values_of(alloc: Global, table: &Table) -> Result<Settings, SettingsFault>
     }
 }
 
-/// What the settings say.
+/// Whether each value is a text.
+fn each_is_text(values: &[Value]) -> bool
+    ensures { result ≡ list_all (λ v. is_some (as_str (view v))) values.now }
+{
+    values.iter().all(|value| value.is_str())
+}
+
+/// Whether the values are texts.
+fn are_texts(values: &[Value]) -> bool
+    ensures { result ≡ are_texts (items_view values.now) }
+{
+    each_is_text(values)
+}
+
+/// Whether the values are texts, and no more than there may be wishes.
+#[tactic(auto, using(crate::proofs::SettingsFacts::count_view))]
+fn are_few_texts(values: &[Value]) -> bool
+    ensures { result ≡ are_few_texts (items_view values.now) }
+{
+    values.len() <= MAX_WISHES && are_texts(values)
+}
+
+/// Whether the wishes, if there are any, are texts.
+fn has_wish_texts(table: &Table) -> bool
+    ensures { result ≡ has_wish_texts (table_view table.now) }
+{
+    match value_at(table, "wishes") {
+        None => true,
+        Some(Value::Array(values)) => are_few_texts(values.as_slice()),
+        Some(_) => false,
+    }
+}
+
+/// The numbers of the weather, where the wishes are texts.
+#[tactic(auto, unfolding(crate::specs::Settings::run_values))]
+fn run_values(table: &Table) -> Result<RunValues, SettingsFault>
+    ensures { result ≡ run_values (table_view table.now) }
+{
+    let seed = seed_at(table)?;
+    let lose = number_or(table, "lose", 0, 1_000, 0)?;
+    let twice = number_or(table, "twice", 0, 1_000, 0)?;
+    let late = number_or(table, "late", 0, 1_000, 0)?;
+    if !has_wish_texts(table) {
+        return Err(SettingsFault::Value);
+    }
+    Ok(RunValues {
+        seed,
+        lose,
+        twice,
+        late,
+    })
+}
+
+/// The weather of these numbers.
+fn weather_of(run: &RunValues) -> Result<Weather, SettingsFault>
+    ensures { result ≡ weather_of run.now }
+{
+    match Weather::of(run.seed, run.lose, run.twice, run.late) {
+        Ok(weather) => Ok(weather),
+        Err(fault) => Err(SettingsFault::Weather(fault)),
+    }
+}
+
+/// The wish that a value is.
+fn wish_from(clients: u16, value: &Value) -> Result<Wish, SettingsFault>
+    ensures { result ≡ wish_from clients (as_str (view value.now)) }
+{
+    let Some(text) = value.as_str() else {
+        return Err(SettingsFault::Value);
+    };
+    match read_wish_among(clients, text.as_bytes()) {
+        Ok(wish) => Ok(wish),
+        Err(fault) => Err(SettingsFault::Wish(fault)),
+    }
+}
+
+/// The wishes that the values are.
+fn wish_list(alloc: Global, clients: u16, values: &[Value]) -> Result<Vec<Wish>, SettingsFault>
+    ensures { Judges (λ v. v.items) result (wishes_in clients (items_view values.now)) }
+{
+    let mut wishes = Vec::new(alloc);
+    for value in values {
+        let wish = match wish_from(clients, value) {
+            Ok(wish) => wish,
+            Err(fault) => return Err(fault),
+        };
+        if wishes.push(wish).is_err() {
+            return Err(SettingsFault::Memory);
+        }
+    }
+    Ok(wishes)
+}
+
+/// The wishes.
+fn wishes_at(alloc: Global, clients: u16, table: &Table) -> Result<Vec<Wish>, SettingsFault>
+    ensures { Judges (λ v. v.items) result (wishes_at clients (table_view table.now)) }
+{
+    match value_at(table, "wishes") {
+        Some(Value::Array(values)) => wish_list(alloc, clients, values.as_slice()),
+        _ => Ok(Vec::new(alloc)),
+    }
+}
+
+/// What the values say.
+#[tactic(auto, unfolding(crate::specs::Settings::values_of))]
+fn values_of(alloc: Global, command: Command, table: &Table) -> Result<Start, SettingsFault>
+    ensures start { Judges given result (values_of command (table_view table.now)) }
+    ensures in_range { IfOk result (λ s. (1 ≤ s.settings.clients) × (s.settings.clients ≤ MAX_CLIENTS)) }
+{
+    let run = run_values(table)?;
+    let settings = world_of(alloc, command, table)?;
+    let weather = weather_of(&run)?;
+    let wishes = wishes_at(alloc, settings.clients, table)?;
+    Ok(Start {
+        settings,
+        weather,
+        wishes,
+    })
+}
+
+/// What the settings of a command say.
 ///
 /// # Errors
 ///
 /// The first that applies: they aren't UTF-8 text that `toml` accepts (`NoDocument`, 921); a key of
-/// the document isn't one of `votes`, `read`, `write`, `problem`, `clients` (`UnknownKey`, 923); one
-/// of these is missing, of another kind or out of range (`Value`, 922); the votes make no ballot
-/// (`Ballot`, 201 to 205). Or memory was refused (`Memory`, 925).
-pub fn read_settings(alloc: Global, head: &[u8]) -> Result<Settings, SettingsFault>
-    ensures settings { Judges (λ s. s) result (settings_of head.now) }
-    ensures in_range { IfOk result (λ s. (1 ≤ s.clients) × (s.clients ≤ MAX_CLIENTS)) }
+/// the document isn't one of `votes`, `read`, `write`, `problem`, `clients`, `seed`, `lose`, `twice`,
+/// `late`, `wishes` (`UnknownKey`, 923); one of the first five is missing, but for `problem` and
+/// `clients` where the ballot is asked for, or a value is of another kind or out of range (`Value`,
+/// 922); the votes make no ballot (`Ballot`, 201 to 205); `lose`, `twice` and `late` are over a
+/// thousand together (`Weather`, 901); a wish is none, the first of them that isn't (`Wish`, 801, 802,
+/// 804 or 805), where a client behind the last one is 802. Or memory was refused (`Memory`, 925).
+///
+/// A number that is missing and may be is 0, and then there are no wishes. Where the ballot is asked
+/// for, `problem` is 1 and there are 1,024 clients unless they are given.
+pub fn read_settings(alloc: Global, command: Command, head: &[u8]) -> Result<Start, SettingsFault>
+    ensures start { Judges given result (settings_of command head.now) }
+    ensures in_range { IfOk result (λ s. (1 ≤ s.settings.clients) × (s.settings.clients ≤ MAX_CLIENTS)) }
 {
     let Ok(text) = str::from_utf8(head) else {
         return Err(SettingsFault::NoDocument);
@@ -180,5 +416,5 @@ pub fn read_settings(alloc: Global, head: &[u8]) -> Result<Settings, SettingsFau
     if !has_known_keys(&table) {
         return Err(SettingsFault::UnknownKey);
     }
-    values_of(alloc, &table)
+    values_of(alloc, command, &table)
 }

@@ -1,6 +1,7 @@
 // The texts of all faults of events, lines, settings and runs, with their numbers.
 
 use crate::outcomes::{Outcome, check_row};
+use lossy_link::WeatherFault;
 use operator_cli::{LineFault, ServeFault, SettingsFault};
 use std::alloc::Global;
 use std::fmt::Display;
@@ -71,7 +72,7 @@ fn faults_of_lines(rt: HostRuntime) -> Outcome {
     Ok(())
 }
 
-const SETTINGS: [(SettingsFault, &str); 6] = [
+const SETTINGS: [(SettingsFault, &str); 8] = [
     (
         SettingsFault::NoDocument,
         "921 the settings aren't a TOML document",
@@ -95,6 +96,14 @@ const SETTINGS: [(SettingsFault, &str); 6] = [
     (
         SettingsFault::Ballot(BallotFault::NoNode),
         "201 the votes make no ballot: the ballot has no node",
+    ),
+    (
+        SettingsFault::Weather(WeatherFault::OverThousand),
+        "901 the settings make no weather: lose, twice and late are over 1000 together",
+    ),
+    (
+        SettingsFault::Wish(LineFault::Actor),
+        "802 a wish of the settings is none: no node or client is spelled so",
     ),
 ];
 

@@ -25,6 +25,8 @@ mod playing;
 #[cfg(test)]
 mod restarts;
 #[cfg(test)]
+mod run_settings;
+#[cfg(test)]
 mod scripts;
 #[cfg(test)]
 mod streams;

@@ -1,8 +1,7 @@
-use Rattle.std.proofs.Common.{◌∙◌, List, ℕ, sym, ap}
+use Rattle.std.proofs.Common.{◌∙◌, sym}
 use Rattle.line_streams.specs.Streams.{with_gathered}
 use Rattle.operator_cli.specs.declared.faults.ServeFault.TheVariants as fault
-use Rattle.operator_cli.specs.PartOutputs.{judged_piece}
-use Rattle.operator_cli.proofs.ScriptFacts.{so_far_kept, grows_on, stops, is_over, is_bad, breaks, goes_on, is_over_now}
+use Rattle.operator_cli.proofs.ScriptFacts.{so_far_kept, grows_on, stops, is_over, is_bad, breaks, goes_on, is_over_now, same_said, same_line}
 use Rattle.operator_cli.proofs.script.tell_lines.Goals as goal
 
 pub returns-in-Err-clause-told : goal.returns-in-Err-clause-told
@@ -16,31 +15,32 @@ returns-in-Err-clause-told g c =
 pub returns-in-Err-clause-grows : goal.returns-in-Err-clause-grows
 returns-in-Err-clause-grows g c = grows_on _ _ _ c.loop-number.invariant.grown c.in-Err.ensures.grows
 
-pub returns-in-End-clause-told : goal.returns-in-End-clause-told
-returns-in-End-clause-told g c =
+pub returns-then-ends_no_line-clause-told : goal.returns-then-ends_no_line-clause-told
+returns-then-ends_no_line-clause-told g c =
     let put = g.W.Write.contents in
     let old = with_gathered (put c.args.writer.now) c.args.out.now in
     let mid = with_gathered (put c.next_line.new.writer) c.next_line.new.out in
     let h = so_far_kept c.args.world.now c.loop-number.world c.args.source.now c.loop-number.source old (with_gathered (put c.loop-number.writer) c.loop-number.out) mid c.loop-number.refused c.loop-number.number c.loop-number.invariant.so_far c.in-Ok.ensures.kept in
     is_over c.args.world.now c.loop-number.world c.args.source.now c.loop-number.source c.next_line.new.source old mid
     c.loop-number.refused c.loop-number.number c.next_line.new.piece.items c.in-Ok.end c.status_of.result h c.in-Ok.ensures.line
-    (ap (λ (p : List ℕ). judged_piece c.in-Ok.end p) (sym c.as_slice.ensures.value) ∙ sym c.judged_piece.ensures ∙ c.in-End.is) c.status_of.ensures
+    (same_line c.in-Ok.end c.next_line.new.piece.items c.as_slice-bytes.result.now _ c.as_slice-bytes.ensures.value (sym c.ends_no_line.ensures ∙ c.if-ends_no_line.true)) c.status_of.ensures
 
-pub returns-in-End-clause-grows : goal.returns-in-End-clause-grows
-returns-in-End-clause-grows g c = grows_on _ _ _ c.loop-number.invariant.grown c.in-Ok.ensures.grows
+pub returns-then-ends_no_line-clause-grows : goal.returns-then-ends_no_line-clause-grows
+returns-then-ends_no_line-clause-grows g c = grows_on _ _ _ c.loop-number.invariant.grown c.in-Ok.ensures.grows
 
-pub returns-in-Bad-clause-told : goal.returns-in-Bad-clause-told
-returns-in-Bad-clause-told g c =
+pub returns-in-Err-read_line-clause-told : goal.returns-in-Err-read_line-clause-told
+returns-in-Err-read_line-clause-told g c =
     let put = g.W.Write.contents in
     let old = with_gathered (put c.args.writer.now) c.args.out.now in
     let mid = with_gathered (put c.next_line.new.writer) c.next_line.new.out in
     let h = so_far_kept c.args.world.now c.loop-number.world c.args.source.now c.loop-number.source old (with_gathered (put c.loop-number.writer) c.loop-number.out) mid c.loop-number.refused c.loop-number.number c.loop-number.invariant.so_far c.in-Ok.ensures.kept in
     is_bad c.args.world.now c.loop-number.world c.args.source.now c.loop-number.source c.next_line.new.source old mid (with_gathered (put c.tell_fault.new.writer) c.tell_fault.new.out)
-    c.loop-number.refused c.loop-number.number c.next_line.new.piece.items c.in-Ok.end c.in-Bad.fault c.tell_fault.result h c.in-Ok.ensures.line
-    (ap (λ (p : List ℕ). judged_piece c.in-Ok.end p) (sym c.as_slice.ensures.value) ∙ sym c.judged_piece.ensures ∙ c.in-Bad.is) c.tell_fault.ensures.told
+    c.loop-number.refused c.loop-number.number c.next_line.new.piece.items c.in-Ok.end c.in-Err-read_line.fault c.tell_fault.result h c.in-Ok.ensures.line
+    (same_line c.in-Ok.end c.next_line.new.piece.items c.as_slice-bytes.result.now _ c.as_slice-bytes.ensures.value (sym c.ends_no_line.ensures ∙ c.if-ends_no_line.false))
+    (same_said c.next_line.new.piece.items c.as_slice-bytes.result.now _ c.as_slice-bytes.ensures.value (sym c.in-Err-read_line.ensures)) c.tell_fault.ensures.told
 
-pub returns-in-Bad-clause-grows : goal.returns-in-Bad-clause-grows
-returns-in-Bad-clause-grows g c = grows_on _ _ _ (grows_on _ _ _ c.loop-number.invariant.grown c.in-Ok.ensures.grows) c.tell_fault.ensures.grows
+pub returns-in-Err-read_line-clause-grows : goal.returns-in-Err-read_line-clause-grows
+returns-in-Err-read_line-clause-grows g c = grows_on _ _ _ (grows_on _ _ _ c.loop-number.invariant.grown c.in-Ok.ensures.grows) c.tell_fault.ensures.grows
 
 pub returns-in-Err-tell-clause-told : goal.returns-in-Err-tell-clause-told
 returns-in-Err-tell-clause-told g c =
@@ -49,8 +49,9 @@ returns-in-Err-tell-clause-told g c =
     let mid = with_gathered (put c.next_line.new.writer) c.next_line.new.out in
     let h = so_far_kept c.args.world.now c.loop-number.world c.args.source.now c.loop-number.source old (with_gathered (put c.loop-number.writer) c.loop-number.out) mid c.loop-number.refused c.loop-number.number c.loop-number.invariant.so_far c.in-Ok.ensures.kept in
     breaks c.args.world.now c.loop-number.world c.args.source.now c.loop-number.source c.next_line.new.source old mid (with_gathered (put c.tell.new.writer) c.tell.new.out)
-    c.loop-number.refused c.loop-number.number c.next_line.new.piece.items c.in-Ok.end c.in-Says.line c.tell.new.world c.in-Err-tell.fault c.in-Err-tell.fault h c.in-Ok.ensures.line
-    (ap (λ (p : List ℕ). judged_piece c.in-Ok.end p) (sym c.as_slice.ensures.value) ∙ sym c.judged_piece.ensures ∙ c.in-Says.is) c.in-Err-tell.ensures.told
+    c.loop-number.refused c.loop-number.number c.next_line.new.piece.items c.in-Ok.end c.in-Ok-read_line.line c.tell.new.world c.in-Err-tell.fault c.in-Err-tell.fault h c.in-Ok.ensures.line
+    (same_line c.in-Ok.end c.next_line.new.piece.items c.as_slice-bytes.result.now _ c.as_slice-bytes.ensures.value (sym c.ends_no_line.ensures ∙ c.if-ends_no_line.false))
+    (same_said c.next_line.new.piece.items c.as_slice-bytes.result.now _ c.as_slice-bytes.ensures.value (sym c.in-Ok-read_line.ensures)) c.in-Err-tell.ensures.told
 
 pub returns-in-Err-tell-clause-grows : goal.returns-in-Err-tell-clause-grows
 returns-in-Err-tell-clause-grows g c = grows_on _ _ _ (grows_on _ _ _ c.loop-number.invariant.grown c.in-Ok.ensures.grows) c.in-Err-tell.ensures.grows
@@ -62,8 +63,9 @@ returns-then-is_last-clause-told g c =
     let mid = with_gathered (put c.next_line.new.writer) c.next_line.new.out in
     let h = so_far_kept c.args.world.now c.loop-number.world c.args.source.now c.loop-number.source old (with_gathered (put c.loop-number.writer) c.loop-number.out) mid c.loop-number.refused c.loop-number.number c.loop-number.invariant.so_far c.in-Ok.ensures.kept in
     is_over_now c.args.world.now c.loop-number.world c.tell.new.world c.args.source.now c.loop-number.source c.next_line.new.source old mid (with_gathered (put c.tell.new.writer) c.tell.new.out)
-    c.loop-number.refused c.in-Ok-tell.now_refused c.either-refused.result c.loop-number.number c.next_line.new.piece.items c.in-Ok.end c.in-Says.line c.status_of-then-is_last.result h c.in-Ok.ensures.line
-    (ap (λ (p : List ℕ). judged_piece c.in-Ok.end p) (sym c.as_slice.ensures.value) ∙ sym c.judged_piece.ensures ∙ c.in-Says.is) c.in-Ok-tell.ensures.told c.either-refused.ensures
+    c.loop-number.refused c.in-Ok-tell.now_refused c.either-refused.result c.loop-number.number c.next_line.new.piece.items c.in-Ok.end c.in-Ok-read_line.line c.status_of-then-is_last.result h c.in-Ok.ensures.line
+    (same_line c.in-Ok.end c.next_line.new.piece.items c.as_slice-bytes.result.now _ c.as_slice-bytes.ensures.value (sym c.ends_no_line.ensures ∙ c.if-ends_no_line.false))
+    (same_said c.next_line.new.piece.items c.as_slice-bytes.result.now _ c.as_slice-bytes.ensures.value (sym c.in-Ok-read_line.ensures)) c.in-Ok-tell.ensures.told c.either-refused.ensures
     (sym c.is_last.ensures ∙ c.if-is_last.true) c.status_of-then-is_last.ensures
 
 pub returns-then-is_last-clause-grows : goal.returns-then-is_last-clause-grows
@@ -77,8 +79,9 @@ loop-number-preserved g c =
     let h = so_far_kept c.args.world.now c.loop-number.world c.args.source.now c.loop-number.source old (with_gathered (put c.loop-number.writer) c.loop-number.out) mid c.loop-number.refused c.loop-number.number c.loop-number.invariant.so_far c.in-Ok.ensures.kept in
     record {
       so_far = goes_on c.args.world.now c.loop-number.world c.tell.new.world c.args.source.now c.loop-number.source c.next_line.new.source old mid (with_gathered (put c.tell.new.writer) c.tell.new.out)
-          c.loop-number.refused c.in-Ok-tell.now_refused c.either-refused.result c.loop-number.number c.next_line.new.piece.items c.in-Ok.end c.in-Says.line h c.in-Ok.ensures.line
-          (ap (λ (p : List ℕ). judged_piece c.in-Ok.end p) (sym c.as_slice.ensures.value) ∙ sym c.judged_piece.ensures ∙ c.in-Says.is) c.in-Ok-tell.ensures.told c.either-refused.ensures
+          c.loop-number.refused c.in-Ok-tell.now_refused c.either-refused.result c.loop-number.number c.next_line.new.piece.items c.in-Ok.end c.in-Ok-read_line.line h c.in-Ok.ensures.line
+          (same_line c.in-Ok.end c.next_line.new.piece.items c.as_slice-bytes.result.now _ c.as_slice-bytes.ensures.value (sym c.ends_no_line.ensures ∙ c.if-ends_no_line.false))
+          (same_said c.next_line.new.piece.items c.as_slice-bytes.result.now _ c.as_slice-bytes.ensures.value (sym c.in-Ok-read_line.ensures)) c.in-Ok-tell.ensures.told c.either-refused.ensures
           (sym c.is_last.ensures ∙ c.if-is_last.false);
       grown = grows_on _ _ _ (grows_on _ _ _ c.loop-number.invariant.grown c.in-Ok.ensures.grows) c.in-Ok-tell.ensures.grows;
     }
