@@ -1,0 +1,2 @@
+pub mod ReopenFacts
+pub mod StepFacts

@@ -1,0 +1,88 @@
+-- What the steps that nodes and clients share have done.
+use Rattle.std.specs.Prelude.{◌≡◌, ◌⊎◌, ℕ, ◌+◌, ◌≤◌, Bool, false, List, [], ◌∷◌, Some, None}
+use Rattle.lock_messages.specs.declared.ids.Actor.{Actor}
+use Rattle.lock_model.specs.Decisions.{Among}
+use Rattle.stable_record.specs.Finding.{FindsOnly, most_failures}
+use Rattle.world_model.specs.declared.events.Age.{Age}
+use Rattle.world_model.specs.declared.events.Age.TheVariants.{Old, New}
+use Rattle.world_model.specs.declared.events.Effect.TheVariants as effect
+use Rattle.world_model.specs.declared.events.Event.TheVariants as event
+use Rattle.world_model.specs.Parts.{own_refusal, after_own}
+use Rattle.history_book.specs.declared.faults.BookFault.{BookFault}
+use Rattle.history_book.specs.declared.faults.BookFault.TheVariants as book
+use Rattle.event_recorders.specs.declared.faults.RunFault.{RunFault}
+use Rattle.event_recorders.specs.declared.faults.RunFault.TheVariants as fault
+use Rattle.event_recorders.specs.OwnLogs.{OwnLog, part_now, kept_in, tried_in, FindsKept, FindsPart, adds, IsAdded}
+
+-- want of memory is told as such, and all else as the book's refusal
+abbrev pub run_fault_of : BookFault → RunFault
+run_fault_of book.Memory = fault.Memory
+run_fault_of book.Full = fault.Book
+run_fault_of book.OtherActor = fault.Book
+run_fault_of book.OtherBook = fault.Book
+run_fault_of (book.NotAStep f) = fault.Book
+
+-- the faults of logging, of rising and of keeping
+abbrev pub IsBookFault : RunFault → Type 0
+IsBookFault f = (f ≡ fault.Memory) ⊎ (f ≡ fault.Book)
+
+abbrev pub IsRiseFault : RunFault → Type 0
+IsRiseFault f = (f ≡ fault.NotReopened) ⊎ IsBookFault f
+
+abbrev pub IsKeepingFault : RunFault → Type 0
+IsKeepingFault f = (f ≡ fault.Spent) ⊎ IsBookFault f
+
+-- the device failed so many times more, or its count stands at the greatest
+abbrev pub HasFailed : ℕ → ℕ → ℕ → Type 0
+HasFailed times before now = (before + times ≤ now) ⊎ (most_failures ≤ now)
+
+-- a reopen failed: nothing new is found, and the device has failed so many times more
+pub record HasNotReopened (times : ℕ) (before now : List (List ℕ)) (count count' : ℕ) : Type 0 where
+  pub found : FindsOnly before now
+  pub failed : HasFailed times count count'
+
+-- the record was reopened: of what it could find, just these bytes are found now, and it isn't stuck
+pub record IsReopened (bytes : List ℕ) (before now : List (List ℕ)) (stuck : Bool) : Type 0 where
+  pub among : Among bytes before
+  pub found : now ≡ bytes ∷ []
+  pub free : stuck ≡ false
+
+-- a restart finds just these bytes, which are what the actor has kept; and the record isn't stuck
+pub record HasFound (bytes : List ℕ) (l : OwnLog) (strings : List (List ℕ)) (stuck : Bool) : Type 0 where
+  pub kept : bytes ≡ kept_in (part_now l)
+  pub found : strings ≡ bytes ∷ []
+  pub free : stuck ≡ false
+  pub finds : FindsPart (part_now l) strings
+
+-- the actor tried, and has kept
+pub record IsKept (l : OwnLog) (who : Actor) (l' : OwnLog) : Type 0 where
+  pub tried : IsAdded l (event.Try who) effect.Tried (adds l (event.Try who) effect.Tried)
+  pub kept : IsAdded (adds l (event.Try who) effect.Tried) (event.Kept who) effect.Kept l'
+
+-- the actor fell, and rose
+pub record IsRisenAgain (l : OwnLog) (who : Actor) (age : Age) (l' : OwnLog) : Type 0 where
+  pub fallen : IsAdded l (event.Fall who) effect.Down (adds l (event.Fall who) effect.Down)
+  pub risen : IsAdded (adds l (event.Fall who) effect.Down) (event.Rise who age) effect.Up l'
+
+-- The actor has tried these bytes: it may log that they are kept, and a restart finds nothing but what is
+-- kept and these.
+pub record IsTrying (l : OwnLog) (who : Actor) (bytes : List ℕ) (strings : List (List ℕ)) : Type 0 where
+  pub actor : l.actor ≡ who
+  pub allowed : own_refusal l.ballot (event.Kept who) (part_now l) ≡ None
+  pub tried : tried_in (part_now l) ≡ Some bytes
+  pub finds : FindsKept (kept_in (part_now l)) (Some bytes) strings
+
+-- the actor has fallen: it may rise with what it kept, and with these bytes, which it tried to keep
+pub record IsFallen (l : OwnLog) (who : Actor) (bytes : List ℕ) (strings : List (List ℕ)) : Type 0 where
+  pub actor : l.actor ≡ who
+  pub old : own_refusal l.ballot (event.Rise who Old) (part_now l) ≡ None
+  pub new : own_refusal l.ballot (event.Rise who New) (part_now l) ≡ None
+  pub kept : kept_in (after_own l.ballot (event.Rise who Old) effect.Up (part_now l)) ≡ kept_in (part_now l)
+  pub tried : kept_in (after_own l.ballot (event.Rise who New) effect.Up (part_now l)) ≡ bytes
+  pub finds : FindsKept (kept_in (part_now l)) (Some bytes) strings
+
+-- the actor may rise, and has kept these bytes then
+pub record IsRising (l : OwnLog) (who : Actor) (age : Age) (bytes : List ℕ) : Type 0 where
+  pub actor : l.actor ≡ who
+  pub allowed : own_refusal l.ballot (event.Rise who age) (part_now l) ≡ None
+  pub kept : kept_in (after_own l.ballot (event.Rise who age) effect.Up (part_now l)) ≡ bytes

@@ -1,0 +1,119 @@
+// Keeping a record.
+
+ghost use Rattle.std.specs.Prelude.{◌≡◌, ◌≤◌, ◌⊎◌, false, None, Some, Ok, OnOk, IfErr, length, ℕ, List, [], ◌∷◌};
+ghost use Rattle.world_model.specs.Parts.{own_refusal, after_own};
+ghost use Rattle.event_recorders.specs.OwnLogs.{part_now, FindsPart, IsAdded, tried_in};
+ghost use Rattle.stable_record.specs.Finding.{FindsOnlyOr};
+ghost use Rattle.stable_record.specs.declared.formats.TheConstants.{MAX_RECORD_LEN};
+ghost use Rattle.actor_steps.specs.Steps.{HasFound, IsKept, IsKeepingFault, IsBookFault, IsTrying};
+
+use crate::logging::log_own;
+use event_recorders::{Gate, Recorder, RunFault};
+use lock_messages::Actor;
+use stable_record::{RecordFault, StableRecord};
+use world_model::{Effect, Event};
+
+/// What came of keeping a record.
+#[derive(Clone, Copy, Debug, PartialEq, Eq, Hash)]
+pub enum Keeping {
+    /// The record has the new bytes, and that they are kept is logged.
+    Kept,
+    /// The record's device failed: a restart finds the old bytes or the new ones.
+    Failed,
+}
+
+/// Logs that the actor tries to keep these bytes.
+#[tactic(auto, using(crate::proofs::StepFacts::try_own, crate::proofs::StepFacts::try_found, crate::proofs::StepFacts::try_added, crate::proofs::StepFacts::trying))]
+fn log_try<R: Recorder>(
+    actor: Actor,
+    bytes: &[u8],
+    stable: &dyn StableRecord,
+    recorder: &mut R,
+) -> Result<(), RunFault>
+    requires actor { (R.own_log recorder.old).actor ≡ actor }
+    requires allowed { own_refusal (R.own_log recorder.old).ballot (Event.Try actor) (part_now (R.own_log recorder.old)) ≡ None }
+    requires tries { tried_in (after_own (R.own_log recorder.old).ballot (Event.Try actor) Effect.Tried (part_now (R.own_log recorder.old))) ≡ Some bytes.now }
+    requires found { FindsPart (part_now (R.own_log recorder.old)) (finds stable.now) }
+    ensures tried { OnOk result (IsAdded (R.own_log recorder.old) (Event.Try actor) Effect.Tried (R.own_log recorder.new)) }
+    ensures trying { OnOk result (IsTrying (R.own_log recorder.new) actor bytes.now (finds stable.now)) }
+    ensures refused { IfErr result (λ fault. IsBookFault fault × (R.own_log recorder.new ≡ R.own_log recorder.old)) }
+{
+    let _ = bytes;
+    log_own(recorder, Event::Try(actor), stable)?;
+    Ok(())
+}
+
+/// Logs that the actor has kept these bytes, which its record has.
+#[tactic(auto, using(crate::proofs::StepFacts::kept_own, crate::proofs::StepFacts::kept_found, crate::proofs::StepFacts::kept_added, crate::proofs::StepFacts::kept_then))]
+fn log_kept<R: Recorder>(
+    actor: Actor,
+    bytes: &[u8],
+    stable: &dyn StableRecord,
+    recorder: &mut R,
+) -> Result<(), RunFault>
+    requires trying { (strings : List (List ℕ)) × IsTrying (R.own_log recorder.old) actor bytes.now strings }
+    requires found { finds stable.now ≡ bytes.now ∷ [] }
+    requires free { stuck_of stable.now ≡ false }
+    ensures kept { OnOk result (IsAdded (R.own_log recorder.old) (Event.Kept actor) Effect.Kept (R.own_log recorder.new)) }
+    ensures found { OnOk result (HasFound bytes.now (R.own_log recorder.new) (finds stable.now) (stuck_of stable.now)) }
+    ensures refused { IfErr result (λ fault. IsBookFault fault × (R.own_log recorder.new ≡ R.own_log recorder.old)) }
+{
+    let _ = bytes;
+    log_own(recorder, Event::Kept(actor), stable)?;
+    Ok(())
+}
+
+/// Keeps the bytes in a record that isn't stuck.
+fn put(bytes: &[u8], stable: &mut dyn StableRecord) -> Result<Keeping, RunFault>
+    requires fits { length bytes.now ≤ MAX_RECORD_LEN }
+    requires free { stuck_of stable.old ≡ false }
+    ensures kept { result ≡ Ok Keeping.Kept → (finds stable.new ≡ bytes.now ∷ []) × (stuck_of stable.new ≡ false) }
+    ensures failed { result ≡ Ok Keeping.Failed → FindsOnlyOr (finds stable.old) bytes.now (finds stable.new) }
+    ensures refused { IfErr result (λ fault. (fault ≡ RunFault.Spent) ⊎ (fault ≡ RunFault.Memory)) }
+{
+    match stable.keep(bytes) {
+        Ok(()) => Ok(Keeping::Kept),
+        Err(RecordFault::Device) => Ok(Keeping::Failed),
+        Err(RecordFault::Spent) => Err(RunFault::Spent),
+        Err(_) => Err(RunFault::Memory),
+    }
+}
+
+/// Keeps the actor's next record: logs that the actor tries to, calls the gate, keeps the bytes, and
+/// only then logs that they are kept. Where the record's device fails (301) nothing more is logged.
+///
+/// The caller owes that the actor's own log allows a Try, that these are the bytes of what it tries to
+/// keep, at most `MAX_RECORD_LEN`, that a restart finds in the record what the actor keeps, and that the
+/// record isn't stuck. The errors log nothing but, perhaps, the Try and, where the book refuses the Kept,
+/// no more: memory was refused (914), the book is full or another's (915), no change of the record can be
+/// numbered any more (916).
+#[tactic(auto, using(crate::proofs::StepFacts::both_kept, crate::proofs::StepFacts::still_added, crate::proofs::StepFacts::failed_finds))]
+pub fn keep_next<R: Recorder, G: Gate>(
+    actor: Actor,
+    bytes: &[u8],
+    stable: &mut dyn StableRecord,
+    recorder: &mut R,
+    gate: &G,
+) -> Result<Keeping, RunFault>
+    requires actor { (R.own_log recorder.old).actor ≡ actor }
+    requires allowed { own_refusal (R.own_log recorder.old).ballot (Event.Try actor) (part_now (R.own_log recorder.old)) ≡ None }
+    requires tries { tried_in (after_own (R.own_log recorder.old).ballot (Event.Try actor) Effect.Tried (part_now (R.own_log recorder.old))) ≡ Some bytes.now }
+    requires fits { length bytes.now ≤ MAX_RECORD_LEN }
+    requires found { FindsPart (part_now (R.own_log recorder.old)) (finds stable.old) }
+    requires free { stuck_of stable.old ≡ false }
+    ensures kept { result ≡ Ok Keeping.Kept → IsKept (R.own_log recorder.old) actor (R.own_log recorder.new) × HasFound bytes.now (R.own_log recorder.new) (finds stable.new) (stuck_of stable.new) }
+    ensures failed { result ≡ Ok Keeping.Failed → IsAdded (R.own_log recorder.old) (Event.Try actor) Effect.Tried (R.own_log recorder.new) × FindsPart (part_now (R.own_log recorder.new)) (finds stable.new) }
+    ensures refused { IfErr result (λ fault. IsKeepingFault fault × ((R.own_log recorder.new ≡ R.own_log recorder.old) ⊎ IsAdded (R.own_log recorder.old) (Event.Try actor) Effect.Tried (R.own_log recorder.new))) }
+{
+    let actor = &actor;
+    log_try(*actor, bytes, &*stable, recorder)?;
+    gate.before_keep(*actor);
+    let keeping = put(bytes, stable)?;
+    match keeping {
+        Keeping::Kept => {
+            log_kept(*actor, bytes, &*stable, recorder)?;
+            Ok(Keeping::Kept)
+        }
+        Keeping::Failed => Ok(Keeping::Failed),
+    }
+}

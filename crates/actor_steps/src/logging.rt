@@ -1,0 +1,94 @@
+// Events that leave the actor's record as it is.
+
+ghost use Rattle.std.specs.Prelude.{◌≡◌, true, false, None, OnOk, IfOk, IfErr, IfSome, IfNone};
+ghost use Rattle.world_model.specs.Parts.{is_own, own_refusal};
+ghost use Rattle.event_recorders.specs.OwnLogs.{part_now, FindsPart, FindsAfter, IsAdded, reads, changes_record};
+ghost use Rattle.actor_steps.specs.Steps.{run_fault_of, IsBookFault};
+
+use event_recorders::laws::own_logs_tell_parts;
+use event_recorders::{Recorder, RunFault};
+use history_book::BookFault;
+use stable_record::StableRecord;
+use world_model::{Effect, Event};
+
+/// The fault by which a thread ends where its book refuses an event that may happen: want of memory
+/// (813) is 914, and all else is 915.
+pub fn run_fault_of(fault: BookFault) -> RunFault
+    ensures { result ≡ run_fault_of fault }
+{
+    match fault {
+        BookFault::Memory => RunFault::Memory,
+        BookFault::Full | BookFault::OtherBook | BookFault::OtherActor | BookFault::NotAStep(_) =>
+            RunFault::Book,
+    }
+}
+
+/// Logs an event that reads no message.
+pub(crate) fn log_own<R: Recorder>(
+    recorder: &mut R,
+    event: Event,
+    stable: &dyn StableRecord,
+) -> Result<Effect, RunFault>
+    requires own { is_own (R.own_log recorder.old).actor event ≡ true }
+    requires allowed { own_refusal (R.own_log recorder.old).ballot event (part_now (R.own_log recorder.old)) ≡ None }
+    requires plain { reads event ≡ false }
+    requires found { FindsAfter (R.own_log recorder.old) event (finds stable.now) }
+    ensures logged { IfOk result (λ done. IsAdded (R.own_log recorder.old) event done (R.own_log recorder.new)) }
+    ensures refused { IfErr result (λ fault. IsBookFault fault × (R.own_log recorder.new ≡ R.own_log recorder.old)) }
+{
+    match recorder.log(event, stable) {
+        Ok(effect) => Ok(effect),
+        Err(fault) => Err(run_fault_of(fault)),
+    }
+}
+
+/// Logs an event that neither reads a message nor changes what the actor keeps or tries to keep: a
+/// Begin, SayTo, Say, Enter, Leave or Fall.
+///
+/// The caller owes that the event is the actor's, that the actor's own log allows it, and that a
+/// restart finds in the record what the actor keeps. The errors leave the log as it was: memory was
+/// refused (914), or the book is full or another's (915).
+pub fn log_plain<R: Recorder>(
+    recorder: &mut R,
+    event: Event,
+    stable: &dyn StableRecord,
+) -> Result<Effect, RunFault>
+    requires own { is_own (R.own_log recorder.old).actor event ≡ true }
+    requires allowed { own_refusal (R.own_log recorder.old).ballot event (part_now (R.own_log recorder.old)) ≡ None }
+    requires plain { reads event ≡ false }
+    requires stays { changes_record event ≡ false }
+    requires found { FindsPart (part_now (R.own_log recorder.old)) (finds stable.now) }
+    ensures logged { IfOk result (λ done. IsAdded (R.own_log recorder.old) event done (R.own_log recorder.new)) }
+    ensures found { OnOk result (FindsPart (part_now (R.own_log recorder.new)) (finds stable.now)) }
+    ensures refused { IfErr result (λ fault. IsBookFault fault × (R.own_log recorder.new ≡ R.own_log recorder.old)) }
+{
+    own_logs_tell_parts();
+    log_own(recorder, event, stable)
+}
+
+/// Logs a Take or a Hear; `None` where no message of that number was sent (607) or it is for another
+/// (608), and then nothing is logged.
+///
+/// The caller owes what `log_plain` asks for. The errors leave the log as it was: memory was refused
+/// (914), or the book is full or another's (915).
+pub fn log_reading<R: Recorder>(
+    recorder: &mut R,
+    event: Event,
+    stable: &dyn StableRecord,
+) -> Result<Option<Effect>, RunFault>
+    requires own { is_own (R.own_log recorder.old).actor event ≡ true }
+    requires allowed { own_refusal (R.own_log recorder.old).ballot event (part_now (R.own_log recorder.old)) ≡ None }
+    requires reading { reads event ≡ true }
+    requires found { FindsPart (part_now (R.own_log recorder.old)) (finds stable.now) }
+    ensures logged { IfOk result (λ o. IfSome o (λ done. IsAdded (R.own_log recorder.old) event done (R.own_log recorder.new))) }
+    ensures dropped { IfOk result (λ o. IfNone o (R.own_log recorder.new ≡ R.own_log recorder.old)) }
+    ensures found { OnOk result (FindsPart (part_now (R.own_log recorder.new)) (finds stable.now)) }
+    ensures refused { IfErr result (λ fault. IsBookFault fault × (R.own_log recorder.new ≡ R.own_log recorder.old)) }
+{
+    own_logs_tell_parts();
+    match recorder.log(event, stable) {
+        Ok(effect) => Ok(Some(effect)),
+        Err(BookFault::NotAStep(_)) => Ok(None),
+        Err(fault) => Err(run_fault_of(fault)),
+    }
+}

@@ -1,0 +1,10 @@
+use Rattle.book_recorders.proofs.Logging.{added_if, recorder_if}
+use Rattle.book_recorders.proofs.alone.ListRecorderRecorder.log.Goals as goal
+
+pub returns-clause-logged : goal.returns-clause-logged
+returns-clause-logged g c =
+    added_if c.steps_change_one_part.ensures.effects c.log_event.result c.args.self.now.berth c.args.event c.log_event.new.self.berth c.log_event.ensures.goes_on
+
+pub returns-clause-refused : goal.returns-clause-refused
+returns-clause-refused g c =
+    recorder_if c.log_event.result c.args.self.now.berth c.args.event c.log_event.new.self.berth c.requires.own c.requires.allowed c.log_event.ensures.stays

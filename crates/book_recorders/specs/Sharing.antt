@@ -1,0 +1,61 @@
+-- What a berth tells of a call that logged for it, where the book lies under a lock: the book isn't named,
+-- and others may have logged since the berth saw it last.
+use Rattle.std.specs.Prelude.{◌≡◌, true, false, List, [], ◌∷◌, ◌++◌, Some}
+use Rattle.berth_seats.specs.Views.{TableId}
+use Rattle.event_recorders.specs.OwnLogs.{OwnLog}
+use Rattle.world_model.specs.declared.events.Effect.{Effect}
+use Rattle.world_model.specs.declared.events.Event.{Event}
+use Rattle.world_model.specs.declared.exact.ExactWorld.{ExactWorld}
+use Rattle.world_model.specs.Laws.{Takes}
+use Rattle.world_model.specs.Locality.{own_events, IsHistory, IsAsListed, IsLocalRefusal}
+use Rattle.world_model.specs.Parts.{is_own, part, own_refusal}
+use Rattle.history_book.specs.declared.faults.BookFault.{BookFault}
+use Rattle.history_book.specs.declared.faults.BookFault.TheVariants as book
+use Rattle.history_book.specs.Books.{BerthValue, own_of, own_part, IsOfEvent}
+
+-- the berth, once it has seen this much
+abbrev pub after_seeing : BerthValue → List (Event × Effect) → BerthValue
+after_seeing k seen = record { number = k.number; table = k.table; actor = k.actor; opening = k.opening; seen = seen }
+
+-- Others logged these since the berth saw the history last: with what it has seen they are a run from the
+-- opening to this world, and none of them is its actor's.
+pub record Between (k : BerthValue) (between : List (Event × Effect)) (w : ExactWorld) : Type 0 where
+  pub run : IsHistory k.opening (k.seen ++ between) w
+  pub others : own_events k.actor between ≡ []
+
+-- The event was logged: the berth has seen what it had seen, then what others logged, and then this event
+-- with its effect, which was a step of the world there; and all of it is a run.
+pub record HasLogged (k : BerthValue) (e : Event) (done : Effect) (k' : BerthValue) : Type 0 where
+  pub own : is_own k.actor e ≡ true
+  pub between : List (Event × Effect)
+  pub before : ExactWorld
+  pub after : ExactWorld
+  pub others : Between k between before
+  pub takes : Takes before e done after
+  pub listed : IsAsListed before e done
+  pub berth : k' ≡ after_seeing k ((k.seen ++ between) ++ (e, done) ∷ [])
+  pub run : IsHistory k'.opening k'.seen after
+
+-- the berth has seen what it had seen and what others logged since
+pub record HasSeen (k k' : BerthValue) : Type 0 where
+  pub between : List (Event × Effect)
+  pub now : ExactWorld
+  pub others : Between k between now
+  pub berth : k' ≡ after_seeing k (k.seen ++ between)
+
+-- Why the event was not logged. It is no step only for a reason that the berth's own list gives or, where
+-- that gives none, the list of messages; else nothing is changed.
+abbrev pub MayRefuse : BookFault → BerthValue → Event → BerthValue → Type 0
+MayRefuse book.OtherBook k e k' = k' ≡ k
+MayRefuse book.OtherActor k e k' = (is_own k.actor e ≡ false) × (k' ≡ k)
+MayRefuse book.Full k e k' = k' ≡ k
+MayRefuse book.Memory k e k' = k' ≡ k
+MayRefuse (book.NotAStep f) k e k' = IsOfEvent f × HasSeen k k' × IsLocalRefusal e (own_refusal k.opening.ballot e (own_part k)) (Some f)
+
+-- the berth's own log: its actor, the actor's part of the world as the book was opened, and its own events
+abbrev pub log_of : BerthValue → OwnLog
+log_of k = record { actor = k.actor; ballot = k.opening.ballot; opening = part k.opening k.actor; events = own_of k }
+
+-- no book's table
+abbrev pub no_table : TableId
+no_table = record { words = 0; slots = 0; views_name = 0; atom = 0; block = 0; offset = 0; slot_names = [] }

@@ -1,0 +1,74 @@
+// A book under a lock.
+
+ghost use Rattle.std.specs.Prelude.{◌≡◌, IfOk, IfErr};
+ghost use Rattle.berth_seats.specs.Views.{TableId};
+ghost use Rattle.history_book.specs.Books.{BookValue};
+ghost use Rattle.book_recorders.specs.Sharing.{HasLogged, MayRefuse, no_table};
+
+use crate::Logs;
+use history_book::{Berth, BookFault};
+use std::marker::{Brand, Model, PhantomData};
+use world_model::{Effect, Event};
+
+/// Which book it is, by the table that ties its berths. The call that opens the book picks it.
+pub trait BookName {
+    ghost table: { TableId };
+}
+
+impl BookName for Brand {
+    ghost table = { no_table };
+}
+
+/// The book of this name, as it lies under a lock. Contracts see it as the book.
+///
+/// Of a value under a lock nothing is known but what its type says; so the type says which book it is,
+/// and a berth that says the same is its own.
+#[derive(Drop)]
+pub struct Named<B: BookName, K: Logs> {
+    book: K,
+    name: PhantomData<B>,
+}
+
+impl<B: BookName, K: Logs> Model for Named<B, K> {
+    ghost Value = { BookValue };
+
+    ghost view = { λ n. K.book n.book };
+
+    ghost invariant = { λ n. (K.book n.book).table ≡ B.table };
+}
+
+impl<B: BookName, K: Logs> Named<B, K> {
+    /// The book under its name. The caller owes that it is that book.
+    pub fn of(book: K) -> Named<B, K>
+        requires { (K.book book).table ≡ B.table }
+        ensures { result ≡ K.book book }
+    {
+        Named {
+            book,
+            name: PhantomData,
+        }
+    }
+
+    /// The book, which is the one of this name.
+    pub fn into_book(self) -> K
+        ensures book { K.book result ≡ self }
+        ensures name { self.table ≡ B.table }
+    {
+        self.book
+    }
+
+    /// Logs an event of the berth's actor, with the errors of `Book::log`.
+    ///
+    /// What is said of the berth names no book: the berth goes on from all that it had seen, by what
+    /// others logged, none of it its actor's, and then by this event, which may happen there; and all of
+    /// it is a run. After an error the berth is as it was or, where the event is no step (811), has seen
+    /// what others logged. The caller owes that the berth is of the book of this name.
+    #[tactic(auto, using(crate::proofs::Between::has_logged, crate::proofs::Between::may_refuse, crate::proofs::Between::logged_table, crate::proofs::Between::refused_table))]
+    pub(crate) fn log(&mut self, berth: &mut Berth, event: Event) -> Result<Effect, BookFault>
+        requires { berth.old.table ≡ B.table }
+        ensures logged { IfOk result (λ done. HasLogged berth.old event done berth.new) }
+        ensures refused { IfErr result (λ f. MayRefuse f berth.old event berth.new) }
+    {
+        self.book.log(berth, event)
+    }
+}

@@ -1,0 +1,77 @@
+// One actor's way to a book that threads share.
+
+ghost use Rattle.std.specs.Prelude.{◌≡◌, IfOk, IfErr};
+ghost use Rattle.history_book.specs.Books.{BerthValue};
+ghost use Rattle.book_recorders.specs.Sharing.{HasLogged, MayRefuse, log_of};
+
+use crate::{BookName, Logs, Named};
+use event_recorders::Recorder;
+use history_book::{Berth, BookFault};
+use stable_record::StableRecord;
+use std::marker::Model;
+use std::sync::{Mutex, Wait};
+use world_model::laws::steps_change_one_part;
+use world_model::{Effect, Event};
+
+/// An actor's recorder over a book that threads share: the lock of the book, and the actor's berth.
+///
+/// It takes the lock for one event at a time, and keeps no guard between two. Contracts see it as the
+/// berth.
+#[derive(Drop)]
+pub struct BookRecorder<'a, B: BookName, K: Logs, R: Copy> {
+    rt: R,
+    book: &'a Mutex<Named<B, K>>,
+    berth: Berth,
+}
+
+impl<'a, B: BookName, K: Logs, R: Copy> Model for BookRecorder<'a, B, K, R> {
+    ghost Value = { BerthValue };
+
+    ghost view = { λ r. r.berth };
+
+    ghost invariant = { λ r. r.berth.table ≡ B.table };
+}
+
+impl<'a, B: BookName, K: Logs, R: Copy> BookRecorder<'a, B, K, R> {
+    /// The recorder of the berth's actor. The caller owes that the berth is of the book of this name.
+    pub fn of(rt: R, book: &'a Mutex<Named<B, K>>, berth: Berth) -> BookRecorder<'a, B, K, R>
+        requires { berth.table ≡ B.table }
+        ensures { result ≡ berth }
+    {
+        BookRecorder { rt, book, berth }
+    }
+
+    /// The berth, which is of the book of this name.
+    pub fn into_berth(self) -> Berth
+        ensures berth { result ≡ self.entry }
+        ensures name { self.entry.table ≡ B.table }
+    {
+        self.berth
+    }
+}
+
+impl<'a, B: BookName, K: Logs, R: Wait + Copy> BookRecorder<'a, B, K, R> {
+    /// Logs an event of the berth's actor in the book, under its lock, for which it may wait; with the
+    /// errors of `Book::log`.
+    ///
+    /// The berth goes on from all that it had seen, by what others logged, none of it its actor's, and then
+    /// by this event, which is a step of the world there; and all of it is a run. After an error it is as it
+    /// was or, where the event is no step (811), has seen what others logged.
+    pub fn log_event(&mut self, event: Event) -> Result<Effect, BookFault>
+        ensures goes_on { IfOk result (λ done. HasLogged self.old event done self.new) }
+        ensures stays { IfErr result (λ fault. MayRefuse fault self.old event self.new) }
+    {
+        self.book.lock(&self.rt).log(&mut self.berth, event)
+    }
+}
+
+impl<'a, B: BookName, K: Logs, R: Wait + Copy> Recorder for BookRecorder<'a, B, K, R> {
+    ghost own_log = { λ k. log_of k };
+
+    /// Logs an event of the berth's actor in the book, as `log_event` does.
+    fn log(&mut self, event: Event, stable: &dyn StableRecord) -> Result<Effect, BookFault> {
+        let _ = stable;
+        steps_change_one_part();
+        self.log_event(event)
+    }
+}

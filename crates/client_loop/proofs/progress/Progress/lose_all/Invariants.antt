@@ -1,0 +1,5 @@
+use Rattle.client_loop.specs.Standing.{IsAlike}
+use Rattle.client_loop.proofs.progress.Progress.lose_all.Given as goal
+
+abbrev pub invariant-loop-number : goal.invariant-loop-number
+invariant-loop-number l = IsAlike l.fn.self.core l.self.core

@@ -1,0 +1,9 @@
+use Rattle.std.proofs.Common.{◌≡◌}
+use Rattle.client_loop.specs.Standing.{Stands}
+use Rattle.client_loop.specs.Visits.{visits_of}
+use Rattle.client_loop.proofs.releasing.tell_releases.Given as goal
+
+abbrev pub invariant-loop-number : goal.invariant-loop-number
+invariant-loop-number g l =
+    Stands (g.R.Recorder.own_log l.recorder) ((goal.StableRecord-dyn g l.stable.now).finds l.stable.now.1) l.progress.core
+    × (visits_of (g.R.Recorder.own_log l.recorder) ≡ visits_of (g.R.Recorder.own_log l.fn.recorder))

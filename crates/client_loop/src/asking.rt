@@ -1,0 +1,68 @@
+// Asking nodes for their votes.
+
+ghost use Rattle.std.specs.Prelude.{◌≡◌, OnOk};
+ghost use Rattle.client_core.specs.Calls.{MayEnter};
+ghost use Rattle.client_loop.specs.Standing.{Stands};
+ghost use Rattle.client_loop.specs.Visits.{visits_of};
+
+use crate::posts::take_post;
+use crate::progress::Progress;
+use crate::talking::tell;
+use event_recorders::{Recorder, RunFault};
+use lock_messages::Mode;
+use lossy_link::Link;
+use stable_record::StableRecord;
+use std::alloc::Global;
+use std::sync::Wait;
+
+/// Asks the node that is to be asked next, unless it was asked already.
+fn ask_on<R: Recorder, L: Link>(
+    alloc: Global,
+    progress: &mut Progress,
+    stable: &dyn StableRecord,
+    recorder: &mut R,
+    link: &mut L,
+) -> Result<(), RunFault>
+    requires { Stands (R.own_log recorder.old) (finds stable.now) progress.old.core }
+    ensures stands { Stands (R.own_log recorder.new) (finds stable.now) progress.new.core }
+    ensures visits { visits_of (R.own_log recorder.new) ≡ visits_of (R.own_log recorder.old) }
+{
+    let Some(node) = progress.core.next_ask() else {
+        return Ok(());
+    };
+    if progress.asked.has(node) {
+        return Ok(());
+    }
+    tell(alloc, &progress.core, node, stable, recorder, link)?;
+    progress.asked = progress.asked.with(node);
+    Ok(())
+}
+
+/// Asks one node after another until the votes are enough. 912: the nodes that granted and those that
+/// aren't gone are not enough.
+pub(crate) fn ask<W: Wait, R: Recorder, L: Link>(
+    rt: &W,
+    alloc: Global,
+    mode: Mode,
+    progress: &mut Progress,
+    stable: &dyn StableRecord,
+    recorder: &mut R,
+    link: &mut L,
+) -> Result<(), RunFault>
+    requires { Stands (R.own_log recorder.old) (finds stable.now) progress.old.core }
+    ensures may_enter { OnOk result (MayEnter progress.new.core) }
+    ensures stands { Stands (R.own_log recorder.new) (finds stable.now) progress.new.core }
+    ensures visits { visits_of (R.own_log recorder.new) ≡ visits_of (R.own_log recorder.old) }
+{
+    for _ in rt.forever() {
+        if progress.core.may_enter() {
+            return Ok(());
+        }
+        if !progress.can_suffice(mode) {
+            return Err(RunFault::TooFewNodes);
+        }
+        ask_on(alloc, progress, stable, recorder, link)?;
+        take_post(alloc, progress, stable, recorder, link)?;
+    }
+    unreachable!()
+}

@@ -1,0 +1,117 @@
+// Making an attempt: its number is chosen, and kept before it is used.
+
+ghost use Rattle.std.specs.Prelude.{◌≡◌, OnOk, false, Some};
+ghost use Rattle.client_loop.specs.Standing.{Stands, HasChosen, HasTried};
+ghost use Rattle.client_loop.specs.Visits.{visits_of, use_of};
+
+use crate::progress::Progress;
+use actor_steps::{Keeping, keep_next, log_plain, rise_again};
+use client_core::ClientCore;
+use event_recorders::laws::records_fit;
+use event_recorders::{Gate, Recorder, RunFault};
+use history_check::Wish;
+use lock_messages::Actor;
+use stable_record::{StableRecord, client_bytes, read_client};
+use std::sync::Wait;
+use world_model::Event;
+
+/// Chooses the next attempt, for the wish. 916: none is left.
+fn begin<R: Recorder>(
+    core: &mut ClientCore,
+    wish: &Wish,
+    stable: &dyn StableRecord,
+    recorder: &mut R,
+) -> Result<(), RunFault>
+    requires { Stands (R.own_log recorder.old) (finds stable.now) core.old }
+    ensures chosen { OnOk result (HasChosen (R.own_log recorder.new) (finds stable.now) core.new) }
+    ensures begun { OnOk result ((visits_of (R.own_log recorder.new)).begun ≡ Some (use_of wish.now)) }
+    ensures entered { (visits_of (R.own_log recorder.new)).entered ≡ (visits_of (R.own_log recorder.old)).entered }
+{
+    let Wish { mode, resource, .. } = *wish;
+    let resource = &resource;
+    let Ok(_) = core.begin(*resource, mode) else {
+        return Err(RunFault::Spent);
+    };
+    log_plain(
+        recorder,
+        Event::Begin(core.client(), mode, *resource),
+        stable,
+    )?;
+    Ok(())
+}
+
+/// Rises again with the attempt that the record holds, after it failed to keep the chosen one.
+fn rise_anew<R: Recorder>(
+    core: &mut ClientCore,
+    stable: &mut dyn StableRecord,
+    recorder: &mut R,
+) -> Result<(), RunFault>
+    requires { HasTried (R.own_log recorder.old) (finds stable.old) core.old }
+    ensures stands { OnOk result (Stands (R.own_log recorder.new) (finds stable.new) core.new) }
+    ensures free { OnOk result (stuck_of stable.new ≡ false) }
+    ensures visits { visits_of (R.own_log recorder.new) ≡ visits_of (R.own_log recorder.old) }
+{
+    let bytes = client_bytes(core.attempt());
+    let found = rise_again(Actor::Client(core.client()), &bytes, stable, recorder)?;
+    let Ok(attempt) = read_client(found.as_slice()) else {
+        return Err(RunFault::Spent);
+    };
+    core.restart(attempt);
+    Ok(())
+}
+
+/// Keeps the chosen attempt, with which the client then asks. Whether it was kept; where the record
+/// failed, the client has risen again.
+fn keep_chosen<R: Recorder, G: Gate>(
+    core: &mut ClientCore,
+    stable: &mut dyn StableRecord,
+    recorder: &mut R,
+    gate: &G,
+) -> Result<bool, RunFault>
+    requires chosen { HasChosen (R.own_log recorder.old) (finds stable.old) core.old }
+    requires free { stuck_of stable.old ≡ false }
+    ensures stands { OnOk result (Stands (R.own_log recorder.new) (finds stable.new) core.new) }
+    ensures free { OnOk result (stuck_of stable.new ≡ false) }
+    ensures visits { visits_of (R.own_log recorder.new) ≡ visits_of (R.own_log recorder.old) }
+{
+    records_fit();
+    let bytes = client_bytes(core.attempt());
+    let keeping = keep_next(Actor::Client(core.client()), &bytes, stable, recorder, gate)?;
+    match keeping {
+        Keeping::Kept => {
+            core.kept();
+            Ok(true)
+        }
+        Keeping::Failed => {
+            rise_anew(core, stable, recorder)?;
+            Ok(false)
+        }
+    }
+}
+
+/// Makes the next attempt for the wish, and once more for as long as the record fails. The nodes that
+/// are gone are skipped in it.
+pub(crate) fn attempt<W: Wait, R: Recorder, G: Gate>(
+    rt: &W,
+    wish: &Wish,
+    progress: &mut Progress,
+    stable: &mut dyn StableRecord,
+    recorder: &mut R,
+    gate: &G,
+) -> Result<(), RunFault>
+    requires stands { Stands (R.own_log recorder.old) (finds stable.old) progress.old.core }
+    requires free { stuck_of stable.old ≡ false }
+    ensures stands { OnOk result (Stands (R.own_log recorder.new) (finds stable.new) progress.new.core) }
+    ensures free { OnOk result (stuck_of stable.new ≡ false) }
+    ensures begun { OnOk result ((visits_of (R.own_log recorder.new)).begun ≡ Some (use_of wish.now)) }
+    ensures entered { (visits_of (R.own_log recorder.new)).entered ≡ (visits_of (R.own_log recorder.old)).entered }
+{
+    for _ in rt.forever() {
+        begin(&mut progress.core, wish, &*stable, recorder)?;
+        if keep_chosen(&mut progress.core, stable, recorder, gate)? {
+            progress.skip_gone();
+            return Ok(());
+        }
+    }
+    unreachable!()
+}

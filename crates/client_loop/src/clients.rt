@@ -1,0 +1,166 @@
+// A client's run.
+
+ghost use Rattle.std.specs.Prelude.{◌≡◌, ◌≤◌, [], OnOk, IfOk, All, false, length};
+ghost use Rattle.event_recorders.specs.OwnLogs.{IsUnused, FindsPart};
+ghost use Rattle.client_loop.specs.Standing.{Stands, KeepsAttempt};
+ghost use Rattle.client_loop.specs.Visits.{visits_of, HasEntered, entries_of};
+
+use crate::entering::MAX_WISHES;
+use crate::progress::Progress;
+use crate::wishing::fulfil;
+use actor_steps::rise_first;
+use client_core::ClientCore;
+use event_recorders::{Gate, Recorder, RunFault};
+use history_check::Wish;
+use lock_messages::{Actor, ClientId};
+use lossy_link::Link;
+use stable_record::{StableRecord, read_client};
+use std::alloc::Global;
+use std::sync::Wait;
+use vote_weights::Ballot;
+
+/// The client's core as it first rises, with the attempt that its record holds.
+fn rise<R: Recorder>(
+    client: ClientId,
+    ballot: Ballot,
+    stable: &mut dyn StableRecord,
+    recorder: &mut R,
+) -> Result<ClientCore, RunFault>
+    requires unused { IsUnused (R.own_log recorder.old) (Actor.Client client) }
+    requires ballot { (R.own_log recorder.old).ballot ≡ ballot }
+    requires found { FindsPart (R.own_log recorder.old).opening (finds stable.old) }
+    requires kept { KeepsAttempt (R.own_log recorder.old).opening }
+    ensures stands { IfOk result (λ core. Stands (R.own_log recorder.new) (finds stable.new) core) }
+    ensures free { OnOk result (stuck_of stable.new ≡ false) }
+    ensures visits { (visits_of (R.own_log recorder.new)).entered ≡ [] }
+{
+    let bytes = rise_first(Actor::Client(client), stable, recorder)?;
+    let Ok(attempt) = read_client(bytes.as_slice()) else {
+        return Err(RunFault::Spent);
+    };
+    Ok(ClientCore::rise(client, attempt, ballot))
+}
+
+/// Fulfils the wishes in order.
+fn fulfil_all<W: Wait, R: Recorder, L: Link, G: Gate>(
+    rt: &W,
+    alloc: Global,
+    core: ClientCore,
+    wishes: &[Wish],
+    stable: &mut dyn StableRecord,
+    recorder: &mut R,
+    link: &mut L,
+    gate: &G,
+) -> Result<u32, (u32, RunFault)>
+    requires stands { Stands (R.own_log recorder.old) (finds stable.old) core }
+    requires free { stuck_of stable.old ≡ false }
+    requires few { length wishes.now ≤ MAX_WISHES }
+    requires fresh { (visits_of (R.own_log recorder.old)).entered ≡ [] }
+    ensures entered { HasEntered wishes.now (entries_of result) (R.own_log recorder.new) }
+    ensures all { IfOk result (λ n. n ≡ length wishes.now) }
+{
+    let mut progress = Progress::of(core);
+    let mut entered = 0;
+    for wish in wishes {
+        let fulfilled = fulfil(
+            rt,
+            alloc,
+            wish,
+            &mut progress,
+            &mut entered,
+            stable,
+            recorder,
+            link,
+            gate,
+        );
+        if let Err(fault) = fulfilled {
+            return Err((entered, fault));
+        }
+    }
+    Ok(entered)
+}
+
+/// Rises, and fulfils the wishes in order.
+fn run<W: Wait, R: Recorder, L: Link, G: Gate>(
+    rt: &W,
+    alloc: Global,
+    client: ClientId,
+    ballot: Ballot,
+    wishes: &[Wish],
+    stable: &mut dyn StableRecord,
+    recorder: &mut R,
+    link: &mut L,
+    gate: &G,
+) -> Result<u32, (u32, RunFault)>
+    requires unused { IsUnused (R.own_log recorder.old) (Actor.Client client) }
+    requires ballot { (R.own_log recorder.old).ballot ≡ ballot }
+    requires found { FindsPart (R.own_log recorder.old).opening (finds stable.old) }
+    requires kept { KeepsAttempt (R.own_log recorder.old).opening }
+    requires few { length wishes.now ≤ MAX_WISHES }
+    ensures entered { HasEntered wishes.now (entries_of result) (R.own_log recorder.new) }
+    ensures all { IfOk result (λ n. n ≡ length wishes.now) }
+{
+    let core = match rise(client, ballot, stable, recorder) {
+        Ok(core) => core,
+        Err(fault) => return Err((0, fault)),
+    };
+    fulfil_all(rt, alloc, core, wishes, stable, recorder, link, gate)
+}
+
+/// Runs a client: it rises with what its record holds, also where it has no wish, and fulfils its wishes
+/// in order. Answers how many it entered, which is all of them or, in an error, those before the fault.
+///
+/// For each wish it makes an attempt, whose number it keeps before it is used, asks the nodes one after
+/// another for their votes, is inside by a guard while the gate keeps it, leaves, and says its release to
+/// each node that it asked until each has answered or is gone. It logs each of these before it sends
+/// what it says. It drops a frame that is no message for it, a number under which no message was sent to
+/// it, and the nudge of a node to which it has sent nothing in the present wish; on every other nudge it
+/// sends again. A node that is gone is skipped, and a link over which nothing comes any more has lost
+/// every node. Where its record fails it falls, rises with what the record holds, and takes the wish up
+/// again.
+///
+/// The caller owes wishes of this client, at most `MAX_WISHES`; a recorder of this client, with this
+/// ballot, that has logged nothing, and whose opening has the client down, with an attempt of at most
+/// `MAX_ATTEMPT` kept and nothing tried; and a record in which a restart finds just that attempt.
+///
+/// # Errors
+///
+/// With the number of entries made: three reopens of the record failed in a row (911); the nodes that
+/// granted and those that aren't gone are too few (912), or a wish had `MAX_NUDGES` nudges (913), and then
+/// the client has left where it asked, and has said its release once to each asked node that isn't gone;
+/// memory was refused (914); the book is full or another's (915); no change of the record can be numbered
+/// any more, or no attempt is left (916). Nothing is logged after that. It may wait at the link, the
+/// recorder and the gate.
+pub fn run_client<W: Wait, R: Recorder, L: Link, G: Gate>(
+    rt: &W,
+    alloc: Global,
+    client: ClientId,
+    ballot: Ballot,
+    wishes: &[Wish],
+    stable: Box<dyn StableRecord + Send>,
+    recorder: &mut R,
+    link: &mut L,
+    gate: &G,
+) -> Result<u32, (u32, RunFault)>
+    requires unused { IsUnused (R.own_log recorder.old) (Actor.Client client) }
+    requires ballot { (R.own_log recorder.old).ballot ≡ ballot }
+    requires found { FindsPart (R.own_log recorder.old).opening (finds stable) }
+    requires kept { KeepsAttempt (R.own_log recorder.old).opening }
+    requires own { All (λ wish. wish.client ≡ client) wishes.now }
+    requires few { length wishes.now ≤ MAX_WISHES }
+    ensures entered { HasEntered wishes.now (entries_of result) (R.own_log recorder.new) }
+    ensures all { IfOk result (λ n. n ≡ length wishes.now) }
+{
+    let mut stable = stable;
+    run(
+        rt,
+        alloc,
+        client,
+        ballot,
+        wishes,
+        &mut *stable,
+        recorder,
+        link,
+        gate,
+    )
+}

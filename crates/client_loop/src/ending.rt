@@ -1,0 +1,56 @@
+// Giving up a wish.
+
+ghost use Rattle.std.specs.Prelude.{◌≡◌};
+ghost use Rattle.client_loop.specs.Standing.{Stands};
+ghost use Rattle.client_loop.specs.Visits.{visits_of};
+
+use crate::entering::log_leave;
+use crate::progress::Progress;
+use crate::releasing::tell_releases;
+use client_core::Phase;
+use event_recorders::{Recorder, RunFault};
+use lossy_link::Link;
+use stable_record::StableRecord;
+use std::alloc::Global;
+
+/// Leaves, where the client asks, and says the release once to each node that was asked and isn't gone.
+fn give_up<R: Recorder, L: Link>(
+    alloc: Global,
+    progress: &mut Progress,
+    stable: &dyn StableRecord,
+    recorder: &mut R,
+    link: &mut L,
+) -> Result<(), RunFault>
+    requires { Stands (R.own_log recorder.old) (finds stable.now) progress.old.core }
+    ensures { visits_of (R.own_log recorder.new) ≡ visits_of (R.own_log recorder.old) }
+{
+    if let Phase::Asking = progress.core.phase() {
+        progress.core.leave();
+        log_leave(&progress.core, stable, recorder)?;
+    }
+    tell_releases(alloc, progress, stable, recorder, link)
+}
+
+/// Ends the client by the fault: one that has too few nodes left, or gave up, takes back what it asked
+/// for. Should that fail, the client ends by the later fault.
+pub(crate) fn end<R: Recorder, L: Link>(
+    alloc: Global,
+    fault: RunFault,
+    progress: &mut Progress,
+    stable: &dyn StableRecord,
+    recorder: &mut R,
+    link: &mut L,
+) -> RunFault
+    requires { Stands (R.own_log recorder.old) (finds stable.now) progress.old.core }
+    ensures { visits_of (R.own_log recorder.new) ≡ visits_of (R.own_log recorder.old) }
+{
+    match fault {
+        RunFault::TooFewNodes | RunFault::GaveUp => {
+            match give_up(alloc, progress, stable, recorder, link) {
+                Ok(()) => fault,
+                Err(later) => later,
+            }
+        }
+        RunFault::NotReopened | RunFault::Memory | RunFault::Book | RunFault::Spent => fault,
+    }
+}

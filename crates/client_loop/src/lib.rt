@@ -1,0 +1,29 @@
+//! A client as a thread runs it: from its wishes to what it logs and sends.
+//!
+//! `run_client` rises with what the client's record holds, and fulfils its wishes one after another over
+//! any `Recorder`, `Link` and `Gate`. The crate promises that it logs only what the client's own log
+//! allows, each while the record finds what the client has kept by then; that the gate is called inside
+//! with a live guard whose ticket the log has inside; that the client's Enters are those of its first
+//! wishes, in order; and that what it answers is their number, `Ok` only with every wish entered. It
+//! promises nothing of what a link brings, and not that it ends.
+//!
+//! It stands on `client_core` for what a client decides, `entry_guard` for being inside, `actor_steps`
+//! for the steps that nodes and clients share, `event_recorders`, `lossy_link`, `stable_record`,
+//! `history_check` for wishes, `history_book`, `world_model`, `vote_weights`, `lock_messages`,
+//! `lock_model` and `bytes`.
+#![tactic(auto)]
+
+mod asking;
+mod attempting;
+mod clients;
+mod ending;
+mod entering;
+mod posts;
+mod progress;
+mod releasing;
+mod talking;
+mod wishing;
+
+pub use clients::run_client;
+pub use entering::MAX_WISHES;
+pub use progress::MAX_NUDGES;

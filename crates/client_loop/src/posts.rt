@@ -1,0 +1,87 @@
+// What a client does on a post.
+
+ghost use Rattle.std.specs.Prelude.{◌≡◌};
+ghost use Rattle.client_loop.specs.Standing.{Stands};
+ghost use Rattle.client_loop.specs.Visits.{visits_of};
+
+use crate::progress::{MAX_NUDGES, Progress};
+use crate::talking::{hear, tell};
+use event_recorders::{Recorder, RunFault};
+use lock_messages::NodeId;
+use lock_model::Heard;
+use lossy_link::{Link, Parcel, Post};
+use stable_record::StableRecord;
+use std::alloc::Global;
+
+/// Hears a parcel, and remembers a vote that was counted and a release that was answered.
+fn take_parcel<R: Recorder>(
+    progress: &mut Progress,
+    parcel: &Parcel,
+    stable: &dyn StableRecord,
+    recorder: &mut R,
+) -> Result<(), RunFault>
+    requires { Stands (R.own_log recorder.old) (finds stable.now) progress.old.core }
+    ensures stands { Stands (R.own_log recorder.new) (finds stable.now) progress.new.core }
+    ensures visits { visits_of (R.own_log recorder.new) ≡ visits_of (R.own_log recorder.old) }
+{
+    match hear(&mut progress.core, parcel, stable, recorder)? {
+        Some((node, Heard::Counted)) => progress.granted = progress.granted.with(node),
+        Some((node, Heard::Done)) => progress.released = progress.released.with(node),
+        _ => {}
+    }
+    Ok(())
+}
+
+/// Sends again to a node that nudges. A nudge of a node to which nothing was sent in the present wish is
+/// dropped; the last nudge of those that one wish may have ends it, and what is sent to a node that is
+/// gone goes nowhere.
+fn take_nudge<R: Recorder, L: Link>(
+    alloc: Global,
+    progress: &mut Progress,
+    node: NodeId,
+    stable: &dyn StableRecord,
+    recorder: &mut R,
+    link: &mut L,
+) -> Result<(), RunFault>
+    requires { Stands (R.own_log recorder.old) (finds stable.now) progress.old.core }
+    ensures stands { Stands (R.own_log recorder.new) (finds stable.now) progress.new.core }
+    ensures visits { visits_of (R.own_log recorder.new) ≡ visits_of (R.own_log recorder.old) }
+{
+    if !progress.asked.has(node) {
+        return Ok(());
+    }
+    progress.nudges = progress.nudges.saturating_add(1);
+    if progress.nudges >= MAX_NUDGES {
+        return Err(RunFault::GaveUp);
+    }
+    if progress.gone.has(node) {
+        return Ok(());
+    }
+    tell(alloc, &progress.core, node, stable, recorder, link)
+}
+
+/// Takes the next post. A link over which nothing comes any more has lost every node.
+pub(crate) fn take_post<R: Recorder, L: Link>(
+    alloc: Global,
+    progress: &mut Progress,
+    stable: &dyn StableRecord,
+    recorder: &mut R,
+    link: &mut L,
+) -> Result<(), RunFault>
+    requires { Stands (R.own_log recorder.old) (finds stable.now) progress.old.core }
+    ensures stands { Stands (R.own_log recorder.new) (finds stable.now) progress.new.core }
+    ensures visits { visits_of (R.own_log recorder.new) ≡ visits_of (R.own_log recorder.old) }
+{
+    let Ok(post) = link.receive() else {
+        progress.lose_all();
+        return Ok(());
+    };
+    match &post {
+        Post::Parcel(parcel) => take_parcel(progress, parcel, stable, recorder),
+        Post::Nudge(node) => take_nudge(alloc, progress, *node, stable, recorder, link),
+        Post::Gone(node) => {
+            progress.lose(*node);
+            Ok(())
+        }
+    }
+}

@@ -1,0 +1,117 @@
+// What a client remembers from post to post.
+
+ghost use Rattle.std.specs.Prelude.{◌≡◌};
+ghost use Rattle.client_loop.specs.Standing.{IsAlike};
+
+use client_core::ClientCore;
+use lock_messages::{Mode, NodeId};
+use vote_weights::NodeSet;
+
+/// What a client remembers from post to post: its core, the nodes that are gone, and of the present
+/// wish the nodes to which it has sent something, those whose vote was counted, those that answered its
+/// release, and the number of nudges.
+#[derive(Drop)]
+pub(crate) struct Progress {
+    pub(crate) core: ClientCore,
+    pub(crate) gone: NodeSet,
+    pub(crate) asked: NodeSet,
+    pub(crate) granted: NodeSet,
+    pub(crate) released: NodeSet,
+    pub(crate) nudges: u32,
+}
+
+/// The most nudges of one wish.
+pub const MAX_NUDGES: u32 = 1000;
+
+impl Progress {
+    /// Nothing is known yet but the core.
+    pub(crate) fn of(core: ClientCore) -> Progress
+        ensures { result.core ≡ core }
+    {
+        Progress {
+            core,
+            gone: NodeSet::empty(),
+            asked: NodeSet::empty(),
+            granted: NodeSet::empty(),
+            released: NodeSet::empty(),
+            nudges: 0,
+        }
+    }
+
+    /// Forgets what was of the last wish.
+    pub(crate) fn begin_wish(&mut self)
+        ensures { self.new.core ≡ self.old.core }
+    {
+        self.asked = NodeSet::empty();
+        self.granted = NodeSet::empty();
+        self.released = NodeSet::empty();
+        self.nudges = 0;
+    }
+
+    /// The node is gone: it is skipped.
+    pub(crate) fn lose(&mut self, node: NodeId)
+        ensures { IsAlike self.old.core self.new.core }
+    {
+        self.gone = self.gone.with(node);
+        self.core.skip(node);
+    }
+
+    /// Every node of the ballot is gone.
+    pub(crate) fn lose_all(&mut self)
+        ensures { IsAlike self.old.core self.new.core }
+    {
+        for number in 1..=self.core.ballot().nodes() {
+            let Some(node) = NodeId::of(number) else {
+                return;
+            };
+            self.lose(node);
+        }
+    }
+
+    /// Skips the nodes that are gone.
+    pub(crate) fn skip_gone(&mut self)
+        ensures { IsAlike self.old.core self.new.core }
+    {
+        for number in 1..=self.core.ballot().nodes() {
+            let Some(node) = NodeId::of(number) else {
+                return;
+            };
+            if self.gone.has(node) {
+                self.core.skip(node);
+            }
+        }
+    }
+
+    /// Whether the nodes that granted and those that aren't gone are enough.
+    pub(crate) fn can_suffice(&self, mode: Mode) -> bool {
+        let ballot = self.core.ballot();
+        let mut possible = self.granted;
+        for number in 1..=ballot.nodes() {
+            let Some(node) = NodeId::of(number) else {
+                return false;
+            };
+            if !self.gone.has(node) {
+                possible = possible.with(node);
+            }
+        }
+        ballot.enough(mode, possible)
+    }
+
+    /// Whether the node still has to answer the release: it was asked, has not answered and isn't gone.
+    pub(crate) fn owes(&self, node: NodeId) -> bool {
+        self.asked.has(node) && !self.released.has(node) && !self.gone.has(node)
+    }
+
+    /// Whether each node that was asked has answered the release, or is gone.
+    pub(crate) fn is_released(&self) -> bool {
+        for number in 1..=self.core.ballot().nodes() {
+            let Some(node) = NodeId::of(number) else {
+                return true;
+            };
+            if self.owes(node) {
+                return false;
+            }
+        }
+        true
+    }
+}

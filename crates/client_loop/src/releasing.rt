@@ -1,0 +1,61 @@
+// Telling the nodes that an attempt is over.
+
+ghost use Rattle.std.specs.Prelude.{◌≡◌};
+ghost use Rattle.client_loop.specs.Standing.{Stands};
+ghost use Rattle.client_loop.specs.Visits.{visits_of};
+
+use crate::posts::take_post;
+use crate::progress::Progress;
+use crate::talking::tell;
+use event_recorders::{Recorder, RunFault};
+use lock_messages::NodeId;
+use lossy_link::Link;
+use stable_record::StableRecord;
+use std::alloc::Global;
+use std::sync::Wait;
+
+/// Says the release to each node that was asked and isn't gone.
+pub(crate) fn tell_releases<R: Recorder, L: Link>(
+    alloc: Global,
+    progress: &Progress,
+    stable: &dyn StableRecord,
+    recorder: &mut R,
+    link: &mut L,
+) -> Result<(), RunFault>
+    requires { Stands (R.own_log recorder.old) (finds stable.now) progress.now.core }
+    ensures stands { Stands (R.own_log recorder.new) (finds stable.now) progress.now.core }
+    ensures visits { visits_of (R.own_log recorder.new) ≡ visits_of (R.own_log recorder.old) }
+{
+    for number in 1..=progress.core.ballot().nodes() {
+        let Some(node) = NodeId::of(number) else {
+            return Ok(());
+        };
+        if progress.asked.has(node) && !progress.gone.has(node) {
+            tell(alloc, &progress.core, node, stable, recorder, link)?;
+        }
+    }
+    Ok(())
+}
+
+/// Says the release to each node that was asked, until each has answered or is gone.
+pub(crate) fn release<W: Wait, R: Recorder, L: Link>(
+    rt: &W,
+    alloc: Global,
+    progress: &mut Progress,
+    stable: &dyn StableRecord,
+    recorder: &mut R,
+    link: &mut L,
+) -> Result<(), RunFault>
+    requires { Stands (R.own_log recorder.old) (finds stable.now) progress.old.core }
+    ensures stands { Stands (R.own_log recorder.new) (finds stable.now) progress.new.core }
+    ensures visits { visits_of (R.own_log recorder.new) ≡ visits_of (R.own_log recorder.old) }
+{
+    tell_releases(alloc, progress, stable, recorder, link)?;
+    for _ in rt.forever() {
+        if progress.is_released() {
+            return Ok(());
+        }
+        take_post(alloc, progress, stable, recorder, link)?;
+    }
+    unreachable!()
+}

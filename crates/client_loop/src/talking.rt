@@ -1,0 +1,127 @@
+// What a client says and hears.
+
+ghost use Rattle.std.specs.Prelude.{◌≡◌};
+ghost use Rattle.client_loop.specs.Standing.{Stands};
+ghost use Rattle.client_loop.specs.Visits.{visits_of};
+
+use actor_steps::{log_plain, log_reading};
+use client_core::ClientCore;
+use event_recorders::{Recorder, RunFault};
+use lock_messages::{Actor, ClientId, Message, NodeId, decode, encode};
+use lock_model::Heard;
+use lossy_link::{Link, Parcel};
+use stable_record::StableRecord;
+use std::alloc::Global;
+use world_model::{Effect, Event};
+
+/// Logs what the client has to say to the node, and answers it with its number; `None` where there is
+/// nothing: it says the request of its ticket while it asks, the release of its attempt while it rests.
+fn said<R: Recorder>(
+    core: &ClientCore,
+    node: NodeId,
+    stable: &dyn StableRecord,
+    recorder: &mut R,
+) -> Result<Option<(u32, Message)>, RunFault>
+    requires { Stands (R.own_log recorder.old) (finds stable.now) core.now }
+    ensures stands { Stands (R.own_log recorder.new) (finds stable.now) core.now }
+    ensures visits { visits_of (R.own_log recorder.new) ≡ visits_of (R.own_log recorder.old) }
+{
+    if core.message_for(node).is_none() {
+        return Ok(None);
+    }
+    let said = log_plain(recorder, Event::SayTo(core.client(), node), stable)?;
+    match said {
+        Effect::Sent(number, message) => Ok(Some((number, message))),
+        _ => Ok(None),
+    }
+}
+
+/// Says to the node what the client has to say to it, if there is anything, and sends it.
+pub(crate) fn tell<R: Recorder, L: Link>(
+    alloc: Global,
+    core: &ClientCore,
+    node: NodeId,
+    stable: &dyn StableRecord,
+    recorder: &mut R,
+    link: &mut L,
+) -> Result<(), RunFault>
+    requires { Stands (R.own_log recorder.old) (finds stable.now) core.now }
+    ensures stands { Stands (R.own_log recorder.new) (finds stable.now) core.now }
+    ensures visits { visits_of (R.own_log recorder.new) ≡ visits_of (R.own_log recorder.old) }
+{
+    let Some((number, message)) = said(core, node, stable, recorder)? else {
+        return Ok(());
+    };
+    let Ok(frame) = encode(alloc, &message) else {
+        return Err(RunFault::Memory);
+    };
+    if link
+        .send(Actor::Node(node), Parcel { number, frame })
+        .is_err()
+    {
+        return Err(RunFault::Memory);
+    }
+    Ok(())
+}
+
+/// The node that a message names.
+fn node_of(message: &Message) -> NodeId {
+    match *message {
+        Message::Request(node, _) | Message::Grant(node, _) | Message::Busy(node, _) => node,
+        Message::Release(node, _, _)
+        | Message::Over(node, _, _)
+        | Message::Done(node, _, _)
+        | Message::Muddled(node, _, _) => node,
+    }
+}
+
+/// Whether the frame is a message for the client.
+fn is_for_client(frame: &[u8], client: ClientId) -> bool {
+    match decode(frame) {
+        Ok(message) => message.is_for_client(client),
+        Err(_) => false,
+    }
+}
+
+/// Hears the message that was sent under the number, and answers it with what the client made of it;
+/// `None` where no message was, or one to another actor.
+fn heard<R: Recorder>(
+    core: &mut ClientCore,
+    number: u32,
+    stable: &dyn StableRecord,
+    recorder: &mut R,
+) -> Result<Option<(Message, Heard)>, RunFault>
+    requires { Stands (R.own_log recorder.old) (finds stable.now) core.old }
+    ensures stands { Stands (R.own_log recorder.new) (finds stable.now) core.new }
+    ensures visits { visits_of (R.own_log recorder.new) ≡ visits_of (R.own_log recorder.old) }
+{
+    let done = log_reading(recorder, Event::Hear(core.client(), number), stable)?;
+    match done {
+        Some(Effect::Heard(message, _)) => {
+            let message = &message;
+            Ok(Some((*message, core.hear(message))))
+        }
+        _ => Ok(None),
+    }
+}
+
+/// Hears a parcel, and answers what the client made of its message, and of which node it was. A frame
+/// that is no message for the client is dropped, and so is a number under which none was sent to it.
+pub(crate) fn hear<R: Recorder>(
+    core: &mut ClientCore,
+    parcel: &Parcel,
+    stable: &dyn StableRecord,
+    recorder: &mut R,
+) -> Result<Option<(NodeId, Heard)>, RunFault>
+    requires { Stands (R.own_log recorder.old) (finds stable.now) core.old }
+    ensures stands { Stands (R.own_log recorder.new) (finds stable.now) core.new }
+    ensures visits { visits_of (R.own_log recorder.new) ≡ visits_of (R.own_log recorder.old) }
+{
+    if !is_for_client(&parcel.frame, core.client()) {
+        return Ok(None);
+    }
+    let Some((message, heard)) = heard(core, parcel.number, stable, recorder)? else {
+        return Ok(None);
+    };
+    Ok(Some((node_of(&message), heard)))
+}

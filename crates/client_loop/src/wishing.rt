@@ -1,0 +1,52 @@
+// One wish, from its attempt to its release.
+
+ghost use Rattle.std.specs.Prelude.{◌≡◌, ◌<◌, OnOk, false, Some};
+ghost use Rattle.client_loop.specs.Standing.{Stands};
+ghost use Rattle.client_loop.specs.Visits.{tally, AddsUse, AddsAtMost, use_of};
+
+use crate::asking::ask;
+use crate::attempting::attempt;
+use crate::ending::end;
+use crate::entering::{MAX_WISHES, visit};
+use crate::progress::Progress;
+use crate::releasing::release;
+use event_recorders::{Gate, Recorder, RunFault};
+use history_check::Wish;
+use lossy_link::Link;
+use stable_record::StableRecord;
+use std::alloc::Global;
+use std::sync::Wait;
+
+/// Fulfils the wish: attempts, asks, enters and leaves, and releases the nodes that it asked. The
+/// entering is counted, also where the client ends by a fault after it.
+pub(crate) fn fulfil<W: Wait, R: Recorder, L: Link, G: Gate>(
+    rt: &W,
+    alloc: Global,
+    wish: &Wish,
+    progress: &mut Progress,
+    entered: &mut u32,
+    stable: &mut dyn StableRecord,
+    recorder: &mut R,
+    link: &mut L,
+    gate: &G,
+) -> Result<(), RunFault>
+    requires stands { Stands (R.own_log recorder.old) (finds stable.old) progress.old.core }
+    requires free { stuck_of stable.old ≡ false }
+    requires room { entered.old < MAX_WISHES }
+    ensures stands { OnOk result (Stands (R.own_log recorder.new) (finds stable.new) progress.new.core) }
+    ensures free { OnOk result (stuck_of stable.new ≡ false) }
+    ensures entered { OnOk result (AddsUse (Some (use_of wish.now)) (tally entered.old (R.own_log recorder.old)) (tally entered.new (R.own_log recorder.new))) }
+    ensures counted { AddsAtMost (Some (use_of wish.now)) (tally entered.old (R.own_log recorder.old)) (tally entered.new (R.own_log recorder.new)) }
+{
+    progress.begin_wish();
+    attempt(rt, wish, progress, stable, recorder, gate)?;
+    let stable = &*stable;
+    if let Err(fault) = ask(rt, alloc, wish.mode, progress, stable, recorder, link) {
+        return Err(end(alloc, fault, progress, stable, recorder, link));
+    }
+    visit(&mut progress.core, entered, stable, recorder, gate)?;
+    if let Err(fault) = release(rt, alloc, progress, stable, recorder, link) {
+        return Err(end(alloc, fault, progress, stable, recorder, link));
+    }
+    Ok(())
+}

@@ -1,0 +1,2 @@
+pub mod OwnLogFacts
+pub mod LengthFacts

@@ -1,0 +1,156 @@
+-- What an own log tells of its actor's part.
+use Rattle.std.proofs.Common.{◌≡◌, Bool, true, false, cond, List, [], ◌∷◌, ◌++◌, Option, Some, None, refl}
+use Rattle.std.specs.Prelude.{ℕ, ◌+◌, ◌==◌, nat_le, nat_lt, length, Err}
+use Rattle.lock_messages.specs.declared.ids.Actor.TheVariants as actor
+use Rattle.lock_messages.specs.declared.messages.Message.{Message}
+use Rattle.lock_messages.specs.declared.messages.Message.TheVariants as message
+use Rattle.lock_messages.specs.declared.ids.TheConstants.{MAX_ATTEMPT}
+use Rattle.lock_messages.specs.Messages.{is_for_client}
+use Rattle.lock_model.specs.ExactDecisions.{decision, changes}
+use Rattle.lock_model.specs.ExactHearing.{is_node_of}
+use Rattle.lock_messages.specs.declared.tickets.Mode.{Mode}
+use Rattle.lock_model.specs.Ballots.{Ballot, needed, votes_of}
+use Rattle.world_model.specs.declared.events.Effect.{Effect}
+use Rattle.vote_weights.specs.Sets.{has_node}
+use Rattle.world_model.specs.declared.events.Effect.TheVariants as effect
+use Rattle.world_model.specs.declared.events.StepFault.TheVariants as fault
+use Rattle.world_model.specs.declared.events.Event.{Event}
+use Rattle.world_model.specs.declared.events.Event.TheVariants as event
+use Rattle.world_model.specs.declared.exact.ExactNode.{ExactNode}
+use Rattle.world_model.specs.declared.exact.ExactClient.{ExactClient}
+use Rattle.world_model.specs.declared.exact.ExactNodePhase.{ExactNodePhase}
+use Rattle.world_model.specs.declared.exact.ExactNodePhase.TheVariants as node
+use Rattle.world_model.specs.declared.exact.ExactClientPhase.{ExactClientPhase}
+use Rattle.world_model.specs.declared.exact.ExactClientPhase.TheVariants as client
+use Rattle.world_model.specs.ExactClients.{client_in, next_ticket, begins_in, says_one, tells_in, heard_in, node_of, is_counted, counts_in, after_hearing, is_down, enters_in, leaves_in, client_falls_in}
+use Rattle.world_model.specs.ExactNodes.{node_in, says_in, takes_in, decided_on, node_falls_in}
+use Rattle.world_model.specs.Turns.{Turns, acts, reads}
+use Rattle.world_model.specs.Locality.{local_part}
+use Rattle.world_model.specs.Parts.{Part, NoPart, NodePart, ClientPart, after_own, after_turn, after_reading, message_of}
+use Rattle.event_recorders.specs.OwnLogs.{FindsPart, changes_record}
+use Rattle.event_recorders.specs.Laws.{PartsFollow, RecordsStay}
+
+-- one event more, at the end of a list
+pub part-after : (b : Ballot) (p : Part) (own : List (Event × Effect)) (e : Event) (done : Effect) →
+    local_part b p (own ++ (e, done) ∷ []) ≡ after_own b e done (local_part b p own)
+part-after b p [] e done = refl
+part-after b p (q ∷ own) e done = part-after b (after_own b q.0 q.1 p) own e done
+
+pub parts-follow : PartsFollow
+parts-follow l e done = part-after l.ballot l.opening l.events e done
+
+-- what holds of both arms holds of the one that is chosen
+either : {A : Type 0} (F : A → Type 0) (b : Bool) (x y : A) → F x → F y → F (cond b x y)
+either F true x y p q = p
+either F false x y p q = q
+
+-- What is kept and tried stays, in each of the turns.
+
+module _ (strings : List (List ℕ)) (v : ExactNode) (h : FindsPart (NodePart v) strings) where
+  -- what is found of the node after a turn
+  abbrev Node : Turns ExactNode → Effect → Type 0
+  Node turn done = FindsPart (NodePart (after_turn v turn done)) strings
+
+  decided : (read : Option Message) → FindsPart (NodePart (after_reading v (decided_on v) read)) strings
+  decided None = h
+  decided (Some m) =
+      either (λ u. FindsPart (NodePart u) strings) (changes v.kept.problem v.kept.entries m)
+      (node_in v (node.Decided (record { problem = v.kept.problem; entries = (decision v.kept.problem v.kept.entries m).entries }) (decision v.kept.problem v.kept.entries m).replies))
+      (node_in v (node.Stored (decision v.kept.problem v.kept.entries m).replies)) h h
+
+  takes : (n k : ℕ) (phase : ExactNodePhase) (done : Effect) → Node (takes_in n k v phase) done
+  takes n k node.Down done = h
+  takes n k node.Idle done = decided (message_of done)
+  takes n k (node.Decided s replies) done = h
+  takes n k (node.Stored replies) done = h
+
+  says : (phase : ExactNodePhase) (done : Effect) → Node (says_in v phase) done
+  says node.Down done = h
+  says node.Idle done = h
+  says (node.Decided s replies) done = h
+  says (node.Stored replies) done = h
+
+  node-falls : (phase : ExactNodePhase) (done : Effect) → Node (node_falls_in v phase) done
+  node-falls node.Down done = h
+  node-falls node.Idle done = h
+  node-falls (node.Decided s replies) done = h
+  node-falls (node.Stored replies) done = h
+
+  node-stays : (b : Ballot) (e : Event) (done : Effect) → changes_record e ≡ false → FindsPart (after_own b e done (NodePart v)) strings
+  node-stays b (event.Begin c m x) done still = h
+  node-stays b (event.Try who) done still = absurd (cc still)
+  node-stays b (event.Kept who) done still = absurd (cc still)
+  node-stays b (event.SayTo c n) done still = h
+  node-stays b (event.Say n) done still = says v.phase done
+  node-stays b (event.Take n k) done still = takes n k v.phase done
+  node-stays b (event.Hear c k) done still = h
+  node-stays b (event.Enter c) done still = h
+  node-stays b (event.Leave c) done still = h
+  node-stays b (event.Fall (actor.Node n)) done still = node-falls v.phase done
+  node-stays b (event.Fall (actor.Client c)) done still = h
+  node-stays b (event.Rise who age) done still = absurd (cc still)
+
+module _ (strings : List (List ℕ)) (k : ExactClient) (h : FindsPart (ClientPart k) strings) where
+  -- what is found of the client after a turn
+  abbrev Client : Turns ExactClient → Effect → Type 0
+  Client turn done = FindsPart (ClientPart (after_turn k turn done)) strings
+
+  begins : (c : ℕ) (m : Mode) (x : List ℕ) (phase : ExactClientPhase) (done : Effect) → Client (begins_in c m x k phase) done
+  begins c m x client.Down done = h
+  begins c m x client.Idle done = either (λ t. Client t done) (nat_lt k.kept MAX_ATTEMPT) (acts (client_in k (client.Chosen (next_ticket c m x k.kept))) (effect.Chose (k.kept + 1))) (Err fault.AttemptsSpent) h h
+  begins c m x (client.Chosen t) done = h
+  begins c m x (client.Asking t granted) done = h
+  begins c m x (client.Inside t granted) done = h
+
+  told : (c n : ℕ) (phase : ExactClientPhase) (done : Effect) → Client (tells_in c n k phase) done
+  told c n client.Down done = h
+  told c n client.Idle done = either (λ t. Client t done) (k.kept == 0) (Err fault.NothingToSay) (says_one k (message.Release n c k.kept)) h h
+  told c n (client.Chosen t) done = h
+  told c n (client.Asking t granted) done = h
+  told c n (client.Inside t granted) done = h
+
+  heard : (nodes c : ℕ) (read : Option Message) → FindsPart (ClientPart (after_reading k (after_hearing nodes c k) read)) strings
+  heard nodes c None = h
+  heard nodes c (Some m) = either (λ u. FindsPart (ClientPart u) strings) (is_counted (heard_in nodes c k.kept k.phase m)) (client_in k (counts_in (node_of m) k.phase)) k h h
+
+  enters : (b : Ballot) (phase : ExactClientPhase) (done : Effect) → Client (enters_in b k phase) done
+  enters b client.Down done = h
+  enters b client.Idle done = h
+  enters b (client.Chosen t) done = h
+  enters b (client.Asking t granted) done = either (λ u. Client u done) (nat_le (needed b t.mode) (votes_of b (has_node granted))) (acts (client_in k (client.Inside t granted)) effect.Inside) (Err fault.NoQuorum) h h
+  enters b (client.Inside t granted) done = h
+
+  leaves : (phase : ExactClientPhase) (done : Effect) → Client (leaves_in k phase) done
+  leaves client.Down done = h
+  leaves client.Idle done = h
+  leaves (client.Chosen t) done = h
+  leaves (client.Asking t granted) done = h
+  leaves (client.Inside t granted) done = h
+
+  client-falls : (phase : ExactClientPhase) (done : Effect) → Client (client_falls_in k phase) done
+  client-falls client.Down done = h
+  client-falls client.Idle done = h
+  client-falls (client.Chosen t) done = h
+  client-falls (client.Asking t granted) done = h
+  client-falls (client.Inside t granted) done = h
+
+  client-stays : (b : Ballot) (e : Event) (done : Effect) → changes_record e ≡ false → FindsPart (after_own b e done (ClientPart k)) strings
+  client-stays b (event.Begin c m x) done still = begins c m x k.phase done
+  client-stays b (event.Try who) done still = absurd (cc still)
+  client-stays b (event.Kept who) done still = absurd (cc still)
+  client-stays b (event.SayTo c n) done still = either (λ t. Client t done) (is_node_of (length b.votes) n) (tells_in c n k k.phase) (Err fault.UnknownActor) (told c n k.phase done) h
+  client-stays b (event.Say n) done still = h
+  client-stays b (event.Take n number) done still = h
+  client-stays b (event.Hear c number) done still =
+      either (λ t. Client t done) (is_down k.phase) (Err fault.Down) (reads number (λ m. is_for_client m c) (after_hearing (length b.votes) c k) (λ m. effect.Heard m (heard_in (length b.votes) c k.kept k.phase m))) h
+      (heard (length b.votes) c (message_of done))
+  client-stays b (event.Enter c) done still = enters b k.phase done
+  client-stays b (event.Leave c) done still = leaves k.phase done
+  client-stays b (event.Fall (actor.Node n)) done still = h
+  client-stays b (event.Fall (actor.Client c)) done still = client-falls k.phase done
+  client-stays b (event.Rise who age) done still = absurd (cc still)
+
+pub records-stay : RecordsStay
+records-stay b e done NoPart strings still h = h
+records-stay b e done (NodePart v) strings still h = node-stays strings v h b e done still
+records-stay b e done (ClientPart k) strings still h = client-stays strings k h b e done still

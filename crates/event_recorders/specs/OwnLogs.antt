@@ -1,0 +1,107 @@
+-- An actor's own log, and what it means that the actor's record finds what the actor has kept.
+use Rattle.std.specs.Prelude.{◌≡◌, ◌⊎◌, ℕ, Bool, true, false, List, [], ◌∷◌, ◌++◌, Option, Some, None}
+use Rattle.std.specs.Option.{option_map}
+use Rattle.lock_messages.specs.declared.ids.Actor.{Actor}
+use Rattle.lock_messages.specs.declared.ids.Actor.TheVariants as actor
+use Rattle.lock_model.specs.Ballots.{Ballot}
+use Rattle.lock_model.specs.Decisions.{Among}
+use Rattle.stable_record.specs.Records.{client_record_of}
+use Rattle.world_model.specs.declared.events.Effect.{Effect}
+use Rattle.world_model.specs.declared.events.Event.{Event}
+use Rattle.world_model.specs.declared.events.Event.TheVariants as event
+use Rattle.world_model.specs.declared.events.StepFault.{StepFault}
+use Rattle.world_model.specs.declared.events.StepFault.TheVariants as fault
+use Rattle.world_model.specs.declared.exact.ExactNodePhase.TheVariants as node
+use Rattle.world_model.specs.declared.exact.ExactClientPhase.TheVariants as client
+use Rattle.world_model.specs.Locality.{local_part, IsEffectOf}
+use Rattle.world_model.specs.Parts.{Part, NoPart, NodePart, ClientPart, after_own}
+use Rattle.world_machine.specs.Listing.{station_bytes}
+use Rattle.history_book.specs.declared.faults.BookFault.{BookFault}
+use Rattle.history_book.specs.declared.faults.BookFault.TheVariants as book
+
+-- An actor's own log: the actor; the ballot, and the actor's part of the world, as the log was opened;
+-- and the actor's events since then, each with its effect.
+pub record OwnLog : Type 0 where
+  pub actor : Actor
+  pub ballot : Ballot
+  pub opening : Part
+  pub events : List (Event × Effect)
+
+-- the actor's part of the world, as its own events tell it
+abbrev pub part_now : OwnLog → Part
+part_now l = local_part l.ballot l.opening l.events
+
+-- the log with one event more
+abbrev pub adds : OwnLog → Event → Effect → OwnLog
+adds l e done = record { actor = l.actor; ballot = l.ballot; opening = l.opening; events = l.events ++ (e, done) ∷ [] }
+
+-- The event joined the log: its effect is of its kind, nothing else of the log changed, and the actor's
+-- part is what the event makes of it.
+pub record IsAdded (l : OwnLog) (e : Event) (done : Effect) (l' : OwnLog) : Type 0 where
+  pub kind : IsEffectOf e done
+  pub log : l' ≡ adds l e done
+  pub part : part_now l' ≡ after_own l.ballot e done (part_now l)
+
+-- What a restart may find: just what is kept or, while something is tried, nothing but what is kept and
+-- what is tried.
+abbrev pub FindsKept : List ℕ → Option (List ℕ) → List (List ℕ) → Type 0
+FindsKept kept None strings = strings ≡ kept ∷ []
+FindsKept kept (Some tried) strings = (found : List ℕ) → Among found strings → (found ≡ kept) ⊎ (found ≡ tried)
+
+-- the record of what an actor has kept, and of what it is trying to keep
+abbrev pub kept_in : Part → List ℕ
+kept_in NoPart = []
+kept_in (NodePart v) = station_bytes v.kept
+kept_in (ClientPart k) = client_record_of k.kept
+
+abbrev pub tried_in : Part → Option (List ℕ)
+tried_in NoPart = None
+tried_in (NodePart v) = option_map station_bytes v.tried
+tried_in (ClientPart k) = option_map client_record_of k.tried
+
+-- a restart may find this of the actor's record
+abbrev pub FindsPart : Part → List (List ℕ) → Type 0
+FindsPart p strings = FindsKept (kept_in p) (tried_in p) strings
+
+-- a restart may find what the actor has kept once the event has happened, whatever it does
+abbrev pub FindsAfter : OwnLog → Event → List (List ℕ) → Type 0
+FindsAfter l e strings = (done : Effect) → IsEffectOf e done → FindsPart (after_own l.ballot e done (part_now l)) strings
+
+-- no message of the number was sent, or it is for another actor
+abbrev pub IsUnread : Event → StepFault → Type 0
+IsUnread (event.Take n k) f = (f ≡ fault.NoSuchMessage) ⊎ (f ≡ fault.NotAddressed)
+IsUnread (event.Hear c k) f = (f ≡ fault.NoSuchMessage) ⊎ (f ≡ fault.NotAddressed)
+IsUnread _ f = ⊥
+
+-- why a recorder may refuse an event that its own log allows
+abbrev pub IsRecorderFault : Event → BookFault → Type 0
+IsRecorderFault e (book.NotAStep f) = IsUnread e f
+IsRecorderFault e book.Full = Unit {0}
+IsRecorderFault e book.Memory = Unit {0}
+IsRecorderFault e book.OtherActor = ⊥
+IsRecorderFault e book.OtherBook = Unit {0}
+
+-- the actor is there and down, with nothing tried
+abbrev pub IsDownAtRest : Actor → Part → Type 0
+IsDownAtRest (actor.Node n) (NodePart v) = (v.phase ≡ node.Down) × (v.tried ≡ None)
+IsDownAtRest (actor.Client c) (ClientPart k) = (k.phase ≡ client.Down) × (k.tried ≡ None)
+IsDownAtRest _ _ = ⊥
+
+-- the log of an actor that has logged nothing, and is down with nothing tried
+pub record IsUnused (l : OwnLog) (who : Actor) : Type 0 where
+  pub actor : l.actor ≡ who
+  pub events : l.events ≡ []
+  pub down : IsDownAtRest who l.opening
+
+-- the events that read a message
+abbrev pub reads : Event → Bool
+reads (event.Take n k) = true
+reads (event.Hear c k) = true
+reads _ = false
+
+-- the events that change what an actor keeps or tries to keep
+abbrev pub changes_record : Event → Bool
+changes_record (event.Try who) = true
+changes_record (event.Kept who) = true
+changes_record (event.Rise who age) = true
+changes_record _ = false

@@ -1,0 +1,16 @@
+//! Laws of own logs. Each function computes nothing: its contract is a theorem.
+
+ghost use Rattle.event_recorders.specs.Laws.{PartsFollow, RecordsStay, NodeRecordsFit, ClientRecordsFit};
+
+/// One event more makes of the actor's part what it makes of the part before; and what the actor keeps
+/// and tries to keep is changed by a Try, a Kept and a Rise alone.
+pub fn own_logs_tell_parts()
+    ensures parts { PartsFollow }
+    ensures records { RecordsStay }
+{}
+
+/// The records of nodes and of clients are short enough to be kept.
+pub fn records_fit()
+    ensures nodes { NodeRecordsFit }
+    ensures clients { ClientRecordsFit }
+{}

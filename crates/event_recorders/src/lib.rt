@@ -1,0 +1,21 @@
+//! By what an actor's thread logs its events, and what it calls while it keeps a record or is inside.
+//!
+//! A `Recorder` is one actor's way to a log: contracts see of it an `OwnLog`, the actor's part of the
+//! world as the log was opened and the actor's own events since then. It takes an event only where this
+//! list allows it and where the actor's record finds what the actor has kept by then, so a thread that
+//! meets these conditions logs nothing that couldn't be. A `Gate` is called before a record is kept and
+//! while a client is inside. A `RunFault` tells by which fault a thread ended.
+//!
+//! The crate promises the laws of the module `laws`, on what an own log tells. It stands on
+//! `history_book` for `BookFault`, `world_model`, `stable_record`, `entry_guard`, `client_core`,
+//! `lock_messages`, `lock_model` and `thiserror`.
+#![tactic(auto)]
+
+mod faults;
+mod gates;
+pub mod laws;
+mod recorders;
+
+pub use faults::RunFault;
+pub use gates::Gate;
+pub use recorders::Recorder;

@@ -1,0 +1,3 @@
+pub mod KeepFacts
+pub mod SendFacts
+pub mod SentFacts

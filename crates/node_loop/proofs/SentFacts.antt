@@ -1,0 +1,108 @@
+-- What a node's own log tells of what it sends.
+use Rattle.std.proofs.Common.{◌≡◌, ℕ, Bool, List, [], ◌∷◌, ◌++◌, Option, None, Some, refl, sym, ap, ◌∙◌, append_assoc, append-nil}
+use Rattle.lock_messages.specs.declared.ids.Actor.{Actor}
+use Rattle.lock_messages.specs.declared.ids.Actor.TheVariants as actor
+use Rattle.lock_messages.specs.declared.messages.Message.{Message}
+use Rattle.lock_model.specs.Ballots.{Ballot}
+use Rattle.lossy_link.specs.declared.parcels.Post.TheVariants as post
+use Rattle.lossy_link.specs.declared.parcels.Sending.{Sending}
+use Rattle.lossy_link.specs.declared.parcels.Sending.TheVariants as sending
+use Rattle.lossy_link.specs.Links.{one_more}
+use Rattle.voter_core.specs.Voters.{Voter, Stored, record_of, replies_in}
+use Rattle.world_model.specs.declared.events.Age.{Age}
+use Rattle.world_model.specs.declared.events.Effect.{Effect}
+use Rattle.world_model.specs.declared.events.Effect.TheVariants as effect
+use Rattle.world_model.specs.declared.events.Event.{Event}
+use Rattle.world_model.specs.declared.events.Event.TheVariants as event
+use Rattle.world_model.specs.Locality.{local_part}
+use Rattle.world_model.specs.Parts.{Part, said_by, after_own}
+use Rattle.event_recorders.specs.OwnLogs.{OwnLog, part_now, adds, IsAdded, IsUnused}
+use Rattle.actor_steps.specs.Steps.{IsKept, IsRisenAgain}
+use Rattle.node_loop.specs.Standing.{StandsBy}
+use Rattle.node_loop.specs.Replies.{sendings, all_more, sent_for, sent_by, sent_of, first_of, SentFollows}
+use Rattle.node_loop.proofs.SendFacts.{none_more}
+
+-- one event more sends what it sends from the part before it
+by_one_more : (b : Ballot) (p : Part) (own : List (Event × Effect)) (e : Event) (done : Effect) →
+    sent_by b p (own ++ (e, done) ∷ []) ≡ sent_by b p own ++ sent_for b e done (local_part b p own)
+by_one_more b p [] e done = append-nil (sent_for b e done p)
+by_one_more b p (q ∷ own) e done =
+    ap (λ xs. sent_for b q.0 q.1 p ++ xs) (by_one_more b (after_own b q.0 q.1 p) own e done)
+    ∙ sym (append_assoc (sent_for b q.0 q.1 p) (sent_by b (after_own b q.0 q.1 p) own) (sent_for b e done (local_part b (after_own b q.0 q.1 p) own)))
+
+pub sent_more : (l l' : OwnLog) (e : Event) (done : Effect) → IsAdded l e done l' → sent_of l' ≡ sent_of l ++ sent_for l.ballot e done (part_now l)
+sent_more l l' e done added = ap sent_of added.log ∙ by_one_more l.ballot l.opening l.events e done
+
+-- all events but Say and Fall send nothing
+silent : (l l' : OwnLog) (e : Event) (done : Effect) → IsAdded l e done l' → sent_for l.ballot e done (part_now l) ≡ [] → sent_of l' ≡ sent_of l
+silent l l' e done added nothing = sent_more l l' e done added ∙ ap (λ xs. sent_of l ++ xs) nothing ∙ append-nil (sent_of l)
+
+pub take_sends_nothing : (l l' : OwnLog) (n k : ℕ) (done : Effect) → IsAdded l (event.Take n k) done l' → sent_of l' ≡ sent_of l
+take_sends_nothing l l' n k done added = silent l l' (event.Take n k) done added refl
+
+pub first_rise_sends_nothing : (l l' : OwnLog) (who : Actor) (age : Age) → IsUnused l who → IsAdded l (event.Rise who age) effect.Up l' → sent_of l' ≡ []
+first_rise_sends_nothing l l' who age unused added = silent l l' (event.Rise who age) effect.Up added refl ∙ ap (sent_by l.ballot l.opening) unused.events
+
+pub keeping_sends_nothing : (l l' : OwnLog) (who : Actor) → IsKept l who l' → sent_of l' ≡ sent_of l
+keeping_sends_nothing l l' who kept =
+    let tried = adds l (event.Try who) effect.Tried in
+    silent tried l' (event.Kept who) effect.Kept kept.kept refl ∙ silent l tried (event.Try who) effect.Tried kept.tried refl
+
+pub trying_sends_nothing : (l l' : OwnLog) (who : Actor) → IsAdded l (event.Try who) effect.Tried l' → sent_of l' ≡ sent_of l
+trying_sends_nothing l l' who added = silent l l' (event.Try who) effect.Tried added refl
+
+-- a node that falls and rises has its nudge told
+pub rising_tells : (l l' : OwnLog) (n m : ℕ) (age : Age) → n ≡ m → IsRisenAgain l (actor.Node n) age l' → sent_of l' ≡ sent_of l ++ sending.Told (post.Nudge m) ∷ []
+rising_tells l l' n m age same again =
+    let fallen = adds l (event.Fall (actor.Node n)) effect.Down in
+    silent fallen l' (event.Rise (actor.Node n) age) effect.Up again.risen refl
+    ∙ sent_more l fallen (event.Fall (actor.Node n)) effect.Down again.fallen
+    ∙ ap (λ k. sent_of l ++ sending.Told (post.Nudge k) ∷ []) same
+
+more_and_more : (before : Option (List Sending)) (xs ys : List Sending) → all_more (all_more before xs) ys ≡ all_more before (xs ++ ys)
+more_and_more None xs ys = refl
+more_and_more (Some zs) xs ys = ap Some (append_assoc zs xs ys)
+
+one_is_more : (before : Option (List Sending)) (x : Sending) → one_more before x ≡ all_more before (x ∷ [])
+one_is_more None x = refl
+one_is_more (Some zs) x = refl
+
+-- Say: what was sent is what is said
+pub say_is_told : (l l' : OwnLog) (v : Voter) (n first count : ℕ) (done : Effect) (strings : List (List ℕ)) (stuck : Bool) (replies : List Message) (given given' : Option (List Sending)) →
+    StandsBy (Stored (replies_in v.state)) l v (record_of v) strings stuck → n ≡ v.node → done ≡ effect.Said first count → IsAdded l (event.Say n) done l' → replies ≡ replies_in v.state →
+    given' ≡ all_more given (sendings first replies) → SentFollows l l' given given'
+say_is_told l l' v n first count done strings stuck replies given given' s same kind added all sent before was =
+    let said : said_by l.ballot (event.Say n) (part_now l) ≡ replies = ap (said_by l.ballot (event.Say n)) s.part ∙ sym all in
+    let so : sent_of l' ≡ sent_of l ++ sendings first replies =
+    sent_more l l' (event.Say n) done added
+    ∙ ap (λ d. sent_of l ++ sendings (first_of d) (said_by l.ballot (event.Say n) (part_now l))) kind
+    ∙ ap (λ ms. sent_of l ++ sendings first ms) said in
+    sent ∙ ap (λ g. all_more g (sendings first replies)) was ∙ more_and_more before (sent_of l) (sendings first replies) ∙ ap (all_more before) (sym so)
+
+-- a nudge that was told after a fall
+pub nudge_is_told : (l l' : OwnLog) (n : ℕ) (given given' : Option (List Sending)) → sent_of l' ≡ sent_of l ++ sending.Told (post.Nudge n) ∷ [] →
+    given' ≡ one_more given (sending.Told (post.Nudge n)) → SentFollows l l' given given'
+nudge_is_told l l' n given given' so told before was =
+    let x = sending.Told (post.Nudge n) in
+    told ∙ one_is_more given x ∙ ap (λ g. all_more g (x ∷ [])) was ∙ more_and_more before (sent_of l) (x ∷ []) ∙ ap (all_more before) (sym so)
+
+-- what was sent after a log that sends no more follows from it too
+pub follows_from : (l m l' : OwnLog) (given given' : Option (List Sending)) → sent_of m ≡ sent_of l → SentFollows m l' given given' → SentFollows l l' given given'
+follows_from l m l' given given' same later before was = later before (was ∙ ap (all_more before) (sym same))
+
+pub follows_none : (l l' : OwnLog) (given : Option (List Sending)) → sent_of l' ≡ sent_of l → SentFollows l l' given given
+follows_none l l' given same before was = was ∙ ap (all_more before) (sym same)
+
+-- a nudge that was told after a fall, behind what sent nothing
+pub nudge_follows : (l m l' : OwnLog) (n k : ℕ) (given given' : Option (List Sending)) → sent_of m ≡ sent_of l → sent_of l' ≡ sent_of m ++ sending.Told (post.Nudge n) ∷ [] → k ≡ n →
+    given' ≡ one_more given (sending.Told (post.Nudge k)) → SentFollows l l' given given'
+nudge_follows l m l' n k given given' same so number told =
+    nudge_is_told l l' n given given' (so ∙ ap (λ xs. xs ++ sending.Told (post.Nudge n) ∷ []) same) (told ∙ ap (λ x. one_more given (sending.Told (post.Nudge x))) number)
+
+-- one after the other
+pub follows_on : (l m l' : OwnLog) (given between given' : Option (List Sending)) → SentFollows l m given between → SentFollows m l' between given' → SentFollows l l' given given'
+follows_on l m l' given between given' first second before was = second before (first before was)
+
+-- on top of what was there before a log that sends nothing
+pub all_told : (l l' : OwnLog) (given given' : Option (List Sending)) → sent_of l ≡ [] → SentFollows l l' given given' → given' ≡ all_more given (sent_of l')
+all_told l l' given given' nothing follows = follows given (sym (ap (all_more given) nothing ∙ none_more given))

@@ -1,0 +1,13 @@
+use Rattle.lock_messages.specs.declared.ids.Actor.TheVariants as actor
+use Rattle.world_model.specs.declared.events.Age.TheVariants.{Old}
+use Rattle.node_loop.proofs.KeepFacts.{rises}
+use Rattle.node_loop.proofs.SentFacts.{first_rise_sends_nothing}
+use Rattle.node_loop.proofs.running.rise.Goals as goal
+
+pub returns-clause-idle : goal.returns-clause-idle
+returns-clause-idle g c =
+    let core = c.in-Ok.ensures.risen in
+    rises _ _ c.args.node c.requires.0 core.0 _ c.in_ok-found.found.items _ _ _ _ c.in-Ok.core c.one_spelling.ensures.nodes c.requires.1 c.in_ok-found.ensures.risen c.in_ok-found.ensures.found c.deref.ensures.value core.1 core.2
+
+pub returns-clause-silent : goal.returns-clause-silent
+returns-clause-silent g c = first_rise_sends_nothing _ _ (actor.Node c.args.node) Old c.requires.1.unused c.in_ok-found.ensures.risen

@@ -1,0 +1,10 @@
+use Rattle.node_loop.specs.Replies.{SentFollows}
+use Rattle.node_loop.specs.Standing.{StandsIdle}
+use Rattle.node_loop.proofs.running.serve.Given as goal
+
+-- between two posts the node is up and about nothing, and what was sent is what its log tells
+abbrev pub invariant-loop : goal.invariant-loop
+invariant-loop g l = record {
+  idle : StandsIdle (g.R.Recorder.own_log l.recorder) l.core ((goal.StableRecord-dyn g l.stable.now).finds l.stable.now.1) ((goal.StableRecord-dyn g l.stable.now).stuck_of l.stable.now.1);
+  sent : SentFollows (g.R.Recorder.own_log l.fn.recorder) (g.R.Recorder.own_log l.recorder) (g.L.Link.given l.fn.link) (g.L.Link.given l.link);
+}

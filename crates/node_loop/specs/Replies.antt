@@ -1,0 +1,71 @@
+-- What a node sends.
+use Rattle.std.specs.Prelude.{◌≡◌, ℕ, ◌+◌, ◌%◌, ◌^◌, List, [], ◌∷◌, ◌++◌, Option, Some, None}
+use Rattle.lock_messages.specs.declared.ids.Actor.{Actor}
+use Rattle.lock_messages.specs.declared.ids.Actor.TheVariants as actor
+use Rattle.lock_messages.specs.declared.messages.Message.{Message}
+use Rattle.lock_messages.specs.declared.messages.Message.TheVariants.{Request, Release, Grant, Busy, Over, Done, Muddled}
+use Rattle.lock_messages.specs.Frames.{frame_of}
+use Rattle.lock_model.specs.Ballots.{Ballot}
+use Rattle.lossy_link.specs.declared.parcels.Post.TheVariants as post
+use Rattle.lossy_link.specs.declared.parcels.Sending.{Sending}
+use Rattle.lossy_link.specs.declared.parcels.Sending.TheVariants as sending
+use Rattle.world_model.specs.declared.events.Effect.{Effect}
+use Rattle.world_model.specs.declared.events.Effect.TheVariants as effect
+use Rattle.world_model.specs.declared.events.Event.{Event}
+use Rattle.world_model.specs.declared.events.Event.TheVariants as event
+use Rattle.world_model.specs.Parts.{Part, said_by, after_own}
+use Rattle.event_recorders.specs.OwnLogs.{OwnLog}
+use Rattle.actor_steps.specs.declared.keeping.Keeping.{Keeping}
+use Rattle.actor_steps.specs.declared.keeping.Keeping.TheVariants as keeping
+
+-- to whom a message goes
+abbrev pub addressee : Message → Actor
+addressee (Request n t) = actor.Node n
+addressee (Release n c a) = actor.Node n
+addressee (Grant n t) = actor.Client t.client
+addressee (Busy n t) = actor.Client t.client
+addressee (Over n c a) = actor.Client c
+addressee (Done n c a) = actor.Client c
+addressee (Muddled n c a) = actor.Client c
+
+-- Each of the messages as its frame, to whom it goes, numbered from this number on. The numbers are of 32
+-- bits and go round; no list of messages reaches the greatest.
+abbrev pub sendings : ℕ → List Message → List Sending
+sendings number [] = []
+sendings number (m ∷ messages) = sending.Sent (addressee m) (record { number = number; frame = frame_of m }) ∷ sendings ((number + 1) % 2 ^ 32) messages
+
+-- the list longer by these, where it is known
+abbrev pub all_more : {X : Type 0} → Option (List X) → List X → Option (List X)
+all_more None more = None
+all_more (Some xs) more = Some (xs ++ more)
+
+-- the number of the first of what was said
+abbrev pub first_of : Effect → ℕ
+first_of (effect.Said first count) = first
+first_of _ = 0
+
+-- What a node sends for an event of its own: its replies, as it says them; and once it has fallen the
+-- nudge of its node, since its replies are lost.
+abbrev pub sent_for : Ballot → Event → Effect → Part → List Sending
+sent_for b (event.Say n) done p = sendings (first_of done) (said_by b (event.Say n) p)
+sent_for b (event.Fall (actor.Node n)) done p = sending.Told (post.Nudge n) ∷ []
+sent_for b _ done p = []
+
+-- the same for a list of its events, from a part on
+abbrev pub sent_by : Ballot → Part → List (Event × Effect) → List Sending
+sent_by b p [] = []
+sent_by b p (q ∷ own) = sent_for b q.0 q.1 p ++ sent_by b (after_own b q.0 q.1 p) own
+
+-- what a node has sent, as its own log tells it
+abbrev pub sent_of : OwnLog → List Sending
+sent_of l = sent_by l.ballot l.opening l.events
+
+-- Where what was given to a link before is what one log tells, on top of what was there, what was given
+-- since is what the other log tells.
+abbrev pub SentFollows : OwnLog → OwnLog → Option (List Sending) → Option (List Sending) → Type 0
+SentFollows l l' given given' = (before : Option (List Sending)) → given ≡ all_more before (sent_of l) → given' ≡ all_more before (sent_of l')
+
+-- what the node's log tells of a keep: nothing is sent; or, where it failed, the nudge of the node
+abbrev pub IsSentIn : Keeping → ℕ → OwnLog → OwnLog → Type 0
+IsSentIn keeping.Kept n l l' = sent_of l' ≡ sent_of l
+IsSentIn keeping.Failed n l l' = sent_of l' ≡ sent_of l ++ sending.Told (post.Nudge n) ∷ []

@@ -1,0 +1,22 @@
+//! The loop that a node's thread runs.
+//!
+//! `run_node` takes a node from its first rising to its end: parcel by parcel it logs that it takes a
+//! message, decides, keeps what changes, logs that this is kept, and only then says its replies and sends
+//! them. It is generic in the recorder by which it logs, in the link over which it hears and sends, and in
+//! the gate that is called before a keep, so it holds no lock of its own between two events.
+//!
+//! The crate promises that a node logs only events that its own log allows, each while its record finds
+//! what the node has kept by then; that its core is always what its log tells of it; that over a link
+//! which remembers what is sent, this is just what the log tells, each reply as its frame and numbered as
+//! it was said; and by which faults it ends. It promises nothing of what comes over the link, nor that the
+//! loop ends. It stands on `actor_steps` and `event_recorders` for what the threads of nodes and clients do
+//! alike, on `voter_core` for decisions, and on `lossy_link`, `stable_record`, `admission_policy`,
+//! `lock_messages`, `lock_model` and `world_model`; the definitions of `world_actors` tie a core to its
+//! part of the world.
+#![tactic(auto)]
+
+mod replies;
+mod running;
+mod turns;
+
+pub use running::run_node;

@@ -1,0 +1,48 @@
+// The replies of a node on their way.
+
+ghost use Rattle.std.specs.Prelude.{◌≡◌, OnOk, IsOkUnless};
+ghost use Rattle.node_loop.specs.Replies.{addressee, sendings, all_more};
+
+use event_recorders::RunFault;
+use lock_messages::{Actor, Message, encode};
+use lossy_link::{Link, Parcel};
+use std::alloc::Global;
+
+/// To whom a message goes.
+fn addressee(message: &Message) -> Actor
+    ensures { result ≡ addressee message.now }
+{
+    match *message {
+        Message::Request(node, _) | Message::Release(node, _, _) => Actor::Node(node),
+        Message::Grant(_, ticket) | Message::Busy(_, ticket) => Actor::Client(ticket.client),
+        Message::Over(_, client, _)
+        | Message::Done(_, client, _)
+        | Message::Muddled(_, client, _) => Actor::Client(client),
+    }
+}
+
+/// Sends each reply as its frame to whom it goes, numbered from `first` on.
+pub(crate) fn send_all<L: Link>(
+    alloc: Global,
+    first: u32,
+    replies: &[Message],
+    link: &mut L,
+) -> Result<(), RunFault>
+    ensures sent { OnOk result (L.given link.new ≡ all_more (L.given link.old) (sendings first replies.now)) }
+    ensures memory { IsOkUnless result RunFault.Memory }
+{
+    let mut number = first;
+    for reply in replies {
+        let Ok(frame) = encode(alloc, reply) else {
+            return Err(RunFault::Memory);
+        };
+        if link
+            .send(addressee(reply), Parcel { number, frame })
+            .is_err()
+        {
+            return Err(RunFault::Memory);
+        }
+        number = number.wrapping_add(1);
+    }
+    Ok(())
+}

@@ -1,0 +1,132 @@
+// A node's whole run.
+
+ghost use Rattle.std.specs.Prelude.{◌≡◌, [], IfOk, IfErr, OnOk};
+ghost use Rattle.stable_record.specs.declared.node_records.NodeRecord.{NodeRecord};
+ghost use Rattle.event_recorders.specs.OwnLogs.{part_now};
+ghost use Rattle.node_loop.specs.Replies.{all_more, sent_of, SentFollows};
+ghost use Rattle.node_loop.specs.Standing.{StandsIdle, IsReady, IsIdleNode, IsAtEnd, IsNodeFault};
+
+use crate::turns::attend;
+use actor_steps::rise_first;
+use admission_policy::Admission;
+use event_recorders::{Gate, Recorder, RunFault};
+use lock_messages::{Actor, NodeId};
+use lossy_link::{Link, Post};
+use stable_record::StableRecord;
+use stable_record::laws::one_spelling;
+use std::alloc::Global;
+use std::sync::Wait;
+use voter_core::NodeCore;
+
+/// The node rises with what its record is found to be.
+fn rise<R: Recorder>(
+    alloc: Global,
+    node: NodeId,
+    stable: &mut dyn StableRecord,
+    policy: Box<dyn Admission + Send>,
+    recorder: &mut R,
+) -> Result<NodeCore, RunFault>
+    requires { (kept : NodeRecord) × IsReady (R.own_log recorder.old) node kept (problem_of policy) (finds stable.old) }
+    ensures idle { IfOk result (λ core. StandsIdle (R.own_log recorder.new) core (finds stable.new) (stuck_of stable.new)) }
+    ensures silent { OnOk result (sent_of (R.own_log recorder.new) ≡ []) }
+    ensures faults { IfErr result IsNodeFault }
+{
+    one_spelling();
+    let found = rise_first(Actor::Node(node), stable, recorder)?;
+    let Ok(core) = NodeCore::rise(alloc, node, &found, policy) else {
+        return Err(RunFault::Memory);
+    };
+    Ok(core)
+}
+
+/// Attends to one post after the other, until no more come.
+#[tactic(auto, using(crate::proofs::SentFacts::follows_on, crate::proofs::SentFacts::follows_none))]
+fn serve<W: Wait, R: Recorder, L: Link, G: Gate>(
+    rt: &W,
+    alloc: Global,
+    core: &mut NodeCore,
+    stable: &mut dyn StableRecord,
+    recorder: &mut R,
+    link: &mut L,
+    gate: &G,
+) -> Result<(), RunFault>
+    requires { StandsIdle (R.own_log recorder.old) core.old (finds stable.old) (stuck_of stable.old) }
+    ensures idle { OnOk result (StandsIdle (R.own_log recorder.new) core.new (finds stable.new) (stuck_of stable.new)) }
+    ensures sent { OnOk result (SentFollows (R.own_log recorder.old) (R.own_log recorder.new) (L.given link.old) (L.given link.new)) }
+    ensures closed { OnOk result (IsAtEnd (L.coming link.new)) }
+    ensures faults { IfErr result IsNodeFault }
+{
+    for _ in rt.forever() {
+        let Ok(post) = link.receive() else {
+            return Ok(());
+        };
+        attend(alloc, post, core, stable, recorder, link, gate)?;
+    }
+    unreachable!()
+}
+
+/// The node rises, and attends to its posts until no more come.
+#[tactic(auto, using(crate::proofs::SentFacts::all_told))]
+fn live<W: Wait, R: Recorder, L: Link, G: Gate>(
+    rt: &W,
+    alloc: Global,
+    node: NodeId,
+    stable: &mut dyn StableRecord,
+    policy: Box<dyn Admission + Send>,
+    recorder: &mut R,
+    link: &mut L,
+    gate: &G,
+) -> Result<(), RunFault>
+    requires { (kept : NodeRecord) × IsReady (R.own_log recorder.old) node kept (problem_of policy) (finds stable.old) }
+    ensures idle { OnOk result (IsIdleNode (part_now (R.own_log recorder.new))) }
+    ensures sent { OnOk result (L.given link.new ≡ all_more (L.given link.old) (sent_of (R.own_log recorder.new))) }
+    ensures closed { OnOk result (IsAtEnd (L.coming link.new)) }
+    ensures faults { IfErr result IsNodeFault }
+{
+    let mut core = rise(alloc, node, stable, policy, recorder)?;
+    serve(rt, alloc, &mut core, stable, recorder, link, gate)
+}
+
+/// Runs a node: it rises with what its record holds, takes the messages of its parcels one after the
+/// other, keeps what they change, and sends its replies, until nothing comes any more over its link.
+///
+/// The caller owes a recorder whose own log is this node's and unused, with the node down and nothing tried
+/// in its opening; a record in which a restart finds just what the node has kept there, which is a node
+/// record that can be read again; and a policy of that record's problem.
+///
+/// A nudge, a node that is gone, and a frame that is no message for the node are dropped and log nothing;
+/// so is a parcel whose number was never sent, or sent to another actor (607, 608). The message that is
+/// taken is the one that the log has under the parcel's number, whatever the frame says. Where the record's
+/// device fails in a keep (301), the node falls, rises again with what its record is found to be, and tells
+/// every client to ask again, since its replies are lost.
+///
+/// The errors: three reopens of the record failed in a row (911), memory was refused (914), the book is
+/// full or another's (915), no change of the record can be numbered any more (916). Then every client is
+/// told that the node is gone, as far as there is memory for it. It waits where its link, its recorder or
+/// its gate does. The way of a turn, and what is dropped, are our own rules.
+pub fn run_node<W: Wait, R: Recorder, L: Link, G: Gate>(
+    rt: &W,
+    alloc: Global,
+    node: NodeId,
+    mut stable: Box<dyn StableRecord + Send>,
+    policy: Box<dyn Admission + Send>,
+    recorder: &mut R,
+    link: &mut L,
+    gate: &G,
+) -> Result<(), RunFault>
+    requires { (kept : NodeRecord) × IsReady (R.own_log recorder.old) node kept (problem_of policy) (finds stable) }
+    // All that it took it has answered.
+    ensures idle { OnOk result (IsIdleNode (part_now (R.own_log recorder.new))) }
+    // What was sent is what its own log tells: its replies, and after each fall its nudge.
+    ensures sent { OnOk result (L.given link.new ≡ all_more (L.given link.old) (sent_of (R.own_log recorder.new))) }
+    // It ends without a fault only where nothing comes any more.
+    ensures closed { OnOk result (IsAtEnd (L.coming link.new)) }
+    // 911, 914, 915 or 916.
+    ensures faults { IfErr result IsNodeFault }
+{
+    let ended = live(rt, alloc, node, &mut *stable, policy, recorder, link, gate);
+    if ended.is_err() {
+        let _ = link.tell_all(Post::Gone(node));
+    }
+    ended
+}

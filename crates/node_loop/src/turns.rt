@@ -1,0 +1,190 @@
+// A node's turn: from a parcel to the replies.
+
+ghost use Rattle.std.specs.Prelude.{◌≡◌, [], ◌∷◌, ◌++◌, IfOk, IfErr, IfSome, IfNone, OnOk};
+ghost use Rattle.stable_record.specs.declared.node_records.NodeRecord.{NodeRecord};
+ghost use Rattle.voter_core.specs.Voters.{Idle, Decided, Stored, record_of, replies_in};
+ghost use Rattle.lossy_link.specs.Links.{one_more};
+ghost use Rattle.lossy_link.specs.declared.parcels.Post.{Post as PostValue};
+ghost use Rattle.lossy_link.specs.declared.parcels.Sending.{Sending as SendingValue};
+ghost use Rattle.node_loop.specs.Replies.{sent_of, SentFollows, IsSentIn};
+ghost use Rattle.node_loop.specs.Standing.{StandsBy, StandsIdle, HasTaken, HasKept, HasFailed, IsNodeFault};
+
+use crate::replies::send_all;
+use actor_steps::{Keeping, keep_next, log_plain, log_reading, rise_again};
+use event_recorders::laws::records_fit;
+use event_recorders::{Gate, Recorder, RunFault};
+use lock_messages::{Actor, NodeId, decode};
+use lock_model::laws::changes_are_seen;
+use lossy_link::{Link, Parcel, Post};
+use stable_record::StableRecord;
+use stable_record::laws::one_spelling;
+use std::alloc::Global;
+use voter_core::NodeCore;
+use world_model::{Effect, Event};
+
+/// Takes the message that was sent under this number, and answers whether it changes the node's
+/// record; `None` where no message of the number was sent to the node.
+#[tactic(auto, using(crate::proofs::SentFacts::take_sends_nothing))]
+fn take<R: Recorder>(
+    number: u32,
+    core: &mut NodeCore,
+    stable: &dyn StableRecord,
+    recorder: &mut R,
+) -> Result<Option<bool>, RunFault>
+    requires { StandsIdle (R.own_log recorder.old) core.old (finds stable.now) (stuck_of stable.now) }
+    ensures dropped { IfOk result (λ o. IfNone o ((core.new ≡ core.old) × (R.own_log recorder.new ≡ R.own_log recorder.old))) }
+    ensures taken { IfOk result (λ o. IfSome o (λ changed. HasTaken changed (R.own_log recorder.new) core.new (record_of core.old) (finds stable.now) (stuck_of stable.now))) }
+    ensures silent { OnOk result (sent_of (R.own_log recorder.new) ≡ sent_of (R.own_log recorder.old)) }
+    ensures faults { IfErr result IsNodeFault }
+{
+    let event = Event::Take(core.node(), number);
+    let Some(done) = log_reading(recorder, event, stable)? else {
+        return Ok(None);
+    };
+    let Effect::Took(message, _) = done else {
+        unreachable!()
+    };
+    changes_are_seen();
+    let Ok(changed) = core.take(&message) else {
+        return Err(RunFault::Memory);
+    };
+    Ok(Some(changed))
+}
+
+/// Keeps what the node decided. Where the record's device fails, the node falls and rises again with
+/// what is found.
+#[tactic(auto, using(crate::proofs::SentFacts::keeping_sends_nothing, crate::proofs::SentFacts::trying_sends_nothing))]
+fn keep<R: Recorder, G: Gate>(
+    alloc: Global,
+    core: &mut NodeCore,
+    stable: &mut dyn StableRecord,
+    recorder: &mut R,
+    gate: &G,
+) -> Result<Keeping, RunFault>
+    requires { (before : NodeRecord) × StandsBy (Decided (replies_in core.old.state)) (R.own_log recorder.old) core.old before (finds stable.old) (stuck_of stable.old) }
+    ensures sent { IfOk result (λ keeping. IsSentIn keeping core.new.node (R.own_log recorder.old) (R.own_log recorder.new)) }
+    ensures kept { IfOk result (λ keeping. HasKept keeping (R.own_log recorder.new) core.new (finds stable.new) (stuck_of stable.new)) }
+    ensures faults { IfErr result IsNodeFault }
+{
+    let Ok(bytes) = core.next_bytes(alloc) else {
+        return Err(RunFault::Memory);
+    };
+    records_fit();
+    let _station = core.record();
+    let actor = Actor::Node(core.node());
+    let keeping = keep_next(actor, &bytes, stable, recorder, gate)?;
+    match keeping {
+        Keeping::Kept => core.kept(),
+        Keeping::Failed => restart(&bytes, core, stable, recorder)?,
+    }
+    Ok(keeping)
+}
+
+/// The node falls, and rises again with what its record is found to be.
+fn restart<R: Recorder>(
+    tried: &[u8],
+    core: &mut NodeCore,
+    stable: &mut dyn StableRecord,
+    recorder: &mut R,
+) -> Result<(), RunFault>
+    requires { (before : NodeRecord) × HasFailed (R.own_log recorder.old) core.old before tried.now (finds stable.old) }
+    ensures idle { OnOk result (StandsIdle (R.own_log recorder.new) core.new (finds stable.new) (stuck_of stable.new)) }
+    ensures sent { OnOk result (sent_of (R.own_log recorder.new) ≡ sent_of (R.own_log recorder.old) ++ SendingValue.Told (PostValue.Nudge core.new.node) ∷ []) }
+    ensures faults { IfErr result IsNodeFault }
+{
+    one_spelling();
+    let found = rise_again(Actor::Node(core.node()), tried, stable, recorder)?;
+    let Ok(()) = core.restart(&found) else {
+        return Err(RunFault::Memory);
+    };
+    Ok(())
+}
+
+/// Says the node's replies, and sends them.
+#[tactic(auto, using(crate::proofs::SentFacts::say_is_told))]
+fn say<R: Recorder, L: Link>(
+    alloc: Global,
+    core: &mut NodeCore,
+    stable: &dyn StableRecord,
+    recorder: &mut R,
+    link: &mut L,
+) -> Result<(), RunFault>
+    requires { StandsBy (Stored (replies_in core.old.state)) (R.own_log recorder.old) core.old (record_of core.old) (finds stable.now) (stuck_of stable.now) }
+    ensures idle { OnOk result (StandsIdle (R.own_log recorder.new) core.new (finds stable.now) (stuck_of stable.now)) }
+    ensures sent { OnOk result (SentFollows (R.own_log recorder.old) (R.own_log recorder.new) (L.given link.old) (L.given link.new)) }
+    ensures faults { IfErr result IsNodeFault }
+{
+    let done = log_plain(recorder, Event::Say(core.node()), stable)?;
+    let Effect::Said { first, .. } = done else {
+        unreachable!()
+    };
+    let replies = core.speak();
+    send_all(alloc, first, &replies, link)
+}
+
+/// Tells every client that it should ask the node again, since replies are lost.
+fn tell_lost<L: Link>(node: NodeId, link: &mut L) -> Result<(), RunFault>
+    ensures told { OnOk result (L.given link.new ≡ one_more (L.given link.old) (SendingValue.Told (PostValue.Nudge node))) }
+    ensures faults { IfErr result IsNodeFault }
+{
+    if link.tell_all(Post::Nudge(node)).is_err() {
+        return Err(RunFault::Memory);
+    }
+    Ok(())
+}
+
+/// A turn: takes the message of the number, keeps what it changes, and sends the replies.
+#[tactic(auto, using(crate::proofs::SentFacts::follows_none, crate::proofs::SentFacts::follows_from, crate::proofs::SentFacts::nudge_follows))]
+fn take_turn<R: Recorder, L: Link, G: Gate>(
+    alloc: Global,
+    number: u32,
+    core: &mut NodeCore,
+    stable: &mut dyn StableRecord,
+    recorder: &mut R,
+    link: &mut L,
+    gate: &G,
+) -> Result<(), RunFault>
+    requires { StandsIdle (R.own_log recorder.old) core.old (finds stable.old) (stuck_of stable.old) }
+    ensures idle { OnOk result (StandsIdle (R.own_log recorder.new) core.new (finds stable.new) (stuck_of stable.new)) }
+    ensures sent { OnOk result (SentFollows (R.own_log recorder.old) (R.own_log recorder.new) (L.given link.old) (L.given link.new)) }
+    ensures faults { IfErr result IsNodeFault }
+{
+    let Some(changed) = take(number, core, &*stable, recorder)? else {
+        return Ok(());
+    };
+    if changed {
+        match keep(alloc, core, stable, recorder, gate)? {
+            Keeping::Kept => {}
+            Keeping::Failed => return tell_lost(core.node(), link),
+        }
+    }
+    say(alloc, core, &*stable, recorder, link)
+}
+
+/// Does what a post asks for. What is no message for the node is dropped.
+#[tactic(auto, using(crate::proofs::SentFacts::follows_none))]
+pub(crate) fn attend<R: Recorder, L: Link, G: Gate>(
+    alloc: Global,
+    post: Post,
+    core: &mut NodeCore,
+    stable: &mut dyn StableRecord,
+    recorder: &mut R,
+    link: &mut L,
+    gate: &G,
+) -> Result<(), RunFault>
+    requires { StandsIdle (R.own_log recorder.old) core.old (finds stable.old) (stuck_of stable.old) }
+    ensures idle { OnOk result (StandsIdle (R.own_log recorder.new) core.new (finds stable.new) (stuck_of stable.new)) }
+    ensures sent { OnOk result (SentFollows (R.own_log recorder.old) (R.own_log recorder.new) (L.given link.old) (L.given link.new)) }
+    ensures faults { IfErr result IsNodeFault }
+{
+    let Post::Parcel(Parcel { number, frame }) = post else {
+        return Ok(());
+    };
+    let Ok(message) = decode(&frame) else {
+        return Ok(());
+    };
+    if !message.is_for_node(core.node()) {
+        return Ok(());
+    }
+    take_turn(alloc, number, core, stable, recorder, link, gate)
+}
