@@ -10,6 +10,8 @@
 #[cfg(test)]
 mod actors;
 #[cfg(test)]
+mod books;
+#[cfg(test)]
 mod decisions;
 #[cfg(test)]
 mod failures;
@@ -23,6 +25,8 @@ mod links;
 mod plates;
 #[cfg(test)]
 mod records;
+#[cfg(test)]
+mod rooms;
 #[cfg(test)]
 mod scripts;
 #[cfg(test)]

@@ -1,12 +1,11 @@
 // A whole run: 933, or 925 of the settings; what was written is a beginning of the output.
 
 use crate::failures::{Failure, Outcome, check, refused};
+use crate::rooms::Room;
 use admission_policy::{Admission, FirstProblem, SecondProblem};
 use lock_messages::MAX_NODES;
 use operator_cli::{Command, Order, Policies, ServeFault, serve};
 use std::alloc::Global;
-use std::io;
-use std::io::{Error, ErrorKind, Write};
 
 const SCRIPT: &str = "\
 votes = [1]\nread = 1\nwrite = 1\nproblem = 1\nclients = 2\n---\n\
@@ -19,30 +18,6 @@ kept\nsent 2 grant n1 c1 1 read a\ncounted\ninside\nrefused 604\ninside a: c1 re
 holding n1 a: c1 read\nline 14 fault 805\n";
 
 const BAD_SETTINGS: &str = "votes = [1, 1]\nread = 1\nwrite = 1\nproblem = 1\nclients = 2\n---\n";
-
-/// A writer in a room of its own, which takes no memory.
-#[derive(Drop)]
-struct Room {
-    bytes: [u8; 256],
-    used: usize,
-}
-
-impl Write for Room {
-    fn write(&mut self, buf: &[u8]) -> io::Result<usize> {
-        if self.used > self.bytes.len() {
-            return Err(Error::from(ErrorKind::BrokenPipe));
-        }
-        let count = buf.len().min(self.bytes.len() - self.used);
-        let (now, _) = buf.split_at(count);
-        self.bytes[self.used..self.used + count].copy_from_slice(now);
-        self.used += count;
-        Ok(count)
-    }
-
-    fn flush(&mut self) -> io::Result<()> {
-        Ok(())
-    }
-}
 
 /// Serves a script.
 fn serve_script(alloc: Global, script: &str, out: &mut Room) -> Result<u8, ServeFault> {
@@ -71,12 +46,9 @@ fn serve_script(alloc: Global, script: &str, out: &mut Room) -> Result<u8, Serve
 
 /// Serves a script, and judges what it wrote and its status.
 fn serves(alloc: Global, script: &str, expected: &str, status: u8) -> Outcome {
-    let mut out = Room {
-        bytes: [0; 256],
-        used: 0,
-    };
+    let mut out = Room::empty();
     let served = serve_script(alloc, script, &mut out);
-    let told = out.bytes.get(..out.used).unwrap_or(&[]);
+    let told = out.bytes();
     match served {
         Ok(2) if told == b"settings fault 925\n".as_slice() => refused(true),
         Ok(ended) => check(told == expected.as_bytes() && ended == status),

@@ -70,7 +70,7 @@ fn resumed_from(
     if policies.len() != ballot.nodes() as usize || ballot.nodes() != 1 {
         return Err(Failure::Wrong);
     }
-    opened(World::resume(alloc, ballot, policies, nodes, clients))
+    opened(World::resume(alloc, ballot, 2, policies, nodes, clients))
 }
 
 /// A copy of a record.

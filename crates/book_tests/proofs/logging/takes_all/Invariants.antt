@@ -1,0 +1,8 @@
+use Rattle.std.proofs.Common.{◌≡◌}
+use Rattle.book_tests.proofs.logging.takes_all.Given as goal
+
+abbrev pub invariant-loop-line : goal.invariant-loop-line
+invariant-loop-line g l = record {
+  book : (l.book.number ≡ l.fn.book.number) × (l.book.table ≡ l.fn.book.table);
+  berth : (l.berth.number ≡ l.fn.berth.number) × (l.berth.table ≡ l.fn.berth.table);
+}

@@ -1,0 +1,78 @@
+// What a book answers where its history is full, or the list of messages of its world.
+
+ghost use Rattle.std.specs.Prelude.{◌≡◌};
+
+use crate::logging::{berth_of, logs, opened, takes, takes_all};
+use crate::outcomes::{Outcome, check};
+use crate::worlds::{client, client_id, node_id, one_node};
+use history_book::{Berth, Book, BookFault, MAX_EVENTS};
+use world_model::{Age, Event, MAX_MESSAGES, StepFault};
+
+/// c1 rises and falls in turn, as often as a history has room for. No events are cheaper, since these
+/// send nothing, and the records that they read are empty: all of it takes a second and 600 MB as it is
+/// built, and a minute in `rt try`, which wants `--seconds 120` for it.
+fn fill(book: &mut Book, berth: &mut Berth) -> Outcome
+    requires { berth.old.number ≡ book.old.number → berth.old.table ≡ book.old.table }
+    ensures book { (book.new.number ≡ book.old.number) × (book.new.table ≡ book.old.table) }
+    ensures berth { (berth.new.number ≡ berth.old.number) × (berth.new.table ≡ berth.old.table) }
+{
+    let who = &client(1)?;
+    let (rise, fall) = (&Event::Rise(*who, Age::Old), &Event::Fall(*who));
+    for _ in 0..MAX_EVENTS / 2 {
+        takes(book, berth, *rise)?;
+        takes(book, berth, *fall)?;
+    }
+    Ok(())
+}
+
+#[test]
+fn full_history(rt: HostRuntime) -> Outcome {
+    let alloc = rt.alloc();
+    let mut book = opened(alloc, 7, one_node(alloc)?)?;
+    let mut one = berth_of(&mut book, client(1)?)?;
+    let mut two = berth_of(&mut book, client(2)?)?;
+    fill(&mut book, &mut one)?;
+    check(book.events() as usize == MAX_EVENTS)?;
+    // What may happen, what may not, and what is another's.
+    logs(&mut book, &mut one, "rise c1 old", Err(BookFault::Full))?;
+    logs(&mut book, &mut two, "fall c2", Err(BookFault::Full))?;
+    logs(
+        &mut book,
+        &mut two,
+        "rise c1 old",
+        Err(BookFault::OtherActor),
+    )?;
+    check(book.events() as usize == MAX_EVENTS)
+}
+
+/// c1 says its request to n1, as often as the list of messages has room for.
+fn asks_on(book: &mut Book, berth: &mut Berth) -> Outcome
+    requires { berth.old.number ≡ book.old.number → berth.old.table ≡ book.old.table }
+    ensures book { (book.new.number ≡ book.old.number) × (book.new.table ≡ book.old.table) }
+    ensures berth { (berth.new.number ≡ berth.old.number) × (berth.new.table ≡ berth.old.table) }
+{
+    let (from, to) = (client_id(1)?, node_id(1)?);
+    let asks = &Event::SayTo(from, to);
+    for _ in 0..MAX_MESSAGES {
+        takes(book, berth, *asks)?;
+    }
+    Ok(())
+}
+
+#[test]
+fn full_list_of_messages(rt: HostRuntime) -> Outcome {
+    let alloc = rt.alloc();
+    let no_quorum = Err(BookFault::NotAStep(StepFault::NoQuorum));
+    let mut book = opened(alloc, 7, one_node(alloc)?)?;
+    let mut one = berth_of(&mut book, client(1)?)?;
+    takes_all(
+        &mut book,
+        &mut one,
+        "rise c1 old\nbegin c1 read a\ntry c1\nkept c1",
+    )?;
+    asks_on(&mut book, &mut one)?;
+    let before = book.events();
+    logs(&mut book, &mut one, "sayto c1 n1", Err(BookFault::Full))?;
+    logs(&mut book, &mut one, "enter c1", no_quorum)?;
+    check(before == MAX_MESSAGES + 4 && book.events() == before)
+}

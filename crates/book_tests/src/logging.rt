@@ -1,0 +1,103 @@
+// Books, berths and logged events, with what a test may rest on.
+
+ghost use Rattle.std.specs.Prelude.{◌≡◌, IfOk};
+ghost use Rattle.history_book.specs.Books.{BookValue, BerthValue};
+
+use crate::outcomes::{Failure, Outcome, check, of_book};
+use crate::worlds::event;
+use history_book::{Berth, Book, BookFault};
+use lock_messages::Actor;
+use std::alloc::Global;
+use world_machine::World;
+use world_model::{Effect, Event};
+
+/// A book of this number over the world.
+pub(crate) fn opened(alloc: Global, number: u64, world: World) -> Result<Book, Failure>
+    requires { Unit {0} }
+    ensures { IfOk result (λ b. b.number ≡ number) }
+{
+    match Book::over(alloc, number, world) {
+        Ok(book) => Ok(book),
+        Err((_, fault)) => Err(of_book(fault)),
+    }
+}
+
+/// The berth of an actor that was given none.
+pub(crate) fn berth_of(book: &mut Book, actor: Actor) -> Result<Berth, Failure>
+    requires { Unit {0} }
+    ensures book { (book.new.number ≡ book.old.number) × (book.new.table ≡ book.old.table) }
+    ensures berth { IfOk result (λ k. (k.number ≡ book.new.number) × (k.table ≡ book.new.table)) }
+{
+    match book.berth(actor) {
+        Ok(Some(berth)) => Ok(berth),
+        Ok(None) => Err(Failure::Wrong),
+        Err(fault) => Err(of_book(fault)),
+    }
+}
+
+/// Logs an event; the book and the berth are still those of one another.
+#[tactic(auto, using(crate::proofs::Refusals::refusals_stay))]
+pub(crate) fn log(book: &mut Book, berth: &mut Berth, event: Event) -> Result<Effect, BookFault>
+    requires { berth.old.number ≡ book.old.number → berth.old.table ≡ book.old.table }
+    ensures book { (book.new.number ≡ book.old.number) × (book.new.table ≡ book.old.table) }
+    ensures berth { (berth.new.number ≡ berth.old.number) × (berth.new.table ≡ berth.old.table) }
+{
+    book.log(berth, event)
+}
+
+/// Logs the event of a line, and compares the answer. Where memory is refused nothing was added.
+pub(crate) fn logs(
+    book: &mut Book,
+    berth: &mut Berth,
+    line: &str,
+    expected: Result<Effect, BookFault>,
+) -> Outcome
+    requires { berth.old.number ≡ book.old.number → berth.old.table ≡ book.old.table }
+    ensures book { (book.new.number ≡ book.old.number) × (book.new.table ≡ book.old.table) }
+    ensures berth { (berth.new.number ≡ berth.old.number) × (berth.new.table ≡ berth.old.table) }
+{
+    let event = event(line)?;
+    let before = book.events();
+    let answer = log(book, berth, event);
+    if answer == Err(BookFault::Memory) {
+        check(book.events() == before)?;
+        return Err(Failure::Memory);
+    }
+    check(answer == expected)
+}
+
+/// Logs an event that may happen.
+pub(crate) fn takes(book: &mut Book, berth: &mut Berth, event: Event) -> Outcome
+    requires { berth.old.number ≡ book.old.number → berth.old.table ≡ book.old.table }
+    ensures book { (book.new.number ≡ book.old.number) × (book.new.table ≡ book.old.table) }
+    ensures berth { (berth.new.number ≡ berth.old.number) × (berth.new.table ≡ berth.old.table) }
+{
+    match log(book, berth, event) {
+        Ok(_) => Ok(()),
+        Err(fault) => Err(of_book(fault)),
+    }
+}
+
+/// Logs the events of the lines, each of which may happen.
+pub(crate) fn takes_all(book: &mut Book, berth: &mut Berth, lines: &str) -> Outcome
+    requires { berth.old.number ≡ book.old.number → berth.old.table ≡ book.old.table }
+    ensures book { (book.new.number ≡ book.old.number) × (book.new.table ≡ book.old.table) }
+    ensures berth { (berth.new.number ≡ berth.old.number) × (berth.new.table ≡ berth.old.table) }
+{
+    for line in lines.lines() {
+        let event = event(line)?;
+        takes(book, berth, event)?;
+    }
+    Ok(())
+}
+
+/// Whether the two meet; they are still berths of the books whose they were.
+pub(crate) fn meets(book: &mut Book, one: &mut Berth, other: &mut Berth) -> Result<bool, BookFault>
+    requires one { one.old.number ≡ book.old.number → one.old.table ≡ book.old.table }
+    requires other { other.old.number ≡ book.old.number → other.old.table ≡ book.old.table }
+    ensures book { book.new ≡ book.old }
+    ensures one { (one.new.number ≡ one.old.number) × (one.new.table ≡ one.old.table) }
+    ensures other { (other.new.number ≡ other.old.number) × (other.new.table ≡ other.old.table) }
+{
+    book.meet(one, other)
+}

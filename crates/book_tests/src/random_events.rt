@@ -1,0 +1,143 @@
+// A long history of a fixed generator, logged by the berths of all actors, and the audit of its journal.
+
+ghost use Rattle.std.specs.Prelude.{◌≡◌, All, IfOk};
+ghost use Rattle.book_tests.specs.Ties.{IsOf};
+
+use crate::generator::event_of_turn;
+use crate::journals::{is_sound, journal_of};
+use crate::logging::{berth_of, log, opened};
+use crate::outcomes::{Failure, Outcome, check};
+use crate::worlds::{client, node, three_nodes};
+use history_book::{Berth, Book, BookFault};
+use lock_messages::Actor;
+use rand_core::utils::NextWord;
+use rand_pcg::Pcg32;
+use std::alloc::Global;
+use world_machine::World;
+use world_model::{Effect, Event, StepFault};
+
+/// The seed of the events.
+const SEED: u64 = 9;
+
+/// The events that are logged.
+const EVENTS: u32 = 2_000;
+
+/// More events than have to be tried until so many are logged.
+const TRIES: u32 = 20_000;
+
+/// The actors of the world: the nodes, and behind them the clients.
+const ACTORS: u32 = 7;
+
+/// The actor of this place.
+fn actor_at(place: u32) -> Result<Actor, Failure> {
+    if place < 3 {
+        node(place as u8 + 1)
+    } else {
+        client(place - 2)
+    }
+}
+
+/// The berths of all actors, in their order.
+#[tactic(auto, using(crate::proofs::Owners::with_one_more))]
+fn berths_of(alloc: Global, book: &mut Book) -> Result<Vec<Berth>, Failure>
+    ensures book { (book.new.number ≡ book.old.number) × (book.new.table ≡ book.old.table) }
+    ensures berths { IfOk result (λ v. All (IsOf book.new) v.items) }
+{
+    let mut berths = Vec::new(alloc);
+    for place in 0..ACTORS {
+        let actor = actor_at(place)?;
+        let berth = berth_of(book, actor)?;
+        berths.push(berth)?;
+    }
+    Ok(berths)
+}
+
+/// What a history has and what was refused: the messages sent, the entries, the refused events.
+#[derive(Clone, Copy)]
+struct Seen {
+    sent: u32,
+    entered: u32,
+    refused: u32,
+}
+
+/// What was seen, with one answer more.
+fn seen_with(seen: Seen, answer: &Result<Effect, BookFault>) -> Seen {
+    let mut seen = seen;
+    match answer {
+        Ok(Effect::Sent(number, _)) => seen.sent = *number,
+        Ok(Effect::Said { count, .. }) => seen.sent = seen.sent.saturating_add(*count),
+        Ok(Effect::Inside) => seen.entered = seen.entered.saturating_add(1),
+        Ok(_) => {}
+        Err(_) => seen.refused = seen.refused.saturating_add(1),
+    }
+    seen
+}
+
+/// Ends the test where a book doesn't answer what a world does that is beside it.
+fn agree(answer: Result<Effect, BookFault>, did: Result<Effect, StepFault>) -> Outcome {
+    match (answer, did) {
+        (Err(BookFault::Memory), _) | (_, Err(StepFault::Memory)) => Err(Failure::Memory),
+        (Ok(done), Ok(same)) => check(done == same),
+        (Err(BookFault::NotAStep(fault)), Err(same)) => check(fault == same),
+        _ => Err(Failure::Wrong),
+    }
+}
+
+/// The berth at this place logs an event.
+#[tactic(auto, using(crate::proofs::Owners::with_one_changed))]
+fn log_at(
+    book: &mut Book,
+    berths: &mut Vec<Berth>,
+    place: u32,
+    event: Event,
+) -> Result<Result<Effect, BookFault>, Failure>
+    requires { All (IsOf book.old) berths.old.items }
+    ensures { All (IsOf book.new) berths.new.items }
+{
+    let place = place as usize;
+    if place >= berths.len() {
+        return Err(Failure::Wrong);
+    }
+    Ok(log(book, &mut berths[place], event))
+}
+
+/// Tries events of all actors until so many are logged; each is taken in a world beside the book too.
+fn run(book: &mut Book, berths: &mut Vec<Berth>, world: &mut World) -> Result<Seen, Failure>
+    requires { All (IsOf book.old) berths.old.items }
+{
+    let mut words = Pcg32::new(SEED, 1);
+    let mut seen = Seen {
+        sent: 0,
+        entered: 0,
+        refused: 0,
+    };
+    let mut place = 0;
+    for turn in 0..TRIES {
+        if book.events() == EVENTS {
+            break;
+        }
+        if turn % 4 == 0 {
+            place = words.next_word() % ACTORS;
+        }
+        let actor = actor_at(place)?;
+        let event = &event_of_turn(&mut words, world, actor, turn, seen.sent)?;
+        let answer = log_at(book, berths, place, *event)?;
+        seen = seen_with(seen, &answer);
+        let did = world.step(event);
+        agree(answer, did)?;
+    }
+    Ok(seen)
+}
+
+#[test]
+fn random_history_is_sound(rt: HostRuntime) -> Outcome {
+    let alloc = rt.alloc();
+    let mut book = opened(alloc, 7, three_nodes(alloc)?)?;
+    let mut berths = berths_of(alloc, &mut book)?;
+    let mut beside = three_nodes(alloc)?;
+    let seen = run(&mut book, &mut berths, &mut beside)?;
+    check(book.events() == EVENTS && book.entered() == seen.entered)?;
+    check(seen.refused >= 2_000 && seen.entered >= 5)?;
+    let journal = journal_of(&book, alloc)?;
+    is_sound(alloc, three_nodes(alloc)?, journal.as_slice(), EVENTS)
+}

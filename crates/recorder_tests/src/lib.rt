@@ -1,0 +1,10 @@
+//! Tests of recorders by their public calls alone: an actor that logs in a book of its own.
+//!
+//! It has no code but tests, and stands on the crates that it tests. Each file is named for what it
+//! shows.
+#![tactic(auto)]
+
+#[cfg(test)]
+mod alone;
+#[cfg(test)]
+mod worlds;
