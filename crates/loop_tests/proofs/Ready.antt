@@ -1,0 +1,34 @@
+-- An actor that has logged nothing, with a record of what it has kept, is what its loop needs.
+use Rattle.std.proofs.Common.{◌≡◌, ℕ, List, [], ◌∷◌, sym, ap, ◌∙◌, subst, refl}
+use Rattle.lock_messages.specs.declared.ids.Actor.TheVariants as actor
+use Rattle.lock_model.specs.declared.problems.Problem.{Problem}
+use Rattle.lock_model.specs.declared.problems.Problem.TheVariants.{First}
+use Rattle.lock_model.specs.Ballots.{Ballot}
+use Rattle.stable_record.specs.declared.node_records.NodeRecord.{NodeRecord}
+use Rattle.stable_record.specs.Records.{IsNodeRecord, node_record_of}
+use Rattle.history_book.specs.Books.{BookValue, BerthValue}
+use Rattle.event_recorders.specs.OwnLogs.{OwnLog, IsDownAtRest}
+use Rattle.book_recorders.specs.Sharing.{log_of}
+use Rattle.node_loop.specs.Standing.{IsReady}
+use Rattle.loop_tests.specs.Fresh.{IsUnlogged, IsNewNode, empty_record}
+
+pub node_log : (b : Ballot) (n : ℕ) (k : BerthValue) (book : BookValue) → IsUnlogged b (actor.Node n) k book → n ≡ 1 → IsNewNode (log_of k)
+node_log b n k book unlogged one =
+    let at : IsUnlogged b (actor.Node 1) k book = subst (λ (m : ℕ). IsUnlogged b (actor.Node m) k book) one unlogged in
+    record {
+      actor = ap (λ (l : OwnLog). l.actor) at.log;
+      opening = ap (λ (l : OwnLog). l.opening) at.log;
+      events = ap (λ (l : OwnLog). l.events) at.log;
+    }
+
+pub node_ready : (l : OwnLog) (n : ℕ) (p : Problem) (strings : List (List ℕ)) → IsNewNode l → IsNodeRecord empty_record → n ≡ 1 → p ≡ First → strings ≡ node_record_of empty_record ∷ [] → (kept : NodeRecord) × IsReady l n kept p strings
+node_ready l n p strings new good one first finds = (
+  empty_record,
+  record {
+    unused = record { actor = new.actor ∙ ap (λ (m : ℕ). actor.Node m) (sym one); events = new.events; down = subst (IsDownAtRest (actor.Node n)) (sym new.opening) (refl, refl) };
+    opening = new.opening;
+    good = good;
+    problem = sym first;
+    finds = finds;
+  },
+)

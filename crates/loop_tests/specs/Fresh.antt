@@ -1,0 +1,41 @@
+-- Books over worlds in which nothing has happened, and the own logs of their actors.
+use Rattle.std.specs.Prelude.{◌≡◌, [], ◌∷◌}
+use Rattle.lock_messages.specs.declared.ids.Actor.{Actor}
+use Rattle.lock_messages.specs.declared.ids.Actor.TheVariants as actor
+use Rattle.lock_model.specs.declared.problems.Problem.TheVariants.{First}
+use Rattle.lock_model.specs.Ballots.{Ballot}
+use Rattle.stable_record.specs.declared.node_records.NodeRecord.{NodeRecord}
+use Rattle.world_model.specs.declared.exact.ExactWorld.{ExactWorld}
+use Rattle.world_model.specs.Openings.{opening, down_node, down_client, empty_station}
+use Rattle.world_model.specs.Parts.{part, NodePart, ClientPart}
+use Rattle.history_book.specs.Books.{BookValue, BerthValue}
+use Rattle.event_recorders.specs.OwnLogs.{OwnLog}
+use Rattle.book_recorders.specs.Sharing.{log_of}
+
+-- a world of two nodes for problem 1 and of two clients, in which nothing has happened
+abbrev pub IsNew : Ballot → ExactWorld → Type 0
+IsNew b w = w ≡ opening b (First ∷ First ∷ []) 2
+
+-- a book over such a world, in which nothing is logged
+pub record IsNewBook (b : Ballot) (k : BookValue) : Type 0 where
+  pub opening : IsNew b k.opening
+  pub history : k.history ≡ []
+
+-- the book's own berth of this actor, in whose log there is nothing
+pub record IsUnlogged (b : Ballot) (who : Actor) (k : BerthValue) (book : BookValue) : Type 0 where
+  pub table : k.table ≡ book.table
+  pub log : log_of k ≡ record { actor = who; ballot = b; opening = part (opening b (First ∷ First ∷ []) 2) who; events = [] }
+
+-- the log of c1, which has logged nothing, and has made no attempt in a world of this ballot
+abbrev pub IsNewClient : Ballot → OwnLog → Type 0
+IsNewClient b l = l ≡ record { actor = actor.Client 1; ballot = b; opening = ClientPart (down_client 0); events = [] }
+
+-- the record of a node for problem 1 that has kept nothing yet
+abbrev pub empty_record : NodeRecord
+empty_record = record { policy = First; entries = [] }
+
+-- the log of n1, which has logged nothing, and has kept nothing yet in a world for problem 1
+pub record IsNewNode (l : OwnLog) : Type 0 where
+  pub actor : l.actor ≡ actor.Node 1
+  pub opening : l.opening ≡ NodePart (down_node (empty_station First))
+  pub events : l.events ≡ []

@@ -1,0 +1,24 @@
+//! Tests of the loops that nodes and clients run, over lists and with no thread.
+//!
+//! What the contracts say is proved, and is not tried here again. Tried is what no contract sees: that a
+//! turn and a wish come to their end where there is memory, what is sent and how many events are logged
+//! then, and by which fault a loop ends. The crate has no code but tests; each file is named for what it
+//! shows.
+#![tactic(auto)]
+
+#[cfg(test)]
+mod audits;
+#[cfg(test)]
+mod broken;
+#[cfg(test)]
+mod gates;
+#[cfg(test)]
+mod nodes;
+#[cfg(test)]
+mod outcomes;
+#[cfg(test)]
+mod posts;
+#[cfg(test)]
+mod records;
+#[cfg(test)]
+mod worlds;

@@ -1,0 +1,130 @@
+// Posts and sendings, as rows of tests spell them.
+
+use crate::outcomes::Failure;
+use crate::worlds::{attempt, client_id, node_id, resource};
+use bytes::Bytes;
+use lock_messages::{Actor, Message, Mode, Ticket, encode};
+use lossy_link::{Parcel, Post, Sending};
+use std::alloc::Global;
+
+/// The first ticket of c1, to read `a`.
+fn ticket() -> Result<Ticket, Failure> {
+    Ok(Ticket {
+        client: client_id(1)?,
+        attempt: attempt(1)?,
+        mode: Mode::Read,
+        resource: resource(b"a")?,
+    })
+}
+
+/// The message between c1 and n1 that a word names, about that ticket; a stray is for n2.
+fn message(word: &str) -> Result<Message, Failure> {
+    let node = node_id(1)?;
+    let ticket = ticket()?;
+    match word {
+        "request" => Ok(Message::Request(node, ticket)),
+        "stray" => Ok(Message::Request(node_id(2)?, ticket)),
+        "grant" => Ok(Message::Grant(node, ticket)),
+        "release" => Ok(Message::Release(node, ticket.client, ticket.attempt)),
+        "done" => Ok(Message::Done(node, ticket.client, ticket.attempt)),
+        _ => Err(Failure::Wrong(0)),
+    }
+}
+
+/// The frame of that message, or one that is no message's.
+pub(crate) fn frame(alloc: Global, word: &str) -> Result<Bytes, Failure> {
+    if word == "noise" {
+        return Ok(Bytes::from_static(b"noise"));
+    }
+    match encode(alloc, &message(word)?) {
+        Ok(frame) => Ok(frame),
+        Err(_) => Err(Failure::Memory),
+    }
+}
+
+/// The parcel of a number and a word, as `2 grant`.
+fn parcel(alloc: Global, text: &str) -> Result<Parcel, Failure> {
+    let Some((number, word)) = text.split_once(" ") else {
+        return Err(Failure::Wrong(0));
+    };
+    match number.parse() {
+        Ok(number) => Ok(Parcel {
+            number,
+            frame: frame(alloc, word)?,
+        }),
+        Err(_) => Err(Failure::Wrong(0)),
+    }
+}
+
+/// What is said of n1 beside messages: `nudge` or `gone`.
+fn news(text: &str) -> Result<Option<Post>, Failure> {
+    let node = node_id(1)?;
+    match text {
+        "nudge" => Ok(Some(Post::Nudge(node))),
+        "gone" => Ok(Some(Post::Gone(node))),
+        _ => Ok(None),
+    }
+}
+
+fn post(alloc: Global, text: &str) -> Result<Post, Failure> {
+    match news(text)? {
+        Some(post) => Ok(post),
+        None => Ok(Post::Parcel(parcel(alloc, text)?)),
+    }
+}
+
+/// The posts of a row, as `1 request, nudge`.
+pub(crate) fn posts(alloc: Global, row: &str) -> Result<Vec<Post>, Failure> {
+    let mut posts = Vec::new(alloc);
+    for text in row.split(", ") {
+        if !text.is_empty() {
+            posts.push(post(alloc, text)?)?;
+        }
+    }
+    Ok(posts)
+}
+
+fn sending(alloc: Global, to: Actor, text: &str) -> Result<Sending, Failure> {
+    match news(text)? {
+        Some(post) => Ok(Sending::Told(post)),
+        None => Ok(Sending::Sent(to, parcel(alloc, text)?)),
+    }
+}
+
+/// What a row says was sent to the actor and told, as `2 grant, nudge`.
+pub(crate) fn sendings(alloc: Global, to: Actor, row: &str) -> Result<Vec<Sending>, Failure> {
+    let to = &to;
+    let mut sendings = Vec::new(alloc);
+    for text in row.split(", ") {
+        if !text.is_empty() {
+            sendings.push(sending(alloc, *to, text)?)?;
+        }
+    }
+    Ok(sendings)
+}
+
+/// Whether this is what a row says was sent to the actor and told.
+pub(crate) fn is_sent(
+    alloc: Global,
+    to: Actor,
+    sent: &[Sending],
+    row: &str,
+) -> Result<bool, Failure> {
+    let wanted = sendings(alloc, to, row)?;
+    Ok(sent == wanted.as_slice())
+}
+
+/// Whether this is a beginning of what a row says was sent to the actor, and then the news.
+pub(crate) fn is_sent_until(
+    alloc: Global,
+    to: Actor,
+    sent: &[Sending],
+    row: &str,
+    last: &Post,
+) -> Result<bool, Failure> {
+    let wanted = sendings(alloc, to, row)?;
+    let Some((Sending::Told(told), before)) = sent.split_last() else {
+        return Ok(false);
+    };
+    Ok(told == last && wanted.as_slice().starts_with(before))
+}

@@ -1,0 +1,107 @@
+// Worlds in which all are down and nothing is kept, books over them, and a few values.
+
+ghost use Rattle.std.specs.Prelude.{◌≡◌, ◌∷◌, [], IfOk};
+ghost use Rattle.loop_tests.specs.Fresh.{IsNew, IsNewBook, IsUnlogged};
+
+use crate::outcomes::{Failure, of_book};
+use admission_policy::{Admission, FirstProblem};
+use history_book::{Berth, Book};
+use lock_messages::{Actor, Attempt, ClientId, NodeId, ResourceName};
+use lock_model::Problem;
+use std::alloc::Global;
+use vote_weights::Ballot;
+use world_machine::World;
+
+pub(crate) fn node_id(number: u8) -> Result<NodeId, Failure>
+    ensures { IfOk result (λ n. n ≡ number) }
+{
+    NodeId::of(number).ok_or(Failure::Wrong(0))
+}
+
+pub(crate) fn client_id(number: u32) -> Result<ClientId, Failure>
+    ensures { IfOk result (λ c. c ≡ number) }
+{
+    ClientId::of(number).ok_or(Failure::Wrong(0))
+}
+
+pub(crate) fn attempt(number: u64) -> Result<Attempt, Failure> {
+    Attempt::of(number).ok_or(Failure::Wrong(0))
+}
+
+pub(crate) fn resource(name: &[u8]) -> Result<ResourceName, Failure> {
+    ResourceName::of(name).ok_or(Failure::Wrong(0))
+}
+
+/// A policy for problem 1.
+pub(crate) fn policy(alloc: Global) -> Result<Box<dyn Admission + Send>, Failure>
+    ensures { IfOk result (λ p. problem_of p ≡ Problem.First) }
+{
+    let policy: Box<dyn Admission + Send> = Box::new(alloc, FirstProblem)?;
+    Ok(policy)
+}
+
+/// Two nodes with a vote each, of which one reads and two write.
+pub(crate) fn ballot() -> Result<Ballot, Failure>
+    ensures { IfOk result (λ b. b.votes ≡ 1 ∷ 1 ∷ []) }
+{
+    match Ballot::of(&[1, 1], 1, 2) {
+        Ok(ballot) => Ok(ballot),
+        Err(_) => Err(Failure::Wrong(0)),
+    }
+}
+
+/// A world of that ballot and of two clients, in which nothing has happened.
+pub(crate) fn world(alloc: Global, ballot: Ballot) -> Result<World, Failure>
+    requires { ballot.votes ≡ 1 ∷ 1 ∷ [] }
+    ensures { IfOk result (λ w. IsNew ballot w) }
+{
+    let mut policies: Vec<Box<dyn Admission + Send>> = Vec::new(alloc);
+    policies.push(policy(alloc)?)?;
+    policies.push(policy(alloc)?)?;
+    match World::start(alloc, ballot, 2, policies) {
+        Ok(world) => Ok(world),
+        Err(_) => Err(Failure::Memory),
+    }
+}
+
+/// A book over such a world, in which nothing is logged.
+fn book(alloc: Global, ballot: Ballot) -> Result<Book, Failure>
+    requires { ballot.votes ≡ 1 ∷ 1 ∷ [] }
+    ensures { IfOk result (λ b. IsNewBook ballot b) }
+{
+    match Book::over(alloc, 1, world(alloc, ballot)?) {
+        Ok(book) => Ok(book),
+        Err((_, fault)) => Err(of_book(fault)),
+    }
+}
+
+/// The berth of an actor that was given none, in a book in which nothing is logged.
+fn berth_of(ballot: Ballot, book: &mut Book, actor: Actor) -> Result<Berth, Failure>
+    requires { IsNewBook ballot book.old }
+    ensures book { IsNewBook ballot book.new }
+    ensures berth { IfOk result (λ k. IsUnlogged ballot actor k book.new) }
+    ensures table { book.new.table ≡ book.old.table }
+{
+    let _ = ballot;
+    match book.berth(actor) {
+        Ok(Some(berth)) => Ok(berth),
+        Ok(None) => Err(Failure::Wrong(0)),
+        Err(fault) => Err(of_book(fault)),
+    }
+}
+
+/// A new book of that ballot, with the berths of a node and of c1.
+pub(crate) fn opened(
+    alloc: Global,
+    ballot: Ballot,
+    node: NodeId,
+) -> Result<(Book, Berth, Berth), Failure>
+    requires { ballot.votes ≡ 1 ∷ 1 ∷ [] }
+    ensures node { IfOk result (λ r. IsUnlogged ballot (Actor.Node node) r.1 r.0) }
+    ensures client { IfOk result (λ r. IsUnlogged ballot (Actor.Client 1) r.2 r.0) }
+{
+    let mut book = book(alloc, ballot)?;
+    let one = berth_of(ballot, &mut book, Actor::Node(node))?;
+    let two = berth_of(ballot, &mut book, Actor::Client(client_id(1)?))?;
+    Ok((book, one, two))
+}
