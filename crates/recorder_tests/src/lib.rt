@@ -1,4 +1,5 @@
-//! Tests of recorders by their public calls alone: an actor that logs in a book of its own.
+//! Tests of recorders by their public calls alone: an actor that logs in a book of its own, and two threads
+//! that log in one book.
 //!
 //! It has no code but tests, and stands on the crates that it tests. Each file is named for what it
 //! shows.
@@ -6,5 +7,7 @@
 
 #[cfg(test)]
 mod alone;
+#[cfg(test)]
+mod threads;
 #[cfg(test)]
 mod worlds;

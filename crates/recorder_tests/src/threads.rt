@@ -1,0 +1,148 @@
+//! Two threads that log in one book at the same time. A test ends with an error that begins with `wrong`
+//! where an answer is wrong.
+
+ghost use Rattle.std.specs.Prelude.{◌≡◌, IfOk};
+
+use crate::worlds::{client, world};
+use book_recorders::{BookName, BookRecorder, Logs, Named};
+use history_book::{Berth, Book};
+use journal_audit::{Verdict, audit};
+use lock_messages::Actor;
+use std::alloc::Global;
+use std::marker::Brand;
+use std::str;
+use std::sync::{Mutex, Wait};
+use std::test::Fail;
+use std::thread::{Threads, join};
+use world_model::{Age, Event};
+
+/// How often each actor rises and falls.
+const ROUNDS: u32 = 500;
+
+/// Lets the actor rise and fall, and answers how many of its events were logged.
+fn rise_and_fall<B: BookName, K: Logs, R: Wait + Copy>(
+    mut recorder: BookRecorder<'_, B, K, R>,
+    actor: &Actor,
+) -> u32 {
+    let mut logged = 0u32;
+    for _ in 0..ROUNDS {
+        let up = recorder.log_event(Event::Rise(*actor, Age::Old)).is_ok();
+        let down = recorder.log_event(Event::Fall(*actor)).is_ok();
+        logged = logged.wrapping_add(u32::from(up) + u32::from(down));
+    }
+    logged
+}
+
+/// Lets two actors rise and fall, each in a thread of its own.
+fn both<B: BookName + Send + Sync, K: Logs + Send, R: Threads + Wait + Copy + Send + Sync>(
+    rt: R,
+    book: &Mutex<Named<B, K>>,
+    one: (Berth, Actor),
+    two: (Berth, Actor),
+) -> (u32, u32)
+    requires one { one.0.table ≡ B.table }
+    requires two { two.0.table ≡ B.table }
+{
+    let first = BookRecorder::of(rt, book, one.0);
+    let second = BookRecorder::of(rt, book, two.0);
+    let (one, two) = (one.1, two.1);
+    join(
+        &rt,
+        move || rise_and_fall(first, &one),
+        move || rise_and_fall(second, &two),
+    )
+}
+
+/// The book behind a lock, while two actors rise and fall; and how many events of each were logged.
+fn whole<B: BookName + Send + Sync, K: Logs + Send, R: Threads + Wait + Copy + Send + Sync>(
+    rt: R,
+    book: K,
+    one: (Berth, Actor),
+    two: (Berth, Actor),
+) -> (K, u32, u32)
+    requires book { (K.book book).table ≡ B.table }
+    requires one { one.0.table ≡ B.table }
+    requires two { two.0.table ≡ B.table }
+{
+    let lock = Mutex::new(Named::<B, K>::of(book));
+    let (one, two) = both(rt, &lock, one, two);
+    (lock.into_inner().into_book(), one, two)
+}
+
+// The name of the book is picked here, where its berths are at hand.
+fn in_two_threads<R: Threads + Wait + Copy + Send + Sync>(
+    rt: R,
+    book: Book,
+    one: (Berth, Actor),
+    two: (Berth, Actor),
+) -> (Book, u32, u32)
+    requires one { one.0.table ≡ book.table }
+    requires two { two.0.table ≡ book.table }
+{
+    whole::<Brand, Book, R>(rt, book, one, two)
+}
+
+fn berth(book: &mut Book, actor: &Actor) -> Result<Berth, Fail>
+    requires { Unit {0} }
+    ensures { IfOk result (λ k. (k.table ≡ book.old.table) × (book.new.table ≡ book.old.table)) }
+{
+    match book.berth(*actor) {
+        Ok(Some(berth)) => Ok(berth),
+        Ok(None) => Err("wrong: no berth".into()),
+        Err(_) => Err("no memory for a berth".into()),
+    }
+}
+
+/// How many lines of the journal are this one.
+fn count(journal: &str, line: &str) -> usize {
+    journal.lines().filter(|other| *other == line).count()
+}
+
+/// Whether the journal has each event of both actors, as often as it was logged.
+fn has_all(journal: &[u8]) -> Result<(), Fail> {
+    let Ok(journal) = str::from_utf8(journal) else {
+        return Err("wrong: the journal is no text".into());
+    };
+    for line in ["rise c1 old", "fall c1", "rise c2 old", "fall c2"] {
+        if count(journal, line) != ROUNDS as usize {
+            return Err("wrong: an event is missing, or stands twice".into());
+        }
+    }
+    Ok(())
+}
+
+/// Whether an audit from the world finds the journal sound.
+fn is_sound(alloc: Global, journal: &[u8]) -> Result<(), Fail> {
+    let mut told = Vec::new(alloc);
+    match audit(alloc, world(alloc)?, journal, &mut told) {
+        Ok(Verdict::Sound(lines)) if lines == 4 * ROUNDS => Ok(()),
+        Ok(_) => Err("wrong: the journal is not sound".into()),
+        Err(_) => Err("no memory for an audit".into()),
+    }
+}
+
+fn judge(alloc: Global, book: &Book) -> Result<(), Fail>
+    requires { Unit {0} }
+{
+    let mut journal = Vec::new(alloc);
+    if book.write_journal(alloc, &mut journal).is_err() {
+        return Err("no memory for a journal".into());
+    }
+    has_all(journal.as_slice())?;
+    is_sound(alloc, journal.as_slice())
+}
+
+#[test]
+fn two_threads_log_in_one_book(rt: HostRuntime) -> Result<(), Fail> {
+    let Ok(mut book) = Book::over(rt.alloc(), 7, world(rt.alloc())?) else {
+        return Err("no memory for a book".into());
+    };
+    let (first, second) = (client(1)?, client(2)?);
+    let one = berth(&mut book, &first)?;
+    let two = berth(&mut book, &second)?;
+    let (book, one, two) = in_two_threads(rt, book, (one, first), (two, second));
+    if one != 2 * ROUNDS || two != 2 * ROUNDS {
+        return Err("no memory to log in".into());
+    }
+    judge(rt.alloc(), &book)
+}
