@@ -13,6 +13,8 @@ mod broken;
 #[cfg(test)]
 mod gates;
 #[cfg(test)]
+mod node_runs;
+#[cfg(test)]
 mod nodes;
 #[cfg(test)]
 mod outcomes;

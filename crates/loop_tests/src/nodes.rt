@@ -1,216 +1,14 @@
 //! A node's run over lists: its turns, what it drops, and how it ends.
 
-ghost use Rattle.std.specs.Prelude.{◌≡◌, IfOk, OnOk};
-ghost use Rattle.stable_record.specs.Records.{IsNodeRecord, node_record_of};
-ghost use Rattle.book_recorders.specs.Sharing.{log_of};
-ghost use Rattle.loop_tests.specs.Fresh.{IsNewNode, empty_record};
-
-use crate::audits::journal_of;
-use crate::gates::OpenGate;
-use crate::outcomes::{Failure, Outcome, check, of_book};
-use crate::posts::{is_sent, is_sent_until, posts};
-use crate::records::{Device, record_on};
-use crate::worlds::{ballot, client_id, node_id, opened, policy, world};
-use book_recorders::{BookName, BookRecorder, Logs, Named};
+use crate::node_runs::{Ended, Row, does, end_of};
+use crate::outcomes::{Failure, Outcome, check};
+use crate::records::Device;
+use crate::worlds::node_id;
 use event_recorders::RunFault;
-use history_book::{Berth, Book};
-use history_check::read_event;
-use lock_messages::Actor;
-use lock_model::Problem;
-use lossy_link::{ListLink, Post, Sending};
-use node_loop::run_node;
-use stable_record::{Entries, Leaves, NodeRecord, node_bytes};
+use lossy_link::{Post, Sending};
+use stable_record::Leaves;
 use std::alloc::Global;
-use std::marker::Brand;
-use std::sync::{Mutex, Wait};
-
-/// What a node's loop answers.
-type Answer = Result<(), RunFault>;
-
-/// The record of a node that has kept nothing yet.
-fn nothing_kept(alloc: Global) -> Result<Vec<u8>, Failure>
-    ensures bytes { IfOk result (λ v. v.items ≡ node_record_of empty_record) }
-    ensures good { OnOk result (IsNodeRecord empty_record) }
-{
-    let record = NodeRecord {
-        policy: Problem::First,
-        entries: Entries::new(alloc),
-    };
-    match node_bytes(alloc, &record) {
-        Ok(bytes) => Ok(bytes),
-        Err(_) => Err(Failure::Memory),
-    }
-}
-
-/// Logs the events of these lines.
-fn tells<B: BookName, K: Logs, R: Wait + Copy>(
-    rt: R,
-    lock: &Mutex<Named<B, K>>,
-    berth: Berth,
-    lines: &[u8],
-) -> Outcome
-    requires { berth.table ≡ B.table }
-{
-    let Ok(text) = str::from_utf8(lines) else {
-        return Err(Failure::Wrong(0));
-    };
-    let mut recorder = BookRecorder::of(rt, lock, berth);
-    for line in text.lines() {
-        let Ok(event) = read_event(line.as_bytes()) else {
-            return Err(Failure::Wrong(0));
-        };
-        match recorder.log_event(event) {
-            Ok(_) => {}
-            Err(fault) => return Err(of_book(fault)),
-        }
-    }
-    Ok(())
-}
-
-/// Runs n1 with a record on this device over these posts; answers the link, and what the loop answered.
-#[tactic(auto, using(crate::proofs::Ready::node_ready))]
-fn run_over<B: BookName, K: Logs, R: Wait + Copy>(
-    rt: R,
-    alloc: Global,
-    lock: &Mutex<Named<B, K>>,
-    berth: Berth,
-    device: Device,
-    posts: Vec<Post>,
-) -> Result<(ListLink, Answer), Failure>
-    requires table { berth.table ≡ B.table }
-    requires log { IsNewNode (log_of berth) }
-{
-    let stable = record_on(alloc, device, nothing_kept(alloc)?.as_slice())?;
-    let policy = policy(alloc)?;
-    let node = node_id(1)?;
-    let mut recorder = BookRecorder::of(rt, lock, berth);
-    let mut link = ListLink::of(posts);
-    let answer = run_node(
-        &rt,
-        alloc,
-        node,
-        stable,
-        policy,
-        &mut recorder,
-        &mut link,
-        &OpenGate,
-    );
-    Ok((link, answer))
-}
-
-/// Lets c1 log what it asks, and then runs n1; answers the book too.
-fn run<B: BookName, K: Logs + Drop, R: Wait + Copy>(
-    rt: R,
-    alloc: Global,
-    book: K,
-    berths: (Berth, Berth),
-    device: Device,
-    lines: &[u8],
-    posts: Vec<Post>,
-) -> Result<(K, ListLink, Answer), Failure>
-    requires book { (K.book book).table ≡ B.table }
-    requires node { berths.0.table ≡ B.table }
-    requires client { berths.1.table ≡ B.table }
-    requires log { IsNewNode (log_of berths.0) }
-{
-    let lock = Mutex::new(Named::<B, K>::of(book));
-    let (one, two) = berths;
-    tells(rt, &lock, two, lines)?;
-    let (link, answer) = run_over(rt, alloc, &lock, one, device, posts)?;
-    Ok((lock.into_inner().into_book(), link, answer))
-}
-
-/// How a run ended: the journal, which an audit finds sound, the link, and what the loop answered.
-struct Ended {
-    journal: Vec<u8>,
-    link: ListLink,
-    answer: Answer,
-}
-
-/// How n1 ends with a record on this device over these posts, once c1 has logged these lines.
-#[tactic(auto, using(crate::proofs::Ready::node_log))]
-fn end_of<R: Wait + Copy>(
-    rt: R,
-    alloc: Global,
-    device: Device,
-    asks: &str,
-    texts: &str,
-) -> Result<Ended, Failure> {
-    let ballot = ballot()?;
-    let (book, one, two) = opened(alloc, ballot, node_id(1)?)?;
-    let berths = (one, two);
-    let posts = posts(alloc, texts)?;
-    let (book, link, answer) = run::<Brand, Book, R>(
-        rt,
-        alloc,
-        book,
-        berths,
-        device,
-        asks.as_bytes(),
-        posts,
-    )?;
-    let journal = journal_of(alloc, &book, world(alloc, ballot)?)?;
-    Ok(Ended {
-        journal,
-        link,
-        answer,
-    })
-}
-
-/// A run of n1: what comes over its link, what it logs once c1 has asked, and what it sends to c1 and
-/// tells.
-#[derive(Clone, Copy)]
-struct Row {
-    posts: &'static str,
-    events: &'static str,
-    sent: &'static str,
-}
-
-/// Whether a journal is what c1 and then n1 log; where the run was cut off, whether it begins that.
-fn is_logged(journal: &[u8], asks: &str, events: &str, is_cut: bool) -> bool {
-    match journal.strip_prefix(asks.as_bytes()) {
-        Some(rest) if is_cut => events.as_bytes().starts_with(rest),
-        Some(rest) => rest == events.as_bytes(),
-        None => false,
-    }
-}
-
-/// Whether n1 sent what the row says; where memory was refused to it (914), whether it sent a beginning
-/// of that and told that it is gone. After another fault that is told as far as there is memory for it,
-/// and the test ends where there was none.
-fn has_sent(alloc: Global, sent: &[Sending], row: &Row, answer: Answer) -> Result<bool, Failure> {
-    let client = Actor::Client(client_id(1)?);
-    if answer == Err(RunFault::Memory) {
-        let gone = Post::Gone(node_id(1)?);
-        return is_sent_until(alloc, client, sent, row.sent, &gone);
-    }
-    if answer.is_err() && sent.is_empty() {
-        return Err(Failure::Memory);
-    }
-    is_sent(alloc, client, sent, row.sent)
-}
-
-/// Ends the test unless n1 does what the row says, and answers so. Where memory was refused to it (914)
-/// it has logged a beginning of that.
-fn does<R: Wait + Copy>(
-    rt: R,
-    alloc: Global,
-    device: Device,
-    asks: &str,
-    row: &Row,
-    expected: Answer,
-) -> Outcome {
-    let Ended {
-        journal,
-        link,
-        answer,
-    } = end_of(rt, alloc, device, asks, row.posts)?;
-    let is_cut = answer == Err(RunFault::Memory);
-    let has_sent = has_sent(alloc, link.sent(), row, answer)?;
-    let is_logged = is_logged(&journal, asks, row.events, is_cut);
-    check(has_sent && is_logged && (is_cut || answer == expected), 0)?;
-    if is_cut { Err(Failure::Memory) } else { Ok(()) }
-}
+use std::sync::Wait;
 
 /// How c1 asks n1: message 1.
 const ASKS: &str = "\
@@ -246,6 +44,42 @@ const TWO_TURNS: Row = Row {
 #[test]
 fn two_turns(rt: HostRuntime) -> Outcome {
     does(rt, rt.alloc(), Device::Memory, ASKS, &TWO_TURNS, Ok(()))
+}
+
+/// How c1 asks n1, gives up and releases, by the messages 1 and 2, and how c2 asks to write, by message 3.
+const TWO_ASK: &str = "\
+rise c1 old
+begin c1 read a
+try c1
+kept c1
+sayto c1 n1
+leave c1
+sayto c1 n1
+rise c2 old
+begin c2 write a
+try c2
+kept c2
+sayto c2 n1
+";
+
+/// The writer waits until the reader's release is taken; then one turn has two replies, with numbers one
+/// after the other.
+const TWO_REPLIES: Row = Row {
+    posts: "1 request, 3 request c2, 2 release",
+    events: "rise n1 old\ntake n1 1\ntry n1\nkept n1\nsay n1\ntake n1 3\ntry n1\nkept n1\nsay n1\ntake n1 2\ntry n1\nkept n1\nsay n1\n",
+    sent: "4 grant, 5 busy c2, 6 done, 7 grant c2",
+};
+
+#[test]
+fn a_turn_with_two_replies(rt: HostRuntime) -> Outcome {
+    does(
+        rt,
+        rt.alloc(),
+        Device::Memory,
+        TWO_ASK,
+        &TWO_REPLIES,
+        Ok(()),
+    )
 }
 
 /// What comes and logs nothing: nothing at all, what is no message for n1, a number that was never sent,

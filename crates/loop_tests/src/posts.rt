@@ -7,27 +7,35 @@ use lock_messages::{Actor, Message, Mode, Ticket, encode};
 use lossy_link::{Parcel, Post, Sending};
 use std::alloc::Global;
 
-/// The first ticket of c1, to read `a`.
-fn ticket() -> Result<Ticket, Failure> {
+/// The first ticket of a client, for `a`.
+fn ticket(client: u32, mode: Mode) -> Result<Ticket, Failure> {
     Ok(Ticket {
-        client: client_id(1)?,
+        client: client_id(client)?,
         attempt: attempt(1)?,
-        mode: Mode::Read,
+        mode,
         resource: resource(b"a")?,
     })
 }
 
-/// The message between c1 and n1 that a word names, about that ticket; a stray is for n2.
-fn message(word: &str) -> Result<Message, Failure> {
+/// The message with n1 that a word names, about that ticket; a stray is for n2.
+fn about(word: &str, ticket: Ticket) -> Result<Message, Failure> {
     let node = node_id(1)?;
-    let ticket = ticket()?;
     match word {
         "request" => Ok(Message::Request(node, ticket)),
         "stray" => Ok(Message::Request(node_id(2)?, ticket)),
         "grant" => Ok(Message::Grant(node, ticket)),
+        "busy" => Ok(Message::Busy(node, ticket)),
         "release" => Ok(Message::Release(node, ticket.client, ticket.attempt)),
         "done" => Ok(Message::Done(node, ticket.client, ticket.attempt)),
         _ => Err(Failure::Wrong(0)),
+    }
+}
+
+/// The message of a text: `grant` is about c1's ticket to read, `grant c2` about c2's to write.
+fn message(text: &str) -> Result<Message, Failure> {
+    match text.strip_suffix(" c2") {
+        Some(word) => about(word, ticket(2, Mode::Write)?),
+        None => about(text, ticket(1, Mode::Read)?),
     }
 }
 
@@ -87,11 +95,15 @@ pub(crate) fn posts(alloc: Global, row: &str) -> Result<Vec<Post>, Failure> {
 fn sending(alloc: Global, to: Actor, text: &str) -> Result<Sending, Failure> {
     match news(text)? {
         Some(post) => Ok(Sending::Told(post)),
+        None if text.ends_with(" c2") => {
+            let other = Actor::Client(client_id(2)?);
+            Ok(Sending::Sent(other, parcel(alloc, text)?))
+        }
         None => Ok(Sending::Sent(to, parcel(alloc, text)?)),
     }
 }
 
-/// What a row says was sent to the actor and told, as `2 grant, nudge`.
+/// What a row says was sent to the actor and told, as `2 grant, nudge`; what is about c2 goes to c2.
 pub(crate) fn sendings(alloc: Global, to: Actor, row: &str) -> Result<Vec<Sending>, Failure> {
     let to = &to;
     let mut sendings = Vec::new(alloc);

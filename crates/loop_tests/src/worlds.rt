@@ -97,6 +97,7 @@ pub(crate) fn opened(
     node: NodeId,
 ) -> Result<(Book, Berth, Berth), Failure>
     requires { ballot.votes ≡ 1 ∷ 1 ∷ [] }
+    ensures book { IfOk result (λ r. IsNewBook ballot r.0) }
     ensures node { IfOk result (λ r. IsUnlogged ballot (Actor.Node node) r.1 r.0) }
     ensures client { IfOk result (λ r. IsUnlogged ballot (Actor.Client 1) r.2 r.0) }
 {
@@ -104,4 +105,20 @@ pub(crate) fn opened(
     let one = berth_of(ballot, &mut book, Actor::Node(node))?;
     let two = berth_of(ballot, &mut book, Actor::Client(client_id(1)?))?;
     Ok((book, one, two))
+}
+
+/// The same, with the berth of c2 too.
+pub(crate) fn all_opened(
+    alloc: Global,
+    ballot: Ballot,
+    node: NodeId,
+) -> Result<(Book, Berth, Berth, Berth), Failure>
+    requires { ballot.votes ≡ 1 ∷ 1 ∷ [] }
+    ensures node { IfOk result (λ r. IsUnlogged ballot (Actor.Node node) r.1 r.0) }
+    ensures one { IfOk result (λ r. IsUnlogged ballot (Actor.Client 1) r.2 r.0) }
+    ensures two { IfOk result (λ r. IsUnlogged ballot (Actor.Client 2) r.3 r.0) }
+{
+    let (mut book, node, one) = opened(alloc, ballot, node)?;
+    let two = berth_of(ballot, &mut book, Actor::Client(client_id(2)?))?;
+    Ok((book, node, one, two))
 }
