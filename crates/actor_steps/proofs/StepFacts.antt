@@ -5,7 +5,6 @@ use Rattle.lock_messages.specs.declared.ids.Actor.{Actor}
 use Rattle.lock_messages.specs.declared.ids.Actor.TheVariants as actor
 use Rattle.lock_model.specs.Ballots.{Ballot}
 use Rattle.lock_model.specs.Decisions.{Among}
-use Rattle.stable_record.specs.Finding.{FindsOnlyOr}
 use Rattle.world_model.specs.declared.events.Age.{Age}
 use Rattle.world_model.specs.declared.events.Age.TheVariants.{Old, New}
 use Rattle.world_model.specs.declared.events.Effect.{Effect}
@@ -20,7 +19,9 @@ use Rattle.world_model.specs.declared.exact.ExactClientPhase.TheVariants as clie
 use Rattle.world_model.specs.ExactWorlds.{actor_of}
 use Rattle.world_model.specs.Parts.{place, is_own, Part, NoPart, NodePart, ClientPart, own_refusal, after_own}
 use Rattle.event_recorders.specs.OwnLogs.{OwnLog, part_now, IsAdded, kept_in, tried_in, FindsKept, FindsPart, FindsAfter, IsUnused, IsDownAtRest}
-use Rattle.actor_steps.specs.Steps.{HasFound, IsKept, IsRisenAgain, IsTrying, IsFallen, IsRising}
+use Rattle.actor_steps.specs.declared.keeping.Keeping.{Keeping}
+use Rattle.actor_steps.specs.declared.keeping.Keeping.TheVariants as keeping
+use Rattle.actor_steps.specs.Steps.{HasFound, HasFailedPut, IsPut, IsKept, IsRisenAgain, IsTrying, IsFallen, IsRising}
 
 -- the events of an actor are its own
 
@@ -210,9 +211,11 @@ pub still_added : (l m l' : OwnLog) (e : Event) (done : Effect) → IsAdded l e 
 still_added l m l' e done is same = subst (λ x. IsAdded l e done x) (sym same) is
 
 -- the record failed as these bytes were tried
-pub failed_finds : (l : OwnLog) (who : Actor) (bytes : List ℕ) (before strings : List (List ℕ)) → IsTrying l who bytes before → FindsOnlyOr before bytes strings → FindsPart (part_now l) strings
-failed_finds l who bytes before strings is only =
-    tries-to (part_now l) bytes strings is.tried (λ found there. either found (only found there))
+pub failed_finds : (l : OwnLog) (who : Actor) (bytes : List ℕ) (before strings : List (List ℕ)) (k : Keeping) (stuck : Bool) → IsTrying l who bytes before → IsPut k bytes before strings stuck → k ≡ keeping.Failed →
+    FindsPart (part_now l) strings
+failed_finds l who bytes before strings k stuck is put failed =
+    let kept : HasFailedPut bytes before strings = subst (λ (x : Keeping). IsPut x bytes before strings stuck) failed put in
+    tries-to (part_now l) bytes strings is.tried (λ found there. either found (kept.only found there))
   where
     either : (found : List ℕ) → Among found before ⊎ (found ≡ bytes) → (found ≡ kept_in (part_now l)) ⊎ (found ≡ bytes)
     either found (inl a) = is.finds found a

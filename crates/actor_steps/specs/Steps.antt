@@ -2,7 +2,7 @@
 use Rattle.std.specs.Prelude.{◌≡◌, ◌⊎◌, ℕ, ◌+◌, ◌≤◌, Bool, false, List, [], ◌∷◌, Some, None}
 use Rattle.lock_messages.specs.declared.ids.Actor.{Actor}
 use Rattle.lock_model.specs.Decisions.{Among}
-use Rattle.stable_record.specs.Finding.{FindsOnly, most_failures}
+use Rattle.stable_record.specs.Finding.{FindsOnly, FindsOnlyOr, most_failures}
 use Rattle.world_model.specs.declared.events.Age.{Age}
 use Rattle.world_model.specs.declared.events.Age.TheVariants.{Old, New}
 use Rattle.world_model.specs.declared.events.Effect.TheVariants as effect
@@ -12,6 +12,8 @@ use Rattle.history_book.specs.declared.faults.BookFault.{BookFault}
 use Rattle.history_book.specs.declared.faults.BookFault.TheVariants as book
 use Rattle.event_recorders.specs.declared.faults.RunFault.{RunFault}
 use Rattle.event_recorders.specs.declared.faults.RunFault.TheVariants as fault
+use Rattle.actor_steps.specs.declared.keeping.Keeping.{Keeping}
+use Rattle.actor_steps.specs.declared.keeping.Keeping.TheVariants as keeping
 use Rattle.event_recorders.specs.OwnLogs.{OwnLog, part_now, kept_in, tried_in, FindsKept, FindsPart, adds, IsAdded}
 
 -- want of memory is told as such, and all else as the book's refusal
@@ -53,6 +55,15 @@ pub record HasFound (bytes : List ℕ) (l : OwnLog) (strings : List (List ℕ)) 
   pub found : strings ≡ bytes ∷ []
   pub free : stuck ≡ false
   pub finds : FindsPart (part_now l) strings
+
+-- the device failed in a keep of these bytes: a restart finds them, or what it could find before
+pub record HasFailedPut (bytes : List ℕ) (before now : List (List ℕ)) : Type 0 where
+  pub only : FindsOnlyOr before bytes now
+
+-- What came of a keep: a restart finds just these bytes, and the record isn't stuck; or the device failed.
+abbrev pub IsPut : Keeping → List ℕ → List (List ℕ) → List (List ℕ) → Bool → Type 0
+IsPut keeping.Kept bytes before now stuck = (now ≡ bytes ∷ []) × (stuck ≡ false)
+IsPut keeping.Failed bytes before now stuck = HasFailedPut bytes before now
 
 -- the actor tried, and has kept
 pub record IsKept (l : OwnLog) (who : Actor) (l' : OwnLog) : Type 0 where

@@ -1,11 +1,10 @@
 // Keeping a record.
 
-ghost use Rattle.std.specs.Prelude.{◌≡◌, ◌≤◌, ◌⊎◌, false, None, Some, Ok, OnOk, IfErr, length, ℕ, List, [], ◌∷◌};
+ghost use Rattle.std.specs.Prelude.{◌≡◌, ◌≤◌, ◌⊎◌, ◌↔◌, true, false, None, Some, Ok, Err, OnOk, IfOk, IfErr, length, ℕ, List, [], ◌∷◌};
 ghost use Rattle.world_model.specs.Parts.{own_refusal, after_own};
 ghost use Rattle.event_recorders.specs.OwnLogs.{part_now, FindsPart, IsAdded, tried_in};
-ghost use Rattle.stable_record.specs.Finding.{FindsOnlyOr};
 ghost use Rattle.stable_record.specs.declared.formats.TheConstants.{MAX_RECORD_LEN};
-ghost use Rattle.actor_steps.specs.Steps.{HasFound, IsKept, IsKeepingFault, IsBookFault, IsTrying};
+ghost use Rattle.actor_steps.specs.Steps.{HasFound, IsKept, IsKeepingFault, IsBookFault, IsTrying, IsPut};
 
 use crate::logging::log_own;
 use event_recorders::{Gate, Recorder, RunFault};
@@ -63,19 +62,21 @@ fn log_kept<R: Recorder>(
     Ok(())
 }
 
-/// Keeps the bytes in a record that isn't stuck.
+/// Keeps the bytes in a record that isn't stuck. The errors: no change of the record can be numbered any
+/// more (916), exactly where it is so, or memory was refused (914).
 fn put(bytes: &[u8], stable: &mut dyn StableRecord) -> Result<Keeping, RunFault>
     requires fits { length bytes.now ≤ MAX_RECORD_LEN }
     requires free { stuck_of stable.old ≡ false }
-    ensures kept { result ≡ Ok Keeping.Kept → (finds stable.new ≡ bytes.now ∷ []) × (stuck_of stable.new ≡ false) }
-    ensures failed { result ≡ Ok Keeping.Failed → FindsOnlyOr (finds stable.old) bytes.now (finds stable.new) }
+    ensures put { IfOk result (λ keeping. IsPut keeping bytes.now (finds stable.old) (finds stable.new) (stuck_of stable.new)) }
     ensures refused { IfErr result (λ fault. (fault ≡ RunFault.Spent) ⊎ (fault ≡ RunFault.Memory)) }
+    ensures spent { (result ≡ Err RunFault.Spent) ↔ (spent_of stable.old ≡ true) }
 {
     match stable.keep(bytes) {
         Ok(()) => Ok(Keeping::Kept),
         Err(RecordFault::Device) => Ok(Keeping::Failed),
         Err(RecordFault::Spent) => Err(RunFault::Spent),
-        Err(_) => Err(RunFault::Memory),
+        Err(RecordFault::Memory) => Err(RunFault::Memory),
+        Err(_) => unreachable!(),
     }
 }
 
@@ -86,7 +87,7 @@ fn put(bytes: &[u8], stable: &mut dyn StableRecord) -> Result<Keeping, RunFault>
 /// keep, at most `MAX_RECORD_LEN`, that a restart finds in the record what the actor keeps, and that the
 /// record isn't stuck. The errors log nothing but, perhaps, the Try and, where the book refuses the Kept,
 /// no more: memory was refused (914), the book is full or another's (915), no change of the record can be
-/// numbered any more (916).
+/// numbered any more (916, which comes only where that is so).
 #[tactic(auto, using(crate::proofs::StepFacts::both_kept, crate::proofs::StepFacts::still_added, crate::proofs::StepFacts::failed_finds))]
 pub fn keep_next<R: Recorder, G: Gate>(
     actor: Actor,
@@ -104,6 +105,7 @@ pub fn keep_next<R: Recorder, G: Gate>(
     ensures kept { result ≡ Ok Keeping.Kept → IsKept (R.own_log recorder.old) actor (R.own_log recorder.new) × HasFound bytes.now (R.own_log recorder.new) (finds stable.new) (stuck_of stable.new) }
     ensures failed { result ≡ Ok Keeping.Failed → IsAdded (R.own_log recorder.old) (Event.Try actor) Effect.Tried (R.own_log recorder.new) × FindsPart (part_now (R.own_log recorder.new)) (finds stable.new) }
     ensures refused { IfErr result (λ fault. IsKeepingFault fault × ((R.own_log recorder.new ≡ R.own_log recorder.old) ⊎ IsAdded (R.own_log recorder.old) (Event.Try actor) Effect.Tried (R.own_log recorder.new))) }
+    ensures spent { result ≡ Err RunFault.Spent → spent_of stable.old ≡ true }
 {
     let actor = &actor;
     log_try(*actor, bytes, &*stable, recorder)?;

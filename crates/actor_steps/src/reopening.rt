@@ -18,7 +18,8 @@ fn reopen_once(stable: &mut dyn StableRecord) -> Result<Option<Vec<u8>>, RunFaul
     match stable.reopen() {
         Ok(bytes) => Ok(Some(bytes)),
         Err(RecordFault::Device) => Ok(None),
-        Err(_) => Err(RunFault::Memory),
+        Err(RecordFault::Memory) => Err(RunFault::Memory),
+        Err(_) => unreachable!(),
     }
 }
 

@@ -2,7 +2,7 @@ use Rattle.std.proofs.Common.{◌≡◌, Err, subst}
 use Rattle.actor_steps.proofs.keeping.put.Goals as goal
 
 -- the seventh clause of `keep` tells of its device
-pub returns-in-Err-Device-clause-failed : goal.returns-in-Err-Device-clause-failed
-returns-in-Err-Device-clause-failed g c =
+pub returns-in-Err-Device-clause-put : goal.returns-in-Err-Device-clause-put
+returns-in-Err-Device-clause-put g c =
     let failed = c.keep.ensures.1.1.1.1.1.1.0 (subst (λ f. c.keep.result ≡ Err f) c.in-Err-Device.field-0-is c.in-Err-Device.is) in
-    λ is. failed.1
+    record { only = failed.1 }
