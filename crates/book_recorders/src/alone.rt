@@ -93,6 +93,7 @@ impl<K: Logs> Recorder for ListRecorder<K> {
     ghost own_log = { λ r. log_of r.berth };
 
     /// Logs an event of the actor in the recorder's own book, as `log_event` does.
+    #[tactic(auto, using(crate::proofs::Logging::added_if, crate::proofs::Logging::recorder_if))]
     fn log(&mut self, event: Event, stable: &dyn StableRecord) -> Result<Effect, BookFault> {
         let _ = stable;
         steps_change_one_part();

@@ -69,6 +69,7 @@ impl<'a, B: BookName, K: Logs, R: Wait + Copy> Recorder for BookRecorder<'a, B, 
     ghost own_log = { λ k. log_of k };
 
     /// Logs an event of the berth's actor in the book, as `log_event` does.
+    #[tactic(auto, using(crate::proofs::Logging::added_if, crate::proofs::Logging::recorder_if))]
     fn log(&mut self, event: Event, stable: &dyn StableRecord) -> Result<Effect, BookFault> {
         let _ = stable;
         steps_change_one_part();
