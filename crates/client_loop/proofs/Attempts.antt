@@ -74,6 +74,15 @@ pub rises-again : (l l' : OwnLog) (finds finds' : List (List ℕ)) (bytes tried 
 rises-again l l' finds finds' bytes tried slice stuck c who read attempt range h (age, risen, new) found same is only =
     rests-after l l' finds finds' bytes stuck c who age attempt range h risen found (reads bytes slice read attempt same is only)
 
+-- what is found after a fall is the record of an attempt
+pub reads-again : (l l' : OwnLog) (finds finds' : List (List ℕ)) (bytes tried slice : List ℕ) (stuck : Bool) (c : Client) (who : ℕ) (read : Result ℕ RecordFault) → c.attempt ≤ MAX_ATTEMPT → HasTried l finds c →
+    ((age : Age) × IsRisenAgain l (actor.Client who) age l' × ((age ≡ New) ↔ (bytes ≡ tried))) → HasFound bytes l' finds' stuck → slice ≡ bytes →
+    ((a : ℕ) → a ≤ MAX_ATTEMPT → slice ≡ client_record_of a → read ≡ Ok a) → (a : ℕ) × (read ≡ Ok a)
+reads-again l l' finds finds' bytes tried slice stuck c who read range h (age, risen, new) found same only =
+    let part = risen-part l l' finds c who age h risen in
+    let bytes_are : bytes ≡ client_record_of (risen_attempt age h.before c.attempt) = found.kept ∙ ap (λ (p : Part). kept_in p) part in
+    (risen_attempt age h.before c.attempt, only _ (risen-range age h.before c.attempt h.next range) (same ∙ bytes_are))
+
 -- rising again leaves the visits
 pub risen-visits : (l l' : OwnLog) (who : ℕ) (bytes tried : List ℕ) → ((age : Age) × IsRisenAgain l (actor.Client who) age l' × ((age ≡ New) ↔ (bytes ≡ tried))) → visits_of l' ≡ visits_of l
 risen-visits l l' who bytes tried (age, risen, new) = visits-adds _ _ _ _ risen.risen ∙ visits-adds _ _ _ _ risen.fallen

@@ -1,12 +1,14 @@
 // Making an attempt: its number is chosen, and kept before it is used.
 
-ghost use Rattle.std.specs.Prelude.{◌≡◌, OnOk, false, Some};
+ghost use Rattle.std.specs.Prelude.{◌≡◌, OnOk, false, Some, Ok};
+ghost use Rattle.client_core.specs.Clients.{phase_of};
+ghost use Rattle.client_core.specs.declared.phases.Phase.TheVariants as phase;
 ghost use Rattle.client_loop.specs.Standing.{Stands, HasChosen, HasTried};
 ghost use Rattle.client_loop.specs.Visits.{visits_of, use_of};
 
 use crate::progress::Progress;
 use actor_steps::{Keeping, keep_next, log_plain, rise_again};
-use client_core::ClientCore;
+use client_core::{ClientCore, ClientFault};
 use event_recorders::laws::records_fit;
 use event_recorders::{Gate, Recorder, RunFault};
 use history_check::Wish;
@@ -22,16 +24,19 @@ fn begin<R: Recorder>(
     stable: &dyn StableRecord,
     recorder: &mut R,
 ) -> Result<(), RunFault>
-    requires { Stands (R.own_log recorder.old) (finds stable.now) core.old }
+    requires stands { Stands (R.own_log recorder.old) (finds stable.now) core.old }
+    requires idle { phase_of core.old ≡ phase.Idle }
     ensures chosen { OnOk result (HasChosen (R.own_log recorder.new) (finds stable.now) core.new) }
     ensures begun { OnOk result ((visits_of (R.own_log recorder.new)).begun ≡ Some (use_of wish.now)) }
     ensures entered { (visits_of (R.own_log recorder.new)).entered ≡ (visits_of (R.own_log recorder.old)).entered }
 {
     let Wish { mode, resource, .. } = *wish;
     let resource = &resource;
-    let Ok(_) = core.begin(*resource, mode) else {
-        return Err(RunFault::Spent);
-    };
+    match core.begin(*resource, mode) {
+        Ok(_) => {}
+        Err(ClientFault::AttemptsSpent) => return Err(RunFault::Spent),
+        Err(ClientFault::NotIdle) => unreachable!(),
+    }
     log_plain(
         recorder,
         Event::Begin(core.client(), mode, *resource),
@@ -49,12 +54,13 @@ fn rise_anew<R: Recorder>(
     requires { HasTried (R.own_log recorder.old) (finds stable.old) core.old }
     ensures stands { OnOk result (Stands (R.own_log recorder.new) (finds stable.new) core.new) }
     ensures free { OnOk result (stuck_of stable.new ≡ false) }
+    ensures idle { OnOk result (phase_of core.new ≡ phase.Idle) }
     ensures visits { visits_of (R.own_log recorder.new) ≡ visits_of (R.own_log recorder.old) }
 {
     let bytes = client_bytes(core.attempt());
     let found = rise_again(Actor::Client(core.client()), &bytes, stable, recorder)?;
     let Ok(attempt) = read_client(found.as_slice()) else {
-        return Err(RunFault::Spent);
+        unreachable!()
     };
     core.restart(attempt);
     Ok(())
@@ -72,6 +78,7 @@ fn keep_chosen<R: Recorder, G: Gate>(
     requires free { stuck_of stable.old ≡ false }
     ensures stands { OnOk result (Stands (R.own_log recorder.new) (finds stable.new) core.new) }
     ensures free { OnOk result (stuck_of stable.new ≡ false) }
+    ensures again { result ≡ Ok false → phase_of core.new ≡ phase.Idle }
     ensures visits { visits_of (R.own_log recorder.new) ≡ visits_of (R.own_log recorder.old) }
 {
     records_fit();
@@ -101,6 +108,7 @@ pub(crate) fn attempt<W: Wait, R: Recorder, G: Gate>(
 ) -> Result<(), RunFault>
     requires stands { Stands (R.own_log recorder.old) (finds stable.old) progress.old.core }
     requires free { stuck_of stable.old ≡ false }
+    requires idle { phase_of progress.old.core ≡ phase.Idle }
     ensures stands { OnOk result (Stands (R.own_log recorder.new) (finds stable.new) progress.new.core) }
     ensures free { OnOk result (stuck_of stable.new ≡ false) }
     ensures begun { OnOk result ((visits_of (R.own_log recorder.new)).begun ≡ Some (use_of wish.now)) }

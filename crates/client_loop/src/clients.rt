@@ -1,6 +1,8 @@
 // A client's run.
 
 ghost use Rattle.std.specs.Prelude.{◌≡◌, ◌≤◌, [], OnOk, IfOk, All, false, length};
+ghost use Rattle.client_core.specs.Clients.{phase_of};
+ghost use Rattle.client_core.specs.declared.phases.Phase.TheVariants as phase;
 ghost use Rattle.event_recorders.specs.OwnLogs.{IsUnused, FindsPart};
 ghost use Rattle.client_loop.specs.Standing.{Stands, KeepsAttempt};
 ghost use Rattle.client_loop.specs.Visits.{visits_of, HasEntered, entries_of};
@@ -32,11 +34,12 @@ fn rise<R: Recorder>(
     requires kept { KeepsAttempt (R.own_log recorder.old).opening }
     ensures stands { IfOk result (λ core. Stands (R.own_log recorder.new) (finds stable.new) core) }
     ensures free { OnOk result (stuck_of stable.new ≡ false) }
+    ensures idle { IfOk result (λ core. phase_of core ≡ phase.Idle) }
     ensures visits { (visits_of (R.own_log recorder.new)).entered ≡ [] }
 {
     let bytes = rise_first(Actor::Client(client), stable, recorder)?;
     let Ok(attempt) = read_client(bytes.as_slice()) else {
-        return Err(RunFault::Spent);
+        unreachable!()
     };
     Ok(ClientCore::rise(client, attempt, ballot))
 }
@@ -54,6 +57,7 @@ fn fulfil_all<W: Wait, R: Recorder, L: Link, G: Gate>(
 ) -> Result<u32, (u32, RunFault)>
     requires stands { Stands (R.own_log recorder.old) (finds stable.old) core }
     requires free { stuck_of stable.old ≡ false }
+    requires idle { phase_of core ≡ phase.Idle }
     requires few { length wishes.now ≤ MAX_WISHES }
     requires fresh { (visits_of (R.own_log recorder.old)).entered ≡ [] }
     ensures entered { HasEntered wishes.now (entries_of result) (R.own_log recorder.new) }

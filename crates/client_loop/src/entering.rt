@@ -1,6 +1,8 @@
 // Being inside.
 
 ghost use Rattle.std.specs.Prelude.{◌≡◌, ◌<◌, OnOk, OnErr};
+ghost use Rattle.client_core.specs.Clients.{phase_of};
+ghost use Rattle.client_core.specs.declared.phases.Phase.TheVariants as phase;
 ghost use Rattle.client_core.specs.Calls.{MayEnter, entered as inside_of, left};
 ghost use Rattle.world_model.specs.Parts.{ClientPart};
 ghost use Rattle.event_recorders.specs.OwnLogs.{part_now};
@@ -72,6 +74,7 @@ pub(crate) fn visit<R: Recorder, G: Gate>(
     requires stands { Stands (R.own_log recorder.old) (finds stable.now) core.old }
     requires room { entered.old < MAX_WISHES }
     ensures stands { OnOk result (Stands (R.own_log recorder.new) (finds stable.now) core.new) }
+    ensures idle { OnOk result (phase_of core.new ≡ phase.Idle) }
     ensures entered { OnOk result (AddsUse (visits_of (R.own_log recorder.old)).begun (tally entered.old (R.own_log recorder.old)) (tally entered.new (R.own_log recorder.new))) }
     ensures counted { AddsAtMost (visits_of (R.own_log recorder.old)).begun (tally entered.old (R.own_log recorder.old)) (tally entered.new (R.own_log recorder.new)) }
 {

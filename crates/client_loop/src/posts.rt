@@ -1,6 +1,7 @@
 // What a client does on a post.
 
 ghost use Rattle.std.specs.Prelude.{◌≡◌};
+ghost use Rattle.client_core.specs.Clients.{phase_of};
 ghost use Rattle.client_loop.specs.Standing.{Stands};
 ghost use Rattle.client_loop.specs.Visits.{visits_of};
 
@@ -22,6 +23,7 @@ fn take_parcel<R: Recorder>(
 ) -> Result<(), RunFault>
     requires { Stands (R.own_log recorder.old) (finds stable.now) progress.old.core }
     ensures stands { Stands (R.own_log recorder.new) (finds stable.now) progress.new.core }
+    ensures phase { phase_of progress.new.core ≡ phase_of progress.old.core }
     ensures visits { visits_of (R.own_log recorder.new) ≡ visits_of (R.own_log recorder.old) }
 {
     match hear(&mut progress.core, parcel, stable, recorder)? {
@@ -45,6 +47,7 @@ fn take_nudge<R: Recorder, L: Link>(
 ) -> Result<(), RunFault>
     requires { Stands (R.own_log recorder.old) (finds stable.now) progress.old.core }
     ensures stands { Stands (R.own_log recorder.new) (finds stable.now) progress.new.core }
+    ensures phase { phase_of progress.new.core ≡ phase_of progress.old.core }
     ensures visits { visits_of (R.own_log recorder.new) ≡ visits_of (R.own_log recorder.old) }
 {
     if !progress.asked.has(node) {
@@ -70,6 +73,7 @@ pub(crate) fn take_post<R: Recorder, L: Link>(
 ) -> Result<(), RunFault>
     requires { Stands (R.own_log recorder.old) (finds stable.now) progress.old.core }
     ensures stands { Stands (R.own_log recorder.new) (finds stable.now) progress.new.core }
+    ensures phase { phase_of progress.new.core ≡ phase_of progress.old.core }
     ensures visits { visits_of (R.own_log recorder.new) ≡ visits_of (R.own_log recorder.old) }
 {
     let Ok(post) = link.receive() else {

@@ -1,6 +1,7 @@
 // Telling the nodes that an attempt is over.
 
 ghost use Rattle.std.specs.Prelude.{◌≡◌};
+ghost use Rattle.client_core.specs.Clients.{phase_of};
 ghost use Rattle.client_loop.specs.Standing.{Stands};
 ghost use Rattle.client_loop.specs.Visits.{visits_of};
 
@@ -48,6 +49,7 @@ pub(crate) fn release<W: Wait, R: Recorder, L: Link>(
 ) -> Result<(), RunFault>
     requires { Stands (R.own_log recorder.old) (finds stable.now) progress.old.core }
     ensures stands { Stands (R.own_log recorder.new) (finds stable.now) progress.new.core }
+    ensures phase { phase_of progress.new.core ≡ phase_of progress.old.core }
     ensures visits { visits_of (R.own_log recorder.new) ≡ visits_of (R.own_log recorder.old) }
 {
     tell_releases(alloc, progress, stable, recorder, link)?;

@@ -1,6 +1,7 @@
 // What a client says and hears.
 
 ghost use Rattle.std.specs.Prelude.{◌≡◌};
+ghost use Rattle.client_core.specs.Clients.{phase_of};
 ghost use Rattle.client_loop.specs.Standing.{Stands};
 ghost use Rattle.client_loop.specs.Visits.{visits_of};
 
@@ -30,10 +31,10 @@ fn said<R: Recorder>(
         return Ok(None);
     }
     let said = log_plain(recorder, Event::SayTo(core.client(), node), stable)?;
-    match said {
-        Effect::Sent(number, message) => Ok(Some((number, message))),
-        _ => Ok(None),
-    }
+    let Effect::Sent(number, message) = said else {
+        unreachable!()
+    };
+    Ok(Some((number, message)))
 }
 
 /// Says to the node what the client has to say to it, if there is anything, and sends it.
@@ -93,16 +94,17 @@ fn heard<R: Recorder>(
 ) -> Result<Option<(Message, Heard)>, RunFault>
     requires { Stands (R.own_log recorder.old) (finds stable.now) core.old }
     ensures stands { Stands (R.own_log recorder.new) (finds stable.now) core.new }
+    ensures phase { phase_of core.new ≡ phase_of core.old }
     ensures visits { visits_of (R.own_log recorder.new) ≡ visits_of (R.own_log recorder.old) }
 {
-    let done = log_reading(recorder, Event::Hear(core.client(), number), stable)?;
-    match done {
-        Some(Effect::Heard(message, _)) => {
-            let message = &message;
-            Ok(Some((*message, core.hear(message))))
-        }
-        _ => Ok(None),
-    }
+    let Some(done) = log_reading(recorder, Event::Hear(core.client(), number), stable)? else {
+        return Ok(None);
+    };
+    let Effect::Heard(message, _) = done else {
+        unreachable!()
+    };
+    let message = &message;
+    Ok(Some((*message, core.hear(message))))
 }
 
 /// Hears a parcel, and answers what the client made of its message, and of which node it was. A frame
@@ -115,6 +117,7 @@ pub(crate) fn hear<R: Recorder>(
 ) -> Result<Option<(NodeId, Heard)>, RunFault>
     requires { Stands (R.own_log recorder.old) (finds stable.now) core.old }
     ensures stands { Stands (R.own_log recorder.new) (finds stable.now) core.new }
+    ensures phase { phase_of core.new ≡ phase_of core.old }
     ensures visits { visits_of (R.own_log recorder.new) ≡ visits_of (R.own_log recorder.old) }
 {
     if !is_for_client(&parcel.frame, core.client()) {

@@ -1,6 +1,8 @@
 // One wish, from its attempt to its release.
 
 ghost use Rattle.std.specs.Prelude.{◌≡◌, ◌<◌, OnOk, false, Some};
+ghost use Rattle.client_core.specs.Clients.{phase_of};
+ghost use Rattle.client_core.specs.declared.phases.Phase.TheVariants as phase;
 ghost use Rattle.client_loop.specs.Standing.{Stands};
 ghost use Rattle.client_loop.specs.Visits.{tally, AddsUse, AddsAtMost, use_of};
 
@@ -32,9 +34,11 @@ pub(crate) fn fulfil<W: Wait, R: Recorder, L: Link, G: Gate>(
 ) -> Result<(), RunFault>
     requires stands { Stands (R.own_log recorder.old) (finds stable.old) progress.old.core }
     requires free { stuck_of stable.old ≡ false }
+    requires idle { phase_of progress.old.core ≡ phase.Idle }
     requires room { entered.old < MAX_WISHES }
     ensures stands { OnOk result (Stands (R.own_log recorder.new) (finds stable.new) progress.new.core) }
     ensures free { OnOk result (stuck_of stable.new ≡ false) }
+    ensures idle { OnOk result (phase_of progress.new.core ≡ phase.Idle) }
     ensures entered { OnOk result (AddsUse (Some (use_of wish.now)) (tally entered.old (R.own_log recorder.old)) (tally entered.new (R.own_log recorder.new))) }
     ensures counted { AddsAtMost (Some (use_of wish.now)) (tally entered.old (R.own_log recorder.old)) (tally entered.new (R.own_log recorder.new)) }
 {

@@ -1,12 +1,15 @@
 use Rattle.client_loop.proofs.Logs.{fallen-visits}
-use Rattle.client_loop.proofs.Attempts.{rises-again, risen-visits}
+use Rattle.client_loop.proofs.Attempts.{rises-again, reads-again, risen-visits}
 use Rattle.client_loop.proofs.attempting.rise_anew.Goals as goal
 
 pub returns-in_err-found-clause-visits : goal.returns-in_err-found-clause-visits
 returns-in_err-found-clause-visits g c = fallen-visits _ _ _ c.in_err-found.ensures.refused.1
 
-pub returns-in_default-clause-visits : goal.returns-in_default-clause-visits
-returns-in_default-clause-visits g c = risen-visits _ _ _ _ _ c.in_ok-found.ensures.risen
+pub unreachable-requires : goal.unreachable-requires
+unreachable-requires g c =
+    let range = rw c.attempt.ensures.attempt at c.attempt.ensures.in_range in
+    let read = reads-again _ _ _ _ _ _ _ _ c.args.core.now _ _ range c.requires c.in_ok-found.ensures.risen c.in_ok-found.ensures.found c.as_slice.ensures.value c.read_client.ensures.only in
+    c.in_default.not-Ok read.0 read.1
 
 pub returns-clause-stands : goal.returns-clause-stands
 returns-clause-stands g c =

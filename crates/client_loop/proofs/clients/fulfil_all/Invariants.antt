@@ -1,4 +1,6 @@
 use Rattle.std.proofs.Common.{◌≡◌, false}
+use Rattle.client_core.specs.Clients.{phase_of}
+use Rattle.client_core.specs.declared.phases.Phase.TheVariants as phase
 use Rattle.client_loop.specs.Standing.{Stands}
 use Rattle.client_loop.specs.Visits.{HasEntered}
 use Rattle.client_loop.proofs.clients.fulfil_all.Given as goal
@@ -7,5 +9,6 @@ abbrev pub invariant-loop-wish : goal.invariant-loop-wish
 invariant-loop-wish g l =
     Stands (g.R.Recorder.own_log l.recorder) ((goal.StableRecord-dyn g l.stable.now).finds l.stable.now.1) l.progress.core
     × ((goal.StableRecord-dyn g l.stable.now).stuck_of l.stable.now.1 ≡ false)
+    × (phase_of l.progress.core ≡ phase.Idle)
     × HasEntered l.wishes l.entered (g.R.Recorder.own_log l.recorder)
     × (l.entered ≡ l.wish-index)

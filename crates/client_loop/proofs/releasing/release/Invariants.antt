@@ -1,4 +1,5 @@
 use Rattle.std.proofs.Common.{◌≡◌}
+use Rattle.client_core.specs.Clients.{phase_of}
 use Rattle.client_loop.specs.Standing.{Stands}
 use Rattle.client_loop.specs.Visits.{visits_of}
 use Rattle.client_loop.proofs.releasing.release.Given as goal
@@ -7,4 +8,5 @@ abbrev pub invariant-loop : goal.invariant-loop
 invariant-loop g l =
     (goal.iterator-loop g).can_next l.iterator' × (goal.iterator-loop g).is_finite l.iterator' ×
     Stands (g.R.Recorder.own_log l.recorder) ((goal.StableRecord-dyn g l.stable.now).finds l.stable.now.1) l.progress.core
+    × (phase_of l.progress.core ≡ phase_of l.fn.progress.core)
     × (visits_of (g.R.Recorder.own_log l.recorder) ≡ visits_of (g.R.Recorder.own_log l.fn.recorder))
