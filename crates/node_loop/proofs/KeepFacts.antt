@@ -90,6 +90,15 @@ restarts l l' v v' n before tried strings strings' stuck age found bytes r law n
     let own : l'.actor ≡ actor.Node v.node = ap (λ (x : OwnLog). x.actor) again.risen.log ∙ failed.actor in
     stands_risen l' v.node v.problem found up.0 r v' strings' stuck law own up.1 here (subst (λ (b : List ℕ). IsRecordOf v.problem b r) read is) core
 
+-- what is found after a fall is a record of the problem
+pub finds_record : (l l' : OwnLog) (v : Voter) (n : ℕ) (before : NodeRecord) (tried : List ℕ) (strings strings' : List (List ℕ)) (stuck : Bool) (age : Age) (found bytes : List ℕ) →
+    n ≡ v.node → HasFailed l v before tried strings → IsRisenAgain l (actor.Node n) age l' → HasFound found l' strings' stuck → bytes ≡ found → (r : NodeRecord) × IsRecordOf v.problem bytes r
+finds_record l l' v n before tried strings strings' stuck age found bytes number failed again here read =
+    let again' : IsRisenAgain l (actor.Node v.node) age l' = subst (λ (k : ℕ). IsRisenAgain l (actor.Node k) age l') number again in
+    let up = risen_with l l' v before tried strings age failed again' in
+    let spelled : found ≡ node_record_of up.0 = here.kept ∙ ap kept_in up.1.part in
+    (up.0, record { good = up.1.good; spelled = read ∙ spelled; problem = up.1.problem })
+
 -- the first rising: the core that rises with what was found
 pub rises : (l l' : OwnLog) (n : ℕ) (kept r : NodeRecord) (p : Problem) (found bytes : List ℕ) (strings strings' : List (List ℕ)) (stuck : Bool) (v : Voter) → OneSpelling →
     IsReady l n kept p strings → IsAdded l (event.Rise (actor.Node n) Old) effect.Up l' → HasFound found l' strings' stuck → bytes ≡ found → IsRecordOf p bytes r → v ≡ risen n r →

@@ -16,7 +16,7 @@ use stable_record::StableRecord;
 use stable_record::laws::one_spelling;
 use std::alloc::Global;
 use std::sync::Wait;
-use voter_core::NodeCore;
+use voter_core::{NodeCore, VoterFault};
 
 /// The node rises with what its record is found to be.
 fn rise<R: Recorder>(
@@ -33,10 +33,11 @@ fn rise<R: Recorder>(
 {
     one_spelling();
     let found = rise_first(Actor::Node(node), stable, recorder)?;
-    let Ok(core) = NodeCore::rise(alloc, node, &found, policy) else {
-        return Err(RunFault::Memory);
-    };
-    Ok(core)
+    match NodeCore::rise(alloc, node, &found, policy) {
+        Ok(core) => Ok(core),
+        Err((_, VoterFault::Memory)) => Err(RunFault::Memory),
+        Err((_, VoterFault::Unreadable(_) | VoterFault::OtherProblem)) => unreachable!(),
+    }
 }
 
 /// Attends to one post after the other, until no more come.

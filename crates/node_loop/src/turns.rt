@@ -19,7 +19,7 @@ use lossy_link::{Link, Parcel, Post};
 use stable_record::StableRecord;
 use stable_record::laws::one_spelling;
 use std::alloc::Global;
-use voter_core::NodeCore;
+use voter_core::{NodeCore, VoterFault};
 use world_model::{Effect, Event};
 
 /// Takes the message that was sent under this number, and answers whether it changes the node's
@@ -70,6 +70,7 @@ fn keep<R: Recorder, G: Gate>(
         return Err(RunFault::Memory);
     };
     records_fit();
+    // What the core hands out is a record that can be kept: so its bytes fit, and can be read again.
     let _station = core.record();
     let actor = Actor::Node(core.node());
     let keeping = keep_next(actor, &bytes, stable, recorder, gate)?;
@@ -94,10 +95,11 @@ fn restart<R: Recorder>(
 {
     one_spelling();
     let found = rise_again(Actor::Node(core.node()), tried, stable, recorder)?;
-    let Ok(()) = core.restart(&found) else {
-        return Err(RunFault::Memory);
-    };
-    Ok(())
+    match core.restart(&found) {
+        Ok(()) => Ok(()),
+        Err(VoterFault::Memory) => Err(RunFault::Memory),
+        Err(VoterFault::Unreadable(_) | VoterFault::OtherProblem) => unreachable!(),
+    }
 }
 
 /// Says the node's replies, and sends them.
