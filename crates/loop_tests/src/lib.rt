@@ -11,11 +11,23 @@ mod audits;
 #[cfg(test)]
 mod broken;
 #[cfg(test)]
+mod client_records;
+#[cfg(test)]
+mod clients;
+#[cfg(test)]
+mod clients_alone;
+#[cfg(test)]
+mod clients_beside;
+#[cfg(test)]
 mod gates;
+#[cfg(test)]
+mod neighbours;
 #[cfg(test)]
 mod node_runs;
 #[cfg(test)]
 mod nodes;
+#[cfg(test)]
+mod openings;
 #[cfg(test)]
 mod outcomes;
 #[cfg(test)]

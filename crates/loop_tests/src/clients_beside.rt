@@ -1,0 +1,406 @@
+//! A client beside a node that answers: whole wishes, to their journals.
+
+ghost use Rattle.std.specs.Prelude.{◌≡◌, ◌≤◌, length, All};
+ghost use Rattle.book_recorders.specs.Sharing.{log_of};
+ghost use Rattle.loop_tests.specs.Fresh.{IsNewClient};
+
+use crate::audits::journal_of;
+use crate::clients::{Answer, is_run, wishes};
+use crate::gates::OpenGate;
+use crate::neighbours::Neighbour;
+use crate::outcomes::{Failure, Outcome, check};
+use crate::posts::{frame, posts};
+use crate::records::{Device, record_on};
+use crate::worlds::{ballot, client_id, node_id, opened, world};
+use book_recorders::{BookName, BookRecorder, Logs, Named};
+use client_loop::{MAX_WISHES, run_client};
+use event_recorders::RunFault;
+use history_book::{Berth, Book};
+use history_check::Wish;
+use lock_messages::NodeId;
+use lossy_link::Post;
+use stable_record::client_bytes;
+use std::alloc::Global;
+use std::marker::Brand;
+use std::sync::{Mutex, Wait};
+use vote_weights::Ballot;
+
+/// Runs c1, with a record on this device, beside a node, in the book under this lock. These posts come
+/// before what the node answers.
+fn run_over<B: BookName, K: Logs, R: Wait + Copy>(
+    rt: R,
+    alloc: Global,
+    ballot: Ballot,
+    lock: &Mutex<Named<B, K>>,
+    berths: (Berth, Berth),
+    node: NodeId,
+    device: Device,
+    wishes: &[Wish],
+    posts: Vec<Post>,
+) -> Result<Answer, Failure>
+    requires node { berths.0.table ≡ B.table }
+    requires client { berths.1.table ≡ B.table }
+    requires log { IsNewClient ballot (log_of berths.1) }
+    requires wishes { All (λ wish. wish.client ≡ 1) wishes.now }
+    requires few { length wishes.now ≤ MAX_WISHES }
+{
+    let stable = record_on(alloc, device, &client_bytes(0))?;
+    let client = client_id(1)?;
+    let (one, two) = berths;
+    let beside = BookRecorder::of(rt, lock, one);
+    let mut link = Neighbour::rising(node, beside, posts, frame(alloc, "grant")?)?;
+    let mut recorder = BookRecorder::of(rt, lock, two);
+    Ok(run_client(
+        &rt,
+        alloc,
+        client,
+        ballot,
+        wishes,
+        stable,
+        &mut recorder,
+        &mut link,
+        &OpenGate,
+    ))
+}
+
+/// Runs c1 beside a node in this book; answers the book, and what the loop answered.
+fn run<B: BookName, K: Logs + Drop, R: Wait + Copy>(
+    rt: R,
+    alloc: Global,
+    ballot: Ballot,
+    book: K,
+    berths: (Berth, Berth),
+    node: NodeId,
+    device: Device,
+    wishes: &[Wish],
+    posts: Vec<Post>,
+) -> Result<(K, Answer), Failure>
+    requires book { (K.book book).table ≡ B.table }
+    requires node { berths.0.table ≡ B.table }
+    requires client { berths.1.table ≡ B.table }
+    requires log { IsNewClient ballot (log_of berths.1) }
+    requires wishes { All (λ wish. wish.client ≡ 1) wishes.now }
+    requires few { length wishes.now ≤ MAX_WISHES }
+{
+    let lock = Mutex::new(Named::<B, K>::of(book));
+    let answer = run_over(
+        rt, alloc, ballot, &lock, berths, node, device, wishes, posts,
+    )?;
+    Ok((lock.into_inner().into_book(), answer))
+}
+
+/// How c1 ends beside the node of this number, with a record on this device: the journal of both, which an
+/// audit finds sound, and what the loop answered. These posts come before what the node answers.
+pub(crate) fn end_of<R: Wait + Copy>(
+    rt: R,
+    alloc: Global,
+    number: u8,
+    device: Device,
+    wished: &str,
+    texts: &str,
+) -> Result<(Vec<u8>, Answer), Failure> {
+    let ballot = ballot()?;
+    let node = node_id(number)?;
+    let (book, one, two) = opened(alloc, ballot, node)?;
+    let wishes = wishes(alloc, wished)?;
+    let posts = posts(alloc, texts)?;
+    let berths = (one, two);
+    let (book, answer) = run::<Brand, Book, R>(
+        rt, alloc, ballot, book, berths, node, device, &wishes, posts,
+    )?;
+    let journal = journal_of(alloc, &book, world(alloc, ballot)?)?;
+    Ok((journal, answer))
+}
+
+/// How a run beside a node ends: the node, what is wished, which posts come first, the journal of both, and
+/// the loop's answer.
+pub(crate) struct Row {
+    pub(crate) node: u8,
+    pub(crate) wishes: &'static str,
+    pub(crate) posts: &'static str,
+    pub(crate) journal: &'static str,
+    pub(crate) answer: Answer,
+}
+
+/// Ends the test unless c1 ends as a row says, with a record on this device.
+pub(crate) fn ends<R: Wait + Copy>(rt: R, alloc: Global, device: Device, row: &Row) -> Outcome {
+    let (journal, answer) = end_of(rt, alloc, row.node, device, row.wishes, row.posts)?;
+    let right = is_run(&journal, answer, row.journal, row.answer)?;
+    check(right, 0)
+}
+
+pub(crate) const WHOLE: Row = Row {
+    node: 1,
+    wishes: "c1 read a",
+    posts: "",
+    journal: "\
+rise n1 old
+rise c1 old
+begin c1 read a
+try c1
+kept c1
+sayto c1 n1
+take n1 1
+try n1
+kept n1
+say n1
+hear c1 2
+enter c1
+leave c1
+sayto c1 n1
+take n1 3
+try n1
+kept n1
+say n1
+hear c1 4
+",
+    answer: Ok(1),
+};
+
+#[test]
+fn a_whole_wish(rt: HostRuntime) -> Outcome {
+    ends(rt, rt.alloc(), Device::Memory, &WHOLE)
+}
+
+const NUDGED: Row = Row {
+    node: 1,
+    wishes: "c1 read a",
+    posts: "nudge",
+    journal: "\
+rise n1 old
+rise c1 old
+begin c1 read a
+try c1
+kept c1
+sayto c1 n1
+take n1 1
+try n1
+kept n1
+say n1
+sayto c1 n1
+take n1 3
+say n1
+hear c1 2
+enter c1
+leave c1
+sayto c1 n1
+take n1 5
+try n1
+kept n1
+say n1
+hear c1 4
+hear c1 6
+",
+    answer: Ok(1),
+};
+
+/// A node that nudges is asked again.
+#[test]
+fn a_nudge_in_a_wish(rt: HostRuntime) -> Outcome {
+    ends(rt, rt.alloc(), Device::Memory, &NUDGED)
+}
+
+const TWO: Row = Row {
+    node: 1,
+    wishes: "c1 read a, c1 read b",
+    posts: "",
+    journal: "\
+rise n1 old
+rise c1 old
+begin c1 read a
+try c1
+kept c1
+sayto c1 n1
+take n1 1
+try n1
+kept n1
+say n1
+hear c1 2
+enter c1
+leave c1
+sayto c1 n1
+take n1 3
+try n1
+kept n1
+say n1
+hear c1 4
+begin c1 read b
+try c1
+kept c1
+sayto c1 n1
+take n1 5
+try n1
+kept n1
+say n1
+hear c1 6
+enter c1
+leave c1
+sayto c1 n1
+take n1 7
+try n1
+kept n1
+say n1
+hear c1 8
+",
+    answer: Ok(2),
+};
+
+#[test]
+fn two_wishes(rt: HostRuntime) -> Outcome {
+    ends(rt, rt.alloc(), Device::Memory, &TWO)
+}
+
+const GONE: Row = Row {
+    node: 2,
+    wishes: "c1 read a, c1 read b",
+    posts: "",
+    journal: "\
+rise n2 old
+rise c1 old
+begin c1 read a
+try c1
+kept c1
+sayto c1 n1
+sayto c1 n2
+take n2 2
+try n2
+kept n2
+say n2
+hear c1 3
+enter c1
+leave c1
+sayto c1 n2
+take n2 4
+try n2
+kept n2
+say n2
+hear c1 5
+begin c1 read b
+try c1
+kept c1
+sayto c1 n2
+take n2 6
+try n2
+kept n2
+say n2
+hear c1 7
+enter c1
+leave c1
+sayto c1 n2
+take n2 8
+try n2
+kept n2
+say n2
+hear c1 9
+",
+    answer: Ok(2),
+};
+
+/// A node that is gone is skipped, in the next wish too, and is told no release.
+#[test]
+fn a_node_that_is_gone(rt: HostRuntime) -> Outcome {
+    ends(rt, rt.alloc(), Device::Memory, &GONE)
+}
+
+const GONE_AFTER_ITS_VOTE: Row = Row {
+    node: 1,
+    wishes: "c1 read a",
+    posts: "gone",
+    journal: "\
+rise n1 old
+rise c1 old
+begin c1 read a
+try c1
+kept c1
+sayto c1 n1
+take n1 1
+try n1
+kept n1
+say n1
+sayto c1 n2
+hear c1 2
+enter c1
+leave c1
+sayto c1 n2
+",
+    answer: Ok(1),
+};
+
+/// The vote that a node gave before it was gone counts. Only the other node is told the release, and that
+/// it is gone too ends the wish.
+#[test]
+fn a_vote_of_a_node_that_is_gone(rt: HostRuntime) -> Outcome {
+    ends(rt, rt.alloc(), Device::Memory, &GONE_AFTER_ITS_VOTE)
+}
+
+const TOO_FEW: Row = Row {
+    node: 1,
+    wishes: "c1 read a, c1 write a, c1 read a",
+    posts: "",
+    journal: "\
+rise n1 old
+rise c1 old
+begin c1 read a
+try c1
+kept c1
+sayto c1 n1
+take n1 1
+try n1
+kept n1
+say n1
+hear c1 2
+enter c1
+leave c1
+sayto c1 n1
+take n1 3
+try n1
+kept n1
+say n1
+hear c1 4
+begin c1 write a
+try c1
+kept c1
+sayto c1 n1
+take n1 5
+try n1
+kept n1
+say n1
+hear c1 6
+sayto c1 n2
+leave c1
+sayto c1 n1
+take n1 8
+try n1
+kept n1
+say n1
+",
+    answer: Err((1, RunFault::TooFewNodes)),
+};
+
+/// 912: a writer needs both nodes. It leaves, tells the one that isn't gone, and waits for no answer.
+#[test]
+fn too_few_nodes_for_a_writer(rt: HostRuntime) -> Outcome {
+    ends(rt, rt.alloc(), Device::Memory, &TOO_FEW)
+}
+
+const TOO_FEW_AT_ONCE: Row = Row {
+    node: 2,
+    wishes: "c1 write a",
+    posts: "",
+    journal: "\
+rise n2 old
+rise c1 old
+begin c1 write a
+try c1
+kept c1
+sayto c1 n1
+leave c1
+",
+    answer: Err((0, RunFault::TooFewNodes)),
+};
+
+/// 912: a node that is gone is told no release, nor is one that was not asked.
+#[test]
+fn too_few_nodes_before_a_vote(rt: HostRuntime) -> Outcome {
+    ends(rt, rt.alloc(), Device::Memory, &TOO_FEW_AT_ONCE)
+}

@@ -1,0 +1,129 @@
+// A link at whose other end a node takes its turns at once.
+
+ghost use Rattle.std.specs.Prelude.{IsOkUnless};
+
+use crate::outcomes::{Failure, of_book};
+use book_recorders::{BookName, BookRecorder, Logs};
+use bytes::Bytes;
+use history_book::BookFault;
+use lock_messages::{Actor, NodeId};
+use lossy_link::{Link, LinkFault, Parcel, Post};
+use std::sync::Wait;
+use world_model::{Age, Effect, Event};
+
+/// A link that brings given posts and, behind them, the answers of a node. The node is beside the
+/// client, in the same thread: it takes what is sent as soon as it is sent, and keeps and says what
+/// follows. A parcel's frame is always the same, since who hears it goes by its number. Every other node
+/// is gone, which is told to who sends to it.
+#[derive(Drop)]
+pub(crate) struct Neighbour<'a, B: BookName, K: Logs, R: Copy> {
+    node: NodeId,
+    recorder: BookRecorder<'a, B, K, R>,
+    posts: Vec<Post>,
+    frame: Bytes,
+}
+
+impl<'a, B: BookName, K: Logs, R: Wait + Copy> Neighbour<'a, B, K, R> {
+    /// The link over which this node answers, which rises first.
+    pub(crate) fn rising(
+        node: NodeId,
+        recorder: BookRecorder<'a, B, K, R>,
+        posts: Vec<Post>,
+        frame: Bytes,
+    ) -> Result<Neighbour<'a, B, K, R>, Failure> {
+        let mut recorder = recorder;
+        match recorder.log_event(Event::Rise(Actor::Node(node), Age::Old)) {
+            Ok(_) => Ok(Neighbour {
+                node,
+                recorder,
+                posts,
+                frame,
+            }),
+            Err(fault) => Err(of_book(fault)),
+        }
+    }
+
+    /// The node keeps what it decided.
+    fn keep(&mut self) -> Result<(), BookFault> {
+        self.recorder.log_event(Event::Try(Actor::Node(self.node)))?;
+        self.recorder
+            .log_event(Event::Kept(Actor::Node(self.node)))?;
+        Ok(())
+    }
+
+    /// The node's turn with the message of a number, and the replies that it says: the number of the
+    /// first, and how many there are.
+    fn turn(&mut self, number: u32) -> Result<(u32, u32), BookFault> {
+        if let Effect::Took(_, true) = self.recorder.log_event(Event::Take(self.node, number))? {
+            self.keep()?;
+        }
+        match self.recorder.log_event(Event::Say(self.node))? {
+            Effect::Said { first, count } => Ok((first, count)),
+            _ => Ok((0, 0)),
+        }
+    }
+
+    /// The post will be brought.
+    fn bring(&mut self, post: Post) -> Result<(), LinkFault>
+        ensures { IsOkUnless result LinkFault.Memory }
+    {
+        if self.posts.push(post).is_err() {
+            return Err(LinkFault::Memory);
+        }
+        Ok(())
+    }
+
+    /// The replies of these numbers will be brought.
+    fn answer(&mut self, first: u32, count: u32) -> Result<(), LinkFault>
+        ensures { IsOkUnless result LinkFault.Memory }
+    {
+        for place in 0..count {
+            let number = first.wrapping_add(place);
+            let Ok(frame) = self.frame.clone() else {
+                return Err(LinkFault::Memory);
+            };
+            self.bring(Post::Parcel(Parcel { number, frame }))?;
+        }
+        Ok(())
+    }
+
+    /// The node that this names, where it isn't the one beside.
+    fn another(&self, to: &Actor) -> Option<NodeId> {
+        match to {
+            Actor::Node(node) if node.get() != self.node.get() => Some(*node),
+            _ => None,
+        }
+    }
+}
+
+impl<'a, B: BookName, K: Logs, R: Wait + Copy> Link for Neighbour<'a, B, K, R> {
+    ghost use Rattle.std.specs.Prelude.{None};
+
+    ghost coming = { λ _. None };
+
+    ghost given = { λ _. None };
+
+    /// Brings what the node answers or, of another node, that it is gone.
+    fn send(&mut self, to: Actor, parcel: Parcel) -> Result<(), LinkFault> {
+        if let Some(other) = self.another(&to) {
+            return self.bring(Post::Gone(other));
+        }
+        match self.turn(parcel.number) {
+            Ok((first, count)) => self.answer(first, count),
+            Err(BookFault::Memory) => Err(LinkFault::Memory),
+            Err(_) => Ok(()),
+        }
+    }
+
+    fn tell_all(&mut self, post: Post) -> Result<(), LinkFault> {
+        let _ = post;
+        Ok(())
+    }
+
+    fn receive(&mut self) -> Result<Post, LinkFault> {
+        if self.posts.is_empty() {
+            return Err(LinkFault::Closed);
+        }
+        Ok(self.posts.remove(0))
+    }
+}
