@@ -206,6 +206,56 @@ fn a_thousand_nudges(rt: HostRuntime) -> Outcome {
     check(is_answer && is_last && is_end && sent.len() == 1_001, 0)
 }
 
+/// Ends the test unless c1 with one wish ends by this fault over these posts, with this journal, and has sent
+/// so much.
+fn ends_over<R: Wait>(
+    rt: &R,
+    alloc: Global,
+    posts: Vec<Post>,
+    journal: &str,
+    sent: usize,
+    fault: RunFault,
+) -> Outcome {
+    let ended = end_of(rt, alloc, Device::Memory, 0, "c1 read a", posts)?;
+    let right = is_run(&ended.journal, ended.answer, journal, Err((0, fault)))?;
+    check(right && ended.link.sent().len() == sent, 0)
+}
+
+/// A nudge of a node to which nothing was sent is dropped, and doesn't count.
+#[test]
+fn nudges_of_a_node_that_was_not_asked(rt: HostRuntime) -> Outcome {
+    let posts = vec![in rt.alloc(); Post::Nudge(node_id(2)?); 1_001]?;
+    let journal = "\
+rise c1 old
+begin c1 read a
+try c1
+kept c1
+sayto c1 n1
+leave c1
+";
+    ends_over(&rt, rt.alloc(), posts, journal, 1, RunFault::TooFewNodes)
+}
+
+/// 913: the nudges of a node that was asked count also once it is gone. It is sent nothing any more, and
+/// the other node its release.
+#[test]
+fn nudges_of_a_node_that_is_gone(rt: HostRuntime) -> Outcome {
+    let node = node_id(1)?;
+    let mut posts = vec![in rt.alloc(); Post::Nudge(node); 1_000]?;
+    posts.insert(0, Post::Gone(node))?;
+    let journal = "\
+rise c1 old
+begin c1 read a
+try c1
+kept c1
+sayto c1 n1
+sayto c1 n2
+leave c1
+sayto c1 n2
+";
+    ends_over(&rt, rt.alloc(), posts, journal, 3, RunFault::GaveUp)
+}
+
 /// Whether c1 with one wish ends so, with this journal, over no posts.
 fn ends<R: Wait>(
     rt: &R,
@@ -266,4 +316,12 @@ fn the_last_attempt(rt: HostRuntime) -> Outcome {
 fn a_record_that_does_not_reopen(rt: HostRuntime) -> Outcome {
     let device = Device::Faulty(2, Leaves::Old, 3);
     ends(&rt, rt.alloc(), device, 0, "", RunFault::NotReopened)
+}
+
+/// 911: three reopens fail after a fall, and nothing is logged behind it.
+#[test]
+fn a_record_that_does_not_reopen_after_a_fall(rt: HostRuntime) -> Outcome {
+    let journal = "rise c1 old\nbegin c1 read a\ntry c1\nfall c1\n";
+    let fault = RunFault::NotReopened;
+    ends(&rt, rt.alloc(), Device::Broken, 0, journal, fault)
 }
