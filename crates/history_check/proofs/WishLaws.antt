@@ -1,14 +1,17 @@
 -- A text wishes something exactly where it is the one text of it.
-use Rattle.std.proofs.Common.{◌≡◌, ◌↔◌, ℕ, ◌≤◌, ◌+◌, Bool, true, false, cond, nat_lt, List, [], ◌∷◌, length, Result, Ok, Err, refl, sym, ap, subst, ◌∙◌, arith}
+use Rattle.std.proofs.Common.{◌≡◌, ◌↔◌, ℕ, ◌≤◌, ◌+◌, Bool, true, false, cond, nat_le, nat_lt, if◌then◌else◌, List, [], ◌∷◌, length, Result, Ok, Err, refl, sym, ap, subst, ◌∙◌, arith}
+use Rattle.std.proofs.lemmas.Bool.Decides.{nat_tests}
 use Rattle.std.proofs.lemmas.List.Splits.{join_with_byte-slice_split}
+use Rattle.lock_messages.specs.declared.ids.TheConstants.{MAX_CLIENTS}
+use Rattle.lock_messages.specs.declared.tickets.Mode.{Mode}
 use Rattle.history_check.specs.declared.faults.LineFault.{LineFault}
 use Rattle.history_check.specs.declared.faults.LineFault.TheVariants as fault
 use Rattle.history_check.specs.declared.wishes.Wish.{Wish}
 use Rattle.history_check.specs.declared.words.TheConstants.{MAX_LINE_LEN}
-use Rattle.history_check.specs.Lines.{◌>>=◌, AClient, AMode, AName, Arguments, argument_texts, value_text, arguments_in, words}
-use Rattle.history_check.specs.Wishes.{wish_kinds, wish_parts, wish_text, wish_of, IsWish}
+use Rattle.history_check.specs.Lines.{◌>>=◌, AClient, AMode, AName, Arguments, argument_texts, value_text, arguments_in, words, exactly, client_word, mode_word, name_word}
+use Rattle.history_check.specs.Wishes.{wish_kinds, wish_parts, wish_text, wish_among, wish_of, words_wish, client_among, IsWish}
 use Rattle.history_check.proofs.LineLaws.{bind_ok, bound, arguments_are, arguments_say, joined, its_words, its_length, if_short}
-use Rattle.history_check.proofs.WordFacts.{plain_value, short_value}
+use Rattle.history_check.proofs.WordFacts.{plain_value, short_value, value_is}
 
 abbrev wished : Arguments wish_kinds → Wish
 wished a = record { client = a.0; mode = a.1.0; resource = a.1.1.0 }
@@ -23,15 +26,47 @@ short_wish false r w h = h
 abbrev Wishes : List ℕ → Wish → Type 0
 Wishes bytes w = (bytes ≡ wish_text w) × IsWish w
 
+fits : (c : ℕ) → c ≤ MAX_CLIENTS → nat_le c MAX_CLIENTS ≡ true
+fits c h = grind (arith, nat_tests)
+
+-- each client that there is, is among all clients that there can be
+
+no_more : (r : Result ℕ LineFault) → ((c : ℕ) → r ≡ Ok c → nat_le c MAX_CLIENTS ≡ true) → (r >>= (λ c. if nat_le c MAX_CLIENTS then Ok c else Err fault.Actor)) ≡ r
+no_more (Ok c) is = ap (λ (b : Bool). if b then Ok c else Err fault.Actor) (is c refl)
+no_more (Err e) is = refl
+
+among_all : (word : List ℕ) → client_among MAX_CLIENTS word ≡ client_word word
+among_all word = no_more (client_word word) (λ c h. fits c (value_is AClient word c h).1.1)
+
+three_values : (c : Result ℕ LineFault) (m : Result Mode LineFault) (x : Result (List ℕ) LineFault) →
+    (c >>= (λ client. m >>= (λ mode. x >>= (λ name. Ok (record { client = client; mode = mode; resource = name })))))
+    ≡ ((c >>= (λ v. (m >>= (λ u. (x >>= (λ t. Ok (t, tt))) >>= (λ s. Ok (u, s)))) >>= (λ s. Ok (v, s)))) >>= (λ a. Ok (wished a)))
+three_values (Err e) m x = refl
+three_values (Ok c) (Err e) x = refl
+three_values (Ok c) (Ok m) (Err e) = refl
+three_values (Ok c) (Ok m) (Ok x) = refl
+
+-- a wish among all clients that there can be is judged as the arguments of a line are
+as_arguments : (ws : List (List ℕ)) → (exactly 3 ws >>= (λ us. words_wish MAX_CLIENTS us)) ≡ (arguments_in wish_kinds ws >>= (λ a. Ok (wished a)))
+as_arguments [] = refl
+as_arguments (c ∷ []) = refl
+as_arguments (c ∷ m ∷ []) = refl
+as_arguments (c ∷ m ∷ x ∷ []) =
+    ap (λ (r : Result ℕ LineFault). r >>= (λ client. mode_word m >>= (λ mode. name_word x >>= (λ name. Ok (record { client = client; mode = mode; resource = name }))))) (among_all c)
+    ∙ three_values (client_word c) (mode_word m) (name_word x)
+as_arguments (c ∷ m ∷ x ∷ w ∷ ws) = refl
+
+what_is_judged : (bytes : List ℕ) → wish_of bytes ≡ cond (nat_lt MAX_LINE_LEN (length bytes)) (Err fault.Words) (judged bytes)
+unfolding wish_among
+what_is_judged bytes = ap (λ (r : Result Wish LineFault). cond (nat_lt MAX_LINE_LEN (length bytes)) (Err fault.Words) r) (as_arguments (words bytes))
+
 what_is_read : (bytes : List ℕ) (w : Wish) → wish_of bytes ≡ Ok w → Wishes bytes w
-unfolding wish_of
 what_is_read bytes w h =
-    let (a, ha, hw) = bind_ok (arguments_in wish_kinds (words bytes)) (λ a. Ok (wished a)) w (short_wish (nat_lt MAX_LINE_LEN (length bytes)) (judged bytes) w h) in
+    let (a, ha, hw) = bind_ok (arguments_in wish_kinds (words bytes)) (λ a. Ok (wished a)) w (short_wish (nat_lt MAX_LINE_LEN (length bytes)) (judged bytes) w (sym (what_is_judged bytes) ∙ h)) in
     let s = arguments_are wish_kinds (words bytes) a ha in
     subst (λ (v : Wish). Wishes bytes v) (let same : Ok (wished a) ≡ Ok w = hw in cc) (sym (join_with_byte-slice_split 32 bytes) ∙ ap joined s.0, s.1)
 
 what_is_written : (w : Wish) → IsWish w → wish_of (wish_text w) ≡ Ok w
-unfolding wish_of
 what_is_written w v =
     let text = wish_text w in
     let rest : Arguments (AMode ∷ AName ∷ []) = (w.mode, (w.resource, tt)) in
@@ -39,7 +74,8 @@ what_is_written w v =
     let few : length text ≤ length first + 66 = its_length first (AMode ∷ AName ∷ []) rest v.1 in
     let some : length first ≤ 32 = short_value AClient w.client v.0 in
     let short : length text ≤ 128 = omega arith in
-    if_short (length text) (Err fault.Words) (judged text) short
+    what_is_judged text
+    ∙ if_short (length text) (Err fault.Words) (judged text) short
     ∙ ap (λ ws. arguments_in wish_kinds ws >>= (λ a. Ok (wished a))) (its_words first (AMode ∷ AName ∷ []) rest (plain_value AClient w.client v.0) v.1)
     ∙ bound (arguments_in wish_kinds (argument_texts wish_kinds (wish_parts w))) (λ a. Ok (wished a)) (wish_parts w) (Ok w) (arguments_say wish_kinds (wish_parts w) v) refl
 

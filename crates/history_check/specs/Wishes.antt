@@ -1,11 +1,12 @@
 -- Wishes: what a client is to do, as a text.
 use Rattle.std.specs.Prelude.{ℕ, nat_le, nat_lt, if◌then◌else◌, List, [], ◌∷◌, length, Result, Ok, Err}
 use Rattle.std.specs.List.{join_with_byte}
+use Rattle.lock_messages.specs.declared.ids.TheConstants.{MAX_CLIENTS}
 use Rattle.history_check.specs.declared.faults.LineFault.{LineFault}
 use Rattle.history_check.specs.declared.faults.LineFault.TheVariants as fault
 use Rattle.history_check.specs.declared.wishes.Wish.{Wish}
 use Rattle.history_check.specs.declared.words.TheConstants.{MAX_LINE_LEN}
-use Rattle.history_check.specs.Lines.{◌>>=◌, Kind, AClient, AMode, AName, Arguments, AreValues, argument_texts, arguments_in, words, exactly, client_word, mode_word, name_word}
+use Rattle.history_check.specs.Lines.{◌>>=◌, Kind, AClient, AMode, AName, Arguments, AreValues, argument_texts, words, exactly, client_word, mode_word, name_word}
 
 -- what a wish has, in order
 abbrev pub wish_kinds : List Kind
@@ -22,12 +23,6 @@ wish_text w = join_with_byte 32 (argument_texts wish_kinds (wish_parts w))
 abbrev pub IsWish : Wish → Type 0
 IsWish w = AreValues wish_kinds (wish_parts w)
 
--- What a text wishes, or what is wrong with it. It is judged as the arguments of a line are.
-unfoldable pub wish_of : List ℕ → Result Wish LineFault
-wish_of bytes =
-    if nat_lt MAX_LINE_LEN (length bytes) then Err fault.Words
-    else arguments_in wish_kinds (words bytes) >>= (λ a. Ok (record { client = a.0; mode = a.1.0; resource = a.1.1.0 }))
-
 -- the client of a word, where there are so many
 abbrev pub client_among : ℕ → List ℕ → Result ℕ LineFault
 client_among clients word = client_word word >>= (λ c. if nat_le c clients then Ok c else Err fault.Actor)
@@ -37,7 +32,11 @@ words_wish clients (c ∷ m ∷ x ∷ []) =
     client_among clients c >>= (λ client. mode_word m >>= (λ mode. name_word x >>= (λ name. Ok (record { client = client; mode = mode; resource = name }))))
 words_wish clients _ = Err fault.Words
 
--- What a text wishes where there are so many clients. It is judged as before, and a client behind the
--- last one is judged where its word stands.
+-- What a text wishes where there are so many clients, or what is wrong with it. It is judged as the
+-- arguments of a line are, and a client behind the last one is judged where its word stands.
 unfoldable pub wish_among : ℕ → List ℕ → Result Wish LineFault
 wish_among clients bytes = if nat_lt MAX_LINE_LEN (length bytes) then Err fault.Words else exactly 3 (words bytes) >>= (λ ws. words_wish clients ws)
+
+-- what a text wishes among all clients that there can be
+abbrev pub wish_of : List ℕ → Result Wish LineFault
+wish_of bytes = wish_among MAX_CLIENTS bytes

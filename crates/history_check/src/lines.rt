@@ -96,9 +96,7 @@ fn actor_and_age(rest: Option<&[u8]>) -> Result<(Actor, Age), LineFault>
 }
 
 /// A client, a mode and a name, and nothing more.
-pub(crate) fn client_mode_and_name(
-    rest: Option<&[u8]>,
-) -> Result<(ClientId, Mode, ResourceName), LineFault>
+fn client_mode_and_name(rest: Option<&[u8]>) -> Result<(ClientId, Mode, ResourceName), LineFault>
     ensures { Gives (λ x. (x.0, (x.1, (x.2, tt)))) result (arguments_in (AClient ∷ AMode ∷ AName ∷ []) (words_behind rest.entry)) }
 {
     let (first, second, third) = three(rest)?;

@@ -4,9 +4,8 @@ ghost use Rattle.std.specs.Prelude.{◌≡◌};
 ghost use Rattle.history_check.specs.Wishes.{wish_of, client_among, wish_among};
 
 use crate::LineFault;
-use crate::lines::client_mode_and_name;
 use crate::words::{MAX_LINE_LEN, client_of, mode_of, name_of, three};
-use lock_messages::{ClientId, Mode, ResourceName};
+use lock_messages::{ClientId, MAX_CLIENTS, Mode, ResourceName};
 
 /// That a client is to use a resource once, in this mode.
 #[derive(Clone, Copy, Debug, PartialEq, Eq, Hash)]
@@ -23,19 +22,10 @@ pub struct Wish {
 /// A text over `MAX_LINE_LEN` bytes is `Words` (805). Else its words stand between its spaces, and the
 /// first that applies is answered: words are missing or left over (`Words`, 805), and then from the
 /// left the client (`Actor`, 802), the mode (`Word`, 801) or the name (`Name`, 804) is none.
-#[tactic(auto, unfolding(crate::specs::Wishes::wish_of))]
 pub fn read_wish(text: &[u8]) -> Result<Wish, LineFault>
     ensures { result ≡ wish_of text.now }
 {
-    if text.len() > MAX_LINE_LEN {
-        return Err(LineFault::Words);
-    }
-    let (client, mode, resource) = client_mode_and_name(Some(text))?;
-    Ok(Wish {
-        client,
-        mode,
-        resource,
-    })
+    read_wish_among(MAX_CLIENTS as u16, text)
 }
 
 /// The client of a word, where there are so many clients.
