@@ -9,7 +9,7 @@ use std::alloc::Global;
 use std::sync::Wait;
 
 const OLD: Row = Row {
-    node: 1,
+    nodes: (1, 2),
     wishes: "c1 read a, c1 read b",
     posts: "",
     journal: "\
@@ -64,7 +64,7 @@ fn a_fall_to_the_attempt_before(rt: HostRuntime) -> Outcome {
 }
 
 const NEW: Row = Row {
-    node: 1,
+    nodes: (1, 2),
     wishes: "c1 read a, c1 read b",
     posts: "",
     journal: "\
@@ -133,7 +133,7 @@ fn has_six<R: Wait + Copy>(
     device: Device,
     events: usize,
 ) -> Result<bool, Failure> {
-    let (journal, answer) = end_of(rt, alloc, 1, device, SIX, "")?;
+    let (journal, answer) = end_of(rt, alloc, (1, 2), device, SIX, "")?;
     let count = journal.iter().filter(|byte| **byte == b'\n').count();
     Ok(told(answer)? == Ok(6) && count == events)
 }

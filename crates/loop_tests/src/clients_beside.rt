@@ -25,15 +25,15 @@ use std::marker::Brand;
 use std::sync::{Mutex, Wait};
 use vote_weights::Ballot;
 
-/// Runs c1, with a record on this device, beside a node, in the book under this lock. These posts come
-/// before what the node answers.
+/// Runs c1, with a record on this device, beside the first of the nodes, in the book under this lock. These
+/// posts come before what the node answers; the second node is gone for who sends to another.
 fn run_over<B: BookName, K: Logs, R: Wait + Copy>(
     rt: R,
     alloc: Global,
     ballot: Ballot,
     lock: &Mutex<Named<B, K>>,
     berths: (Berth, Berth),
-    node: NodeId,
+    nodes: (NodeId, NodeId),
     device: Device,
     wishes: &[Wish],
     posts: Vec<Post>,
@@ -48,7 +48,7 @@ fn run_over<B: BookName, K: Logs, R: Wait + Copy>(
     let client = client_id(1)?;
     let (one, two) = berths;
     let beside = BookRecorder::of(rt, lock, one);
-    let mut link = Neighbour::rising(node, beside, posts, frame(alloc, "grant")?)?;
+    let mut link = Neighbour::rising(nodes, beside, posts, frame(alloc, "grant")?)?;
     let mut recorder = BookRecorder::of(rt, lock, two);
     Ok(run_client(
         &rt,
@@ -70,7 +70,7 @@ fn run<B: BookName, K: Logs + Drop, R: Wait + Copy>(
     ballot: Ballot,
     book: K,
     berths: (Berth, Berth),
-    node: NodeId,
+    nodes: (NodeId, NodeId),
     device: Device,
     wishes: &[Wish],
     posts: Vec<Post>,
@@ -84,38 +84,41 @@ fn run<B: BookName, K: Logs + Drop, R: Wait + Copy>(
 {
     let lock = Mutex::new(Named::<B, K>::of(book));
     let answer = run_over(
-        rt, alloc, ballot, &lock, berths, node, device, wishes, posts,
+        rt, alloc, ballot, &lock, berths, nodes, device, wishes, posts,
     )?;
     Ok((lock.into_inner().into_book(), answer))
 }
 
-/// How c1 ends beside the node of this number, with a record on this device: the journal of both, which an
-/// audit finds sound, and what the loop answered. These posts come before what the node answers.
+/// How c1 ends beside the first of the nodes of these numbers, with a record on this device: the journal of
+/// both, which an audit finds sound, and what the loop answered. These posts come before what the node
+/// answers; the second node is gone for who sends to another.
 pub(crate) fn end_of<R: Wait + Copy>(
     rt: R,
     alloc: Global,
-    number: u8,
+    numbers: (u8, u8),
     device: Device,
     wished: &str,
     texts: &str,
 ) -> Result<(Vec<u8>, Answer), Failure> {
     let ballot = ballot()?;
-    let node = node_id(number)?;
+    let node = node_id(numbers.0)?;
+    let nodes = (node, node_id(numbers.1)?);
     let (book, one, two) = opened(alloc, ballot, node)?;
     let wishes = wishes(alloc, wished)?;
     let posts = posts(alloc, texts)?;
     let berths = (one, two);
     let (book, answer) = run::<Brand, Book, R>(
-        rt, alloc, ballot, book, berths, node, device, &wishes, posts,
+        rt, alloc, ballot, book, berths, nodes, device, &wishes, posts,
     )?;
     let journal = journal_of(alloc, &book, world(alloc, ballot)?)?;
     Ok((journal, answer))
 }
 
-/// How a run beside a node ends: the node, what is wished, which posts come first, the journal of both, and
-/// the loop's answer.
+/// How a run beside a node ends: the node, and the one that is gone for who sends to another; what is
+/// wished, which posts come first, the journal of both, and the loop's answer.
+#[derive(Drop)]
 pub(crate) struct Row {
-    pub(crate) node: u8,
+    pub(crate) nodes: (u8, u8),
     pub(crate) wishes: &'static str,
     pub(crate) posts: &'static str,
     pub(crate) journal: &'static str,
@@ -124,13 +127,13 @@ pub(crate) struct Row {
 
 /// Ends the test unless c1 ends as a row says, with a record on this device.
 pub(crate) fn ends<R: Wait + Copy>(rt: R, alloc: Global, device: Device, row: &Row) -> Outcome {
-    let (journal, answer) = end_of(rt, alloc, row.node, device, row.wishes, row.posts)?;
+    let (journal, answer) = end_of(rt, alloc, row.nodes, device, row.wishes, row.posts)?;
     let right = is_run(&journal, answer, row.journal, row.answer)?;
     check(right, 0)
 }
 
 pub(crate) const WHOLE: Row = Row {
-    node: 1,
+    nodes: (1, 2),
     wishes: "c1 read a",
     posts: "",
     journal: "\
@@ -163,7 +166,7 @@ fn a_whole_wish(rt: HostRuntime) -> Outcome {
 }
 
 const NUDGED: Row = Row {
-    node: 1,
+    nodes: (1, 2),
     wishes: "c1 read a",
     posts: "nudge",
     journal: "\
@@ -201,7 +204,7 @@ fn a_nudge_in_a_wish(rt: HostRuntime) -> Outcome {
 }
 
 const TWO: Row = Row {
-    node: 1,
+    nodes: (1, 2),
     wishes: "c1 read a, c1 read b",
     posts: "",
     journal: "\
@@ -251,7 +254,7 @@ fn two_wishes(rt: HostRuntime) -> Outcome {
 }
 
 const GONE: Row = Row {
-    node: 2,
+    nodes: (2, 1),
     wishes: "c1 read a, c1 read b",
     posts: "",
     journal: "\
@@ -303,7 +306,7 @@ fn a_node_that_is_gone(rt: HostRuntime) -> Outcome {
 }
 
 const GONE_AFTER_ITS_VOTE: Row = Row {
-    node: 1,
+    nodes: (1, 2),
     wishes: "c1 read a",
     posts: "gone",
     journal: "\
@@ -334,7 +337,7 @@ fn a_vote_of_a_node_that_is_gone(rt: HostRuntime) -> Outcome {
 }
 
 const TOO_FEW: Row = Row {
-    node: 1,
+    nodes: (1, 2),
     wishes: "c1 read a, c1 write a, c1 read a",
     posts: "",
     journal: "\
@@ -384,7 +387,7 @@ fn too_few_nodes_for_a_writer(rt: HostRuntime) -> Outcome {
 }
 
 const TOO_FEW_AT_ONCE: Row = Row {
-    node: 2,
+    nodes: (2, 1),
     wishes: "c1 write a",
     posts: "",
     journal: "\
@@ -403,4 +406,45 @@ leave c1
 #[test]
 fn too_few_nodes_before_a_vote(rt: HostRuntime) -> Outcome {
     ends(rt, rt.alloc(), Device::Memory, &TOO_FEW_AT_ONCE)
+}
+
+const GRANTED_AND_GONE: Row = Row {
+    nodes: (1, 1),
+    wishes: "c1 write a",
+    posts: "",
+    journal: "\
+rise n1 old
+rise c1 old
+begin c1 write a
+try c1
+kept c1
+sayto c1 n1
+take n1 1
+try n1
+kept n1
+say n1
+hear c1 2
+sayto c1 n2
+leave c1
+",
+    answer: Err((0, RunFault::TooFewNodes)),
+};
+
+/// A node that granted and is gone counts, so the client goes on until the other is lost too.
+#[test]
+fn too_few_nodes_after_a_vote(rt: HostRuntime) -> Outcome {
+    ends(rt, rt.alloc(), Device::Memory, &GRANTED_AND_GONE)
+}
+
+/// Frames that are no message for the client are dropped, also under the number of its vote.
+#[test]
+fn a_whole_wish_beside_noise(rt: HostRuntime) -> Outcome {
+    let row = Row {
+        nodes: (1, 2),
+        wishes: "c1 read a",
+        posts: "2 noise, 2 request",
+        journal: WHOLE.journal,
+        answer: Ok(1),
+    };
+    ends(rt, rt.alloc(), Device::Memory, &row)
 }

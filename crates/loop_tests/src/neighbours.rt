@@ -13,28 +13,32 @@ use world_model::{Age, Effect, Event};
 
 /// A link that brings given posts and, behind them, the answers of a node. The node is beside the
 /// client, in the same thread: it takes what is sent as soon as it is sent, and keeps and says what
-/// follows. A parcel's frame is always the same, since who hears it goes by its number. Every other node
-/// is gone, which is told to who sends to it.
+/// follows. A parcel's frame is always the same, since who hears it goes by its number. Who sends to another
+/// node is told that a node is gone.
 #[derive(Drop)]
 pub(crate) struct Neighbour<'a, B: BookName, K: Logs, R: Copy> {
     node: NodeId,
+    gone: NodeId,
     recorder: BookRecorder<'a, B, K, R>,
     posts: Vec<Post>,
     frame: Bytes,
 }
 
 impl<'a, B: BookName, K: Logs, R: Wait + Copy> Neighbour<'a, B, K, R> {
-    /// The link over which this node answers, which rises first.
+    /// The link over which the first of the two nodes answers, which rises first; the second is the one
+    /// that is gone.
     pub(crate) fn rising(
-        node: NodeId,
+        nodes: (NodeId, NodeId),
         recorder: BookRecorder<'a, B, K, R>,
         posts: Vec<Post>,
         frame: Bytes,
     ) -> Result<Neighbour<'a, B, K, R>, Failure> {
+        let (node, gone) = nodes;
         let mut recorder = recorder;
         match recorder.log_event(Event::Rise(Actor::Node(node), Age::Old)) {
             Ok(_) => Ok(Neighbour {
                 node,
+                gone,
                 recorder,
                 posts,
                 frame,
@@ -87,11 +91,11 @@ impl<'a, B: BookName, K: Logs, R: Wait + Copy> Neighbour<'a, B, K, R> {
         Ok(())
     }
 
-    /// The node that this names, where it isn't the one beside.
-    fn another(&self, to: &Actor) -> Option<NodeId> {
+    /// Whether this is another node than the one beside.
+    fn is_other(&self, to: &Actor) -> bool {
         match to {
-            Actor::Node(node) if node.get() != self.node.get() => Some(*node),
-            _ => None,
+            Actor::Node(node) => node.get() != self.node.get(),
+            Actor::Client(_) => false,
         }
     }
 }
@@ -103,10 +107,10 @@ impl<'a, B: BookName, K: Logs, R: Wait + Copy> Link for Neighbour<'a, B, K, R> {
 
     ghost given = { λ _. None };
 
-    /// Brings what the node answers or, of another node, that it is gone.
+    /// Brings what the node answers or, where it goes to another, that a node is gone.
     fn send(&mut self, to: Actor, parcel: Parcel) -> Result<(), LinkFault> {
-        if let Some(other) = self.another(&to) {
-            return self.bring(Post::Gone(other));
+        if self.is_other(&to) {
+            return self.bring(Post::Gone(self.gone));
         }
         match self.turn(parcel.number) {
             Ok((first, count)) => self.answer(first, count),
