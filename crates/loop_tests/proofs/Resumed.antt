@@ -1,5 +1,5 @@
 -- What c1 has kept in a world that is opened from records.
-use Rattle.std.proofs.Common.{◌≡◌, ℕ, ◌∙◌, refl, sym, ap, List, [], ◌∷◌, length, Option, Some, None, arith}
+use Rattle.std.proofs.Common.{◌≡◌, ℕ, ◌∙◌, refl, sym, ap, List, [], ◌∷◌, Some, arith}
 use Rattle.lock_messages.specs.declared.ids.Actor.TheVariants as actor
 use Rattle.lock_model.specs.Ballots.{Ballot}
 use Rattle.lock_model.specs.declared.problems.Problem.{Problem}
@@ -8,7 +8,7 @@ use Rattle.world_model.specs.declared.exact.ExactStation.{ExactStation}
 use Rattle.world_model.specs.declared.exact.ExactWorld.{ExactWorld}
 use Rattle.world_model.specs.Openings.{resumed}
 use Rattle.world_model.specs.Parts.{part}
-use Rattle.world_opening.specs.Openings.{ClientFinds, IsEach, AreAttempts, stations_in}
+use Rattle.world_opening.specs.Openings.{AreAttempts, stations_in}
 use Rattle.world_machine.specs.Opened.{IsResumed}
 use Rattle.loop_tests.specs.Clients.{IsDown, HasKept}
 
