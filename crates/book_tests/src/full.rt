@@ -25,24 +25,26 @@ fn fill(book: &mut Book, berth: &mut Berth) -> Outcome
     Ok(())
 }
 
+/// What may happen, what may not, and what is another's is refused once the history is full.
+fn logs_no_more(book: &mut Book, one: &mut Berth, two: &mut Berth) -> Outcome
+    requires one { one.old.number ≡ book.old.number → one.old.table ≡ book.old.table }
+    requires two { two.old.number ≡ book.old.number → two.old.table ≡ book.old.table }
+{
+    fill(book, one)?;
+    check(book.events() as usize == MAX_EVENTS)?;
+    logs(book, one, "rise c1 old", Err(BookFault::Full))?;
+    logs(book, two, "fall c2", Err(BookFault::Full))?;
+    logs(book, two, "rise c1 old", Err(BookFault::OtherActor))?;
+    check(book.events() as usize == MAX_EVENTS)
+}
+
 #[test]
 fn full_history(rt: HostRuntime) -> Outcome {
     let alloc = rt.alloc();
     let mut book = opened(alloc, 7, one_node(alloc)?)?;
     let mut one = berth_of(&mut book, client(1)?)?;
     let mut two = berth_of(&mut book, client(2)?)?;
-    fill(&mut book, &mut one)?;
-    check(book.events() as usize == MAX_EVENTS)?;
-    // What may happen, what may not, and what is another's.
-    logs(&mut book, &mut one, "rise c1 old", Err(BookFault::Full))?;
-    logs(&mut book, &mut two, "fall c2", Err(BookFault::Full))?;
-    logs(
-        &mut book,
-        &mut two,
-        "rise c1 old",
-        Err(BookFault::OtherActor),
-    )?;
-    check(book.events() as usize == MAX_EVENTS)
+    logs_no_more(&mut book, &mut one, &mut two)
 }
 
 /// c1 says its request to n1, as often as the list of messages has room for.
@@ -59,20 +61,23 @@ fn asks_on(book: &mut Book, berth: &mut Berth) -> Outcome
     Ok(())
 }
 
+/// c1 asks until there is no room for a message: then what says nothing is still judged.
+fn says_no_more(book: &mut Book, one: &mut Berth) -> Outcome
+    requires { one.old.number ≡ book.old.number → one.old.table ≡ book.old.table }
+{
+    let no_quorum = Err(BookFault::NotAStep(StepFault::NoQuorum));
+    takes_all(book, one, "rise c1 old\nbegin c1 read a\ntry c1\nkept c1")?;
+    asks_on(book, one)?;
+    let before = book.events();
+    logs(book, one, "sayto c1 n1", Err(BookFault::Full))?;
+    logs(book, one, "enter c1", no_quorum)?;
+    check(before == MAX_MESSAGES + 4 && book.events() == before)
+}
+
 #[test]
 fn full_list_of_messages(rt: HostRuntime) -> Outcome {
     let alloc = rt.alloc();
-    let no_quorum = Err(BookFault::NotAStep(StepFault::NoQuorum));
     let mut book = opened(alloc, 7, one_node(alloc)?)?;
     let mut one = berth_of(&mut book, client(1)?)?;
-    takes_all(
-        &mut book,
-        &mut one,
-        "rise c1 old\nbegin c1 read a\ntry c1\nkept c1",
-    )?;
-    asks_on(&mut book, &mut one)?;
-    let before = book.events();
-    logs(&mut book, &mut one, "sayto c1 n1", Err(BookFault::Full))?;
-    logs(&mut book, &mut one, "enter c1", no_quorum)?;
-    check(before == MAX_MESSAGES + 4 && book.events() == before)
+    says_no_more(&mut book, &mut one)
 }

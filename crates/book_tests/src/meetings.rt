@@ -1,6 +1,6 @@
 // Who meets whom inside a resource.
 
-ghost use Rattle.std.specs.Prelude.{◌≡◌};
+ghost use Rattle.std.specs.Prelude.{◌≡◌, ◌≢◌};
 
 use crate::logging::{berth_of, meets, opened, takes_all};
 use crate::outcomes::{Outcome, check};
@@ -48,41 +48,75 @@ fn enter_both(
     takes_all(book, two, "hear c2 4\nenter c2")
 }
 
+/// c1 meets c2 inside, and not the node; and nobody once it has left.
+fn meets_the_second(book: &mut Book, voter: &mut Berth, one: &mut Berth, two: &mut Berth) -> Outcome
+    requires voter { voter.old.number ≡ book.old.number → voter.old.table ≡ book.old.table }
+    requires one { one.old.number ≡ book.old.number → one.old.table ≡ book.old.table }
+    requires two { two.old.number ≡ book.old.number → two.old.table ≡ book.old.table }
+{
+    enter_both(book, voter, one, two, SECOND_ASKS)?;
+    check(meets(book, one, two) == Ok(true))?;
+    check(meets(book, one, voter) == Ok(false))?;
+    takes_all(book, one, "leave c1")?;
+    check(meets(book, two, one) == Ok(false) && book.entered() == 2)
+}
+
+/// Each has its berth, of an open book.
+fn reads_beside(book: &mut Book) -> Outcome
+    requires { Unit {0} }
+{
+    let mut voter = berth_of(book, node(1)?)?;
+    let mut one = berth_of(book, client(1)?)?;
+    let mut two = berth_of(book, client(2)?)?;
+    meets_the_second(book, &mut voter, &mut one, &mut two)
+}
+
 #[test]
 fn readers_meet(rt: HostRuntime) -> Outcome {
     let alloc = rt.alloc();
     let mut book = opened(alloc, 7, one_node(alloc)?)?;
-    let mut voter = berth_of(&mut book, node(1)?)?;
-    let mut one = berth_of(&mut book, client(1)?)?;
-    let mut two = berth_of(&mut book, client(2)?)?;
-    enter_both(&mut book, &mut voter, &mut one, &mut two, SECOND_ASKS)?;
-    check(meets(&mut book, &mut one, &mut two) == Ok(true))?;
-    check(meets(&mut book, &mut one, &mut voter) == Ok(false))?;
-    takes_all(&mut book, &mut one, "leave c1")?;
-    check(meets(&mut book, &mut two, &mut one) == Ok(false) && book.entered() == 2)
+    reads_beside(&mut book)
+}
+
+/// Each has its berth, of an open book, and nobody is met in another resource.
+fn reads_apart(book: &mut Book) -> Outcome
+    requires { Unit {0} }
+{
+    let mut voter = berth_of(book, node(1)?)?;
+    let mut one = berth_of(book, client(1)?)?;
+    let mut two = berth_of(book, client(2)?)?;
+    enter_both(
+        book,
+        &mut voter,
+        &mut one,
+        &mut two,
+        SECOND_ASKS_FOR_ANOTHER,
+    )?;
+    check(meets(book, &mut one, &mut two) == Ok(false) && book.entered() == 2)
 }
 
 #[test]
 fn readers_of_two_resources(rt: HostRuntime) -> Outcome {
     let alloc = rt.alloc();
     let mut book = opened(alloc, 7, one_node(alloc)?)?;
-    let mut voter = berth_of(&mut book, node(1)?)?;
-    let mut one = berth_of(&mut book, client(1)?)?;
-    let mut two = berth_of(&mut book, client(2)?)?;
-    let asks = SECOND_ASKS_FOR_ANOTHER;
-    enter_both(&mut book, &mut voter, &mut one, &mut two, asks)?;
-    check(meets(&mut book, &mut one, &mut two) == Ok(false) && book.entered() == 2)
+    reads_apart(&mut book)
 }
 
 /// A client has one berth of a book, so only that of another book could stand for the client itself.
+fn meets_only_others(book: &mut Book, other: &mut Book) -> Outcome
+    requires { book.old.number ≢ other.old.number }
+{
+    let mut one = berth_of(book, client(1)?)?;
+    let mut same = berth_of(other, client(1)?)?;
+    check(meets(book, &mut one, &mut same) == Err(BookFault::OtherBook))?;
+    check(meets(book, &mut same, &mut one) == Err(BookFault::OtherBook))?;
+    check(matches!(book.berth(client(1)?), Ok(None)))
+}
+
 #[test]
 fn nobody_meets_itself(rt: HostRuntime) -> Outcome {
     let alloc = rt.alloc();
     let mut book = opened(alloc, 7, one_node(alloc)?)?;
     let mut other = opened(alloc, 8, one_node(alloc)?)?;
-    let mut one = berth_of(&mut book, client(1)?)?;
-    let mut same = berth_of(&mut other, client(1)?)?;
-    check(meets(&mut book, &mut one, &mut same) == Err(BookFault::OtherBook))?;
-    check(meets(&mut book, &mut same, &mut one) == Err(BookFault::OtherBook))?;
-    check(matches!(book.berth(client(1)?), Ok(None)))
+    meets_only_others(&mut book, &mut other)
 }
