@@ -1,0 +1,49 @@
+-- An actor's berth, with the actor's record, is what its thread needs.
+use Rattle.std.proofs.Common.{◌≡◌, ℕ, ◌≤◌, List, [], ◌∷◌, sym, ap, ◌∙◌, subst, refl, length, All}
+use Rattle.lock_messages.specs.declared.ids.Actor.{Actor}
+use Rattle.lock_messages.specs.declared.ids.Actor.TheVariants as actor
+use Rattle.lock_messages.specs.declared.ids.TheConstants.{MAX_ATTEMPT}
+use Rattle.lock_model.specs.declared.problems.Problem.{Problem}
+use Rattle.lock_model.specs.Ballots.{Ballot}
+use Rattle.history_check.specs.declared.wishes.Wish.{Wish}
+use Rattle.history_book.specs.Books.{BookValue, BerthValue, IsGiven}
+use Rattle.world_model.specs.Openings.{down_node, down_client}
+use Rattle.world_model.specs.Parts.{Part, NodePart, ClientPart, part}
+use Rattle.world_actors.specs.Nodes.{station_in}
+use Rattle.event_recorders.specs.OwnLogs.{IsUnused, IsDownAtRest, FindsPart}
+use Rattle.book_recorders.specs.Sharing.{log_of}
+use Rattle.client_loop.specs.declared.entering.TheConstants.{MAX_WISHES}
+use Rattle.client_loop.specs.Standing.{KeepsAttempt}
+use Rattle.node_threads.specs.Conditions.{IsNodeReady, IsClientReady}
+use Rattle.node_threads.specs.Tasks.{IsNodeTask, IsClientTask}
+
+-- the part of the world that the berth tells is that of its actor in the book's opening
+opens : (who : Actor) (b b' : BookValue) (k : BerthValue) → IsGiven who b k b' → part k.opening k.actor ≡ part b.opening who
+opens who b b' k given = ap (λ w. part w k.actor) given.opening ∙ ap (part b.opening) given.actor
+
+pub node_ready : (n : ℕ) (p : Problem) (strings : List (List ℕ)) (b b' : BookValue) (k : BerthValue) → IsNodeReady b.opening n p strings → IsGiven (actor.Node n) b k b' → IsNodeTask b.table n k p strings
+node_ready n p strings b b' k ready given =
+    let at : (log_of k).opening ≡ NodePart (down_node (station_in ready.kept)) = opens (actor.Node n) b b' k given ∙ ready.part in record {
+      table = given.table;
+      kept = ready.kept;
+      ready = record {
+        unused = record { actor = given.actor; events = given.own; down = subst (IsDownAtRest (actor.Node n)) (sym at) (refl, refl) };
+        opening = at;
+        good = ready.good;
+        problem = ready.problem;
+        finds = ready.finds;
+      };
+    }
+
+pub client_ready : (c : ℕ) (votes : Ballot) (wishes : List Wish) (strings : List (List ℕ)) (b b' : BookValue) (k : BerthValue) → IsClientReady b.opening c strings → IsGiven (actor.Client c) b k b' → b.opening.ballot ≡ votes
+    → All (λ w. w.client ≡ c) wishes → length wishes ≤ MAX_WISHES → IsClientTask b.table c votes wishes k strings
+client_ready c votes wishes strings b b' k ready given ballot own few =
+    let at : (log_of k).opening ≡ ClientPart (down_client ready.attempt) = opens (actor.Client c) b b' k given ∙ ready.part in record {
+      table = given.table;
+      unused = record { actor = given.actor; events = given.own; down = subst (IsDownAtRest (actor.Client c)) (sym at) (refl, refl) };
+      ballot = ap (λ w. w.ballot) given.opening ∙ ballot;
+      found = subst (λ (q : Part). FindsPart q strings) (sym at) ready.finds;
+      kept = subst KeepsAttempt (sym at) ready.range;
+      own = own;
+      few = few;
+    }

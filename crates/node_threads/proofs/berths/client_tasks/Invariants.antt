@@ -1,0 +1,15 @@
+use Rattle.std.proofs.Common.{◌≡◌, ◌+◌, length, map, All}
+use Rattle.node_threads.specs.Conditions.{AreClientsReady}
+use Rattle.node_threads.specs.Tasks.{IsClientTask}
+use Rattle.node_threads.proofs.berths.client_tasks.Given as goal
+
+-- the clients whose records are left are ready, and those before have their tasks
+abbrev pub invariant-loop-place : goal.invariant-loop-place
+invariant-loop-place g l = record {
+  ready : AreClientsReady l.place l.book.opening (map (λ r. (goal.StableRecord-dyn g (r.vtable, r.value)).finds r.value) l.records.items);
+  records : l.place + length l.records.items ≡ l.count;
+  links : l.place + length l.links.items ≡ l.count;
+  tasks : All (λ t. IsClientTask l.fn.book.table t.client t.ballot t.wishes.items t.berth ((goal.StableRecord-dyn g (t.record.vtable, t.record.value)).finds t.record.value)) l.tasks.items;
+  table : l.book.table ≡ l.fn.book.table;
+  opening : l.book.opening ≡ l.fn.book.opening;
+}

@@ -1,0 +1,16 @@
+use Rattle.std.proofs.Common.{◌≡◌, ◌+◌, length, map, All}
+use Rattle.node_threads.specs.Conditions.{AreNodesReady}
+use Rattle.node_threads.specs.Tasks.{IsNodeTask}
+use Rattle.node_threads.proofs.berths.node_tasks.Given as goal
+
+-- the nodes whose policies and records are left are ready, and those before have their tasks
+abbrev pub invariant-loop-place : goal.invariant-loop-place
+invariant-loop-place g l = record {
+  ready : AreNodesReady l.place l.book.opening (map (λ p. (goal.Admission-dyn g (p.vtable, p.value)).problem_of p.value) l.policies.items) (map (λ r. (goal.StableRecord-dyn g (r.vtable, r.value)).finds r.value) l.records.items);
+  policies : l.place + length l.policies.items ≡ l.count;
+  records : l.place + length l.records.items ≡ l.count;
+  links : l.place + length l.links.items ≡ l.count;
+  tasks : All (λ t. IsNodeTask l.fn.book.table t.node t.berth ((goal.Admission-dyn g (t.policy.vtable, t.policy.value)).problem_of t.policy.value) ((goal.StableRecord-dyn g (t.record.vtable, t.record.value)).finds t.record.value)) l.tasks.items;
+  table : l.book.table ≡ l.fn.book.table;
+  opening : l.book.opening ≡ l.fn.book.opening;
+}

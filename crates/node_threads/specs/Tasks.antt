@@ -1,0 +1,32 @@
+-- What an actor's thread is given, so that it may run.
+use Rattle.std.specs.Prelude.{◌≡◌, ℕ, ◌≤◌, List, length, All}
+use Rattle.berth_seats.specs.Views.{TableId}
+use Rattle.lock_messages.specs.declared.ids.Actor.TheVariants as actor
+use Rattle.lock_model.specs.declared.problems.Problem.{Problem}
+use Rattle.lock_model.specs.Ballots.{Ballot}
+use Rattle.stable_record.specs.declared.node_records.NodeRecord.{NodeRecord}
+use Rattle.history_check.specs.declared.wishes.Wish.{Wish}
+use Rattle.history_book.specs.Books.{BerthValue}
+use Rattle.event_recorders.specs.OwnLogs.{IsUnused, FindsPart}
+use Rattle.book_recorders.specs.Sharing.{log_of}
+use Rattle.node_loop.specs.Standing.{IsReady}
+use Rattle.client_loop.specs.declared.entering.TheConstants.{MAX_WISHES}
+use Rattle.client_loop.specs.Standing.{KeepsAttempt}
+
+-- The node's berth is of the book of this table, and its policy and its record are those of what it has
+-- kept.
+pub record IsNodeTask (book : TableId) (n : ℕ) (k : BerthValue) (p : Problem) (strings : List (List ℕ)) : Type 0 where
+  pub table : k.table ≡ book
+  pub kept : NodeRecord
+  pub ready : IsReady (log_of k) n kept p strings
+
+-- The client's berth is of the book of this table, its record finds the attempt that it has kept, and the
+-- wishes are its own.
+pub record IsClientTask (book : TableId) (c : ℕ) (votes : Ballot) (wishes : List Wish) (k : BerthValue) (strings : List (List ℕ)) : Type 0 where
+  pub table : k.table ≡ book
+  pub unused : IsUnused (log_of k) (actor.Client c)
+  pub ballot : (log_of k).ballot ≡ votes
+  pub found : FindsPart (log_of k).opening strings
+  pub kept : KeepsAttempt (log_of k).opening
+  pub own : All (λ w. w.client ≡ c) wishes
+  pub few : length wishes ≤ MAX_WISHES

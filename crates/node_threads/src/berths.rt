@@ -1,0 +1,173 @@
+// The tasks of all actors: each gets its berth, its record and its link.
+
+ghost use Rattle.std.specs.Prelude.{◌≡◌, ◌≤◌, ◌+◌, length, map, All, IfOk, IfErr};
+ghost use Rattle.lock_messages.specs.declared.ids.TheConstants.{MAX_NODES, MAX_CLIENTS};
+ghost use Rattle.history_book.specs.Books.{IsGiven};
+ghost use Rattle.node_threads.specs.Conditions.{IsNodeReady, IsClientReady, AreNodesReady, AreClientsReady};
+ghost use Rattle.node_threads.specs.Tasks.{IsNodeTask, IsClientTask};
+
+use crate::tasks::{ClientTask, NodeTask};
+use admission_policy::Admission;
+use client_loop::MAX_WISHES;
+use event_recorders::RunFault;
+use history_book::{Berth, Book};
+use history_check::Wish;
+use lock_messages::{Actor, ClientId, NodeId};
+use lossy_link::ChannelLink;
+use stable_record::StableRecord;
+use std::alloc::Global;
+use vote_weights::Ballot;
+
+/// The berth of an actor of the book's world that has none yet; of another one there is none.
+fn berth_of(book: &mut Book, actor: Actor) -> Result<Berth, RunFault>
+    requires { Unit {0} }
+    ensures given { IfOk result (λ k. IsGiven actor book.old k book.new) }
+    ensures err { IfErr result (λ f. f ≡ RunFault.Memory) }
+{
+    match book.berth(actor) {
+        Ok(Some(berth)) => Ok(berth),
+        Ok(None) | Err(_) => Err(RunFault::Memory),
+    }
+}
+
+/// The task of a node.
+#[tactic(auto, using(crate::proofs::Ready::node_ready))]
+fn node_task<R: Copy>(
+    book: &mut Book,
+    node: NodeId,
+    stable: Box<dyn StableRecord + Send>,
+    policy: Box<dyn Admission + Send>,
+    link: ChannelLink<R>,
+) -> Result<NodeTask<R>, RunFault>
+    requires { IsNodeReady book.old.opening node (problem_of policy) (finds stable) }
+    ensures task { IfOk result (λ task. IsNodeTask book.old.table task.node task.berth (problem_of task.policy) (finds task.record)) }
+    ensures table { IfOk result (λ _. book.new.table ≡ book.old.table) }
+    ensures opening { IfOk result (λ _. book.new.opening ≡ book.old.opening) }
+    ensures err { IfErr result (λ f. f ≡ RunFault.Memory) }
+{
+    let berth = berth_of(book, Actor::Node(node))?;
+    Ok(NodeTask {
+        node,
+        berth,
+        record: stable,
+        policy,
+        link,
+    })
+}
+
+/// The wishes of a client, in order.
+fn wishes_of(alloc: Global, client: ClientId, wishes: &[Wish]) -> Result<Vec<Wish>, RunFault>
+    ensures own { IfOk result (λ own. All (λ wish. wish.client ≡ client) own.items) }
+    ensures few { IfOk result (λ own. length own.items ≤ length wishes.now) }
+    ensures err { IfErr result (λ f. f ≡ RunFault.Memory) }
+{
+    let mut own = Vec::new(alloc);
+    for wish in wishes {
+        if wish.client == client && own.push(*wish).is_err() {
+            return Err(RunFault::Memory);
+        }
+    }
+    Ok(own)
+}
+
+/// The task of a client, with its own wishes.
+#[tactic(auto, using(crate::proofs::Ready::client_ready))]
+fn client_task<R: Copy>(
+    alloc: Global,
+    book: &mut Book,
+    client: ClientId,
+    ballot: Ballot,
+    wishes: &[Wish],
+    stable: Box<dyn StableRecord + Send>,
+    link: ChannelLink<R>,
+) -> Result<ClientTask<R>, RunFault>
+    requires ready { IsClientReady book.old.opening client (finds stable) }
+    requires ballot { book.old.opening.ballot ≡ ballot }
+    requires few { length wishes.now ≤ MAX_WISHES }
+    ensures task { IfOk result (λ task. IsClientTask book.old.table task.client task.ballot task.wishes.items task.berth (finds task.record)) }
+    ensures table { IfOk result (λ _. book.new.table ≡ book.old.table) }
+    ensures opening { IfOk result (λ _. book.new.opening ≡ book.old.opening) }
+    ensures err { IfErr result (λ f. f ≡ RunFault.Memory) }
+{
+    let wishes = wishes_of(alloc, client, wishes)?;
+    let berth = berth_of(book, Actor::Client(client))?;
+    Ok(ClientTask {
+        client,
+        ballot,
+        wishes,
+        berth,
+        record: stable,
+        link,
+    })
+}
+
+/// The tasks of all nodes, in order.
+pub(crate) fn node_tasks<R: Copy>(
+    alloc: Global,
+    book: &mut Book,
+    policies: Vec<Box<dyn Admission + Send>>,
+    records: Vec<Box<dyn StableRecord + Send>>,
+    links: Vec<ChannelLink<R>>,
+) -> Result<Vec<NodeTask<R>>, RunFault>
+    requires few { length policies.items ≤ MAX_NODES }
+    requires records { length records.items ≡ length policies.items }
+    requires links { length links.items ≡ length policies.items }
+    requires ready { AreNodesReady 0 book.old.opening (map (λ p. problem_of p) policies.items) (map (λ r. finds r) records.items) }
+    ensures tasks { IfOk result (λ tasks. All (λ task. IsNodeTask book.old.table task.node task.berth (problem_of task.policy) (finds task.record)) tasks.items) }
+    ensures table { IfOk result (λ _. book.new.table ≡ book.old.table) }
+    ensures opening { IfOk result (λ _. book.new.opening ≡ book.old.opening) }
+    ensures err { IfErr result (λ f. f ≡ RunFault.Memory) }
+{
+    let count = policies.len();
+    let (mut policies, mut records, mut links) = (policies, records, links);
+    let mut tasks = Vec::new(alloc);
+    for place in 0..count {
+        let Some(node) = NodeId::of(place as u8 + 1) else {
+            unreachable!()
+        };
+        let policy = policies.remove(0);
+        let stable = records.remove(0);
+        let link = links.remove(0);
+        let task = node_task(book, node, stable, policy, link)?;
+        if tasks.push(task).is_err() {
+            return Err(RunFault::Memory);
+        }
+    }
+    Ok(tasks)
+}
+
+/// The tasks of all clients, in order, each with its own wishes.
+pub(crate) fn client_tasks<R: Copy>(
+    alloc: Global,
+    book: &mut Book,
+    ballot: Ballot,
+    wishes: &[Wish],
+    records: Vec<Box<dyn StableRecord + Send>>,
+    links: Vec<ChannelLink<R>>,
+) -> Result<Vec<ClientTask<R>>, RunFault>
+    requires few { length records.items ≤ MAX_CLIENTS }
+    requires links { length links.items ≡ length records.items }
+    requires ready { AreClientsReady 0 book.old.opening (map (λ r. finds r) records.items) }
+    requires ballot { book.old.opening.ballot ≡ ballot }
+    requires few_wishes { length wishes.now ≤ MAX_WISHES }
+    ensures tasks { IfOk result (λ tasks. All (λ task. IsClientTask book.old.table task.client task.ballot task.wishes.items task.berth (finds task.record)) tasks.items) }
+    ensures table { IfOk result (λ _. book.new.table ≡ book.old.table) }
+    ensures opening { IfOk result (λ _. book.new.opening ≡ book.old.opening) }
+    ensures err { IfErr result (λ f. f ≡ RunFault.Memory) }
+{
+    let count = records.len();
+    let (mut records, mut links) = (records, links);
+    let mut tasks = Vec::new(alloc);
+    for place in 0..count {
+        let Some(client) = ClientId::of(place as u32 + 1) else {
+            unreachable!()
+        };
+        let stable = records.remove(0);
+        let link = links.remove(0);
+        let task = client_task(alloc, book, client, ballot, wishes, stable, link)?;
+        if tasks.push(task).is_err() {
+            return Err(RunFault::Memory);
+        }
+    }
+    Ok(tasks)
+}

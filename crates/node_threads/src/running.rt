@@ -1,0 +1,141 @@
+// A run, from its world to its end.
+
+ghost use Rattle.std.specs.Prelude.{◌≡◌, ◌≤◌, length, map, true, All, IfOk, IfErr};
+ghost use Rattle.history_book.specs.Books.{enters};
+ghost use Rattle.world_machine.specs.Listing.{has_actor};
+ghost use Rattle.world_model.specs.Locality.{IsHistory};
+ghost use Rattle.node_threads.specs.Conditions.{MayRun};
+ghost use Rattle.node_threads.specs.Tasks.{IsNodeTask, IsClientTask};
+
+use crate::berths::{client_tasks, node_tasks};
+use crate::runs::opened;
+use crate::tasks::{ClientTask, NodeTask};
+use admission_policy::Admission;
+use client_loop::MAX_WISHES;
+use event_recorders::{Gate, RunFault};
+use history_book::Book;
+use history_check::Wish;
+use lock_messages::Actor;
+use lossy_link::{ChannelLink, Weather};
+use stable_record::StableRecord;
+use std::alloc::Global;
+use std::marker::Brand;
+use std::sync::Wait;
+use std::thread::Threads;
+use vote_weights::Ballot;
+use world_machine::World;
+
+/// The number of a run's book. A program makes one book at a time, so any number names it.
+const BOOK: u64 = 1;
+
+/// What a run leaves: the book with the whole history, how many entries it has, and the actors whose
+/// threads ended by a fault, nodes first.
+#[derive(Drop)]
+pub struct RunEnd {
+    pub book: Book,
+    pub entered: u32,
+    pub faults: Vec<(Actor, RunFault)>,
+}
+
+/// What all threads are given.
+#[derive(Drop)]
+struct Tasks<R: Copy> {
+    nodes: Vec<NodeTask<R>>,
+    clients: Vec<ClientTask<R>>,
+}
+
+/// The tasks of all actors of the book's world, each with its berth and its link.
+fn tasks_of<R: Copy>(
+    rt: R,
+    alloc: Global,
+    ballot: Ballot,
+    wishes: &[Wish],
+    records: Vec<Box<dyn StableRecord + Send>>,
+    policies: Vec<Box<dyn Admission + Send>>,
+    weather: &Weather,
+    book: &mut Book,
+) -> Result<Tasks<R>, RunFault>
+    requires may { MayRun book.old.opening ballot (map (λ p. problem_of p) policies.items) (map (λ r. finds r) records.items) }
+    requires few { length wishes.now ≤ MAX_WISHES }
+    ensures nodes { IfOk result (λ tasks. All (λ task. IsNodeTask book.new.table task.node task.berth (problem_of task.policy) (finds task.record)) tasks.nodes.items) }
+    ensures clients { IfOk result (λ tasks. All (λ task. IsClientTask book.new.table task.client task.ballot task.wishes.items task.berth (finds task.record)) tasks.clients.items) }
+    ensures opening { IfOk result (λ _. book.new.opening ≡ book.old.opening) }
+    ensures err { IfErr result (λ f. f ≡ RunFault.Memory) }
+{
+    let count = policies.len();
+    let others = records.len() - count;
+    let Ok(mut links) = ChannelLink::all(rt, alloc, count as u8, others as u16, weather) else {
+        return Err(RunFault::Memory);
+    };
+    let mut records = records;
+    let Ok(client_records) = records.split_off(count) else {
+        return Err(RunFault::Memory);
+    };
+    let Ok(client_links) = links.split_off(count) else {
+        return Err(RunFault::Memory);
+    };
+    let Ok(nodes) = node_tasks(alloc, book, policies, records, links) else {
+        return Err(RunFault::Memory);
+    };
+    let Ok(clients) = client_tasks(alloc, book, ballot, wishes, client_records, client_links) else {
+        return Err(RunFault::Memory);
+    };
+    Ok(Tasks { nodes, clients })
+}
+
+/// Runs the service: a thread for each node and each client, which log in one book over the world, until
+/// all have ended. The book's history is a run from the world, and `entered` is how many Enters it has.
+///
+/// Each client has its own wishes, in the order in which they stand here. Its link and those of nodes have
+/// the weather, each at its own place, nodes first. The gate is called in the threads. Between two events a
+/// thread holds no lock, and there is none round all of them. A thread that ends by a fault is told in
+/// `faults`, nodes first; the others go on.
+///
+/// The caller owes the world's own ballot; a world whose actors are all down with nothing tried, and whose
+/// list of messages is empty; one record an actor, nodes first, each of which finds just what the world has
+/// its actor keep, which for a node is a record that can be read again; one policy a node, of its record's
+/// problem; and wishes of the world's clients, at most `MAX_WISHES`.
+///
+/// The only error is that memory was refused or a thread couldn't be started (914). Then the threads that
+/// were started have ended, and what was handed in is dropped. It waits for all threads.
+pub fn run_all<R: Threads + Wait + Copy + Send + Sync, G: Gate + Sync>(
+    rt: R,
+    alloc: Global,
+    ballot: Ballot,
+    wishes: &[Wish],
+    records: Vec<Box<dyn StableRecord + Send>>,
+    world: World,
+    policies: Vec<Box<dyn Admission + Send>>,
+    weather: Weather,
+    gate: &G,
+) -> Result<RunEnd, RunFault>
+    requires may { MayRun world ballot (map (λ p. problem_of p) policies.items) (map (λ r. finds r) records.items) }
+    requires few { length wishes.now ≤ MAX_WISHES }
+    requires theirs { All (λ wish. has_actor world (Actor.Client wish.client) ≡ true) wishes.now }
+    // The book was opened with the world, and its history is a run from there.
+    ensures opening { IfOk result (λ end. end.book.opening ≡ world) }
+    ensures history { IfOk result (λ end. IsHistory world end.book.history end.book.world) }
+    ensures entered { IfOk result (λ end. end.entered ≡ enters end.book.history) }
+    ensures err { IfErr result (λ f. f ≡ RunFault.Memory) }
+{
+    let Ok(mut book) = Book::over(alloc, BOOK, world) else {
+        return Err(RunFault::Memory);
+    };
+    let Ok(tasks) = tasks_of(
+        rt, alloc, ballot, wishes, records, policies, &weather, &mut book,
+    ) else {
+        return Err(RunFault::Memory);
+    };
+    let Tasks { nodes, clients } = tasks;
+    let (book, ended) = opened::<Brand, Book, R, G>(rt, alloc, book, nodes, clients, gate);
+    let Ok(faults) = ended else {
+        return Err(RunFault::Memory);
+    };
+    book.standing();
+    let entered = book.entered();
+    Ok(RunEnd {
+        book,
+        entered,
+        faults,
+    })
+}
