@@ -2,3 +2,4 @@ pub mod Doing
 pub mod Machines
 pub mod Listing
 pub mod Opened
+pub mod Keeping

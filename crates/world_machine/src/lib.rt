@@ -12,6 +12,7 @@
 #![tactic(auto)]
 
 mod doing;
+mod keeping;
 mod listing;
 mod opening;
 mod stepping;

@@ -10,8 +10,10 @@ ghost use Rattle.world_model.specs.StepsOf.{Does, Runs};
 ghost use Rattle.world_model.specs.Views.{inside, waiting, holding, ticket_inside};
 ghost use Rattle.world_model.specs.Worlds.{Happens, Run};
 ghost use Rattle.world_machine.specs.Doing.{taken_of};
+ghost use Rattle.world_machine.specs.Keeping.{KeepsRecords};
 ghost use Rattle.world_machine.specs.Listing.{has_actor, kept_bytes, Tells, AreInside, IsInsideBy, AreWaiting, AreHolding};
 
+use crate::keeping::{see_last, see_records};
 use crate::listing::{client_bytes_at, node_bytes_at, ticket_inside, tickets_at, tickets_inside};
 use crate::stepping::{message_at, take_step};
 use lock_messages::{Actor, ClientId, Message, Mode, NodeId, ResourceName, Ticket};
@@ -117,6 +119,16 @@ impl World {
         ensures { IsSound self.now }
     {
         let _actors = self.nodes.len();
+    }
+
+    /// Tells that each node has kept a record that can be read again, and that there are no more nodes and
+    /// clients than have numbers, as it is in each world. It goes over the nodes, and changes nothing.
+    pub fn keeping(&self)
+        ensures { KeepsRecords self.now }
+    {
+        let _nodes = self.ballot.nodes();
+        see_records(&self.nodes);
+        see_last(&self.clients);
     }
 
     /// The tickets of the clients that are inside the resource, in the order of the clients. A writer
