@@ -14,7 +14,7 @@ use Rattle.event_recorders.specs.OwnLogs.{IsUnused, IsDownAtRest, FindsPart}
 use Rattle.book_recorders.specs.Sharing.{log_of}
 use Rattle.client_loop.specs.declared.entering.TheConstants.{MAX_WISHES}
 use Rattle.client_loop.specs.Standing.{KeepsAttempt}
-use Rattle.node_threads.specs.Conditions.{IsNodeReady, IsClientReady}
+use Rattle.node_threads.specs.Actors.{IsNodeReady, IsClientReady}
 use Rattle.node_threads.specs.Tasks.{IsNodeTask, IsClientTask}
 
 -- the part of the world that the berth tells is that of its actor in the book's opening

@@ -1,2 +1,3 @@
+pub mod Actors
 pub mod Conditions
 pub mod Tasks

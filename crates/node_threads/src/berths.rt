@@ -3,7 +3,7 @@
 ghost use Rattle.std.specs.Prelude.{◌≡◌, ◌≤◌, ◌+◌, length, map, All, IfOk, IfErr};
 ghost use Rattle.lock_messages.specs.declared.ids.TheConstants.{MAX_NODES, MAX_CLIENTS};
 ghost use Rattle.history_book.specs.Books.{IsGiven};
-ghost use Rattle.node_threads.specs.Conditions.{IsNodeReady, IsClientReady, AreNodesReady, AreClientsReady};
+ghost use Rattle.node_threads.specs.Actors.{IsNodeReady, IsClientReady, AreNodesReady, AreClientsReady};
 ghost use Rattle.node_threads.specs.Tasks.{IsNodeTask, IsClientTask};
 
 use crate::tasks::{ClientTask, NodeTask};
@@ -129,9 +129,9 @@ pub(crate) fn node_tasks<R: Copy>(
         let stable = records.remove(0);
         let link = links.remove(0);
         let task = node_task(book, node, stable, policy, link)?;
-        if tasks.push(task).is_err() {
+        let Ok(()) = tasks.push(task) else {
             return Err(RunFault::Memory);
-        }
+        };
     }
     Ok(tasks)
 }
@@ -165,9 +165,9 @@ pub(crate) fn client_tasks<R: Copy>(
         let stable = records.remove(0);
         let link = links.remove(0);
         let task = client_task(alloc, book, client, ballot, wishes, stable, link)?;
-        if tasks.push(task).is_err() {
+        let Ok(()) = tasks.push(task) else {
             return Err(RunFault::Memory);
-        }
+        };
     }
     Ok(tasks)
 }

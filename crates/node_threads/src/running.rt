@@ -2,7 +2,10 @@
 
 ghost use Rattle.std.specs.Prelude.{◌≡◌, ◌≤◌, length, map, true, All, IfOk, IfErr};
 ghost use Rattle.history_book.specs.Books.{enters};
+ghost use Rattle.lock_messages.specs.declared.ids.TheConstants.{MAX_NODES, MAX_CLIENTS};
+ghost use Rattle.world_machine.specs.Keeping.{KeepsRecords};
 ghost use Rattle.world_machine.specs.Listing.{has_actor};
+ghost use Rattle.world_model.specs.Forgetting.{IsSound};
 ghost use Rattle.world_model.specs.Locality.{IsHistory};
 ghost use Rattle.node_threads.specs.Conditions.{MayRun};
 ghost use Rattle.node_threads.specs.Tasks.{IsNodeTask, IsClientTask};
@@ -12,8 +15,9 @@ use crate::runs::opened;
 use crate::tasks::{ClientTask, NodeTask};
 use admission_policy::Admission;
 use client_loop::MAX_WISHES;
+use book_recorders::Logs;
 use event_recorders::{Gate, RunFault};
-use history_book::Book;
+use history_book::{Berth, Book, BookFault};
 use history_check::Wish;
 use lock_messages::Actor;
 use lossy_link::{ChannelLink, Weather};
@@ -24,6 +28,7 @@ use std::sync::Wait;
 use std::thread::Threads;
 use vote_weights::Ballot;
 use world_machine::World;
+use world_model::{Effect, Event};
 
 /// The number of a run's book. A program makes one book at a time, so any number names it.
 const BOOK: u64 = 1;
@@ -37,6 +42,25 @@ pub struct RunEnd {
     pub faults: Vec<(Actor, RunFault)>,
 }
 
+/// A run's book, to the recorders of its threads. It is a type of this crate, since a function that is
+/// handed boxes can't name an impl of another crate for a type that has boxes, as `Book` has.
+#[derive(Drop)]
+struct SharedBook {
+    book: Book,
+}
+
+impl Logs for SharedBook {
+    ghost book = { λ s. s.book };
+
+    fn log(&mut self, berth: &mut Berth, event: Event) -> Result<Effect, BookFault> {
+        self.book.log(berth, event)
+    }
+
+    fn observe(&mut self, berth: &mut Berth) -> Result<(), BookFault> {
+        self.book.observe(berth)
+    }
+}
+
 /// What all threads are given.
 #[derive(Drop)]
 struct Tasks<R: Copy> {
@@ -44,7 +68,31 @@ struct Tasks<R: Copy> {
     clients: Vec<ClientTask<R>>,
 }
 
+/// The links of so many nodes, and of so many clients.
+fn links_of<R: Copy>(
+    rt: R,
+    alloc: Global,
+    nodes: usize,
+    clients: usize,
+    weather: &Weather,
+) -> Result<(Vec<ChannelLink<R>>, Vec<ChannelLink<R>>), RunFault>
+    requires few_nodes { nodes ≤ MAX_NODES }
+    requires few_clients { clients ≤ MAX_CLIENTS }
+    ensures nodes { IfOk result (λ links. length links.0.items ≡ nodes) }
+    ensures clients { IfOk result (λ links. length links.1.items ≡ clients) }
+    ensures err { IfErr result (λ f. f ≡ RunFault.Memory) }
+{
+    let Ok(mut links) = ChannelLink::all(rt, alloc, nodes as u8, clients as u16, weather) else {
+        return Err(RunFault::Memory);
+    };
+    let Ok(others) = links.split_off(nodes) else {
+        return Err(RunFault::Memory);
+    };
+    Ok((links, others))
+}
+
 /// The tasks of all actors of the book's world, each with its berth and its link.
+#[tactic(auto, using(crate::proofs::Openings::ready_nodes, crate::proofs::Openings::ready_clients))]
 fn tasks_of<R: Copy>(
     rt: R,
     alloc: Global,
@@ -56,6 +104,8 @@ fn tasks_of<R: Copy>(
     book: &mut Book,
 ) -> Result<Tasks<R>, RunFault>
     requires may { MayRun book.old.opening ballot (map (λ p. problem_of p) policies.items) (map (λ r. finds r) records.items) }
+    requires keeps { KeepsRecords book.old.opening }
+    requires sound { IsSound book.old.opening }
     requires few { length wishes.now ≤ MAX_WISHES }
     ensures nodes { IfOk result (λ tasks. All (λ task. IsNodeTask book.new.table task.node task.berth (problem_of task.policy) (finds task.record)) tasks.nodes.items) }
     ensures clients { IfOk result (λ tasks. All (λ task. IsClientTask book.new.table task.client task.ballot task.wishes.items task.berth (finds task.record)) tasks.clients.items) }
@@ -64,17 +114,14 @@ fn tasks_of<R: Copy>(
 {
     let count = policies.len();
     let others = records.len() - count;
-    let Ok(mut links) = ChannelLink::all(rt, alloc, count as u8, others as u16, weather) else {
+    let Ok((node_links, client_links)) = links_of(rt, alloc, count, others, weather) else {
         return Err(RunFault::Memory);
     };
     let mut records = records;
     let Ok(client_records) = records.split_off(count) else {
         return Err(RunFault::Memory);
     };
-    let Ok(client_links) = links.split_off(count) else {
-        return Err(RunFault::Memory);
-    };
-    let Ok(nodes) = node_tasks(alloc, book, policies, records, links) else {
+    let Ok(nodes) = node_tasks(alloc, book, policies, records, node_links) else {
         return Err(RunFault::Memory);
     };
     let Ok(clients) = client_tasks(alloc, book, ballot, wishes, client_records, client_links) else {
@@ -92,9 +139,9 @@ fn tasks_of<R: Copy>(
 /// `faults`, nodes first; the others go on.
 ///
 /// The caller owes the world's own ballot; a world whose actors are all down with nothing tried, and whose
-/// list of messages is empty; one record an actor, nodes first, each of which finds just what the world has
-/// its actor keep, which for a node is a record that can be read again; one policy a node, of its record's
-/// problem; and wishes of the world's clients, at most `MAX_WISHES`.
+/// list of messages is empty; one record an actor, nodes first, each of which finds just what its actor has
+/// kept in the world; one policy a node, of its record's problem; and wishes of the world's clients, at most
+/// `MAX_WISHES`.
 ///
 /// The only error is that memory was refused or a thread couldn't be started (914). Then the threads that
 /// were started have ended, and what was handed in is dropped. It waits for all threads.
@@ -118,6 +165,8 @@ pub fn run_all<R: Threads + Wait + Copy + Send + Sync, G: Gate + Sync>(
     ensures entered { IfOk result (λ end. end.entered ≡ enters end.book.history) }
     ensures err { IfErr result (λ f. f ≡ RunFault.Memory) }
 {
+    world.soundness();
+    world.keeping();
     let Ok(mut book) = Book::over(alloc, BOOK, world) else {
         return Err(RunFault::Memory);
     };
@@ -127,7 +176,9 @@ pub fn run_all<R: Threads + Wait + Copy + Send + Sync, G: Gate + Sync>(
         return Err(RunFault::Memory);
     };
     let Tasks { nodes, clients } = tasks;
-    let (book, ended) = opened::<Brand, Book, R, G>(rt, alloc, book, nodes, clients, gate);
+    let shared = SharedBook { book };
+    let (shared, ended) = opened::<Brand, SharedBook, R, G>(rt, alloc, shared, nodes, clients, gate);
+    let SharedBook { book } = shared;
     let Ok(faults) = ended else {
         return Err(RunFault::Memory);
     };

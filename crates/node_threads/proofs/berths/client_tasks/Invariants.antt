@@ -1,5 +1,5 @@
 use Rattle.std.proofs.Common.{◌≡◌, ◌+◌, length, map, All}
-use Rattle.node_threads.specs.Conditions.{AreClientsReady}
+use Rattle.node_threads.specs.Actors.{AreClientsReady}
 use Rattle.node_threads.specs.Tasks.{IsClientTask}
 use Rattle.node_threads.proofs.berths.client_tasks.Given as goal
 

@@ -1,5 +1,5 @@
 use Rattle.std.proofs.Common.{◌≡◌, ◌+◌, length, map, All}
-use Rattle.node_threads.specs.Conditions.{AreNodesReady}
+use Rattle.node_threads.specs.Actors.{AreNodesReady}
 use Rattle.node_threads.specs.Tasks.{IsNodeTask}
 use Rattle.node_threads.proofs.berths.node_tasks.Given as goal
 
