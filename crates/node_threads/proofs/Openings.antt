@@ -3,10 +3,12 @@ use Rattle.std.proofs.Common.{◌≡◌, ℕ, ◌+◌, ◌-◌, ◌≤◌, cond,
 use Rattle.std.specs.Option.{option_map}
 use Rattle.std.proofs.lemmas.Bool.{ne_eqb}
 use Rattle.std.proofs.Math.Seq.{take-append_seam, drop-append_seam}
-use Rattle.std.proofs.lemmas.List.{take-map, drop-map}
+use Rattle.std.proofs.lemmas.List.{take-map, length-map}
+use Rattle.std.specs.List.{drop-map}
+use Rattle.std.proofs.Math.ListN.{length-append}
 use Rattle.std.proofs.lemmas.Option.{slice_get-map, slice_get_within, get_or_from_slice_get}
 use Rattle.lock_messages.specs.declared.ids.Actor.TheVariants as actor
-use Rattle.lock_messages.specs.declared.ids.TheConstants.{MAX_ATTEMPT}
+use Rattle.lock_messages.specs.declared.ids.TheConstants.{MAX_NODES, MAX_CLIENTS}
 use Rattle.lock_model.specs.declared.problems.Problem.{Problem}
 use Rattle.lock_model.specs.Ballots.{Ballot}
 use Rattle.stable_record.specs.Records.{IsNodeRecord}
@@ -101,3 +103,24 @@ front f xs ys zs n is count = sym (take-map f n xs) ∙ ap (take n) is ∙ ap (�
 
 pub back : {X Y : Type 0} (f : X → Y) (xs : List X) (ys zs : List Y) (n : ℕ) → map f xs ≡ ys ++ zs → n ≡ length ys → map f (drop n xs) ≡ zs
 back f xs ys zs n is count = sym (drop-map f n xs) ∙ ap (drop n) is ∙ ap (λ k. drop k (ys ++ zs)) count ∙ drop-append_seam ys zs
+
+-- as many as the stations, and as many as these with the attempts
+pub as_many : {X Y Z : Type 0} (f : X → Y) (h : Z → Y) (xs : List X) (zs : List Z) → map f xs ≡ map h zs → length xs ≡ length zs
+as_many f h xs zs is = sym (length-map xs f) ∙ ap length is ∙ length-map zs h
+
+pub as_many_both : {X Y A B : Type 0} (f : X → Y) (h : A → Y) (k : B → Y) (xs : List X) (front : List A) (back : List B) → map f xs ≡ map h front ++ map k back → length xs ≡ length front + length back
+as_many_both f h k xs front back is =
+    let long : length (map h front ++ map k back) ≡ length (map h front) + length (map k back) = length-append (map h front) (map k back) in
+    let all : length xs ≡ length (map h front ++ map k back) = sym (length-map xs f) ∙ ap length is in
+    omega (arith, long, all, length-map front h, length-map back k)
+
+-- the nodes and the clients are as many as may be
+pub few_stations : (w : ExactWorld) (votes : Ballot) (stations : List ExactStation) (attempts : List ℕ) → w ≡ resumed votes stations attempts → KeepsRecords w → length stations ≤ MAX_NODES
+few_stations w votes stations attempts is keeps = subst (λ n. n ≤ MAX_NODES) (ap (λ (v : ExactWorld). length v.nodes) is ∙ length-map stations down_node) keeps.few_nodes
+
+pub few_attempts : (w : ExactWorld) (votes : Ballot) (stations : List ExactStation) (attempts : List ℕ) → w ≡ resumed votes stations attempts → KeepsRecords w → length attempts ≤ MAX_CLIENTS
+few_attempts w votes stations attempts is keeps = subst (λ n. n ≤ MAX_CLIENTS) (ap (λ (v : ExactWorld). length v.clients) is ∙ length-map attempts down_client) keeps.few_clients
+
+-- the place behind the stations' records
+pub at_stations : (n count : ℕ) (stations : List ExactStation) → n ≡ count → count ≡ length stations → n ≡ length (map finds_station stations)
+at_stations n count stations is many = is ∙ many ∙ sym (length-map stations finds_station)
