@@ -1,3 +1,4 @@
 pub mod Lists
 pub mod Openings
 pub mod Ready
+pub mod Taking

@@ -1,5 +1,6 @@
 // A thread for each task.
 
+ghost use denote.Param.Send.{IsSend, IsSync};
 ghost use Rattle.std.specs.Prelude.{◌≡◌, IfErr, All};
 ghost use Rattle.node_threads.specs.Tasks.{IsNodeTask, IsClientTask};
 
@@ -53,6 +54,7 @@ pub(crate) fn run_threads<
         thread::scope_env(),
         &rt,
         move |scope| -> Result<Vec<(Actor, RunFault)>, RunFault>
+            requires cross { IsSend B.row × IsSend K.row × IsSend R.row × IsSync G.row }
             requires nodes { All (λ task. IsNodeTask B.table task.node task.berth (problem_of task.policy) (finds task.record)) nodes.items }
             requires clients { All (λ task. IsClientTask B.table task.client task.ballot task.wishes.items task.berth (finds task.record)) clients.items }
             ensures { IfErr result (λ f. f ≡ RunFault.Memory) }
