@@ -17,9 +17,9 @@ use std::thread::Threads;
 
 /// Puts the book of this name behind a lock while the tasks are done, and hands it back.
 fn named<
-    B: BookName + Send + Sync,
+    B: BookName + Send,
     K: Logs + Send,
-    R: Threads + Wait + Copy + Send + Sync,
+    R: Threads + Wait + Copy + Send,
     G: Gate + Sync,
 >(
     rt: R,
@@ -41,9 +41,9 @@ fn named<
 
 /// Does the tasks over the book, and hands it back; it is still the book of the same opening.
 pub(crate) fn opened<
-    O: Opening + Send + Sync,
+    O: Opening + Send,
     K: Logs + Send,
-    R: Threads + Wait + Copy + Send + Sync,
+    R: Threads + Wait + Copy + Send,
     G: Gate + Sync,
 >(
     rt: R,

@@ -34,9 +34,9 @@ fn join_all<R: Threads + Wait>(
 /// Runs each task in a thread of its own, and answers the faults by which they ended, nodes first. 914:
 /// memory was refused, or a thread couldn't be started; then those that were started have ended.
 pub(crate) fn run_threads<
-    B: BookName + Send + Sync,
+    B: BookName + Send,
     K: Logs + Send,
-    R: Threads + Wait + Copy + Send + Sync,
+    R: Threads + Wait + Copy + Send,
     G: Gate + Sync,
 >(
     rt: R,

@@ -1,0 +1,12 @@
+use denote.Param.Send.{sendable}
+use Rattle.node_threads.proofs.threads.fn.run_threads.scope+FnOnce.call_once.Goals as goal
+
+-- what the closure owes, and of which types it may send what it has
+pub scope-requires : goal.scope-requires
+scope-requires g c =
+    let owed = c.requires.1.1.1.1 in
+    let name = owed.0.0 in
+    let book = owed.0.1 in
+    let handle = owed.0.2 in
+    let gate = owed.0.3 in
+    (search sendable, (search sendable, (search sendable, (search sendable, owed))))
