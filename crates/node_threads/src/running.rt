@@ -14,8 +14,8 @@ use crate::berths::{client_tasks, node_tasks};
 use crate::runs::opened;
 use crate::tasks::{ClientTask, NodeTask};
 use admission_policy::Admission;
-use client_loop::MAX_WISHES;
 use book_recorders::Logs;
+use client_loop::MAX_WISHES;
 use event_recorders::{Gate, RunFault};
 use history_book::{Berth, Book, BookFault};
 use history_check::Wish;
@@ -145,7 +145,7 @@ fn tasks_of<R: Copy>(
 ///
 /// The only error is that memory was refused or a thread couldn't be started (914). Then the threads that
 /// were started have ended, and what was handed in is dropped. It waits for all threads.
-pub fn run_all<R: Threads + Wait + Copy + Send + Sync, G: Gate + Sync>(
+pub fn run_all<R: Threads + Wait + Copy + Send, G: Gate + Sync>(
     rt: R,
     alloc: Global,
     ballot: Ballot,
@@ -177,7 +177,9 @@ pub fn run_all<R: Threads + Wait + Copy + Send + Sync, G: Gate + Sync>(
     };
     let Tasks { nodes, clients } = tasks;
     let shared = SharedBook { book };
-    let (shared, ended) = opened::<Brand, SharedBook, R, G>(rt, alloc, shared, nodes, clients, gate);
+    let (shared, ended) = opened::<Brand, SharedBook, R, G>(
+        rt, alloc, shared, nodes, clients, gate,
+    );
     let SharedBook { book } = shared;
     let Ok(faults) = ended else {
         return Err(RunFault::Memory);

@@ -16,12 +16,7 @@ use std::sync::{Mutex, Wait};
 use std::thread::Threads;
 
 /// Puts the book of this name behind a lock while the tasks are done, and hands it back.
-fn named<
-    B: BookName + Send,
-    K: Logs + Send,
-    R: Threads + Wait + Copy + Send,
-    G: Gate + Sync,
->(
+fn named<B: BookName + Send, K: Logs + Send, R: Threads + Wait + Copy + Send, G: Gate + Sync>(
     rt: R,
     alloc: Global,
     book: K,

@@ -8,7 +8,7 @@ pub client_task-requires-clause-ready : goal.client_task-requires-clause-ready
 client_task-requires-clause-ready g c =
     let some : 0 < length c.loop-place.records.items = omega (arith, c.loop-place-test.true, c.loop-place.invariant.records) in
     let first = first_client (λ r. (goal.StableRecord-dyn g (r.vtable, r.value)).finds r.value) c.loop-place.book.opening c.loop-place.place c.loop-place.records.items c.remove-stable.result
-        c.loop-place.invariant.ready some c.remove-stable.ensures.value in
+    c.loop-place.invariant.ready some c.remove-stable.ensures.value in
     let named : c.loop-place.place + 1 ≡ c.in-Some.client = sym c.in-Some.ensures.1 in
     subst (λ n. IsClientReady c.loop-place.book.opening n ((goal.StableRecord-dyn g (c.remove-stable.result.vtable, c.remove-stable.result.value)).finds c.remove-stable.result.value)) named first
 
@@ -16,16 +16,16 @@ pub loop-place-preserved : goal.loop-place-preserved
 loop-place-preserved g c =
     let some : 0 < length c.loop-place.records.items = omega (arith, c.loop-place-test.true, c.loop-place.invariant.records) in
     let rest = rest_clients (λ r. (goal.StableRecord-dyn g (r.vtable, r.value)).finds r.value) c.loop-place.book.opening c.loop-place.place c.loop-place.records.items c.remove-stable.new.self.items
-        c.loop-place.invariant.ready some c.remove-stable.ensures.items in
+    c.loop-place.invariant.ready some c.remove-stable.ensures.items in
     record {
       ready = subst (λ w. AreClientsReady (c.loop-place.place + 1) w (map (λ r. (goal.StableRecord-dyn g (r.vtable, r.value)).finds r.value) c.remove-stable.new.self.items)) (sym c.in_ok-task.ensures.opening) rest;
       records = one_fewer c.loop-place.records.items c.remove-stable.new.self.items c.loop-place.place c.len-count.result c.remove-stable.ensures.items some c.loop-place.invariant.records;
       links = one_fewer c.loop-place.links.items c.remove-link.new.self.items c.loop-place.place c.len-count.result c.remove-link.ensures.items
-        (omega (arith, c.loop-place-test.true, c.loop-place.invariant.links)) c.loop-place.invariant.links;
+          (omega (arith, c.loop-place-test.true, c.loop-place.invariant.links)) c.loop-place.invariant.links;
       tasks = all_and_one (λ t. IsClientTask c.args.book.now.table t.client t.ballot t.wishes.items t.berth ((goal.StableRecord-dyn g (t.record.vtable, t.record.value)).finds t.record.value))
-        c.loop-place.tasks.items c.push.new.self.items c.in_ok-task.task c.loop-place.invariant.tasks
-        (subst (λ b. IsClientTask b c.in_ok-task.task.client c.in_ok-task.task.ballot c.in_ok-task.task.wishes.items c.in_ok-task.task.berth
-        ((goal.StableRecord-dyn g (c.in_ok-task.task.record.vtable, c.in_ok-task.task.record.value)).finds c.in_ok-task.task.record.value)) c.loop-place.invariant.table c.in_ok-task.ensures.task) c.in-Ok.ensures.items;
+          c.loop-place.tasks.items c.push.new.self.items c.in_ok-task.task c.loop-place.invariant.tasks
+          (subst (λ b. IsClientTask b c.in_ok-task.task.client c.in_ok-task.task.ballot c.in_ok-task.task.wishes.items c.in_ok-task.task.berth
+          ((goal.StableRecord-dyn g (c.in_ok-task.task.record.vtable, c.in_ok-task.task.record.value)).finds c.in_ok-task.task.record.value)) c.loop-place.invariant.table c.in_ok-task.ensures.task) c.in-Ok.ensures.items;
       table = c.in_ok-task.ensures.table ∙ c.loop-place.invariant.table;
       opening = c.in_ok-task.ensures.opening ∙ c.loop-place.invariant.opening;
     }

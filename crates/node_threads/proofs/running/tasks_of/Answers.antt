@@ -12,7 +12,7 @@ split_off-requires g c =
     let may = c.requires.may in
     let count : length c.args.policies.items ≡ length may.stations = as_many (λ p. (goal.Admission-dyn g (p.vtable, p.value)).problem_of p.value) (λ s. s.problem) c.args.policies.items may.stations may.policies in
     let all : length c.args.records.items ≡ length may.stations + length may.attempts =
-        as_many_both (λ r. (goal.StableRecord-dyn g (r.vtable, r.value)).finds r.value) finds_station finds_attempt c.args.records.items may.stations may.attempts may.records in
+    as_many_both (λ r. (goal.StableRecord-dyn g (r.vtable, r.value)).finds r.value) finds_station finds_attempt c.args.records.items may.stations may.attempts may.records in
     omega (arith, count, all, c.args.policies.ok, c.args.records.ok, c.len-count.ensures)
 
 pub node_tasks-requires-clause-ready : goal.node_tasks-requires-clause-ready
@@ -21,8 +21,8 @@ node_tasks-requires-clause-ready g c =
     let count : length c.args.policies.items ≡ length may.stations = as_many (λ p. (goal.Admission-dyn g (p.vtable, p.value)).problem_of p.value) (λ s. s.problem) c.args.policies.items may.stations may.policies in
     let place : c.len-count.result ≡ length (map finds_station may.stations) = at_stations c.len-count.result (length c.args.policies.items) may.stations (c.len-count.ensures ∙ c.args.policies.ok.0) count in
     let found : map (λ r. (goal.StableRecord-dyn g (r.vtable, r.value)).finds r.value) c.split_off.new.self.items ≡ map finds_station may.stations =
-        ap (map (λ r. (goal.StableRecord-dyn g (r.vtable, r.value)).finds r.value)) c.in-Ok-split_off.ensures.items
-        ∙ front (λ r. (goal.StableRecord-dyn g (r.vtable, r.value)).finds r.value) c.args.records.items (map finds_station may.stations) (map finds_attempt may.attempts) c.len-count.result may.records place in
+    ap (map (λ r. (goal.StableRecord-dyn g (r.vtable, r.value)).finds r.value)) c.in-Ok-split_off.ensures.items
+    ∙ front (λ r. (goal.StableRecord-dyn g (r.vtable, r.value)).finds r.value) c.args.records.items (map finds_station may.stations) (map finds_attempt may.attempts) c.len-count.result may.records place in
     ready_nodes c.args.book.now.opening c.args.ballot may.stations may.attempts (map (λ p. (goal.Admission-dyn g (p.vtable, p.value)).problem_of p.value) c.args.policies.items)
     (map (λ r. (goal.StableRecord-dyn g (r.vtable, r.value)).finds r.value) c.split_off.new.self.items) may.world c.requires.keeps may.policies found
 
@@ -32,8 +32,8 @@ client_tasks-requires-clause-few g c =
     let count : length c.args.policies.items ≡ length may.stations = as_many (λ p. (goal.Admission-dyn g (p.vtable, p.value)).problem_of p.value) (λ s. s.problem) c.args.policies.items may.stations may.policies in
     let place : c.len-count.result ≡ length (map finds_station may.stations) = at_stations c.len-count.result (length c.args.policies.items) may.stations (c.len-count.ensures ∙ c.args.policies.ok.0) count in
     let found : map (λ r. (goal.StableRecord-dyn g (r.vtable, r.value)).finds r.value) c.in-Ok-split_off.client_records.items ≡ map finds_attempt may.attempts =
-        ap (map (λ r. (goal.StableRecord-dyn g (r.vtable, r.value)).finds r.value)) c.in-Ok-split_off.ensures.tail
-        ∙ back (λ r. (goal.StableRecord-dyn g (r.vtable, r.value)).finds r.value) c.args.records.items (map finds_station may.stations) (map finds_attempt may.attempts) c.len-count.result may.records place in
+    ap (map (λ r. (goal.StableRecord-dyn g (r.vtable, r.value)).finds r.value)) c.in-Ok-split_off.ensures.tail
+    ∙ back (λ r. (goal.StableRecord-dyn g (r.vtable, r.value)).finds r.value) c.args.records.items (map finds_station may.stations) (map finds_attempt may.attempts) c.len-count.result may.records place in
     subst (λ n. n ≤ MAX_CLIENTS) (sym (as_many (λ r. (goal.StableRecord-dyn g (r.vtable, r.value)).finds r.value) finds_attempt c.in-Ok-split_off.client_records.items may.attempts found))
     (few_attempts c.args.book.now.opening c.args.ballot may.stations may.attempts may.world c.requires.keeps)
 
@@ -43,8 +43,8 @@ client_tasks-requires-clause-ready g c =
     let count : length c.args.policies.items ≡ length may.stations = as_many (λ p. (goal.Admission-dyn g (p.vtable, p.value)).problem_of p.value) (λ s. s.problem) c.args.policies.items may.stations may.policies in
     let place : c.len-count.result ≡ length (map finds_station may.stations) = at_stations c.len-count.result (length c.args.policies.items) may.stations (c.len-count.ensures ∙ c.args.policies.ok.0) count in
     let found : map (λ r. (goal.StableRecord-dyn g (r.vtable, r.value)).finds r.value) c.in-Ok-split_off.client_records.items ≡ map finds_attempt may.attempts =
-        ap (map (λ r. (goal.StableRecord-dyn g (r.vtable, r.value)).finds r.value)) c.in-Ok-split_off.ensures.tail
-        ∙ back (λ r. (goal.StableRecord-dyn g (r.vtable, r.value)).finds r.value) c.args.records.items (map finds_station may.stations) (map finds_attempt may.attempts) c.len-count.result may.records place in
+    ap (map (λ r. (goal.StableRecord-dyn g (r.vtable, r.value)).finds r.value)) c.in-Ok-split_off.ensures.tail
+    ∙ back (λ r. (goal.StableRecord-dyn g (r.vtable, r.value)).finds r.value) c.args.records.items (map finds_station may.stations) (map finds_attempt may.attempts) c.len-count.result may.records place in
     subst (λ w. AreClientsReady 0 w (map (λ r. (goal.StableRecord-dyn g (r.vtable, r.value)).finds r.value) c.in-Ok-split_off.client_records.items)) (sym c.in-Ok-node_tasks.ensures.opening)
     (ready_clients c.args.book.now.opening c.args.ballot may.stations may.attempts (map (λ r. (goal.StableRecord-dyn g (r.vtable, r.value)).finds r.value) c.in-Ok-split_off.client_records.items) may.world c.requires.sound found)
 
