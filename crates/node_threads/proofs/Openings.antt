@@ -13,7 +13,6 @@ use Rattle.lock_model.specs.declared.problems.Problem.{Problem}
 use Rattle.lock_model.specs.Ballots.{Ballot}
 use Rattle.stable_record.specs.Records.{IsNodeRecord}
 use Rattle.world_machine.specs.Keeping.{record_in, KeepsRecords}
-use Rattle.world_model.specs.declared.exact.ExactClient.{ExactClient}
 use Rattle.world_model.specs.declared.exact.ExactNode.{ExactNode}
 use Rattle.world_model.specs.declared.exact.ExactStation.{ExactStation}
 use Rattle.world_model.specs.declared.exact.ExactWorld.{ExactWorld}
@@ -22,7 +21,7 @@ use Rattle.world_model.specs.Forgetting.{IsSound}
 use Rattle.world_model.specs.Openings.{down_node, down_client, resumed}
 use Rattle.world_model.specs.Parts.{node_part, client_part, part}
 use Rattle.node_threads.specs.Actors.{IsNodeReady, IsClientReady, AreNodesReady, AreClientsReady}
-use Rattle.node_threads.specs.Conditions.{MayRun, finds_station, finds_attempt}
+use Rattle.node_threads.specs.Conditions.{finds_station, finds_attempt}
 
 -- what stands at a place, counted from 0, has the next number
 at_place : {A : Type 0} (xs : List A) (i : ℕ) (x : A) → slice_get xs i ≡ Some x → numbered xs (i + 0 + 1) ≡ Some x

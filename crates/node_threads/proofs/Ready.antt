@@ -1,8 +1,7 @@
 -- An actor's berth, with the actor's record, is what its thread needs.
-use Rattle.std.proofs.Common.{◌≡◌, ℕ, ◌≤◌, List, [], ◌∷◌, sym, ap, ◌∙◌, subst, refl, length, All}
+use Rattle.std.proofs.Common.{◌≡◌, ℕ, ◌≤◌, List, sym, ap, ◌∙◌, subst, refl, length, All}
 use Rattle.lock_messages.specs.declared.ids.Actor.{Actor}
 use Rattle.lock_messages.specs.declared.ids.Actor.TheVariants as actor
-use Rattle.lock_messages.specs.declared.ids.TheConstants.{MAX_ATTEMPT}
 use Rattle.lock_model.specs.declared.problems.Problem.{Problem}
 use Rattle.lock_model.specs.Ballots.{Ballot}
 use Rattle.history_check.specs.declared.wishes.Wish.{Wish}
@@ -10,7 +9,7 @@ use Rattle.history_book.specs.Books.{BookValue, BerthValue, IsGiven}
 use Rattle.world_model.specs.Openings.{down_node, down_client}
 use Rattle.world_model.specs.Parts.{Part, NodePart, ClientPart, part}
 use Rattle.world_actors.specs.Nodes.{station_in}
-use Rattle.event_recorders.specs.OwnLogs.{IsUnused, IsDownAtRest, FindsPart}
+use Rattle.event_recorders.specs.OwnLogs.{IsDownAtRest, FindsPart}
 use Rattle.book_recorders.specs.Sharing.{log_of}
 use Rattle.client_loop.specs.declared.entering.TheConstants.{MAX_WISHES}
 use Rattle.client_loop.specs.Standing.{KeepsAttempt}

@@ -1,5 +1,4 @@
-use Rattle.std.proofs.Common.{All, ◌≡◌, ℕ, ◌+◌, ◌<◌, length, map, get_or, sym, ◌∙◌, ap, subst, arith}
-use Rattle.lock_model.specs.declared.problems.Problem.{Problem}
+use Rattle.std.proofs.Common.{◌≡◌, ◌+◌, ◌<◌, length, map, sym, ◌∙◌, subst, arith}
 use Rattle.node_threads.specs.Actors.{IsNodeReady, AreNodesReady}
 use Rattle.node_threads.specs.Tasks.{IsNodeTask}
 use Rattle.node_threads.proofs.Lists.{first_node, rest_nodes, one_fewer, all_and_one}

@@ -1,4 +1,4 @@
-use Rattle.std.proofs.Common.{◌≡◌, ◌≤◌, length, map, sym, ◌∙◌, ap, subst}
+use Rattle.std.proofs.Common.{◌≡◌, ◌≤◌, length, map, sym, ◌∙◌, subst}
 use Rattle.std.specs.List.{All}
 use Rattle.std.proofs.lemmas.List.{length-map}
 use Rattle.std.proofs.lemmas.List.Elements.{All-map}
@@ -6,7 +6,7 @@ use Rattle.lock_messages.specs.declared.ids.TheConstants.{MAX_NODES, MAX_CLIENTS
 use Rattle.lock_model.specs.Ballots.{Ballot}
 use Rattle.stable_record.specs.Records.{IsNodeRecord}
 use Rattle.world_machine.specs.Keeping.{record_in, KeepsRecords}
-use Rattle.world_machine.specs.Machines.{node_part, client_part, world_view, AreClients}
+use Rattle.world_machine.specs.Machines.{node_part, client_part, AreClients}
 use Rattle.world_machine.proofs.world.World.keeping.Goals as goal
 
 pub returns : goal.returns
