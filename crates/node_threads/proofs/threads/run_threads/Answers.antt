@@ -8,4 +8,4 @@ scoped-requires g c =
     let book = c.type_bounds.send-K in
     let handle = c.type_bounds.send-R in
     let gate = c.type_bounds.sync-G in
-    record { at = λ s. ((search sendable, search sendable, search sendable, search sendable), (c.requires.nodes, c.requires.clients)) }
+    record { at = λ s. ((search sendable, search sendable, search sendable, search sendable), (c.requires.nodes, (c.requires.clients, search sendable))) }

@@ -9,4 +9,4 @@ scope-requires g c =
     let book = owed.0.1 in
     let handle = owed.0.2 in
     let gate = owed.0.3 in
-    (search sendable, (search sendable, (search sendable, (search sendable, owed))))
+    (search sendable, (search sendable, (search sendable, (search sendable, (owed.0, (owed.1.0, owed.1.1.0))))))
