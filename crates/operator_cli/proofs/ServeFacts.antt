@@ -97,6 +97,7 @@ no_limit : (c : Command) (s : Settings) (lines : List (List ℕ)) (f : ServeFaul
 no_limit command.Script s lines f h = tt
 no_limit command.Audit s lines f h = nothing_limited (verdict_of (all_down s) lines) f h
 no_limit command.Ballot s lines f h = tt
+no_limit (command.Run journal) s lines f h = tt
 
 no_limit_in : (c : Command) (o : Result (Given × List (List ℕ)) SettingsFault) (f : ServeFault) → IsOwnFault f → IsLimitedIn c o (Err f)
 no_limit_in c (Err e) f h = tt
@@ -151,6 +152,7 @@ memory_told : (c : Command) (xs : List ℕ) (old new : Option (List ℕ)) (r : R
 memory_told command.Script xs old new r p = inr p
 memory_told command.Audit xs old new r p = inr p
 memory_told command.Ballot xs old new r p = inr p
+memory_told (command.Run journal) xs old new r p = inr p
 
 by_fault : (c : Command) (xs : List ℕ) (old new : Option (List ℕ)) (e : SettingsFault) (r : Result ℕ ServeFault) → Refuses e (opened c xs) → Writes (refused_output c e) old new r → Serves c (Some xs) old new r
 by_fault c xs old new settings.NoEnd r h p = refusal_told c xs settings.NoEnd old new r h p

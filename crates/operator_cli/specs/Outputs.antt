@@ -138,6 +138,7 @@ abbrev pub refused_output : Command → SettingsFault → Output
 refused_output command.Script e = refusal_output e
 refused_output command.Audit e = refusal_output e
 refused_output command.Ballot e = refused_ballot_output e
+refused_output (command.Run journal) e = refusal_output e
 
 -- the verdict on a journal, which is a refusal unless it is sound
 abbrev pub verdict_status : Verdict → ℕ
@@ -149,11 +150,13 @@ verdict_output v = record { text = verdict_text v; status = verdict_status v }
 
 -- What each command writes for settings and the lines behind them: what a script prints from the world
 -- in which all have risen; the verdict on a journal from the world in which all are down; or what the
--- ballot is, whatever the lines are.
+-- ballot is, whatever the lines are. A run of all parts isn't told by its settings: what it writes is no
+-- function of them, and is said where it is served.
 abbrev pub settings_output : Command → Settings → List (List ℕ) → Output
 settings_output command.Script s lines = lines_output (all_risen s) 1 lines
 settings_output command.Audit s lines = verdict_output (verdict_of (all_down s) lines)
 settings_output command.Ballot s lines = record { text = ballot_text s.ballot; status = 0 }
+settings_output (command.Run journal) s lines = record { text = []; status = 0 }
 
 abbrev pub command_output : Command → Result (Given × List (List ℕ)) SettingsFault → Output
 command_output c (Err e) = refused_output c e
@@ -167,6 +170,13 @@ output_of c input = command_output c (opened c input)
 abbrev pub Writes : Output → Option (List ℕ) → Option (List ℕ) → Result ℕ ServeFault → Type 0
 Writes o old new (Ok status) = Appends old new o.text × (status ≡ o.status)
 Writes o old new (Err e) = AppendsBeginning old new o.text
+
+-- the commands that `serve` takes: all but the run of all parts
+abbrev pub IsServed : Command → Type 0
+IsServed command.Script = Unit {0}
+IsServed command.Audit = Unit {0}
+IsServed command.Ballot = Unit {0}
+IsServed (command.Run journal) = ⊥
 
 -- How the greatest number of lines limits the audit of a journal: a status is answered only where the
 -- verdict speaks of no line behind it, and the fault of too many lines only where it does.
@@ -184,6 +194,7 @@ abbrev pub IsLimited : Command → Settings → List (List ℕ) → Result ℕ S
 IsLimited command.Script s lines r = Unit {0}
 IsLimited command.Audit s lines r = KeepsLimit (verdict_of (all_down s) lines) r
 IsLimited command.Ballot s lines r = Unit {0}
+IsLimited (command.Run journal) s lines r = Unit {0}
 
 abbrev pub IsLimitedIn : Command → Result (Given × List (List ℕ)) SettingsFault → Result ℕ ServeFault → Type 0
 IsLimitedIn c (Err e) r = Unit {0}

@@ -1,5 +1,5 @@
--- Parts of an output: what the private functions of a run owe one another. Who reads what `serve`
--- promises has no need of them.
+-- Parts of an output: what the functions of a run owe one another. Who reads what `serve` promises has
+-- no need of them.
 use Rattle.std.specs.Prelude.{◌≡◌, ◌⊎◌, ℕ, ◌+◌, ◌<◌, ◌≤◌, ◌-◌, Vec, Bool, true, if◌then◌else◌, List, [], ◌++◌, length, replicate, Option, Some, None, Result, Ok, Err}
 use Rattle.std.specs.Global.{Global}
 use Rattle.std.specs.Io.KnownBytes.{Appends}

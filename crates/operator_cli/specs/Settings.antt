@@ -1,6 +1,6 @@
 -- Settings: the TOML document that an input begins with, and what it says.
-use Rattle.std.specs.Prelude.{◌≡◌, ℕ, suc, ◌+◌, ◌&&◌, ◌||◌, ◌==◌, Bool, true, false, nat_le, if◌then◌else◌, List, [], ◌∷◌, ℤ, pos, negsuc, Option, Some, None, option_map, option_and_then, is_some, Result, Ok, Err, codes}
-use Rattle.std.specs.List.{list_any}
+use Rattle.std.specs.Prelude.{◌≡◌, ℕ, suc, ◌+◌, ◌≤◌, length, ◌&&◌, ◌||◌, ◌==◌, Bool, true, false, nat_le, if◌then◌else◌, List, [], ◌∷◌, ℤ, pos, negsuc, Option, Some, None, option_map, option_and_then, is_some, Result, Ok, Err, codes}
+use Rattle.std.specs.List.{list_any, All}
 use Rattle.std.specs.Option.{ok_or}
 use Rattle.std.specs.Str.{bytes_eq, is_utf8}
 use Rattle.toml.specs.Data.{Items, no_items, item, Data, Members, no_members, member, get_member, as_integer, as_str, as_array}
@@ -83,6 +83,7 @@ abbrev pub number_for : Command → ℕ → ℕ → ℕ → List ℕ → Members
 number_for command.Script absent least most key document = number_at least most key document
 number_for command.Audit absent least most key document = number_at least most key document
 number_for command.Ballot absent least most key document = number_or absent least most key document
+number_for (command.Run journal) absent least most key document = number_at least most key document
 
 -- the number of the weather: no negative one, and 0 where there is none
 abbrev pub natural : ℤ → Option ℕ
@@ -195,6 +196,11 @@ pub record Given : Type 0 where
 
 abbrev pub given : Start → Given
 given s = record { settings = s.settings; weather = s.weather; wishes = s.wishes.items }
+
+-- The wishes are of clients of which there are so many, and no more than there may be.
+pub record AreAmong (clients : ℕ) (wishes : List Wish) : Type 0 where
+  pub theirs : All (λ w. w.client ≤ clients) wishes
+  pub few : length wishes ≤ MAX_WISHES
 
 -- What the values say. First each is judged by itself, then the ballot, then the weather, and then the
 -- wishes.

@@ -51,8 +51,13 @@ fn is_dashes(piece: &[u8]) -> bool
     piece == b"---".as_slice()
 }
 
-/// Reads up to the line of dashes, and answers what stands before it.
-fn read_head<R: Read>(alloc: Global, source: &mut LineReader<R>) -> Result<Vec<u8>, StartFault>
+/// Reads up to the line of dashes and over it, and answers what stands before it, with its line feeds.
+///
+/// # Errors
+///
+/// `Read` where the reader fails or was asked as often as it may be; no such line begins within the first
+/// `HEAD_ROOM` bytes (`NoEnd`, 924); or memory was refused (`Memory`, 925).
+pub fn read_head<R: Read>(alloc: Global, source: &mut LineReader<R>) -> Result<Vec<u8>, StartFault>
     ensures { FindsHead source.old source.new result }
 {
     let mut head = Vec::new(alloc);

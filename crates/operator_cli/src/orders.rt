@@ -16,6 +16,8 @@ pub enum Command {
     Audit,
     /// To say what the ballot is.
     Ballot,
+    /// To run the service, all parts together, and to tell what came of it, or its journal.
+    Run { journal: bool },
 }
 
 /// Policies for as many nodes as there may be, of either problem: sixteen that solve problem 1, and
@@ -42,8 +44,9 @@ fn front(policies: Vec<Box<dyn Admission + Send>>, count: u8) -> Vec<Box<dyn Adm
     policies
 }
 
-/// The policies of so many nodes that solve the problem.
-pub(crate) fn chosen(
+/// The policies of so many nodes that solve the problem, the first ones first; the others are dropped.
+/// The caller owes sixteen that solve each problem, and no more nodes than there may be.
+pub fn chosen(
     policies: Policies,
     problem: Problem,
     nodes: u8,

@@ -8,7 +8,7 @@ ghost use Rattle.history_check.specs.Faults.{line_fault_number};
 ghost use Rattle.lossy_link.specs.Faults.{weather_fault_number};
 ghost use Rattle.operator_cli.specs.Faults.{settings_fault_number};
 ghost use Rattle.operator_cli.specs.Openings.{all_down};
-ghost use Rattle.operator_cli.specs.Outputs.{Serves, Writes, refusal_output, refused_ballot_output, refused_output, verdict_status};
+ghost use Rattle.operator_cli.specs.Outputs.{IsServed, Serves, Writes, refusal_output, refused_ballot_output, refused_output, verdict_status};
 ghost use Rattle.operator_cli.specs.PartOutputs.{WritesLines, Finishes, RefusesStart, WritesBehind, WritesVerdict};
 ghost use Rattle.operator_cli.specs.Texts.{settings_fault_text, refused_text, ballot_text};
 ghost use Rattle.operator_cli.specs.declared.faults.SettingsFault.TheVariants as settings;
@@ -145,11 +145,14 @@ fn refuse_for<W: Write>(
         Command::Script => refuse_settings(fault, writer),
         Command::Audit => refuse_settings(fault, writer),
         Command::Ballot => refuse_asked(fault, writer),
+        Command::Run { .. } => refuse_settings(fault, writer),
     }
 }
 
-/// Ends a run that has no settings.
-fn refuse_start<W: Write>(
+/// Ends a run that has no settings: prints which fault they have, with status 2, or 1 where the ballot is
+/// asked for and the votes make none. The faults are that the reader failed (`Read`, 931) or the writer
+/// (`Write`, 932).
+pub fn refuse_start<W: Write>(
     command: Command,
     fault: StartFault,
     writer: &mut W,
@@ -197,8 +200,12 @@ fn serve_lines<R: Read, W: Write>(
     finish(came, &mut out, writer)
 }
 
-/// The world of the settings in which all actors are down. The only fault is want of memory.
-fn world_down(alloc: Global, settings: &Settings, policies: Policies) -> Result<World, ServeFault>
+/// The world of the settings in which all actors are down and nothing is kept. The nodes get, in order, the
+/// first policies that solve the settings' problem.
+///
+/// The only fault is want of memory (`Memory`, 933). The caller owes settings in range and sixteen policies
+/// that solve each problem.
+pub fn world_down(alloc: Global, settings: &Settings, policies: Policies) -> Result<World, ServeFault>
     requires some_client { 1 ≤ settings.now.clients }
     requires few_clients { settings.now.clients ≤ MAX_CLIENTS }
     requires first { map problem_of policies.first.items ≡ replicate MAX_NODES First }
@@ -304,6 +311,7 @@ fn serve_behind<R: Read, W: Write>(
     requires few_clients { settings.now.clients ≤ MAX_CLIENTS }
     requires first { map problem_of order.policies.first.items ≡ replicate MAX_NODES First }
     requires second { map problem_of order.policies.second.items ≡ replicate MAX_NODES Second }
+    requires served { IsServed order.command }
     ensures { WritesBehind order.command settings.now source.old (W.contents writer.old) (W.contents writer.new) result }
 {
     let Order { command, policies } = order;
@@ -311,6 +319,7 @@ fn serve_behind<R: Read, W: Write>(
         Command::Script => serve_script(alloc, settings, policies, source, writer),
         Command::Audit => serve_audit(alloc, settings, policies, source, writer),
         Command::Ballot => serve_ballot(alloc, settings.ballot, writer),
+        Command::Run { .. } => unreachable!(),
     }
 }
 
@@ -339,7 +348,9 @@ fn serve_behind<R: Read, W: Write>(
 /// What is written is the command's output of the bytes that were left, or `settings fault 925` where
 /// memory was refused for the settings. The caller owes policies of the right problems: sixteen that
 /// solve problem 1 and sixteen that solve problem 2. The nodes get, in order, the first of those that
-/// solve the settings' problem; the others are dropped. The texts are our own.
+/// solve the settings' problem; the others are dropped. It also owes an order for one of these three
+/// commands: `Run` takes threads, and is served by a call of its own (`run_service::serve_run`). The texts
+/// are our own.
 ///
 /// # Errors
 ///
@@ -358,6 +369,7 @@ where
     R: Drop,
     requires first { map problem_of order.policies.first.items ≡ replicate MAX_NODES First }
     requires second { map problem_of order.policies.second.items ≡ replicate MAX_NODES Second }
+    requires served { IsServed order.command }
     ensures output { Serves order.command (R.remaining reader) (W.contents writer.old) (W.contents writer.new) result }
 {
     let mut source = LineReader::new(reader, MAX_READS);

@@ -8,7 +8,7 @@ ghost use Rattle.lock_messages.specs.declared.ids.TheConstants.{MAX_CLIENTS};
 ghost use Rattle.std.specs.Str.{bytes_eq};
 ghost use Rattle.toml.specs.Data.{as_integer, as_str, get_member};
 ghost use Rattle.toml.specs.View.{view, items_view, table_view};
-ghost use Rattle.operator_cli.specs.Settings.{Judges, world_keys, run_keys, is_known, all_known, within, number_at, number_or, number_for, seed_at, vote_list, votes_at, problem_numbered, problem_at, clients_at, count, are_texts, are_few_texts, has_wish_texts, run_values, weather_of, wish_from, wishes_in, wishes_at, world_of, given, values_of, settings_of};
+ghost use Rattle.operator_cli.specs.Settings.{Judges, world_keys, run_keys, is_known, all_known, within, number_at, number_or, number_for, seed_at, vote_list, votes_at, problem_numbered, problem_at, clients_at, count, are_texts, are_few_texts, has_wish_texts, run_values, weather_of, wish_from, wishes_in, wishes_at, world_of, given, values_of, settings_of, AreAmong};
 ghost use Rattle.operator_cli.specs.declared.settings.TheConstants.{MAX_WISHES};
 
 use crate::{Command, SettingsFault};
@@ -155,6 +155,7 @@ fn number_for(
         Command::Script => number_at(table, key, least, most),
         Command::Audit => number_at(table, key, least, most),
         Command::Ballot => number_or(table, key, least, most, absent),
+        Command::Run { .. } => number_at(table, key, least, most),
     }
 }
 
@@ -370,6 +371,7 @@ fn wishes_at(alloc: Global, clients: u16, table: &Table) -> Result<Vec<Wish>, Se
 #[tactic(auto, unfolding(crate::specs::Settings::values_of))]
 fn values_of(alloc: Global, command: Command, table: &Table) -> Result<Start, SettingsFault>
     ensures start { Judges given result (values_of command (table_view table.now)) }
+    ensures wishes { IfOk result (λ s. AreAmong s.settings.clients s.wishes.items) }
     ensures in_range { IfOk result (λ s. (1 ≤ s.settings.clients) × (s.settings.clients ≤ MAX_CLIENTS)) }
 {
     let run = run_values(table)?;
@@ -399,6 +401,7 @@ fn values_of(alloc: Global, command: Command, table: &Table) -> Result<Start, Se
 /// for, `problem` is 1 and there are 1,024 clients unless they are given.
 pub fn read_settings(alloc: Global, command: Command, head: &[u8]) -> Result<Start, SettingsFault>
     ensures start { Judges given result (settings_of command head.now) }
+    ensures wishes { IfOk result (λ s. AreAmong s.settings.clients s.wishes.items) }
     ensures in_range { IfOk result (λ s. (1 ≤ s.settings.clients) × (s.settings.clients ≤ MAX_CLIENTS)) }
 {
     let Ok(text) = str::from_utf8(head) else {

@@ -1,0 +1,8 @@
+use Rattle.std.proofs.Common.{sym}
+use Rattle.toml.specs.View.{table_view}
+use Rattle.operator_cli.proofs.WishFacts.{among}
+use Rattle.operator_cli.proofs.settings.values_of.Goals as goal
+
+pub returns-clause-wishes : goal.returns-clause-wishes
+returns-clause-wishes c =
+    among c.in_ok-settings.settings.clients (table_view c.args.table.now) c.in_ok-run.run' c.in_ok-wishes.wishes.items (sym c.in_ok-run.ensures) c.in_ok-wishes.ensures
