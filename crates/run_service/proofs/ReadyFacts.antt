@@ -1,0 +1,62 @@
+-- A world in which all are down and nothing is kept may run, with empty records and policies of the
+-- settings' problem.
+use Rattle.std.proofs.Common.{◌≡◌, ℕ, zero, suc, ◌≤◌, true, nat_le, List, [], ◌∷◌, ◌++◌, length, get_or, map, replicate, All, refl, sym, ap, subst, ◌∙◌, arith}
+use Rattle.std.proofs.lemmas.List.{length-replicate}
+use Rattle.std.proofs.lemmas.Bool.Decides.{nat_tests}
+use Rattle.lock_messages.specs.declared.ids.Actor.TheVariants as actor
+use Rattle.lock_model.specs.declared.problems.Problem.{Problem}
+use Rattle.stable_record.specs.Records.{client_record_of}
+use Rattle.history_check.specs.declared.wishes.Wish.{Wish}
+use Rattle.world_model.specs.declared.exact.ExactStation.{ExactStation}
+use Rattle.world_model.specs.declared.exact.ExactWorld.{ExactWorld}
+use Rattle.world_model.specs.Openings.{down_client, empty_station}
+use Rattle.world_machine.specs.Listing.{has_actor, station_bytes}
+use Rattle.operator_cli.specs.declared.settings.Settings.{Settings}
+use Rattle.operator_cli.specs.Openings.{all_down}
+use Rattle.operator_cli.specs.Settings.{AreAmong}
+use Rattle.node_threads.specs.Conditions.{MayRun}
+use Rattle.run_service.specs.Empty.{empty_node, empty_client}
+
+map_same : {A B : Type 0} (f : A → B) (n : ℕ) (x : A) → map f (replicate n x) ≡ replicate n (f x)
+map_same f zero x = refl
+map_same f (suc n) x = ap (λ ys. f x ∷ ys) (map_same f n x)
+
+abbrev stations_of : ℕ → Problem → List ExactStation
+stations_of n p = map empty_station (replicate n p)
+
+stations_are : (n : ℕ) (p : Problem) → stations_of n p ≡ replicate n (empty_station p)
+stations_are n p = map_same empty_station n p
+
+problems_are : (n : ℕ) (p : Problem) → replicate n p ≡ map (λ s. s.problem) (stations_of n p)
+problems_are n p = sym (ap (map (λ (s : ExactStation). s.problem)) (stations_are n p) ∙ map_same (λ (s : ExactStation). s.problem) n (empty_station p))
+
+nodes_are : (n : ℕ) (p : Problem) → replicate n (empty_node p) ≡ map (λ s. station_bytes s ∷ []) (stations_of n p)
+nodes_are n p = sym (ap (map (λ (s : ExactStation). station_bytes s ∷ [])) (stations_are n p) ∙ map_same (λ (s : ExactStation). station_bytes s ∷ []) n (empty_station p))
+
+clients_are : (k : ℕ) → replicate k empty_client ≡ map (λ a. client_record_of a ∷ []) (replicate k 0)
+clients_are k = sym (map_same (λ (a : ℕ). client_record_of a ∷ []) k 0)
+
+pub may_run : (s : Settings) (w : ExactWorld) (n : ℕ) (problems : List Problem) (found : List (List (List ℕ))) → w ≡ all_down s → n ≡ length s.ballot.votes
+    → problems ≡ replicate n s.problem → found ≡ replicate n (empty_node s.problem) ++ replicate s.clients empty_client → MayRun w s.ballot problems found
+may_run s w n problems found is_world count all_policies all_records =
+    let votes = length s.ballot.votes in
+    let p = s.problem in record {
+      stations = stations_of votes p;
+      attempts = replicate s.clients 0;
+      world = is_world;
+      policies = all_policies ∙ ap (λ m. replicate m p) count ∙ problems_are votes p;
+      records = all_records ∙ ap (λ m. replicate m (empty_node p) ++ replicate s.clients empty_client) count ∙ ap (λ rs. rs ++ replicate s.clients empty_client) (nodes_are votes p)
+          ∙ ap (λ rs. map (λ (t : ExactStation). station_bytes t ∷ []) (stations_of votes p) ++ rs) (clients_are s.clients);
+    }
+
+-- each wish is of a client of the world
+client_count : (s : Settings) → length (all_down s).clients ≡ s.clients
+client_count s = ap length (map_same down_client s.clients 0) ∙ length-replicate s.clients (down_client 0)
+
+there_is : (c n : ℕ) → c ≤ n → nat_le c n ≡ true
+there_is c n h = grind (arith, nat_tests)
+
+pub theirs : (s : Settings) (w : ExactWorld) (wishes : List Wish) → w ≡ all_down s → AreAmong s.clients wishes → All (λ wish. has_actor w (actor.Client wish.client) ≡ true) wishes
+theirs s w wishes is_world among = λ k d below.
+    let count = ap (λ (v : ExactWorld). length v.clients) is_world ∙ client_count s in
+    there_is (get_or wishes k d).client (length w.clients) (subst (λ n. (get_or wishes k d).client ≤ n) (sym count) (among.theirs k d below))

@@ -1,0 +1,139 @@
+-- From the end of a run to what is told of it.
+use Rattle.std.proofs.Common.{◌≡◌, ◌⊎◌, inl, inr, ℕ, Bool, true, false, Vec, List, [], ◌∷◌, ◌++◌, length, Option, Some, None, Result, Ok, Err, codes, refl, sym, ap, subst, ◌∙◌}
+use Rattle.std.specs.Global.{Global}
+use Rattle.std.specs.Io.KnownBytes.{Keeps, Appends}
+use Rattle.world_model.specs.declared.exact.ExactWorld.{ExactWorld}
+use Rattle.journal_text.specs.Journals.{history_text, IsRecorded}
+use Rattle.journal_audit.specs.declared.verdicts.Verdict.{Verdict}
+use Rattle.journal_audit.specs.declared.verdicts.Verdict.TheVariants.{Sound}
+use Rattle.journal_audit.specs.Verdicts.{verdict_of, text_lines, VerdictsAreExact}
+use Rattle.journal_laws.specs.Laws.{JournalsAreSound}
+use Rattle.line_streams.specs.Streams.{pieces, lines_in, AppendsBeginning}
+use Rattle.operator_cli.specs.declared.faults.ServeFault.{ServeFault}
+use Rattle.operator_cli.specs.declared.faults.ServeFault.TheVariants as fault
+use Rattle.operator_cli.specs.declared.faults.SettingsFault.{SettingsFault}
+use Rattle.operator_cli.specs.declared.faults.SettingsFault.TheVariants as settings
+use Rattle.operator_cli.specs.declared.heads.StartFault.{StartFault}
+use Rattle.operator_cli.specs.declared.heads.StartFault.TheVariants as start
+use Rattle.operator_cli.specs.declared.orders.Command.TheVariants as command
+use Rattle.operator_cli.specs.declared.settings.Settings.{Settings}
+use Rattle.operator_cli.specs.Openings.{all_down}
+use Rattle.operator_cli.specs.Settings.{Given, Refuses, settings_of, document_settings, values_of, world_of}
+use Rattle.operator_cli.specs.Outputs.{Output, head_of, opened, start_of, with_lines, output_of, command_output, settings_output, verdict_output, refusal_output, Writes}
+use Rattle.operator_cli.specs.PartOutputs.{FindsHead, RefusesStart}
+use Rattle.run_service.specs.Ends.{End, IsEndOf, run_text, journal_behind, end_status}
+use Rattle.run_service.specs.Outputs.{IsFoundSound, Tells, TellsBy, TellsBehind, ServesRun}
+use Rattle.run_service.specs.Parts.{TellsEnd, RunsBy, RunsHead}
+use Rattle.run_service.proofs.HeadFacts.{read_again}
+use Rattle.run_service.proofs.WriteFacts.{keeps_same}
+
+-- The settings say the same to an audit and to a run.
+
+same_world : (journal : Bool) (document : _) → world_of (command.Run journal) document ≡ world_of command.Audit document
+unfolding world_of
+same_world journal document = refl
+
+same_settings : (journal : Bool) (head : List ℕ) → settings_of command.Audit head ≡ settings_of (command.Run journal) head
+unfolding settings_of values_of world_of
+same_settings journal head = refl
+
+-- What was written as a journal is found sound.
+
+audit_opened : (xs head : List ℕ) (lines : List (List ℕ)) (g : Given) (text : List ℕ) → head_of (pieces xs) ≡ Ok (head, lines) → settings_of (command.Run true) head ≡ Ok g
+    → opened command.Audit (head ++ codes "---\n" ++ text) ≡ Ok (g, text_lines text)
+unfolding opened
+audit_opened xs head lines g text h k =
+    ap (start_of command.Audit) (read_again xs head lines text h) ∙ ap (with_lines (text_lines text)) (same_settings true head ∙ k)
+
+sound_output : (xs head : List ℕ) (lines : List (List ℕ)) (g : Given) (e : End) → JournalsAreSound → VerdictsAreExact → head_of (pieces xs) ≡ Ok (head, lines) → settings_of (command.Run true) head ≡ Ok g
+    → IsRecorded (all_down g.settings) e.history e.world → IsFoundSound true head e
+unfolding output_of
+sound_output xs head lines g e are_sound are_exact h k recorded =
+    let found = (are_exact (all_down g.settings) (text_lines (history_text e.history)) (Sound (length e.history))).1 (are_sound (all_down g.settings) e.world e.history recorded) in
+    ap (command_output command.Audit) (audit_opened xs head lines g (history_text e.history) h k) ∙ ap verdict_output found
+
+is_sound : (journal : Bool) (xs head : List ℕ) (lines : List (List ℕ)) (g : Given) (e : End) → JournalsAreSound → VerdictsAreExact → head_of (pieces xs) ≡ Ok (head, lines) → settings_of (command.Run journal) head ≡ Ok g
+    → (journal ≡ true → IsRecorded (all_down g.settings) e.history e.world) → IsFoundSound journal head e
+is_sound false xs head lines g e are_sound are_exact h k recorded = tt
+is_sound true xs head lines g e are_sound are_exact h k recorded = sound_output xs head lines g e are_sound are_exact h k (recorded refl)
+
+tells : (journal : Bool) (xs head : List ℕ) (lines : List (List ℕ)) (g : Given) (old new : Option (List ℕ)) (r : Result ℕ ServeFault) → JournalsAreSound → VerdictsAreExact
+    → head_of (pieces xs) ≡ Ok (head, lines) → settings_of (command.Run journal) head ≡ Ok g → TellsEnd journal head g.settings old new r → Tells journal head g.settings old new r
+tells journal xs head lines g old new (Ok status) are_sound are_exact h k p =
+    let (e, is_end, written, is_status, recorded) = p in
+    (e, is_end, written, is_status, is_sound journal xs head lines g e are_sound are_exact h k recorded)
+tells journal xs head lines g old new (Err f) are_sound are_exact h k p = p
+
+tells_by : (journal : Bool) (xs head : List ℕ) (lines : List (List ℕ)) (given : Result Given SettingsFault) (old new : Option (List ℕ)) (r : Result ℕ ServeFault) → JournalsAreSound → VerdictsAreExact
+    → head_of (pieces xs) ≡ Ok (head, lines) → settings_of (command.Run journal) head ≡ given → RunsBy journal head given old new r → TellsBy journal head given old new r
+tells_by journal xs head lines (Ok g) old new r are_sound are_exact h k p = tells journal xs head lines g old new r are_sound are_exact h k p
+tells_by journal xs head lines (Err e) old new r are_sound are_exact h k p = p
+
+-- A head that was read.
+
+behind_head : (journal : Bool) (xs head : List ℕ) (lines : List (List ℕ)) (old new : Option (List ℕ)) (r : Result ℕ ServeFault) → JournalsAreSound → VerdictsAreExact
+    → head_of (pieces xs) ≡ Ok (head, lines) → RunsHead journal head old new r → ServesRun (command.Run journal) (Some xs) old new r
+behind_head journal xs head lines old new r are_sound are_exact h (inl p) =
+    inl (subst (λ (q : Result (List ℕ × List (List ℕ)) SettingsFault). TellsBehind journal q old new r) (sym h)
+    (tells_by journal xs head lines (settings_of (command.Run journal) head) old new r are_sound are_exact h refl p))
+behind_head journal xs head lines old new r are_sound are_exact h (inr p) = inr p
+
+pub serves : (journal : Bool) (input left old new : Option (List ℕ)) (head : Vec ℕ Global) (text : List ℕ) (r : Result ℕ ServeFault) → JournalsAreSound → VerdictsAreExact
+    → FindsHead input left (Ok head) → text ≡ head.items → RunsHead journal text old new r → ServesRun (command.Run journal) input old new r
+serves journal None left old new head text r are_sound are_exact h same p = tt
+serves journal (Some xs) None old new head text r are_sound are_exact h same p = absurd h
+serves journal (Some xs) (Some ys) old new head text r are_sound are_exact h same p =
+    behind_head journal xs head.items (lines_in (pieces ys)) old new r are_sound are_exact h (subst (λ (t : List ℕ). RunsHead journal t old new r) same p)
+
+-- Settings that are refused, or a head that isn't there.
+
+pub settings_refused : (journal : Bool) (head : List ℕ) (e : SettingsFault) (old new : Option (List ℕ)) (r : Result ℕ ServeFault) → Refuses e (settings_of (command.Run journal) head) → Writes (refusal_output e) old new r
+    → RunsHead journal head old new r
+settings_refused journal head settings.NoEnd old new r h p = inl (subst (λ (q : Result Given SettingsFault). RunsBy journal head q old new r) (sym h) p)
+settings_refused journal head settings.NoDocument old new r h p = inl (subst (λ (q : Result Given SettingsFault). RunsBy journal head q old new r) (sym h) p)
+settings_refused journal head settings.UnknownKey old new r h p = inl (subst (λ (q : Result Given SettingsFault). RunsBy journal head q old new r) (sym h) p)
+settings_refused journal head settings.Value old new r h p = inl (subst (λ (q : Result Given SettingsFault). RunsBy journal head q old new r) (sym h) p)
+settings_refused journal head (settings.Ballot f) old new r h p = inl (subst (λ (q : Result Given SettingsFault). RunsBy journal head q old new r) (sym h) p)
+settings_refused journal head (settings.Weather f) old new r h p = inl (subst (λ (q : Result Given SettingsFault). RunsBy journal head q old new r) (sym h) p)
+settings_refused journal head (settings.Wish f) old new r h p = inl (subst (λ (q : Result Given SettingsFault). RunsBy journal head q old new r) (sym h) p)
+settings_refused journal head settings.Memory old new r h p = inr p
+
+head_refused : (journal : Bool) (xs : List ℕ) (e : SettingsFault) (old new : Option (List ℕ)) (r : Result ℕ ServeFault) → Refuses e (head_of (pieces xs)) → Writes (refusal_output e) old new r
+    → ServesRun (command.Run journal) (Some xs) old new r
+head_refused journal xs settings.NoEnd old new r h p = inl (subst (λ (q : Result (List ℕ × List (List ℕ)) SettingsFault). TellsBehind journal q old new r) (sym h) p)
+head_refused journal xs settings.NoDocument old new r h p = inl (subst (λ (q : Result (List ℕ × List (List ℕ)) SettingsFault). TellsBehind journal q old new r) (sym h) p)
+head_refused journal xs settings.UnknownKey old new r h p = inl (subst (λ (q : Result (List ℕ × List (List ℕ)) SettingsFault). TellsBehind journal q old new r) (sym h) p)
+head_refused journal xs settings.Value old new r h p = inl (subst (λ (q : Result (List ℕ × List (List ℕ)) SettingsFault). TellsBehind journal q old new r) (sym h) p)
+head_refused journal xs (settings.Ballot f) old new r h p = inl (subst (λ (q : Result (List ℕ × List (List ℕ)) SettingsFault). TellsBehind journal q old new r) (sym h) p)
+head_refused journal xs (settings.Weather f) old new r h p = inl (subst (λ (q : Result (List ℕ × List (List ℕ)) SettingsFault). TellsBehind journal q old new r) (sym h) p)
+head_refused journal xs (settings.Wish f) old new r h p = inl (subst (λ (q : Result (List ℕ × List (List ℕ)) SettingsFault). TellsBehind journal q old new r) (sym h) p)
+head_refused journal xs settings.Memory old new r h p = inr p
+
+-- Nothing is told after a failed read, and where the run didn't come to its end.
+
+nothing : (text : List ℕ) (old : Option (List ℕ)) → AppendsBeginning old old text
+nothing text None = ([], text, refl, tt)
+nothing text (Some xs) = ([], text, refl, sym (rw_nil xs))
+  where
+    rw_nil : (ys : List ℕ) → ys ++ [] ≡ ys
+    rw_nil [] = refl
+    rw_nil (y ∷ ys) = ap (λ zs. y ∷ zs) (rw_nil ys)
+
+nothing_by : (journal : Bool) (head : List ℕ) (given : Result Given SettingsFault) (old : Option (List ℕ)) (f : ServeFault) → TellsBy journal head given old old (Err f)
+nothing_by journal head (Ok g) old f = inl (keeps_same old)
+nothing_by journal head (Err e) old f = nothing (refusal_output e).text old
+
+nothing_behind : (journal : Bool) (q : Result (List ℕ × List (List ℕ)) SettingsFault) (old : Option (List ℕ)) (f : ServeFault) → TellsBehind journal q old old (Err f)
+nothing_behind journal (Ok parts) old f = nothing_by journal parts.0 (settings_of (command.Run journal) parts.0) old f
+nothing_behind journal (Err e) old f = nothing (refusal_output e).text old
+
+read_failed : (journal : Bool) (xs : List ℕ) (old new : Option (List ℕ)) (r : Result ℕ ServeFault) → r ≡ Err fault.Read → new ≡ old → ServesRun (command.Run journal) (Some xs) old new r
+read_failed journal xs old new r e same =
+    subst (λ (q : Result ℕ ServeFault). ServesRun (command.Run journal) (Some xs) old new q) (sym e)
+    (subst (λ (n : Option (List ℕ)). ServesRun (command.Run journal) (Some xs) old n (Err fault.Read)) (sym same) (inl (nothing_behind journal (head_of (pieces xs)) old fault.Read)))
+
+pub not_started : (journal : Bool) (input left old new : Option (List ℕ)) (f : StartFault) (r : Result ℕ ServeFault) → FindsHead input left (Err f) → RefusesStart (command.Run journal) f old new r
+    → ServesRun (command.Run journal) input old new r
+not_started journal None left old new f r h p = tt
+not_started journal (Some xs) left old new start.Read r h p = read_failed journal xs old new r p.0 p.1
+not_started journal (Some xs) left old new (start.Settings e) r h p = head_refused journal xs e old new r h p

@@ -1,0 +1,4 @@
+pub mod Empty
+pub mod Ends
+pub mod Outputs
+pub mod Parts

@@ -1,0 +1,20 @@
+// What clients do inside.
+
+use client_core::ClientCore;
+use entry_guard::EntryGuard;
+use event_recorders::{Gate, Recorder};
+use lock_messages::Actor;
+
+/// A gate at which nobody waits: a client that is inside leaves at once.
+pub struct OpenGate;
+
+impl Gate for OpenGate {
+    fn before_keep(&self, actor: Actor) {
+        let _ = actor;
+    }
+
+    fn while_inside<R: Recorder>(&self, recorder: &R, guard: &EntryGuard<'_, ClientCore>) {
+        let _ = recorder;
+        let _ = guard;
+    }
+}

@@ -1,0 +1,26 @@
+//! The run of the service, all parts together: from the bytes of its settings to what is printed of it.
+//!
+//! `serve_run` reads settings as every command does, opens the world in which all are down and nothing is
+//! kept, has a thread for each node and each client run in it, and tells what came of it: how often a
+//! resource was entered, how many events there were, and which actor ended by a fault; or the journal,
+//! behind the settings, so that it can be audited as it stands.
+//!
+//! What threads come to is no function of the settings. The crate promises that what is written is, byte
+//! for byte, a function of the run's end (`specs/Ends`), that the end's history is a run from the world of
+//! the settings, so no writer shares a resource, and that a journal which was written whole is found sound
+//! by `operator_cli::serve`. Which actor ends by which fault is not said. The policies and the records are
+//! the caller's.
+//!
+//! It stands on `operator_cli` for settings, `node_threads` for the run, `journal_text`, `journal_audit`
+//! and `journal_laws` for the journal, `line_streams`, `event_recorders`, `history_book`, `history_check`,
+//! `client_core` and `entry_guard` for the gate, `lossy_link`, `stable_record`, `admission_policy`,
+//! `vote_weights`, `world_machine`, `world_model`, `lock_messages` and `lock_model`.
+#![tactic(auto)]
+
+mod ends;
+mod gates;
+mod records;
+mod serving;
+
+pub use records::Records;
+pub use serving::serve_run;

@@ -1,0 +1,74 @@
+// The records of a run.
+
+ghost use Rattle.std.specs.Prelude.{◌≡◌, ◌≤◌, ◌++◌, map, replicate, take, IfOk};
+ghost use Rattle.lock_messages.specs.declared.ids.TheConstants.{MAX_NODES, MAX_CLIENTS};
+ghost use Rattle.lock_model.specs.declared.problems.Problem.TheVariants.{First, Second};
+ghost use Rattle.run_service.specs.Empty.{empty_node, empty_client};
+
+use lock_model::Problem;
+use stable_record::StableRecord;
+use std::alloc::AllocError;
+
+/// Records in which nothing was ever written, for as many actors as there may be: sixteen of nodes that
+/// solve problem 1, sixteen of nodes that solve problem 2, and 1,024 of clients.
+#[derive(Drop)]
+pub struct Records {
+    pub first: Vec<Box<dyn StableRecord + Send>>,
+    pub second: Vec<Box<dyn StableRecord + Send>>,
+    pub clients: Vec<Box<dyn StableRecord + Send>>,
+}
+
+/// So many of the records, the first ones first.
+fn front(
+    records: Vec<Box<dyn StableRecord + Send>>,
+    count: usize,
+) -> Vec<Box<dyn StableRecord + Send>>
+    ensures { result.items ≡ take count records.items }
+{
+    let mut records = records;
+    records.truncate(count);
+    records
+}
+
+/// The records of the nodes of this problem.
+fn of_nodes(
+    problem: Problem,
+    first: Vec<Box<dyn StableRecord + Send>>,
+    second: Vec<Box<dyn StableRecord + Send>>,
+    nodes: u8,
+) -> Vec<Box<dyn StableRecord + Send>>
+    requires first { map (λ r. finds r) first.items ≡ replicate MAX_NODES (empty_node First) }
+    requires second { map (λ r. finds r) second.items ≡ replicate MAX_NODES (empty_node Second) }
+    requires few { nodes ≤ MAX_NODES }
+    ensures { map (λ r. finds r) result.items ≡ replicate nodes (empty_node problem) }
+{
+    match problem {
+        Problem::First => front(first, nodes as usize),
+        Problem::Second => front(second, nodes as usize),
+    }
+}
+
+/// The records of so many nodes that solve the problem, and then of so many clients.
+pub fn chosen_records(
+    records: Records,
+    problem: Problem,
+    nodes: u8,
+    clients: u16,
+) -> Result<Vec<Box<dyn StableRecord + Send>>, AllocError>
+    requires first { map (λ r. finds r) records.first.items ≡ replicate MAX_NODES (empty_node First) }
+    requires second { map (λ r. finds r) records.second.items ≡ replicate MAX_NODES (empty_node Second) }
+    requires clients { map (λ r. finds r) records.clients.items ≡ replicate MAX_CLIENTS empty_client }
+    requires few_nodes { nodes ≤ MAX_NODES }
+    requires few_clients { clients ≤ MAX_CLIENTS }
+    ensures { IfOk result (λ all. map (λ r. finds r) all.items ≡ replicate nodes (empty_node problem) ++ replicate clients empty_client) }
+{
+    let Records {
+        first,
+        second,
+        clients: others,
+    } = records;
+    let mut all = of_nodes(problem, first, second, nodes);
+    let mut others = front(others, clients as usize);
+    all.append(&mut others)?;
+    Ok(all)
+}

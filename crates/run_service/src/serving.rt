@@ -1,0 +1,272 @@
+// A whole run, from the bytes of its settings to what is told of its end.
+
+ghost use Rattle.std.specs.Prelude.{◌≡◌, ◌≤◌, ◌++◌, map, replicate, codes, IfOk, OnOk};
+ghost use Rattle.lock_messages.specs.declared.ids.TheConstants.{MAX_NODES, MAX_CLIENTS};
+ghost use Rattle.lock_model.specs.declared.problems.Problem.TheVariants.{First, Second};
+ghost use Rattle.history_book.specs.Books.{enters};
+ghost use Rattle.journal_text.specs.Journals.{IsRecorded};
+ghost use Rattle.line_streams.specs.Streams.{Puts};
+ghost use Rattle.operator_cli.specs.Openings.{all_down};
+ghost use Rattle.operator_cli.specs.Settings.{AreAmong};
+ghost use Rattle.run_service.specs.Empty.{empty_node, empty_client};
+ghost use Rattle.run_service.specs.Ends.{IsEndOf, end_text, end_status, journal_behind};
+ghost use Rattle.run_service.specs.Outputs.{IsRun, ServesRun};
+ghost use Rattle.run_service.specs.Parts.{TellsEnd, RunsHead};
+
+use crate::ends::{push_end, status_of};
+use crate::gates::OpenGate;
+use crate::records::{Records, chosen_records};
+use admission_policy::Admission;
+use history_check::Wish;
+use journal_audit::laws::verdicts_are_exact;
+use journal_laws::laws::journals_are_sound;
+use journal_text::JournalFault;
+use line_streams::{LineReader, MAX_READS, write_text};
+use lossy_link::Weather;
+use node_threads::{RunEnd, run_all};
+use operator_cli::{
+    Command, Order, Policies, ServeFault, Settings, Start, StartFault, chosen, read_head,
+    read_settings, refuse_start, world_down,
+};
+use std::alloc::Global;
+use std::io::{Read, Write};
+use std::sync::Wait;
+use std::thread::Threads;
+
+/// Writes a text.
+fn put<W: Write>(text: &[u8], writer: &mut W) -> Result<(), ServeFault>
+    ensures { Puts (W.contents writer.old) (W.contents writer.new) text.now result }
+{
+    match write_text(writer, text) {
+        Ok(()) => Ok(()),
+        Err(_) => Err(ServeFault::Write),
+    }
+}
+
+/// Tells what a run came to.
+fn tell_end<W: Write>(alloc: Global, end: &RunEnd, writer: &mut W) -> Result<(), ServeFault>
+    requires { end.now.entered ≡ enters end.now.book.history }
+    ensures { Puts (W.contents writer.old) (W.contents writer.new) (end_text end.now.book.history end.now.faults.items) result }
+{
+    let mut text = String::new(alloc);
+    if push_end(&mut text, end).is_err() {
+        return Err(ServeFault::Memory);
+    }
+    put(text.as_bytes(), writer)
+}
+
+/// Writes the settings and the line that ends them.
+#[tactic(auto, using(crate::proofs::WriteFacts::puts_both, crate::proofs::WriteFacts::first_begun))]
+fn put_head<W: Write>(head: &[u8], writer: &mut W) -> Result<(), ServeFault>
+    ensures { Puts (W.contents writer.old) (W.contents writer.new) (head.now ++ codes "---\n") result }
+{
+    match put(head, writer) {
+        Ok(()) => put(b"---\n", writer),
+        Err(fault) => Err(fault),
+    }
+}
+
+/// Writes the settings, the line that ends them, and the journal of a run.
+#[tactic(auto, using(crate::proofs::WriteFacts::first_begun, crate::proofs::WriteFacts::then_begun))]
+fn put_journal<W: Write>(
+    alloc: Global,
+    head: &[u8],
+    end: &RunEnd,
+    writer: &mut W,
+) -> Result<(), ServeFault>
+    ensures text { Puts (W.contents writer.old) (W.contents writer.new) (journal_behind head.now end.now.book.history) result }
+    ensures recorded { OnOk result (IsRecorded end.now.book.opening end.now.book.history end.now.book.world) }
+{
+    match put_head(head, writer) {
+        Ok(()) => {}
+        Err(fault) => return Err(fault),
+    }
+    match end.book.write_journal(alloc, writer) {
+        Ok(()) => Ok(()),
+        Err(JournalFault::Write) => Err(ServeFault::Write),
+        Err(JournalFault::Memory) => Err(ServeFault::Memory),
+    }
+}
+
+/// Tells what a run came to, or writes its journal; answers the status.
+fn tell<W: Write>(
+    alloc: Global,
+    journal: bool,
+    head: &[u8],
+    settings: &Settings,
+    end: &RunEnd,
+    writer: &mut W,
+) -> Result<u8, ServeFault>
+    requires end { IsEndOf settings.now (record { history = end.now.book.history; world = end.now.book.world; faults = end.now.faults.items }) }
+    requires entered { end.now.entered ≡ enters end.now.book.history }
+    requires opening { end.now.book.opening ≡ all_down settings.now }
+    ensures { TellsEnd journal head.now settings.now (W.contents writer.old) (W.contents writer.new) result }
+{
+    let told = if journal {
+        put_journal(alloc, head, end, writer)
+    } else {
+        tell_end(alloc, end, writer)
+    };
+    match told {
+        Ok(()) => Ok(status_of(end.faults.as_slice())),
+        Err(fault) => Err(fault),
+    }
+}
+
+/// Runs the service by the settings, with as many policies and records as they need. The only fault is
+/// want of memory, or that a thread couldn't be started.
+fn run<T: Threads + Wait + Copy + Send + Sync>(
+    rt: T,
+    alloc: Global,
+    settings: &Settings,
+    weather: Weather,
+    wishes: &[Wish],
+    for_world: Policies,
+    for_threads: Policies,
+    records: Records,
+) -> Result<RunEnd, ServeFault>
+    requires some_client { 1 ≤ settings.now.clients }
+    requires few_clients { settings.now.clients ≤ MAX_CLIENTS }
+    requires wishes { AreAmong settings.now.clients wishes.now }
+    requires world_first { map ⟦<Box<dyn Admission + Send> as Admission>⟧.problem_of for_world.first.items ≡ replicate MAX_NODES First }
+    requires world_second { map ⟦<Box<dyn Admission + Send> as Admission>⟧.problem_of for_world.second.items ≡ replicate MAX_NODES Second }
+    requires threads_first { map ⟦<Box<dyn Admission + Send> as Admission>⟧.problem_of for_threads.first.items ≡ replicate MAX_NODES First }
+    requires threads_second { map ⟦<Box<dyn Admission + Send> as Admission>⟧.problem_of for_threads.second.items ≡ replicate MAX_NODES Second }
+    requires records_first { map (λ r. finds r) records.first.items ≡ replicate MAX_NODES (empty_node First) }
+    requires records_second { map (λ r. finds r) records.second.items ≡ replicate MAX_NODES (empty_node Second) }
+    requires records_clients { map (λ r. finds r) records.clients.items ≡ replicate MAX_CLIENTS empty_client }
+    ensures opening { IfOk result (λ end. end.book.opening ≡ all_down settings.now) }
+    ensures end { IfOk result (λ end. IsEndOf settings.now (record { history = end.book.history; world = end.book.world; faults = end.faults.items })) }
+    ensures entered { IfOk result (λ end. end.entered ≡ enters end.book.history) }
+{
+    let nodes = settings.ballot.nodes();
+    let Ok(world) = world_down(alloc, settings, for_world) else {
+        return Err(ServeFault::Memory);
+    };
+    let Ok(records) = chosen_records(records, settings.problem, nodes, settings.clients) else {
+        return Err(ServeFault::Memory);
+    };
+    let policies = chosen(for_threads, settings.problem, nodes);
+    let ballot = settings.ballot;
+    let Ok(end) = run_all(
+        rt, alloc, ballot, wishes, records, world, policies, weather, &OpenGate,
+    ) else {
+        return Err(ServeFault::Memory);
+    };
+    end.book.standing();
+    Ok(end)
+}
+
+/// Runs the service by what the head says, and tells what it came to.
+fn run_head<T: Threads + Wait + Copy + Send + Sync, W: Write>(
+    rt: T,
+    alloc: Global,
+    journal: bool,
+    head: &[u8],
+    for_world: Policies,
+    for_threads: Policies,
+    records: Records,
+    writer: &mut W,
+) -> Result<u8, ServeFault>
+    requires world_first { map ⟦<Box<dyn Admission + Send> as Admission>⟧.problem_of for_world.first.items ≡ replicate MAX_NODES First }
+    requires world_second { map ⟦<Box<dyn Admission + Send> as Admission>⟧.problem_of for_world.second.items ≡ replicate MAX_NODES Second }
+    requires threads_first { map ⟦<Box<dyn Admission + Send> as Admission>⟧.problem_of for_threads.first.items ≡ replicate MAX_NODES First }
+    requires threads_second { map ⟦<Box<dyn Admission + Send> as Admission>⟧.problem_of for_threads.second.items ≡ replicate MAX_NODES Second }
+    requires records_first { map (λ r. finds r) records.first.items ≡ replicate MAX_NODES (empty_node First) }
+    requires records_second { map (λ r. finds r) records.second.items ≡ replicate MAX_NODES (empty_node Second) }
+    requires records_clients { map (λ r. finds r) records.clients.items ≡ replicate MAX_CLIENTS empty_client }
+    ensures { RunsHead journal head.now (W.contents writer.old) (W.contents writer.new) result }
+{
+    let command = Command::Run { journal };
+    let start = match read_settings(alloc, command, head) {
+        Ok(start) => start,
+        Err(fault) => return refuse_start(command, StartFault::Settings(fault), writer),
+    };
+    let Start {
+        settings,
+        weather,
+        wishes,
+    } = start;
+    let Ok(end) = run(
+        rt,
+        alloc,
+        &settings,
+        weather,
+        wishes.as_slice(),
+        for_world,
+        for_threads,
+        records,
+    ) else {
+        return Err(ServeFault::Memory);
+    };
+    tell(alloc, journal, head, &settings, &end, writer)
+}
+
+/// Runs the service by the settings that the reader gives, and answers the status of the program.
+///
+/// The bytes begin with settings, as for `operator_cli::serve`, which the line `---` ends; what follows is
+/// ignored. Refused ones print `settings fault N` and nothing else, and the status is 2. Else each node and
+/// each client gets a thread; all nodes rise, and each client, and then it sees to its wishes in order,
+/// while the weather of the settings loses, repeats and delays what they send. Once all threads have ended
+/// it prints `entered E`, how often a resource was entered; `events N`, how many events the history has;
+/// and for each actor that ended by a fault, nodes first, a line such as `c2 fault 913`. Asked for the
+/// journal, it prints the settings as they were read, `---` and the journal in place of this. The status
+/// is 1 where an actor ended by a fault, else 0.
+///
+/// Contracts speak of what the reader has left and of what the writer holds, where these are known. The
+/// caller owes an order for `Run`; sixteen policies that solve each problem for the world, with the order,
+/// and as many for the threads; and records in which nothing was ever written: sixteen of nodes that solve
+/// each problem, and 1,024 of clients. Of each the first ones are used, as many as the settings need, and
+/// the others are dropped. It waits for all threads; that they end is not promised.
+///
+/// # Errors
+///
+/// `Read` (931) where the reader fails or 600,000,000 reads were made, `Write` (932) where the writer fails
+/// or takes nothing, `Memory` (933) where memory was refused or a thread couldn't be started. After a fault
+/// a beginning of the output was written.
+pub fn serve_run<T: Threads + Wait + Copy + Send + Sync, R: Read, W: Write>(
+    rt: T,
+    alloc: Global,
+    order: Order,
+    reader: R,
+    writer: &mut W,
+    policies: Policies,
+    records: Records,
+) -> Result<u8, ServeFault>
+where
+    R: Drop,
+    requires run { IsRun order.command }
+    requires world_first { map ⟦<Box<dyn Admission + Send> as Admission>⟧.problem_of order.policies.first.items ≡ replicate MAX_NODES First }
+    requires world_second { map ⟦<Box<dyn Admission + Send> as Admission>⟧.problem_of order.policies.second.items ≡ replicate MAX_NODES Second }
+    requires threads_first { map ⟦<Box<dyn Admission + Send> as Admission>⟧.problem_of policies.first.items ≡ replicate MAX_NODES First }
+    requires threads_second { map ⟦<Box<dyn Admission + Send> as Admission>⟧.problem_of policies.second.items ≡ replicate MAX_NODES Second }
+    requires records_first { map (λ r. finds r) records.first.items ≡ replicate MAX_NODES (empty_node First) }
+    requires records_second { map (λ r. finds r) records.second.items ≡ replicate MAX_NODES (empty_node Second) }
+    requires records_clients { map (λ r. finds r) records.clients.items ≡ replicate MAX_CLIENTS empty_client }
+    ensures output { ServesRun order.command (R.remaining reader) (W.contents writer.old) (W.contents writer.new) result }
+{
+    let Order {
+        command,
+        policies: for_world,
+    } = order;
+    let Command::Run { journal } = command else {
+        unreachable!()
+    };
+    let mut source = LineReader::new(reader, MAX_READS);
+    let head = match read_head(alloc, &mut source) {
+        Ok(head) => head,
+        Err(fault) => return refuse_start(command, fault, writer),
+    };
+    journals_are_sound();
+    verdicts_are_exact();
+    run_head(
+        rt,
+        alloc,
+        journal,
+        head.as_slice(),
+        for_world,
+        policies,
+        records,
+        writer,
+    )
+}
