@@ -1,10 +1,11 @@
 -- What the program does with its words: the status that it ends with, what it writes, and what it
 -- says on the second writer.
-use Rattle.std.specs.Prelude.{◌≡◌, ◌⊎◌, ℕ, Bool, true, false, List, [], ◌++◌, Option, Some, None, Result, Ok, Err, codes, option_map}
+use Rattle.std.specs.Prelude.{◌≡◌, ◌⊎◌, ℕ, Bool, true, false, List, [], ◌∷◌, ◌++◌, Option, Some, None, Result, Ok, Err, codes}
 use Rattle.std.specs.Fmt.{decimal}
 use Rattle.std.specs.Io.KnownBytes.{Keeps, Appends}
-use Rattle.clap.specs.Words.{App, with_subcommand, subcommand_of, fault_of, HasKind, IsAmong, Kinds}
+use Rattle.clap.specs.Words.{App, Shape, Rule, Row, new_rule, one_of, with_subcommand, subcommand_of, fault_of, HasKind, IsAmong, Kinds}
 use Rattle.clap.specs.Simple.{new_shape}
+use Rattle.clap.specs.declared.builder.action.ArgAction.TheVariants.{SetTrue}
 use Rattle.clap.specs.declared.error.Error.{Error}
 use Rattle.clap.specs.declared.error.kind.ErrorKind.{ErrorKind}
 use Rattle.clap.specs.declared.error.kind.ErrorKind.TheVariants as kind
@@ -15,19 +16,16 @@ use Rattle.operator_cli.specs.declared.orders.Command.{Command}
 use Rattle.operator_cli.specs.declared.orders.Command.TheVariants as command
 use Rattle.operator_cli.specs.Faults.{serve_fault_number}
 use Rattle.operator_cli.specs.Outputs.{Serves}
+use Rattle.run_service.specs.Outputs.{ServesRun}
 use Rattle.command_line.specs.declared.ending.Ended.{Ended}
 use Rattle.command_line.specs.declared.reading.Sort.{Sort}
 use Rattle.command_line.specs.declared.reading.Sort.TheVariants as sort
 use Rattle.command_line.specs.declared.reading.Unserved.{Unserved}
 use Rattle.command_line.specs.declared.reading.Unserved.TheVariants as unserved
 
--- The words that the program takes: one of `script`, `audit` and `ballot` and nothing else, and on
--- either level a request for help; on the upper one also a request for the version.
-
-abbrev pub name_of : Command → List ℕ
-name_of command.Script = codes "script"
-name_of command.Audit = codes "audit"
-name_of command.Ballot = codes "ballot"
+-- The words that the program takes: one of `script`, `audit` and `ballot` and nothing else, or `run`, which
+-- `--journal` may follow; and on either level a request for help, on the upper one also a request for the
+-- version.
 
 -- without the commands
 abbrev pub top_app : App
@@ -36,23 +34,47 @@ top_app = record {
   subs = [];
 }
 
-abbrev pub with_command : App → Command → App
-with_command a c = with_subcommand a (new_shape (name_of c))
+-- the flag `--journal`
+abbrev pub journal_rule : Rule
+journal_rule = record (new_rule (codes "journal")) { long = Some (codes "journal"); action = Some SetTrue }
+
+abbrev pub run_shape : Shape
+run_shape = record (new_shape (codes "run")) { rules = journal_rule ∷ [] }
+
+abbrev pub with_command : App → List ℕ → App
+with_command a name = with_subcommand a (new_shape name)
 
 abbrev pub app : App
-app = with_command (with_command (with_command top_app command.Script) command.Audit) command.Ballot
+app = with_subcommand (with_command (with_command (with_command top_app (codes "script")) (codes "audit")) (codes "ballot")) run_shape
 
 -- the name of a command
-abbrev pub IsNamed : List ℕ → Type 0
-IsNamed name = (c : Command) × (name ≡ name_of c)
+abbrev pub IsName : List ℕ → Type 0
+IsName name = (name ≡ codes "script") ⊎ ((name ≡ codes "audit") ⊎ ((name ≡ codes "ballot") ⊎ (name ≡ codes "run")))
 
 abbrev pub NamesOne : Option (List ℕ) → Type 0
 NamesOne None = ⊥
-NamesOne (Some name) = IsNamed name
+NamesOne (Some name) = IsName name
 
--- the name of the command that `clap` finds in the words
-unfoldable pub named_in : List (List ℕ) → Option (List ℕ)
-named_in words = option_map (λ found. found.0) (subcommand_of app words)
+-- What `clap` finds of a flag: the text `true` where it stands among the words, else `false` or nothing.
+pub record IsFlag (found : Option (List ℕ)) (set : Bool) : Type 0 where
+  pub missing : found ≡ None → set ≡ false
+  pub given : found ≡ Some (codes "true") → set ≡ true
+  pub absent : found ≡ Some (codes "false") → set ≡ false
+
+-- the command of a name, with what was found behind it
+abbrev pub IsCommand : List ℕ → List Row → Command → Type 0
+IsCommand name rows command.Script = name ≡ codes "script"
+IsCommand name rows command.Audit = name ≡ codes "audit"
+IsCommand name rows command.Ballot = name ≡ codes "ballot"
+IsCommand name rows (command.Run journal) = (name ≡ codes "run") × IsFlag (one_of (codes "journal") rows) journal
+
+abbrev pub Names : Option (List ℕ × List Row) → Command → Type 0
+Names None c = ⊥
+Names (Some found) c = IsCommand found.0 found.1 c
+
+-- the command that `clap` finds in the words: its name, and what stands behind it
+unfoldable pub named_in : List (List ℕ) → Option (List ℕ × List Row)
+named_in words = subcommand_of app words
 
 -- What `clap` says of words that name no command: it lacked memory, help or the version is asked
 -- for, or they are wrong.
@@ -72,13 +94,13 @@ IsOfSort s (unserved.Help text) = s ≡ sort.Help
 IsOfSort s (unserved.Wrong text) = s ≡ sort.Wrong
 
 -- How words were parsed that may fail by these kinds, or else name a command.
-abbrev pub Parses : Kinds → Option (List ℕ) → Result Command Error → Type 0
-Parses kinds named (Ok c) = (kinds ≡ []) × (named ≡ Some (name_of c))
+abbrev pub Parses : Kinds → Option (List ℕ × List Row) → Result Command Error → Type 0
+Parses kinds named (Ok c) = (kinds ≡ []) × Names named c
 Parses kinds named (Err e) = HasKind kinds e
 
 -- The same, and what is to be said where no command is named.
-abbrev pub ReadsWords : Kinds → Option (List ℕ) → Result Command Unserved → Type 0
-ReadsWords kinds named (Ok c) = (kinds ≡ []) × (named ≡ Some (name_of c))
+abbrev pub ReadsWords : Kinds → Option (List ℕ × List Row) → Result Command Unserved → Type 0
+ReadsWords kinds named (Ok c) = (kinds ≡ []) × Names named c
 ReadsWords kinds named (Err unserved.NoMemory) = Unit {0}
 ReadsWords kinds named (Err (unserved.Help text)) = HasSort sort.Help kinds
 ReadsWords kinds named (Err (unserved.Wrong text)) = HasSort sort.Wrong kinds
@@ -116,13 +138,20 @@ pub record Writers : Type 0 where
   pub errors_old : Option (List ℕ)
   pub errors_new : Option (List ℕ)
 
--- A run that `serve` made: its status, and nothing on the second writer; or its fault, told there.
+-- What is served for each command.
+abbrev pub ServesFor : Command → Option (List ℕ) → Option (List ℕ) → Option (List ℕ) → Result ℕ ServeFault → Type 0
+ServesFor command.Script input old new r = Serves command.Script input old new r
+ServesFor command.Audit input old new r = Serves command.Audit input old new r
+ServesFor command.Ballot input old new r = Serves command.Ballot input old new r
+ServesFor (command.Run journal) input old new r = ServesRun (command.Run journal) input old new r
+
+-- A run that was served: its status, and nothing on the second writer; or its fault, told there.
 abbrev pub EndsServed : Result ℕ ServeFault → Option (List ℕ) → Option (List ℕ) → Ended → Type 0
 EndsServed (Ok status) old new e = (e.status ≡ status) × (e.told ≡ true) × Keeps old new
 EndsServed (Err f) old new e = TellsFault f old new e
 
 abbrev pub RunsCommand : Command → Option (List ℕ) → Writers → Ended → Type 0
-RunsCommand c input w e = (r : Result ℕ ServeFault) × Serves c input w.old w.new r × EndsServed r w.errors_old w.errors_new e
+RunsCommand c input w e = (r : Result ℕ ServeFault) × ServesFor c input w.old w.new r × EndsServed r w.errors_old w.errors_new e
 
 -- A text went to the first writer, and the status is 0; or that failed, which is told as such.
 abbrev pub Shows : List ℕ → Writers → Ended → Type 0
@@ -142,12 +171,12 @@ abbrev pub LacksMemory : Writers → Ended → Type 0
 LacksMemory w e = Keeps w.old w.new × TellsFault fault.Memory w.errors_old w.errors_new e
 
 -- the command is the one that is named
-abbrev pub RunsNamed : Option (List ℕ) → Option (List ℕ) → Writers → Ended → Type 0
-RunsNamed named input w e = (c : Command) × (named ≡ Some (name_of c)) × RunsCommand c input w e
+abbrev pub RunsNamed : Option (List ℕ × List Row) → Option (List ℕ) → Writers → Ended → Type 0
+RunsNamed named input w e = (c : Command) × Names named c × RunsCommand c input w e
 
 -- What a run does with words that were read. `clap` says which are right, and of which kind the
 -- others are: `fault_of` is empty where a command is named.
-abbrev pub RunsBy : Option (List ℕ) → Kinds → Option (List ℕ) → Writers → Ended → Type 0
+abbrev pub RunsBy : Option (List ℕ) → Kinds → Option (List ℕ × List Row) → Writers → Ended → Type 0
 RunsBy input kinds named w e =
     LacksMemory w e ⊎ (((kinds ≡ []) × RunsNamed named input w e) ⊎ ((HasSort sort.Help kinds × ShowsHelp w e) ⊎ (HasSort sort.Wrong kinds × RefusesWords w e)))
 

@@ -5,20 +5,23 @@ ghost use Rattle.std.specs.IoError.{error_kind};
 ghost use Rattle.std.specs.Io.KnownBytes.{Keeps};
 ghost use Rattle.std.specs.Vec.Iter.{into_iter_items};
 ghost use Rattle.clap.specs.Words.{fault_of};
-ghost use Rattle.lock_messages.specs.declared.ids.TheConstants.{MAX_NODES};
+ghost use Rattle.lock_messages.specs.declared.ids.TheConstants.{MAX_NODES, MAX_CLIENTS};
 ghost use Rattle.lock_model.specs.declared.problems.Problem.TheVariants.{First, Second};
-ghost use Rattle.operator_cli.specs.Outputs.{Serves};
+ghost use Rattle.run_service.specs.Empty.{empty_node, empty_client};
 ghost use Rattle.operator_cli.specs.declared.faults.ServeFault.TheVariants as fault;
-ghost use Rattle.command_line.specs.CommandLine.{app, Says, EndsSaying, TellsFault, EndsUnread, EndsServed, RunsCommand, Shows, ReadsWords, RunsBy, Runs, no_text_words, fault_text};
+ghost use Rattle.command_line.specs.CommandLine.{app, Says, EndsSaying, TellsFault, EndsUnread, EndsServed, ServesFor, RunsCommand, Shows, ReadsWords, RunsBy, Runs, no_text_words, fault_text};
 
 use crate::reading::{Unserved, read_words};
 use admission_policy::Admission;
 use line_streams::write_text;
-use operator_cli::{AuditFault, Order, Policies, ServeFault, serve};
+use operator_cli::{AuditFault, Command, Order, Policies, ServeFault, serve};
+use run_service::{Records, serve_run};
 use std::alloc::{AllocError, Global};
 use std::env::Args;
 use std::io;
 use std::io::{ErrorKind, Read, Write};
+use std::sync::Wait;
+use std::thread::Threads;
 
 /// How a run ended.
 #[derive(Clone, Copy, Debug, PartialEq, Eq)]
@@ -97,10 +100,42 @@ fn end_served<E: Write>(came: Result<u8, ServeFault>, errors: &mut E) -> Ended
     }
 }
 
-/// Runs a command.
-fn run_command<R: Read, W: Write, E: Write>(
+/// Serves a command.
+fn serve_for<T: Threads + Wait + Copy + Send + Sync, R: Read, W: Write>(
+    rt: T,
     alloc: Global,
     order: Order,
+    threads: Policies,
+    records: Records,
+    reader: R,
+    output: &mut W,
+) -> Result<u8, ServeFault>
+where
+    R: Drop,
+    requires first { map ⟦<Box<dyn Admission + Send> as Admission>⟧.problem_of order.policies.first.items ≡ replicate MAX_NODES First }
+    requires second { map ⟦<Box<dyn Admission + Send> as Admission>⟧.problem_of order.policies.second.items ≡ replicate MAX_NODES Second }
+    requires threads_first { map ⟦<Box<dyn Admission + Send> as Admission>⟧.problem_of threads.first.items ≡ replicate MAX_NODES First }
+    requires threads_second { map ⟦<Box<dyn Admission + Send> as Admission>⟧.problem_of threads.second.items ≡ replicate MAX_NODES Second }
+    requires records_first { map (λ r. finds (r.vtable, r.value)) records.first.items ≡ replicate MAX_NODES (empty_node First) }
+    requires records_second { map (λ r. finds (r.vtable, r.value)) records.second.items ≡ replicate MAX_NODES (empty_node Second) }
+    requires records_clients { map (λ r. finds (r.vtable, r.value)) records.clients.items ≡ replicate MAX_CLIENTS empty_client }
+    ensures { ServesFor order.command (R.remaining reader) (W.contents output.old) (W.contents output.new) result }
+{
+    match order.command {
+        Command::Script => serve(alloc, order, reader, output),
+        Command::Audit => serve(alloc, order, reader, output),
+        Command::Ballot => serve(alloc, order, reader, output),
+        Command::Run { .. } => serve_run(rt, alloc, order, reader, output, threads, records),
+    }
+}
+
+/// Runs a command.
+fn run_command<T: Threads + Wait + Copy + Send + Sync, R: Read, W: Write, E: Write>(
+    rt: T,
+    alloc: Global,
+    order: Order,
+    threads: Policies,
+    records: Records,
     reader: R,
     output: &mut W,
     errors: &mut E,
@@ -109,9 +144,14 @@ where
     R: Drop,
     requires first { map ⟦<Box<dyn Admission + Send> as Admission>⟧.problem_of order.policies.first.items ≡ replicate MAX_NODES First }
     requires second { map ⟦<Box<dyn Admission + Send> as Admission>⟧.problem_of order.policies.second.items ≡ replicate MAX_NODES Second }
+    requires threads_first { map ⟦<Box<dyn Admission + Send> as Admission>⟧.problem_of threads.first.items ≡ replicate MAX_NODES First }
+    requires threads_second { map ⟦<Box<dyn Admission + Send> as Admission>⟧.problem_of threads.second.items ≡ replicate MAX_NODES Second }
+    requires records_first { map (λ r. finds (r.vtable, r.value)) records.first.items ≡ replicate MAX_NODES (empty_node First) }
+    requires records_second { map (λ r. finds (r.vtable, r.value)) records.second.items ≡ replicate MAX_NODES (empty_node Second) }
+    requires records_clients { map (λ r. finds (r.vtable, r.value)) records.clients.items ≡ replicate MAX_CLIENTS empty_client }
     ensures { RunsCommand order.command (R.remaining reader) (record { old = W.contents output.old; new = W.contents output.new; errors_old = E.contents errors.old; errors_new = E.contents errors.new }) result }
 {
-    let came = serve(alloc, order, reader, output);
+    let came = serve_for(rt, alloc, order, threads, records, reader, output);
     end_served(came, errors)
 }
 
@@ -130,10 +170,13 @@ fn show<W: Write, E: Write>(text: &str, output: &mut W, errors: &mut E) -> Ended
 
 /// Does what the words say.
 #[tactic(auto, using(crate::proofs::WordFacts::runs_lacking, crate::proofs::WordFacts::runs_command, crate::proofs::WordFacts::runs_help, crate::proofs::WordFacts::runs_wrong))]
-fn run_words<R: Read, W: Write, E: Write>(
+fn run_words<T: Threads + Wait + Copy + Send + Sync, R: Read, W: Write, E: Write>(
+    rt: T,
     alloc: Global,
     words: &[String],
     policies: Policies,
+    threads: Policies,
+    records: Records,
     reader: R,
     output: &mut W,
     errors: &mut E,
@@ -142,10 +185,18 @@ where
     R: Drop,
     requires first { map ⟦<Box<dyn Admission + Send> as Admission>⟧.problem_of policies.first.items ≡ replicate MAX_NODES First }
     requires second { map ⟦<Box<dyn Admission + Send> as Admission>⟧.problem_of policies.second.items ≡ replicate MAX_NODES Second }
+    requires threads_first { map ⟦<Box<dyn Admission + Send> as Admission>⟧.problem_of threads.first.items ≡ replicate MAX_NODES First }
+    requires threads_second { map ⟦<Box<dyn Admission + Send> as Admission>⟧.problem_of threads.second.items ≡ replicate MAX_NODES Second }
+    requires records_first { map (λ r. finds (r.vtable, r.value)) records.first.items ≡ replicate MAX_NODES (empty_node First) }
+    requires records_second { map (λ r. finds (r.vtable, r.value)) records.second.items ≡ replicate MAX_NODES (empty_node Second) }
+    requires records_clients { map (λ r. finds (r.vtable, r.value)) records.clients.items ≡ replicate MAX_CLIENTS empty_client }
     ensures { Runs (R.remaining reader) (map string_bytes words.now) (record { old = W.contents output.old; new = W.contents output.new; errors_old = E.contents errors.old; errors_new = E.contents errors.new }) result }
 {
     match read_words(alloc, words) {
-        Ok(command) => run_command(alloc, Order { command, policies }, reader, output, errors),
+        Ok(command) => {
+            let order = Order { command, policies };
+            run_command(rt, alloc, order, threads, records, reader, output, errors)
+        }
         Err(Unserved::NoMemory) => tell_fault(ServeFault::Memory, errors),
         Err(Unserved::Help(text)) => show(text.as_str(), output, errors),
         Err(Unserved::Wrong(text)) => say(2, text.as_str(), errors),
@@ -161,10 +212,13 @@ fn collected(alloc: Global, words: Args) -> Result<Vec<String>, AllocError>
 
 /// Does what the words say that the program was given.
 #[tactic(auto, using(crate::proofs::WordFacts::runs_lacking))]
-fn run_given<R: Read, W: Write, E: Write>(
+fn run_given<T: Threads + Wait + Copy + Send + Sync, R: Read, W: Write, E: Write>(
+    rt: T,
     alloc: Global,
     given: Args,
     policies: Policies,
+    threads: Policies,
+    records: Records,
     reader: R,
     output: &mut W,
     errors: &mut E,
@@ -173,12 +227,27 @@ where
     R: Drop,
     requires first { map ⟦<Box<dyn Admission + Send> as Admission>⟧.problem_of policies.first.items ≡ replicate MAX_NODES First }
     requires second { map ⟦<Box<dyn Admission + Send> as Admission>⟧.problem_of policies.second.items ≡ replicate MAX_NODES Second }
+    requires threads_first { map ⟦<Box<dyn Admission + Send> as Admission>⟧.problem_of threads.first.items ≡ replicate MAX_NODES First }
+    requires threads_second { map ⟦<Box<dyn Admission + Send> as Admission>⟧.problem_of threads.second.items ≡ replicate MAX_NODES Second }
+    requires records_first { map (λ r. finds (r.vtable, r.value)) records.first.items ≡ replicate MAX_NODES (empty_node First) }
+    requires records_second { map (λ r. finds (r.vtable, r.value)) records.second.items ≡ replicate MAX_NODES (empty_node Second) }
+    requires records_clients { map (λ r. finds (r.vtable, r.value)) records.clients.items ≡ replicate MAX_CLIENTS empty_client }
     ensures { Runs (R.remaining reader) (map string_bytes (into_iter_items given)) (record { old = W.contents output.old; new = W.contents output.new; errors_old = E.contents errors.old; errors_new = E.contents errors.new }) result }
 {
     let Ok(all) = collected(alloc, given) else {
         return tell_fault(ServeFault::Memory, errors);
     };
-    run_words(alloc, all.as_slice(), policies, reader, output, errors)
+    run_words(
+        rt,
+        alloc,
+        all.as_slice(),
+        policies,
+        threads,
+        records,
+        reader,
+        output,
+        errors,
+    )
 }
 
 /// Ends a run that has no memory to begin: tells `fault 933`, with status 1.
@@ -192,18 +261,22 @@ pub fn end_without_memory<E: Write>(errors: &mut E) -> Ended
 ///
 /// The words are those of `std::env::args`, the program's name first. `script`, `audit` and `ballot`
 /// serve what the reader gives, as `operator_cli::serve` does for the command of this name, onto
-/// `output`: the status is that of `serve`, and nothing goes to `errors`; a fault of `serve` is told
-/// there as `fault N`, with status 1. `--help` and `--version`, also `script --help` and the like, go to
+/// `output`, and `run`, which `--journal` may follow, as `run_service::serve_run` does: the status is that
+/// of the call, and nothing goes to `errors`; its fault is told there as `fault N`, with status 1. `--help` and `--version`, also `script --help` and the like, go to
 /// `output`, with status 0 (`fault 932` and 1 where that fails). Other words are wrong, and so is one that is not UTF-8: a text on `errors` says so, and the
 /// status is 2. Where memory is refused while words are read, `fault 933` is told, with status 1.
 ///
 /// Contracts speak of what the reader has left and of what the writers hold, where these are known.
 /// The caller owes policies of the right problems, as `serve` does: sixteen that solve problem 1 and
-/// sixteen that solve problem 2.
-pub fn run<R: Read, W: Write, E: Write>(
+/// sixteen that solve problem 2, and for the threads of a run as many again; and the empty records that
+/// `serve_run` asks for. A run may wait without end.
+pub fn run<T: Threads + Wait + Copy + Send + Sync, R: Read, W: Write, E: Write>(
+    rt: T,
     alloc: Global,
     words: io::Result<Args>,
     policies: Policies,
+    threads: Policies,
+    records: Records,
     reader: R,
     output: &mut W,
     errors: &mut E,
@@ -212,12 +285,19 @@ where
     R: Drop,
     requires first { map ⟦<Box<dyn Admission + Send> as Admission>⟧.problem_of policies.first.items ≡ replicate MAX_NODES First }
     requires second { map ⟦<Box<dyn Admission + Send> as Admission>⟧.problem_of policies.second.items ≡ replicate MAX_NODES Second }
+    requires threads_first { map ⟦<Box<dyn Admission + Send> as Admission>⟧.problem_of threads.first.items ≡ replicate MAX_NODES First }
+    requires threads_second { map ⟦<Box<dyn Admission + Send> as Admission>⟧.problem_of threads.second.items ≡ replicate MAX_NODES Second }
+    requires records_first { map (λ r. finds (r.vtable, r.value)) records.first.items ≡ replicate MAX_NODES (empty_node First) }
+    requires records_second { map (λ r. finds (r.vtable, r.value)) records.second.items ≡ replicate MAX_NODES (empty_node Second) }
+    requires records_clients { map (λ r. finds (r.vtable, r.value)) records.clients.items ≡ replicate MAX_CLIENTS empty_client }
     ensures runs { IfOk words (λ all. Runs (R.remaining reader) (map string_bytes (into_iter_items all)) (record { old = W.contents output.old; new = W.contents output.new; errors_old = E.contents errors.old; errors_new = E.contents errors.new }) result) }
     ensures unread { IfErr words (λ error. EndsUnread (error_kind error ≡ ErrorKind.OutOfMemory) (E.contents errors.old) (E.contents errors.new) result) }
     ensures unread_keeps { IfErr words (λ error. Keeps (W.contents output.old) (W.contents output.new)) }
 {
     match words {
-        Ok(given) => run_given(alloc, given, policies, reader, output, errors),
+        Ok(given) => run_given(
+            rt, alloc, given, policies, threads, records, reader, output, errors,
+        ),
         Err(error) => tell_unread(error, errors),
     }
 }

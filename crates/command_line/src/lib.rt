@@ -4,11 +4,12 @@
 //! place on the first: faults, and what is wrong with words. The program itself is one call of it.
 //!
 //! The crate promises, by the contract of `run`, the status and what is written on both writers:
-//! the status of `serve` as it is and nothing on the second; a fault of `serve` as `fault N` there
+//! the status of what is served as it is and nothing on the second; its fault as `fault N` there
 //! and 1; wrong words as 2, by what `clap` says of them; a request for help or for the version as 0.
 //! `specs/CommandLine` says so.
 //!
-//! It stands on `operator_cli`, `line_streams`, `lock_messages`, `lock_model` and `clap`.
+//! It stands on `operator_cli`, `run_service`, `line_streams`, `stable_record`, `admission_policy`,
+//! `lock_messages`, `lock_model` and `clap`.
 #![tactic(auto)]
 
 mod ending;

@@ -1,12 +1,12 @@
 // The words that the program takes, and their help.
 
-ghost use Rattle.std.specs.Prelude.{◌≡◌, IfOk, Some, false, map, string_bytes};
-ghost use Rattle.clap.specs.Words.{app_of, shape_of, fault_of, kind_of, subcommand_name_of};
+ghost use Rattle.std.specs.Prelude.{◌≡◌, IfOk, false, map, string_bytes};
+ghost use Rattle.clap.specs.Words.{app_of, shape_of, rule_of, rows_of, found_of, fault_of, kind_of, subcommand_name_of, subcommand_rows_of};
 ghost use Rattle.clap.specs.Simple.{new_shape};
 ghost use Rattle.clap.specs.declared.builder.command.Command.TheViews.{out-Command};
-ghost use Rattle.command_line.specs.CommandLine.{app, top_app, sort_of, name_of, named_in, IsNamed, NamesOne, IsOfSort, Parses, ReadsWords};
+ghost use Rattle.command_line.specs.CommandLine.{app, top_app, journal_rule, run_shape, sort_of, named_in, IsName, IsCommand, Names, NamesOne, IsOfSort, Parses, ReadsWords};
 
-use clap::ArgMatches;
+use clap::{Arg, ArgAction, ArgMatches};
 use clap::error::ErrorKind;
 use operator_cli::Command;
 use std::alloc::{AllocError, Global};
@@ -43,10 +43,10 @@ kept, sent 2 grant n1 c1 1 read a, counted, inside, inside a: c1 read.
 Settings: `votes` is a list with the votes of each node, 0 to 255, node 1 first, 16 nodes at most;
 `read` and `write` are how many votes a reader and a writer collect (read + write, and twice write,
 are over all votes); `problem` is 1 (a reader waits only where a writer holds) or 2 (it waits also
-where a writer waits); `clients` is how many clients there are, 1 to 1024. These are needed. Of a run
-of all parts together tell `seed`, the number of the weather; `lose`, `twice` and `late`, how many of
-a thousand parcels are lost, go twice and are late, 1000 together at most; and `wishes`, a list of at
-most 4096 texts as `c1 read a`. They are judged, and not used by any command yet.
+where a writer waits); `clients` is how many clients there are, 1 to 1024. These are needed. Five
+more are for `rwvote run`, and judged by every command: `seed`, the number of the weather; `lose`,
+`twice` and `late`, how many of a thousand parcels are lost, go twice and are late, 1000 together at
+most; and `wishes`, a list of at most 4096 texts as `c1 read a`.
 
 All nodes and clients are up at first. Events: `begin cC read|write NAME`, `try nN|cC`, `kept nN|cC`,
 `sayto cC nN`, `say nN`, `take nN K`, `hear cC K`, `enter cC`, `leave cC`, `fall nN|cC`,
@@ -120,6 +120,38 @@ votes, 204 a read and a write could miss each other, 205 two writes could.
 The status is 0; 1 where the ballot was refused, or where `fault N` stands on standard error (931 the
 input failed, 932 the output, 933 no memory); 2 where the settings or the words were refused.";
 
+const RUN_HELP: &str = "\
+Runs the whole service: a thread for each node and each client. Standard input begins with settings
+in TOML and a line `---`, and what stands behind it is ignored. This one can be pasted and run, once
+`rwvote` is on the path:
+
+rwvote run <<'END'
+votes = [1, 1, 1]
+read = 2
+write = 2
+problem = 1
+clients = 4
+wishes = ['c1 read a']
+---
+END
+
+It prints `entered 1` and `events 36`: client 1 was inside the resource `a` once, and that took 36
+events of all. With `--journal` it prints the settings, `---` and these events instead, which
+`rwvote audit` finds sound: `rwvote run --journal | rwvote audit`.
+
+The settings are those of `script`. `wishes` says what clients are to do: each sees to its own, in
+order, and leaves a resource as soon as it is inside. `lose`, `twice`, `late` and `seed` make the
+weather in which messages are lost, repeated and delayed. What threads come to differs from run to
+run, unless only one client has wishes and nothing is lost, repeated or delayed.
+
+A line as `c2 fault 913` tells of a node or a client that ended before its work was done: 911 its
+record failed, 912 too few nodes are left, 913 it gave up after it was told 1000 times in one wish to
+send again, 914 no memory or no thread, 915 the journal is full, 916 no attempts are left.
+
+The status is 0; 1 where such a line stands, with `--journal` where it would, or where `fault N` stands
+on standard error (931 the input failed, 932 the output, 933 no memory or no thread); 2 where the
+settings or the words were refused.";
+
 /// A command of the program.
 fn below<'a>(alloc: Global, name: &'a str, about: &'a str, help: &'a str) -> clap::Command<'a>
     ensures shape { shape_of result ≡ new_shape name.entry.now }
@@ -141,6 +173,27 @@ fn top<'a>(alloc: Global) -> clap::Command<'a>
         .disable_help_subcommand(true)
 }
 
+/// The flag that asks for the journal of a run.
+fn journal_flag<'a>(alloc: Global) -> Arg<'a>
+    ensures rule { rule_of result ≡ journal_rule }
+    ensures local { result.global ≡ false }
+{
+    Arg::new(alloc, "journal")
+        .long("journal")
+        .action(ArgAction::SetTrue)
+        .help("Prints the settings and the journal, for `rwvote audit`")
+}
+
+/// The command that runs the service.
+fn run_below<'a>(alloc: Global) -> Result<clap::Command<'a>, AllocError>
+    ensures shape { IfOk result (λ c. shape_of c ≡ run_shape) }
+    ensures local { IfOk result (λ c. (out-Command c).has_globals ≡ false) }
+{
+    let run = below(alloc, "run", "Runs the service", RUN_HELP);
+    let with_flag = run.arg(journal_flag(alloc))?;
+    Ok(with_flag)
+}
+
 /// The words that the program takes.
 fn words_taken<'a>(alloc: Global) -> Result<clap::Command<'a>, AllocError>
     ensures { IfOk result (λ c. app_of c ≡ app) }
@@ -150,7 +203,8 @@ fn words_taken<'a>(alloc: Global) -> Result<clap::Command<'a>, AllocError>
     let ballot = below(alloc, "ballot", "Says what a ballot is", BALLOT_HELP);
     let with_script = top(alloc).subcommand(script)?;
     let with_audit = with_script.subcommand(audit)?;
-    with_audit.subcommand(ballot)
+    let with_ballot = with_audit.subcommand(ballot)?;
+    with_ballot.subcommand(run_below(alloc)?)
 }
 
 /// What `clap` says of words that name no command.
@@ -196,10 +250,11 @@ fn unserved_by(alloc: Global, error: &clap::Error) -> Unserved
     }
 }
 
-/// The command of this name.
-fn command_of(name: &str) -> Command
-    requires { IsNamed name.now }
-    ensures { name.now ≡ name_of result }
+/// The command of this name, and whether a run is asked for its journal.
+#[tactic(auto, using(crate::proofs::NameFacts::is_flag))]
+fn command_of(name: &str, found: &ArgMatches) -> Command
+    requires { IsName name.now }
+    ensures { IsCommand name.now (rows_of (found_of found.now)) result }
 {
     if name == "script" {
         return Command::Script;
@@ -207,15 +262,23 @@ fn command_of(name: &str) -> Command
     if name == "audit" {
         return Command::Audit;
     }
-    Command::Ballot
+    if name == "ballot" {
+        return Command::Ballot;
+    }
+    Command::Run {
+        journal: found.get_flag("journal"),
+    }
 }
 
 /// The command that the words name.
 fn command_in(matches: &ArgMatches) -> Command
     requires { NamesOne (subcommand_name_of matches.now) }
-    ensures { subcommand_name_of matches.now ≡ Some (name_of result) }
+    ensures { Names (subcommand_rows_of matches.now) result }
 {
-    command_of(matches.subcommand_name().unwrap())
+    let Some((name, found)) = matches.subcommand() else {
+        unreachable!()
+    };
+    command_of(name, found)
 }
 
 /// What `clap` makes of the words by a command.

@@ -1,6 +1,8 @@
-use Rattle.std.proofs.Common.{Ok, map, string_bytes, sym, ◌∙◌}
+use Rattle.std.proofs.Common.{Ok, Option, List, ℕ, map, string_bytes, subst}
+use Rattle.clap.specs.Walk.{Row}
 use Rattle.clap.specs.Words.{app_of}
-use Rattle.command_line.proofs.NameFacts.{met_name, met_one}
+use Rattle.command_line.specs.CommandLine.{Names}
+use Rattle.command_line.proofs.NameFacts.{met_rows, met_one}
 use Rattle.command_line.proofs.WordFacts.{fails_by}
 use Rattle.command_line.proofs.reading.parse_by.Goals as goal
 
@@ -10,4 +12,5 @@ command_in-requires c = met_one c.args.command (map string_bytes c.args.words.no
 pub returns-in-Ok : goal.returns-in-Ok
 returns-in-Ok c =
     let words = map string_bytes c.args.words.now in
-    (fails_by (app_of c.args.command) words (Ok c.in-Ok.matches) c.requires c.in-Ok.ensures.kinds, sym (met_name c.args.command words c.in-Ok.matches c.requires c.in-Ok.ensures.matches) ∙ c.command_in.ensures)
+    (fails_by (app_of c.args.command) words (Ok c.in-Ok.matches) c.requires c.in-Ok.ensures.kinds,
+    subst (λ (found : Option (List ℕ × List Row)). Names found c.command_in.result) (met_rows c.args.command words c.in-Ok.matches c.requires c.in-Ok.ensures.matches) c.command_in.ensures)
