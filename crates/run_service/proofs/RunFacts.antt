@@ -1,12 +1,9 @@
 -- From the end of a run to what is told of it.
-use Rattle.std.proofs.Common.{◌≡◌, ◌⊎◌, inl, inr, ℕ, Bool, true, false, Vec, List, [], ◌∷◌, ◌++◌, length, Option, Some, None, Result, Ok, Err, codes, refl, sym, ap, subst, ◌∙◌}
+use Rattle.std.proofs.Common.{◌≡◌, inl, inr, ℕ, Bool, true, false, Vec, List, [], ◌∷◌, ◌++◌, length, Option, Some, None, Result, Ok, Err, codes, refl, sym, ap, subst, ◌∙◌}
 use Rattle.std.specs.Global.{Global}
-use Rattle.std.specs.Io.KnownBytes.{Keeps, Appends}
-use Rattle.world_model.specs.declared.exact.ExactWorld.{ExactWorld}
 use Rattle.journal_text.specs.Journals.{history_text, IsRecorded}
-use Rattle.journal_audit.specs.declared.verdicts.Verdict.{Verdict}
 use Rattle.journal_audit.specs.declared.verdicts.Verdict.TheVariants.{Sound}
-use Rattle.journal_audit.specs.Verdicts.{verdict_of, text_lines, VerdictsAreExact}
+use Rattle.journal_audit.specs.Verdicts.{text_lines, VerdictsAreExact}
 use Rattle.journal_laws.specs.Laws.{JournalsAreSound}
 use Rattle.line_streams.specs.Streams.{pieces, lines_in, AppendsBeginning}
 use Rattle.operator_cli.specs.declared.faults.ServeFault.{ServeFault}
@@ -16,12 +13,11 @@ use Rattle.operator_cli.specs.declared.faults.SettingsFault.TheVariants as setti
 use Rattle.operator_cli.specs.declared.heads.StartFault.{StartFault}
 use Rattle.operator_cli.specs.declared.heads.StartFault.TheVariants as start
 use Rattle.operator_cli.specs.declared.orders.Command.TheVariants as command
-use Rattle.operator_cli.specs.declared.settings.Settings.{Settings}
 use Rattle.operator_cli.specs.Openings.{all_down}
-use Rattle.operator_cli.specs.Settings.{Given, Refuses, settings_of, document_settings, values_of, world_of}
-use Rattle.operator_cli.specs.Outputs.{Output, head_of, opened, start_of, with_lines, output_of, command_output, settings_output, verdict_output, refusal_output, Writes}
+use Rattle.operator_cli.specs.Settings.{Given, Refuses, settings_of, values_of, world_of}
+use Rattle.operator_cli.specs.Outputs.{head_of, opened, start_of, with_lines, output_of, command_output, verdict_output, refusal_output, Writes}
 use Rattle.operator_cli.specs.PartOutputs.{FindsHead, RefusesStart}
-use Rattle.run_service.specs.Ends.{End, IsEndOf, run_text, journal_behind, end_status}
+use Rattle.run_service.specs.Ends.{End}
 use Rattle.run_service.specs.Outputs.{IsFoundSound, Tells, TellsBy, TellsBehind, ServesRun}
 use Rattle.run_service.specs.Parts.{TellsEnd, RunsBy, RunsHead}
 use Rattle.run_service.proofs.HeadFacts.{read_again}

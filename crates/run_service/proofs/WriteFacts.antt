@@ -1,7 +1,6 @@
 -- Texts that are written one behind another.
-use Rattle.std.proofs.Common.{◌≡◌, List, ℕ, [], ◌∷◌, ◌++◌, Option, Some, None, Result, Ok, Err, refl, sym, ap, ◌∙◌, append_assoc}
+use Rattle.std.proofs.Common.{List, ℕ, ◌++◌, Option, Some, None, Result, Ok, Err, refl, sym, ap, ◌∙◌, append_assoc}
 use Rattle.std.specs.Io.KnownBytes.{Keeps, Appends}
-use Rattle.std.proofs.lemmas.List.{append-nil}
 use Rattle.line_streams.specs.Streams.{AppendsBeginning, Puts}
 
 pub keeps_same : (o : Option (List ℕ)) → Keeps o o

@@ -22,5 +22,5 @@ mod gates;
 mod records;
 mod serving;
 
-pub use records::Records;
+pub use records::{Records, empty_client_record, empty_node_record};
 pub use serving::serve_run;

@@ -3,11 +3,12 @@
 ghost use Rattle.std.specs.Prelude.{◌≡◌, ◌≤◌, ◌++◌, map, replicate, take, IfOk};
 ghost use Rattle.lock_messages.specs.declared.ids.TheConstants.{MAX_NODES, MAX_CLIENTS};
 ghost use Rattle.lock_model.specs.declared.problems.Problem.TheVariants.{First, Second};
-ghost use Rattle.run_service.specs.Empty.{empty_node, empty_client};
+ghost use Rattle.stable_record.specs.Records.{node_record_of, client_record_of};
+ghost use Rattle.run_service.specs.Empty.{empty_record, empty_node, empty_client};
 
 use lock_model::Problem;
-use stable_record::StableRecord;
-use std::alloc::AllocError;
+use stable_record::{Entries, MemoryRecord, NodeRecord, StableRecord, client_bytes, node_bytes};
+use std::alloc::{AllocError, Global};
 
 /// Records in which nothing was ever written, for as many actors as there may be: sixteen of nodes that
 /// solve problem 1, sixteen of nodes that solve problem 2, and 1,024 of clients.
@@ -16,6 +17,34 @@ pub struct Records {
     pub first: Vec<Box<dyn StableRecord + Send>>,
     pub second: Vec<Box<dyn StableRecord + Send>>,
     pub clients: Vec<Box<dyn StableRecord + Send>>,
+}
+
+/// A record of a node that solves the problem, in which nothing was ever written. The only error is want of
+/// memory.
+pub fn empty_node_record(alloc: Global, problem: Problem) -> Result<MemoryRecord, AllocError>
+    ensures { IfOk result (λ m. m ≡ node_record_of (empty_record problem)) }
+{
+    let empty = NodeRecord {
+        policy: problem,
+        entries: Entries::new(alloc),
+    };
+    let Ok(bytes) = node_bytes(alloc, &empty) else {
+        return Err(AllocError);
+    };
+    let Ok(record) = MemoryRecord::holding(alloc, bytes.as_slice()) else {
+        return Err(AllocError);
+    };
+    Ok(record)
+}
+
+/// A record of a client that made no attempt yet. The only error is want of memory.
+pub fn empty_client_record(alloc: Global) -> Result<MemoryRecord, AllocError>
+    ensures { IfOk result (λ m. m ≡ client_record_of 0) }
+{
+    let Ok(record) = MemoryRecord::holding(alloc, &client_bytes(0)) else {
+        return Err(AllocError);
+    };
+    Ok(record)
 }
 
 /// So many of the records, the first ones first.
