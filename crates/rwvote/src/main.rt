@@ -4,12 +4,13 @@
 //! `stable_record`, `lock_messages` and `lock_model`.
 #![tactic(auto)]
 
-use admission_policy::{Admission, FirstProblem, SecondProblem};
+mod supplies;
+
+use crate::supplies::{add_client, add_nodes, add_policies, no_policies, no_records};
+use admission_policy::{FirstProblem, SecondProblem};
 use lock_messages::{MAX_CLIENTS, MAX_NODES};
 use lock_model::Problem;
-use operator_cli::Policies;
-use run_service::{Records, empty_client_record, empty_node_record};
-use stable_record::StableRecord;
+use run_service::{empty_client_record, empty_node_record};
 use std::process::ExitCode;
 use std::{env, io};
 
@@ -20,67 +21,56 @@ fn end_without_memory(rt: &HostRuntime) -> ExitCode {
 
 fn main(rt: HostRuntime) -> ExitCode {
     let alloc = rt.alloc();
-    let mut first: Vec<Box<dyn Admission + Send>> = Vec::new(alloc);
-    let mut second: Vec<Box<dyn Admission + Send>> = Vec::new(alloc);
-    let mut threads_first: Vec<Box<dyn Admission + Send>> = Vec::new(alloc);
-    let mut threads_second: Vec<Box<dyn Admission + Send>> = Vec::new(alloc);
-    let mut first_records: Vec<Box<dyn StableRecord + Send>> = Vec::new(alloc);
-    let mut second_records: Vec<Box<dyn StableRecord + Send>> = Vec::new(alloc);
-    let mut client_records: Vec<Box<dyn StableRecord + Send>> = Vec::new(alloc);
+    let mut world = no_policies(alloc);
+    let mut threads = no_policies(alloc);
+    let mut records = no_records(alloc);
     for _ in 0..MAX_NODES {
-        let Ok(policy) = Box::new(alloc, FirstProblem) else {
+        let Ok(first) = Box::new(alloc, FirstProblem) else {
             return end_without_memory(&rt);
         };
-        let Ok(()) = first.push(policy) else {
+        let Ok(second) = Box::new(alloc, SecondProblem) else {
             return end_without_memory(&rt);
         };
-        let Ok(policy) = Box::new(alloc, SecondProblem) else {
-            return end_without_memory(&rt);
-        };
-        let Ok(()) = second.push(policy) else {
-            return end_without_memory(&rt);
-        };
-        let Ok(policy) = Box::new(alloc, FirstProblem) else {
-            return end_without_memory(&rt);
-        };
-        let Ok(()) = threads_first.push(policy) else {
-            return end_without_memory(&rt);
-        };
-        let Ok(policy) = Box::new(alloc, SecondProblem) else {
-            return end_without_memory(&rt);
-        };
-        let Ok(()) = threads_second.push(policy) else {
+        let Ok(()) = add_policies(&mut world, first, second) else {
             return end_without_memory(&rt);
         };
     }
     for _ in 0..MAX_NODES {
-        let Ok(record) = empty_node_record(alloc, Problem::First) else {
+        let Ok(first) = Box::new(alloc, FirstProblem) else {
             return end_without_memory(&rt);
         };
-        let Ok(record) = Box::new(alloc, record) else {
+        let Ok(second) = Box::new(alloc, SecondProblem) else {
             return end_without_memory(&rt);
         };
-        let Ok(()) = first_records.push(record) else {
+        let Ok(()) = add_policies(&mut threads, first, second) else {
             return end_without_memory(&rt);
         };
-        let Ok(record) = empty_node_record(alloc, Problem::Second) else {
+    }
+    for _ in 0..MAX_NODES {
+        let Ok(first) = empty_node_record(alloc, Problem::First) else {
             return end_without_memory(&rt);
         };
-        let Ok(record) = Box::new(alloc, record) else {
+        let Ok(second) = empty_node_record(alloc, Problem::Second) else {
             return end_without_memory(&rt);
         };
-        let Ok(()) = second_records.push(record) else {
+        let Ok(first) = Box::new(alloc, first) else {
+            return end_without_memory(&rt);
+        };
+        let Ok(second) = Box::new(alloc, second) else {
+            return end_without_memory(&rt);
+        };
+        let Ok(()) = add_nodes(&mut records, first, second) else {
             return end_without_memory(&rt);
         };
     }
     for _ in 0..MAX_CLIENTS {
-        let Ok(record) = empty_client_record(alloc) else {
+        let Ok(client) = empty_client_record(alloc) else {
             return end_without_memory(&rt);
         };
-        let Ok(record) = Box::new(alloc, record) else {
+        let Ok(client) = Box::new(alloc, client) else {
             return end_without_memory(&rt);
         };
-        let Ok(()) = client_records.push(record) else {
+        let Ok(()) = add_client(&mut records, client) else {
             return end_without_memory(&rt);
         };
     }
@@ -88,16 +78,9 @@ fn main(rt: HostRuntime) -> ExitCode {
         rt,
         alloc,
         env::args(&rt),
-        Policies { first, second },
-        Policies {
-            first: threads_first,
-            second: threads_second,
-        },
-        Records {
-            first: first_records,
-            second: second_records,
-            clients: client_records,
-        },
+        world,
+        threads,
+        records,
         rt.reader(),
         &mut io::writer(&rt),
         &mut rt.stderr(),
