@@ -6,8 +6,8 @@ ghost use Rattle.clap.specs.Simple.{new_shape};
 ghost use Rattle.clap.specs.declared.builder.command.Command.TheViews.{out-Command};
 ghost use Rattle.command_line.specs.CommandLine.{app, top_app, journal_rule, run_shape, sort_of, named_in, IsName, IsCommand, Names, NamesOne, IsOfSort, Parses, ReadsWords};
 
-use clap::{Arg, ArgAction, ArgMatches};
 use clap::error::ErrorKind;
+use clap::{Arg, ArgAction, ArgMatches};
 use operator_cli::Command;
 use std::alloc::{AllocError, Global};
 

@@ -34,10 +34,10 @@ mod settings;
 mod texts;
 
 pub use faults::{ServeFault, SettingsFault};
+pub use heads::{StartFault, read_head};
 pub use history_check::LineFault;
 pub use journal_audit::AuditFault;
 pub use lossy_link::WeatherFault;
-pub use heads::{StartFault, read_head};
 pub use orders::{Command, Order, Policies, chosen};
 pub use serving::{refuse_start, serve, world_down};
 pub use settings::{Settings, Start, read_settings};

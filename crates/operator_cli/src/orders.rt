@@ -46,11 +46,7 @@ fn front(policies: Vec<Box<dyn Admission + Send>>, count: u8) -> Vec<Box<dyn Adm
 
 /// The policies of so many nodes that solve the problem, the first ones first; the others are dropped.
 /// The caller owes sixteen that solve each problem, and no more nodes than there may be.
-pub fn chosen(
-    policies: Policies,
-    problem: Problem,
-    nodes: u8,
-) -> Vec<Box<dyn Admission + Send>>
+pub fn chosen(policies: Policies, problem: Problem, nodes: u8) -> Vec<Box<dyn Admission + Send>>
     requires first { map problem_of policies.first.items ≡ replicate MAX_NODES First }
     requires second { map problem_of policies.second.items ≡ replicate MAX_NODES Second }
     requires few { nodes ≤ MAX_NODES }

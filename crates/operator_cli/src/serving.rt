@@ -205,7 +205,11 @@ fn serve_lines<R: Read, W: Write>(
 ///
 /// The only fault is want of memory (`Memory`, 933). The caller owes settings in range and sixteen policies
 /// that solve each problem.
-pub fn world_down(alloc: Global, settings: &Settings, policies: Policies) -> Result<World, ServeFault>
+pub fn world_down(
+    alloc: Global,
+    settings: &Settings,
+    policies: Policies,
+) -> Result<World, ServeFault>
     requires some_client { 1 ≤ settings.now.clients }
     requires few_clients { settings.now.clients ≤ MAX_CLIENTS }
     requires first { map problem_of policies.first.items ≡ replicate MAX_NODES First }

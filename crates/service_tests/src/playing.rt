@@ -1,5 +1,8 @@
 // Running a script through `serve`.
 
+ghost use Rattle.std.specs.Prelude.{IfSome};
+ghost use Rattle.operator_cli.specs.Outputs.{IsServed};
+
 use crate::outcomes::{Failure, Outcome, check_row};
 use admission_policy::{Admission, FirstProblem, SecondProblem};
 use journal_audit::AuditFault;
@@ -12,6 +15,18 @@ use std::io::{Read, Write};
 pub(crate) const SETTINGS: &str =
     "votes = [1, 1, 1]\nread = 2\nwrite = 2\nproblem = 1\nclients = 4\n---\n";
 
+/// The command, unless it is a run of all parts, which `serve` doesn't take.
+fn served_by(command: Command) -> Option<Command>
+    ensures { IfSome result (λ c. IsServed c) }
+{
+    match command {
+        Command::Script => Some(Command::Script),
+        Command::Audit => Some(Command::Audit),
+        Command::Ballot => Some(Command::Ballot),
+        Command::Run { .. } => None,
+    }
+}
+
 /// Serves a command with what a reader gives.
 fn serve_command<R: Read + Drop, W: Write>(
     alloc: Global,
@@ -19,6 +34,9 @@ fn serve_command<R: Read + Drop, W: Write>(
     reader: R,
     writer: &mut W,
 ) -> Result<u8, ServeFault> {
+    let Some(command) = served_by(command) else {
+        return Err(ServeFault::Read);
+    };
     let mut first: Vec<Box<dyn Admission + Send>> = Vec::new(alloc);
     let mut second: Vec<Box<dyn Admission + Send>> = Vec::new(alloc);
     for _ in 0..MAX_NODES {

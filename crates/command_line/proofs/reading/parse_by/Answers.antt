@@ -11,6 +11,7 @@ command_in-requires c = met_one c.args.command (map string_bytes c.args.words.no
 
 pub returns-in-Ok : goal.returns-in-Ok
 returns-in-Ok c =
-    let words = map string_bytes c.args.words.now in
-    (fails_by (app_of c.args.command) words (Ok c.in-Ok.matches) c.requires c.in-Ok.ensures.kinds,
-    subst (λ (found : Option (List ℕ × List Row)). Names found c.command_in.result) (met_rows c.args.command words c.in-Ok.matches c.requires c.in-Ok.ensures.matches) c.command_in.ensures)
+    let words = map string_bytes c.args.words.now in (
+      fails_by (app_of c.args.command) words (Ok c.in-Ok.matches) c.requires c.in-Ok.ensures.kinds,
+      subst (λ (found : Option (List ℕ × List Row)). Names found c.command_in.result) (met_rows c.args.command words c.in-Ok.matches c.requires c.in-Ok.ensures.matches) c.command_in.ensures,
+    )
