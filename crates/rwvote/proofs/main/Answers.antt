@@ -3,7 +3,7 @@ use denote.Param.Object.{read_made}
 use Rattle.lock_messages.specs.declared.ids.TheConstants.{MAX_CLIENTS}
 use Rattle.lock_model.specs.declared.problems.Problem.TheVariants.{First, Second}
 use Rattle.run_service.specs.Empty.{empty_node, empty_client}
-use Rattle.rwvote.proofs.Boxes.{pushed}
+use Rattle.run_service.proofs.ListFacts.{pushed}
 use Rattle.rwvote.proofs.main.OwnLists.{own-1, own-2, at-2-1}
 use Rattle.rwvote.proofs.main.Goals as goal
 
