@@ -1,0 +1,19 @@
+use Rattle.std.proofs.Common.{◌≡◌, List, ◌++◌, replicate, sym, ap, subst, ◌∙◌}
+use Rattle.history_check.specs.declared.wishes.Wish.{Wish}
+use Rattle.lock_model.specs.declared.problems.Problem.TheVariants.{First}
+use Rattle.operator_cli.specs.declared.settings.Settings.{Settings}
+use Rattle.operator_cli.specs.Settings.{AreAmong}
+use Rattle.run_service.specs.Empty.{empty_node, empty_client}
+use Rattle.run_service.proofs.ReadyFacts.{may_run, theirs}
+use Rattle.run_tests.proofs.rows.end_of.Goals as goal
+
+pub run_all-requires-clause-may : goal.run_all-requires-clause-may
+run_all-requires-clause-may g c κs within =
+    let s : Settings = record { ballot = c.args.ballot; problem = First; clients = c.args.row.now.clients } in
+    may_run s c.in_ok-world.world c.nodes.result _ _ c.in_ok-world.ensures c.nodes.ensures.nodes c.in_ok-policies.ensures
+    (c.in_ok-records.ensures ∙ ap (λ n. replicate n (empty_node First) ++ replicate c.args.row.now.clients empty_client) (c.requires.devices ∙ sym c.nodes.ensures.nodes))
+
+pub run_all-requires-clause-theirs : goal.run_all-requires-clause-theirs
+run_all-requires-clause-theirs g c κs within =
+    let s : Settings = record { ballot = c.args.ballot; problem = First; clients = c.args.row.now.clients } in
+    theirs s c.in_ok-world.world c.as_slice.result.now c.in_ok-world.ensures (subst (λ (ws : List Wish). AreAmong c.args.row.now.clients ws) (sym c.as_slice.ensures.value) c.in_ok-wishes.ensures)

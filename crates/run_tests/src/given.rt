@@ -1,0 +1,120 @@
+// What a run is handed: policies, a world in which nothing has happened, records and wishes.
+
+ghost use Rattle.std.specs.Prelude.{◌≡◌, ◌≤◌, ◌++◌, length, map, replicate, IfOk};
+ghost use Rattle.lock_messages.specs.declared.ids.TheConstants.{MAX_CLIENTS};
+ghost use Rattle.operator_cli.specs.Settings.{AreAmong};
+ghost use Rattle.run_service.specs.Empty.{empty_node, empty_client};
+ghost use Rattle.world_model.specs.Openings.{opening};
+
+use crate::devices::{Device, record_on};
+use crate::outcomes::Failure;
+use admission_policy::{Admission, FirstProblem};
+use client_loop::MAX_WISHES;
+use history_check::{Wish, read_wish};
+use lock_model::Problem;
+use stable_record::{StableRecord, client_bytes};
+use std::alloc::Global;
+use vote_weights::Ballot;
+use world_machine::World;
+
+/// The record of a node for problem 1 that has kept nothing.
+const NOTHING: [u8; 4] = [1, 1, 0, 0];
+
+/// A policy for problem 1.
+fn policy(alloc: Global) -> Result<Box<dyn Admission + Send>, Failure>
+    ensures { IfOk result (λ p. problem_of p ≡ Problem.First) }
+{
+    let policy: Box<dyn Admission + Send> = Box::new(alloc, FirstProblem)?;
+    Ok(policy)
+}
+
+/// So many policies for problem 1.
+pub(crate) fn policies(alloc: Global, count: u8) -> Result<Vec<Box<dyn Admission + Send>>, Failure>
+    ensures { IfOk result (λ v. map (λ p. problem_of p) v.items ≡ replicate count Problem.First) }
+{
+    let mut policies: Vec<Box<dyn Admission + Send>> = Vec::new(alloc);
+    for _ in 0..count {
+        policies.push(policy(alloc)?)?;
+    }
+    Ok(policies)
+}
+
+/// A world of nodes for problem 1 in which nothing has happened.
+pub(crate) fn world(alloc: Global, ballot: Ballot, clients: u16) -> Result<World, Failure>
+    requires some { 1 ≤ clients }
+    requires few { clients ≤ MAX_CLIENTS }
+    ensures { IfOk result (λ w. w ≡ opening ballot (replicate (length ballot.votes) Problem.First) clients) }
+{
+    match World::start(alloc, ballot, clients, policies(alloc, ballot.nodes())?) {
+        Ok(world) => Ok(world),
+        Err(_) => Err(Failure::Memory),
+    }
+}
+
+/// A record for each node that has kept nothing, on its device.
+fn node_records(
+    alloc: Global,
+    devices: &[Device],
+) -> Result<Vec<Box<dyn StableRecord + Send>>, Failure>
+    ensures { IfOk result (λ v. map (λ r. finds r) v.items ≡ replicate (length devices.now) (empty_node Problem.First)) }
+{
+    let mut records: Vec<Box<dyn StableRecord + Send>> = Vec::new(alloc);
+    for place in 0..devices.len() {
+        records.push(record_on(alloc, devices[place], &NOTHING)?)?;
+    }
+    Ok(records)
+}
+
+/// A record for each client that has made no attempt.
+fn client_records(
+    alloc: Global,
+    device: Device,
+    clients: u16,
+) -> Result<Vec<Box<dyn StableRecord + Send>>, Failure>
+    ensures { IfOk result (λ v. map (λ r. finds r) v.items ≡ replicate clients empty_client) }
+{
+    let mut records: Vec<Box<dyn StableRecord + Send>> = Vec::new(alloc);
+    for _ in 0..clients {
+        records.push(record_on(alloc, device, &client_bytes(0))?)?;
+    }
+    Ok(records)
+}
+
+/// The records of all, nodes first.
+pub(crate) fn records(
+    alloc: Global,
+    of_nodes: &[Device],
+    of_clients: Device,
+    clients: u16,
+) -> Result<Vec<Box<dyn StableRecord + Send>>, Failure>
+    ensures { IfOk result (λ v. map (λ r. finds r) v.items ≡ replicate (length of_nodes.now) (empty_node Problem.First) ++ replicate clients empty_client) }
+{
+    let mut records = node_records(alloc, of_nodes)?;
+    let mut others = client_records(alloc, of_clients, clients)?;
+    records.append(&mut others)?;
+    Ok(records)
+}
+
+/// The wish of a text, of one of so many clients.
+fn wish(clients: u16, text: &[u8]) -> Result<Wish, Failure>
+    ensures { IfOk result (λ w. w.client ≤ clients) }
+{
+    match read_wish(text) {
+        Ok(wish) if wish.client.get() <= u32::from(clients) => Ok(wish),
+        _ => Err(Failure::Wrong(0)),
+    }
+}
+
+/// The wishes of these texts, of so many clients.
+pub(crate) fn wishes(alloc: Global, clients: u16, texts: &[&[u8]]) -> Result<Vec<Wish>, Failure>
+    ensures { IfOk result (λ v. AreAmong clients v.items) }
+{
+    let mut wishes = Vec::new(alloc);
+    for text in texts {
+        wishes.push(wish(clients, text)?)?;
+    }
+    if wishes.len() > MAX_WISHES as usize {
+        return Err(Failure::Wrong(0));
+    }
+    Ok(wishes)
+}

@@ -1,0 +1,28 @@
+//! Tests of runs: a thread for each actor, over records that fail, links that lose, and gates.
+//!
+//! What the contracts say is proved, and is not tried here again. Tried is what no contract sees: that
+//! runs come to their end, how many entries they tell then, which actors end by which fault, and that
+//! actors work at the same time. The journal of each run is audited. The crate has no code but tests;
+//! each file is named for what it shows.
+#![tactic(auto)]
+
+#[cfg(test)]
+mod audits;
+#[cfg(test)]
+mod devices;
+#[cfg(test)]
+mod failing;
+#[cfg(test)]
+mod gates;
+#[cfg(test)]
+mod given;
+#[cfg(test)]
+mod outcomes;
+#[cfg(test)]
+mod quiet;
+#[cfg(test)]
+mod rows;
+#[cfg(test)]
+mod storms;
+#[cfg(test)]
+mod together;
