@@ -48,6 +48,48 @@ fn refused_ballots(rt: HostRuntime) -> Outcome {
     Ok(())
 }
 
+/// Inputs of commands with settings that are refused, what is printed of them, and the status.
+const REFUSED_SETTINGS: [(Command, &str, &str, u8); 5] = [
+    (
+        Command::Script,
+        "votes = [1, 1]\nread = 1\nwrite = 1\nproblem = 1\nclients = 4\n---\n",
+        "settings fault 204\n",
+        2,
+    ),
+    (
+        Command::Ballot,
+        "votes = [1, 1]\nread = 1\nwrite = 1\nproblem = 1\nclients = 4\n---\n",
+        "refused 204\n",
+        1,
+    ),
+    (
+        Command::Script,
+        "votes = [1, 1, 1]\nread = 2\nwrite = 2\nproblem = 1\nclients = 4\n",
+        "settings fault 924\n",
+        2,
+    ),
+    (
+        Command::Script,
+        "votes = [256]\nread = 1\nwrite = 1\nproblem = 1\nclients = 4\n---\n",
+        "settings fault 922\n",
+        2,
+    ),
+    (
+        Command::Script,
+        "vote = 1\nvotes = [1]\nread = 1\nwrite = 1\nproblem = 1\nclients = 4\n---\n",
+        "settings fault 923\n",
+        2,
+    ),
+];
+
+#[test]
+fn settings_faults(rt: HostRuntime) -> Outcome {
+    for (row, (command, input, expected, status)) in REFUSED_SETTINGS.iter().enumerate() {
+        answers_row(rt.alloc(), row, *command, input, expected, *status)?;
+    }
+    Ok(())
+}
+
 /// Lines of journals, and what is found of them.
 const JOURNALS: [(&str, &str, u8); 10] = [
     ("", "sound 0\n", 0),
