@@ -13,7 +13,7 @@ use Rattle.world_model.specs.Parts.{Part, NodePart, ClientPart, part}
 use Rattle.world_actors.specs.Nodes.{station_in}
 use Rattle.event_recorders.specs.OwnLogs.{IsDownAtRest, FindsPart}
 use Rattle.book_recorders.specs.Sharing.{log_of}
-use Rattle.client_loop.specs.declared.entering.TheConstants.{MAX_WISHES}
+use Rattle.history_check.specs.declared.wishes.TheConstants.{MAX_WISHES}
 use Rattle.client_loop.specs.Standing.{KeepsAttempt}
 use Rattle.node_threads.specs.Actors.{IsNodeReady, IsClientReady}
 use Rattle.node_threads.specs.Tasks.{IsNodeTask, IsClientTask, own_wishes}

@@ -10,7 +10,7 @@ use Rattle.history_book.specs.Books.{BerthValue}
 use Rattle.event_recorders.specs.OwnLogs.{IsUnused, FindsPart}
 use Rattle.book_recorders.specs.Sharing.{log_of}
 use Rattle.node_loop.specs.Standing.{IsReady}
-use Rattle.client_loop.specs.declared.entering.TheConstants.{MAX_WISHES}
+use Rattle.history_check.specs.declared.wishes.TheConstants.{MAX_WISHES}
 use Rattle.client_loop.specs.Standing.{KeepsAttempt}
 
 -- The node's berth is of the book of this table, and its policy and its record are those of what it has

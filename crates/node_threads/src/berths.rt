@@ -8,10 +8,9 @@ ghost use Rattle.node_threads.specs.Tasks.{IsNodeTask, IsClientTask, own_wishes}
 
 use crate::tasks::{ClientTask, NodeTask};
 use admission_policy::Admission;
-use client_loop::MAX_WISHES;
 use event_recorders::RunFault;
 use history_book::{Berth, Book};
-use history_check::Wish;
+use history_check::{MAX_WISHES, Wish};
 use lock_messages::{Actor, ClientId, NodeId};
 use lossy_link::ChannelLink;
 use stable_record::StableRecord;
