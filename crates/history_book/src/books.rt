@@ -1,6 +1,6 @@
 // The book, and the berths of its actors.
 
-ghost use Rattle.std.specs.Prelude.{◌≡◌, ◌≢◌, true, false, IfOk, IfErr, IfSome, IfNone, ◌⊎◌, OnOk, Err, length};
+ghost use Rattle.std.specs.Prelude.{◌≡◌, ◌≢◌, ◌≤◌, true, false, IfOk, IfErr, IfSome, IfNone, ◌⊎◌, OnOk, Err, length};
 ghost use Rattle.world_model.specs.ExactWorlds.{step};
 ghost use Rattle.world_model.specs.StepsOf.{IsRefused as IsRefusedStep};
 ghost use Rattle.world_model.specs.Exclusion.{IsExclusive};
@@ -132,11 +132,12 @@ impl Book {
     }
 
     /// Tells what holds of every book at rest: its history is a run from the world that it was opened
-    /// with, its world is what that run leaves, and a writer inside a resource is there alone. It
-    /// computes nothing.
+    /// with, of at most `MAX_EVENTS` events, its world is what that run leaves, and a writer inside a
+    /// resource is there alone. It computes nothing.
     pub fn standing(&self)
         ensures history { IsHistory self.now.opening self.now.history self.now.world }
         ensures run { IsRunOf self.now.opening self.now.history self.now.world }
+        ensures few { length self.now.history ≤ MAX_EVENTS }
         ensures exclusive { IsExclusive (forget self.now.world) }
     {
         locality();
