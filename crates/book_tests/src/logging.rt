@@ -36,7 +36,6 @@ pub(crate) fn berth_of(book: &mut Book, actor: Actor) -> Result<Berth, Failure>
 }
 
 /// Logs an event; the book and the berth are still those of one another.
-#[tactic(auto, using(crate::proofs::Refusals::refusals_stay))]
 pub(crate) fn log(book: &mut Book, berth: &mut Berth, event: Event) -> Result<Effect, BookFault>
     requires { berth.old.number ≡ book.old.number → berth.old.table ≡ book.old.table }
     ensures book { (book.new.number ≡ book.old.number) × (book.new.table ≡ book.old.table) }

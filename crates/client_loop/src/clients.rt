@@ -7,13 +7,12 @@ ghost use Rattle.event_recorders.specs.OwnLogs.{IsUnused, FindsPart};
 ghost use Rattle.client_loop.specs.Standing.{Stands, KeepsAttempt};
 ghost use Rattle.client_loop.specs.Visits.{visits_of, HasEntered, entries_of};
 
-use crate::entering::MAX_WISHES;
 use crate::progress::Progress;
 use crate::wishing::fulfil;
 use actor_steps::rise_first;
 use client_core::ClientCore;
 use event_recorders::{Gate, Recorder, RunFault};
-use history_check::Wish;
+use history_check::{MAX_WISHES, Wish};
 use lock_messages::{Actor, ClientId};
 use lossy_link::Link;
 use stable_record::{StableRecord, read_client};

@@ -13,12 +13,10 @@ use actor_steps::log_plain;
 use client_core::ClientCore;
 use entry_guard::enter_client;
 use event_recorders::{Gate, Recorder, RunFault};
+use history_check::MAX_WISHES;
 use stable_record::StableRecord;
 use std::mem::drop;
 use world_model::Event;
-
-/// The most wishes of one call.
-pub const MAX_WISHES: u32 = 4096;
 
 /// Is inside by a guard for as long as the gate keeps it. The entering is logged already.
 fn stay<R: Recorder, G: Gate>(core: &mut ClientCore, recorder: &R, gate: &G)

@@ -25,5 +25,4 @@ mod talking;
 mod wishing;
 
 pub use clients::run_client;
-pub use entering::MAX_WISHES;
 pub use progress::MAX_NUDGES;

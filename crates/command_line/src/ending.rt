@@ -101,7 +101,7 @@ fn end_served<E: Write>(came: Result<u8, ServeFault>, errors: &mut E) -> Ended
 }
 
 /// Serves a command.
-fn serve_for<T: Threads + Wait + Copy + Send + Sync, R: Read, W: Write>(
+fn serve_for<T: Threads + Wait + Copy + Send, R: Read, W: Write>(
     rt: T,
     alloc: Global,
     order: Order,
@@ -130,7 +130,7 @@ where
 }
 
 /// Runs a command.
-fn run_command<T: Threads + Wait + Copy + Send + Sync, R: Read, W: Write, E: Write>(
+fn run_command<T: Threads + Wait + Copy + Send, R: Read, W: Write, E: Write>(
     rt: T,
     alloc: Global,
     order: Order,
@@ -170,7 +170,7 @@ fn show<W: Write, E: Write>(text: &str, output: &mut W, errors: &mut E) -> Ended
 
 /// Does what the words say.
 #[tactic(auto, using(crate::proofs::WordFacts::runs_lacking, crate::proofs::WordFacts::runs_command, crate::proofs::WordFacts::runs_help, crate::proofs::WordFacts::runs_wrong))]
-fn run_words<T: Threads + Wait + Copy + Send + Sync, R: Read, W: Write, E: Write>(
+fn run_words<T: Threads + Wait + Copy + Send, R: Read, W: Write, E: Write>(
     rt: T,
     alloc: Global,
     words: &[String],
@@ -212,7 +212,7 @@ fn collected(alloc: Global, words: Args) -> Result<Vec<String>, AllocError>
 
 /// Does what the words say that the program was given.
 #[tactic(auto, using(crate::proofs::WordFacts::runs_lacking))]
-fn run_given<T: Threads + Wait + Copy + Send + Sync, R: Read, W: Write, E: Write>(
+fn run_given<T: Threads + Wait + Copy + Send, R: Read, W: Write, E: Write>(
     rt: T,
     alloc: Global,
     given: Args,
@@ -270,7 +270,7 @@ pub fn end_without_memory<E: Write>(errors: &mut E) -> Ended
 /// The caller owes policies of the right problems, as `serve` does: sixteen that solve problem 1 and
 /// sixteen that solve problem 2, and for the threads of a run as many again; and the empty records that
 /// `serve_run` asks for. A run may wait without end.
-pub fn run<T: Threads + Wait + Copy + Send + Sync, R: Read, W: Write, E: Write>(
+pub fn run<T: Threads + Wait + Copy + Send, R: Read, W: Write, E: Write>(
     rt: T,
     alloc: Global,
     words: io::Result<Args>,

@@ -1,6 +1,6 @@
 // The book, and the berths of its actors.
 
-ghost use Rattle.std.specs.Prelude.{◌≡◌, ◌≢◌, true, false, IfOk, IfErr, IfSome, IfNone, ◌⊎◌, OnOk, Err, length};
+ghost use Rattle.std.specs.Prelude.{◌≡◌, ◌≢◌, ◌≤◌, true, false, IfOk, IfErr, IfSome, IfNone, ◌⊎◌, OnOk, Err, length};
 ghost use Rattle.world_model.specs.ExactWorlds.{step};
 ghost use Rattle.world_model.specs.StepsOf.{IsRefused as IsRefusedStep};
 ghost use Rattle.world_model.specs.Exclusion.{IsExclusive};
@@ -132,11 +132,12 @@ impl Book {
     }
 
     /// Tells what holds of every book at rest: its history is a run from the world that it was opened
-    /// with, its world is what that run leaves, and a writer inside a resource is there alone. It
-    /// computes nothing.
+    /// with, of at most `MAX_EVENTS` events, its world is what that run leaves, and a writer inside a
+    /// resource is there alone. It computes nothing.
     pub fn standing(&self)
         ensures history { IsHistory self.now.opening self.now.history self.now.world }
         ensures run { IsRunOf self.now.opening self.now.history self.now.world }
+        ensures few { length self.now.history ≤ MAX_EVENTS }
         ensures exclusive { IsExclusive (forget self.now.world) }
     {
         locality();
@@ -203,6 +204,8 @@ impl Book {
         // What was taken or heard is the message that was sent under the number.
         ensures listed { IfOk result (λ done. IsAsListed self.old.world event done) }
         ensures err { IfErr result (λ f. IsRefused f self.old berth.old event self.new berth.new) }
+        // Both are still those of one another, also where it is refused.
+        ensures stays { (self.new.number ≡ self.old.number) × (self.new.table ≡ self.old.table) × (berth.new.number ≡ berth.old.number) × (berth.new.table ≡ berth.old.table) }
     {
         let event = &event;
         if berth.number != self.number {
@@ -237,7 +240,8 @@ impl Book {
         requires table { berth.old.table ≡ self.old.table }
         requires own { is_own berth.old.actor event.now ≡ true }
         requires refused { IsRefusedStep event.now (step self.old.world event.now) fault }
-        ensures { IsRefusedBy result self.old berth.old event.now self.new berth.new }
+        ensures why { IsRefusedBy result self.old berth.old event.now self.new berth.new }
+        ensures stays { (self.new.number ≡ self.old.number) × (self.new.table ≡ self.old.table) × (berth.new.number ≡ berth.old.number) × (berth.new.table ≡ berth.old.table) }
     {
         match fault {
             StepFault::SentListFull => BookFault::Full,
@@ -266,7 +270,8 @@ impl Book {
         requires own { is_own berth.old.actor event.now ≡ true }
         requires refused { step self.old.world event.now ≡ Err fault }
         requires of_event { IsOfEvent fault }
-        ensures { IsNoStep fault self.old berth.old event.now self.new berth.new }
+        ensures why { IsNoStep fault self.old berth.old event.now self.new berth.new }
+        ensures stays { (self.new.number ≡ self.old.number) × (self.new.table ≡ self.old.table) × (berth.new.number ≡ berth.old.number) × (berth.new.table ≡ berth.old.table) }
     {
         self.seat.look(&mut berth.seat);
         locality();

@@ -25,5 +25,5 @@ pub use commands::Command;
 pub use events::{read_event, write_event};
 pub use faults::LineFault;
 pub use lines::{Line, Query, read_line, write_line};
-pub use wishes::{Wish, read_wish, read_wish_among};
+pub use wishes::{MAX_WISHES, Wish, read_wish, read_wish_among};
 pub use words::MAX_LINE_LEN;

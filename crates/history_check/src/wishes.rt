@@ -7,6 +7,10 @@ use crate::LineFault;
 use crate::words::{MAX_LINE_LEN, client_of, mode_of, name_of, three};
 use lock_messages::{ClientId, MAX_CLIENTS, Mode, ResourceName};
 
+/// The most wishes that settings have, and so those of one run and of each client in it. The number is this
+/// service's own choice: it follows from no other limit, and none follows from it.
+pub const MAX_WISHES: usize = 4_096;
+
 /// That a client is to use a resource once, in this mode.
 #[derive(Clone, Copy, Debug, PartialEq, Eq, Hash)]
 pub struct Wish {

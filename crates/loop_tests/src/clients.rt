@@ -3,9 +3,8 @@
 ghost use Rattle.std.specs.Prelude.{◌≡◌, ◌≤◌, length, All, IfOk};
 
 use crate::outcomes::Failure;
-use client_loop::MAX_WISHES;
 use event_recorders::RunFault;
-use history_check::{Wish, read_wish};
+use history_check::{MAX_WISHES, Wish, read_wish};
 use std::alloc::Global;
 
 /// What a client's loop answers.
@@ -36,7 +35,7 @@ pub(crate) fn wishes(alloc: Global, row: &str) -> Result<Vec<Wish>, Failure>
             wishes.push(wish(text)?)?;
         }
     }
-    if wishes.len() > MAX_WISHES as usize {
+    if wishes.len() > MAX_WISHES {
         return Err(Failure::Wrong(0));
     }
     Ok(wishes)

@@ -7,7 +7,6 @@ use Rattle.std.proofs.lemmas.List.{take-map, length-map}
 use Rattle.std.specs.List.{drop-map}
 use Rattle.std.proofs.Math.ListN.{length-append}
 use Rattle.std.proofs.lemmas.Option.{slice_get-map, slice_get_within, get_or_from_slice_get}
-use Rattle.lock_messages.specs.declared.ids.Actor.TheVariants as actor
 use Rattle.lock_messages.specs.declared.ids.TheConstants.{MAX_NODES, MAX_CLIENTS}
 use Rattle.lock_model.specs.declared.problems.Problem.{Problem}
 use Rattle.lock_model.specs.Ballots.{Ballot}
@@ -19,7 +18,7 @@ use Rattle.world_model.specs.declared.exact.ExactWorld.{ExactWorld}
 use Rattle.world_model.specs.ExactWorlds.{numbered}
 use Rattle.world_model.specs.Forgetting.{IsSound}
 use Rattle.world_model.specs.Openings.{down_node, down_client, resumed}
-use Rattle.world_model.specs.Parts.{node_part, client_part, part}
+use Rattle.world_model.specs.Parts.{node_part, client_part}
 use Rattle.node_threads.specs.Actors.{IsNodeReady, IsClientReady, AreNodesReady, AreClientsReady}
 use Rattle.node_threads.specs.Conditions.{finds_station, finds_attempt}
 

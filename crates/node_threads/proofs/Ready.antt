@@ -1,5 +1,7 @@
 -- An actor's berth, with the actor's record, is what its thread needs.
-use Rattle.std.proofs.Common.{◌≡◌, ℕ, ◌≤◌, List, sym, ap, ◌∙◌, subst, refl, length, All}
+use Rattle.std.proofs.Common.{◌≡◌, ◌==◌, ℕ, ◌≤◌, List, sym, ap, ◌∙◌, subst, refl, length, get_or, All, le_trans, eqb-true, arith}
+use Rattle.std.proofs.lemmas.List.Elements.{filter_passes}
+use Rattle.std.proofs.lemmas.List.Sums.{length-filter, count_by-le-length}
 use Rattle.lock_messages.specs.declared.ids.Actor.{Actor}
 use Rattle.lock_messages.specs.declared.ids.Actor.TheVariants as actor
 use Rattle.lock_model.specs.declared.problems.Problem.{Problem}
@@ -11,10 +13,10 @@ use Rattle.world_model.specs.Parts.{Part, NodePart, ClientPart, part}
 use Rattle.world_actors.specs.Nodes.{station_in}
 use Rattle.event_recorders.specs.OwnLogs.{IsDownAtRest, FindsPart}
 use Rattle.book_recorders.specs.Sharing.{log_of}
-use Rattle.client_loop.specs.declared.entering.TheConstants.{MAX_WISHES}
+use Rattle.history_check.specs.declared.wishes.TheConstants.{MAX_WISHES}
 use Rattle.client_loop.specs.Standing.{KeepsAttempt}
 use Rattle.node_threads.specs.Actors.{IsNodeReady, IsClientReady}
-use Rattle.node_threads.specs.Tasks.{IsNodeTask, IsClientTask}
+use Rattle.node_threads.specs.Tasks.{IsNodeTask, IsClientTask, own_wishes}
 
 -- the part of the world that the berth tells is that of its actor in the book's opening
 opens : (who : Actor) (b b' : BookValue) (k : BerthValue) → IsGiven who b k b' → part k.opening k.actor ≡ part b.opening who
@@ -34,15 +36,21 @@ node_ready n p strings b b' k ready given =
       };
     }
 
+each_own : (c : ℕ) (all : List Wish) → All (λ w. w.client ≡ c) (own_wishes c all)
+each_own c all i d within = eqb-true (get_or (own_wishes c all) i d).client c (filter_passes (λ w. w.client == c) all i d within)
+
+own_within : (c : ℕ) (all : List Wish) → length (own_wishes c all) ≤ length all
+own_within c all = omega (arith, length-filter (λ w. w.client == c) all, count_by-le-length (λ w. w.client == c) all)
+
 pub client_ready : (c : ℕ) (votes : Ballot) (wishes : List Wish) (strings : List (List ℕ)) (b b' : BookValue) (k : BerthValue) → IsClientReady b.opening c strings → IsGiven (actor.Client c) b k b' → b.opening.ballot ≡ votes
-    → All (λ w. w.client ≡ c) wishes → length wishes ≤ MAX_WISHES → IsClientTask b.table c votes wishes k strings
-client_ready c votes wishes strings b b' k ready given ballot own few =
+    → (all : List Wish) → wishes ≡ own_wishes c all → length all ≤ MAX_WISHES → IsClientTask b.table c votes wishes k strings
+client_ready c votes wishes strings b b' k ready given ballot all own few =
     let at : (log_of k).opening ≡ ClientPart (down_client ready.attempt) = opens (actor.Client c) b b' k given ∙ ready.part in record {
       table = given.table;
       unused = record { actor = given.actor; events = given.own; down = subst (IsDownAtRest (actor.Client c)) (sym at) (refl, refl) };
       ballot = ap (λ w. w.ballot) given.opening ∙ ballot;
       found = subst (λ (q : Part). FindsPart q strings) (sym at) ready.finds;
       kept = subst KeepsAttempt (sym at) ready.range;
-      own = own;
-      few = few;
+      own = subst (All (λ w. w.client ≡ c)) (sym own) (each_own c all);
+      few = subst (λ ws. length ws ≤ MAX_WISHES) (sym own) (le_trans (own_within c all) few);
     }

@@ -1,5 +1,5 @@
 -- What an actor's thread is given, so that it may run.
-use Rattle.std.specs.Prelude.{◌≡◌, ℕ, ◌≤◌, List, length, All}
+use Rattle.std.specs.Prelude.{◌≡◌, ℕ, ◌≤◌, ◌==◌, List, length, filter, All}
 use Rattle.berth_seats.specs.Views.{TableId}
 use Rattle.lock_messages.specs.declared.ids.Actor.TheVariants as actor
 use Rattle.lock_model.specs.declared.problems.Problem.{Problem}
@@ -10,7 +10,7 @@ use Rattle.history_book.specs.Books.{BerthValue}
 use Rattle.event_recorders.specs.OwnLogs.{IsUnused, FindsPart}
 use Rattle.book_recorders.specs.Sharing.{log_of}
 use Rattle.node_loop.specs.Standing.{IsReady}
-use Rattle.client_loop.specs.declared.entering.TheConstants.{MAX_WISHES}
+use Rattle.history_check.specs.declared.wishes.TheConstants.{MAX_WISHES}
 use Rattle.client_loop.specs.Standing.{KeepsAttempt}
 
 -- The node's berth is of the book of this table, and its policy and its record are those of what it has
@@ -19,6 +19,10 @@ pub record IsNodeTask (book : TableId) (n : ℕ) (k : BerthValue) (p : Problem) 
   pub table : k.table ≡ book
   pub kept : NodeRecord
   pub ready : IsReady (log_of k) n kept p strings
+
+-- the wishes of this client among these, in order
+abbrev pub own_wishes : ℕ → List Wish → List Wish
+own_wishes c wishes = filter (λ w. w.client == c) wishes
 
 -- The client's berth is of the book of this table, its record finds the attempt that it has kept, and the
 -- wishes are its own.

@@ -4,14 +4,13 @@ ghost use Rattle.std.specs.Prelude.{◌≡◌, ◌≤◌, ◌+◌, length, map, 
 ghost use Rattle.lock_messages.specs.declared.ids.TheConstants.{MAX_NODES, MAX_CLIENTS};
 ghost use Rattle.history_book.specs.Books.{IsGiven};
 ghost use Rattle.node_threads.specs.Actors.{IsNodeReady, IsClientReady, AreNodesReady, AreClientsReady};
-ghost use Rattle.node_threads.specs.Tasks.{IsNodeTask, IsClientTask};
+ghost use Rattle.node_threads.specs.Tasks.{IsNodeTask, IsClientTask, own_wishes};
 
 use crate::tasks::{ClientTask, NodeTask};
 use admission_policy::Admission;
-use client_loop::MAX_WISHES;
 use event_recorders::RunFault;
 use history_book::{Berth, Book};
-use history_check::Wish;
+use history_check::{MAX_WISHES, Wish};
 use lock_messages::{Actor, ClientId, NodeId};
 use lossy_link::ChannelLink;
 use stable_record::StableRecord;
@@ -40,7 +39,7 @@ fn node_task<R: Copy>(
     link: ChannelLink<R>,
 ) -> Result<NodeTask<R>, RunFault>
     requires { IsNodeReady book.old.opening node (problem_of policy) (finds stable) }
-    ensures task { IfOk result (λ task. IsNodeTask book.old.table task.node task.berth (problem_of task.policy) (finds task.record)) }
+    ensures task { IfOk result (λ task. IsNodeTask book.old.table task.node task.berth (problem_of task.policy) (finds task.stable)) }
     ensures table { IfOk result (λ _. book.new.table ≡ book.old.table) }
     ensures opening { IfOk result (λ _. book.new.opening ≡ book.old.opening) }
     ensures err { IfErr result (λ f. f ≡ RunFault.Memory) }
@@ -49,16 +48,15 @@ fn node_task<R: Copy>(
     Ok(NodeTask {
         node,
         berth,
-        record: stable,
+        stable,
         policy,
         link,
     })
 }
 
-/// The wishes of a client, in order.
+/// The wishes of a client among these, all of them and in order.
 fn wishes_of(alloc: Global, client: ClientId, wishes: &[Wish]) -> Result<Vec<Wish>, RunFault>
-    ensures own { IfOk result (λ own. All (λ wish. wish.client ≡ client) own.items) }
-    ensures few { IfOk result (λ own. length own.items ≤ length wishes.now) }
+    ensures own { IfOk result (λ own. own.items ≡ own_wishes client wishes.now) }
     ensures err { IfErr result (λ f. f ≡ RunFault.Memory) }
 {
     let mut own = Vec::new(alloc);
@@ -70,8 +68,7 @@ fn wishes_of(alloc: Global, client: ClientId, wishes: &[Wish]) -> Result<Vec<Wis
     Ok(own)
 }
 
-/// The task of a client, with its own wishes.
-#[tactic(auto, using(crate::proofs::Ready::client_ready))]
+/// The task of a client, with all its own wishes among these.
 fn client_task<R: Copy>(
     alloc: Global,
     book: &mut Book,
@@ -84,7 +81,8 @@ fn client_task<R: Copy>(
     requires ready { IsClientReady book.old.opening client (finds stable) }
     requires ballot { book.old.opening.ballot ≡ ballot }
     requires few { length wishes.now ≤ MAX_WISHES }
-    ensures task { IfOk result (λ task. IsClientTask book.old.table task.client task.ballot task.wishes.items task.berth (finds task.record)) }
+    ensures task { IfOk result (λ task. IsClientTask book.old.table task.client task.ballot task.wishes.items task.berth (finds task.stable)) }
+    ensures own { IfOk result (λ task. task.wishes.items ≡ own_wishes task.client wishes.now) }
     ensures table { IfOk result (λ _. book.new.table ≡ book.old.table) }
     ensures opening { IfOk result (λ _. book.new.opening ≡ book.old.opening) }
     ensures err { IfErr result (λ f. f ≡ RunFault.Memory) }
@@ -96,7 +94,7 @@ fn client_task<R: Copy>(
         ballot,
         wishes,
         berth,
-        record: stable,
+        stable,
         link,
     })
 }
@@ -113,7 +111,7 @@ pub(crate) fn node_tasks<R: Copy>(
     requires records { length records.items ≡ length policies.items }
     requires links { length links.items ≡ length policies.items }
     requires ready { AreNodesReady 0 book.old.opening (map (λ p. problem_of p) policies.items) (map (λ r. finds r) records.items) }
-    ensures tasks { IfOk result (λ tasks. All (λ task. IsNodeTask book.old.table task.node task.berth (problem_of task.policy) (finds task.record)) tasks.items) }
+    ensures tasks { IfOk result (λ tasks. All (λ task. IsNodeTask book.old.table task.node task.berth (problem_of task.policy) (finds task.stable)) tasks.items) }
     ensures table { IfOk result (λ _. book.new.table ≡ book.old.table) }
     ensures opening { IfOk result (λ _. book.new.opening ≡ book.old.opening) }
     ensures err { IfErr result (λ f. f ≡ RunFault.Memory) }
@@ -136,7 +134,7 @@ pub(crate) fn node_tasks<R: Copy>(
     Ok(tasks)
 }
 
-/// The tasks of all clients, in order, each with its own wishes.
+/// The tasks of all clients, in order, each with all its own wishes.
 pub(crate) fn client_tasks<R: Copy>(
     alloc: Global,
     book: &mut Book,
@@ -150,7 +148,8 @@ pub(crate) fn client_tasks<R: Copy>(
     requires ready { AreClientsReady 0 book.old.opening (map (λ r. finds r) records.items) }
     requires ballot { book.old.opening.ballot ≡ ballot }
     requires few_wishes { length wishes.now ≤ MAX_WISHES }
-    ensures tasks { IfOk result (λ tasks. All (λ task. IsClientTask book.old.table task.client task.ballot task.wishes.items task.berth (finds task.record)) tasks.items) }
+    ensures tasks { IfOk result (λ tasks. All (λ task. IsClientTask book.old.table task.client task.ballot task.wishes.items task.berth (finds task.stable)) tasks.items) }
+    ensures own { IfOk result (λ tasks. All (λ task. task.wishes.items ≡ own_wishes task.client wishes.now) tasks.items) }
     ensures table { IfOk result (λ _. book.new.table ≡ book.old.table) }
     ensures opening { IfOk result (λ _. book.new.opening ≡ book.old.opening) }
     ensures err { IfErr result (λ f. f ≡ RunFault.Memory) }

@@ -8,17 +8,16 @@ ghost use Rattle.world_machine.specs.Listing.{has_actor};
 ghost use Rattle.world_model.specs.Forgetting.{IsSound};
 ghost use Rattle.world_model.specs.Locality.{IsHistory};
 ghost use Rattle.node_threads.specs.Conditions.{MayRun};
-ghost use Rattle.node_threads.specs.Tasks.{IsNodeTask, IsClientTask};
+ghost use Rattle.node_threads.specs.Tasks.{IsNodeTask, IsClientTask, own_wishes};
 
 use crate::berths::{client_tasks, node_tasks};
 use crate::runs::opened;
 use crate::tasks::{ClientTask, NodeTask};
 use admission_policy::Admission;
 use book_recorders::Logs;
-use client_loop::MAX_WISHES;
 use event_recorders::{Gate, RunFault};
 use history_book::{Berth, Book, BookFault};
-use history_check::Wish;
+use history_check::{MAX_WISHES, Wish};
 use lock_messages::Actor;
 use lossy_link::{ChannelLink, Weather};
 use stable_record::StableRecord;
@@ -91,7 +90,8 @@ fn links_of<R: Copy>(
     Ok((links, others))
 }
 
-/// The tasks of all actors of the book's world, each with its berth and its link.
+/// The tasks of all actors of the book's world, each with its berth and its link, a client with all its own
+/// wishes.
 #[tactic(auto, using(crate::proofs::Openings::ready_nodes, crate::proofs::Openings::ready_clients))]
 fn tasks_of<R: Copy>(
     rt: R,
@@ -107,8 +107,9 @@ fn tasks_of<R: Copy>(
     requires keeps { KeepsRecords book.old.opening }
     requires sound { IsSound book.old.opening }
     requires few { length wishes.now ≤ MAX_WISHES }
-    ensures nodes { IfOk result (λ tasks. All (λ task. IsNodeTask book.new.table task.node task.berth (problem_of task.policy) (finds task.record)) tasks.nodes.items) }
-    ensures clients { IfOk result (λ tasks. All (λ task. IsClientTask book.new.table task.client task.ballot task.wishes.items task.berth (finds task.record)) tasks.clients.items) }
+    ensures nodes { IfOk result (λ tasks. All (λ task. IsNodeTask book.new.table task.node task.berth (problem_of task.policy) (finds task.stable)) tasks.nodes.items) }
+    ensures clients { IfOk result (λ tasks. All (λ task. IsClientTask book.new.table task.client task.ballot task.wishes.items task.berth (finds task.stable)) tasks.clients.items) }
+    ensures own { IfOk result (λ tasks. All (λ task. task.wishes.items ≡ own_wishes task.client wishes.now) tasks.clients.items) }
     ensures opening { IfOk result (λ _. book.new.opening ≡ book.old.opening) }
     ensures err { IfErr result (λ f. f ≡ RunFault.Memory) }
 {

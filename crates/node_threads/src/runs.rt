@@ -25,8 +25,8 @@ fn named<B: BookName + Send, K: Logs + Send, R: Threads + Wait + Copy + Send, G:
     gate: &G,
 ) -> (K, Result<Vec<(Actor, RunFault)>, RunFault>)
     requires table { (K.book book).table ≡ B.table }
-    requires nodes { All (λ task. IsNodeTask B.table task.node task.berth (problem_of task.policy) (finds task.record)) nodes.items }
-    requires clients { All (λ task. IsClientTask B.table task.client task.ballot task.wishes.items task.berth (finds task.record)) clients.items }
+    requires nodes { All (λ task. IsNodeTask B.table task.node task.berth (problem_of task.policy) (finds task.stable)) nodes.items }
+    requires clients { All (λ task. IsClientTask B.table task.client task.ballot task.wishes.items task.berth (finds task.stable)) clients.items }
     ensures { IfErr result.1 (λ f. f ≡ RunFault.Memory) }
 {
     let lock = Mutex::new(Named::<B, K>::of(book));
@@ -49,8 +49,8 @@ pub(crate) fn opened<
     gate: &G,
 ) -> (K, Result<Vec<(Actor, RunFault)>, RunFault>)
     requires opening { (K.book book).opening ≡ O.world }
-    requires nodes { All (λ task. IsNodeTask (K.book book).table task.node task.berth (problem_of task.policy) (finds task.record)) nodes.items }
-    requires clients { All (λ task. IsClientTask (K.book book).table task.client task.ballot task.wishes.items task.berth (finds task.record)) clients.items }
+    requires nodes { All (λ task. IsNodeTask (K.book book).table task.node task.berth (problem_of task.policy) (finds task.stable)) nodes.items }
+    requires clients { All (λ task. IsClientTask (K.book book).table task.client task.ballot task.wishes.items task.berth (finds task.stable)) clients.items }
     ensures opening { (K.book result.0).opening ≡ O.world }
     ensures err { IfErr result.1 (λ f. f ≡ RunFault.Memory) }
 {

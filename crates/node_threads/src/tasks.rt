@@ -21,7 +21,7 @@ use vote_weights::Ballot;
 pub(crate) struct NodeTask<R: Copy> {
     pub(crate) node: NodeId,
     pub(crate) berth: Berth,
-    pub(crate) record: Box<dyn StableRecord + Send>,
+    pub(crate) stable: Box<dyn StableRecord + Send>,
     pub(crate) policy: Box<dyn Admission + Send>,
     pub(crate) link: ChannelLink<R>,
 }
@@ -33,7 +33,7 @@ pub(crate) struct ClientTask<R: Copy> {
     pub(crate) ballot: Ballot,
     pub(crate) wishes: Vec<Wish>,
     pub(crate) berth: Berth,
-    pub(crate) record: Box<dyn StableRecord + Send>,
+    pub(crate) stable: Box<dyn StableRecord + Send>,
     pub(crate) link: ChannelLink<R>,
 }
 
@@ -45,12 +45,12 @@ pub(crate) fn do_node<B: BookName, K: Logs, R: Wait + Copy, G: Gate>(
     book: &Mutex<Named<B, K>>,
     gate: &G,
 ) -> Option<(Actor, RunFault)>
-    requires { IsNodeTask B.table task.node task.berth (problem_of task.policy) (finds task.record) }
+    requires { IsNodeTask B.table task.node task.berth (problem_of task.policy) (finds task.stable) }
 {
     let NodeTask {
         node,
         berth,
-        record,
+        stable,
         policy,
         link,
     } = task;
@@ -60,7 +60,7 @@ pub(crate) fn do_node<B: BookName, K: Logs, R: Wait + Copy, G: Gate>(
         &rt,
         alloc,
         node,
-        record,
+        stable,
         policy,
         &mut recorder,
         &mut link,
@@ -79,14 +79,14 @@ pub(crate) fn do_client<B: BookName, K: Logs, R: Wait + Copy, G: Gate>(
     book: &Mutex<Named<B, K>>,
     gate: &G,
 ) -> Option<(Actor, RunFault)>
-    requires { IsClientTask B.table task.client task.ballot task.wishes.items task.berth (finds task.record) }
+    requires { IsClientTask B.table task.client task.ballot task.wishes.items task.berth (finds task.stable) }
 {
     let ClientTask {
         client,
         ballot,
         wishes,
         berth,
-        record,
+        stable,
         link,
     } = task;
     let mut link = link;
@@ -97,7 +97,7 @@ pub(crate) fn do_client<B: BookName, K: Logs, R: Wait + Copy, G: Gate>(
         client,
         ballot,
         wishes.as_slice(),
-        record,
+        stable,
         &mut recorder,
         &mut link,
         gate,

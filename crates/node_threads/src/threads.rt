@@ -46,8 +46,8 @@ pub(crate) fn run_threads<
     book: &Mutex<Named<B, K>>,
     gate: &G,
 ) -> Result<Vec<(Actor, RunFault)>, RunFault>
-    requires nodes { All (λ task. IsNodeTask B.table task.node task.berth (problem_of task.policy) (finds task.record)) nodes.items }
-    requires clients { All (λ task. IsClientTask B.table task.client task.ballot task.wishes.items task.berth (finds task.record)) clients.items }
+    requires nodes { All (λ task. IsNodeTask B.table task.node task.berth (problem_of task.policy) (finds task.stable)) nodes.items }
+    requires clients { All (λ task. IsClientTask B.table task.client task.ballot task.wishes.items task.berth (finds task.stable)) clients.items }
     ensures { IfErr result (λ f. f ≡ RunFault.Memory) }
 {
     thread::scope(
@@ -55,8 +55,8 @@ pub(crate) fn run_threads<
         &rt,
         move |scope| -> Result<Vec<(Actor, RunFault)>, RunFault>
             requires cross { IsSend B.row × IsSend K.row × IsSend R.row × IsSync G.row }
-            requires nodes { All (λ task. IsNodeTask B.table task.node task.berth (problem_of task.policy) (finds task.record)) nodes.items }
-            requires clients { All (λ task. IsClientTask B.table task.client task.ballot task.wishes.items task.berth (finds task.record)) clients.items }
+            requires nodes { All (λ task. IsNodeTask B.table task.node task.berth (problem_of task.policy) (finds task.stable)) nodes.items }
+            requires clients { All (λ task. IsClientTask B.table task.client task.ballot task.wishes.items task.berth (finds task.stable)) clients.items }
             ensures { IfErr result (λ f. f ≡ RunFault.Memory) }
         {
             let mut node_threads = Vec::new(alloc);
@@ -64,7 +64,7 @@ pub(crate) fn run_threads<
             for task in nodes {
                 let Ok(handle) = scope.spawn(
                     move || -> Option<(Actor, RunFault)>
-                        requires { IsNodeTask B.table task.node task.berth (problem_of task.policy) (finds task.record) }
+                        requires { IsNodeTask B.table task.node task.berth (problem_of task.policy) (finds task.stable) }
                     { do_node(rt, alloc, task, book, gate) },
                 ) else {
                     return Err(RunFault::Memory);
@@ -76,7 +76,7 @@ pub(crate) fn run_threads<
             for task in clients {
                 let Ok(handle) = scope.spawn(
                     move || -> Option<(Actor, RunFault)>
-                        requires { IsClientTask B.table task.client task.ballot task.wishes.items task.berth (finds task.record) }
+                        requires { IsClientTask B.table task.client task.ballot task.wishes.items task.berth (finds task.stable) }
                     { do_client(rt, alloc, task, book, gate) },
                 ) else {
                     return Err(RunFault::Memory);

@@ -10,7 +10,7 @@ use Rattle.history_check.specs.Wishes.{wish_among}
 use Rattle.operator_cli.specs.declared.faults.SettingsFault.{SettingsFault}
 use Rattle.operator_cli.specs.declared.faults.SettingsFault.TheVariants as fault
 use Rattle.operator_cli.specs.declared.settings.RunValues.{RunValues}
-use Rattle.operator_cli.specs.declared.settings.TheConstants.{MAX_WISHES}
+use Rattle.history_check.specs.declared.wishes.TheConstants.{MAX_WISHES}
 use Rattle.operator_cli.specs.Settings.{◌>>=◌, AreAmong, count, are_texts, seed_at, number_or, few_texts_in, wish_texts_in, has_wish_texts, run_values, wish_said, wish_from, wishes_in, wishes_of, wishes_at}
 use Rattle.operator_cli.proofs.WishTexts.{wish_within}
 

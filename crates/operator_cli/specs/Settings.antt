@@ -24,7 +24,7 @@ use Rattle.operator_cli.specs.declared.orders.Command.TheVariants as command
 use Rattle.operator_cli.specs.declared.settings.RunValues.{RunValues}
 use Rattle.operator_cli.specs.declared.settings.Settings.{Settings}
 use Rattle.operator_cli.specs.declared.settings.Start.{Start}
-use Rattle.operator_cli.specs.declared.settings.TheConstants.{MAX_WISHES}
+use Rattle.history_check.specs.declared.wishes.TheConstants.{MAX_WISHES}
 
 infixl 10 ◌>>=◌
 -- the next value is judged where no fault was met

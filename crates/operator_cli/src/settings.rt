@@ -9,10 +9,9 @@ ghost use Rattle.std.specs.Str.{bytes_eq};
 ghost use Rattle.toml.specs.Data.{as_integer, as_str, get_member};
 ghost use Rattle.toml.specs.View.{view, items_view, table_view};
 ghost use Rattle.operator_cli.specs.Settings.{Judges, world_keys, run_keys, is_known, all_known, within, number_at, number_or, number_for, seed_at, vote_list, votes_at, problem_numbered, problem_at, clients_at, count, are_texts, are_few_texts, has_wish_texts, run_values, weather_of, wish_from, wishes_in, wishes_at, world_of, given, values_of, settings_of, AreAmong};
-ghost use Rattle.operator_cli.specs.declared.settings.TheConstants.{MAX_WISHES};
 
 use crate::{Command, SettingsFault};
-use history_check::{Wish, read_wish_among};
+use history_check::{MAX_WISHES, Wish, read_wish_among};
 use lock_messages::MAX_CLIENTS;
 use lock_model::Problem;
 use lossy_link::Weather;
@@ -20,9 +19,6 @@ use std::alloc::Global;
 use std::str;
 use toml::{Table, Value};
 use vote_weights::Ballot;
-
-/// The most wishes that settings have.
-const MAX_WISHES: usize = 4_096;
 
 /// What settings say of the world: the ballot, the problem that all nodes solve, and how many clients
 /// there are, 1 to 1,024.

@@ -115,7 +115,7 @@ fn tell<W: Write>(
 
 /// Runs the service by the settings, with as many policies and records as they need. The only fault is
 /// want of memory, or that a thread couldn't be started.
-fn run<T: Threads + Wait + Copy + Send + Sync>(
+fn run<T: Threads + Wait + Copy + Send>(
     rt: T,
     alloc: Global,
     settings: &Settings,
@@ -158,7 +158,7 @@ fn run<T: Threads + Wait + Copy + Send + Sync>(
 }
 
 /// Runs the service by what the head says, and tells what it came to.
-fn run_head<T: Threads + Wait + Copy + Send + Sync, W: Write>(
+fn run_head<T: Threads + Wait + Copy + Send, W: Write>(
     rt: T,
     alloc: Global,
     journal: bool,
@@ -224,7 +224,7 @@ fn run_head<T: Threads + Wait + Copy + Send + Sync, W: Write>(
 /// `Read` (931) where the reader fails or 600,000,000 reads were made, `Write` (932) where the writer fails
 /// or takes nothing, `Memory` (933) where memory was refused or a thread couldn't be started. After a fault
 /// a beginning of the output was written.
-pub fn serve_run<T: Threads + Wait + Copy + Send + Sync, R: Read, W: Write>(
+pub fn serve_run<T: Threads + Wait + Copy + Send, R: Read, W: Write>(
     rt: T,
     alloc: Global,
     order: Order,

@@ -1,4 +1,4 @@
-use Rattle.std.proofs.Common.{◌∙◌, sym}
+use Rattle.std.proofs.Common.{◌∙◌}
 use Rattle.clap.specs.Words.{rows_of, found_of, subcommand_rows_of}
 use Rattle.command_line.proofs.NameFacts.{names_found, found_name}
 use Rattle.command_line.proofs.reading.command_in.Goals as goal

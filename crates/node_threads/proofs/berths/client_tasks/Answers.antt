@@ -1,6 +1,6 @@
 use Rattle.std.proofs.Common.{◌≡◌, ◌+◌, ◌<◌, length, map, sym, ◌∙◌, subst, arith}
 use Rattle.node_threads.specs.Actors.{IsClientReady, AreClientsReady}
-use Rattle.node_threads.specs.Tasks.{IsClientTask}
+use Rattle.node_threads.specs.Tasks.{IsClientTask, own_wishes}
 use Rattle.node_threads.proofs.Lists.{first_client, rest_clients, one_fewer, all_and_one}
 use Rattle.node_threads.proofs.berths.client_tasks.Goals as goal
 
@@ -22,10 +22,11 @@ loop-place-preserved g c =
       records = one_fewer c.loop-place.records.items c.remove-stable.new.self.items c.loop-place.place c.len-count.result c.remove-stable.ensures.items some c.loop-place.invariant.records;
       links = one_fewer c.loop-place.links.items c.remove-link.new.self.items c.loop-place.place c.len-count.result c.remove-link.ensures.items
           (omega (arith, c.loop-place-test.true, c.loop-place.invariant.links)) c.loop-place.invariant.links;
-      tasks = all_and_one (λ t. IsClientTask c.args.book.now.table t.client t.ballot t.wishes.items t.berth ((goal.StableRecord-dyn g (t.record.vtable, t.record.value)).finds t.record.value))
+      tasks = all_and_one (λ t. IsClientTask c.args.book.now.table t.client t.ballot t.wishes.items t.berth ((goal.StableRecord-dyn g (t.stable.vtable, t.stable.value)).finds t.stable.value))
           c.loop-place.tasks.items c.push.new.self.items c.in_ok-task.task c.loop-place.invariant.tasks
           (subst (λ b. IsClientTask b c.in_ok-task.task.client c.in_ok-task.task.ballot c.in_ok-task.task.wishes.items c.in_ok-task.task.berth
-          ((goal.StableRecord-dyn g (c.in_ok-task.task.record.vtable, c.in_ok-task.task.record.value)).finds c.in_ok-task.task.record.value)) c.loop-place.invariant.table c.in_ok-task.ensures.task) c.in-Ok.ensures.items;
+          ((goal.StableRecord-dyn g (c.in_ok-task.task.stable.vtable, c.in_ok-task.task.stable.value)).finds c.in_ok-task.task.stable.value)) c.loop-place.invariant.table c.in_ok-task.ensures.task) c.in-Ok.ensures.items;
+      own = all_and_one (λ t. t.wishes.items ≡ own_wishes t.client c.args.wishes.now) c.loop-place.tasks.items c.push.new.self.items c.in_ok-task.task c.loop-place.invariant.own c.in_ok-task.ensures.own c.in-Ok.ensures.items;
       table = c.in_ok-task.ensures.table ∙ c.loop-place.invariant.table;
       opening = c.in_ok-task.ensures.opening ∙ c.loop-place.invariant.opening;
     }

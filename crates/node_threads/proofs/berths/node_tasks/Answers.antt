@@ -30,9 +30,9 @@ loop-place-preserved g c =
       links = one_fewer c.loop-place.links.items c.remove-link.new.self.items c.loop-place.place c.len-count.result c.remove-link.ensures.items
           (omega (arith, c.loop-place-test.true, c.loop-place.invariant.links)) c.loop-place.invariant.links;
       tasks = all_and_one (λ t. IsNodeTask c.args.book.now.table t.node t.berth ((goal.Admission-dyn g (t.policy.vtable, t.policy.value)).problem_of t.policy.value)
-          ((goal.StableRecord-dyn g (t.record.vtable, t.record.value)).finds t.record.value)) c.loop-place.tasks.items c.push.new.self.items c.in_ok-task.task c.loop-place.invariant.tasks
+          ((goal.StableRecord-dyn g (t.stable.vtable, t.stable.value)).finds t.stable.value)) c.loop-place.tasks.items c.push.new.self.items c.in_ok-task.task c.loop-place.invariant.tasks
           (subst (λ b. IsNodeTask b c.in_ok-task.task.node c.in_ok-task.task.berth ((goal.Admission-dyn g (c.in_ok-task.task.policy.vtable, c.in_ok-task.task.policy.value)).problem_of c.in_ok-task.task.policy.value)
-          ((goal.StableRecord-dyn g (c.in_ok-task.task.record.vtable, c.in_ok-task.task.record.value)).finds c.in_ok-task.task.record.value)) c.loop-place.invariant.table c.in_ok-task.ensures.task) c.in-Ok.ensures.items;
+          ((goal.StableRecord-dyn g (c.in_ok-task.task.stable.vtable, c.in_ok-task.task.stable.value)).finds c.in_ok-task.task.stable.value)) c.loop-place.invariant.table c.in_ok-task.ensures.task) c.in-Ok.ensures.items;
       table = c.in_ok-task.ensures.table ∙ c.loop-place.invariant.table;
       opening = c.in_ok-task.ensures.opening ∙ c.loop-place.invariant.opening;
     }

@@ -10,7 +10,7 @@ invariant-loop-place g l = record {
   policies : l.place + length l.policies.items ≡ l.count;
   records : l.place + length l.records.items ≡ l.count;
   links : l.place + length l.links.items ≡ l.count;
-  tasks : All (λ t. IsNodeTask l.fn.book.table t.node t.berth ((goal.Admission-dyn g (t.policy.vtable, t.policy.value)).problem_of t.policy.value) ((goal.StableRecord-dyn g (t.record.vtable, t.record.value)).finds t.record.value)) l.tasks.items;
+  tasks : All (λ t. IsNodeTask l.fn.book.table t.node t.berth ((goal.Admission-dyn g (t.policy.vtable, t.policy.value)).problem_of t.policy.value) ((goal.StableRecord-dyn g (t.stable.vtable, t.stable.value)).finds t.stable.value)) l.tasks.items;
   table : l.book.table ≡ l.fn.book.table;
   opening : l.book.opening ≡ l.fn.book.opening;
 }

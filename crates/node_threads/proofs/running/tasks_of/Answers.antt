@@ -50,10 +50,10 @@ client_tasks-requires-clause-ready g c =
 
 pub returns-clause-nodes : goal.returns-clause-nodes
 returns-clause-nodes g c =
-    subst (λ b. All (λ t. IsNodeTask b t.node t.berth ((goal.Admission-dyn g (t.policy.vtable, t.policy.value)).problem_of t.policy.value) ((goal.StableRecord-dyn g (t.record.vtable, t.record.value)).finds t.record.value)) c.in-Ok-node_tasks.nodes.items)
+    subst (λ b. All (λ t. IsNodeTask b t.node t.berth ((goal.Admission-dyn g (t.policy.vtable, t.policy.value)).problem_of t.policy.value) ((goal.StableRecord-dyn g (t.stable.vtable, t.stable.value)).finds t.stable.value)) c.in-Ok-node_tasks.nodes.items)
     (sym (c.in-Ok-client_tasks.ensures.table ∙ c.in-Ok-node_tasks.ensures.table)) c.in-Ok-node_tasks.ensures.tasks
 
 pub returns-clause-clients : goal.returns-clause-clients
 returns-clause-clients g c =
-    subst (λ b. All (λ t. IsClientTask b t.client t.ballot t.wishes.items t.berth ((goal.StableRecord-dyn g (t.record.vtable, t.record.value)).finds t.record.value)) c.in-Ok-client_tasks.clients.items)
+    subst (λ b. All (λ t. IsClientTask b t.client t.ballot t.wishes.items t.berth ((goal.StableRecord-dyn g (t.stable.vtable, t.stable.value)).finds t.stable.value)) c.in-Ok-client_tasks.clients.items)
     (sym c.in-Ok-client_tasks.ensures.table) c.in-Ok-client_tasks.ensures.tasks

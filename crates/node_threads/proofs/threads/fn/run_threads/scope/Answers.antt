@@ -14,7 +14,7 @@ use Rattle.node_threads.proofs.threads.fn.run_threads.scope.Goals as goal
 
 pub loop-task-init : goal.loop-task-init
 loop-task-init g c =
-    (tt, tt, all_of c.captures.nodes.items _ (λ t. IsNodeTask g.B.BookName.table t.node t.berth ((goal.Admission-dyn g (t.policy.vtable, t.policy.value)).problem_of t.policy.value) ((goal.StableRecord-dyn g (t.record.vtable, t.record.value)).finds t.record.value)) c.into_iter-task-iterator.ensures.into_iter_gives.0 c.requires.nodes)
+    (tt, tt, all_of c.captures.nodes.items _ (λ t. IsNodeTask g.B.BookName.table t.node t.berth ((goal.Admission-dyn g (t.policy.vtable, t.policy.value)).problem_of t.policy.value) ((goal.StableRecord-dyn g (t.stable.vtable, t.stable.value)).finds t.stable.value)) c.into_iter-task-iterator.ensures.into_iter_gives.0 c.requires.nodes)
 
 -- a node's record and policy may go to its thread, as their boxes say
 pub spawn-requires-send-F : goal.spawn-requires-send-F
@@ -29,15 +29,15 @@ spawn-requires-send-F g c κs within =
 
 pub spawn-requires-after_bounds : goal.spawn-requires-after_bounds
 spawn-requires-after_bounds g c κs within =
-    first_of c.in-Some.task (λ t. IsNodeTask g.B.BookName.table t.node t.berth ((goal.Admission-dyn g (t.policy.vtable, t.policy.value)).problem_of t.policy.value) ((goal.StableRecord-dyn g (t.record.vtable, t.record.value)).finds t.record.value)) _ _ c.in-Some.ensures.steps.0 c.loop-task.invariant.2
+    first_of c.in-Some.task (λ t. IsNodeTask g.B.BookName.table t.node t.berth ((goal.Admission-dyn g (t.policy.vtable, t.policy.value)).problem_of t.policy.value) ((goal.StableRecord-dyn g (t.stable.vtable, t.stable.value)).finds t.stable.value)) _ _ c.in-Some.ensures.steps.0 c.loop-task.invariant.2
 
 pub loop-task-preserved : goal.loop-task-preserved
 loop-task-preserved g c =
-    (tt, tt, rest_of c.in-Some.task (λ t. IsNodeTask g.B.BookName.table t.node t.berth ((goal.Admission-dyn g (t.policy.vtable, t.policy.value)).problem_of t.policy.value) ((goal.StableRecord-dyn g (t.record.vtable, t.record.value)).finds t.record.value)) _ _ c.in-Some.ensures.steps.0 c.loop-task.invariant.2)
+    (tt, tt, rest_of c.in-Some.task (λ t. IsNodeTask g.B.BookName.table t.node t.berth ((goal.Admission-dyn g (t.policy.vtable, t.policy.value)).problem_of t.policy.value) ((goal.StableRecord-dyn g (t.stable.vtable, t.stable.value)).finds t.stable.value)) _ _ c.in-Some.ensures.steps.0 c.loop-task.invariant.2)
 
 pub loop-task-2-init : goal.loop-task-2-init
 loop-task-2-init g c =
-    (tt, tt, all_of c.captures.clients.items _ (λ t. IsClientTask g.B.BookName.table t.client t.ballot t.wishes.items t.berth ((goal.StableRecord-dyn g (t.record.vtable, t.record.value)).finds t.record.value)) c.into_iter-task-iterator-2.ensures.into_iter_gives.0 c.requires.clients)
+    (tt, tt, all_of c.captures.clients.items _ (λ t. IsClientTask g.B.BookName.table t.client t.ballot t.wishes.items t.berth ((goal.StableRecord-dyn g (t.stable.vtable, t.stable.value)).finds t.stable.value)) c.into_iter-task-iterator-2.ensures.into_iter_gives.0 c.requires.clients)
 
 pub spawn-requires-in-loop-task-2-send-F : goal.spawn-requires-in-loop-task-2-send-F
 spawn-requires-in-loop-task-2-send-F g c κs within =
@@ -50,8 +50,8 @@ spawn-requires-in-loop-task-2-send-F g c κs within =
 
 pub spawn-requires-in-loop-task-2-after_bounds : goal.spawn-requires-in-loop-task-2-after_bounds
 spawn-requires-in-loop-task-2-after_bounds g c κs within =
-    first_of c.in-Some-task.task (λ t. IsClientTask g.B.BookName.table t.client t.ballot t.wishes.items t.berth ((goal.StableRecord-dyn g (t.record.vtable, t.record.value)).finds t.record.value)) _ _ c.in-Some-task.ensures.steps.0 c.loop-task-2.invariant.2
+    first_of c.in-Some-task.task (λ t. IsClientTask g.B.BookName.table t.client t.ballot t.wishes.items t.berth ((goal.StableRecord-dyn g (t.stable.vtable, t.stable.value)).finds t.stable.value)) _ _ c.in-Some-task.ensures.steps.0 c.loop-task-2.invariant.2
 
 pub loop-task-2-preserved : goal.loop-task-2-preserved
 loop-task-2-preserved g c =
-    (tt, tt, rest_of c.in-Some-task.task (λ t. IsClientTask g.B.BookName.table t.client t.ballot t.wishes.items t.berth ((goal.StableRecord-dyn g (t.record.vtable, t.record.value)).finds t.record.value)) _ _ c.in-Some-task.ensures.steps.0 c.loop-task-2.invariant.2)
+    (tt, tt, rest_of c.in-Some-task.task (λ t. IsClientTask g.B.BookName.table t.client t.ballot t.wishes.items t.berth ((goal.StableRecord-dyn g (t.stable.vtable, t.stable.value)).finds t.stable.value)) _ _ c.in-Some-task.ensures.steps.0 c.loop-task-2.invariant.2)
