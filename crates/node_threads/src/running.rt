@@ -145,7 +145,9 @@ fn tasks_of<R: Copy>(
 /// `MAX_WISHES`.
 ///
 /// The only error is that memory was refused or a thread couldn't be started (914). Then the threads that
-/// were started have ended, and what was handed in is dropped. It waits for all threads.
+/// were started have ended, and what was handed in is dropped. It waits for all threads; that they end is
+/// not promised. A node tells all clients when it ends by a fault, but where memory is refused for that, a
+/// client may wait for it for ever.
 pub fn run_all<R: Threads + Wait + Copy + Send, G: Gate + Sync>(
     rt: R,
     alloc: Global,

@@ -9,8 +9,7 @@ ghost use Rattle.world_model.specs.Openings.{opening};
 use crate::devices::{Device, record_on};
 use crate::outcomes::Failure;
 use admission_policy::{Admission, FirstProblem};
-use client_loop::MAX_WISHES;
-use history_check::{Wish, read_wish};
+use history_check::{MAX_WISHES, Wish, read_wish};
 use lock_model::Problem;
 use stable_record::{StableRecord, client_bytes};
 use std::alloc::Global;
@@ -113,7 +112,7 @@ pub(crate) fn wishes(alloc: Global, clients: u16, texts: &[&[u8]]) -> Result<Vec
     for text in texts {
         wishes.push(wish(clients, text)?)?;
     }
-    if wishes.len() > MAX_WISHES as usize {
+    if wishes.len() > MAX_WISHES {
         return Err(Failure::Wrong(0));
     }
     Ok(wishes)
