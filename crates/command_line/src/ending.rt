@@ -262,9 +262,11 @@ pub fn end_without_memory<E: Write>(errors: &mut E) -> Ended
 /// The words are those of `std::env::args`, the program's name first. `script`, `audit` and `ballot`
 /// serve what the reader gives, as `operator_cli::serve` does for the command of this name, onto
 /// `output`, and `run`, which `--journal` may follow, as `run_service::serve_run` does: the status is that
-/// of the call, and nothing goes to `errors`; its fault is told there as `fault N`, with status 1. `--help` and `--version`, also `script --help` and the like, go to
-/// `output`, with status 0 (`fault 932` and 1 where that fails). Other words are wrong, and so is one that is not UTF-8: a text on `errors` says so, and the
-/// status is 2. Where memory is refused while words are read, `fault 933` is told, with status 1.
+/// of the call, and nothing goes to `errors`; its fault is told there as `fault N`, with status 1.
+/// `--help` and `--version`, also `script --help` and the like, go to `output`, with status 0 (`fault 932`
+/// and 1 where that fails). Other words are wrong, and so is one that is not UTF-8: a text on `errors`
+/// says so, and the status is 2. Where memory is refused while words are read, `fault 933` is told, with
+/// status 1.
 ///
 /// Contracts speak of what the reader has left and of what the writers hold, where these are known.
 /// The caller owes policies of the right problems, as `serve` does: sixteen that solve problem 1 and

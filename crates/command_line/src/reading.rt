@@ -141,8 +141,8 @@ events of all. With `--journal` it prints the settings, `---` and these events i
 
 The settings are those of `script`. `wishes` says what clients are to do: each sees to its own, in
 order, and leaves a resource as soon as it is inside. `lose`, `twice`, `late` and `seed` make the
-weather in which messages are lost, repeated and delayed. What threads come to differs from run to
-run, unless only one client has wishes and nothing is lost, repeated or delayed.
+weather in which messages are lost, repeated and delayed. What threads come to may differ from run
+to run.
 
 A line as `c2 fault 913` tells of a node or a client that ended before its work was done: 911 its
 record failed, 912 too few nodes are left, 913 it gave up after it was told 1000 times in one wish to
@@ -210,8 +210,11 @@ fn words_taken<'a>(alloc: Global) -> Result<clap::Command<'a>, AllocError>
 /// What `clap` says of words that name no command.
 #[derive(Clone, Copy, Debug, PartialEq, Eq)]
 pub enum Sort {
+    /// Memory was refused while the words were read.
     NoMemory,
+    /// Help or the version was asked for.
     Help,
+    /// The words are wrong.
     Wrong,
 }
 

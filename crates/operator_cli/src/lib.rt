@@ -1,12 +1,13 @@
 //! What the operator's program does: from the bytes that come in to the bytes that go out.
 //!
 //! An input begins with settings in TOML, which a line `---` ends; they tell of the world, and of the
-//! weather and the wishes of a run, which are judged here and used by no command yet. Of a script each
-//! line behind it is an event of a world of voting nodes and clients, or a query: who is inside a
-//! resource, and who waits for a node's vote or holds it. Every actor is up at first. `serve` takes the
-//! events one after another, prints what each did or why it was refused, and answers the status of the
-//! program. Of a journal the lines are events from a world in which all actors are down, and `serve`
-//! prints whether they are a run. Asked for the ballot, it prints that of the settings alone.
+//! weather and the wishes of a run, which are judged here for every command and used by the crate that
+//! runs. Of a script each line behind it is an event of a world of voting nodes and clients, or a
+//! query: who is inside a resource, and who waits for a node's vote or holds it. Every actor is up at
+//! first. `serve` takes the events one after another, prints what each did or why it was refused, and
+//! answers the status of the program. Of a journal the lines are events from a world in which all
+//! actors are down, and `serve` prints whether they are a run. Asked for the ballot, it prints that of
+//! the settings alone.
 //!
 //! The crate promises that what `serve` writes for a command is, byte for byte, a stated function of the
 //! bytes that it reads, and so is the status; after a fault a beginning of that output was written. The

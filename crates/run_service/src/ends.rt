@@ -36,7 +36,7 @@ fn push_counts(text: &mut String, entered: u32, events: u32) -> Result<(), Alloc
     writeln!(text, "events {events}")
 }
 
-/// Adds what is told of the end of a run.
+/// Adds what is told of the end of a run. The only error is want of memory; then a part may have been added.
 pub fn push_end(text: &mut String, end: &RunEnd) -> Result<(), AllocError>
     requires { end.now.entered ≡ enters end.now.book.history }
     ensures { OnOk result (string_bytes text.new ≡ string_bytes text.old ++ end_text end.now.book.history end.now.faults.items) }

@@ -77,7 +77,8 @@ fn of_nodes(
     }
 }
 
-/// The records of so many nodes that solve the problem, and then of so many clients.
+/// The records of so many nodes that solve the problem, and then of so many clients. The only error is want
+/// of memory.
 pub fn chosen_records(
     records: Records,
     problem: Problem,

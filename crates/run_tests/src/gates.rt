@@ -55,9 +55,9 @@ impl<C: Clock + Copy> InsideTogether<C> {
         }
     }
 
-    /// How many waited in vain.
-    pub(crate) fn alone(&self) -> u32 {
-        self.alone.load(SeqCst)
+    /// How many were inside, and how many of them waited in vain.
+    pub(crate) fn came(&self) -> (u32, u32) {
+        (self.inside.load(SeqCst), self.alone.load(SeqCst))
     }
 }
 
@@ -95,9 +95,10 @@ impl<C: Clock + Copy> KeepTogether<C> {
         }
     }
 
-    /// How many waited in vain.
-    pub(crate) fn alone(&self) -> u32 {
-        self.alone.load(SeqCst)
+    /// Whether n1 came to its second keep and n2 to its first, and how many waited there in vain.
+    pub(crate) fn came(&self) -> (bool, u32) {
+        let both = self.first.load(SeqCst) >= 2 && self.second.load(SeqCst) >= 1;
+        (both, self.alone.load(SeqCst))
     }
 
     /// Counts the keep, and waits before the one that has so many before it until the other node's keep of

@@ -2,9 +2,10 @@
 
 use crate::devices::Device;
 use crate::gates::OpenGate;
-use crate::outcomes::{Outcome, check};
+use crate::outcomes::{Failure, Outcome, check};
 use crate::rows::{Row, client, run_row};
 use event_recorders::RunFault;
+use std::alloc::Global;
 
 /// Three nodes with a vote each, of which two read and two write, and four clients.
 const SETTING: Row<'static> = Row {
@@ -52,4 +53,58 @@ fn a_client_gives_up(rt: HostRuntime) -> Outcome {
     let expected = [(client(1)?, RunFault::GaveUp)];
     check(seen.faults.as_slice() == expected.as_slice(), 1)?;
     check(seen.entered == 0, 2)
+}
+
+#[test]
+fn two_clients_give_up(rt: HostRuntime) -> Outcome {
+    let row = Row {
+        votes: &[1],
+        read: 1,
+        write: 1,
+        clients: 2,
+        wishes: &[b"c2 read a", b"c1 read a"],
+        devices: &[Device::Memory],
+        of_clients: Device::Memory,
+        weather: (1, 1000, 0, 0),
+    };
+    let seen = run_row(rt, rt.alloc(), &row, &OpenGate)?;
+    let expected = [
+        (client(1)?, RunFault::GaveUp),
+        (client(2)?, RunFault::GaveUp),
+    ];
+    check(seen.faults.as_slice() == expected.as_slice(), 1)?;
+    check(seen.entered == 0, 2)
+}
+
+/// The lines of the journal that begin so, in order.
+fn lines_of(alloc: Global, journal: &[u8], start: &str) -> Result<String, Failure> {
+    let Ok(text) = str::from_utf8(journal) else {
+        return Err(Failure::Wrong(0));
+    };
+    let mut found = String::new(alloc);
+    for line in text.lines() {
+        if line.starts_with(start) {
+            found.push_str(line)?;
+            found.push_str("\n")?;
+        }
+    }
+    Ok(found)
+}
+
+#[test]
+fn wishes_in_their_order(rt: HostRuntime) -> Outcome {
+    let alloc = rt.alloc();
+    let row = Row {
+        wishes: &[b"c1 read a", b"c2 write d", b"c1 write b", b"c1 read c"],
+        ..SETTING
+    };
+    let seen = run_row(rt, alloc, &row, &OpenGate)?;
+    check(seen.faults.is_empty() && seen.entered == 4, 1)?;
+    let first = lines_of(alloc, seen.journal.as_slice(), "begin c1")?;
+    check(
+        first.as_str() == "begin c1 read a\nbegin c1 write b\nbegin c1 read c\n",
+        2,
+    )?;
+    let second = lines_of(alloc, seen.journal.as_slice(), "begin c2")?;
+    check(second.as_str() == "begin c2 write d\n", 3)
 }

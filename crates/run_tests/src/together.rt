@@ -19,7 +19,7 @@ fn two_inside_at_once(rt: HostRuntime) -> Outcome {
         weather: (1, 0, 0, 0),
     };
     let seen = run_row(rt, rt.alloc(), &row, &gate)?;
-    check(gate.alone() == 0, 1)?;
+    check(gate.came() == (2, 0), 1)?;
     check(seen.entered == 2 && seen.faults.is_empty(), 2)
 }
 
@@ -37,6 +37,6 @@ fn two_keeps_at_once(rt: HostRuntime) -> Outcome {
         weather: (1, 0, 0, 0),
     };
     let seen = run_row(rt, rt.alloc(), &row, &gate)?;
-    check(gate.alone() == 0, 1)?;
+    check(gate.came() == (true, 0), 1)?;
     check(seen.entered == 2 && seen.faults.is_empty(), 2)
 }
