@@ -34,10 +34,8 @@ all_named f xs place count before end = before ∙ ap (range_with_len 1) end
 pub both_parts : {X : Type 0} (front back all : List X) (n : ℕ) → front ≡ take n all → back ≡ drop n all → front ++ back ≡ all
 both_parts front back all n first rest = ap (λ l. l ++ back) first ∙ ap (λ l. take n all ++ l) rest ∙ take-append-drop n all
 
--- the links of two lists of tasks, as those that both were given
-pub joined_links : {X Y Z : Type 0} (f : X → Z) (h : Y → Z) (xs : List X) (ys : List Y) (front back all : List Z) → map f xs ≡ front → map h ys ≡ back → front ++ back ≡ all → map f xs ++ map h ys ≡ all
-joined_links f h xs ys front back all first rest both = ap (λ l. l ++ map h ys) first ∙ ap (λ l. front ++ l) rest ∙ both
-
--- the links at as many places
-pub same_places : {Z : Type 0} (link : ℕ → ℕ → Z) (n n' k k' : ℕ) → n ≡ n' → k ≡ k' → map (link n) (range_with_len 0 k) ≡ map (link n') (range_with_len 0 k')
-same_places link n n' k k' nodes all = ap (λ i. map (link i) (range_with_len 0 k)) nodes ∙ ap (λ i. map (link n') (range_with_len 0 i)) all
+-- the links of two lists of tasks, as those that both were given, at as many places
+pub joined_links : {X Y Z : Type 0} (f : X → Z) (h : Y → Z) (xs : List X) (ys : List Y) (front back : List Z) (link : ℕ → ℕ → Z) (n n' k k' : ℕ) → map f xs ≡ front → map h ys ≡ back →
+    front ++ back ≡ map (link n) (range_with_len 0 k) → n ≡ n' → k ≡ k' → map f xs ++ map h ys ≡ map (link n') (range_with_len 0 k')
+joined_links f h xs ys front back link n n' k k' first rest both nodes all =
+    ap (λ l. l ++ map h ys) first ∙ ap (λ l. front ++ l) rest ∙ both ∙ ap (λ i. map (link i) (range_with_len 0 k)) nodes ∙ ap (λ i. map (link n') (range_with_len 0 i)) all

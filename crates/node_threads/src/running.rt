@@ -118,7 +118,7 @@ fn tasks_of<R: Copy>(
     ensures all_clients { IfOk result (λ tasks. map (λ task. task.client) tasks.clients.items ≡ range_with_len 1 (length book.old.opening.clients)) }
     ensures links { let nodes = length book.old.opening.nodes in
         IfOk result (λ tasks. map (λ task. task.link) tasks.nodes.items ++ map (λ task. task.link) tasks.clients.items
-            ≡ map (link_at nodes weather.now) (range_with_len 0 (nodes + length book.old.opening.clients))) }
+        ≡ map (link_at nodes weather.now) (range_with_len 0 (nodes + length book.old.opening.clients))) }
     ensures opening { IfOk result (λ _. book.new.opening ≡ book.old.opening) }
     ensures err { IfErr result (λ f. f ≡ RunFault.Memory) }
 {

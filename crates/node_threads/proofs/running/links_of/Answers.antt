@@ -9,14 +9,14 @@ use Rattle.node_threads.proofs.running.links_of.Goals as goal
 pub split_off-requires : goal.split_off-requires
 split_off-requires g c =
     let count = min c.args.nodes MAX_NODES + min c.args.clients MAX_CLIENTS in
-    let long : length c.in-Ok.links.items ≡ count = ap length c.in-Ok.ensures.links ∙ length-map-range_with_len (link_at (min c.args.nodes MAX_NODES) c.args.weather.now) 0 count in
+    let long : length c.in-Ok.links.items ≡ count = ap length c.in-Ok.ensures.links ∙ length-map-range_with_len _ 0 count in
     let all : count ≡ c.args.nodes + c.args.clients = omega (arith, c.requires.few_nodes, c.requires.few_clients) in
     omega (arith, long, all, c.in-Ok.links.ok)
 
 pub returns-clause-clients : goal.returns-clause-clients
 returns-clause-clients g c =
     let count = min c.args.nodes MAX_NODES + min c.args.clients MAX_CLIENTS in
-    let long : length c.in-Ok.links.items ≡ count = ap length c.in-Ok.ensures.links ∙ length-map-range_with_len (link_at (min c.args.nodes MAX_NODES) c.args.weather.now) 0 count in
+    let long : length c.in-Ok.links.items ≡ count = ap length c.in-Ok.ensures.links ∙ length-map-range_with_len _ 0 count in
     let all : count ≡ c.args.nodes + c.args.clients = omega (arith, c.requires.few_nodes, c.requires.few_clients) in
     omega (arith, long, all, c.in-Ok.links.ok, c.in-Ok-split_off.others.ok, c.in-Ok-split_off.ensures.tail_len)
 

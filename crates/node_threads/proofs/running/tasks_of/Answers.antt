@@ -6,7 +6,7 @@ use Rattle.node_threads.specs.Actors.{AreClientsReady}
 use Rattle.node_threads.specs.Conditions.{finds_station, finds_attempt}
 use Rattle.node_threads.specs.Tasks.{IsNodeTask, IsClientTask}
 use Rattle.node_threads.proofs.Openings.{ready_nodes, ready_clients, front, back, as_many, as_many_both, at_stations, few_attempts, many_nodes, many_clients}
-use Rattle.node_threads.proofs.Places.{joined_links, same_places}
+use Rattle.node_threads.proofs.Places.{joined_links}
 use Rattle.node_threads.proofs.running.tasks_of.Goals as goal
 
 pub split_off-requires : goal.split_off-requires
@@ -91,5 +91,5 @@ returns-clause-links g c =
     let long : c.len.result ≡ length c.args.records.items = c.len.ensures ∙ c.args.records.ok.0 in
     let nodes : c.len-count.result ≡ length opening.nodes = omega (arith, count, policies, stations) in
     let all : c.len-count.result + (c.len.result - c.len-count.result) ≡ length opening.nodes + length opening.clients = omega (arith, long, records, nodes, stations, attempts) in
-    joined_links (λ t. t.link) (λ t. t.link) c.in-Ok-node_tasks.nodes.items c.in-Ok-client_tasks.clients.items c.in-Ok.node_links.items c.in-Ok.client_links.items _ c.in-Ok-node_tasks.ensures.links
-    c.in-Ok-client_tasks.ensures.links (c.in-Ok.ensures.links ∙ same_places (λ n. link_at n c.args.weather.now) c.len-count.result (length opening.nodes) _ (length opening.nodes + length opening.clients) nodes all)
+    joined_links (λ t. t.link) (λ t. t.link) c.in-Ok-node_tasks.nodes.items c.in-Ok-client_tasks.clients.items c.in-Ok.node_links.items c.in-Ok.client_links.items (λ n. link_at n c.args.weather.now)
+    c.len-count.result (length opening.nodes) _ (length opening.nodes + length opening.clients) c.in-Ok-node_tasks.ensures.links c.in-Ok-client_tasks.ensures.links c.in-Ok.ensures.links nodes all
