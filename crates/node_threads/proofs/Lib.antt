@@ -1,4 +1,5 @@
 pub mod Lists
 pub mod Openings
+pub mod Places
 pub mod Ready
 pub mod Taking

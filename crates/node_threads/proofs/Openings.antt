@@ -119,6 +119,13 @@ few_stations w votes stations attempts is keeps = subst (λ n. n ≤ MAX_NODES) 
 pub few_attempts : (w : ExactWorld) (votes : Ballot) (stations : List ExactStation) (attempts : List ℕ) → w ≡ resumed votes stations attempts → KeepsRecords w → length attempts ≤ MAX_CLIENTS
 few_attempts w votes stations attempts is keeps = subst (λ n. n ≤ MAX_CLIENTS) (ap (λ (v : ExactWorld). length v.clients) is ∙ length-map attempts down_client) keeps.few_clients
 
+-- how many nodes and clients the world has
+pub many_nodes : (w : ExactWorld) (votes : Ballot) (stations : List ExactStation) (attempts : List ℕ) → w ≡ resumed votes stations attempts → length w.nodes ≡ length stations
+many_nodes w votes stations attempts is = ap (λ (v : ExactWorld). length v.nodes) is ∙ length-map stations down_node
+
+pub many_clients : (w : ExactWorld) (votes : Ballot) (stations : List ExactStation) (attempts : List ℕ) → w ≡ resumed votes stations attempts → length w.clients ≡ length attempts
+many_clients w votes stations attempts is = ap (λ (v : ExactWorld). length v.clients) is ∙ length-map attempts down_client
+
 -- the place behind the stations' records
 pub at_stations : (n count : ℕ) (stations : List ExactStation) → n ≡ count → count ≡ length stations → n ≡ length (map finds_station stations)
 at_stations n count stations is many = is ∙ many ∙ sym (length-map stations finds_station)

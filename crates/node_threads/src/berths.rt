@@ -1,6 +1,7 @@
 // The tasks of all actors: each gets its berth, its record and its link.
 
 ghost use Rattle.std.specs.Prelude.{◌≡◌, ◌≤◌, ◌+◌, length, map, All, IfOk, IfErr};
+ghost use Rattle.std.specs.List.{range_with_len};
 ghost use Rattle.lock_messages.specs.declared.ids.TheConstants.{MAX_NODES, MAX_CLIENTS};
 ghost use Rattle.history_book.specs.Books.{IsGiven};
 ghost use Rattle.node_threads.specs.Actors.{IsNodeReady, IsClientReady, AreNodesReady, AreClientsReady};
@@ -40,6 +41,8 @@ fn node_task<R: Copy>(
 ) -> Result<NodeTask<R>, RunFault>
     requires { IsNodeReady book.old.opening node (problem_of policy) (finds stable) }
     ensures task { IfOk result (λ task. IsNodeTask book.old.table task.node task.berth (problem_of task.policy) (finds task.stable)) }
+    ensures node { IfOk result (λ task. task.node ≡ node) }
+    ensures link { IfOk result (λ task. task.link ≡ link) }
     ensures table { IfOk result (λ _. book.new.table ≡ book.old.table) }
     ensures opening { IfOk result (λ _. book.new.opening ≡ book.old.opening) }
     ensures err { IfErr result (λ f. f ≡ RunFault.Memory) }
@@ -83,6 +86,8 @@ fn client_task<R: Copy>(
     requires few { length wishes.now ≤ MAX_WISHES }
     ensures task { IfOk result (λ task. IsClientTask book.old.table task.client task.ballot task.wishes.items task.berth (finds task.stable)) }
     ensures own { IfOk result (λ task. task.wishes.items ≡ own_wishes task.client wishes.now) }
+    ensures client { IfOk result (λ task. task.client ≡ client) }
+    ensures link { IfOk result (λ task. task.link ≡ link) }
     ensures table { IfOk result (λ _. book.new.table ≡ book.old.table) }
     ensures opening { IfOk result (λ _. book.new.opening ≡ book.old.opening) }
     ensures err { IfErr result (λ f. f ≡ RunFault.Memory) }
@@ -112,6 +117,9 @@ pub(crate) fn node_tasks<R: Copy>(
     requires links { length links.items ≡ length policies.items }
     requires ready { AreNodesReady 0 book.old.opening (map (λ p. problem_of p) policies.items) (map (λ r. finds r) records.items) }
     ensures tasks { IfOk result (λ tasks. All (λ task. IsNodeTask book.old.table task.node task.berth (problem_of task.policy) (finds task.stable)) tasks.items) }
+    // There is a task for each node, and each has the link of its place.
+    ensures all_nodes { IfOk result (λ tasks. map (λ task. task.node) tasks.items ≡ range_with_len 1 (length policies.items)) }
+    ensures links { IfOk result (λ tasks. map (λ task. task.link) tasks.items ≡ links.items) }
     ensures table { IfOk result (λ _. book.new.table ≡ book.old.table) }
     ensures opening { IfOk result (λ _. book.new.opening ≡ book.old.opening) }
     ensures err { IfErr result (λ f. f ≡ RunFault.Memory) }
@@ -150,6 +158,9 @@ pub(crate) fn client_tasks<R: Copy>(
     requires few_wishes { length wishes.now ≤ MAX_WISHES }
     ensures tasks { IfOk result (λ tasks. All (λ task. IsClientTask book.old.table task.client task.ballot task.wishes.items task.berth (finds task.stable)) tasks.items) }
     ensures own { IfOk result (λ tasks. All (λ task. task.wishes.items ≡ own_wishes task.client wishes.now) tasks.items) }
+    // There is a task for each client, and each has the link of its place.
+    ensures all_clients { IfOk result (λ tasks. map (λ task. task.client) tasks.items ≡ range_with_len 1 (length records.items)) }
+    ensures links { IfOk result (λ tasks. map (λ task. task.link) tasks.items ≡ links.items) }
     ensures table { IfOk result (λ _. book.new.table ≡ book.old.table) }
     ensures opening { IfOk result (λ _. book.new.opening ≡ book.old.opening) }
     ensures err { IfErr result (λ f. f ≡ RunFault.Memory) }

@@ -1,8 +1,10 @@
 // A run, from its world to its end.
 
-ghost use Rattle.std.specs.Prelude.{◌≡◌, ◌≤◌, length, map, true, All, IfOk, IfErr};
+ghost use Rattle.std.specs.Prelude.{◌≡◌, ◌≤◌, ◌+◌, ◌++◌, length, map, true, All, IfOk, IfErr};
+ghost use Rattle.std.specs.List.{range_with_len};
 ghost use Rattle.history_book.specs.Books.{enters};
 ghost use Rattle.lock_messages.specs.declared.ids.TheConstants.{MAX_NODES, MAX_CLIENTS};
+ghost use Rattle.lossy_link.specs.ChannelLinks.{link_at};
 ghost use Rattle.world_machine.specs.Keeping.{KeepsRecords};
 ghost use Rattle.world_machine.specs.Listing.{has_actor};
 ghost use Rattle.world_model.specs.Forgetting.{IsSound};
@@ -67,7 +69,7 @@ struct Tasks<R: Copy> {
     clients: Vec<ClientTask<R>>,
 }
 
-/// The links of so many nodes, and of so many clients.
+/// The links of so many nodes, and of so many clients, each with the weather at its own place, nodes first.
 fn links_of<R: Copy>(
     rt: R,
     alloc: Global,
@@ -79,6 +81,7 @@ fn links_of<R: Copy>(
     requires few_clients { clients ≤ MAX_CLIENTS }
     ensures nodes { IfOk result (λ links. length links.0.items ≡ nodes) }
     ensures clients { IfOk result (λ links. length links.1.items ≡ clients) }
+    ensures links { IfOk result (λ links. links.0.items ++ links.1.items ≡ map (link_at nodes weather.now) (range_with_len 0 (nodes + clients))) }
     ensures err { IfErr result (λ f. f ≡ RunFault.Memory) }
 {
     let Ok(mut links) = ChannelLink::all(rt, alloc, nodes as u8, clients as u16, weather) else {
@@ -90,8 +93,8 @@ fn links_of<R: Copy>(
     Ok((links, others))
 }
 
-/// The tasks of all actors of the book's world, each with its berth and its link, a client with all its own
-/// wishes.
+/// The tasks of all actors of the book's world, one for each and in order, each with its berth and its link,
+/// a client with all its own wishes.
 #[tactic(auto, using(crate::proofs::Openings::ready_nodes, crate::proofs::Openings::ready_clients))]
 fn tasks_of<R: Copy>(
     rt: R,
@@ -110,6 +113,12 @@ fn tasks_of<R: Copy>(
     ensures nodes { IfOk result (λ tasks. All (λ task. IsNodeTask book.new.table task.node task.berth (problem_of task.policy) (finds task.stable)) tasks.nodes.items) }
     ensures clients { IfOk result (λ tasks. All (λ task. IsClientTask book.new.table task.client task.ballot task.wishes.items task.berth (finds task.stable)) tasks.clients.items) }
     ensures own { IfOk result (λ tasks. All (λ task. task.wishes.items ≡ own_wishes task.client wishes.now) tasks.clients.items) }
+    // There is a task for each node and each client of the world, and each has the link of its place in this weather.
+    ensures all_nodes { IfOk result (λ tasks. map (λ task. task.node) tasks.nodes.items ≡ range_with_len 1 (length book.old.opening.nodes)) }
+    ensures all_clients { IfOk result (λ tasks. map (λ task. task.client) tasks.clients.items ≡ range_with_len 1 (length book.old.opening.clients)) }
+    ensures links { let nodes = length book.old.opening.nodes in
+        IfOk result (λ tasks. map (λ task. task.link) tasks.nodes.items ++ map (λ task. task.link) tasks.clients.items
+        ≡ map (link_at nodes weather.now) (range_with_len 0 (nodes + length book.old.opening.clients))) }
     ensures opening { IfOk result (λ _. book.new.opening ≡ book.old.opening) }
     ensures err { IfErr result (λ f. f ≡ RunFault.Memory) }
 {

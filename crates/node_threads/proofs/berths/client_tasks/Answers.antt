@@ -2,6 +2,7 @@ use Rattle.std.proofs.Common.{◌≡◌, ◌+◌, ◌<◌, length, map, sym, ◌
 use Rattle.node_threads.specs.Actors.{IsClientReady, AreClientsReady}
 use Rattle.node_threads.specs.Tasks.{IsClientTask, own_wishes}
 use Rattle.node_threads.proofs.Lists.{first_client, rest_clients, one_fewer, all_and_one}
+use Rattle.node_threads.proofs.Places.{one_more_named, one_more_linked, all_named, all_linked}
 use Rattle.node_threads.proofs.berths.client_tasks.Goals as goal
 
 pub client_task-requires-clause-ready : goal.client_task-requires-clause-ready
@@ -27,6 +28,18 @@ loop-place-preserved g c =
           (subst (λ b. IsClientTask b c.in_ok-task.task.client c.in_ok-task.task.ballot c.in_ok-task.task.wishes.items c.in_ok-task.task.berth
           ((goal.StableRecord-dyn g (c.in_ok-task.task.stable.vtable, c.in_ok-task.task.stable.value)).finds c.in_ok-task.task.stable.value)) c.loop-place.invariant.table c.in_ok-task.ensures.task) c.in-Ok.ensures.items;
       own = all_and_one (λ t. t.wishes.items ≡ own_wishes t.client c.args.wishes.now) c.loop-place.tasks.items c.push.new.self.items c.in_ok-task.task c.loop-place.invariant.own c.in_ok-task.ensures.own c.in-Ok.ensures.items;
+      named = one_more_named (λ t. t.client) c.loop-place.tasks.items c.push.new.self.items c.in_ok-task.task c.loop-place.place c.loop-place.invariant.named c.in-Ok.ensures.items (c.in_ok-task.ensures.client ∙ c.in-Some.ensures.1);
+      linked = one_more_linked (λ t. t.link) c.loop-place.tasks.items c.push.new.self.items c.in_ok-task.task c.loop-place.links.items c.remove-link.new.self.items c.args.links.items c.remove-link.result
+          c.loop-place.invariant.linked c.in-Ok.ensures.items c.in_ok-task.ensures.link (omega (arith, c.loop-place-test.true, c.loop-place.invariant.links)) c.remove-link.ensures.value c.remove-link.ensures.items;
       table = c.in_ok-task.ensures.table ∙ c.loop-place.invariant.table;
       opening = c.in_ok-task.ensures.opening ∙ c.loop-place.invariant.opening;
     }
+
+pub returns-clause-all_clients : goal.returns-clause-all_clients
+returns-clause-all_clients g c =
+    let many : c.len-count.result ≡ length c.args.records.items = c.len-count.ensures ∙ c.args.records.ok.0 in
+    all_named (λ t. t.client) c.loop-place.tasks.items c.loop-place.place (length c.args.records.items) c.loop-place.invariant.named (omega (arith, many, c.loop-place-test.false, c.loop-place.auto.place-end))
+
+pub returns-clause-links : goal.returns-clause-links
+returns-clause-links g c =
+    all_linked (λ t. t.link) c.loop-place.tasks.items c.loop-place.links.items c.args.links.items (omega (arith, c.loop-place-test.false, c.loop-place.invariant.links)) c.loop-place.invariant.linked

@@ -2,6 +2,7 @@ use Rattle.std.proofs.Common.{◌≡◌, ◌+◌, ◌<◌, length, map, sym, ◌
 use Rattle.node_threads.specs.Actors.{IsNodeReady, AreNodesReady}
 use Rattle.node_threads.specs.Tasks.{IsNodeTask}
 use Rattle.node_threads.proofs.Lists.{first_node, rest_nodes, one_fewer, all_and_one}
+use Rattle.node_threads.proofs.Places.{one_more_named, one_more_linked, all_named, all_linked}
 use Rattle.node_threads.proofs.berths.node_tasks.Goals as goal
 
 pub node_task-requires : goal.node_task-requires
@@ -33,6 +34,18 @@ loop-place-preserved g c =
           ((goal.StableRecord-dyn g (t.stable.vtable, t.stable.value)).finds t.stable.value)) c.loop-place.tasks.items c.push.new.self.items c.in_ok-task.task c.loop-place.invariant.tasks
           (subst (λ b. IsNodeTask b c.in_ok-task.task.node c.in_ok-task.task.berth ((goal.Admission-dyn g (c.in_ok-task.task.policy.vtable, c.in_ok-task.task.policy.value)).problem_of c.in_ok-task.task.policy.value)
           ((goal.StableRecord-dyn g (c.in_ok-task.task.stable.vtable, c.in_ok-task.task.stable.value)).finds c.in_ok-task.task.stable.value)) c.loop-place.invariant.table c.in_ok-task.ensures.task) c.in-Ok.ensures.items;
+      named = one_more_named (λ t. t.node) c.loop-place.tasks.items c.push.new.self.items c.in_ok-task.task c.loop-place.place c.loop-place.invariant.named c.in-Ok.ensures.items (c.in_ok-task.ensures.node ∙ c.in-Some.ensures.1);
+      linked = one_more_linked (λ t. t.link) c.loop-place.tasks.items c.push.new.self.items c.in_ok-task.task c.loop-place.links.items c.remove-link.new.self.items c.args.links.items c.remove-link.result
+          c.loop-place.invariant.linked c.in-Ok.ensures.items c.in_ok-task.ensures.link (omega (arith, c.loop-place-test.true, c.loop-place.invariant.links)) c.remove-link.ensures.value c.remove-link.ensures.items;
       table = c.in_ok-task.ensures.table ∙ c.loop-place.invariant.table;
       opening = c.in_ok-task.ensures.opening ∙ c.loop-place.invariant.opening;
     }
+
+pub returns-clause-all_nodes : goal.returns-clause-all_nodes
+returns-clause-all_nodes g c =
+    let many : c.len-count.result ≡ length c.args.policies.items = c.len-count.ensures ∙ c.args.policies.ok.0 in
+    all_named (λ t. t.node) c.loop-place.tasks.items c.loop-place.place (length c.args.policies.items) c.loop-place.invariant.named (omega (arith, many, c.loop-place-test.false, c.loop-place.auto.place-end))
+
+pub returns-clause-links : goal.returns-clause-links
+returns-clause-links g c =
+    all_linked (λ t. t.link) c.loop-place.tasks.items c.loop-place.links.items c.args.links.items (omega (arith, c.loop-place-test.false, c.loop-place.invariant.links)) c.loop-place.invariant.linked
