@@ -1,6 +1,8 @@
 // What a client remembers from post to post.
 
-ghost use Rattle.std.specs.Prelude.{◌≡◌};
+ghost use Rattle.std.specs.Prelude.{◌≡◌, ◌↔◌, [], IsTrue, false};
+ghost use Rattle.vote_weights.specs.Sets.{has_node, with_node};
+ghost use Rattle.client_core.specs.Calls.{skipping};
 ghost use Rattle.client_loop.specs.Standing.{IsAlike};
 
 use client_core::ClientCore;
@@ -26,7 +28,7 @@ pub const MAX_NUDGES: u32 = 1000;
 impl Progress {
     /// Nothing is known yet but the core.
     pub(crate) fn of(core: ClientCore) -> Progress
-        ensures { result.core ≡ core }
+        ensures { result ≡ record { core = core; gone = []; asked = []; granted = []; released = []; nudges = 0 } }
     {
         Progress {
             core,
@@ -38,9 +40,10 @@ impl Progress {
         }
     }
 
-    /// Forgets what was of the last wish.
+    /// Forgets what was of the last wish: whom it asked, who granted and who was released, and its nudges.
+    /// The core and the nodes that are gone stay.
     pub(crate) fn begin_wish(&mut self)
-        ensures { self.new.core ≡ self.old.core }
+        ensures { self.new ≡ record self.old { asked = []; granted = []; released = []; nudges = 0 } }
     {
         self.asked = NodeSet::empty();
         self.granted = NodeSet::empty();
@@ -50,7 +53,8 @@ impl Progress {
 
     /// The node is gone: it is skipped.
     pub(crate) fn lose(&mut self, node: NodeId)
-        ensures { IsAlike self.old.core self.new.core }
+        ensures exact { self.new ≡ record self.old { core = skipping self.old.core node; gone = with_node self.old.gone node } }
+        ensures alike { IsAlike self.old.core self.new.core }
     {
         self.gone = self.gone.with(node);
         self.core.skip(node);
@@ -58,7 +62,8 @@ impl Progress {
 
     /// Every node of the ballot is gone.
     pub(crate) fn lose_all(&mut self)
-        ensures { IsAlike self.old.core self.new.core }
+        ensures alike { IsAlike self.old.core self.new.core }
+        ensures others { self.new ≡ record self.old { core = self.new.core; gone = self.new.gone } }
     {
         for number in 1..=self.core.ballot().nodes() {
             let Some(node) = NodeId::of(number) else {
@@ -70,7 +75,8 @@ impl Progress {
 
     /// Skips the nodes that are gone.
     pub(crate) fn skip_gone(&mut self)
-        ensures { IsAlike self.old.core self.new.core }
+        ensures alike { IsAlike self.old.core self.new.core }
+        ensures others { self.new ≡ record self.old { core = self.new.core } }
     {
         for number in 1..=self.core.ballot().nodes() {
             let Some(node) = NodeId::of(number) else {
@@ -98,7 +104,9 @@ impl Progress {
     }
 
     /// Whether the node still has to answer the release: it was asked, has not answered and isn't gone.
-    pub(crate) fn owes(&self, node: NodeId) -> bool {
+    pub(crate) fn owes(&self, node: NodeId) -> bool
+        ensures { IsTrue result ↔ (IsTrue (has_node self.now.asked node) × (has_node self.now.released node ≡ false) × (has_node self.now.gone node ≡ false)) }
+    {
         self.asked.has(node) && !self.released.has(node) && !self.gone.has(node)
     }
 

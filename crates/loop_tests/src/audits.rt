@@ -30,3 +30,11 @@ pub(crate) fn journal_of(alloc: Global, book: &Book, world: World) -> Result<Vec
     is_sound(alloc, world, journal.as_slice(), book.events())?;
     Ok(journal)
 }
+
+/// How often a line stands in a journal.
+pub(crate) fn count_of(journal: &[u8], wanted: &str) -> Result<usize, Failure> {
+    let Ok(text) = str::from_utf8(journal) else {
+        return Err(Failure::Wrong(0));
+    };
+    Ok(text.lines().filter(|line| *line == wanted).count())
+}

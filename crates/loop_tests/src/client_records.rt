@@ -2,6 +2,8 @@
 
 use crate::clients::told;
 use crate::clients_beside::{Row, WHOLE, end_of, ends};
+use crate::gates::OpenGate;
+use crate::neighbours::Coming;
 use crate::outcomes::{Failure, Outcome, check};
 use crate::records::Device;
 use stable_record::Leaves;
@@ -133,7 +135,15 @@ fn has_six<R: Wait + Copy>(
     device: Device,
     events: usize,
 ) -> Result<bool, Failure> {
-    let (journal, answer) = end_of(rt, alloc, (1, 2), device, SIX, "")?;
+    let (journal, answer) = end_of(
+        rt,
+        alloc,
+        (1, 2),
+        device,
+        SIX,
+        Coming::answers(alloc),
+        &OpenGate,
+    )?;
     let count = journal.iter().filter(|byte| **byte == b'\n').count();
     Ok(told(answer)? == Ok(6) && count == events)
 }

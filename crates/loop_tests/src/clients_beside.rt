@@ -4,30 +4,29 @@ ghost use Rattle.std.specs.Prelude.{◌≡◌, ◌≤◌, length, All};
 ghost use Rattle.book_recorders.specs.Sharing.{log_of};
 ghost use Rattle.loop_tests.specs.Fresh.{IsNewClient};
 
-use crate::audits::journal_of;
-use crate::clients::{Answer, is_run, wishes};
+use crate::audits::{count_of, journal_of};
+use crate::clients::{Answer, is_run, told, wishes};
 use crate::gates::OpenGate;
-use crate::neighbours::Neighbour;
+use crate::neighbours::{Coming, Neighbour};
 use crate::outcomes::{Failure, Outcome, check};
 use crate::posts::{frame, posts};
 use crate::records::{Device, record_on};
 use crate::worlds::{ballot, client_id, node_id, opened, world};
 use book_recorders::{BookName, BookRecorder, Logs, Named};
 use client_loop::run_client;
-use event_recorders::RunFault;
+use event_recorders::{Gate, RunFault};
 use history_book::{Berth, Book};
 use history_check::{MAX_WISHES, Wish};
 use lock_messages::NodeId;
-use lossy_link::Post;
 use stable_record::client_bytes;
 use std::alloc::Global;
 use std::marker::Brand;
 use std::sync::{Mutex, Wait};
 use vote_weights::Ballot;
 
-/// Runs c1, with a record on this device, beside the first of the nodes, in the book under this lock. These
-/// posts come before what the node answers; the second node is gone for who sends to another.
-fn run_over<B: BookName, K: Logs, R: Wait + Copy>(
+/// Runs c1, with a record on this device, beside the first of the nodes, in the book under this lock. This
+/// comes beside what the node answers; the second node is gone for who sends to another.
+fn run_over<B: BookName, K: Logs, R: Wait + Copy, G: Gate>(
     rt: R,
     alloc: Global,
     ballot: Ballot,
@@ -36,7 +35,8 @@ fn run_over<B: BookName, K: Logs, R: Wait + Copy>(
     nodes: (NodeId, NodeId),
     device: Device,
     wishes: &[Wish],
-    posts: Vec<Post>,
+    coming: Coming,
+    gate: &G,
 ) -> Result<Answer, Failure>
     requires node { berths.0.table ≡ B.table }
     requires client { berths.1.table ≡ B.table }
@@ -48,7 +48,7 @@ fn run_over<B: BookName, K: Logs, R: Wait + Copy>(
     let client = client_id(1)?;
     let (one, two) = berths;
     let beside = BookRecorder::of(rt, lock, one);
-    let mut link = Neighbour::rising(nodes, beside, posts, frame(alloc, "grant")?)?;
+    let mut link = Neighbour::rising(nodes, beside, coming, frame(alloc, "grant")?)?;
     let mut recorder = BookRecorder::of(rt, lock, two);
     Ok(run_client(
         &rt,
@@ -59,12 +59,12 @@ fn run_over<B: BookName, K: Logs, R: Wait + Copy>(
         stable,
         &mut recorder,
         &mut link,
-        &OpenGate,
+        gate,
     ))
 }
 
 /// Runs c1 beside a node in this book; answers the book, and what the loop answered.
-fn run<B: BookName, K: Logs + Drop, R: Wait + Copy>(
+fn run<B: BookName, K: Logs + Drop, R: Wait + Copy, G: Gate>(
     rt: R,
     alloc: Global,
     ballot: Ballot,
@@ -73,7 +73,8 @@ fn run<B: BookName, K: Logs + Drop, R: Wait + Copy>(
     nodes: (NodeId, NodeId),
     device: Device,
     wishes: &[Wish],
-    posts: Vec<Post>,
+    coming: Coming,
+    gate: &G,
 ) -> Result<(K, Answer), Failure>
     requires book { (K.book book).table ≡ B.table }
     requires node { berths.0.table ≡ B.table }
@@ -84,31 +85,31 @@ fn run<B: BookName, K: Logs + Drop, R: Wait + Copy>(
 {
     let lock = Mutex::new(Named::<B, K>::of(book));
     let answer = run_over(
-        rt, alloc, ballot, &lock, berths, nodes, device, wishes, posts,
+        rt, alloc, ballot, &lock, berths, nodes, device, wishes, coming, gate,
     )?;
     Ok((lock.into_inner().into_book(), answer))
 }
 
 /// How c1 ends beside the first of the nodes of these numbers, with a record on this device: the journal of
 /// both, which an audit finds sound, and what the loop answered. These posts come before what the node
-/// answers; the second node is gone for who sends to another.
-pub(crate) fn end_of<R: Wait + Copy>(
+/// answers, and the gate is beside c1; the second node is gone for who sends to another.
+pub(crate) fn end_of<R: Wait + Copy, G: Gate>(
     rt: R,
     alloc: Global,
     numbers: (u8, u8),
     device: Device,
     wished: &str,
-    texts: &str,
+    coming: Coming,
+    gate: &G,
 ) -> Result<(Vec<u8>, Answer), Failure> {
     let ballot = ballot()?;
     let node = node_id(numbers.0)?;
     let nodes = (node, node_id(numbers.1)?);
     let (book, one, two) = opened(alloc, ballot, node)?;
     let wishes = wishes(alloc, wished)?;
-    let posts = posts(alloc, texts)?;
     let berths = (one, two);
-    let (book, answer) = run::<Brand, Book, R>(
-        rt, alloc, ballot, book, berths, nodes, device, &wishes, posts,
+    let (book, answer) = run::<Brand, Book, R, G>(
+        rt, alloc, ballot, book, berths, nodes, device, &wishes, coming, gate,
     )?;
     let journal = journal_of(alloc, &book, world(alloc, ballot)?)?;
     Ok((journal, answer))
@@ -127,7 +128,8 @@ pub(crate) struct Row {
 
 /// Ends the test unless c1 ends as a row says, with a record on this device.
 pub(crate) fn ends<R: Wait + Copy>(rt: R, alloc: Global, device: Device, row: &Row) -> Outcome {
-    let (journal, answer) = end_of(rt, alloc, row.nodes, device, row.wishes, row.posts)?;
+    let coming = Coming::behind(posts(alloc, row.posts)?);
+    let (journal, answer) = end_of(rt, alloc, row.nodes, device, row.wishes, coming, &OpenGate)?;
     let right = is_run(&journal, answer, row.journal, row.answer)?;
     check(right, 0)
 }
@@ -299,6 +301,30 @@ hear c1 9
     answer: Ok(2),
 };
 
+/// 600 nudges in each of two wishes: 300 before the first grant and as many before the first answer to the
+/// release. They don't end the second wish, though they are over a thousand together.
+#[test]
+fn nudges_of_two_wishes(rt: HostRuntime) -> Outcome {
+    let coming = Coming {
+        posts: Vec::new(rt.alloc()),
+        nudges: 300,
+    };
+    let wishes = "c1 read a, c1 read b";
+    let (journal, answer) = end_of(
+        rt,
+        rt.alloc(),
+        (1, 2),
+        Device::Memory,
+        wishes,
+        coming,
+        &OpenGate,
+    )?;
+    check(told(answer)? == Ok(2), 0)?;
+    check(count_of(&journal, "enter c1")? == 2, 1)?;
+    // Each wish says its request and its release once, and again at each nudge.
+    check(count_of(&journal, "sayto c1 n1")? == 1_204, 2)
+}
+
 /// A node that is gone is skipped, in the next wish too, and is told no release.
 #[test]
 fn a_node_that_is_gone(rt: HostRuntime) -> Outcome {
@@ -429,6 +455,40 @@ leave c1
 ",
     answer: Err((0, RunFault::TooFewNodes)),
 };
+
+const GONE_BEFORE_THE_NEXT_WISH: Row = Row {
+    nodes: (1, 2),
+    wishes: "c1 read a, c1 read b",
+    posts: "gone",
+    journal: "\
+rise n1 old
+rise c1 old
+begin c1 read a
+try c1
+kept c1
+sayto c1 n1
+take n1 1
+try n1
+kept n1
+say n1
+sayto c1 n2
+hear c1 2
+enter c1
+leave c1
+sayto c1 n2
+begin c1 read b
+try c1
+kept c1
+leave c1
+",
+    answer: Err((1, RunFault::TooFewNodes)),
+};
+
+/// 912: the vote that a node gave for the wish before, and that is gone, doesn't count for the next.
+#[test]
+fn too_few_nodes_in_the_next_wish(rt: HostRuntime) -> Outcome {
+    ends(rt, rt.alloc(), Device::Memory, &GONE_BEFORE_THE_NEXT_WISH)
+}
 
 /// A node that granted and is gone counts, so the client goes on until the other is lost too.
 #[test]

@@ -19,6 +19,8 @@ mod clients_alone;
 #[cfg(test)]
 mod clients_beside;
 #[cfg(test)]
+mod gate_calls;
+#[cfg(test)]
 mod gates;
 #[cfg(test)]
 mod neighbours;

@@ -8,12 +8,33 @@ use bytes::Bytes;
 use history_book::BookFault;
 use lock_messages::{Actor, NodeId};
 use lossy_link::{Link, LinkFault, Parcel, Post};
+use std::alloc::Global;
 use std::sync::Wait;
 use world_model::{Age, Effect, Event};
 
+/// What is brought beside a node's answers: these posts before them all, and so many nudges before the
+/// answer to each message that changes what the node keeps.
+#[derive(Drop)]
+pub(crate) struct Coming {
+    pub(crate) posts: Vec<Post>,
+    pub(crate) nudges: u32,
+}
+
+impl Coming {
+    /// Nothing comes but the node's answers.
+    pub(crate) fn answers(alloc: Global) -> Coming {
+        Coming::behind(Vec::new(alloc))
+    }
+
+    /// The node's answers come behind these posts.
+    pub(crate) fn behind(posts: Vec<Post>) -> Coming {
+        Coming { posts, nudges: 0 }
+    }
+}
+
 /// A link that brings given posts and, behind them, the answers of a node. The node is beside the
 /// client, in the same thread: it takes what is sent as soon as it is sent, and keeps and says what
-/// follows. A parcel's frame is always the same, since who hears it goes by its number. Who sends to another
+/// follows; where it has kept something it may nudge first. A parcel's frame is always the same, since who hears it goes by its number. Who sends to another
 /// node is told that a node is gone.
 #[derive(Drop)]
 pub(crate) struct Neighbour<'a, B: BookName, K: Logs, R: Copy> {
@@ -22,6 +43,8 @@ pub(crate) struct Neighbour<'a, B: BookName, K: Logs, R: Copy> {
     recorder: BookRecorder<'a, B, K, R>,
     posts: Vec<Post>,
     frame: Bytes,
+    nudges: u32,
+    due: u32,
 }
 
 impl<'a, B: BookName, K: Logs, R: Wait + Copy> Neighbour<'a, B, K, R> {
@@ -30,10 +53,11 @@ impl<'a, B: BookName, K: Logs, R: Wait + Copy> Neighbour<'a, B, K, R> {
     pub(crate) fn rising(
         nodes: (NodeId, NodeId),
         recorder: BookRecorder<'a, B, K, R>,
-        posts: Vec<Post>,
+        coming: Coming,
         frame: Bytes,
     ) -> Result<Neighbour<'a, B, K, R>, Failure> {
         let (node, gone) = nodes;
+        let Coming { posts, nudges } = coming;
         let mut recorder = recorder;
         match recorder.log_event(Event::Rise(Actor::Node(node), Age::Old)) {
             Ok(_) => Ok(Neighbour {
@@ -42,16 +66,19 @@ impl<'a, B: BookName, K: Logs, R: Wait + Copy> Neighbour<'a, B, K, R> {
                 recorder,
                 posts,
                 frame,
+                nudges,
+                due: 0,
             }),
             Err(fault) => Err(of_book(fault)),
         }
     }
 
-    /// The node keeps what it decided.
+    /// The node keeps what it decided, and is about to nudge.
     fn keep(&mut self) -> Result<(), BookFault> {
         self.recorder.log_event(Event::Try(Actor::Node(self.node)))?;
         self.recorder
             .log_event(Event::Kept(Actor::Node(self.node)))?;
+        self.due = self.nudges;
         Ok(())
     }
 
@@ -77,10 +104,22 @@ impl<'a, B: BookName, K: Logs, R: Wait + Copy> Neighbour<'a, B, K, R> {
         Ok(())
     }
 
-    /// The replies of these numbers will be brought.
+    /// The nudges that the node is about to make will be brought.
+    fn nudge(&mut self) -> Result<(), LinkFault>
+        ensures { IsOkUnless result LinkFault.Memory }
+    {
+        for _ in 0..self.due {
+            self.bring(Post::Nudge(self.node))?;
+        }
+        self.due = 0;
+        Ok(())
+    }
+
+    /// The replies of these numbers will be brought, behind the node's nudges.
     fn answer(&mut self, first: u32, count: u32) -> Result<(), LinkFault>
         ensures { IsOkUnless result LinkFault.Memory }
     {
+        self.nudge()?;
         for place in 0..count {
             let number = first.wrapping_add(place);
             let Ok(frame) = self.frame.clone() else {

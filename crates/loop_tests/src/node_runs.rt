@@ -12,7 +12,7 @@ use crate::posts::{is_sent, is_sent_until, posts};
 use crate::records::{Device, record_on};
 use crate::worlds::{all_opened, ballot, client_id, node_id, policy, world};
 use book_recorders::{BookName, BookRecorder, Logs, Named};
-use event_recorders::RunFault;
+use event_recorders::{Gate, RunFault};
 use history_book::{Berth, Book, BookFault};
 use history_check::read_event;
 use lock_messages::Actor;
@@ -90,15 +90,16 @@ fn tells<B: BookName, K: Logs, R: Wait + Copy>(
     Ok(())
 }
 
-/// Runs n1 with a record on this device over these posts; answers the link, and what the loop answered.
+/// Runs n1 with a record on this device over these posts, beside this gate; answers the link, and what the loop answered.
 #[tactic(auto, using(crate::proofs::Ready::node_ready))]
-fn run_over<B: BookName, K: Logs, R: Wait + Copy>(
+fn run_over<B: BookName, K: Logs, R: Wait + Copy, G: Gate>(
     rt: R,
     alloc: Global,
     lock: &Mutex<Named<B, K>>,
     berth: Berth,
     device: Device,
     posts: Vec<Post>,
+    gate: &G,
 ) -> Result<(ListLink, Answer), Failure>
     requires table { berth.table ≡ B.table }
     requires log { IsNewNode (log_of berth) }
@@ -116,13 +117,13 @@ fn run_over<B: BookName, K: Logs, R: Wait + Copy>(
         policy,
         &mut recorder,
         &mut link,
-        &OpenGate,
+        gate,
     );
     Ok((link, answer))
 }
 
 /// Lets the clients log these lines, and then runs n1; answers the book too.
-fn run<B: BookName, K: Logs + Drop, R: Wait + Copy>(
+fn run<B: BookName, K: Logs + Drop, R: Wait + Copy, G: Gate>(
     rt: R,
     alloc: Global,
     book: K,
@@ -130,6 +131,7 @@ fn run<B: BookName, K: Logs + Drop, R: Wait + Copy>(
     device: Device,
     lines: &[u8],
     posts: Vec<Post>,
+    gate: &G,
 ) -> Result<(K, ListLink, Answer), Failure>
     requires book { (K.book book).table ≡ B.table }
     requires node { berths.0.table ≡ B.table }
@@ -140,31 +142,34 @@ fn run<B: BookName, K: Logs + Drop, R: Wait + Copy>(
     let lock = Mutex::new(Named::<B, K>::of(book));
     let (node, one, two) = berths;
     tells(rt, &lock, (one, two), lines)?;
-    let (link, answer) = run_over(rt, alloc, &lock, node, device, posts)?;
+    let (link, answer) = run_over(rt, alloc, &lock, node, device, posts, gate)?;
     Ok((lock.into_inner().into_book(), link, answer))
 }
 
 /// How a run ended: the journal, which an audit finds sound, the link, and what the loop answered.
+#[derive(Drop)]
 pub(crate) struct Ended {
     pub(crate) journal: Vec<u8>,
     pub(crate) link: ListLink,
     pub(crate) answer: Answer,
 }
 
-/// How n1 ends with a record on this device over these posts, once clients have logged these lines.
+/// How n1 ends with a record on this device over these posts, once clients have logged these lines,
+/// beside this gate.
 #[tactic(auto, using(crate::proofs::Ready::node_log))]
-pub(crate) fn end_of<R: Wait + Copy>(
+pub(crate) fn end_of<R: Wait + Copy, G: Gate>(
     rt: R,
     alloc: Global,
     device: Device,
     asks: &str,
     texts: &str,
+    gate: &G,
 ) -> Result<Ended, Failure> {
     let ballot = ballot()?;
     let (book, node, one, two) = all_opened(alloc, ballot, node_id(1)?)?;
     let berths = (node, one, two);
     let posts = posts(alloc, texts)?;
-    let (book, link, answer) = run::<Brand, Book, R>(
+    let (book, link, answer) = run::<Brand, Book, R, G>(
         rt,
         alloc,
         book,
@@ -172,6 +177,7 @@ pub(crate) fn end_of<R: Wait + Copy>(
         device,
         asks.as_bytes(),
         posts,
+        gate,
     )?;
     let journal = journal_of(alloc, &book, world(alloc, ballot)?)?;
     Ok(Ended {
@@ -228,7 +234,7 @@ pub(crate) fn does<R: Wait + Copy>(
         journal,
         link,
         answer,
-    } = end_of(rt, alloc, device, asks, row.posts)?;
+    } = end_of(rt, alloc, device, asks, row.posts, &OpenGate)?;
     let is_cut = answer == Err(RunFault::Memory);
     let has_sent = has_sent(alloc, link.sent(), row, answer)?;
     let is_logged = is_logged(&journal, asks, row.events, is_cut);

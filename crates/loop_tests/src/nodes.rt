@@ -1,5 +1,6 @@
 //! A node's run over lists: its turns, what it drops, and how it ends.
 
+use crate::gates::OpenGate;
 use crate::node_runs::{Ended, Row, does, end_of};
 use crate::outcomes::{Failure, Outcome, check};
 use crate::records::Device;
@@ -276,7 +277,7 @@ fn falls<R: Wait + Copy>(
         journal,
         link,
         answer,
-    } = end_of(rt, alloc, device, GIVES_UP_THRICE, TWICE)?;
+    } = end_of(rt, alloc, device, GIVES_UP_THRICE, TWICE, &OpenGate)?;
     if answer == Err(RunFault::Memory) {
         return Err(Failure::Memory);
     }

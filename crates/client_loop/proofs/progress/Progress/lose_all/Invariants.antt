@@ -1,5 +1,7 @@
+use Rattle.std.specs.Prelude.{◌≡◌}
 use Rattle.client_loop.specs.Standing.{IsAlike}
 use Rattle.client_loop.proofs.progress.Progress.lose_all.Given as goal
 
 abbrev pub invariant-loop-number : goal.invariant-loop-number
-invariant-loop-number l = IsAlike l.fn.self.core l.self.core
+invariant-loop-number l =
+    IsAlike l.fn.self.core l.self.core × (l.self ≡ record l.fn.self { core = l.self.core; gone = l.self.gone })
