@@ -34,8 +34,8 @@ impl Coming {
 
 /// A link that brings given posts and, behind them, the answers of a node. The node is beside the
 /// client, in the same thread: it takes what is sent as soon as it is sent, and keeps and says what
-/// follows; where it has kept something it may nudge first. A parcel's frame is always the same, since who hears it goes by its number. Who sends to another
-/// node is told that a node is gone.
+/// follows; where it has kept something it may nudge first. A parcel's frame is always the same, since who
+/// hears it goes by its number. Who sends to another node is told that a node is gone.
 #[derive(Drop)]
 pub(crate) struct Neighbour<'a, B: BookName, K: Logs, R: Copy> {
     node: NodeId,

@@ -90,7 +90,8 @@ fn tells<B: BookName, K: Logs, R: Wait + Copy>(
     Ok(())
 }
 
-/// Runs n1 with a record on this device over these posts, beside this gate; answers the link, and what the loop answered.
+/// Runs n1 with a record on this device over these posts, beside this gate; answers the link, and what the
+/// loop answered.
 #[tactic(auto, using(crate::proofs::Ready::node_ready))]
 fn run_over<B: BookName, K: Logs, R: Wait + Copy, G: Gate>(
     rt: R,
