@@ -91,7 +91,7 @@ fn run<B: BookName, K: Logs + Drop, R: Wait + Copy, G: Gate>(
 }
 
 /// How c1 ends beside the first of the nodes of these numbers, with a record on this device: the journal of
-/// both, which an audit finds sound, and what the loop answered. These posts come before what the node
+/// both, which an audit finds sound, and what the loop answered. This comes beside what the node
 /// answers, and the gate is beside c1; the second node is gone for who sends to another.
 pub(crate) fn end_of<R: Wait + Copy, G: Gate>(
     rt: R,
