@@ -11,7 +11,9 @@ use clap::{Arg, ArgAction, ArgMatches};
 use operator_cli::Command;
 use std::alloc::{AllocError, Global};
 
-const ABOUT: &str = "A voted readers-writers lock service in memory.";
+const ABOUT: &str = "\
+A voted readers-writers lock service in memory: one process, without a network. What its clients do
+is given beforehand, as the lines of a script or as wishes in the settings.";
 
 const SCRIPT_HELP: &str = "\
 Runs a script: standard input begins with settings in TOML and a line `---`, and each line behind
@@ -48,7 +50,11 @@ more are for `rwvote run`, and judged by every command: `seed`, the number of th
 `twice` and `late`, how many of a thousand parcels are lost, go twice and are late, 1000 together at
 most; and `wishes`, a list of at most 4096 texts as `c1 read a`.
 
-All nodes and clients are up at first. Events: `begin cC read|write NAME`, `try nN|cC`, `kept nN|cC`,
+The lines may also be typed one by one: each answer goes out before the next line is waited for, and
+`sent K` tells the number that the next `take` or `hear` names.
+
+All nodes and clients are up at first. (As a journal begins they are down: here the lines in which
+they first rise print `refused 603`.) Events: `begin cC read|write NAME`, `try nN|cC`, `kept nN|cC`,
 `sayto cC nN`, `say nN`, `take nN K`, `hear cC K`, `enter cC`, `leave cC`, `fall nN|cC`,
 `rise nN|cC old|new`. `nN` is node N, `cC` client C, `K` the number of a message, as `sent K` prints
 it, `NAME` 1 to 32 of a-z, 0-9 and -. Queries: `inside NAME`, and of what node N has kept,
@@ -57,15 +63,17 @@ it, `NAME` 1 to 32 of a-z, 0-9 and -. Queries: `inside NAME`, and of what node N
 `refused N`: 601 no such node or client, 602 it is down, 603 it is up, 604 not in this phase, 605 not
 kept yet, 606 nothing to say, 607 no such message, 608 for another, 609 too few votes, 610 no
 attempts left, 611 nothing was tried, 612 too many messages. Nothing has changed then, and the
-script goes on.
+script goes on, also where the settings don't have the node or client.
 
-`line L fault N` ends the script: line L behind `---` has 801 an unknown word, 802 no actor, 803 no
-number, 804 no name, 805 words missing or left over, or over 128 bytes.
+`line L fault N` ends the script: line L behind `---` has 801 an unknown word, 802 no actor (`c0`,
+`c1025` and `n17` are none in any settings), 803 no number, 804 no name, 805 words missing or left
+over, or over 128 bytes. A blank line or a comment behind `---` is 801.
 
-`settings fault N` stands alone: 921 no TOML, 922 a value missing or out of range, 923 an unknown
-key, 924 no line `---` within 65536 bytes, 925 no memory; 201 no node, 202 more than 16, 203 a need
-over all votes, 204 a read and a write could miss each other, 205 two writes could; 901 `lose`, `twice`
-and `late` over 1000 together; 801, 802, 804 or 805 the first wish that is none, as of a line.
+`settings fault N` stands alone: 921 no TOML, 922 a value missing or out of range, 923 an unknown key,
+924 no line `---` within 65536 bytes (also where lines end with CRLF), 925 no memory; 201 no node, 202
+more than 16, 203 a need over all votes, 204 a read and a write could miss each other, 205 two writes
+could; 901 `lose`, `twice` and `late` over 1000 together; 801, 802, 804 or 805 the first wish that is
+none, as of a line.
 
 The status is 0; 1 where an event or a query was refused, a line was bad, or `fault N` stands on
 standard error (931 the input failed, 932 the output, 933 no memory); 2 where the settings or the
@@ -91,8 +99,10 @@ It prints `sound 3`: the three lines are events that can happen one after anothe
 which all nodes and clients are down and nothing is kept. Of a journal that can't be it names the
 first line that is wrong: `unsound L refused N` where the event can't happen then, `unsound L fault N`
 where the line is no event. Lines count from 1 behind `---`, and the numbers are those of
-`rwvote script --help`. Nothing behind that line is read. The settings and the events are written as
-for `script`; a query is no event.
+`rwvote script --help`; a blank line or a comment is `unsound L fault 801`. Nothing behind that line
+is read. The settings and the events are written as for `script`; a query is no event. A script is no
+journal, since it begins with all of them up: `begin c1 read a` as the first line gives
+`unsound 1 refused 602`.
 
 The status is 0 for a sound journal; 1 for another one, and where `fault N` stands on standard error:
 931 the input failed in front of `---`, 816 behind it, 817 the output failed, 933 and 818 no memory,
@@ -146,11 +156,12 @@ to run.
 
 A line as `c2 fault 913` tells of a node or a client that ended before its work was done: 911 its
 record failed, 912 too few nodes are left, 913 it gave up after it was told 1000 times in one wish to
-send again, 914 no memory or no thread, 915 the journal is full, 916 no attempts are left.
+send again, 914 no memory or no thread, 915 the journal or the list of messages is full, 916 no
+attempts are left.
 
-The status is 0; 1 where such a line stands, with `--journal` where it would, or where `fault N` stands
-on standard error (931 the input failed, 932 the output, 933 no memory or no thread); 2 where the
-settings or the words were refused.";
+The status is 0; 1 where such a line stands, with `--journal` where it would, or where `fault N`
+stands on standard error (931 the input failed, 932 the output, 933 no memory or no thread); 2 where
+the settings or the words were refused.";
 
 /// A command of the program.
 fn below<'a>(alloc: Global, name: &'a str, about: &'a str, help: &'a str) -> clap::Command<'a>
