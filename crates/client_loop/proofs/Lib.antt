@@ -1,2 +1,4 @@
 pub mod Logs
 pub mod Attempts
+pub mod NodeFacts
+pub mod HearFacts

@@ -1,2 +1,4 @@
 pub mod Standing
 pub mod Visits
+pub mod Nodes
+pub mod Hearing

@@ -1,7 +1,9 @@
 // What a client says and hears.
 
-ghost use Rattle.std.specs.Prelude.{◌≡◌};
+ghost use Rattle.std.specs.Prelude.{◌≡◌, ◌↔◌, IsTrue, IfOk, IfSome, IfNone, OnErr};
+ghost use Rattle.client_core.specs.Calls.{node_of};
 ghost use Rattle.client_core.specs.Clients.{phase_of};
+ghost use Rattle.client_loop.specs.Hearing.{IsFrameFor, Hears, HearsOf, HearsNothing};
 ghost use Rattle.client_loop.specs.Standing.{Stands};
 ghost use Rattle.client_loop.specs.Visits.{visits_of};
 
@@ -66,7 +68,9 @@ pub(crate) fn tell<R: Recorder, L: Link>(
 }
 
 /// The node that a message names.
-fn node_of(message: &Message) -> NodeId {
+fn node_of(message: &Message) -> NodeId
+    ensures { result ≡ node_of message.now }
+{
     match *message {
         Message::Request(node, _) | Message::Grant(node, _) | Message::Busy(node, _) => node,
         Message::Release(node, _, _)
@@ -77,7 +81,9 @@ fn node_of(message: &Message) -> NodeId {
 }
 
 /// Whether the frame is a message for the client.
-fn is_for_client(frame: &[u8], client: ClientId) -> bool {
+fn is_for_client(frame: &[u8], client: ClientId) -> bool
+    ensures { IsTrue result ↔ IsFrameFor frame.now client }
+{
     match decode(frame) {
         Ok(message) => message.is_for_client(client),
         Err(_) => false,
@@ -93,6 +99,9 @@ fn heard<R: Recorder>(
     recorder: &mut R,
 ) -> Result<Option<(Message, Heard)>, RunFault>
     requires { Stands (R.own_log recorder.old) (finds stable.now) core.old }
+    ensures heard { IfOk result (λ o. IfSome o (λ p. Hears number (R.own_log recorder.old) (R.own_log recorder.new) core.old core.new p.0 p.1)) }
+    ensures dropped { IfOk result (λ o. IfNone o (HearsNothing (R.own_log recorder.old) (R.own_log recorder.new) core.old core.new)) }
+    ensures refused { OnErr result (HearsNothing (R.own_log recorder.old) (R.own_log recorder.new) core.old core.new) }
     ensures stands { Stands (R.own_log recorder.new) (finds stable.now) core.new }
     ensures phase { phase_of core.new ≡ phase_of core.old }
     ensures visits { visits_of (R.own_log recorder.new) ≡ visits_of (R.own_log recorder.old) }
@@ -116,6 +125,10 @@ pub(crate) fn hear<R: Recorder>(
     recorder: &mut R,
 ) -> Result<Option<(NodeId, Heard)>, RunFault>
     requires { Stands (R.own_log recorder.old) (finds stable.now) core.old }
+    ensures heard { IfOk result (λ o. IfSome o (λ p. HearsOf parcel.now.number (R.own_log recorder.old) (R.own_log recorder.new) core.old core.new p.0 p.1)) }
+    ensures dropped { IfOk result (λ o. IfNone o (HearsNothing (R.own_log recorder.old) (R.own_log recorder.new) core.old core.new)) }
+    ensures foreign { (IsFrameFor parcel.now.frame core.old.client → ⊥) → result ≡ Ok None }
+    ensures refused { OnErr result (HearsNothing (R.own_log recorder.old) (R.own_log recorder.new) core.old core.new) }
     ensures stands { Stands (R.own_log recorder.new) (finds stable.now) core.new }
     ensures phase { phase_of core.new ≡ phase_of core.old }
     ensures visits { visits_of (R.own_log recorder.new) ≡ visits_of (R.own_log recorder.old) }
