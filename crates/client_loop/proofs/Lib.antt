@@ -2,3 +2,4 @@ pub mod Logs
 pub mod Attempts
 pub mod NodeFacts
 pub mod HearFacts
+pub mod SentFacts

@@ -2,3 +2,4 @@ pub mod Standing
 pub mod Visits
 pub mod Nodes
 pub mod Hearing
+pub mod Sendings

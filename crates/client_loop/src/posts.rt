@@ -3,6 +3,7 @@
 ghost use Rattle.std.specs.Prelude.{◌≡◌, OnOk, OnErr};
 ghost use Rattle.client_core.specs.Clients.{phase_of};
 ghost use Rattle.client_loop.specs.Hearing.{IsFrameFor, TakesParcel};
+ghost use Rattle.client_loop.specs.Sendings.{SentFollows};
 ghost use Rattle.client_loop.specs.Standing.{Stands};
 ghost use Rattle.client_loop.specs.Visits.{visits_of};
 
@@ -40,6 +41,7 @@ fn take_parcel<R: Recorder>(
 /// Sends again to a node that nudges. A nudge of a node to which nothing was sent in the present wish is
 /// dropped; the last nudge of those that one wish may have ends it, and what is sent to a node that is
 /// gone goes nowhere.
+#[tactic(auto, using(crate::proofs::SentFacts::follows_none))]
 fn take_nudge<R: Recorder, L: Link>(
     alloc: Global,
     progress: &mut Progress,
@@ -49,6 +51,7 @@ fn take_nudge<R: Recorder, L: Link>(
     link: &mut L,
 ) -> Result<(), RunFault>
     requires { Stands (R.own_log recorder.old) (finds stable.now) progress.old.core }
+    ensures sent { OnOk result (SentFollows (R.own_log recorder.old) (R.own_log recorder.new) (L.given link.old) (L.given link.new)) }
     ensures stands { Stands (R.own_log recorder.new) (finds stable.now) progress.new.core }
     ensures phase { phase_of progress.new.core ≡ phase_of progress.old.core }
     ensures visits { visits_of (R.own_log recorder.new) ≡ visits_of (R.own_log recorder.old) }
