@@ -1,10 +1,11 @@
 -- What the steps that nodes and clients share have done.
-use Rattle.std.specs.Prelude.{◌≡◌, ◌⊎◌, ℕ, ◌+◌, ◌≤◌, Bool, false, List, [], ◌∷◌, Some, None}
+use Rattle.std.specs.Prelude.{◌≡◌, ◌⊎◌, ℕ, ◌+◌, ◌≤◌, Bool, false, List, [], ◌∷◌, Option, Some, None, Result, Ok, Err}
 use Rattle.lock_messages.specs.declared.ids.Actor.{Actor}
 use Rattle.lock_model.specs.Decisions.{Among}
 use Rattle.stable_record.specs.Finding.{FindsOnly, FindsOnlyOr, most_failures}
 use Rattle.world_model.specs.declared.events.Age.{Age}
 use Rattle.world_model.specs.declared.events.Age.TheVariants.{Old, New}
+use Rattle.world_model.specs.declared.events.Effect.{Effect}
 use Rattle.world_model.specs.declared.events.Effect.TheVariants as effect
 use Rattle.world_model.specs.declared.events.Event.TheVariants as event
 use Rattle.world_model.specs.Parts.{own_refusal, after_own}
@@ -23,6 +24,16 @@ run_fault_of book.Full = fault.Book
 run_fault_of book.OtherActor = fault.Book
 run_fault_of book.OtherBook = fault.Book
 run_fault_of (book.NotAStep f) = fault.Book
+
+-- What comes of a Take or a Hear: its effect, or nothing where the book says that it is no step; the thread
+-- ends where the book refuses it for another reason.
+abbrev pub reading_of : Result Effect BookFault → Result (Option Effect) RunFault
+reading_of (Ok done) = Ok (Some done)
+reading_of (Err (book.NotAStep f)) = Ok None
+reading_of (Err book.Memory) = Err (run_fault_of book.Memory)
+reading_of (Err book.Full) = Err (run_fault_of book.Full)
+reading_of (Err book.OtherActor) = Err (run_fault_of book.OtherActor)
+reading_of (Err book.OtherBook) = Err (run_fault_of book.OtherBook)
 
 -- the faults of logging, of rising and of keeping
 abbrev pub IsBookFault : RunFault → Type 0

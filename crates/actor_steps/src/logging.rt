@@ -3,7 +3,7 @@
 ghost use Rattle.std.specs.Prelude.{◌≡◌, true, false, None, OnOk, IfOk, IfErr, IfSome, IfNone};
 ghost use Rattle.world_model.specs.Parts.{is_own, own_refusal};
 ghost use Rattle.event_recorders.specs.OwnLogs.{part_now, FindsPart, FindsAfter, IsAdded, reads, changes_record};
-ghost use Rattle.actor_steps.specs.Steps.{run_fault_of, IsBookFault};
+ghost use Rattle.actor_steps.specs.Steps.{run_fault_of, reading_of, IsBookFault};
 
 use event_recorders::laws::own_logs_tell_parts;
 use event_recorders::{Recorder, RunFault};
@@ -66,6 +66,18 @@ pub fn log_plain<R: Recorder>(
     log_own(recorder, event, stable)
 }
 
+/// What came of a reading: its effect; `None` exactly where the event is no step, since no message of the
+/// number was sent or it is for another; else the fault of the thread.
+fn reading_of(logged: Result<Effect, BookFault>) -> Result<Option<Effect>, RunFault>
+    ensures { result ≡ reading_of logged }
+{
+    match logged {
+        Ok(effect) => Ok(Some(effect)),
+        Err(BookFault::NotAStep(_)) => Ok(None),
+        Err(fault) => Err(run_fault_of(fault)),
+    }
+}
+
 /// Logs a Take or a Hear; `None` where no message of that number was sent (607) or it is for another
 /// (608), and then nothing is logged.
 ///
@@ -86,9 +98,5 @@ pub fn log_reading<R: Recorder>(
     ensures refused { IfErr result (λ fault. IsBookFault fault × (R.own_log recorder.new ≡ R.own_log recorder.old)) }
 {
     own_logs_tell_parts();
-    match recorder.log(event, stable) {
-        Ok(effect) => Ok(Some(effect)),
-        Err(BookFault::NotAStep(_)) => Ok(None),
-        Err(fault) => Err(run_fault_of(fault)),
-    }
+    reading_of(recorder.log(event, stable))
 }

@@ -13,7 +13,7 @@ use Rattle.world_model.specs.declared.events.Effect.TheVariants as effect
 use Rattle.world_model.specs.declared.events.Event.TheVariants as event
 use Rattle.world_model.specs.declared.exact.ExactClientPhase.TheVariants as client
 use Rattle.world_model.specs.Parts.{Part, NoPart, NodePart, ClientPart, after_own}
-use Rattle.event_recorders.specs.OwnLogs.{OwnLog, IsAdded, IsDownAtRest, IsUnused, part_now, adds, kept_in}
+use Rattle.event_recorders.specs.OwnLogs.{OwnLog, IsAdded, IsDownAtRest, IsUnused, part_now, kept_in}
 use Rattle.actor_steps.specs.Steps.{HasFound, IsRisenAgain}
 use Rattle.client_loop.specs.Standing.{part_of, Stands, HasTried, KeepsAttempt}
 use Rattle.client_loop.specs.Visits.{visits_of}

@@ -1,2 +1,5 @@
 pub mod Logs
 pub mod Attempts
+pub mod NodeFacts
+pub mod HearFacts
+pub mod SentFacts

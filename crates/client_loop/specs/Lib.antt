@@ -1,2 +1,5 @@
 pub mod Standing
 pub mod Visits
+pub mod Nodes
+pub mod Hearing
+pub mod Sendings

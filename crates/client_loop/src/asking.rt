@@ -2,6 +2,7 @@
 
 ghost use Rattle.std.specs.Prelude.{◌≡◌, OnOk};
 ghost use Rattle.client_core.specs.Calls.{MayEnter};
+ghost use Rattle.client_loop.specs.Sendings.{SentFollows};
 ghost use Rattle.client_loop.specs.Standing.{Stands};
 ghost use Rattle.client_loop.specs.Visits.{visits_of};
 
@@ -16,6 +17,7 @@ use std::alloc::Global;
 use std::sync::Wait;
 
 /// Asks the node that is to be asked next, unless it was asked already.
+#[tactic(auto, using(crate::proofs::SentFacts::follows_none))]
 fn ask_on<R: Recorder, L: Link>(
     alloc: Global,
     progress: &mut Progress,
@@ -24,6 +26,7 @@ fn ask_on<R: Recorder, L: Link>(
     link: &mut L,
 ) -> Result<(), RunFault>
     requires { Stands (R.own_log recorder.old) (finds stable.now) progress.old.core }
+    ensures sent { OnOk result (SentFollows (R.own_log recorder.old) (R.own_log recorder.new) (L.given link.old) (L.given link.new)) }
     ensures stands { Stands (R.own_log recorder.new) (finds stable.now) progress.new.core }
     ensures visits { visits_of (R.own_log recorder.new) ≡ visits_of (R.own_log recorder.old) }
 {

@@ -1,7 +1,9 @@
 // What a client does on a post.
 
-ghost use Rattle.std.specs.Prelude.{◌≡◌};
+ghost use Rattle.std.specs.Prelude.{◌≡◌, OnOk, OnErr};
 ghost use Rattle.client_core.specs.Clients.{phase_of};
+ghost use Rattle.client_loop.specs.Hearing.{IsFrameFor, TakesParcel};
+ghost use Rattle.client_loop.specs.Sendings.{SentFollows};
 ghost use Rattle.client_loop.specs.Standing.{Stands};
 ghost use Rattle.client_loop.specs.Visits.{visits_of};
 
@@ -9,12 +11,12 @@ use crate::progress::{MAX_NUDGES, Progress};
 use crate::talking::{hear, tell};
 use event_recorders::{Recorder, RunFault};
 use lock_messages::NodeId;
-use lock_model::Heard;
 use lossy_link::{Link, Parcel, Post};
 use stable_record::StableRecord;
 use std::alloc::Global;
 
 /// Hears a parcel, and remembers a vote that was counted and a release that was answered.
+#[tactic(auto, using(crate::proofs::HearFacts::remembers, crate::proofs::HearFacts::takes_nothing, crate::proofs::HearFacts::stays))]
 fn take_parcel<R: Recorder>(
     progress: &mut Progress,
     parcel: &Parcel,
@@ -22,21 +24,24 @@ fn take_parcel<R: Recorder>(
     recorder: &mut R,
 ) -> Result<(), RunFault>
     requires { Stands (R.own_log recorder.old) (finds stable.now) progress.old.core }
+    ensures taken { OnOk result (TakesParcel parcel.now.number (R.own_log recorder.old) (R.own_log recorder.new) progress.old progress.new) }
+    ensures foreign { (IsFrameFor parcel.now.frame progress.old.core.client → ⊥) → (progress.new ≡ progress.old) × (R.own_log recorder.new ≡ R.own_log recorder.old) }
+    ensures refused { OnErr result ((progress.new ≡ progress.old) × (R.own_log recorder.new ≡ R.own_log recorder.old)) }
     ensures stands { Stands (R.own_log recorder.new) (finds stable.now) progress.new.core }
     ensures phase { phase_of progress.new.core ≡ phase_of progress.old.core }
     ensures visits { visits_of (R.own_log recorder.new) ≡ visits_of (R.own_log recorder.old) }
 {
-    match hear(&mut progress.core, parcel, stable, recorder)? {
-        Some((node, Heard::Counted)) => progress.granted = progress.granted.with(node),
-        Some((node, Heard::Done)) => progress.released = progress.released.with(node),
-        _ => {}
-    }
+    let Some((node, heard)) = hear(&mut progress.core, parcel, stable, recorder)? else {
+        return Ok(());
+    };
+    progress.remember(node, heard);
     Ok(())
 }
 
 /// Sends again to a node that nudges. A nudge of a node to which nothing was sent in the present wish is
 /// dropped; the last nudge of those that one wish may have ends it, and what is sent to a node that is
 /// gone goes nowhere.
+#[tactic(auto, using(crate::proofs::SentFacts::follows_none))]
 fn take_nudge<R: Recorder, L: Link>(
     alloc: Global,
     progress: &mut Progress,
@@ -46,6 +51,7 @@ fn take_nudge<R: Recorder, L: Link>(
     link: &mut L,
 ) -> Result<(), RunFault>
     requires { Stands (R.own_log recorder.old) (finds stable.now) progress.old.core }
+    ensures sent { OnOk result (SentFollows (R.own_log recorder.old) (R.own_log recorder.new) (L.given link.old) (L.given link.new)) }
     ensures stands { Stands (R.own_log recorder.new) (finds stable.now) progress.new.core }
     ensures phase { phase_of progress.new.core ≡ phase_of progress.old.core }
     ensures visits { visits_of (R.own_log recorder.new) ≡ visits_of (R.own_log recorder.old) }

@@ -1,12 +1,15 @@
 // What a client remembers from post to post.
 
-ghost use Rattle.std.specs.Prelude.{◌≡◌, ◌↔◌, [], IsTrue, false};
+ghost use Rattle.std.specs.Prelude.{◌≡◌, ◌↔◌, ◌||◌, ℕ, [], IsTrue, if◌then◌else◌};
 ghost use Rattle.vote_weights.specs.Sets.{has_node, with_node};
 ghost use Rattle.client_core.specs.Calls.{skipping};
+ghost use Rattle.client_loop.specs.Hearing.{granted_after, released_after};
 ghost use Rattle.client_loop.specs.Standing.{IsAlike};
+ghost use Rattle.client_loop.specs.Nodes.{CanSuffice, IsReleased, Owes, Skips, is_among, is_gone_among};
 
 use client_core::ClientCore;
 use lock_messages::{Mode, NodeId};
+use lock_model::Heard;
 use vote_weights::NodeSet;
 
 /// What a client remembers from post to post: its core, the nodes that are gone, and of the present
@@ -51,6 +54,18 @@ impl Progress {
         self.nudges = 0;
     }
 
+    /// Remembers what was made of a message of the node: a vote that was counted, and a release that was
+    /// answered. Else nothing changes.
+    pub(crate) fn remember(&mut self, node: NodeId, heard: Heard)
+        ensures { self.new ≡ record self.old { granted = granted_after heard node self.old.granted; released = released_after heard node self.old.released } }
+    {
+        match heard {
+            Heard::Counted => self.granted = self.granted.with(node),
+            Heard::Done => self.released = self.released.with(node),
+            Heard::Known | Heard::Busy | Heard::NotMine => {}
+        }
+    }
+
     /// The node is gone: it is skipped.
     pub(crate) fn lose(&mut self, node: NodeId)
         ensures exact { self.new ≡ record self.old { core = skipping self.old.core node; gone = with_node self.old.gone node } }
@@ -62,10 +77,12 @@ impl Progress {
 
     /// Every node of the ballot is gone.
     pub(crate) fn lose_all(&mut self)
+        ensures gone { (n : ℕ) → has_node self.new.gone n ≡ (is_among self.old.core.ballot n || has_node self.old.gone n) }
+        ensures skipped { Skips (is_among self.old.core.ballot) self.old.core self.new.core }
         ensures alike { IsAlike self.old.core self.new.core }
         ensures others { self.new ≡ record self.old { core = self.new.core; gone = self.new.gone } }
     {
-        for number in 1..=self.core.ballot().nodes() {
+        for number in 1..self.core.ballot().nodes() + 1 {
             let Some(node) = NodeId::of(number) else {
                 return;
             };
@@ -73,26 +90,37 @@ impl Progress {
         }
     }
 
+    /// Skips the node where it is gone.
+    fn skip_if_gone(&mut self, node: NodeId)
+        ensures exact { self.new ≡ record self.old { core = (if has_node self.old.gone node then skipping self.old.core node else self.old.core) } }
+        ensures alike { IsAlike self.old.core self.new.core }
+    {
+        if self.gone.has(node) {
+            self.core.skip(node);
+        }
+    }
+
     /// Skips the nodes that are gone.
     pub(crate) fn skip_gone(&mut self)
+        ensures skipped { Skips (is_gone_among self.old.core.ballot self.old.gone) self.old.core self.new.core }
         ensures alike { IsAlike self.old.core self.new.core }
         ensures others { self.new ≡ record self.old { core = self.new.core } }
     {
-        for number in 1..=self.core.ballot().nodes() {
+        for number in 1..self.core.ballot().nodes() + 1 {
             let Some(node) = NodeId::of(number) else {
                 return;
             };
-            if self.gone.has(node) {
-                self.core.skip(node);
-            }
+            self.skip_if_gone(node);
         }
     }
 
     /// Whether the nodes that granted and those that aren't gone are enough.
-    pub(crate) fn can_suffice(&self, mode: Mode) -> bool {
+    pub(crate) fn can_suffice(&self, mode: Mode) -> bool
+        ensures { IsTrue result ↔ CanSuffice self.now.core.ballot mode self.now.granted self.now.gone }
+    {
         let ballot = self.core.ballot();
         let mut possible = self.granted;
-        for number in 1..=ballot.nodes() {
+        for number in 1..ballot.nodes() + 1 {
             let Some(node) = NodeId::of(number) else {
                 return false;
             };
@@ -105,14 +133,16 @@ impl Progress {
 
     /// Whether the node still has to answer the release: it was asked, has not answered and isn't gone.
     pub(crate) fn owes(&self, node: NodeId) -> bool
-        ensures { IsTrue result ↔ (IsTrue (has_node self.now.asked node) × (has_node self.now.released node ≡ false) × (has_node self.now.gone node ≡ false)) }
+        ensures { IsTrue result ↔ Owes self.now.asked self.now.released self.now.gone node }
     {
         self.asked.has(node) && !self.released.has(node) && !self.gone.has(node)
     }
 
     /// Whether each node that was asked has answered the release, or is gone.
-    pub(crate) fn is_released(&self) -> bool {
-        for number in 1..=self.core.ballot().nodes() {
+    pub(crate) fn is_released(&self) -> bool
+        ensures { IsTrue result ↔ IsReleased self.now.core.ballot self.now.asked self.now.released self.now.gone }
+    {
+        for number in 1..self.core.ballot().nodes() + 1 {
             let Some(node) = NodeId::of(number) else {
                 return true;
             };

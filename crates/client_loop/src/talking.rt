@@ -1,7 +1,10 @@
 // What a client says and hears.
 
-ghost use Rattle.std.specs.Prelude.{◌≡◌};
+ghost use Rattle.std.specs.Prelude.{◌≡◌, ◌↔◌, ◌++◌, ◌∷◌, [], IsTrue, IfOk, IfSome, IfNone, OnOk, OnErr};
+ghost use Rattle.client_core.specs.Calls.{node_of};
 ghost use Rattle.client_core.specs.Clients.{phase_of};
+ghost use Rattle.client_loop.specs.Sendings.{sent_of, sending_to, SentFollows};
+ghost use Rattle.client_loop.specs.Hearing.{IsFrameFor, Hears, HearsOf, HearsNothing};
 ghost use Rattle.client_loop.specs.Standing.{Stands};
 ghost use Rattle.client_loop.specs.Visits.{visits_of};
 
@@ -17,6 +20,7 @@ use world_model::{Effect, Event};
 
 /// Logs what the client has to say to the node, and answers it with its number; `None` where there is
 /// nothing: it says the request of its ticket while it asks, the release of its attempt while it rests.
+#[tactic(auto, using(crate::proofs::SentFacts::sayto_sends))]
 fn said<R: Recorder>(
     core: &ClientCore,
     node: NodeId,
@@ -24,20 +28,23 @@ fn said<R: Recorder>(
     recorder: &mut R,
 ) -> Result<Option<(u32, Message)>, RunFault>
     requires { Stands (R.own_log recorder.old) (finds stable.now) core.now }
+    ensures said { IfOk result (λ o. IfSome o (λ p. sent_of (R.own_log recorder.new) ≡ sent_of (R.own_log recorder.old) ++ sending_to node p.0 p.1 ∷ [])) }
+    ensures silent { IfOk result (λ o. IfNone o (R.own_log recorder.new ≡ R.own_log recorder.old)) }
     ensures stands { Stands (R.own_log recorder.new) (finds stable.now) core.now }
     ensures visits { visits_of (R.own_log recorder.new) ≡ visits_of (R.own_log recorder.old) }
 {
-    if core.message_for(node).is_none() {
+    let Some(message) = core.message_for(node) else {
         return Ok(None);
-    }
+    };
     let said = log_plain(recorder, Event::SayTo(core.client(), node), stable)?;
-    let Effect::Sent(number, message) = said else {
+    let Effect::Sent(number, _) = said else {
         unreachable!()
     };
     Ok(Some((number, message)))
 }
 
 /// Says to the node what the client has to say to it, if there is anything, and sends it.
+#[tactic(auto, using(crate::proofs::SentFacts::tell_follows, crate::proofs::SentFacts::follows_none))]
 pub(crate) fn tell<R: Recorder, L: Link>(
     alloc: Global,
     core: &ClientCore,
@@ -47,6 +54,7 @@ pub(crate) fn tell<R: Recorder, L: Link>(
     link: &mut L,
 ) -> Result<(), RunFault>
     requires { Stands (R.own_log recorder.old) (finds stable.now) core.now }
+    ensures sent { OnOk result (SentFollows (R.own_log recorder.old) (R.own_log recorder.new) (L.given link.old) (L.given link.new)) }
     ensures stands { Stands (R.own_log recorder.new) (finds stable.now) core.now }
     ensures visits { visits_of (R.own_log recorder.new) ≡ visits_of (R.own_log recorder.old) }
 {
@@ -66,7 +74,9 @@ pub(crate) fn tell<R: Recorder, L: Link>(
 }
 
 /// The node that a message names.
-fn node_of(message: &Message) -> NodeId {
+fn node_of(message: &Message) -> NodeId
+    ensures { result ≡ node_of message.now }
+{
     match *message {
         Message::Request(node, _) | Message::Grant(node, _) | Message::Busy(node, _) => node,
         Message::Release(node, _, _)
@@ -77,7 +87,9 @@ fn node_of(message: &Message) -> NodeId {
 }
 
 /// Whether the frame is a message for the client.
-fn is_for_client(frame: &[u8], client: ClientId) -> bool {
+fn is_for_client(frame: &[u8], client: ClientId) -> bool
+    ensures { IsTrue result ↔ IsFrameFor frame.now client }
+{
     match decode(frame) {
         Ok(message) => message.is_for_client(client),
         Err(_) => false,
@@ -93,6 +105,9 @@ fn heard<R: Recorder>(
     recorder: &mut R,
 ) -> Result<Option<(Message, Heard)>, RunFault>
     requires { Stands (R.own_log recorder.old) (finds stable.now) core.old }
+    ensures heard { IfOk result (λ o. IfSome o (λ p. Hears number (R.own_log recorder.old) (R.own_log recorder.new) core.old core.new p.0 p.1)) }
+    ensures dropped { IfOk result (λ o. IfNone o (HearsNothing (R.own_log recorder.old) (R.own_log recorder.new) core.old core.new)) }
+    ensures refused { OnErr result (HearsNothing (R.own_log recorder.old) (R.own_log recorder.new) core.old core.new) }
     ensures stands { Stands (R.own_log recorder.new) (finds stable.now) core.new }
     ensures phase { phase_of core.new ≡ phase_of core.old }
     ensures visits { visits_of (R.own_log recorder.new) ≡ visits_of (R.own_log recorder.old) }
@@ -116,6 +131,10 @@ pub(crate) fn hear<R: Recorder>(
     recorder: &mut R,
 ) -> Result<Option<(NodeId, Heard)>, RunFault>
     requires { Stands (R.own_log recorder.old) (finds stable.now) core.old }
+    ensures heard { IfOk result (λ o. IfSome o (λ p. HearsOf parcel.now.number (R.own_log recorder.old) (R.own_log recorder.new) core.old core.new p.0 p.1)) }
+    ensures dropped { IfOk result (λ o. IfNone o (HearsNothing (R.own_log recorder.old) (R.own_log recorder.new) core.old core.new)) }
+    ensures foreign { (IsFrameFor parcel.now.frame core.old.client → ⊥) → result ≡ Ok None }
+    ensures refused { OnErr result (HearsNothing (R.own_log recorder.old) (R.own_log recorder.new) core.old core.new) }
     ensures stands { Stands (R.own_log recorder.new) (finds stable.now) core.new }
     ensures phase { phase_of core.new ≡ phase_of core.old }
     ensures visits { visits_of (R.own_log recorder.new) ≡ visits_of (R.own_log recorder.old) }

@@ -1,0 +1,104 @@
+-- What a client's own log tells of what it sends.
+use Rattle.std.proofs.Common.{◌≡◌, ℕ, Bool, true, false, List, [], ◌∷◌, ◌++◌, Option, None, Some, refl, sym, ap, ◌∙◌, append_assoc, append-nil, length, if◌then◌else◌, map, ◌==◌}
+use Rattle.lock_messages.specs.declared.ids.Actor.TheVariants as actor
+use Rattle.lock_messages.specs.declared.messages.Message.{Message}
+use Rattle.lock_messages.specs.Frames.{frame_of}
+use Rattle.lock_model.specs.Ballots.{Ballot}
+use Rattle.lock_model.specs.ExactHearing.{is_node_of}
+use Rattle.lossy_link.specs.declared.parcels.Sending.{Sending}
+use Rattle.lossy_link.specs.declared.parcels.Sending.TheVariants as sending
+use Rattle.lossy_link.specs.Links.{one_more}
+use Rattle.client_core.specs.declared.phases.State.{State}
+use Rattle.client_core.specs.declared.phases.State.TheVariants.{Idle, Chosen, Asking, Inside}
+use Rattle.client_core.specs.Clients.{Client}
+use Rattle.client_core.specs.Calls.{message_for, message_in}
+use Rattle.world_model.specs.declared.events.Effect.{Effect}
+use Rattle.world_model.specs.declared.events.Effect.TheVariants as effect
+use Rattle.world_model.specs.declared.events.Event.{Event}
+use Rattle.world_model.specs.declared.events.Event.TheVariants as event
+use Rattle.world_model.specs.Locality.{local_part}
+use Rattle.world_model.specs.Parts.{Part, ClientPart, said_by, after_own}
+use Rattle.event_recorders.specs.OwnLogs.{OwnLog, part_now, IsAdded}
+use Rattle.client_loop.specs.Standing.{Stands, part_of}
+use Rattle.client_loop.specs.Sendings.{sent_for, sent_by, sent_of, sending_to, number_of, all_more, SentFollows}
+
+-- one event more sends what it sends from the part before it
+by_one_more : (b : Ballot) (p : Part) (own : List (Event × Effect)) (e : Event) (done : Effect) →
+    sent_by b p (own ++ (e, done) ∷ []) ≡ sent_by b p own ++ sent_for b e done (local_part b p own)
+by_one_more b p [] e done = append-nil (sent_for b e done p)
+by_one_more b p (q ∷ own) e done =
+    ap (λ xs. sent_for b q.0 q.1 p ++ xs) (by_one_more b (after_own b q.0 q.1 p) own e done)
+    ∙ sym (append_assoc (sent_for b q.0 q.1 p) (sent_by b (after_own b q.0 q.1 p) own) (sent_for b e done (local_part b (after_own b q.0 q.1 p) own)))
+
+pub sent_more : (l l' : OwnLog) (e : Event) (done : Effect) → IsAdded l e done l' → sent_of l' ≡ sent_of l ++ sent_for l.ballot e done (part_now l)
+sent_more l l' e done added = ap sent_of added.log ∙ by_one_more l.ballot l.opening l.events e done
+
+-- what a client says to a node is the message that its core has for it
+says_in : (b : Ballot) (c n attempt : ℕ) (s : State) (is_node none : Bool) (m : Message) → is_node_of (length b.votes) n ≡ is_node → (attempt == 0) ≡ none →
+    (if is_node then message_in n c attempt s else None) ≡ Some m →
+    said_by b (event.SayTo c n) (ClientPart (part_of (record { client = c; ballot = b; attempt = attempt; state = s }))) ≡ m ∷ []
+says_in b c n attempt s false none m node zero_is has = cc
+says_in b c n attempt Idle true true m node zero_is has =
+    let none = rw zero_is at has in cc
+says_in b c n attempt Idle true false m node zero_is has =
+    let some = rw zero_is at has in
+    rw (node, zero_is) cc
+says_in b c n attempt (Chosen t) true none m node zero_is has = cc
+says_in b c n attempt (Asking t granted skipped) true none m node zero_is has = rw node cc
+says_in b c n attempt (Inside t granted skipped) true none m node zero_is has = rw node cc
+
+pub says_message : (c : Client) (n : ℕ) (m : Message) → message_for c n ≡ Some m → said_by c.ballot (event.SayTo c.client n) (ClientPart (part_of c)) ≡ m ∷ []
+says_message c n m has = says_in c.ballot c.client n c.attempt c.state (is_node_of (length c.ballot.votes) n) (c.attempt == 0) m refl refl has
+
+-- a SayTo sends its message
+pub sayto_sends : (l l' : OwnLog) (finds : List (List ℕ)) (c : Client) (who n number : ℕ) (m said : Message) (done : Effect) → Stands l finds c → who ≡ c.client → message_for c n ≡ Some m →
+    done ≡ effect.Sent number said → IsAdded l (event.SayTo who n) done l' → sent_of l' ≡ sent_of l ++ sending_to n number m ∷ []
+sayto_sends l l' finds c who n number m said done s same has is added =
+    let says : said_by l.ballot (event.SayTo who n) (part_now l) ≡ m ∷ [] =
+    ap (λ (p : Part). said_by l.ballot (event.SayTo who n) p) s.part ∙ ap (λ (b : Ballot). said_by b (event.SayTo who n) (ClientPart (part_of c))) s.ballot
+    ∙ ap (λ (k : ℕ). said_by c.ballot (event.SayTo k n) (ClientPart (part_of c))) same ∙ says_message c n m has in
+    sent_more l l' (event.SayTo who n) done added
+    ∙ ap (λ (xs : List Message). sent_of l ++ map (sending_to n (number_of done)) xs) says
+    ∙ ap (λ (d : Effect). sent_of l ++ sending_to n (number_of d) m ∷ []) is
+
+more_and_more : (before : Option (List Sending)) (xs ys : List Sending) → all_more (all_more before xs) ys ≡ all_more before (xs ++ ys)
+more_and_more None xs ys = refl
+more_and_more (Some zs) xs ys = ap Some (append_assoc zs xs ys)
+
+one_is_more : (before : Option (List Sending)) (x : Sending) → one_more before x ≡ all_more before (x ∷ [])
+one_is_more None x = refl
+one_is_more (Some zs) x = refl
+
+none_more : (given : Option (List Sending)) → all_more given [] ≡ given
+none_more None = refl
+none_more (Some ys) = ap Some (append-nil ys)
+
+-- one more in the log, and one more over the link
+pub one_follows : (l l' : OwnLog) (x : Sending) (given given' : Option (List Sending)) → sent_of l' ≡ sent_of l ++ x ∷ [] → given' ≡ one_more given x → SentFollows l l' given given'
+one_follows l l' x given given' so told = record {
+  follows = λ before was.
+      told ∙ one_is_more given x ∙ ap (λ (g : Option (List Sending)). all_more g (x ∷ [])) was ∙ more_and_more before (sent_of l) (x ∷ []) ∙ ap (all_more before) (sym so);
+}
+
+-- a message that was said went as its frame
+pub tell_follows : (l l' : OwnLog) (n number : ℕ) (m : Message) (frame : List ℕ) (given given' : Option (List Sending)) → sent_of l' ≡ sent_of l ++ sending_to n number m ∷ [] →
+    frame ≡ frame_of m → given' ≡ one_more given (sending.Sent (actor.Node n) (record { number = number; frame = frame })) → SentFollows l l' given given'
+tell_follows l l' n number m frame given given' so spelled told =
+    one_follows l l' (sending_to n number m) given given' so
+    (told ∙ ap (λ (bytes : List ℕ). one_more given (sending.Sent (actor.Node n) (record { number = number; frame = bytes }))) spelled)
+
+-- nothing more in either
+pub follows_none : (l l' : OwnLog) (given : Option (List Sending)) → sent_of l' ≡ sent_of l → SentFollows l l' given given
+follows_none l l' given same = record { follows = λ before was. was ∙ ap (all_more before) (sym same) }
+
+-- one after the other
+pub follows_on : (l m l' : OwnLog) (given between given' : Option (List Sending)) → SentFollows l m given between → SentFollows m l' between given' → SentFollows l l' given given'
+follows_on l m l' given between given' first second = record { follows = λ before was. second.follows before (first.follows before was) }
+
+-- what was sent after a log that sends no more follows from it too
+pub follows_from : (l m l' : OwnLog) (given given' : Option (List Sending)) → sent_of m ≡ sent_of l → SentFollows m l' given given' → SentFollows l l' given given'
+follows_from l m l' given given' same later = record { follows = λ before was. later.follows before (was ∙ ap (all_more before) (sym same)) }
+
+-- on top of what was there before a log that sends nothing
+pub all_told : (l l' : OwnLog) (given given' : Option (List Sending)) → sent_of l ≡ [] → SentFollows l l' given given' → given' ≡ all_more given (sent_of l')
+all_told l l' given given' nothing follows = follows.follows given (sym (ap (all_more given) nothing ∙ none_more given))

@@ -1,0 +1,56 @@
+-- What a client sends.
+use Rattle.std.specs.Prelude.{◌≡◌, ℕ, List, [], ◌∷◌, ◌++◌, map, Option, Some, None}
+use Rattle.lock_messages.specs.declared.ids.Actor.TheVariants as actor
+use Rattle.lock_messages.specs.declared.messages.Message.{Message}
+use Rattle.lock_messages.specs.Frames.{frame_of}
+use Rattle.lock_model.specs.Ballots.{Ballot}
+use Rattle.lossy_link.specs.declared.parcels.Sending.{Sending}
+use Rattle.lossy_link.specs.declared.parcels.Sending.TheVariants as sending
+use Rattle.world_model.specs.declared.events.Effect.{Effect}
+use Rattle.world_model.specs.declared.events.Effect.TheVariants as effect
+use Rattle.world_model.specs.declared.events.Event.{Event}
+use Rattle.world_model.specs.declared.events.Event.TheVariants as event
+use Rattle.world_model.specs.Parts.{Part, said_by, after_own}
+use Rattle.event_recorders.specs.OwnLogs.{OwnLog}
+
+-- a message to a node, as its frame and under its number
+abbrev pub sending_to : ℕ → ℕ → Message → Sending
+sending_to n number m = sending.Sent (actor.Node n) (record { number = number; frame = frame_of m })
+
+-- the number under which a message was said
+abbrev pub number_of : Effect → ℕ
+number_of (effect.Sent number m) = number
+number_of _ = 0
+
+-- What a client sends for an event of its own: at a SayTo what its part says there, to the node.
+abbrev pub sent_for : Ballot → Event → Effect → Part → List Sending
+sent_for b (event.SayTo c n) done p = map (sending_to n (number_of done)) (said_by b (event.SayTo c n) p)
+sent_for b (event.Begin c m x) done p = []
+sent_for b (event.Try who) done p = []
+sent_for b (event.Kept who) done p = []
+sent_for b (event.Say n) done p = []
+sent_for b (event.Take n k) done p = []
+sent_for b (event.Hear c k) done p = []
+sent_for b (event.Enter c) done p = []
+sent_for b (event.Leave c) done p = []
+sent_for b (event.Fall who) done p = []
+sent_for b (event.Rise who age) done p = []
+
+-- the same for a list of its events, from a part on
+abbrev pub sent_by : Ballot → Part → List (Event × Effect) → List Sending
+sent_by b p [] = []
+sent_by b p (q ∷ own) = sent_for b q.0 q.1 p ++ sent_by b (after_own b q.0 q.1 p) own
+
+-- what a client has sent, as its own log tells it
+abbrev pub sent_of : OwnLog → List Sending
+sent_of l = sent_by l.ballot l.opening l.events
+
+-- the list longer by these, where it is known
+abbrev pub all_more : {X : Type 0} → Option (List X) → List X → Option (List X)
+all_more None more = None
+all_more (Some xs) more = Some (xs ++ more)
+
+-- Where what was given to a link before is what one log tells, on top of what was there, what was given
+-- since is what the other log tells.
+pub record SentFollows (l l' : OwnLog) (given given' : Option (List Sending)) : Type 0 where
+  pub follows : (before : Option (List Sending)) → given ≡ all_more before (sent_of l) → given' ≡ all_more before (sent_of l')
