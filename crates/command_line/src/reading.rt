@@ -154,10 +154,13 @@ order, and leaves a resource as soon as it is inside. `lose`, `twice`, `late` an
 weather in which messages are lost, repeated and delayed. What threads come to may differ from run
 to run.
 
+A run ends once each client has ended. Where clients wait for what can't come any more, it ends once
+every thread waits for a message and none is on its way: who waits for votes ends by 912 then.
+
 A line as `c2 fault 913` tells of a node or a client that ended before its work was done: 911 its
-record failed, 912 too few nodes are left, 913 it gave up after it was told 1000 times in one wish to
-send again, 914 no memory or no thread, 915 the journal or the list of messages is full, 916 no
-attempts are left.
+record failed, 912 too few nodes are left or nothing can come any more, 913 it gave up after it was
+told 1000 times in one wish to send again, 914 no memory or no thread, 915 the journal or the list of
+messages is full, 916 no attempts are left.
 
 The status is 0; 1 where such a line stands, with `--journal` where it would, or where `fault N`
 stands on standard error (931 the input failed, 932 the output, 933 no memory or no thread); 2 where

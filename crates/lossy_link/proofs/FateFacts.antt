@@ -4,8 +4,8 @@ use Rattle.std.proofs.Math.Nat.{mod-eq_of_lt}
 use Rattle.std.proofs.lemmas.Bool.Decides.{nat_tests}
 use Rattle.lossy_link.specs.declared.fates.Fate.{Fate}
 use Rattle.lossy_link.specs.declared.fates.Fate.TheVariants.{Lost, Twice, Late, Plain}
-use Rattle.lossy_link.specs.Weathers.{Odds, AreOdds, fate_of, after_fate}
-use Rattle.lossy_link.specs.Laws.{FatesFollowWords, is_lost, is_twice, is_late, passing, OddsAreThousandths, OddsCount}
+use Rattle.lossy_link.specs.Weathers.{Odds, fate_of, after_fate}
+use Rattle.lossy_link.specs.Laws.{FatesFollowWords, is_lost, is_twice, is_late, passing, OddsCount}
 
 pub fates_follow_words : FatesFollowWords
 fates_follow_words w zero = refl

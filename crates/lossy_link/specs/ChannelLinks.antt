@@ -1,20 +1,23 @@
 -- What a link between threads knows of itself. What its channels bring, nobody knows.
-use Rattle.std.specs.Prelude.{◌≡◌, ℕ, ◌+◌, ◌-◌, nat_lt, if◌then◌else◌, List, [], ◌∷◌, ◌++◌, Option, Some, None, Result, Ok}
+use Rattle.std.specs.Prelude.{◌≡◌, ℕ, ◌+◌, ◌-◌, nat_lt, if◌then◌else◌, Bool, true, false, List, [], ◌∷◌, ◌++◌, Option, Some, None, Result, Ok, Err}
 use Rattle.lock_messages.specs.declared.ids.Actor.{Actor}
 use Rattle.lock_messages.specs.declared.ids.Actor.TheVariants.{Node, Client}
 use Rattle.lossy_link.specs.declared.parcels.Parcel.{Parcel}
 use Rattle.lossy_link.specs.declared.parcels.Post.{Post}
 use Rattle.lossy_link.specs.declared.faults.LinkFault.{LinkFault}
+use Rattle.lossy_link.specs.declared.faults.LinkFault.TheVariants.{Closed}
 use Rattle.lossy_link.specs.declared.passages.Mail.{Mail}
 use Rattle.lossy_link.specs.Weathers.{Climate, climate_at, next_fate, after_fate}
 use Rattle.lossy_link.specs.Passages.{same_actor, mail_of, handed, held_after}
 
--- a link: whose it is, its weather, the late parcel that it holds, and the posts that wait in it for its own actor
+-- a link: whose it is, its weather, the late parcel that it holds, the posts that wait in it for its own
+-- actor, and whether it has told it that nothing comes any more
 pub record Channeled : Type 0 where
   pub actor : Actor
   pub climate : Climate
   pub held : Option Mail
   pub own : List Post
+  pub closed : Bool
 
 -- the actor at a place: nodes first
 abbrev pub actor_at : ℕ → ℕ → Actor
@@ -29,7 +32,7 @@ place_among (Client c) (Client d) = None
 
 -- the link at a place, before anything was sent
 abbrev pub link_at : ℕ → Climate → ℕ → Channeled
-link_at nodes w place = record { actor = actor_at nodes place; climate = climate_at w place; held = None; own = [] }
+link_at nodes w place = record { actor = actor_at nodes place; climate = climate_at w place; held = None; own = []; closed = false }
 
 -- the posts of these mails that are for the actor itself
 abbrev pub own_posts : Actor → List Mail → List Post
@@ -38,7 +41,7 @@ own_posts actor (m ∷ ms) = if same_actor m.to actor then m.post ∷ own_posts 
 
 -- the link after these mails were handed over
 abbrev pub after_handing : Channeled → List Mail → Channeled
-after_handing link mails = record { actor = link.actor; climate = link.climate; held = link.held; own = link.own ++ own_posts link.actor mails }
+after_handing link mails = record { actor = link.actor; climate = link.climate; held = link.held; own = link.own ++ own_posts link.actor mails; closed = link.closed }
 
 -- the link after a parcel was sent over it
 abbrev pub after_sending : Channeled → Actor → Parcel → Channeled
@@ -48,6 +51,7 @@ after_sending link to parcel =
       climate = after_fate link.climate;
       held = held_after fate (mail_of to parcel);
       own = link.own ++ own_posts link.actor (handed fate link.actor to parcel link.held);
+      closed = link.closed;
     }
 
 -- the link after a post was told to every client: a client's own link tells its own client
@@ -56,9 +60,15 @@ told_own (Node n) post = []
 told_own (Client c) post = post ∷ []
 
 abbrev pub after_telling : Channeled → Post → Channeled
-after_telling link post = record { actor = link.actor; climate = link.climate; held = link.held; own = link.own ++ told_own link.actor post }
+after_telling link post = record { actor = link.actor; climate = link.climate; held = link.held; own = link.own ++ told_own link.actor post; closed = link.closed }
 
--- posts that wait in the link come first; where none waits, any post may come, or none
-abbrev pub Receives : List Post → Result Post LinkFault → List Post → Type 0
-Receives [] answer own = own ≡ []
-Receives (post ∷ posts) answer own = (answer ≡ Ok post) × (own ≡ posts)
+-- what comes over the channel: any post or none and, once none has come, none
+abbrev pub Comes : Bool → Result Post LinkFault → Bool → Type 0
+Comes true answer closed = (answer ≡ Err Closed) × (closed ≡ true)
+Comes false (Ok post) closed = closed ≡ false
+Comes false (Err fault) closed = closed ≡ true
+
+-- posts that wait in the link come first, and then what comes over the channel
+abbrev pub Receives : List Post → Bool → Result Post LinkFault → List Post → Bool → Type 0
+Receives [] before answer own closed = (own ≡ []) × Comes before answer closed
+Receives (post ∷ posts) before answer own closed = (answer ≡ Ok post) × (own ≡ posts) × (closed ≡ before)

@@ -1,9 +1,9 @@
 -- What links say of themselves.
-use Rattle.std.specs.Prelude.{◌≡◌, ℕ, List, [], ◌∷◌, ◌++◌, Option, Some, None, Result, Ok, Err}
+use Rattle.std.specs.Prelude.{◌≡◌, List, [], ◌∷◌, ◌++◌, Option, Some, None, Result, Ok, Err}
 use Rattle.lossy_link.specs.declared.parcels.Post.{Post}
 use Rattle.lossy_link.specs.declared.parcels.Sending.{Sending}
 use Rattle.lossy_link.specs.declared.faults.LinkFault.{LinkFault}
-use Rattle.lossy_link.specs.declared.faults.LinkFault.TheVariants.{Closed, Memory}
+use Rattle.lossy_link.specs.declared.faults.LinkFault.TheVariants.{Closed}
 
 -- a link that knows what comes, and remembers what was given to it
 pub record Listed : Type 0 where

@@ -1,5 +1,5 @@
 -- What a link hands over for each parcel, by its fate.
-use Rattle.std.specs.Prelude.{ℕ, ◌==◌, Bool, false, if◌then◌else◌, List, [], ◌∷◌, ◌++◌, Option, Some, None, option_to_list}
+use Rattle.std.specs.Prelude.{ℕ, ◌==◌, Bool, false, List, [], ◌∷◌, ◌++◌, Option, Some, None, option_to_list}
 use Rattle.lock_messages.specs.declared.ids.Actor.{Actor}
 use Rattle.lock_messages.specs.declared.ids.Actor.TheVariants.{Node, Client}
 use Rattle.lossy_link.specs.declared.fates.Fate.{Fate}

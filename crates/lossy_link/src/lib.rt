@@ -11,7 +11,8 @@
 //! made of, in order, and lists all that was sent and told; and that no call answers another fault
 //! than it tells. It promises nothing of what a `ChannelLink` brings from others: of a post that is
 //! received only its type is known, and any parcel may be missing, come again or come in another
-//! order. That parcels come as their fates say is tested.
+//! order. That parcels come as their fates say is tested, and so is that links which have come to rest
+//! are closed: once every actor waits for a post and none is on its way, `receive` answers 902.
 //!
 //! Only `receive` of a `ChannelLink` waits for another actor. The crate stands on `lock_messages`,
 //! `bytes` for frames that several links share, `crossbeam_channel` for inboxes and `rand_pcg` for the
@@ -26,6 +27,7 @@ mod links;
 mod list_links;
 mod parcels;
 mod passages;
+mod rests;
 mod weathers;
 
 pub use channel_links::ChannelLink;

@@ -3,7 +3,7 @@
 
 use crate::failures::{Failure, Outcome, check, client, node, refused};
 use bytes::Bytes;
-use lock_messages::Actor;
+use lock_messages::{Actor, NodeId};
 use lossy_link::{ChannelLink, Link, LinkFault, ListLink, Parcel, Post, Weather};
 use std::alloc::Global;
 use std::sync::Wait;
@@ -47,7 +47,7 @@ fn tell_all_over_a_list(rt: HostRuntime) -> Outcome {
 }
 
 /// The links of one node and two clients, the node's first, under this weather.
-fn links<R: Copy>(rt: R, alloc: Global, late: u16) -> Result<Vec<ChannelLink<R>>, Failure> {
+fn links<R: Wait + Copy>(rt: R, alloc: Global, late: u16) -> Result<Vec<ChannelLink<R>>, Failure> {
     let Ok(weather) = Weather::of(1, 0, 0, late) else {
         return Err(Failure::Wrong);
     };
@@ -104,4 +104,50 @@ fn tell_all_over_channels(rt: HostRuntime) -> Outcome {
     };
     of_node.tell_all(Post::Gone(one))?;
     brings(&mut links, &Post::Gone(one))
+}
+
+/// Tells all a few times, so that inboxes have to grow: how many posts were told, and how it ended.
+fn tell_often<L: Link>(of_node: &mut L, node: NodeId) -> (usize, Outcome) {
+    let mut told = 0usize;
+    let mut ended = Ok(());
+    for _ in 0..9 {
+        match of_node.tell_all(Post::Gone(node)) {
+            Ok(()) => told = told.saturating_add(2),
+            // one request at most is refused, so the other client is told
+            Err(fault) => {
+                told = told.saturating_add(1);
+                ended = Err(fault.into());
+            }
+        }
+    }
+    (told, ended)
+}
+
+/// How many posts come over a link until it is closed.
+fn posts_over<L: Link>(link: &mut L) -> Result<usize, Failure> {
+    for count in 0..20usize {
+        if link.receive().is_err() {
+            return Ok(count);
+        }
+    }
+    Err(Failure::Wrong)
+}
+
+/// Behind an inbox that has no memory for a post the next client is told.
+#[test]
+fn tell_all_behind_a_refusal(rt: HostRuntime) -> Outcome {
+    let one = node(1)?;
+    let mut links = links(rt, rt.alloc(), 0)?;
+    let (Some(mut second), Some(mut first), Some(mut of_node)) = (
+        links.pop(),
+        links.pop(),
+        links.pop(),
+    ) else {
+        return Err(Failure::Wrong);
+    };
+    let (told, ended) = tell_often(&mut of_node, one);
+    drop(of_node);
+    let came = posts_over(&mut first)?.saturating_add(posts_over(&mut second)?);
+    check(came == told)?;
+    ended
 }

@@ -16,6 +16,7 @@ use lock_messages::{Actor, ClientId, NodeId};
 use lossy_link::ChannelLink;
 use stable_record::StableRecord;
 use std::alloc::Global;
+use std::sync::Wait;
 use vote_weights::Ballot;
 
 /// The berth of an actor of the book's world that has none yet; of another one there is none.
@@ -32,7 +33,7 @@ fn berth_of(book: &mut Book, actor: Actor) -> Result<Berth, RunFault>
 
 /// The task of a node.
 #[tactic(auto, using(crate::proofs::Ready::node_ready))]
-fn node_task<R: Copy>(
+fn node_task<R: Wait + Copy>(
     book: &mut Book,
     node: NodeId,
     stable: Box<dyn StableRecord + Send>,
@@ -72,7 +73,7 @@ fn wishes_of(alloc: Global, client: ClientId, wishes: &[Wish]) -> Result<Vec<Wis
 }
 
 /// The task of a client, with all its own wishes among these.
-fn client_task<R: Copy>(
+fn client_task<R: Wait + Copy>(
     alloc: Global,
     book: &mut Book,
     client: ClientId,
@@ -105,7 +106,7 @@ fn client_task<R: Copy>(
 }
 
 /// The tasks of all nodes, in order.
-pub(crate) fn node_tasks<R: Copy>(
+pub(crate) fn node_tasks<R: Wait + Copy>(
     alloc: Global,
     book: &mut Book,
     policies: Vec<Box<dyn Admission + Send>>,
@@ -143,7 +144,7 @@ pub(crate) fn node_tasks<R: Copy>(
 }
 
 /// The tasks of all clients, in order, each with all its own wishes.
-pub(crate) fn client_tasks<R: Copy>(
+pub(crate) fn client_tasks<R: Wait + Copy>(
     alloc: Global,
     book: &mut Book,
     ballot: Ballot,

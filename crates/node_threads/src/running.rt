@@ -64,13 +64,13 @@ impl Logs for SharedBook {
 
 /// What all threads are given.
 #[derive(Drop)]
-struct Tasks<R: Copy> {
+struct Tasks<R: Wait + Copy> {
     nodes: Vec<NodeTask<R>>,
     clients: Vec<ClientTask<R>>,
 }
 
 /// The links of so many nodes, and of so many clients, each with the weather at its own place, nodes first.
-fn links_of<R: Copy>(
+fn links_of<R: Wait + Copy>(
     rt: R,
     alloc: Global,
     nodes: usize,
@@ -96,7 +96,7 @@ fn links_of<R: Copy>(
 /// The tasks of all actors of the book's world, one for each and in order, each with its berth and its link,
 /// a client with all its own wishes.
 #[tactic(auto, using(crate::proofs::Openings::ready_nodes, crate::proofs::Openings::ready_clients))]
-fn tasks_of<R: Copy>(
+fn tasks_of<R: Wait + Copy>(
     rt: R,
     alloc: Global,
     ballot: Ballot,
@@ -154,9 +154,12 @@ fn tasks_of<R: Copy>(
 /// `MAX_WISHES`.
 ///
 /// The only error is that memory was refused or a thread couldn't be started (914). Then the threads that
-/// were started have ended, and what was handed in is dropped. It waits for all threads; that they end is
-/// not promised. A node tells all clients when it ends by a fault, but where memory is refused for that, a
-/// client may wait for it for ever.
+/// were started have ended, and what was handed in is dropped.
+///
+/// It waits for all threads. They have ended once every client has; or, where clients wait for what can't
+/// come any more, once every thread that has not ended waits at its link and nothing lies in an inbox: then
+/// nodes end without a fault, and clients that wait for votes by 912. So a run ends wherever its records and its gate do.
+/// That is tested and not proved, since no contract sees an inbox.
 pub fn run_all<R: Threads + Wait + Copy + Send, G: Gate + Sync>(
     rt: R,
     alloc: Global,

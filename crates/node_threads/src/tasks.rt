@@ -18,7 +18,7 @@ use vote_weights::Ballot;
 
 /// What a node's thread is given.
 #[derive(Drop)]
-pub(crate) struct NodeTask<R: Copy> {
+pub(crate) struct NodeTask<R: Wait + Copy> {
     pub(crate) node: NodeId,
     pub(crate) berth: Berth,
     pub(crate) stable: Box<dyn StableRecord + Send>,
@@ -28,7 +28,7 @@ pub(crate) struct NodeTask<R: Copy> {
 
 /// What a client's thread is given.
 #[derive(Drop)]
-pub(crate) struct ClientTask<R: Copy> {
+pub(crate) struct ClientTask<R: Wait + Copy> {
     pub(crate) client: ClientId,
     pub(crate) ballot: Ballot,
     pub(crate) wishes: Vec<Wish>,

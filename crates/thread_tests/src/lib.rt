@@ -11,4 +11,6 @@ mod links;
 #[cfg(test)]
 mod links_of_threads;
 #[cfg(test)]
+mod rests;
+#[cfg(test)]
 mod weathers;

@@ -8,15 +8,15 @@ use std::alloc::Global;
 use std::sync::Wait;
 use std::test::Fail;
 
-fn node(number: u8) -> Result<NodeId, Fail> {
+pub(crate) fn node(number: u8) -> Result<NodeId, Fail> {
     Ok(NodeId::of(number).ok_or("wrong: no node")?)
 }
 
-fn client(number: u32) -> Result<ClientId, Fail> {
+pub(crate) fn client(number: u32) -> Result<ClientId, Fail> {
     Ok(ClientId::of(number).ok_or("wrong: no client")?)
 }
 
-fn parcel(number: u32) -> Parcel {
+pub(crate) fn parcel(number: u32) -> Parcel {
     Parcel {
         number,
         frame: Bytes::from_static(b"frame"),
@@ -24,7 +24,7 @@ fn parcel(number: u32) -> Parcel {
 }
 
 /// A post by a number: a parcel by its own, a nudge by 100 and its node, an end by 200 and its node.
-fn number_of(post: &Post) -> u32 {
+pub(crate) fn number_of(post: &Post) -> u32 {
     match post {
         Post::Parcel(parcel) => parcel.number,
         Post::Nudge(node) => 100 + u32::from(node.get()),
@@ -44,7 +44,7 @@ fn received<L: Link>(alloc: Global, link: &mut L) -> Result<Vec<u32>, Fail> {
     Err("wrong: it is never closed".into())
 }
 
-fn same_numbers(found: &[u32], want: &[u32], what: &str) -> Result<(), Fail> {
+pub(crate) fn same_numbers(found: &[u32], want: &[u32], what: &str) -> Result<(), Fail> {
     if found == want {
         Ok(())
     } else {

@@ -5,6 +5,11 @@ use Rattle.node_threads.proofs.Lists.{first_client, rest_clients, one_fewer, all
 use Rattle.node_threads.proofs.Places.{one_more_named, one_more_linked, all_named, all_linked}
 use Rattle.node_threads.proofs.berths.client_tasks.Goals as goal
 
+pub unreachable-requires : goal.unreachable-requires
+unreachable-requires g c =
+    let many : c.len-count.result ≡ length c.args.records.items = c.len-count.ensures ∙ c.args.records.ok.0 in
+    c.in_default.ensures (omega arith, omega (arith, many, c.loop-place-test.true, c.requires.few))
+
 pub client_task-requires-clause-ready : goal.client_task-requires-clause-ready
 client_task-requires-clause-ready g c =
     let some : 0 < length c.loop-place.records.items = omega (arith, c.loop-place-test.true, c.loop-place.invariant.records) in

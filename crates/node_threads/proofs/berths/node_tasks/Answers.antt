@@ -5,6 +5,11 @@ use Rattle.node_threads.proofs.Lists.{first_node, rest_nodes, one_fewer, all_and
 use Rattle.node_threads.proofs.Places.{one_more_named, one_more_linked, all_named, all_linked}
 use Rattle.node_threads.proofs.berths.node_tasks.Goals as goal
 
+pub unreachable-requires : goal.unreachable-requires
+unreachable-requires g c =
+    let many : c.len-count.result ≡ length c.args.policies.items = c.len-count.ensures ∙ c.args.policies.ok.0 in
+    c.in_default.ensures (omega arith, omega (arith, many, c.loop-place-test.true, c.requires.few))
+
 pub node_task-requires : goal.node_task-requires
 node_task-requires g c =
     let some : 0 < length c.loop-place.policies.items = omega (arith, c.loop-place-test.true, c.loop-place.invariant.policies) in

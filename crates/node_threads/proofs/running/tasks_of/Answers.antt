@@ -1,11 +1,11 @@
 use Rattle.std.proofs.Common.{◌≡◌, ◌+◌, ◌-◌, ◌≤◌, length, map, sym, ◌∙◌, ap, subst, arith}
 use Rattle.std.specs.List.{All, range_with_len}
-use Rattle.lock_messages.specs.declared.ids.TheConstants.{MAX_CLIENTS}
+use Rattle.lock_messages.specs.declared.ids.TheConstants.{MAX_CLIENTS, MAX_NODES}
 use Rattle.lossy_link.specs.ChannelLinks.{link_at}
 use Rattle.node_threads.specs.Actors.{AreClientsReady}
 use Rattle.node_threads.specs.Conditions.{finds_station, finds_attempt}
 use Rattle.node_threads.specs.Tasks.{IsNodeTask, IsClientTask}
-use Rattle.node_threads.proofs.Openings.{ready_nodes, ready_clients, front, back, as_many, as_many_both, at_stations, few_attempts, many_nodes, many_clients}
+use Rattle.node_threads.proofs.Openings.{ready_nodes, ready_clients, front, back, as_many, as_many_both, at_stations, few_stations, few_attempts, many_nodes, many_clients}
 use Rattle.node_threads.proofs.Places.{joined_links}
 use Rattle.node_threads.proofs.running.tasks_of.Goals as goal
 
@@ -16,6 +16,12 @@ split_off-requires g c =
     let all : length c.args.records.items ≡ length may.stations + length may.attempts =
     as_many_both (λ r. (goal.StableRecord-dyn g (r.vtable, r.value)).finds r.value) finds_station finds_attempt c.args.records.items may.stations may.attempts may.records in
     omega (arith, count, all, c.args.policies.ok, c.args.records.ok, c.len-count.ensures)
+
+pub node_tasks-requires-clause-few : goal.node_tasks-requires-clause-few
+node_tasks-requires-clause-few g c =
+    let may = c.requires.may in
+    let count : length c.args.policies.items ≡ length may.stations = as_many (λ p. (goal.Admission-dyn g (p.vtable, p.value)).problem_of p.value) (λ s. s.problem) c.args.policies.items may.stations may.policies in
+    subst (λ n. n ≤ MAX_NODES) (sym count) (few_stations c.args.book.now.opening c.args.ballot may.stations may.attempts may.world c.requires.keeps)
 
 pub node_tasks-requires-clause-ready : goal.node_tasks-requires-clause-ready
 node_tasks-requires-clause-ready g c =

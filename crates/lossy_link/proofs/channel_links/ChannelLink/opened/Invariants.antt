@@ -1,4 +1,4 @@
-use Rattle.std.proofs.Common.{◌≡◌, ◌+◌, ◌≤◌, map, vec_len}
+use Rattle.std.proofs.Common.{◌≡◌, ◌+◌, map, vec_len}
 use Rattle.std.specs.List.{range_with_len}
 use Rattle.std.specs.Vec.Iter.{into_iter_len}
 use Rattle.lossy_link.specs.ChannelLinks.{link_at}
