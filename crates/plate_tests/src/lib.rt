@@ -5,6 +5,10 @@
 #![tactic(auto)]
 
 #[cfg(test)]
+mod listed;
+#[cfg(test)]
 mod outcomes;
 #[cfg(test)]
 mod plates;
+#[cfg(test)]
+mod stops;

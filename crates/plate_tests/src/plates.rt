@@ -2,9 +2,13 @@
 
 use crate::outcomes::{Outcome, check};
 use lossy_link::{Fate, Weather, WeatherFault};
-use slot_record::{LEAST_PLATE_LEN, MAX_SEQUENCE, MemoryPlate, Plate, SlotFault, SlotRecord};
+use slot_record::{MemoryPlate, Plate, SlotFault, SlotRecord};
 use stable_record::{MAX_RECORD_LEN, RecordFault, StableRecord};
 use std::alloc::Global;
+
+/// The least bytes of a plate that has a record, by number: a constant of the code would follow whatever
+/// stands there.
+const LEAST_PLATE_LEN: u32 = 120_026;
 
 /// The device calls of `format`, and of `open`.
 const FORMAT_CALLS: u32 = 7;
@@ -226,7 +230,7 @@ const SLOT_RULE: [(Head, Head, u8); 11] = [
     ((1, 3, 1), (1, 3, 1), b'X'),
     ((2, 1, 1), (255, 2, 1), b'-'),
     ((1, 0, 1), (1, 0, 1), b'-'),
-    ((1, MAX_SEQUENCE, 1), (1, 1_000_000_000_001, 1), b'X'),
+    ((1, 1_000_000_000_000, 1), (1, 1_000_000_000_001, 1), b'X'),
     ((1, 1, 60_001), (0, 1, 1), b'-'),
     ((1, 1, 60_000), (1, 2, 60_001), b'X'),
     ((1, 1, 1), (1, 2, 60_000), b'Y'),
@@ -244,9 +248,18 @@ fn which_slot_has_the_record(rt: HostRuntime) -> Outcome {
     Ok(())
 }
 
+/// The keep before the last sequence takes it, and its record is found.
+fn keeps_the_last(alloc: Global) -> Option<bool> {
+    let plate = plate_of_slots(alloc, (1, 999_999_999_999, 1), (0, 0, 0))?;
+    let (mut record, _) = SlotRecord::open(alloc, plate).ok()?;
+    record.keep(b"A").ok()?;
+    let spent = record.keep(b"B") == Err(RecordFault::Spent);
+    Some(spent && found_after(alloc, &record.into_plate(), 1)? == b'A')
+}
+
 /// A keep on a plate whose sequence is spent calls no device: not even one that would fail.
 fn keeps_nothing_more(alloc: Global) -> Option<bool> {
-    let mut plate = plate_of_slots(alloc, (1, MAX_SEQUENCE, 1), (0, 0, 0))?;
+    let mut plate = plate_of_slots(alloc, (1, 1_000_000_000_000, 1), (0, 0, 0))?;
     plate.fuse(OPEN_CALLS + 1);
     let (mut record, _) = SlotRecord::open(alloc, plate).ok()?;
     let spent = record.keep(b"A") == Err(RecordFault::Spent);
@@ -256,7 +269,8 @@ fn keeps_nothing_more(alloc: Global) -> Option<bool> {
 
 #[test]
 fn spent_sequence(rt: HostRuntime) -> Outcome {
-    check(keeps_nothing_more(rt.alloc()), 0)
+    check(keeps_nothing_more(rt.alloc()), 0)?;
+    check(keeps_the_last(rt.alloc()), 1)
 }
 
 /// Whether a plate of this size refuses a body of this length with the fault of this number; with 0
