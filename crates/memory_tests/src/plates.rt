@@ -21,7 +21,11 @@ fn lost<T>(fault: SlotFault, failures: u64) -> Result<T, Failure> {
 }
 
 fn formatted(alloc: Global) -> Result<SlotRecord<MemoryPlate>, Failure> {
-    match SlotRecord::format(alloc, plate(alloc)?, &[1]) {
+    formatted_with(alloc, &[1])
+}
+
+fn formatted_with(alloc: Global, bytes: &[u8]) -> Result<SlotRecord<MemoryPlate>, Failure> {
+    match SlotRecord::format(alloc, plate(alloc)?, bytes) {
         Ok(record) => Ok(record),
         Err((plate, fault)) => lost(fault, plate.failures()),
     }
@@ -62,14 +66,29 @@ fn reopen_a_record_on_a_plate(rt: HostRuntime) -> Outcome {
     }
 }
 
-/// Keeping takes no memory but the plate's.
-#[test]
-fn keep_on_a_plate(rt: HostRuntime) -> Outcome {
-    let mut record = formatted(rt.alloc())?;
-    match record.keep(&[2]) {
+/// Keeps these bytes: that takes no memory but the plate's.
+fn keeps(record: &mut SlotRecord<MemoryPlate>, bytes: &[u8]) -> Outcome {
+    match record.keep(bytes) {
         Ok(()) => check(!record.stuck() && record.failures() == 0),
         Err(fault) => refused(
             fault == RecordFault::Device && record.stuck() && record.failures() == 1,
         ),
+    }
+}
+
+#[test]
+fn keep_on_a_plate(rt: HostRuntime) -> Outcome {
+    keeps(&mut formatted(rt.alloc())?, &[2])
+}
+
+/// A body without a byte is formatted, kept and found.
+#[test]
+fn keep_an_empty_body(rt: HostRuntime) -> Outcome {
+    let mut record = formatted_with(rt.alloc(), &[])?;
+    keeps(&mut record, &[])?;
+    match record.reopen() {
+        Ok(bytes) => check(bytes.is_empty()),
+        Err(RecordFault::Memory) => refused(!record.stuck() && record.failures() == 0),
+        Err(fault) => refused(fault == RecordFault::Device && record.failures() == 1),
     }
 }

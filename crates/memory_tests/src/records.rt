@@ -115,6 +115,11 @@ fn announce_for_a_new_resource(rt: HostRuntime) -> Outcome {
 }
 
 #[test]
+fn announce_for_the_longest_name(rt: HostRuntime) -> Outcome {
+    announces(rt.alloc(), b"abcdefghijklmnopqrstuvwxyz-01234", 0)
+}
+
+#[test]
 fn write_a_node_record(rt: HostRuntime) -> Outcome {
     let record = read_node(rt.alloc(), &TWO)?;
     match node_bytes(rt.alloc(), &record) {

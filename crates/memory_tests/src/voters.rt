@@ -1,8 +1,10 @@
 // A node's core: 503.
 
-use crate::failures::{Failure, Outcome, check, node, refused, request};
+use crate::failures::{
+    Failure, Outcome, check, client, first_attempt, node, refused, request, ticket,
+};
 use admission_policy::{Admission, Counted, FirstProblem};
-use lock_messages::{Message, Mode};
+use lock_messages::{Message, Mode, ResourceName, Ticket};
 use stable_record::RecordFault;
 use std::alloc::Global;
 use voter_core::{NodeCore, Phase, VoterFault};
@@ -59,23 +61,34 @@ fn rise_with_a_record(rt: HostRuntime) -> Outcome {
 fn restart_with_a_record(rt: HostRuntime) -> Outcome {
     let mut core = risen(rt.alloc(), &NONE)?;
     match core.restart(&ONE) {
-        Ok(()) => rests_with(rt.alloc(), &core, &ONE),
+        Ok(()) => {
+            rests_with(rt.alloc(), &core, &ONE)?;
+            check(core.fall().tally() == (1, 0))
+        }
         Err(fault) => {
             rests_with(rt.alloc(), &core, &NONE)?;
-            refused(is_memory(fault))
+            refused(is_memory(fault) && core.fall().tally() == (1, 0))
         }
     }
 }
 
-/// Takes a message; where memory is refused the node rests with the record that it had.
-fn takes(alloc: Global, core: &mut NodeCore, message: &Message) -> Result<bool, Failure> {
+/// Takes a message; where memory is refused the node rests with the record that it had, and its policy was
+/// told of nothing.
+fn takes(
+    alloc: Global,
+    core: NodeCore,
+    bytes: &[u8],
+    message: &Message,
+) -> Result<(NodeCore, bool), Failure> {
+    let mut core = core;
     if core.phase() != Phase::Idle || !message.is_for_node(core.node()) {
         return Err(Failure::Wrong);
     }
     match core.take(message) {
-        Ok(changed) => Ok(changed),
+        Ok(changed) => Ok((core, changed)),
         Err(fault) => {
-            rests_with(alloc, core, &ONE)?;
+            rests_with(alloc, &core, bytes)?;
+            check(core.fall().tally() == (1, 0))?;
             Err(fault.into())
         }
     }
@@ -84,15 +97,94 @@ fn takes(alloc: Global, core: &mut NodeCore, message: &Message) -> Result<bool, 
 #[test]
 fn take_a_request(rt: HostRuntime) -> Outcome {
     let message = request(2, Mode::Write)?;
-    let mut core = risen(rt.alloc(), &ONE)?;
-    let changed = takes(rt.alloc(), &mut core, &message)?;
+    let core = risen(rt.alloc(), &ONE)?;
+    let (core, changed) = takes(rt.alloc(), core, &ONE, &message)?;
     check(changed && core.phase() == Phase::Decided && core.replies() == 1)
+}
+
+/// A reader's new ticket, of which the policy is told.
+#[test]
+fn take_a_reader(rt: HostRuntime) -> Outcome {
+    let message = request(2, Mode::Read)?;
+    let core = risen(rt.alloc(), &ONE)?;
+    let (core, changed) = takes(rt.alloc(), core, &ONE, &message)?;
+    check(changed && core.fall().tally() == (2, 0))
+}
+
+/// The longest name of a resource.
+#[test]
+fn take_a_long_name(rt: HostRuntime) -> Outcome {
+    let name = ResourceName::of(b"abcdefghijklmnopqrstuvwxyz-01234").ok_or(Failure::Wrong)?;
+    let ticket = Ticket {
+        resource: name,
+        ..ticket(2, Mode::Write)?
+    };
+    let message = Message::Request(node(1)?, ticket);
+    let core = risen(rt.alloc(), &ONE)?;
+    let (core, changed) = takes(rt.alloc(), core, &ONE, &message)?;
+    check(changed && core.next_bytes(rt.alloc())?.len() == 28 + 55)
 }
 
 #[test]
 fn take_a_request_again(rt: HostRuntime) -> Outcome {
     let message = request(1, Mode::Read)?;
-    let mut core = risen(rt.alloc(), &ONE)?;
-    let changed = takes(rt.alloc(), &mut core, &message)?;
+    let core = risen(rt.alloc(), &ONE)?;
+    let (core, changed) = takes(rt.alloc(), core, &ONE, &message)?;
     check(!changed && core.phase() == Phase::Stored && core.replies() == 1)
+}
+
+/// The record of problem 1 in which c1 holds `a` as a writer, and c2 to c1024 wait for it as readers.
+fn all_waiting(alloc: Global) -> Result<Vec<u8>, Failure> {
+    let mut bytes = Vec::new(alloc);
+    bytes.extend_from_slice(&[1, 1, 4, 0])?;
+    for client in 1..=1_024u32 {
+        let (state, mode) = if client == 1 { (2, 1) } else { (1, 0) };
+        bytes.extend_from_slice(&client.to_be_bytes())?;
+        let ticket = [
+            0, 0, 0, 0, 0, 0, 0, 0, state, 0, 0, 0, 0, 0, 0, 0, 1, mode, 1,
+        ];
+        bytes.extend_from_slice(&ticket)?;
+        bytes.push(b'a')?;
+    }
+    Ok(bytes)
+}
+
+/// Whether the replies are a Done to c1 and then a Grant to each of c2 to c1024, in this order.
+fn are_to_all(replies: &[Message]) -> bool {
+    let mut wanted = 0u32;
+    for reply in replies {
+        wanted = wanted.saturating_add(1);
+        let right = match reply {
+            Message::Done(_, client, _) => wanted == 1 && client.get() == 1,
+            Message::Grant(_, ticket) => wanted > 1 && ticket.client.get() == wanted,
+            _ => false,
+        };
+        if !right {
+            return false;
+        }
+    }
+    wanted == 1_024
+}
+
+/// Keeps and speaks.
+fn spoken(core: NodeCore) -> Result<Vec<Message>, Failure> {
+    let mut core = core;
+    if core.phase() != Phase::Decided {
+        return Err(Failure::Wrong);
+    }
+    core.kept();
+    Ok(core.speak())
+}
+
+/// A release that lets in as many as may wait: nothing has changed where memory is refused.
+#[test]
+fn take_a_release_for_all(rt: HostRuntime) -> Outcome {
+    let bytes = all_waiting(rt.alloc())?;
+    check(bytes.len() == 24_580)?;
+    let message = Message::Release(node(1)?, client(1)?, first_attempt()?);
+    let core = risen(rt.alloc(), &bytes)?;
+    let (core, changed) = takes(rt.alloc(), core, &bytes, &message)?;
+    check(changed && core.next_bytes(rt.alloc())?.len() == 24_569)?;
+    let replies = spoken(core)?;
+    check(are_to_all(&replies))
 }
