@@ -30,6 +30,18 @@ fn one_wish(rt: HostRuntime) -> Outcome {
     check(seen.entered == 1 && seen.events == 36, 2)
 }
 
+/// The longest name of a resource: no actor ends for want of memory.
+#[test]
+fn a_long_name(rt: HostRuntime) -> Outcome {
+    let row = Row {
+        wishes: &[b"c1 read abcdefghijklmnopqrstuvwxyz-01234"],
+        ..SETTING
+    };
+    let seen = run_row(rt, rt.alloc(), &row, &OpenGate)?;
+    check(seen.faults.is_empty(), 1)?;
+    check(seen.entered == 1 && seen.events == 36, 2)
+}
+
 #[test]
 fn no_wish(rt: HostRuntime) -> Outcome {
     let seen = run_row(rt, rt.alloc(), &SETTING, &OpenGate)?;
