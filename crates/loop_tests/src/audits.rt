@@ -38,3 +38,8 @@ pub(crate) fn count_of(journal: &[u8], wanted: &str) -> Result<usize, Failure> {
     };
     Ok(text.lines().filter(|line| *line == wanted).count())
 }
+
+/// How many lines a journal has.
+pub(crate) fn lines_of(journal: &[u8]) -> usize {
+    journal.iter().filter(|byte| **byte == b'\n').count()
+}

@@ -308,6 +308,7 @@ fn nudges_of_two_wishes(rt: HostRuntime) -> Outcome {
     let coming = Coming {
         posts: Vec::new(rt.alloc()),
         nudges: 300,
+        goes: false,
     };
     let wishes = "c1 read a, c1 read b";
     let (journal, answer) = end_of(
@@ -323,6 +324,30 @@ fn nudges_of_two_wishes(rt: HostRuntime) -> Outcome {
     check(count_of(&journal, "enter c1")? == 2, 1)?;
     // Each wish says its request and its release once, and again at each nudge.
     check(count_of(&journal, "sayto c1 n1")? == 1_204, 2)
+}
+
+/// 913: 600 nudges before the grant, and as many before the answer to the release. The thousandth comes
+/// behind the Leave: the wish is entered, and its release is said once more.
+#[test]
+fn a_thousand_nudges_of_which_the_last_come_behind_leave(rt: HostRuntime) -> Outcome {
+    let coming = Coming {
+        posts: Vec::new(rt.alloc()),
+        nudges: 600,
+        goes: false,
+    };
+    let (journal, answer) = end_of(
+        rt,
+        rt.alloc(),
+        (1, 2),
+        Device::Memory,
+        "c1 read a, c1 read b",
+        coming,
+        &OpenGate,
+    )?;
+    check(told(answer)? == Err((1, RunFault::GaveUp)), 0)?;
+    check(count_of(&journal, "leave c1")? == 1, 1)?;
+    // The request and 600 more, the release and 399 more, and the release once at the end.
+    check(count_of(&journal, "sayto c1 n1")? == 1_002, 2)
 }
 
 /// A node that is gone is skipped, in the next wish too, and is told no release.

@@ -23,6 +23,8 @@ mod gate_calls;
 #[cfg(test)]
 mod gates;
 #[cfg(test)]
+mod held_votes;
+#[cfg(test)]
 mod neighbours;
 #[cfg(test)]
 mod node_runs;
@@ -36,5 +38,11 @@ mod outcomes;
 mod posts;
 #[cfg(test)]
 mod records;
+#[cfg(test)]
+mod watched_clients;
+#[cfg(test)]
+mod watched_nodes;
+#[cfg(test)]
+mod watches;
 #[cfg(test)]
 mod worlds;

@@ -2,7 +2,7 @@
 
 ghost use Rattle.std.specs.Prelude.{IsOkUnless};
 
-use crate::outcomes::{Failure, of_book};
+use crate::outcomes::{Failure, Outcome, of_book};
 use book_recorders::{BookName, BookRecorder, Logs};
 use bytes::Bytes;
 use history_book::BookFault;
@@ -12,12 +12,13 @@ use std::alloc::Global;
 use std::sync::Wait;
 use world_model::{Age, Effect, Event};
 
-/// What is brought beside a node's answers: these posts before them all, and so many nudges before the
-/// answer to each message that changes what the node keeps.
+/// What is brought beside a node's answers: these posts before them all, so many nudges before the answer
+/// to each message that changes what the node keeps, and whether the node is gone behind its first answer.
 #[derive(Drop)]
 pub(crate) struct Coming {
     pub(crate) posts: Vec<Post>,
     pub(crate) nudges: u32,
+    pub(crate) goes: bool,
 }
 
 impl Coming {
@@ -28,7 +29,11 @@ impl Coming {
 
     /// The node's answers come behind these posts.
     pub(crate) fn behind(posts: Vec<Post>) -> Coming {
-        Coming { posts, nudges: 0 }
+        Coming {
+            posts,
+            nudges: 0,
+            goes: false,
+        }
     }
 }
 
@@ -45,6 +50,7 @@ pub(crate) struct Neighbour<'a, B: BookName, K: Logs, R: Copy> {
     frame: Bytes,
     nudges: u32,
     due: u32,
+    goes: bool,
 }
 
 impl<'a, B: BookName, K: Logs, R: Wait + Copy> Neighbour<'a, B, K, R> {
@@ -57,7 +63,11 @@ impl<'a, B: BookName, K: Logs, R: Wait + Copy> Neighbour<'a, B, K, R> {
         frame: Bytes,
     ) -> Result<Neighbour<'a, B, K, R>, Failure> {
         let (node, gone) = nodes;
-        let Coming { posts, nudges } = coming;
+        let Coming {
+            posts,
+            nudges,
+            goes,
+        } = coming;
         let mut recorder = recorder;
         match recorder.log_event(Event::Rise(Actor::Node(node), Age::Old)) {
             Ok(_) => Ok(Neighbour {
@@ -68,6 +78,7 @@ impl<'a, B: BookName, K: Logs, R: Wait + Copy> Neighbour<'a, B, K, R> {
                 frame,
                 nudges,
                 due: 0,
+                goes,
             }),
             Err(fault) => Err(of_book(fault)),
         }
@@ -127,7 +138,26 @@ impl<'a, B: BookName, K: Logs, R: Wait + Copy> Neighbour<'a, B, K, R> {
             };
             self.bring(Post::Parcel(Parcel { number, frame }))?;
         }
+        self.go()
+    }
+
+    /// That the node is gone will be brought, if it goes.
+    fn go(&mut self) -> Result<(), LinkFault>
+        ensures { IsOkUnless result LinkFault.Memory }
+    {
+        if self.goes {
+            self.bring(Post::Gone(self.node))?;
+        }
+        self.goes = false;
         Ok(())
+    }
+
+    /// The node takes the message of a number, which another than the client of this link has sent.
+    pub(crate) fn takes(&mut self, number: u32) -> Outcome {
+        match self.turn(number) {
+            Ok(_) => Ok(()),
+            Err(fault) => Err(of_book(fault)),
+        }
     }
 
     /// Whether this is another node than the one beside.

@@ -29,7 +29,7 @@ use world_model::Event;
 pub(crate) type Answer = Result<(), RunFault>;
 
 /// The record of a node that has kept nothing yet.
-fn nothing_kept(alloc: Global) -> Result<Vec<u8>, Failure>
+pub(crate) fn nothing_kept(alloc: Global) -> Result<Vec<u8>, Failure>
     ensures bytes { IfOk result (λ v. v.items ≡ node_record_of empty_record) }
     ensures good { OnOk result (IsNodeRecord empty_record) }
 {
@@ -44,7 +44,7 @@ fn nothing_kept(alloc: Global) -> Result<Vec<u8>, Failure>
 }
 
 /// The event of a line.
-fn event(line: &str) -> Result<Event, Failure> {
+pub(crate) fn event(line: &str) -> Result<Event, Failure> {
     match read_event(line.as_bytes()) {
         Ok(event) => Ok(event),
         Err(_) => Err(Failure::Wrong(0)),
@@ -68,7 +68,7 @@ fn log_either<B: BookName, K: Logs, R: Wait + Copy>(
 }
 
 /// Lets two clients log the events of these lines, each its own.
-fn tells<B: BookName, K: Logs, R: Wait + Copy>(
+pub(crate) fn tells<B: BookName, K: Logs, R: Wait + Copy>(
     rt: R,
     lock: &Mutex<Named<B, K>>,
     berths: (Berth, Berth),

@@ -1,5 +1,6 @@
 //! A node's run over lists: its turns, what it drops, and how it ends.
 
+use crate::audits::lines_of;
 use crate::gates::OpenGate;
 use crate::node_runs::{Ended, Row, does, end_of};
 use crate::outcomes::{Failure, Outcome, check};
@@ -259,11 +260,6 @@ fn nudges(sent: &[Sending]) -> Result<usize, Failure> {
     Ok(sent.iter().filter(|sending| **sending == nudge).count())
 }
 
-/// How many lines a journal has.
-fn lines(journal: &[u8]) -> usize {
-    journal.iter().filter(|byte| **byte == b'\n').count()
-}
-
 /// Whether n1 with a record on this device answers or falls at each message that comes, nudges so often
 /// and logs so much.
 fn falls<R: Wait + Copy>(
@@ -282,7 +278,7 @@ fn falls<R: Wait + Copy>(
         return Err(Failure::Memory);
     }
     let is_sent = link.sent().len() == 12 && nudges(link.sent())? == nudged;
-    Ok(answer == Ok(()) && is_sent && lines(&journal) == events)
+    Ok(answer == Ok(()) && is_sent && lines_of(&journal) == events)
 }
 
 #[test]
