@@ -51,7 +51,7 @@ pub(crate) fn world(alloc: Global, ballot: Ballot, clients: u16) -> Result<World
 }
 
 /// A record for each node that has kept nothing, on its device.
-fn node_records(
+pub(crate) fn node_records(
     alloc: Global,
     devices: &[Device],
 ) -> Result<Vec<Box<dyn StableRecord + Send>>, Failure>
@@ -65,7 +65,7 @@ fn node_records(
 }
 
 /// A record for each client that has made no attempt.
-fn client_records(
+pub(crate) fn client_records(
     alloc: Global,
     device: Device,
     clients: u16,

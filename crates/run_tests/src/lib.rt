@@ -23,6 +23,10 @@ mod quiet;
 #[cfg(test)]
 mod rows;
 #[cfg(test)]
+mod served;
+#[cfg(test)]
 mod storms;
+#[cfg(test)]
+mod supplies;
 #[cfg(test)]
 mod together;

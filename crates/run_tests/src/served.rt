@@ -1,0 +1,114 @@
+// Runs from the bytes of their settings to what is printed: the quiet, the empty and the hopeless one.
+
+use crate::devices::Device;
+use crate::given::{client_records, node_records, policies};
+use crate::outcomes::{Failure, Outcome, check};
+use crate::supplies::{second_policies, second_records};
+use lock_messages::MAX_NODES;
+use operator_cli::{Command, Order, Policies, ServeFault};
+use run_service::{Records, serve_run};
+use std::alloc::Global;
+use std::sync::Wait;
+use std::thread::Threads;
+
+/// What a run by these settings prints, and its status.
+fn served<R: Threads + Wait + Copy + Send>(
+    rt: R,
+    alloc: Global,
+    settings: &str,
+) -> Result<(Vec<u8>, u8), Failure> {
+    let for_world = Policies {
+        first: policies(alloc, MAX_NODES)?,
+        second: second_policies(alloc)?,
+    };
+    let for_threads = Policies {
+        first: policies(alloc, MAX_NODES)?,
+        second: second_policies(alloc)?,
+    };
+    let records = Records {
+        first: node_records(alloc, &[Device::Memory; 16])?,
+        second: second_records(alloc)?,
+        clients: client_records(alloc, Device::Memory, 1_024)?,
+    };
+    let order = Order {
+        command: Command::Run { journal: false },
+        policies: for_world,
+    };
+    let mut out = Vec::new(alloc);
+    let came = serve_run(
+        rt,
+        alloc,
+        order,
+        settings.as_bytes(),
+        &mut out,
+        for_threads,
+        records,
+    );
+    match came {
+        Ok(status) => Ok((out, status)),
+        Err(ServeFault::Memory | ServeFault::Write) => Err(Failure::Memory),
+        Err(_) => Err(Failure::Wrong(0)),
+    }
+}
+
+/// Ends the test unless these settings print this, with status 0.
+fn prints<R: Threads + Wait + Copy + Send>(
+    rt: R,
+    alloc: Global,
+    settings: &str,
+    expected: &str,
+) -> Outcome {
+    let (out, status) = served(rt, alloc, settings)?;
+    check(status == 0, 1)?;
+    check(out.as_slice() == expected.as_bytes(), 2)
+}
+
+/// All of seven actors rise; three events are for the attempt, six for each of two asks, two for the visit,
+/// six for each of two releases.
+const ONE_WISH: &str = "\
+votes = [1, 1, 1]
+read = 2
+write = 2
+problem = 1
+clients = 4
+wishes = ['c1 read a']
+---
+";
+
+#[test]
+fn a_quiet_run(rt: HostRuntime) -> Outcome {
+    prints(rt, rt.alloc(), ONE_WISH, "entered 1\nevents 36\n")
+}
+
+const NO_WISH: &str = "\
+votes = [1, 1, 1]
+read = 2
+write = 2
+problem = 1
+clients = 4
+---
+";
+
+#[test]
+fn an_empty_run(rt: HostRuntime) -> Outcome {
+    prints(rt, rt.alloc(), NO_WISH, "entered 0\nevents 7\n")
+}
+
+const ALL_LOST: &str = "\
+votes = [1]
+read = 1
+write = 1
+problem = 1
+clients = 1
+lose = 1000
+wishes = ['c1 read a']
+---
+";
+
+/// All is lost: the client gives up.
+#[test]
+fn a_hopeless_run(rt: HostRuntime) -> Outcome {
+    let (out, status) = served(rt, rt.alloc(), ALL_LOST)?;
+    check(status == 1 && out.starts_with(b"entered 0\n"), 1)?;
+    check(out.ends_with(b"\nc1 fault 913\n"), 2)
+}
