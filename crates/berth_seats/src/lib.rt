@@ -18,6 +18,6 @@ mod rule;
 mod seats;
 mod views;
 
-pub use rule::Opening;
+pub use rule::OpenedWith;
 pub use seats::{BerthSeat, BookSeat};
 pub use views::{BerthView, BookView};

@@ -5,13 +5,13 @@ use atomic_table::{Join, Play, Split, TableRule};
 use std::marker::{Brand, PhantomData};
 
 /// Which world a book is opened with. The call that opens the book picks it.
-pub trait Opening {
+pub trait OpenedWith {
     ghost use Rattle.world_model.specs.declared.exact.ExactWorld.{ExactWorld};
 
     ghost world: { ExactWorld };
 }
 
-impl Opening for Brand {
+impl OpenedWith for Brand {
     ghost use Rattle.berth_seats.specs.Views.{empty_world};
 
     ghost world = { empty_world };
@@ -34,7 +34,7 @@ pub struct Begin<B> {
     opening: PhantomData<B>,
 }
 
-impl<B: Opening> Play<Announcement, View> for Begin<B> {
+impl<B: OpenedWith> Play<Announcement, View> for Begin<B> {
     ghost use Rattle.berth_seats.specs.Steps.{Begins};
 
     ghost then = { Begins B.world };

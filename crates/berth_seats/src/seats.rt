@@ -10,7 +10,7 @@ ghost use Rattle.berth_seats.specs.Steps.{with_event, with_given, shown, new_ber
 ghost use mathlib.Core.Option.{none, some};
 ghost use Rattle.berth_seats.specs.declared.views.Announcement.TheVariants.{Add};
 
-use crate::rule::{Begin, Boarding, Log, Opening, Tie};
+use crate::rule::{Begin, Boarding, Log, OpenedWith, Tie};
 use crate::views::{Announcement, View};
 use atomic_table::{Seat, Shared, Table};
 use lock_messages::Actor;
@@ -51,7 +51,7 @@ impl Model for BerthSeat {
 impl BookSeat {
     /// The seat of a new book, which is opened with the world that the call picks. Its history is
     /// empty, and no actor was given a berth.
-    pub fn open<B: Opening>(alloc: Global) -> Result<BookSeat, AllocError>
+    pub fn open<B: OpenedWith>(alloc: Global) -> Result<BookSeat, AllocError>
         ensures { IfOk result (λ s. s.book ≡ opened B.world) }
     {
         let (table, mut seat) = Table::of_words(alloc, &[0], &())?;

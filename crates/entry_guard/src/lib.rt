@@ -6,8 +6,8 @@
 //!
 //! The crate promises that a guard is made exactly where the door may enter, and that the door is
 //! outside after the guard was dropped. A client core is then idle after the same attempt, and has
-//! the release of that attempt to say to each node of its ballot. `visit` shows the same of a core in
-//! a box: it takes memory for the box, and no other call does. No call waits. A guard that is
+//! the release of that attempt to say to each node of its ballot. `enter_and_leave` shows the same of a
+//! core in a box: it takes memory for the box, and no other call does. No call waits. A guard that is
 //! forgotten (`std::mem::forget`) leaves its door inside.
 //!
 //! What a door is, is in the ghost members of `Door`; for a client core these are the words of
@@ -15,12 +15,12 @@
 //! `lock_messages`, `lock_model` and `vote_weights`.
 #![tactic(auto)]
 
+mod boxed;
 mod doors;
 mod guards;
 mod owned;
-mod visits;
 
+pub use boxed::{Seen, enter_and_leave};
 pub use doors::Door;
 pub use guards::{EntryGuard, enter_client};
 pub use owned::OwnedEntry;
-pub use visits::{Seen, visit};

@@ -8,7 +8,7 @@
 //! one maker, `of`, which answers `None` exactly there. All types are `Copy`, take no memory, and
 //! print as the lines of scripts and journals show them.
 //!
-//! A message goes between machines as a frame: `encode` answers the one spelling of a message, and
+//! A message is carried as a frame: `encode` answers the one spelling of a message, and
 //! `decode` the message exactly where the whole input is its spelling, else the first fault from
 //! the front (`FrameFault`). `laws::one_spelling` says that no spelling begins another. Only
 //! `encode` takes memory. The crate stands on `std`, `bytes` and `thiserror`.

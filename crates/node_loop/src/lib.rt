@@ -15,8 +15,8 @@
 //! part of the world.
 #![tactic(auto)]
 
+mod attending;
 mod replies;
 mod running;
-mod turns;
 
 pub use running::run_node;

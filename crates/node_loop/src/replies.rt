@@ -1,7 +1,8 @@
 // The replies of a node on their way.
 
 ghost use Rattle.std.specs.Prelude.{◌≡◌, OnOk, IsOkUnless};
-ghost use Rattle.node_loop.specs.Replies.{addressee, sendings, all_more};
+ghost use Rattle.lossy_link.specs.Links.{all_more};
+ghost use Rattle.node_loop.specs.Replies.{addressee, sendings};
 
 use event_recorders::RunFault;
 use lock_messages::{Actor, Message, encode};

@@ -3,10 +3,11 @@
 ghost use Rattle.std.specs.Prelude.{◌≡◌, [], IfOk, IfErr, OnOk};
 ghost use Rattle.stable_record.specs.declared.node_records.NodeRecord.{NodeRecord};
 ghost use Rattle.event_recorders.specs.OwnLogs.{part_now};
-ghost use Rattle.node_loop.specs.Replies.{all_more, sent_of, SentFollows};
+ghost use Rattle.lossy_link.specs.Links.{all_more};
+ghost use Rattle.node_loop.specs.Replies.{sent_of, SentFollows};
 ghost use Rattle.node_loop.specs.Standing.{StandsIdle, IsReady, IsIdleNode, IsAtEnd, IsNodeFault};
 
-use crate::turns::attend;
+use crate::attending::attend;
 use actor_steps::rise_first;
 use admission_policy::Admission;
 use event_recorders::{Gate, Recorder, RunFault};

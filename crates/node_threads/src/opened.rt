@@ -3,7 +3,7 @@
 ghost use Rattle.std.specs.Prelude.{◌≡◌};
 ghost use Rattle.history_book.specs.Books.{BookValue};
 
-use berth_seats::Opening;
+use berth_seats::OpenedWith;
 use book_recorders::Logs;
 use history_book::{Berth, BookFault};
 use std::marker::{Model, PhantomData};
@@ -14,12 +14,12 @@ use world_model::{Effect, Event};
 /// Of a value under a lock nothing is known but what its type says; so the type says with which world
 /// the book was opened.
 #[derive(Drop)]
-pub(crate) struct Opened<O: Opening, K: Logs> {
+pub(crate) struct Opened<O: OpenedWith, K: Logs> {
     book: K,
     world: PhantomData<O>,
 }
 
-impl<O: Opening, K: Logs> Model for Opened<O, K> {
+impl<O: OpenedWith, K: Logs> Model for Opened<O, K> {
     ghost Value = { BookValue };
 
     ghost view = { λ o. K.book o.book };
@@ -27,7 +27,7 @@ impl<O: Opening, K: Logs> Model for Opened<O, K> {
     ghost invariant = { λ o. (K.book o.book).opening ≡ O.world };
 }
 
-impl<O: Opening, K: Logs> Opened<O, K> {
+impl<O: OpenedWith, K: Logs> Opened<O, K> {
     /// The book under the name of its opening. The caller owes that it is that opening.
     pub(crate) fn of(book: K) -> Opened<O, K>
         requires { (K.book book).opening ≡ O.world }
@@ -48,7 +48,7 @@ impl<O: Opening, K: Logs> Opened<O, K> {
     }
 }
 
-impl<O: Opening, K: Logs> Logs for Opened<O, K> {
+impl<O: OpenedWith, K: Logs> Logs for Opened<O, K> {
     ghost book = { λ o. o };
 
     fn log(&mut self, berth: &mut Berth, event: Event) -> Result<Effect, BookFault> {

@@ -6,7 +6,7 @@ ghost use Rattle.node_threads.specs.Tasks.{IsNodeTask, IsClientTask};
 use crate::opened::Opened;
 use crate::tasks::{ClientTask, NodeTask};
 use crate::threads::run_threads;
-use berth_seats::Opening;
+use berth_seats::OpenedWith;
 use book_recorders::{BookName, Logs, Named};
 use event_recorders::{Gate, RunFault};
 use lock_messages::Actor;
@@ -36,7 +36,7 @@ fn named<B: BookName + Send, K: Logs + Send, R: Threads + Wait + Copy + Send, G:
 
 /// Does the tasks over the book, and hands it back; it is still the book of the same opening.
 pub(crate) fn opened<
-    O: Opening + Send,
+    O: OpenedWith + Send,
     K: Logs + Send,
     R: Threads + Wait + Copy + Send,
     G: Gate + Sync,

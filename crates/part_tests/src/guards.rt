@@ -6,7 +6,7 @@ ghost use Rattle.client_core.specs.Calls.{MayEnter, entered, left, ReleasesAll};
 use crate::outcomes::{Outcome, check};
 use crate::rows::{message, node};
 use client_core::{ClientCore, Heard, Phase};
-use entry_guard::{Door, EntryGuard, OwnedEntry, enter_client, visit};
+use entry_guard::{Door, EntryGuard, OwnedEntry, enter_and_leave, enter_client};
 use lock_messages::{ClientId, Message, Mode, ResourceName, Ticket};
 use std::alloc::Global;
 use std::mem;
@@ -192,8 +192,8 @@ fn is_owned(alloc: Global) -> Option<bool> {
 /// enter.
 fn is_visited(alloc: Global) -> Option<bool> {
     let (core, other) = (core_with(2)?, core_with(1)?);
-    let refused = visit(alloc, other).ok()?.is_none();
-    let Some(seen) = visit(alloc, core).ok()? else {
+    let refused = enter_and_leave(alloc, other).ok()?.is_none();
+    let Some(seen) = enter_and_leave(alloc, core).ok()? else {
         return Some(false);
     };
     Some(refused && seen.with == ticket()? && seen.ticket.is_none() && !seen.inside)

@@ -21,7 +21,7 @@ ghost use Rattle.stable_record.specs.Lines.{Indexes};
 ghost use Rattle.voter_core.specs.Freed.{freed, freed_by, waiting_for};
 ghost use Rattle.voter_core.specs.Voters.{ends_something, is_admitted, note_for, note_of};
 
-use crate::asking::note;
+use crate::consulting::note;
 use crate::settling::{admits, settle};
 use admission_policy::Admission;
 use lock_messages::{Attempt, ClientId, Message, NodeId, ResourceName, Ticket};

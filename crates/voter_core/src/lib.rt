@@ -14,7 +14,7 @@
 //! and `admission_policy`, by their public contracts alone.
 #![tactic(auto)]
 
-mod asking;
+mod consulting;
 mod deciding;
 mod faults;
 mod phases;

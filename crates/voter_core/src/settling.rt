@@ -14,7 +14,7 @@ ghost use Rattle.voter_core.specs.Voters.{admitted_now};
 ghost use Rattle.voter_core.specs.Freed.{OthersStay, waiting_for};
 ghost use Rattle.voter_core.specs.Queues.{settle_one, told_one};
 
-use crate::asking::admits_reader;
+use crate::consulting::admits_reader;
 use admission_policy::Admission;
 use lock_messages::{ClientId, Message, Mode, NodeId, ResourceName, Ticket};
 use lock_model::{Entry, Live, Problem, Status};

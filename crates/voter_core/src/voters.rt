@@ -8,7 +8,7 @@ ghost use Rattle.stable_record.specs.Lines.{Indexes};
 ghost use Rattle.stable_record.specs.Records.{IsNodeRecord, node_record_of};
 ghost use Rattle.voter_core.specs.Voters.{phase_in, replies_in, record_of, risen, taken, Allows, kept, spoken, IsRecordOf, IsRefusedFor};
 
-use crate::asking::same_problem;
+use crate::consulting::same_problem;
 use crate::deciding::{decide, freed_by, is_caused, room_for, stays_a_record};
 use crate::phases::phase_after;
 use crate::rising::read_record;

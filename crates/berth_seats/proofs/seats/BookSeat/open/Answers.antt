@@ -9,4 +9,4 @@ pub load-requires : goal.load-requires
 load-requires g c =
     let s = c.in_ok-table.seat in
     let me = c.in_ok-table.ensures.4 in
-    (search rules, search rules, begins c.in_ok-table.table.shared.table_id.slots s.id s.me g.B.Opening.world (ap (λ m. m.0.is_book) me) (ap (λ m. m.0.book.given) me))
+    (search rules, search rules, begins c.in_ok-table.table.shared.table_id.slots s.id s.me g.B.OpenedWith.world (ap (λ m. m.0.is_book) me) (ap (λ m. m.0.book.given) me))

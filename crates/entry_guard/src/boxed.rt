@@ -1,4 +1,4 @@
-// A client core's visit by an entry of its own.
+// A client core in a box, which enters and leaves by an entry of its own.
 
 ghost use Rattle.std.specs.Prelude.{◌≡◌, ◌↔◌, Some, IsSome, IfSome, IfOk};
 ghost use Rattle.client_core.specs.Clients.{Client, ticket_of as client_ticket};
@@ -26,7 +26,7 @@ pub struct Seen {
 ///
 /// The core left in its box as one does that is not boxed: it is idle after the same attempt, and has
 /// its release to say to each node of its ballot. The only error is want of memory for the box.
-pub fn visit(alloc: Global, core: ClientCore) -> Result<Option<Seen>, AllocError>
+pub fn enter_and_leave(alloc: Global, core: ClientCore) -> Result<Option<Seen>, AllocError>
     ensures entered { IfOk result (λ o. IsSome o ↔ MayEnter core) }
     ensures with { IfOk result (λ o. IfSome o (λ seen. client_ticket core ≡ Some seen.with)) }
     ensures left { IfOk result (λ o. IfSome o (λ seen. (after : Client) × ClientLeaves (entered core) after × (seen.ticket ≡ client_ticket after) × (seen.inside ≡ is_client_inside after))) }

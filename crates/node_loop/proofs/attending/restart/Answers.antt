@@ -2,7 +2,7 @@ use Rattle.std.proofs.Common.{sym, ap, ◌∙◌, rules}
 use Rattle.voter_core.specs.Voters.{Voter}
 use Rattle.node_loop.proofs.KeepFacts.{restarts, finds_record}
 use Rattle.node_loop.proofs.SentFacts.{rising_tells}
-use Rattle.node_loop.proofs.turns.restart.Goals as goal
+use Rattle.node_loop.proofs.attending.restart.Goals as goal
 
 pub returns-in-Ok-clause-idle : goal.returns-in-Ok-clause-idle
 returns-in-Ok-clause-idle g c =

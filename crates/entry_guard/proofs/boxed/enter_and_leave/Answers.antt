@@ -6,8 +6,8 @@ use Rattle.client_core.specs.Clients.{ticket_of as client_ticket}
 use Rattle.client_core.specs.Calls.{MayEnter, entered}
 use Rattle.entry_guard.specs.Doors.{ClientLeaves}
 use Rattle.entry_guard.specs.Guards.{HasDoor}
-use Rattle.entry_guard.proofs.visits.visit.OwnLists.{own-1, at-1-1}
-use Rattle.entry_guard.proofs.visits.visit.Goals as goal
+use Rattle.entry_guard.proofs.boxed.enter_and_leave.OwnLists.{own-1, at-1-1}
+use Rattle.entry_guard.proofs.boxed.enter_and_leave.Goals as goal
 
 pub returns-in_default-clause-entered : goal.returns-in_default-clause-entered
 returns-in_default-clause-entered c =

@@ -3,7 +3,7 @@ use Rattle.std.proofs.lemmas.Result.{on_ok_weaker}
 use Rattle.actor_steps.specs.declared.keeping.Keeping.{Keeping}
 use Rattle.node_loop.specs.Replies.{IsSentIn}
 use Rattle.node_loop.proofs.SentFacts.{nudge_follows}
-use Rattle.node_loop.proofs.turns.take_turn.Goals as goal
+use Rattle.node_loop.proofs.attending.take_turn.Goals as goal
 
 pub returns-in-Failed-clause-sent : goal.returns-in-Failed-clause-sent
 returns-in-Failed-clause-sent g c =

@@ -1,7 +1,7 @@
 use Rattle.std.proofs.Common.{◌∙◌}
 use Rattle.std.proofs.lemmas.Result.{on_ok_weaker}
 use Rattle.node_loop.proofs.SentFacts.{say_is_told}
-use Rattle.node_loop.proofs.turns.say.Goals as goal
+use Rattle.node_loop.proofs.attending.say.Goals as goal
 
 pub returns-clause-sent : goal.returns-clause-sent
 returns-clause-sent g c =
