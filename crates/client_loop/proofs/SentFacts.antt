@@ -1,26 +1,33 @@
 -- What a client's own log tells of what it sends.
-use Rattle.std.proofs.Common.{◌≡◌, ℕ, Bool, true, false, List, [], ◌∷◌, ◌++◌, Option, None, Some, refl, sym, ap, ◌∙◌, append_assoc, append-nil, length, if◌then◌else◌, map, ◌==◌}
+use Rattle.std.proofs.Common.{◌≡◌, ◌↔◌, ◌⊎◌, inl, inr, ℕ, Bool, true, false, List, [], ◌∷◌, ◌++◌, Option, None, Some, refl, sym, ap, ◌∙◌, append_assoc, append-nil, length, if◌then◌else◌, map, ◌==◌}
+use Rattle.lock_messages.specs.declared.ids.Actor.{Actor}
 use Rattle.lock_messages.specs.declared.ids.Actor.TheVariants as actor
 use Rattle.lock_messages.specs.declared.messages.Message.{Message}
+use Rattle.lock_messages.specs.declared.tickets.Mode.{Mode}
 use Rattle.lock_messages.specs.Frames.{frame_of}
 use Rattle.lock_model.specs.Ballots.{Ballot}
 use Rattle.lock_model.specs.ExactHearing.{is_node_of}
 use Rattle.lossy_link.specs.declared.parcels.Sending.{Sending}
 use Rattle.lossy_link.specs.declared.parcels.Sending.TheVariants as sending
-use Rattle.lossy_link.specs.Links.{one_more}
+use Rattle.lossy_link.specs.Links.{one_more, all_more}
 use Rattle.client_core.specs.declared.phases.State.{State}
 use Rattle.client_core.specs.declared.phases.State.TheVariants.{Idle, Chosen, Asking, Inside}
 use Rattle.client_core.specs.Clients.{Client}
 use Rattle.client_core.specs.Calls.{message_for, message_in}
+use Rattle.world_model.specs.declared.events.Age.{Age}
+use Rattle.world_model.specs.declared.events.Age.TheVariants.{New}
 use Rattle.world_model.specs.declared.events.Effect.{Effect}
 use Rattle.world_model.specs.declared.events.Effect.TheVariants as effect
 use Rattle.world_model.specs.declared.events.Event.{Event}
 use Rattle.world_model.specs.declared.events.Event.TheVariants as event
 use Rattle.world_model.specs.Locality.{local_part}
 use Rattle.world_model.specs.Parts.{Part, ClientPart, said_by, after_own}
-use Rattle.event_recorders.specs.OwnLogs.{OwnLog, part_now, IsAdded}
+use Rattle.event_recorders.specs.declared.faults.RunFault.{RunFault}
+use Rattle.event_recorders.specs.declared.faults.RunFault.TheVariants as fault
+use Rattle.event_recorders.specs.OwnLogs.{OwnLog, part_now, adds, IsAdded, IsUnused}
+use Rattle.actor_steps.specs.Steps.{IsKept, IsRisenAgain}
 use Rattle.client_loop.specs.Standing.{Stands, part_of}
-use Rattle.client_loop.specs.Sendings.{sent_for, sent_by, sent_of, sending_to, number_of, all_more, SentFollows}
+use Rattle.client_loop.specs.Sendings.{sent_for, sent_by, sent_of, sending_to, number_of, SentFollows, SentUnlessMemory, ToldUnlessMemory}
 
 -- one event more sends what it sends from the part before it
 by_one_more : (b : Ballot) (p : Part) (own : List (Event × Effect)) (e : Event) (done : Effect) →
@@ -32,6 +39,51 @@ by_one_more b p (q ∷ own) e done =
 
 pub sent_more : (l l' : OwnLog) (e : Event) (done : Effect) → IsAdded l e done l' → sent_of l' ≡ sent_of l ++ sent_for l.ballot e done (part_now l)
 sent_more l l' e done added = ap sent_of added.log ∙ by_one_more l.ballot l.opening l.events e done
+
+-- all events but SayTo send nothing
+silent : (l l' : OwnLog) (e : Event) (done : Effect) → IsAdded l e done l' → sent_for l.ballot e done (part_now l) ≡ [] → sent_of l' ≡ sent_of l
+silent l l' e done added nothing = sent_more l l' e done added ∙ ap (λ (xs : List Sending). sent_of l ++ xs) nothing ∙ append-nil (sent_of l)
+
+pub begin_sends_nothing : (l l' : OwnLog) (c : ℕ) (m : Mode) (x : List ℕ) (done : Effect) → IsAdded l (event.Begin c m x) done l' → sent_of l' ≡ sent_of l
+begin_sends_nothing l l' c m x done added = silent l l' (event.Begin c m x) done added refl
+
+pub hear_sends_nothing : (l l' : OwnLog) (c k : ℕ) (done : Effect) → IsAdded l (event.Hear c k) done l' → sent_of l' ≡ sent_of l
+hear_sends_nothing l l' c k done added = silent l l' (event.Hear c k) done added refl
+
+pub enter_sends_nothing : (l l' : OwnLog) (c : ℕ) (done : Effect) → IsAdded l (event.Enter c) done l' → sent_of l' ≡ sent_of l
+enter_sends_nothing l l' c done added = silent l l' (event.Enter c) done added refl
+
+pub leave_sends_nothing : (l l' : OwnLog) (c : ℕ) (done : Effect) → IsAdded l (event.Leave c) done l' → sent_of l' ≡ sent_of l
+leave_sends_nothing l l' c done added = silent l l' (event.Leave c) done added refl
+
+pub first_rise_sends_nothing : (l l' : OwnLog) (who : Actor) (age : Age) → IsUnused l who → IsAdded l (event.Rise who age) effect.Up l' → sent_of l' ≡ []
+first_rise_sends_nothing l l' who age unused added = silent l l' (event.Rise who age) effect.Up added refl ∙ ap (sent_by l.ballot l.opening) unused.events
+
+pub keeping_sends_nothing : (l l' : OwnLog) (who : Actor) → IsKept l who l' → sent_of l' ≡ sent_of l
+keeping_sends_nothing l l' who kept =
+    let tried = adds l (event.Try who) effect.Tried in
+    silent tried l' (event.Kept who) effect.Kept kept.kept refl ∙ silent l tried (event.Try who) effect.Tried kept.tried refl
+
+pub trying_sends_nothing : (l l' : OwnLog) (who : Actor) → IsAdded l (event.Try who) effect.Tried l' → sent_of l' ≡ sent_of l
+trying_sends_nothing l l' who added = silent l l' (event.Try who) effect.Tried added refl
+
+-- at most a Try was logged
+pub tried_sends_nothing : (l l' : OwnLog) (who : Actor) → (l' ≡ l) ⊎ IsAdded l (event.Try who) effect.Tried l' → sent_of l' ≡ sent_of l
+tried_sends_nothing l l' who (inl same) = ap sent_of same
+tried_sends_nothing l l' who (inr added) = trying_sends_nothing l l' who added
+
+-- at most a Fall was logged
+pub fallen_sends_nothing : (l l' : OwnLog) (who : Actor) → (l' ≡ l) ⊎ IsAdded l (event.Fall who) effect.Down l' → sent_of l' ≡ sent_of l
+fallen_sends_nothing l l' who (inl same) = ap sent_of same
+fallen_sends_nothing l l' who (inr added) = silent l l' (event.Fall who) effect.Down added refl
+
+pub unused_sends_nothing : (l : OwnLog) (who : Actor) → IsUnused l who → sent_of l ≡ []
+unused_sends_nothing l who unused = ap (sent_by l.ballot l.opening) unused.events
+
+pub rising_sends_nothing : (l l' : OwnLog) (who : Actor) (bytes tried : List ℕ) → ((age : Age) × IsRisenAgain l who age l' × ((age ≡ New) ↔ (bytes ≡ tried))) → sent_of l' ≡ sent_of l
+rising_sends_nothing l l' who bytes tried (age, again, new) =
+    let fallen = adds l (event.Fall who) effect.Down in
+    silent fallen l' (event.Rise who age) effect.Up again.risen refl ∙ silent l fallen (event.Fall who) effect.Down again.fallen refl
 
 -- what a client says to a node is the message that its core has for it
 says_in : (b : Ballot) (c n attempt : ℕ) (s : State) (is_node none : Bool) (m : Message) → is_node_of (length b.votes) n ≡ is_node → (attempt == 0) ≡ none →
@@ -102,3 +154,33 @@ follows_from l m l' given given' same later = record { follows = λ before was. 
 -- on top of what was there before a log that sends nothing
 pub all_told : (l l' : OwnLog) (given given' : Option (List Sending)) → sent_of l ≡ [] → SentFollows l l' given given' → given' ≡ all_more given (sent_of l')
 all_told l l' given given' nothing follows = follows.follows given (sym (ap (all_more given) nothing ∙ none_more given))
+
+-- The same where it ends by a fault.
+
+pub unless_memory : (l l' : OwnLog) (given given' : Option (List Sending)) → SentUnlessMemory fault.Memory l l' given given'
+unless_memory l l' given given' = record { sent = λ other. absurd (other refl) }
+
+pub unless_follows : (f : RunFault) (l l' : OwnLog) (given given' : Option (List Sending)) → SentFollows l l' given given' → SentUnlessMemory f l l' given given'
+unless_follows f l l' given given' follows = record { sent = λ other. follows }
+
+pub unless_none : (f : RunFault) (l l' : OwnLog) (given : Option (List Sending)) → sent_of l' ≡ sent_of l → SentUnlessMemory f l l' given given
+unless_none f l l' given same = record { sent = λ other. follows_none l l' given same }
+
+pub unless_on : (f : RunFault) (l m l' : OwnLog) (given between given' : Option (List Sending)) → SentFollows l m given between → SentUnlessMemory f m l' between given' → SentUnlessMemory f l l' given given'
+unless_on f l m l' given between given' first second = record { sent = λ other. follows_on l m l' given between given' first (second.sent other) }
+
+pub unless_from : (f : RunFault) (l m l' : OwnLog) (given given' : Option (List Sending)) → sent_of m ≡ sent_of l → SentUnlessMemory f m l' given given' → SentUnlessMemory f l l' given given'
+unless_from f l m l' given given' same later = record { sent = λ other. follows_from l m l' given given' same (later.sent other) }
+
+-- a fault, and the one by which the thread ends behind it
+pub unless_both : (f later : RunFault) (l m l' : OwnLog) (given between given' : Option (List Sending)) → (f ≡ fault.Memory → later ≡ fault.Memory) →
+    SentUnlessMemory f l m given between → SentUnlessMemory later m l' between given' → SentUnlessMemory later l l' given given'
+unless_both f later l m l' given between given' memory first second = record {
+  sent = λ other. follows_on l m l' given between given' (first.sent (λ is. other (memory is))) (second.sent other);
+}
+
+pub told_unless : (f : RunFault) (l l' : OwnLog) (given given' : Option (List Sending)) → sent_of l ≡ [] → SentUnlessMemory f l l' given given' → ToldUnlessMemory f l' given given'
+told_unless f l l' given given' nothing unless = record { told = λ other. all_told l l' given given' nothing (unless.sent other) }
+
+pub told_nothing : (f : RunFault) (l : OwnLog) (given : Option (List Sending)) → sent_of l ≡ [] → ToldUnlessMemory f l given given
+told_nothing f l given nothing = record { told = λ other. sym (ap (all_more given) nothing ∙ none_more given) }

@@ -1,26 +1,38 @@
 -- What a client sends.
-use Rattle.std.specs.Prelude.{◌≡◌, ℕ, List, [], ◌∷◌, ◌++◌, map, Option, Some, None}
+use Rattle.std.specs.Prelude.{◌≡◌, ℕ, List, [], ◌∷◌, ◌++◌, map, Option}
 use Rattle.lock_messages.specs.declared.ids.Actor.TheVariants as actor
 use Rattle.lock_messages.specs.declared.messages.Message.{Message}
 use Rattle.lock_messages.specs.Frames.{frame_of}
 use Rattle.lock_model.specs.Ballots.{Ballot}
 use Rattle.lossy_link.specs.declared.parcels.Sending.{Sending}
 use Rattle.lossy_link.specs.declared.parcels.Sending.TheVariants as sending
+use Rattle.lossy_link.specs.Links.{all_more}
 use Rattle.world_model.specs.declared.events.Effect.{Effect}
 use Rattle.world_model.specs.declared.events.Effect.TheVariants as effect
 use Rattle.world_model.specs.declared.events.Event.{Event}
 use Rattle.world_model.specs.declared.events.Event.TheVariants as event
 use Rattle.world_model.specs.Parts.{Part, said_by, after_own}
+use Rattle.event_recorders.specs.declared.faults.RunFault.{RunFault}
+use Rattle.event_recorders.specs.declared.faults.RunFault.TheVariants as fault
 use Rattle.event_recorders.specs.OwnLogs.{OwnLog}
 
 -- a message to a node, as its frame and under its number
 abbrev pub sending_to : ℕ → ℕ → Message → Sending
 sending_to n number m = sending.Sent (actor.Node n) (record { number = number; frame = frame_of m })
 
--- the number under which a message was said
+-- the number under which a message was said; what else comes of an event has none
 abbrev pub number_of : Effect → ℕ
 number_of (effect.Sent number m) = number
-number_of _ = 0
+number_of (effect.Chose a) = 0
+number_of effect.Tried = 0
+number_of effect.Kept = 0
+number_of (effect.Said first count) = 0
+number_of (effect.Took m changed) = 0
+number_of (effect.Heard m made) = 0
+number_of effect.Inside = 0
+number_of effect.Outside = 0
+number_of effect.Down = 0
+number_of effect.Up = 0
 
 -- What a client sends for an event of its own: at a SayTo what its part says there, to the node.
 abbrev pub sent_for : Ballot → Event → Effect → Part → List Sending
@@ -45,12 +57,16 @@ sent_by b p (q ∷ own) = sent_for b q.0 q.1 p ++ sent_by b (after_own b q.0 q.1
 abbrev pub sent_of : OwnLog → List Sending
 sent_of l = sent_by l.ballot l.opening l.events
 
--- the list longer by these, where it is known
-abbrev pub all_more : {X : Type 0} → Option (List X) → List X → Option (List X)
-all_more None more = None
-all_more (Some xs) more = Some (xs ++ more)
-
 -- Where what was given to a link before is what one log tells, on top of what was there, what was given
 -- since is what the other log tells.
 pub record SentFollows (l l' : OwnLog) (given given' : Option (List Sending)) : Type 0 where
   pub follows : (before : Option (List Sending)) → given ≡ all_more before (sent_of l) → given' ≡ all_more before (sent_of l')
+
+-- The same, unless it ended by want of memory, which may come between a message's line in the log and its
+-- sending.
+pub record SentUnlessMemory (f : RunFault) (l l' : OwnLog) (given given' : Option (List Sending)) : Type 0 where
+  pub sent : (f ≡ fault.Memory → ⊥) → SentFollows l l' given given'
+
+-- all that the log tells was sent, on top of what was sent before, unless it ended by want of memory
+pub record ToldUnlessMemory (f : RunFault) (l : OwnLog) (given given' : Option (List Sending)) : Type 0 where
+  pub told : (f ≡ fault.Memory → ⊥) → given' ≡ all_more given (sent_of l)

@@ -1,8 +1,8 @@
 // Asking nodes for their votes.
 
-ghost use Rattle.std.specs.Prelude.{◌≡◌, OnOk};
+ghost use Rattle.std.specs.Prelude.{◌≡◌, OnOk, IfErr};
 ghost use Rattle.client_core.specs.Calls.{MayEnter};
-ghost use Rattle.client_loop.specs.Sendings.{SentFollows};
+ghost use Rattle.client_loop.specs.Sendings.{SentFollows, SentUnlessMemory};
 ghost use Rattle.client_loop.specs.Standing.{Stands};
 ghost use Rattle.client_loop.specs.Visits.{visits_of};
 
@@ -27,6 +27,7 @@ fn ask_on<R: Recorder, L: Link>(
 ) -> Result<(), RunFault>
     requires { Stands (R.own_log recorder.old) (finds stable.now) progress.old.core }
     ensures sent { OnOk result (SentFollows (R.own_log recorder.old) (R.own_log recorder.new) (L.given link.old) (L.given link.new)) }
+    ensures faulted { IfErr result (λ f. SentUnlessMemory f (R.own_log recorder.old) (R.own_log recorder.new) (L.given link.old) (L.given link.new)) }
     ensures stands { Stands (R.own_log recorder.new) (finds stable.now) progress.new.core }
     ensures visits { visits_of (R.own_log recorder.new) ≡ visits_of (R.own_log recorder.old) }
 {
@@ -43,6 +44,7 @@ fn ask_on<R: Recorder, L: Link>(
 
 /// Asks one node after another until the votes are enough. 912: the nodes that granted and those that
 /// aren't gone are not enough.
+#[tactic(auto, using(crate::proofs::SentFacts::follows_none, crate::proofs::SentFacts::follows_on, crate::proofs::SentFacts::unless_on, crate::proofs::SentFacts::unless_follows))]
 pub(crate) fn ask<W: Wait, R: Recorder, L: Link>(
     rt: &W,
     alloc: Global,
@@ -54,6 +56,8 @@ pub(crate) fn ask<W: Wait, R: Recorder, L: Link>(
 ) -> Result<(), RunFault>
     requires { Stands (R.own_log recorder.old) (finds stable.now) progress.old.core }
     ensures may_enter { OnOk result (MayEnter progress.new.core) }
+    ensures sent { OnOk result (SentFollows (R.own_log recorder.old) (R.own_log recorder.new) (L.given link.old) (L.given link.new)) }
+    ensures faulted { IfErr result (λ f. SentUnlessMemory f (R.own_log recorder.old) (R.own_log recorder.new) (L.given link.old) (L.given link.new)) }
     ensures stands { Stands (R.own_log recorder.new) (finds stable.now) progress.new.core }
     ensures visits { visits_of (R.own_log recorder.new) ≡ visits_of (R.own_log recorder.old) }
 {

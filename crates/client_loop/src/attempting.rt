@@ -3,6 +3,7 @@
 ghost use Rattle.std.specs.Prelude.{◌≡◌, OnOk, false, Some, Ok};
 ghost use Rattle.client_core.specs.Clients.{phase_of};
 ghost use Rattle.client_core.specs.declared.phases.Phase.TheVariants as phase;
+ghost use Rattle.client_loop.specs.Sendings.{sent_of};
 ghost use Rattle.client_loop.specs.Standing.{Stands, HasChosen, HasTried};
 ghost use Rattle.client_loop.specs.Visits.{visits_of, use_of};
 
@@ -18,6 +19,7 @@ use std::sync::Wait;
 use world_model::Event;
 
 /// Chooses the next attempt, for the wish. 916: none is left.
+#[tactic(auto, using(crate::proofs::SentFacts::begin_sends_nothing))]
 fn begin<R: Recorder>(
     core: &mut ClientCore,
     wish: &Wish,
@@ -26,6 +28,7 @@ fn begin<R: Recorder>(
 ) -> Result<(), RunFault>
     requires stands { Stands (R.own_log recorder.old) (finds stable.now) core.old }
     requires idle { phase_of core.old ≡ phase.Idle }
+    ensures silent { sent_of (R.own_log recorder.new) ≡ sent_of (R.own_log recorder.old) }
     ensures chosen { OnOk result (HasChosen (R.own_log recorder.new) (finds stable.now) core.new) }
     ensures begun { OnOk result ((visits_of (R.own_log recorder.new)).begun ≡ Some (use_of wish.now)) }
     ensures entered { (visits_of (R.own_log recorder.new)).entered ≡ (visits_of (R.own_log recorder.old)).entered }
@@ -55,6 +58,7 @@ fn rise_anew<R: Recorder>(
     ensures stands { OnOk result (Stands (R.own_log recorder.new) (finds stable.new) core.new) }
     ensures free { OnOk result (stuck_of stable.new ≡ false) }
     ensures idle { OnOk result (phase_of core.new ≡ phase.Idle) }
+    ensures silent { sent_of (R.own_log recorder.new) ≡ sent_of (R.own_log recorder.old) }
     ensures visits { visits_of (R.own_log recorder.new) ≡ visits_of (R.own_log recorder.old) }
 {
     let bytes = client_bytes(core.attempt());
@@ -68,6 +72,7 @@ fn rise_anew<R: Recorder>(
 
 /// Keeps the chosen attempt, with which the client then asks. Whether it was kept; where the record
 /// failed, the client has risen again.
+#[tactic(auto, using(crate::proofs::SentFacts::keeping_sends_nothing, crate::proofs::SentFacts::trying_sends_nothing, crate::proofs::SentFacts::tried_sends_nothing))]
 fn keep_chosen<R: Recorder, G: Gate>(
     core: &mut ClientCore,
     stable: &mut dyn StableRecord,
@@ -79,6 +84,7 @@ fn keep_chosen<R: Recorder, G: Gate>(
     ensures stands { OnOk result (Stands (R.own_log recorder.new) (finds stable.new) core.new) }
     ensures free { OnOk result (stuck_of stable.new ≡ false) }
     ensures again { result ≡ Ok false → phase_of core.new ≡ phase.Idle }
+    ensures silent { sent_of (R.own_log recorder.new) ≡ sent_of (R.own_log recorder.old) }
     ensures visits { visits_of (R.own_log recorder.new) ≡ visits_of (R.own_log recorder.old) }
 {
     records_fit();
@@ -111,6 +117,7 @@ pub(crate) fn attempt<W: Wait, R: Recorder, G: Gate>(
     requires idle { phase_of progress.old.core ≡ phase.Idle }
     ensures stands { OnOk result (Stands (R.own_log recorder.new) (finds stable.new) progress.new.core) }
     ensures free { OnOk result (stuck_of stable.new ≡ false) }
+    ensures silent { sent_of (R.own_log recorder.new) ≡ sent_of (R.own_log recorder.old) }
     ensures begun { OnOk result ((visits_of (R.own_log recorder.new)).begun ≡ Some (use_of wish.now)) }
     ensures entered { (visits_of (R.own_log recorder.new)).entered ≡ (visits_of (R.own_log recorder.old)).entered }
 {

@@ -1,9 +1,11 @@
 // A client's run.
 
-ghost use Rattle.std.specs.Prelude.{◌≡◌, ◌≤◌, [], OnOk, IfOk, All, false, length};
+ghost use Rattle.std.specs.Prelude.{◌≡◌, ◌≤◌, [], OnOk, IfOk, All, false, length, IfErr};
 ghost use Rattle.client_core.specs.Clients.{phase_of};
 ghost use Rattle.client_core.specs.declared.phases.Phase.TheVariants as phase;
 ghost use Rattle.event_recorders.specs.OwnLogs.{IsUnused, FindsPart};
+ghost use Rattle.lossy_link.specs.Links.{all_more};
+ghost use Rattle.client_loop.specs.Sendings.{sent_of, SentFollows, SentUnlessMemory, ToldUnlessMemory};
 ghost use Rattle.client_loop.specs.Standing.{Stands, KeepsAttempt};
 ghost use Rattle.client_loop.specs.Visits.{visits_of, HasEntered, entries_of};
 
@@ -21,6 +23,7 @@ use std::sync::Wait;
 use vote_weights::Ballot;
 
 /// The client's core as it first rises, with the attempt that its record holds.
+#[tactic(auto, using(crate::proofs::SentFacts::first_rise_sends_nothing, crate::proofs::SentFacts::unused_sends_nothing))]
 fn rise<R: Recorder>(
     client: ClientId,
     ballot: Ballot,
@@ -34,6 +37,7 @@ fn rise<R: Recorder>(
     ensures stands { IfOk result (λ core. Stands (R.own_log recorder.new) (finds stable.new) core) }
     ensures free { OnOk result (stuck_of stable.new ≡ false) }
     ensures idle { IfOk result (λ core. phase_of core ≡ phase.Idle) }
+    ensures silent { sent_of (R.own_log recorder.new) ≡ [] }
     ensures visits { (visits_of (R.own_log recorder.new)).entered ≡ [] }
 {
     let bytes = rise_first(Actor::Client(client), stable, recorder)?;
@@ -44,6 +48,7 @@ fn rise<R: Recorder>(
 }
 
 /// Fulfils the wishes in order.
+#[tactic(auto, using(crate::proofs::SentFacts::follows_on, crate::proofs::SentFacts::unless_on))]
 fn fulfil_all<W: Wait, R: Recorder, L: Link, G: Gate>(
     rt: &W,
     alloc: Global,
@@ -59,6 +64,8 @@ fn fulfil_all<W: Wait, R: Recorder, L: Link, G: Gate>(
     requires idle { phase_of core ≡ phase.Idle }
     requires few { length wishes.now ≤ MAX_WISHES }
     requires fresh { (visits_of (R.own_log recorder.old)).entered ≡ [] }
+    ensures sent { OnOk result (SentFollows (R.own_log recorder.old) (R.own_log recorder.new) (L.given link.old) (L.given link.new)) }
+    ensures faulted { IfErr result (λ p. SentUnlessMemory p.1 (R.own_log recorder.old) (R.own_log recorder.new) (L.given link.old) (L.given link.new)) }
     ensures entered { HasEntered wishes.now (entries_of result) (R.own_log recorder.new) }
     ensures all { IfOk result (λ n. n ≡ length wishes.now) }
 {
@@ -84,6 +91,7 @@ fn fulfil_all<W: Wait, R: Recorder, L: Link, G: Gate>(
 }
 
 /// Rises, and fulfils the wishes in order.
+#[tactic(auto, using(crate::proofs::SentFacts::all_told, crate::proofs::SentFacts::told_unless, crate::proofs::SentFacts::told_nothing))]
 fn run<W: Wait, R: Recorder, L: Link, G: Gate>(
     rt: &W,
     alloc: Global,
@@ -100,6 +108,8 @@ fn run<W: Wait, R: Recorder, L: Link, G: Gate>(
     requires found { FindsPart (R.own_log recorder.old).opening (finds stable.old) }
     requires kept { KeepsAttempt (R.own_log recorder.old).opening }
     requires few { length wishes.now ≤ MAX_WISHES }
+    ensures sent { OnOk result (L.given link.new ≡ all_more (L.given link.old) (sent_of (R.own_log recorder.new))) }
+    ensures faulted { IfErr result (λ p. ToldUnlessMemory p.1 (R.own_log recorder.new) (L.given link.old) (L.given link.new)) }
     ensures entered { HasEntered wishes.now (entries_of result) (R.own_log recorder.new) }
     ensures all { IfOk result (λ n. n ≡ length wishes.now) }
 {
@@ -151,6 +161,8 @@ pub fn run_client<W: Wait, R: Recorder, L: Link, G: Gate>(
     requires kept { KeepsAttempt (R.own_log recorder.old).opening }
     requires own { All (λ wish. wish.client ≡ client) wishes.now }
     requires few { length wishes.now ≤ MAX_WISHES }
+    ensures sent { OnOk result (L.given link.new ≡ all_more (L.given link.old) (sent_of (R.own_log recorder.new))) }
+    ensures faulted { IfErr result (λ p. ToldUnlessMemory p.1 (R.own_log recorder.new) (L.given link.old) (L.given link.new)) }
     ensures entered { HasEntered wishes.now (entries_of result) (R.own_log recorder.new) }
     ensures all { IfOk result (λ n. n ≡ length wishes.now) }
 {

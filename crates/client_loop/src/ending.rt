@@ -1,6 +1,7 @@
 // Giving up a wish.
 
-ghost use Rattle.std.specs.Prelude.{◌≡◌};
+ghost use Rattle.std.specs.Prelude.{◌≡◌, OnOk, IfErr};
+ghost use Rattle.client_loop.specs.Sendings.{SentFollows, SentUnlessMemory};
 ghost use Rattle.client_loop.specs.Standing.{Stands};
 ghost use Rattle.client_loop.specs.Visits.{visits_of};
 
@@ -14,6 +15,7 @@ use stable_record::StableRecord;
 use std::alloc::Global;
 
 /// Leaves, where the client asks, and says the release once to each node that was asked and isn't gone.
+#[tactic(auto, using(crate::proofs::SentFacts::follows_from, crate::proofs::SentFacts::unless_none, crate::proofs::SentFacts::unless_from))]
 fn give_up<R: Recorder, L: Link>(
     alloc: Global,
     progress: &mut Progress,
@@ -22,7 +24,9 @@ fn give_up<R: Recorder, L: Link>(
     link: &mut L,
 ) -> Result<(), RunFault>
     requires { Stands (R.own_log recorder.old) (finds stable.now) progress.old.core }
-    ensures { visits_of (R.own_log recorder.new) ≡ visits_of (R.own_log recorder.old) }
+    ensures sent { OnOk result (SentFollows (R.own_log recorder.old) (R.own_log recorder.new) (L.given link.old) (L.given link.new)) }
+    ensures faulted { IfErr result (λ f. SentUnlessMemory f (R.own_log recorder.old) (R.own_log recorder.new) (L.given link.old) (L.given link.new)) }
+    ensures visits { visits_of (R.own_log recorder.new) ≡ visits_of (R.own_log recorder.old) }
 {
     if let Phase::Asking = progress.core.phase() {
         progress.core.leave();
@@ -33,6 +37,7 @@ fn give_up<R: Recorder, L: Link>(
 
 /// Ends the client by the fault: one that has too few nodes left, or gave up, takes back what it asked
 /// for. Should that fail, the client ends by the later fault.
+#[tactic(auto, using(crate::proofs::SentFacts::unless_follows, crate::proofs::SentFacts::unless_none))]
 pub(crate) fn end<R: Recorder, L: Link>(
     alloc: Global,
     fault: RunFault,
@@ -42,7 +47,9 @@ pub(crate) fn end<R: Recorder, L: Link>(
     link: &mut L,
 ) -> RunFault
     requires { Stands (R.own_log recorder.old) (finds stable.now) progress.old.core }
-    ensures { visits_of (R.own_log recorder.new) ≡ visits_of (R.own_log recorder.old) }
+    ensures faulted { SentUnlessMemory result (R.own_log recorder.old) (R.own_log recorder.new) (L.given link.old) (L.given link.new) }
+    ensures memory { fault ≡ RunFault.Memory → result ≡ RunFault.Memory }
+    ensures visits { visits_of (R.own_log recorder.new) ≡ visits_of (R.own_log recorder.old) }
 {
     match fault {
         RunFault::TooFewNodes | RunFault::GaveUp => {

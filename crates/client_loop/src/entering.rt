@@ -6,6 +6,7 @@ ghost use Rattle.client_core.specs.declared.phases.Phase.TheVariants as phase;
 ghost use Rattle.client_core.specs.Calls.{MayEnter, entered as inside_of, left};
 ghost use Rattle.world_model.specs.Parts.{ClientPart};
 ghost use Rattle.event_recorders.specs.OwnLogs.{part_now};
+ghost use Rattle.client_loop.specs.Sendings.{sent_of};
 ghost use Rattle.client_loop.specs.Standing.{Stands, HasLeft, part_of};
 ghost use Rattle.client_loop.specs.Visits.{visits_of, visits_entering, tally, AddsUse, AddsAtMost};
 
@@ -31,6 +32,7 @@ fn stay<R: Recorder, G: Gate>(core: &mut ClientCore, recorder: &R, gate: &G)
 }
 
 /// Logs that the client enters.
+#[tactic(auto, using(crate::proofs::SentFacts::enter_sends_nothing))]
 fn enter<R: Recorder>(
     core: &ClientCore,
     stable: &dyn StableRecord,
@@ -39,6 +41,7 @@ fn enter<R: Recorder>(
     requires may { MayEnter core.now }
     requires stands { Stands (R.own_log recorder.old) (finds stable.now) core.now }
     ensures inside { OnOk result (Stands (R.own_log recorder.new) (finds stable.now) (inside_of core.now)) }
+    ensures silent { sent_of (R.own_log recorder.new) ≡ sent_of (R.own_log recorder.old) }
     ensures entered { OnOk result (visits_of (R.own_log recorder.new) ≡ visits_entering (visits_of (R.own_log recorder.old))) }
     ensures refused { OnErr result (R.own_log recorder.new ≡ R.own_log recorder.old) }
 {
@@ -47,6 +50,7 @@ fn enter<R: Recorder>(
 }
 
 /// Logs that the client has left, or has given up asking.
+#[tactic(auto, using(crate::proofs::SentFacts::leave_sends_nothing))]
 pub(crate) fn log_leave<R: Recorder>(
     core: &ClientCore,
     stable: &dyn StableRecord,
@@ -54,6 +58,7 @@ pub(crate) fn log_leave<R: Recorder>(
 ) -> Result<(), RunFault>
     requires { HasLeft (R.own_log recorder.old) (finds stable.now) core.now }
     ensures outside { OnOk result (Stands (R.own_log recorder.new) (finds stable.now) core.now) }
+    ensures silent { sent_of (R.own_log recorder.new) ≡ sent_of (R.own_log recorder.old) }
     ensures visits { visits_of (R.own_log recorder.new) ≡ visits_of (R.own_log recorder.old) }
 {
     log_plain(recorder, Event::Leave(core.client()), stable)?;
@@ -73,6 +78,7 @@ pub(crate) fn visit<R: Recorder, G: Gate>(
     requires room { entered.old < MAX_WISHES }
     ensures stands { OnOk result (Stands (R.own_log recorder.new) (finds stable.now) core.new) }
     ensures idle { OnOk result (phase_of core.new ≡ phase.Idle) }
+    ensures silent { sent_of (R.own_log recorder.new) ≡ sent_of (R.own_log recorder.old) }
     ensures entered { OnOk result (AddsUse (visits_of (R.own_log recorder.old)).begun (tally entered.old (R.own_log recorder.old)) (tally entered.new (R.own_log recorder.new))) }
     ensures counted { AddsAtMost (visits_of (R.own_log recorder.old)).begun (tally entered.old (R.own_log recorder.old)) (tally entered.new (R.own_log recorder.new)) }
 {

@@ -1,9 +1,9 @@
 // What a client does on a post.
 
-ghost use Rattle.std.specs.Prelude.{◌≡◌, OnOk, OnErr};
+ghost use Rattle.std.specs.Prelude.{◌≡◌, OnOk, OnErr, IfErr};
 ghost use Rattle.client_core.specs.Clients.{phase_of};
 ghost use Rattle.client_loop.specs.Hearing.{IsFrameFor, TakesParcel};
-ghost use Rattle.client_loop.specs.Sendings.{SentFollows};
+ghost use Rattle.client_loop.specs.Sendings.{sent_of, SentFollows, SentUnlessMemory};
 ghost use Rattle.client_loop.specs.Standing.{Stands};
 ghost use Rattle.client_loop.specs.Visits.{visits_of};
 
@@ -27,6 +27,7 @@ fn take_parcel<R: Recorder>(
     ensures taken { OnOk result (TakesParcel parcel.now.number (R.own_log recorder.old) (R.own_log recorder.new) progress.old progress.new) }
     ensures foreign { (IsFrameFor parcel.now.frame progress.old.core.client → ⊥) → (progress.new ≡ progress.old) × (R.own_log recorder.new ≡ R.own_log recorder.old) }
     ensures refused { OnErr result ((progress.new ≡ progress.old) × (R.own_log recorder.new ≡ R.own_log recorder.old)) }
+    ensures silent { sent_of (R.own_log recorder.new) ≡ sent_of (R.own_log recorder.old) }
     ensures stands { Stands (R.own_log recorder.new) (finds stable.now) progress.new.core }
     ensures phase { phase_of progress.new.core ≡ phase_of progress.old.core }
     ensures visits { visits_of (R.own_log recorder.new) ≡ visits_of (R.own_log recorder.old) }
@@ -41,7 +42,7 @@ fn take_parcel<R: Recorder>(
 /// Sends again to a node that nudges. A nudge of a node to which nothing was sent in the present wish is
 /// dropped; the last nudge of those that one wish may have ends it, and what is sent to a node that is
 /// gone goes nowhere.
-#[tactic(auto, using(crate::proofs::SentFacts::follows_none))]
+#[tactic(auto, using(crate::proofs::SentFacts::follows_none, crate::proofs::SentFacts::unless_none))]
 fn take_nudge<R: Recorder, L: Link>(
     alloc: Global,
     progress: &mut Progress,
@@ -52,6 +53,7 @@ fn take_nudge<R: Recorder, L: Link>(
 ) -> Result<(), RunFault>
     requires { Stands (R.own_log recorder.old) (finds stable.now) progress.old.core }
     ensures sent { OnOk result (SentFollows (R.own_log recorder.old) (R.own_log recorder.new) (L.given link.old) (L.given link.new)) }
+    ensures faulted { IfErr result (λ f. SentUnlessMemory f (R.own_log recorder.old) (R.own_log recorder.new) (L.given link.old) (L.given link.new)) }
     ensures stands { Stands (R.own_log recorder.new) (finds stable.now) progress.new.core }
     ensures phase { phase_of progress.new.core ≡ phase_of progress.old.core }
     ensures visits { visits_of (R.own_log recorder.new) ≡ visits_of (R.own_log recorder.old) }
@@ -70,6 +72,7 @@ fn take_nudge<R: Recorder, L: Link>(
 }
 
 /// Takes the next post. A link over which nothing comes any more has lost every node.
+#[tactic(auto, using(crate::proofs::SentFacts::follows_none, crate::proofs::SentFacts::unless_none))]
 pub(crate) fn take_post<R: Recorder, L: Link>(
     alloc: Global,
     progress: &mut Progress,
@@ -78,6 +81,8 @@ pub(crate) fn take_post<R: Recorder, L: Link>(
     link: &mut L,
 ) -> Result<(), RunFault>
     requires { Stands (R.own_log recorder.old) (finds stable.now) progress.old.core }
+    ensures sent { OnOk result (SentFollows (R.own_log recorder.old) (R.own_log recorder.new) (L.given link.old) (L.given link.new)) }
+    ensures faulted { IfErr result (λ f. SentUnlessMemory f (R.own_log recorder.old) (R.own_log recorder.new) (L.given link.old) (L.given link.new)) }
     ensures stands { Stands (R.own_log recorder.new) (finds stable.now) progress.new.core }
     ensures phase { phase_of progress.new.core ≡ phase_of progress.old.core }
     ensures visits { visits_of (R.own_log recorder.new) ≡ visits_of (R.own_log recorder.old) }

@@ -1,9 +1,9 @@
 // What a client says and hears.
 
-ghost use Rattle.std.specs.Prelude.{◌≡◌, ◌↔◌, ◌++◌, ◌∷◌, [], IsTrue, IfOk, IfSome, IfNone, OnOk, OnErr};
+ghost use Rattle.std.specs.Prelude.{◌≡◌, ◌↔◌, ◌++◌, ◌∷◌, [], IsTrue, IfOk, IfSome, IfNone, OnOk, OnErr, IfErr};
 ghost use Rattle.client_core.specs.Calls.{node_of};
 ghost use Rattle.client_core.specs.Clients.{phase_of};
-ghost use Rattle.client_loop.specs.Sendings.{sent_of, sending_to, SentFollows};
+ghost use Rattle.client_loop.specs.Sendings.{sent_of, sending_to, SentFollows, SentUnlessMemory};
 ghost use Rattle.client_loop.specs.Hearing.{IsFrameFor, Hears, HearsOf, HearsNothing};
 ghost use Rattle.client_loop.specs.Standing.{Stands};
 ghost use Rattle.client_loop.specs.Visits.{visits_of};
@@ -30,6 +30,7 @@ fn said<R: Recorder>(
     requires { Stands (R.own_log recorder.old) (finds stable.now) core.now }
     ensures said { IfOk result (λ o. IfSome o (λ p. sent_of (R.own_log recorder.new) ≡ sent_of (R.own_log recorder.old) ++ sending_to node p.0 p.1 ∷ [])) }
     ensures silent { IfOk result (λ o. IfNone o (R.own_log recorder.new ≡ R.own_log recorder.old)) }
+    ensures refused { OnErr result (R.own_log recorder.new ≡ R.own_log recorder.old) }
     ensures stands { Stands (R.own_log recorder.new) (finds stable.now) core.now }
     ensures visits { visits_of (R.own_log recorder.new) ≡ visits_of (R.own_log recorder.old) }
 {
@@ -44,7 +45,7 @@ fn said<R: Recorder>(
 }
 
 /// Says to the node what the client has to say to it, if there is anything, and sends it.
-#[tactic(auto, using(crate::proofs::SentFacts::tell_follows, crate::proofs::SentFacts::follows_none))]
+#[tactic(auto, using(crate::proofs::SentFacts::tell_follows, crate::proofs::SentFacts::follows_none, crate::proofs::SentFacts::unless_none, crate::proofs::SentFacts::unless_memory))]
 pub(crate) fn tell<R: Recorder, L: Link>(
     alloc: Global,
     core: &ClientCore,
@@ -55,6 +56,7 @@ pub(crate) fn tell<R: Recorder, L: Link>(
 ) -> Result<(), RunFault>
     requires { Stands (R.own_log recorder.old) (finds stable.now) core.now }
     ensures sent { OnOk result (SentFollows (R.own_log recorder.old) (R.own_log recorder.new) (L.given link.old) (L.given link.new)) }
+    ensures faulted { IfErr result (λ f. SentUnlessMemory f (R.own_log recorder.old) (R.own_log recorder.new) (L.given link.old) (L.given link.new)) }
     ensures stands { Stands (R.own_log recorder.new) (finds stable.now) core.now }
     ensures visits { visits_of (R.own_log recorder.new) ≡ visits_of (R.own_log recorder.old) }
 {
@@ -98,6 +100,7 @@ fn is_for_client(frame: &[u8], client: ClientId) -> bool
 
 /// Hears the message that was sent under the number, and answers it with what the client made of it;
 /// `None` where no message was, or one to another actor.
+#[tactic(auto, using(crate::proofs::SentFacts::hear_sends_nothing))]
 fn heard<R: Recorder>(
     core: &mut ClientCore,
     number: u32,
@@ -108,6 +111,7 @@ fn heard<R: Recorder>(
     ensures heard { IfOk result (λ o. IfSome o (λ p. Hears number (R.own_log recorder.old) (R.own_log recorder.new) core.old core.new p.0 p.1)) }
     ensures dropped { IfOk result (λ o. IfNone o (HearsNothing (R.own_log recorder.old) (R.own_log recorder.new) core.old core.new)) }
     ensures refused { OnErr result (HearsNothing (R.own_log recorder.old) (R.own_log recorder.new) core.old core.new) }
+    ensures silent { sent_of (R.own_log recorder.new) ≡ sent_of (R.own_log recorder.old) }
     ensures stands { Stands (R.own_log recorder.new) (finds stable.now) core.new }
     ensures phase { phase_of core.new ≡ phase_of core.old }
     ensures visits { visits_of (R.own_log recorder.new) ≡ visits_of (R.own_log recorder.old) }
@@ -135,6 +139,7 @@ pub(crate) fn hear<R: Recorder>(
     ensures dropped { IfOk result (λ o. IfNone o (HearsNothing (R.own_log recorder.old) (R.own_log recorder.new) core.old core.new)) }
     ensures foreign { (IsFrameFor parcel.now.frame core.old.client → ⊥) → result ≡ Ok None }
     ensures refused { OnErr result (HearsNothing (R.own_log recorder.old) (R.own_log recorder.new) core.old core.new) }
+    ensures silent { sent_of (R.own_log recorder.new) ≡ sent_of (R.own_log recorder.old) }
     ensures stands { Stands (R.own_log recorder.new) (finds stable.now) core.new }
     ensures phase { phase_of core.new ≡ phase_of core.old }
     ensures visits { visits_of (R.own_log recorder.new) ≡ visits_of (R.own_log recorder.old) }

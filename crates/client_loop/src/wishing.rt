@@ -1,8 +1,9 @@
 // One wish, from its attempt to its release.
 
-ghost use Rattle.std.specs.Prelude.{◌≡◌, ◌<◌, OnOk, false, Some};
+ghost use Rattle.std.specs.Prelude.{◌≡◌, ◌<◌, OnOk, false, Some, IfErr};
 ghost use Rattle.client_core.specs.Clients.{phase_of};
 ghost use Rattle.client_core.specs.declared.phases.Phase.TheVariants as phase;
+ghost use Rattle.client_loop.specs.Sendings.{SentFollows, SentUnlessMemory};
 ghost use Rattle.client_loop.specs.Standing.{Stands};
 ghost use Rattle.client_loop.specs.Visits.{tally, AddsUse, AddsAtMost, use_of};
 
@@ -21,6 +22,7 @@ use std::sync::Wait;
 
 /// Fulfils the wish: attempts, asks, enters and leaves, and releases the nodes that it asked. The
 /// entering is counted, also where the client ends by a fault after it.
+#[tactic(auto, using(crate::proofs::SentFacts::follows_from, crate::proofs::SentFacts::follows_on, crate::proofs::SentFacts::follows_none, crate::proofs::SentFacts::unless_none, crate::proofs::SentFacts::unless_on, crate::proofs::SentFacts::unless_from, crate::proofs::SentFacts::unless_both))]
 pub(crate) fn fulfil<W: Wait, R: Recorder, L: Link, G: Gate>(
     rt: &W,
     alloc: Global,
@@ -36,6 +38,8 @@ pub(crate) fn fulfil<W: Wait, R: Recorder, L: Link, G: Gate>(
     requires free { stuck_of stable.old ≡ false }
     requires idle { phase_of progress.old.core ≡ phase.Idle }
     requires room { entered.old < MAX_WISHES }
+    ensures sent { OnOk result (SentFollows (R.own_log recorder.old) (R.own_log recorder.new) (L.given link.old) (L.given link.new)) }
+    ensures faulted { IfErr result (λ f. SentUnlessMemory f (R.own_log recorder.old) (R.own_log recorder.new) (L.given link.old) (L.given link.new)) }
     ensures stands { OnOk result (Stands (R.own_log recorder.new) (finds stable.new) progress.new.core) }
     ensures free { OnOk result (stuck_of stable.new ≡ false) }
     ensures idle { OnOk result (phase_of progress.new.core ≡ phase.Idle) }

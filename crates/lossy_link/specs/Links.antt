@@ -17,6 +17,11 @@ abbrev pub one_more : {X : Type 0} → Option (List X) → X → Option (List X)
 one_more None x = None
 one_more (Some xs) x = Some (xs ++ x ∷ [])
 
+-- the list longer by these, where it is known
+abbrev pub all_more : {X : Type 0} → Option (List X) → List X → Option (List X)
+all_more None more = None
+all_more (Some xs) more = Some (xs ++ more)
+
 -- where it is known what comes, the first of it is brought, and the rest is still to come; where
 -- nothing comes, the link is closed
 abbrev pub Brings : Option (List Post) → Result Post LinkFault → Option (List Post) → Type 0

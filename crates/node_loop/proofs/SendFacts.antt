@@ -1,8 +1,7 @@
 -- What is given to a link, one reply after the other.
 use Rattle.std.proofs.Common.{◌≡◌, List, [], ◌∷◌, Option, None, Some, refl, ap, append_assoc, append-nil}
 use Rattle.lossy_link.specs.declared.parcels.Sending.{Sending}
-use Rattle.lossy_link.specs.Links.{one_more}
-use Rattle.node_loop.specs.Replies.{all_more}
+use Rattle.lossy_link.specs.Links.{one_more, all_more}
 
 -- one more and then the rest is all
 pub one_and_rest : (given : Option (List Sending)) (x : Sending) (xs : List Sending) → all_more (one_more given x) xs ≡ all_more given (x ∷ xs)

@@ -7,7 +7,7 @@ use Rattle.lock_model.specs.Ballots.{Ballot}
 use Rattle.lossy_link.specs.declared.parcels.Post.TheVariants as post
 use Rattle.lossy_link.specs.declared.parcels.Sending.{Sending}
 use Rattle.lossy_link.specs.declared.parcels.Sending.TheVariants as sending
-use Rattle.lossy_link.specs.Links.{one_more}
+use Rattle.lossy_link.specs.Links.{one_more, all_more}
 use Rattle.voter_core.specs.Voters.{Voter, Stored, record_of, replies_in}
 use Rattle.world_model.specs.declared.events.Age.{Age}
 use Rattle.world_model.specs.declared.events.Effect.{Effect}
@@ -19,7 +19,7 @@ use Rattle.world_model.specs.Parts.{Part, said_by, after_own}
 use Rattle.event_recorders.specs.OwnLogs.{OwnLog, part_now, adds, IsAdded, IsUnused}
 use Rattle.actor_steps.specs.Steps.{IsKept, IsRisenAgain}
 use Rattle.node_loop.specs.Standing.{StandsBy}
-use Rattle.node_loop.specs.Replies.{sendings, all_more, sent_for, sent_by, sent_of, first_of, SentFollows}
+use Rattle.node_loop.specs.Replies.{sendings, sent_for, sent_by, sent_of, first_of, SentFollows}
 use Rattle.node_loop.proofs.SendFacts.{none_more}
 
 -- one event more sends what it sends from the part before it

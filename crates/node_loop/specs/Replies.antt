@@ -1,5 +1,5 @@
 -- What a node sends.
-use Rattle.std.specs.Prelude.{◌≡◌, ℕ, ◌+◌, ◌%◌, ◌^◌, List, [], ◌∷◌, ◌++◌, Option, Some, None}
+use Rattle.std.specs.Prelude.{◌≡◌, ℕ, ◌+◌, ◌%◌, ◌^◌, List, [], ◌∷◌, ◌++◌, Option}
 use Rattle.lock_messages.specs.declared.ids.Actor.{Actor}
 use Rattle.lock_messages.specs.declared.ids.Actor.TheVariants as actor
 use Rattle.lock_messages.specs.declared.messages.Message.{Message}
@@ -9,6 +9,7 @@ use Rattle.lock_model.specs.Ballots.{Ballot}
 use Rattle.lossy_link.specs.declared.parcels.Post.TheVariants as post
 use Rattle.lossy_link.specs.declared.parcels.Sending.{Sending}
 use Rattle.lossy_link.specs.declared.parcels.Sending.TheVariants as sending
+use Rattle.lossy_link.specs.Links.{all_more}
 use Rattle.world_model.specs.declared.events.Effect.{Effect}
 use Rattle.world_model.specs.declared.events.Effect.TheVariants as effect
 use Rattle.world_model.specs.declared.events.Event.{Event}
@@ -34,22 +35,35 @@ abbrev pub sendings : ℕ → List Message → List Sending
 sendings number [] = []
 sendings number (m ∷ messages) = sending.Sent (addressee m) (record { number = number; frame = frame_of m }) ∷ sendings ((number + 1) % 2 ^ 32) messages
 
--- the list longer by these, where it is known
-abbrev pub all_more : {X : Type 0} → Option (List X) → List X → Option (List X)
-all_more None more = None
-all_more (Some xs) more = Some (xs ++ more)
-
--- the number of the first of what was said
+-- the number of the first of what was said; what else comes of an event has none
 abbrev pub first_of : Effect → ℕ
 first_of (effect.Said first count) = first
-first_of _ = 0
+first_of (effect.Chose a) = 0
+first_of effect.Tried = 0
+first_of effect.Kept = 0
+first_of (effect.Sent number m) = 0
+first_of (effect.Took m changed) = 0
+first_of (effect.Heard m made) = 0
+first_of effect.Inside = 0
+first_of effect.Outside = 0
+first_of effect.Down = 0
+first_of effect.Up = 0
 
 -- What a node sends for an event of its own: its replies, as it says them; and once it has fallen the
 -- nudge of its node, since its replies are lost.
 abbrev pub sent_for : Ballot → Event → Effect → Part → List Sending
 sent_for b (event.Say n) done p = sendings (first_of done) (said_by b (event.Say n) p)
 sent_for b (event.Fall (actor.Node n)) done p = sending.Told (post.Nudge n) ∷ []
-sent_for b _ done p = []
+sent_for b (event.Fall (actor.Client c)) done p = []
+sent_for b (event.Begin c m x) done p = []
+sent_for b (event.Try who) done p = []
+sent_for b (event.Kept who) done p = []
+sent_for b (event.SayTo c n) done p = []
+sent_for b (event.Take n k) done p = []
+sent_for b (event.Hear c k) done p = []
+sent_for b (event.Enter c) done p = []
+sent_for b (event.Leave c) done p = []
+sent_for b (event.Rise who age) done p = []
 
 -- the same for a list of its events, from a part on
 abbrev pub sent_by : Ballot → Part → List (Event × Effect) → List Sending

@@ -1,6 +1,7 @@
 use Rattle.std.proofs.Common.{◌≡◌, false}
 use Rattle.client_core.specs.Clients.{phase_of}
 use Rattle.client_core.specs.declared.phases.Phase.TheVariants as phase
+use Rattle.client_loop.specs.Sendings.{sent_of}
 use Rattle.client_loop.specs.Standing.{Stands}
 use Rattle.client_loop.specs.Visits.{visits_of}
 use Rattle.client_loop.proofs.attempting.attempt.Given as goal
@@ -12,3 +13,4 @@ invariant-loop g l =
     × ((goal.StableRecord-dyn g l.stable.now).stuck_of l.stable.now.1 ≡ false)
     × (phase_of l.progress.core ≡ phase.Idle)
     × ((visits_of (g.R.Recorder.own_log l.recorder)).entered ≡ (visits_of (g.R.Recorder.own_log l.fn.recorder)).entered)
+    × (sent_of (g.R.Recorder.own_log l.recorder) ≡ sent_of (g.R.Recorder.own_log l.fn.recorder))

@@ -1,5 +1,6 @@
 use Rattle.client_loop.proofs.Logs.{fallen-visits}
 use Rattle.client_loop.proofs.Attempts.{rises-again, reads-again, risen-visits}
+use Rattle.client_loop.proofs.SentFacts.{fallen_sends_nothing, rising_sends_nothing}
 use Rattle.client_loop.proofs.attempting.rise_anew.Goals as goal
 
 pub returns-in_err-found-clause-visits : goal.returns-in_err-found-clause-visits
@@ -19,3 +20,9 @@ returns-clause-stands g c =
 
 pub returns-clause-visits : goal.returns-clause-visits
 returns-clause-visits g c = risen-visits _ _ _ _ _ c.in_ok-found.ensures.risen
+
+pub returns-in_err-found-clause-silent : goal.returns-in_err-found-clause-silent
+returns-in_err-found-clause-silent g c = fallen_sends_nothing _ _ _ c.in_err-found.ensures.refused.1
+
+pub returns-clause-silent : goal.returns-clause-silent
+returns-clause-silent g c = rising_sends_nothing _ _ _ _ _ c.in_ok-found.ensures.risen

@@ -1,6 +1,7 @@
 use Rattle.std.proofs.Common.{◌≡◌, false}
 use Rattle.client_core.specs.Clients.{phase_of}
 use Rattle.client_core.specs.declared.phases.Phase.TheVariants as phase
+use Rattle.client_loop.specs.Sendings.{SentFollows}
 use Rattle.client_loop.specs.Standing.{Stands}
 use Rattle.client_loop.specs.Visits.{HasEntered}
 use Rattle.client_loop.proofs.clients.fulfil_all.Given as goal
@@ -12,3 +13,4 @@ invariant-loop-wish g l =
     × (phase_of l.progress.core ≡ phase.Idle)
     × HasEntered l.wishes l.entered (g.R.Recorder.own_log l.recorder)
     × (l.entered ≡ l.wish-index)
+    × SentFollows (g.R.Recorder.own_log l.fn.recorder) (g.R.Recorder.own_log l.recorder) (g.L.Link.given l.fn.link) (g.L.Link.given l.link)

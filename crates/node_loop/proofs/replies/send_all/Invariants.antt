@@ -1,5 +1,6 @@
 use Rattle.std.proofs.Common.{◌≡◌, drop}
-use Rattle.node_loop.specs.Replies.{sendings, all_more}
+use Rattle.lossy_link.specs.Links.{all_more}
+use Rattle.node_loop.specs.Replies.{sendings}
 use Rattle.node_loop.proofs.replies.send_all.Given as goal
 
 -- what was sent, with what is left to send, is all
