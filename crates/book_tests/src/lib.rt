@@ -24,3 +24,5 @@ mod outcomes;
 mod random_events;
 #[cfg(test)]
 mod worlds;
+#[cfg(test)]
+mod writers;

@@ -1,6 +1,6 @@
 -- What is written and gathered, a line at a time.
 use Rattle.std.proofs.Common.{◌≡◌, ℕ, ◌+◌, ◌<◌, slice_index_or, List, [], ◌∷◌, ◌++◌, length, take, drop, Option, Some, None, refl, sym, ap, subst, ◌∙◌, append_assoc}
-use Rattle.std.specs.Io.KnownBytes.{Appends}
+use Rattle.std.specs.Io.KnownBytes.{Appends, Keeps}
 use Rattle.std.proofs.lemmas.List.{append-nil, append_cancel_left, take_more, take-append-drop}
 use Rattle.std.proofs.lemmas.List.Concat.{flat_map-append}
 use Rattle.world_model.specs.declared.events.Effect.{Effect}
@@ -13,6 +13,12 @@ appends_both None mid new a b p q = tt
 appends_both (Some xs) None new a b p q = absurd p
 appends_both (Some xs) (Some ys) None a b p q = absurd q
 appends_both (Some xs) (Some ys) (Some zs) a b p q = q ∙ ap (λ (bs : List ℕ). bs ++ b) p ∙ append_assoc xs a b
+
+pub kept_appends : (old mid new : Option (List ℕ)) (text : List ℕ) → Appends old mid text → Keeps mid new → Appends old new text
+kept_appends None mid new text p q = tt
+kept_appends (Some xs) None new text p q = absurd p
+kept_appends (Some xs) (Some ys) None text p q = absurd q
+kept_appends (Some xs) (Some ys) (Some zs) text p q = q ∙ p
 
 pub grows_on : (old mid new : Option (List ℕ)) → Grows old mid → Grows mid new → Grows old new
 grows_on old mid new p q = (p.0 ++ q.0, appends_both old mid new p.0 q.0 p.1 q.1)

@@ -1,5 +1,6 @@
 -- The text of a journal, and what the events that stand in it name.
-use Rattle.std.specs.Prelude.{ℕ, List, [], ◌∷◌, ◌++◌}
+use Rattle.std.specs.Prelude.{ℕ, List, [], ◌∷◌, ◌++◌, take, Option}
+use Rattle.std.specs.Io.KnownBytes.{Appends}
 use Rattle.std.specs.List.{flat_map, AllByRecursion}
 use Rattle.lock_messages.specs.Ids.{IsNode, IsClient}
 use Rattle.lock_messages.specs.Names.{IsName}
@@ -19,6 +20,10 @@ event_line e = event_text e ++ 10 ∷ []
 -- The journal of a history: the line of each event, in order.
 abbrev pub history_text : List (Event × Effect) → List ℕ
 history_text history = flat_map (λ p. event_line p.0) history
+
+-- the lines of some first events were appended, each whole
+abbrev pub AppendsLines : Option (List ℕ) → Option (List ℕ) → List (Event × Effect) → Type 0
+AppendsLines old new history = (count : ℕ) × Appends old new (history_text (take count history))
 
 -- the nodes, the clients and the resource that an event names may be some
 abbrev pub IsWellNamed : Event → Type 0

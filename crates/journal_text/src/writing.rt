@@ -1,8 +1,9 @@
 // A history, line by line.
 
-ghost use Rattle.std.specs.Prelude.{◌≡◌, OnOk};
-ghost use Rattle.line_streams.specs.Streams.{Grows, Puts, with_gathered};
-ghost use Rattle.journal_text.specs.Journals.{event_line, history_text, AreWellNamed};
+ghost use Rattle.std.specs.Prelude.{◌≡◌, [], IfErr, IfOk, OnOk, string_bytes};
+ghost use Rattle.std.specs.Io.KnownBytes.{Keeps};
+ghost use Rattle.line_streams.specs.Streams.{Grows, LetsOut, Puts, with_gathered};
+ghost use Rattle.journal_text.specs.Journals.{event_line, history_text, AppendsLines, AreWellNamed};
 
 use crate::JournalFault;
 use crate::naming::tell_names;
@@ -12,7 +13,22 @@ use std::alloc::Global;
 use std::io::Write;
 use world_model::{Effect, Event};
 
-/// Gathers the line of an event.
+/// The line of an event, with its line feed. The only fault is want of memory.
+fn line_of(alloc: Global, event: &Event) -> Result<String, JournalFault>
+    ensures text { IfOk result (λ line. string_bytes line ≡ event_line event.now) }
+    ensures fault { IfErr result (λ e. e ≡ JournalFault.Memory) }
+{
+    let Ok(mut line) = write_event(alloc, event) else {
+        return Err(JournalFault::Memory);
+    };
+    if line.push('\n').is_err() {
+        return Err(JournalFault::Memory);
+    }
+    Ok(line)
+}
+
+/// Gathers the line of an event. Where memory is refused nothing of it is gathered; else the fault is
+/// the writer's.
 fn put_line<W: Write>(
     alloc: Global,
     event: &Event,
@@ -21,20 +37,20 @@ fn put_line<W: Write>(
 ) -> Result<(), JournalFault>
     ensures text { Puts (with_gathered (W.contents writer.old) out.old) (with_gathered (W.contents writer.new) out.new) (event_line event.now) result }
     ensures grows { Grows (W.contents writer.old) (W.contents writer.new) }
+    ensures memory { IfErr result (λ e. e ≡ JournalFault.Memory → Keeps (with_gathered (W.contents writer.old) out.old) (with_gathered (W.contents writer.new) out.new)) }
 {
-    let Ok(mut line) = write_event(alloc, event) else {
-        return Err(JournalFault::Memory);
+    let line = match line_of(alloc, event) {
+        Ok(line) => line,
+        Err(fault) => return Err(fault),
     };
-    if line.push('\n').is_err() {
-        return Err(JournalFault::Memory);
-    }
     match out.put(writer, line.as_bytes()) {
         Ok(()) => Ok(()),
         Err(_) => Err(JournalFault::Write),
     }
 }
 
-/// Gathers the lines of a history.
+/// Gathers the lines of a history. Where memory is refused whole lines were gathered; else the fault is
+/// the writer's.
 fn put_lines<W: Write>(
     alloc: Global,
     history: &[(Event, Effect)],
@@ -44,6 +60,7 @@ fn put_lines<W: Write>(
     ensures text { Puts (with_gathered (W.contents writer.old) out.old) (with_gathered (W.contents writer.new) out.new) (history_text history.now) result }
     ensures grows { Grows (W.contents writer.old) (W.contents writer.new) }
     ensures named { OnOk result (AreWellNamed history.now) }
+    ensures memory { IfErr result (λ e. e ≡ JournalFault.Memory → AppendsLines (with_gathered (W.contents writer.old) out.old) (with_gathered (W.contents writer.new) out.new) history.now) }
 {
     for (event, _) in history {
         tell_names(event);
@@ -51,6 +68,18 @@ fn put_lines<W: Write>(
             Ok(()) => {}
             Err(fault) => return Err(fault),
         }
+    }
+    Ok(())
+}
+
+/// Writes what is gathered. The only fault is the writer's.
+fn end_text<W: Write>(out: &mut Gathered, writer: &mut W) -> Result<(), JournalFault>
+    ensures bytes { LetsOut (W.contents writer.old) (W.contents writer.new) out.old out.new }
+    ensures empty { OnOk result (out.new ≡ []) }
+    ensures fault { IfErr result (λ e. e ≡ JournalFault.Write) }
+{
+    if out.let_out(writer).is_err() {
+        return Err(JournalFault::Write);
     }
     Ok(())
 }
@@ -78,8 +107,8 @@ pub fn write_history<W: Write>(
         Ok(()) => {}
         Err(fault) => return Err(fault),
     }
-    match out.let_out(writer) {
+    match end_text(&mut out, writer) {
         Ok(()) => Ok(()),
-        Err(_) => Err(JournalFault::Write),
+        Err(fault) => Err(fault),
     }
 }

@@ -1,7 +1,7 @@
 -- Reading a line, and writing a text, a part at a time.
 use Rattle.std.proofs.Common.{◌≡◌, ℕ, suc, ◌+◌, ◌-◌, ◌<◌, ◌≤◌, min, Bool, true, false, cond, List, [], ◌∷◌, ◌++◌, length, take, drop, Option, Some, None, IfSome, Ok, refl, sym, ap, subst, ◌∙◌, arith, append_assoc}
 use Rattle.std.specs.List.{All, onto_first, slice_split, slice_range, copy_within, list_any}
-use Rattle.std.specs.Io.KnownBytes.{Consumes, Keeps, Appends, IsAtEnd}
+use Rattle.std.specs.Io.KnownBytes.{prepend_known, Consumes, Keeps, Appends, IsAtEnd}
 use Rattle.std.proofs.lemmas.List.{append-nil, take-append-drop, length-take, length-take-le, length-drop, drop-take, drop-drop, take_all, take_at}
 use Rattle.std.proofs.lemmas.List.Elements.{All-append}
 use Rattle.std.proofs.lemmas.List.Folds.{list_any-append}
@@ -10,7 +10,7 @@ use Rattle.std.proofs.Math.Seq.{take-add}
 use Rattle.std.proofs.lemmas.List.Splits.{slice_split_none, slice_split_at, slice_split-cons_no}
 use Rattle.line_streams.specs.declared.faults.StreamFault.{StreamFault}
 use Rattle.line_streams.specs.declared.reading.End.TheVariants.{LineFeed, Input, Limit}
-use Rattle.line_streams.specs.Streams.{is_line_feed, pieces, IsPlain, left_of, Fetches, TakesHeld, ReadsPiece, AppendsBeginning, Grows, LetsOut, with_gathered}
+use Rattle.line_streams.specs.Streams.{is_line_feed, pieces, IsPlain, Fetches, TakesHeld, ReadsPiece, AppendsBeginning, Grows, LetsOut, with_gathered}
 
 -- the first part of a list that is cut
 
@@ -70,6 +70,26 @@ line_ends limit most old mid held new line after found fed taken plain h e k f =
     let (front, same, more, few, fedc) = subst (λ (b : Bool). TakesHeld {E = StreamFault} most held new line after (Ok b)) f k in
     ends_at_feed limit old held new line front after (consumes_keeps old mid held line taken kept) plain same more fedc
 
+-- what was taken of a line with the line feed behind it, and without
+pub line_taken : (most : ℕ) (old mid held new : Option (List ℕ)) (line after : List ℕ) (found fed : Bool) → Consumes old mid line → IsPlain line → Fetches {E = StreamFault} mid held (Ok found) → found ≡ true → TakesHeld {E = StreamFault} most held new line after (Ok fed) → fed ≡ true
+    → IsPlain after × Consumes old new (after ++ 10 ∷ [])
+line_taken most old mid held new line after found fed taken plain h e k f =
+    let kept : Keeps mid held = subst (λ (b : Bool). Fetches {E = StreamFault} mid held (Ok b)) e h in
+    let (front, same, more, few, fedc) = subst (λ (b : Bool). TakesHeld {E = StreamFault} most held new line after (Ok b)) f k in
+    let joined : line ++ (front ++ 10 ∷ []) ≡ after ++ 10 ∷ [] = sym (append_assoc line front (10 ∷ [])) ∙ ap (λ (bs : List ℕ). bs ++ 10 ∷ []) (sym same) in (
+      subst (λ (bs : List ℕ). IsPlain bs) (sym same) (All-append (λ (b : ℕ). is_line_feed b ≡ false) line front plain more),
+      subst (λ (bs : List ℕ). Consumes old new bs) joined (consumes_both old held new line (front ++ 10 ∷ []) (consumes_keeps old mid held line taken kept) fedc),
+    )
+
+pub part_taken : (most : ℕ) (old mid held new : Option (List ℕ)) (line after : List ℕ) (found fed : Bool) → Consumes old mid line → IsPlain line → Fetches {E = StreamFault} mid held (Ok found) → found ≡ true → TakesHeld {E = StreamFault} most held new line after (Ok fed) → fed ≡ false
+    → IsPlain after × Consumes old new after
+part_taken most old mid held new line after found fed taken plain h e k f =
+    let kept : Keeps mid held = subst (λ (b : Bool). Fetches {E = StreamFault} mid held (Ok b)) e h in
+    let (front, same, more, few, fedc) = subst (λ (b : Bool). TakesHeld {E = StreamFault} most held new line after (Ok b)) f k in (
+      subst (λ (bs : List ℕ). IsPlain bs) (sym same) (All-append (λ (b : ℕ). is_line_feed b ≡ false) line front plain more),
+      subst (λ (bs : List ℕ). Consumes old new bs) (sym same) (consumes_both old held new line front (consumes_keeps old mid held line taken kept) fedc),
+    )
+
 pub input_ends : (limit : ℕ) (old mid new : Option (List ℕ)) (line : List ℕ) (found : Bool) → Consumes old mid line → IsPlain line → Fetches {E = StreamFault} mid new (Ok found) → found ≡ false → ReadsPiece limit old new line Input
 input_ends limit old mid new line found taken plain h e = ends_at_end limit old mid new line taken plain (subst (λ (b : Bool). Fetches {E = StreamFault} mid new (Ok b)) e h)
 
@@ -96,7 +116,7 @@ held_behind room at end count o w =
     ∙ ap (λ (bs : List ℕ). take (end - (at + count)) bs) (drop-drop count at room)
 
 pub takes_front : (room : List ℕ) (at end count : ℕ) (remaining : Option (List ℕ)) → at ≤ end → count ≤ length (slice_range room at end)
-    → Consumes (left_of room at end remaining) (left_of room (at + count) end remaining) (take count (slice_range room at end))
+    → Consumes (prepend_known (slice_range room at end) remaining) (prepend_known (slice_range room (at + count) end) remaining) (take count (slice_range room at end))
 takes_front room at end count None o w = tt
 takes_front room at end count (Some xs) o w =
     let held = slice_range room at end in
@@ -104,17 +124,17 @@ takes_front room at end count (Some xs) o w =
     ∙ append_assoc (take count held) (slice_range room (at + count) end) xs
 
 pub takes_feed : (room : List ℕ) (at end count : ℕ) (remaining : Option (List ℕ)) (rest : List ℕ) → at ≤ end → count ≤ length (slice_range room at end) → drop count (slice_range room at end) ≡ 10 ∷ rest
-    → Consumes (left_of room at end remaining) (left_of room (at + count + 1) end remaining) (take count (slice_range room at end) ++ 10 ∷ [])
+    → Consumes (prepend_known (slice_range room at end) remaining) (prepend_known (slice_range room (at + count + 1) end) remaining) (take count (slice_range room at end) ++ 10 ∷ [])
 takes_feed room at end count remaining rest o w f =
     let within : count ≤ end - at = few_held room at end count w in
     let behind : slice_range room (at + count) end ≡ 10 ∷ rest = sym (held_behind room at end count o w) ∙ f in
     let some : 1 ≤ length (slice_range room (at + count) end) = subst (λ (bs : List ℕ). 1 ≤ length bs) (sym behind) (omega arith) in
-    consumes_both (left_of room at end remaining) (left_of room (at + count) end remaining) (left_of room (at + count + 1) end remaining)
+    consumes_both (prepend_known (slice_range room at end) remaining) (prepend_known (slice_range room (at + count) end) remaining) (prepend_known (slice_range room (at + count + 1) end) remaining)
     (take count (slice_range room at end)) (10 ∷ []) (takes_front room at end count remaining o w)
-    (subst (λ (bs : List ℕ). Consumes (left_of room (at + count) end remaining) (left_of room (at + count + 1) end remaining) bs) (ap (λ (bs : List ℕ). take 1 bs) behind)
+    (subst (λ (bs : List ℕ). Consumes (prepend_known (slice_range room (at + count) end) remaining) (prepend_known (slice_range room (at + count + 1) end) remaining) bs) (ap (λ (bs : List ℕ). take 1 bs) behind)
     (takes_front room (at + count) end 1 remaining (omega arith) some))
 
-pub fetched : (room after : List ℕ) (at end count : ℕ) (old new : Option (List ℕ)) → end ≤ at → Consumes old new (take count after) → Keeps (left_of room at end old) (left_of after 0 count new)
+pub fetched : (room after : List ℕ) (at end count : ℕ) (old new : Option (List ℕ)) → end ≤ at → Consumes old new (take count after) → Keeps (prepend_known (slice_range room at end) old) (prepend_known (slice_range after 0 count) new)
 fetched room after at end count None new e h = tt
 fetched room after at end count (Some xs) None e h = absurd h
 fetched room after at end count (Some xs) (Some ys) e h =
@@ -122,16 +142,16 @@ fetched room after at end count (Some xs) (Some ys) e h =
     let all : count - 0 ≡ count = omega arith in
     ap (λ (n : ℕ). take n after ++ ys) all ∙ sym h ∙ sym (ap (λ (n : ℕ). take n (drop at room) ++ xs) none)
 
-pub fetched_none : (room after : List ℕ) (at end count : ℕ) (old new : Option (List ℕ)) → end ≤ at → Consumes old new (take count after) → count ≡ 0 → IsAtEnd new → IsAtEnd (left_of room at end old)
+pub fetched_none : (room after : List ℕ) (at end count : ℕ) (old new : Option (List ℕ)) → end ≤ at → Consumes old new (take count after) → count ≡ 0 → IsAtEnd new → IsAtEnd (prepend_known (slice_range room at end) old)
 fetched_none room after at end count None new e h z a = tt
 fetched_none room after at end count (Some xs) None e h z a = absurd h
 fetched_none room after at end count (Some xs) (Some ys) e h z a =
     let none : end - at ≡ 0 = omega arith in
     ap (λ (n : ℕ). take n (drop at room) ++ xs) none ∙ h ∙ ap (λ (n : ℕ). take n after ++ ys) z ∙ a
 
-pub has_line_left : (room : List ℕ) (at end : ℕ) (remaining : Option (List ℕ)) → list_any is_line_feed (slice_range room at end) ≡ true → IfSome (left_of room at end remaining) (λ xs. list_any is_line_feed xs ≡ true)
-has_line_left room at end None h = tt
-has_line_left room at end (Some xs) h = rw (list_any-append is_line_feed (slice_range room at end) xs, h) refl
+pub has_line_left : (held : List ℕ) (remaining : Option (List ℕ)) → list_any is_line_feed held ≡ true → IfSome (prepend_known held remaining) (λ xs. list_any is_line_feed xs ≡ true)
+has_line_left held None h = tt
+has_line_left held (Some xs) h = rw (list_any-append is_line_feed held xs, h) refl
 
 -- writing
 

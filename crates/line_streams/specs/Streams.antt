@@ -1,8 +1,8 @@
 -- The pieces of an input, which stand between its line feeds, and how they are read one by one; and
 -- what becomes of texts that are gathered and written.
 use Rattle.std.specs.Prelude.{◌≡◌, ℕ, ◌<◌, ◌≤◌, ◌==◌, if◌then◌else◌, Bool, true, false, List, [], ◌∷◌, ◌++◌, length, take, drop, Option, Some, None, Result, Ok, Err}
-use Rattle.std.specs.List.{slice_split, slice_range, All}
-use Rattle.std.specs.Io.KnownBytes.{prepend_known, append_known, Consumes, Keeps, Appends, IsAtEnd}
+use Rattle.std.specs.List.{slice_split, All}
+use Rattle.std.specs.Io.KnownBytes.{append_known, Consumes, Keeps, Appends, IsAtEnd}
 use Rattle.line_streams.specs.declared.reading.End.{End}
 use Rattle.line_streams.specs.declared.reading.End.TheVariants.{LineFeed, Input, Limit}
 
@@ -24,10 +24,6 @@ lines_in (p ∷ q ∷ qs) = p ∷ lines_in (q ∷ qs)
 -- none of the bytes is a line feed
 abbrev pub IsPlain : List ℕ → Type 0
 IsPlain bytes = All (λ b. is_line_feed b ≡ false) bytes
-
--- the bytes of the room that are still to be given, and then what the reader has left
-abbrev pub left_of : List ℕ → ℕ → ℕ → Option (List ℕ) → Option (List ℕ)
-left_of room at end remaining = prepend_known (slice_range room at end) remaining
 
 -- what is known of the bytes that are left
 abbrev pub KnownLeft : Option (List ℕ) → (List ℕ → Type 0) → Type 0
@@ -58,6 +54,18 @@ abbrev pub ReadsPiece : ℕ → Option (List ℕ) → Option (List ℕ) → List
 ReadsPiece limit None new piece end = Unit {0}
 ReadsPiece limit (Some xs) new piece end = EndsPiece limit xs new piece end
 
+-- the line feed that was taken behind a piece that ended so
+abbrev pub feed_of : End → List ℕ
+feed_of LineFeed = 10 ∷ []
+feed_of Input = []
+feed_of Limit = []
+
+-- What a call took that reads a line: bytes that are no line feed, and behind them the line feed that
+-- ended the line, if one did. After a fault none was taken.
+abbrev pub TakesLine : {E : Type 0} → Option (List ℕ) → Option (List ℕ) → List ℕ → Result End E → Type 0
+TakesLine old new piece (Ok end) = IsPlain piece × Consumes old new (piece ++ feed_of end)
+TakesLine old new piece (Err e) = IsPlain piece × Consumes old new piece
+
 -- What was found at the front of some bytes: so many that are no line feed, at most so many, and
 -- whether a line feed stands behind them.
 pub record FindsFront (bytes : List ℕ) (most count : ℕ) (has_feed : Bool) : Type 0 where
@@ -65,12 +73,13 @@ pub record FindsFront (bytes : List ℕ) (most count : ℕ) (has_feed : Bool) : 
   pub few : count ≤ most
   pub plain : IsPlain (take count bytes)
   pub feed : has_feed ≡ true → (rest : List ℕ) × (drop count bytes ≡ 10 ∷ rest)
+  pub some : has_feed ≡ false → 0 < most → 0 < length bytes → 0 < count
 
--- Bytes are held, or none is left.
+-- Bytes are held, or none is left; a fault takes none.
 abbrev pub Fetches : {E : Type 0} → Option (List ℕ) → Option (List ℕ) → Result Bool E → Type 0
 Fetches old new (Ok true) = Keeps old new
 Fetches old new (Ok false) = Keeps old new × IsAtEnd old
-Fetches old new (Err e) = Unit {0}
+Fetches old new (Err e) = Keeps old new
 
 -- What a call added to a line: a front of what was left that has no line feed, and at most so many
 -- bytes; and whether the line feed behind it was taken too.

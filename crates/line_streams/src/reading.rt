@@ -1,20 +1,17 @@
 // An input, line by line.
 
-ghost use Rattle.std.specs.Prelude.{◌≡◌, ◌≢◌, ◌+◌, ◌≤◌, ◌++◌, IfOk, IfErr, IfSome, OnOk, true, vec_len};
+ghost use Rattle.std.specs.Prelude.{◌≡◌, ◌≢◌, ◌+◌, ◌≤◌, IfOk, IfErr, IfSome, true, vec_len};
+ghost use Rattle.std.specs.Io.KnownBytes.{prepend_known};
 ghost use Rattle.std.specs.List.{list_any};
-ghost use Rattle.std.specs.Io.{ReadsAtMost};
-ghost use Rattle.std.specs.Io.KnownBytes.{ReadConsumes};
-ghost use Rattle.line_streams.specs.Streams.{is_line_feed, is_last, ends_no_line, FindsFront, Fetches, TakesHeld, ReadsPiece};
+ghost use Rattle.line_streams.specs.Streams.{is_line_feed, is_last, ends_no_line, ReadsPiece, TakesLine};
 
 use crate::StreamFault;
-use std::io::{ErrorKind, Read};
+use crate::holding::{Held, MOST};
+use std::io::Read;
 use std::marker::Model;
 
 /// The most reads that a run makes, and the most tries of writing one text.
 pub const MAX_READS: u32 = 600_000_000;
-
-/// How many bytes a read may give.
-const ROOM: usize = 32_768;
 
 /// How a line ended.
 #[derive(Clone, Copy, Debug, PartialEq, Eq)]
@@ -56,22 +53,17 @@ impl End {
 pub struct LineReader<R: Read> {
     reader: R,
     reads_left: u32,
-    // The bytes from `at` to `end` were read and are still to be given.
-    room: [u8; ROOM],
-    at: usize,
-    end: usize,
+    // What was read and is still to be given.
+    held: Held,
 }
 
 impl<R: Read> Model for LineReader<R> {
-    ghost use Rattle.std.specs.Prelude.{ℕ, ◌≤◌, List, Option};
-    ghost use Rattle.line_streams.specs.Streams.{left_of};
-    ghost use Rattle.line_streams.specs.declared.reading.TheConstants.{ROOM};
+    ghost use Rattle.std.specs.Prelude.{ℕ, List, Option};
+    ghost use Rattle.std.specs.Io.KnownBytes.{prepend_known};
 
     ghost Value = { Option (List ℕ) };
 
-    ghost view = { λ s. left_of s.room s.at s.end (R.remaining s.reader) };
-
-    ghost invariant = { λ s. (s.at ≤ s.end) × (s.end ≤ ROOM) };
+    ghost view = { λ s. prepend_known s.held (R.remaining s.reader) };
 }
 
 impl<R: Read> LineReader<R> {
@@ -82,9 +74,7 @@ impl<R: Read> LineReader<R> {
         LineReader {
             reader,
             reads_left,
-            room: [0; ROOM],
-            at: 0,
-            end: 0,
+            held: Held::new(),
         }
     }
 
@@ -93,45 +83,7 @@ impl<R: Read> LineReader<R> {
     pub fn has_line(&self) -> bool
         ensures { result ≡ true → IfSome self.now (λ xs. list_any is_line_feed xs ≡ true) }
     {
-        has_feed(&self.room[self.at..self.end])
-    }
-
-    /// Sees to it that bytes are held; answers `false` where none is left.
-    fn fetch(&mut self) -> Result<bool, StreamFault>
-        ensures bytes { Fetches self.old self.new result }
-        ensures fault { IfErr result (λ e. e ≡ StreamFault.Read) }
-    {
-        if self.at < self.end {
-            return Ok(true);
-        }
-        self.at = 0;
-        self.end = 0;
-        let Ok(count) = fill(&mut self.reader, &mut self.reads_left, &mut self.room) else {
-            return Err(StreamFault::Read);
-        };
-        self.end = count;
-        if count == 0 {
-            return Ok(false);
-        }
-        Ok(true)
-    }
-
-    /// Adds to the line what stands at the front of the bytes that are held, at most `most` bytes;
-    /// answers whether a line feed followed, which was taken too. A fault is `Memory`.
-    fn take_held(&mut self, line: &mut Vec<u8>, most: usize) -> Result<bool, StreamFault>
-        ensures bytes { TakesHeld most self.old self.new line.old.items line.new.items result }
-        ensures fault { IfErr result (λ e. e ≡ StreamFault.Memory) }
-    {
-        let held = &self.room[self.at..self.end];
-        let (count, feed) = plain_front(held, most);
-        let (front, _) = held.split_at(count);
-        add(line, front)?;
-        self.at += count;
-        if feed {
-            self.at += 1;
-            return Ok(true);
-        }
-        Ok(false)
+        self.held.has_feed()
     }
 
     /// Reads on to the next line feed or to the end, and leaves in `line` what stands before it, in
@@ -141,81 +93,48 @@ impl<R: Read> LineReader<R> {
     /// # Errors
     ///
     /// `Read` where the reader fails or was asked as often as it may be, `Memory` where the line
-    /// needs room and memory was refused. Of the bytes that are left nothing is known then.
+    /// needs room and memory was refused. Then `line` has what was taken of the line, and no line feed
+    /// was taken.
     pub fn read_line(&mut self, line: &mut Vec<u8>, limit: usize) -> Result<End, StreamFault>
         ensures line { IfOk result (λ end. ReadsPiece limit self.old self.new line.new.items end) }
+        ensures taken { TakesLine self.old self.new line.new.items result }
         ensures few { IfOk result (λ _. vec_len line.new ≤ limit + 1) }
         ensures fault { IfErr result (λ e. e ≢ StreamFault.Write) }
     {
-        line.clear();
-        for _ in 0..u64::MAX {
-            if line.len() > limit {
-                return Ok(End::Limit);
-            }
-            let found = self.fetch()?;
-            if !found {
-                return Ok(End::Input);
-            }
-            let most = (limit - line.len()).min(ROOM) + 1;
-            let fed = self.take_held(line, most)?;
-            if fed {
-                return Ok(End::LineFeed);
-            }
-        }
-        // So many parts never come: the reads run out long before.
-        Err(StreamFault::Read)
+        let LineReader {
+            reader,
+            reads_left,
+            held,
+        } = self;
+        read_on(reader, reads_left, held, line, limit)
     }
 }
 
-/// Adds the bytes. A fault is `Memory`.
-fn add(line: &mut Vec<u8>, bytes: &[u8]) -> Result<(), StreamFault>
-    ensures bytes { OnOk result (line.new.items ≡ line.old.items ++ bytes.now) }
-    ensures fault { IfErr result (λ e. e ≡ StreamFault.Memory) }
-{
-    if line.extend_from_slice(bytes).is_err() {
-        return Err(StreamFault::Memory);
-    }
-    Ok(())
-}
-
-/// Whether a line feed is among the bytes.
-fn has_feed(bytes: &[u8]) -> bool
-    ensures { result ≡ list_any is_line_feed bytes.now }
-{
-    bytes.iter().any(|byte| *byte == b'\n')
-}
-
-/// How many bytes stand before the first line feed, `most` at most, and whether it was met.
-fn plain_front(bytes: &[u8], most: usize) -> (usize, bool)
-    ensures { FindsFront bytes.now most result.0 result.1 }
-{
-    let upto = most.min(bytes.len());
-    match bytes[..upto].iter().position(|byte| *byte == b'\n') {
-        Some(at) => (at, true),
-        None => (upto, false),
-    }
-}
-
-/// One read, made again where a signal interrupts it, while reads are left. A fault is `Read`.
-fn fill<R: Read>(
+/// Reads a line from what is held and then from the reader, as `LineReader::read_line` does.
+fn read_on<R: Read>(
     reader: &mut R,
     reads_left: &mut u32,
-    room: &mut [u8],
-) -> Result<usize, StreamFault>
-    ensures bound { ReadsAtMost result room.new }
-    ensures bytes { ReadConsumes (R.remaining reader.old) (R.remaining reader.new) result room.new }
-    ensures fault { IfErr result (λ e. e ≡ StreamFault.Read) }
+    held: &mut Held,
+    line: &mut Vec<u8>,
+    limit: usize,
+) -> Result<End, StreamFault>
+    ensures line { IfOk result (λ end. ReadsPiece limit (prepend_known held.old (R.remaining reader.old)) (prepend_known held.new (R.remaining reader.new)) line.new.items end) }
+    ensures taken { TakesLine (prepend_known held.old (R.remaining reader.old)) (prepend_known held.new (R.remaining reader.new)) line.new.items result }
+    ensures few { IfOk result (λ _. vec_len line.new ≤ limit + 1) }
+    ensures fault { IfErr result (λ e. e ≢ StreamFault.Write) }
 {
-    while *reads_left > 0 {
-        *reads_left -= 1;
-        match reader.read(room) {
-            Ok(count) => return Ok(count),
-            Err(e) => {
-                if e.kind() != ErrorKind::Interrupted {
-                    return Err(StreamFault::Read);
-                }
-            }
+    line.clear();
+    // Each round takes a byte at least, so the room up to the limit bounds them.
+    while line.len() <= limit {
+        let found = held.fetch(reader, reads_left)?;
+        if !found {
+            return Ok(End::Input);
+        }
+        let most = (limit - line.len()).min(MOST) + 1;
+        let fed = held.take(line, most)?;
+        if fed {
+            return Ok(End::LineFeed);
         }
     }
-    Err(StreamFault::Read)
+    Ok(End::Limit)
 }

@@ -1,13 +1,14 @@
 // An output that is gathered before it is written.
 
-ghost use Rattle.std.specs.Prelude.{◌≡◌, ◌≤◌, ◌<◌, [], ◌++◌, length, take, IfErr, OnOk, true, nat_lt};
+ghost use Rattle.std.specs.Prelude.{◌≡◌, ◌≢◌, ◌≤◌, ◌<◌, [], ◌++◌, length, take, IfErr, OnOk, true, nat_lt};
 ghost use Rattle.std.specs.Io.{WritesAtMost};
 ghost use Rattle.std.specs.Io.KnownBytes.{WriteAppends, Appends, Keeps};
+ghost use Rattle.std.specs.IoError.{error_kind};
 ghost use Rattle.line_streams.specs.Streams.{LetsOut, Grows, Puts, with_gathered};
 ghost use Rattle.line_streams.specs.declared.writing.TheConstants.{ROOM};
 
 use crate::{MAX_READS, StreamFault};
-use std::io::{ErrorKind, Write};
+use std::io::{Error, ErrorKind, Write};
 use std::marker::Model;
 
 /// How many bytes are gathered.
@@ -144,21 +145,22 @@ fn write_out<W: Write>(writer: &mut W, text: &[u8]) -> (usize, bool)
     (count, true)
 }
 
-/// One write, made again where a signal interrupts it. A fault is `Write`.
-fn write_some<W: Write>(writer: &mut W, text: &[u8]) -> Result<usize, StreamFault>
+/// One write, made again where a signal interrupts it. So an error is the writer's, and no
+/// interruption, or says that it was tried `MAX_READS` times.
+fn write_some<W: Write>(writer: &mut W, text: &[u8]) -> Result<usize, Error>
     ensures bound { WritesAtMost result text.now }
     ensures bytes { WriteAppends (W.contents writer.old) (W.contents writer.new) result text.now }
-    ensures fault { IfErr result (λ e. e ≡ StreamFault.Write) }
+    ensures retried { IfErr result (λ e. error_kind e ≢ ErrorKind.Interrupted) }
 {
     for _ in 0..MAX_READS {
         match writer.write(text) {
             Ok(count) => return Ok(count),
             Err(e) => {
                 if e.kind() != ErrorKind::Interrupted {
-                    return Err(StreamFault::Write);
+                    return Err(e);
                 }
             }
         }
     }
-    Err(StreamFault::Write)
+    Err(Error::from(ErrorKind::TimedOut))
 }

@@ -2,7 +2,7 @@ use Rattle.std.proofs.Common.{◌+◌, subst, sym, arith, take, drop, List, ℕ}
 use Rattle.std.specs.Io.KnownBytes.{Appends}
 use Rattle.line_streams.specs.Streams.{AppendsBeginning, with_gathered}
 use Rattle.journal_text.specs.Journals.{event_line, history_text}
-use Rattle.journal_text.proofs.TextFacts.{appends_both, grows_on, begins_later, line_more, line_within, named_more}
+use Rattle.journal_text.proofs.TextFacts.{appends_both, kept_appends, grows_on, begins_later, line_more, line_within, named_more}
 use Rattle.journal_text.proofs.writing.put_lines.Goals as goal
 
 pub returns-in-Err-clause-text : goal.returns-in-Err-clause-text
@@ -19,6 +19,14 @@ returns-in-Err-clause-text g c =
 
 pub returns-in-Err-clause-grows : goal.returns-in-Err-clause-grows
 returns-in-Err-clause-grows g c = grows_on _ _ _ c.loop-event.invariant.grown c.in-Err.ensures.grows
+
+pub returns-in-Err-clause-memory : goal.returns-in-Err-clause-memory
+returns-in-Err-clause-memory g c = λ refused.
+    let out = g.W.Write.contents in
+    let old = with_gathered (out c.args.writer.now) c.args.out.now in
+    let mid = with_gathered (out c.loop-event.writer) c.loop-event.out in
+    let new = with_gathered (out c.put_line.new.writer) c.put_line.new.out in
+    (c.loop-event.event-index, kept_appends old mid new (history_text (take c.loop-event.event-index c.args.history.now)) c.loop-event.invariant.text (c.in-Err.ensures.memory refused))
 
 pub loop-event-preserved : goal.loop-event-preserved
 loop-event-preserved g c =

@@ -12,14 +12,14 @@ returns-in-Err-clause-text g c =
     (begun_from_nothing old (with_gathered new c.put_lines.new.out) c.new-out.result (history_text c.args.history.now) c.new-out.ensures c.in-Err.ensures.text)
     c.in-Err.ensures.grows
 
-pub returns-in-Err-let_out-clause-text : goal.returns-in-Err-let_out-clause-text
-returns-in-Err-let_out-clause-text g c =
+pub returns-in-Err-end_text-clause-text : goal.returns-in-Err-end_text-clause-text
+returns-in-Err-end_text-clause-text g c =
     let put = g.W.Write.contents in
     let text = history_text c.args.history.now in
     let old = put c.args.writer.now in
     let mid = put c.put_lines.new.writer in
-    let new = put c.let_out.new.writer in
+    let new = put c.end_text.new.writer in
     let all = from_nothing old (with_gathered mid c.put_lines.new.out) c.new-out.result text c.new-out.ensures c.in-Ok.ensures.text in
-    beginning_out old new c.let_out.new.self text
-    (whole_is_beginning old (with_gathered new c.let_out.new.self) text (all_out old mid new c.put_lines.new.out c.let_out.new.self text all c.let_out.ensures.bytes))
-    (grows_on old mid new c.in-Ok.ensures.grows (lets_out_grows mid new c.put_lines.new.out c.let_out.new.self c.let_out.ensures.bytes))
+    beginning_out old new c.end_text.new.out text
+    (whole_is_beginning old (with_gathered new c.end_text.new.out) text (all_out old mid new c.put_lines.new.out c.end_text.new.out text all c.end_text.ensures.bytes))
+    (grows_on old mid new c.in-Ok.ensures.grows (lets_out_grows mid new c.put_lines.new.out c.end_text.new.out c.end_text.ensures.bytes))

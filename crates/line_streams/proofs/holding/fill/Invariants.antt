@@ -1,5 +1,5 @@
 use Rattle.std.specs.Io.KnownBytes.{Keeps}
-use Rattle.line_streams.proofs.reading.fill.Given as goal
+use Rattle.line_streams.proofs.holding.fill.Given as goal
 
 abbrev pub invariant-loop-reads_left : goal.invariant-loop-reads_left
 invariant-loop-reads_left g l = Keeps (g.R.Read.remaining l.fn.reader) (g.R.Read.remaining l.reader)

@@ -1,15 +1,13 @@
-use Rattle.std.proofs.Common.{◌≤◌, ◌+◌, ◌∙◌, ◌++◌, List, ℕ, Option, [], ◌∷◌, take, sym, ap, subst}
+use Rattle.std.proofs.Common.{◌≤◌, ◌+◌, ◌∙◌, ◌++◌, List, ℕ, [], ◌∷◌, take, sym, ap, subst}
 use Rattle.std.specs.List.{slice_range}
-use Rattle.std.specs.Io.KnownBytes.{Consumes}
+use Rattle.std.specs.Io.KnownBytes.{prepend_known, Consumes}
 use Rattle.std.proofs.lemmas.List.{length-take-le}
-use Rattle.line_streams.specs.Streams.{left_of}
 use Rattle.line_streams.proofs.StreamFacts.{takes_front, takes_feed}
-use Rattle.line_streams.proofs.reading.LineReader.take_held.Goals as goal
+use Rattle.line_streams.proofs.holding.Held.take.Goals as goal
 
 pub returns-then-feed-clause-bytes : goal.returns-then-feed-clause-bytes
-returns-then-feed-clause-bytes g c =
+returns-then-feed-clause-bytes c = λ behind.
     let s = c.self.inside in
-    let remaining = g.R.Read.remaining s.reader in
     let held = slice_range s.room s.at s.end in
     let count = c.plain_front-count.result.0 in
     let found = c.plain_front-count.ensures in
@@ -18,14 +16,13 @@ returns-then-feed-clause-bytes g c =
       c.in_ok-add.ensures.bytes ∙ ap (λ (bs : List ℕ). c.args.line.now.items ++ bs) c.split_at.ensures.front,
       found.plain,
       subst (λ (n : ℕ). n ≤ c.args.most) (sym (length-take-le count held found.within)) found.few,
-      subst (λ (left : Option (List ℕ)). Consumes left (left_of s.room (s.at + count + 1) s.end remaining) (take count held ++ 10 ∷ [])) c.self.view_is
-          (takes_feed s.room s.at s.end count remaining rest c.self.invariant.0 found.within f),
+      subst (λ (bs : List ℕ). Consumes (prepend_known bs behind) (prepend_known (slice_range s.room (s.at + count + 1) s.end) behind) (take count held ++ 10 ∷ [])) c.self.view_is
+          (takes_feed s.room s.at s.end count behind rest c.self.invariant.0 found.within f),
     )
 
 pub returns-clause-bytes : goal.returns-clause-bytes
-returns-clause-bytes g c =
+returns-clause-bytes c = λ behind.
     let s = c.self.inside in
-    let remaining = g.R.Read.remaining s.reader in
     let held = slice_range s.room s.at s.end in
     let count = c.plain_front-count.result.0 in
     let found = c.plain_front-count.ensures in (
@@ -33,6 +30,6 @@ returns-clause-bytes g c =
       c.in_ok-add.ensures.bytes ∙ ap (λ (bs : List ℕ). c.args.line.now.items ++ bs) c.split_at.ensures.front,
       found.plain,
       subst (λ (n : ℕ). n ≤ c.args.most) (sym (length-take-le count held found.within)) found.few,
-      subst (λ (left : Option (List ℕ)). Consumes left (left_of s.room (s.at + count) s.end remaining) (take count held)) c.self.view_is
-          (takes_front s.room s.at s.end count remaining c.self.invariant.0 found.within),
+      subst (λ (bs : List ℕ). Consumes (prepend_known bs behind) (prepend_known (slice_range s.room (s.at + count) s.end) behind) (take count held)) c.self.view_is
+          (takes_front s.room s.at s.end count behind c.self.invariant.0 found.within),
     )

@@ -1,0 +1,92 @@
+// Writers that are interrupted and that fail, under journals that are gathered once and more often.
+
+ghost use Rattle.std.specs.Prelude.{◌≡◌};
+
+use crate::logging::{berth_of, opened, takes};
+use crate::outcomes::{Failure, Outcome, check};
+use crate::worlds::{client, three_nodes};
+use history_book::{Berth, Book, JournalFault};
+use std::alloc::Global;
+use std::io;
+use std::io::{Error, ErrorKind, Write};
+use world_model::{Age, Event};
+
+/// A writer that is interrupted before each write, takes so many bytes, and then fails.
+#[derive(Drop)]
+struct Sinks {
+    left: usize,
+    taken: usize,
+    interrupted: bool,
+}
+
+impl Write for Sinks {
+    fn write(&mut self, buf: &[u8]) -> io::Result<usize> {
+        if self.interrupted {
+            self.interrupted = false;
+            return Err(Error::from(ErrorKind::Interrupted));
+        }
+        self.interrupted = true;
+        let count = self.left.min(buf.len());
+        if count == 0 {
+            return Err(Error::from(ErrorKind::BrokenPipe));
+        }
+        self.left -= count;
+        self.taken = self.taken.saturating_add(count);
+        Ok(count)
+    }
+
+    fn flush(&mut self) -> io::Result<()> {
+        Ok(())
+    }
+}
+
+/// c1 rises and falls in turn: each time the journal has 20 bytes more.
+fn rises(book: &mut Book, berth: &mut Berth, times: u32) -> Outcome
+    requires { berth.old.number ≡ book.old.number → berth.old.table ≡ book.old.table }
+    ensures book { (book.new.number ≡ book.old.number) × (book.new.table ≡ book.old.table) }
+    ensures berth { (berth.new.number ≡ berth.old.number) × (berth.new.table ≡ berth.old.table) }
+{
+    let who = &client(1)?;
+    let (rise, fall) = (&Event::Rise(*who, Age::Old), &Event::Fall(*who));
+    for _ in 0..times {
+        takes(book, berth, *rise)?;
+        takes(book, berth, *fall)?;
+    }
+    Ok(())
+}
+
+/// Whether a writer with so much room takes the journal of so many bytes: all of it, or what there is
+/// room for, and then the fault is the writer's.
+fn fits(alloc: Global, book: &Book, bytes: usize, room: usize) -> Outcome {
+    let mut out = Sinks {
+        left: room,
+        taken: 0,
+        interrupted: true,
+    };
+    match book.write_journal(alloc, &mut out) {
+        Ok(()) => check(room >= bytes && out.taken == bytes),
+        Err(JournalFault::Write) => check(room < bytes && out.taken == room),
+        Err(JournalFault::Memory) => Err(Failure::Memory),
+    }
+}
+
+fn fits_or_not(alloc: Global, times: u32, bytes: usize, rooms: &[usize]) -> Outcome {
+    let mut book = opened(alloc, 7, three_nodes(alloc)?)?;
+    let mut berth = berth_of(&mut book, client(1)?)?;
+    rises(&mut book, &mut berth, times)?;
+    for room in rooms {
+        fits(alloc, &book, bytes, *room)?;
+    }
+    Ok(())
+}
+
+#[test]
+fn short_journal(rt: HostRuntime) -> Outcome {
+    fits_or_not(rt.alloc(), 2, 40, &[0, 1, 39, 40])
+}
+
+#[test]
+fn journal_of_two_parts(rt: HostRuntime) -> Outcome {
+    let rooms = [0, 1, 32_767, 32_768, 32_769, 39_999, 40_000];
+    fits_or_not(rt.alloc(), 2_000, 40_000, &rooms)
+}

@@ -1,0 +1,157 @@
+// Bytes that were read and are still to be given.
+
+ghost use Rattle.std.specs.Prelude.{◌≡◌, ◌≢◌, ◌<◌, ◌≤◌, ◌+◌, ◌++◌, ℕ, List, Option, [], length, IfOk, IfErr, OnOk, OnErr, true, false, vec_len};
+ghost use Rattle.std.specs.List.{list_any};
+ghost use Rattle.std.specs.Io.{ReadsAtMost};
+ghost use Rattle.std.specs.Io.KnownBytes.{ReadConsumes, prepend_known};
+ghost use Rattle.std.specs.IoError.{error_kind};
+ghost use Rattle.line_streams.specs.Streams.{is_line_feed, FindsFront, Fetches, TakesHeld};
+
+use crate::StreamFault;
+use std::io::{Error, ErrorKind, Read};
+use std::marker::Model;
+
+/// How many bytes a read may give.
+const ROOM: usize = 32_768;
+
+/// The most bytes, but for one, that are looked at for a line feed at once.
+pub const MOST: usize = ROOM;
+
+/// Bytes that were read and are still to be given. Contracts see them.
+#[derive(Drop)]
+pub struct Held {
+    // The bytes from `at` to `end`.
+    room: [u8; ROOM],
+    at: usize,
+    end: usize,
+}
+
+impl Model for Held {
+    ghost use Rattle.std.specs.Prelude.{ℕ, ◌≤◌, List};
+    ghost use Rattle.std.specs.List.{slice_range};
+    ghost use Rattle.line_streams.specs.declared.holding.TheConstants.{ROOM};
+
+    ghost Value = { List ℕ };
+
+    ghost view = { λ s. slice_range s.room s.at s.end };
+
+    ghost invariant = { λ s. (s.at ≤ s.end) × (s.end ≤ ROOM) };
+}
+
+impl Held {
+    /// Nothing is held.
+    pub fn new() -> Held
+        ensures { result ≡ [] }
+    {
+        Held {
+            room: [0; ROOM],
+            at: 0,
+            end: 0,
+        }
+    }
+
+    /// Whether a line feed is held.
+    pub fn has_feed(&self) -> bool
+        ensures { result ≡ list_any is_line_feed self.now }
+    {
+        has_feed(&self.room[self.at..self.end])
+    }
+
+    /// Sees to it that bytes are held, by a read where there is none; answers `false` where none is
+    /// left. A fault is `Read`.
+    pub fn fetch<R: Read>(
+        &mut self,
+        reader: &mut R,
+        reads_left: &mut u32,
+    ) -> Result<bool, StreamFault>
+        ensures bytes { Fetches (prepend_known self.old (R.remaining reader.old)) (prepend_known self.new (R.remaining reader.new)) result }
+        ensures some { IfOk result (λ found. found ≡ true → 0 < length self.new) }
+        ensures fault { IfErr result (λ e. e ≡ StreamFault.Read) }
+    {
+        if self.at < self.end {
+            return Ok(true);
+        }
+        self.at = 0;
+        self.end = 0;
+        let Ok(count) = fill(reader, reads_left, &mut self.room) else {
+            return Err(StreamFault::Read);
+        };
+        self.end = count;
+        if count == 0 {
+            return Ok(false);
+        }
+        Ok(true)
+    }
+
+    /// Adds to the line what stands at the front of the bytes that are held, at most `most` bytes;
+    /// answers whether a line feed followed, which was taken too. Else a byte was added, if there was one
+    /// and one may be added. A fault is `Memory`, and changes nothing.
+    pub fn take(&mut self, line: &mut Vec<u8>, most: usize) -> Result<bool, StreamFault>
+        ensures bytes { (behind : Option (List ℕ)) → TakesHeld most (prepend_known self.old behind) (prepend_known self.new behind) line.old.items line.new.items result }
+        ensures few { IfOk result (λ _. vec_len line.new ≤ vec_len line.old + most) }
+        ensures some { IfOk result (λ fed. fed ≡ false → 0 < most → 0 < length self.old → vec_len line.old < vec_len line.new) }
+        ensures fault { IfErr result (λ e. (e ≡ StreamFault.Memory) × (self.new ≡ self.old) × (line.new.items ≡ line.old.items)) }
+    {
+        let held = &self.room[self.at..self.end];
+        let (count, feed) = plain_front(held, most);
+        let (front, _) = held.split_at(count);
+        add(line, front)?;
+        self.at += count;
+        if feed {
+            self.at += 1;
+            return Ok(true);
+        }
+        Ok(false)
+    }
+}
+
+/// Adds the bytes. A fault is `Memory`, and adds none.
+fn add(line: &mut Vec<u8>, bytes: &[u8]) -> Result<(), StreamFault>
+    ensures bytes { OnOk result (line.new.items ≡ line.old.items ++ bytes.now) }
+    ensures none { OnErr result (line.new.items ≡ line.old.items) }
+    ensures fault { IfErr result (λ e. e ≡ StreamFault.Memory) }
+{
+    if line.extend_from_slice(bytes).is_err() {
+        return Err(StreamFault::Memory);
+    }
+    Ok(())
+}
+
+/// Whether a line feed is among the bytes.
+fn has_feed(bytes: &[u8]) -> bool
+    ensures { result ≡ list_any is_line_feed bytes.now }
+{
+    bytes.iter().any(|byte| *byte == b'\n')
+}
+
+/// How many bytes stand before the first line feed, `most` at most, and whether it was met.
+fn plain_front(bytes: &[u8], most: usize) -> (usize, bool)
+    ensures { FindsFront bytes.now most result.0 result.1 }
+{
+    let upto = most.min(bytes.len());
+    match bytes[..upto].iter().position(|byte| *byte == b'\n') {
+        Some(at) => (at, true),
+        None => (upto, false),
+    }
+}
+
+/// One read, made again where a signal interrupts it, while reads are left. So an error is the
+/// reader's, and no interruption, or says that no read was left.
+fn fill<R: Read>(reader: &mut R, reads_left: &mut u32, room: &mut [u8]) -> Result<usize, Error>
+    ensures bound { ReadsAtMost result room.new }
+    ensures bytes { ReadConsumes (R.remaining reader.old) (R.remaining reader.new) result room.new }
+    ensures retried { IfErr result (λ e. error_kind e ≢ ErrorKind.Interrupted) }
+{
+    while *reads_left > 0 {
+        *reads_left -= 1;
+        match reader.read(room) {
+            Ok(count) => return Ok(count),
+            Err(e) => {
+                if e.kind() != ErrorKind::Interrupted {
+                    return Err(e);
+                }
+            }
+        }
+    }
+    Err(Error::from(ErrorKind::TimedOut))
+}
