@@ -9,6 +9,7 @@
 #![tactic(auto)]
 
 mod keeping;
+pub mod laws;
 mod logging;
 mod reopening;
 mod rising;

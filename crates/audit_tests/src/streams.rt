@@ -3,7 +3,7 @@
 use crate::auditing::{audited, found, world};
 use crate::outcomes::{Failure, Outcome, check, check_row};
 use history_check::LineFault;
-use journal_audit::{AuditFault, Cause, MAX_LINES, Verdict, audit, audit_lines};
+use journal_audit::{AuditFault, Cause, Verdict, audit, audit_lines};
 use line_streams::LineReader;
 use std::alloc::Global;
 use std::io;
@@ -89,6 +89,48 @@ fn failing_reader(rt: HostRuntime) -> Outcome {
     Ok(())
 }
 
+/// A reader of many more bytes than an audit reads at once, which counts how often it is asked.
+#[derive(Drop)]
+struct Counts<'a> {
+    first: &'a [u8],
+    calls: &'a mut u32,
+}
+
+impl Read for Counts<'_> {
+    fn read(&mut self, buf: &mut [u8]) -> io::Result<usize> {
+        *self.calls = self.calls.saturating_add(1);
+        let count = self.first.len().min(buf.len());
+        if count == 0 {
+            // an empty line is no event
+            buf.fill(b'\n');
+            return Ok(buf.len());
+        }
+        let (now, later) = self.first.split_at(count);
+        buf[..count].copy_from_slice(now);
+        self.first = later;
+        Ok(count)
+    }
+}
+
+/// Behind the answer that brought an unsound line the reader isn't asked again.
+#[test]
+fn reads_no_further(rt: HostRuntime) -> Outcome {
+    let world = world(rt.alloc())?;
+    let mut calls = 0;
+    let reader = Counts {
+        first: UNSOUND.as_bytes(),
+        calls: &mut calls,
+    };
+    let mut out = Vec::new(rt.alloc());
+    match audit(rt.alloc(), world, reader, &mut out) {
+        Err(AuditFault::Memory | AuditFault::Write) => Err(Failure::Memory),
+        found => {
+            check(found == Ok(Verdict::Unsound(3, Cause::Refused(StepFault::WrongPhase))))?;
+            check(calls == 1)
+        }
+    }
+}
+
 /// A writer that takes nothing.
 #[derive(Drop)]
 struct Full;
@@ -163,6 +205,7 @@ fn cut_journal(rt: HostRuntime) -> Outcome {
 #[derive(Drop)]
 struct Turns {
     lines: u32,
+    rises: bool,
 }
 
 impl Read for Turns {
@@ -171,7 +214,8 @@ impl Read for Turns {
             return Ok(0);
         }
         self.lines -= 1;
-        let line: &[u8] = if self.lines % 2 == 0 {
+        self.rises = !self.rises;
+        let line: &[u8] = if self.rises {
             b"rise c1 old\n"
         } else {
             b"fall c1\n"
@@ -182,12 +226,24 @@ impl Read for Turns {
     }
 }
 
-/// As many lines as a journal may have, and one more.
+/// Ends the test unless a journal of so many lines, each of which may happen, is found so.
+fn is_found(alloc: Global, lines: u32, expected: Result<Verdict, AuditFault>) -> Outcome {
+    let turns = Turns {
+        lines,
+        rises: false,
+    };
+    let found = found(alloc, turns)?;
+    check_row(found == expected, lines as usize)
+}
+
+#[test]
+fn as_many_lines_as_may_be(rt: HostRuntime) -> Outcome {
+    is_found(rt.alloc(), 4_194_304, Ok(Verdict::Sound(4_194_304)))
+}
+
 #[test]
 fn too_many_lines(rt: HostRuntime) -> Outcome {
-    let lines = MAX_LINES + 1;
-    let found = found(rt.alloc(), Turns { lines })?;
-    check(found == Err(AuditFault::TooManyLines))
+    is_found(rt.alloc(), 4_194_305, Err(AuditFault::TooManyLines))
 }
 
 /// A line of 130 bytes, one a read: byte 129 ends the audit, and no more is read.

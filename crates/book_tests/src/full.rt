@@ -5,8 +5,14 @@ ghost use Rattle.std.specs.Prelude.{◌≡◌};
 use crate::logging::{berth_of, logs, opened, takes, takes_all};
 use crate::outcomes::{Outcome, check};
 use crate::worlds::{client, client_id, node_id, one_node};
-use history_book::{Berth, Book, BookFault, MAX_EVENTS};
-use world_model::{Age, Event, MAX_MESSAGES, StepFault};
+use history_book::{Berth, Book, BookFault};
+use world_model::{Age, Event, StepFault};
+
+/// The most events of a book, and the most messages of its world, by number: a constant of the code would
+/// follow whatever stands there.
+const EVENTS: u32 = 4_194_304;
+
+const MESSAGES: u32 = 1_048_576;
 
 /// c1 rises and falls in turn, as often as a history has room for. No events are cheaper, since these
 /// send nothing, and the records that they read are empty: all of it takes a second and 600 MB as it is
@@ -18,7 +24,7 @@ fn fill(book: &mut Book, berth: &mut Berth) -> Outcome
 {
     let who = &client(1)?;
     let (rise, fall) = (&Event::Rise(*who, Age::Old), &Event::Fall(*who));
-    for _ in 0..MAX_EVENTS / 2 {
+    for _ in 0..EVENTS / 2 {
         takes(book, berth, *rise)?;
         takes(book, berth, *fall)?;
     }
@@ -31,11 +37,11 @@ fn logs_no_more(book: &mut Book, one: &mut Berth, two: &mut Berth) -> Outcome
     requires two { two.old.number ≡ book.old.number → two.old.table ≡ book.old.table }
 {
     fill(book, one)?;
-    check(book.events() as usize == MAX_EVENTS)?;
+    check(book.events() == EVENTS)?;
     logs(book, one, "rise c1 old", Err(BookFault::Full))?;
     logs(book, two, "fall c2", Err(BookFault::Full))?;
     logs(book, two, "rise c1 old", Err(BookFault::OtherActor))?;
-    check(book.events() as usize == MAX_EVENTS)
+    check(book.events() == EVENTS)
 }
 
 #[test]
@@ -55,7 +61,7 @@ fn asks_on(book: &mut Book, berth: &mut Berth) -> Outcome
 {
     let (from, to) = (client_id(1)?, node_id(1)?);
     let asks = &Event::SayTo(from, to);
-    for _ in 0..MAX_MESSAGES {
+    for _ in 0..MESSAGES {
         takes(book, berth, *asks)?;
     }
     Ok(())
@@ -71,7 +77,7 @@ fn says_no_more(book: &mut Book, one: &mut Berth) -> Outcome
     let before = book.events();
     logs(book, one, "sayto c1 n1", Err(BookFault::Full))?;
     logs(book, one, "enter c1", no_quorum)?;
-    check(before == MAX_MESSAGES + 4 && book.events() == before)
+    check(before == MESSAGES + 4 && book.events() == before)
 }
 
 #[test]

@@ -18,6 +18,7 @@ mod attempting;
 mod clients;
 mod ending;
 mod entering;
+pub mod laws;
 mod posts;
 mod progress;
 mod releasing;

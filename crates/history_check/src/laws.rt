@@ -1,11 +1,14 @@
 //! Laws about lines. Each function computes nothing: its contract is the law.
 
+ghost use Rattle.std.specs.Prelude.{◌≡◌};
 ghost use Rattle.history_check.specs.Laws.{
   EventsAreSpelledOnce,
   LinesAreSpelledOnce,
   NumbersAreSpelledOnce,
   WishesAreSpelledOnce,
 };
+
+use crate::{MAX_LINE_LEN, MAX_WISHES};
 
 /// A word spells a number exactly where it is the number's decimal text, which has no leading zero.
 pub fn numbers_are_spelled_once()
@@ -26,4 +29,10 @@ pub fn events_are_spelled_once()
 /// A text is read as a wish exactly where it is the wish's one text, in range.
 pub fn wishes_are_spelled_once()
     ensures { WishesAreSpelledOnce }
+{}
+
+/// The limits by number: a line has at most 128 bytes, and a run 4,096 wishes.
+pub fn limits()
+    ensures bytes { MAX_LINE_LEN ≡ 128 }
+    ensures wishes { MAX_WISHES ≡ 4096 }
 {}

@@ -14,6 +14,8 @@
 #![tactic(auto)]
 
 mod faults;
+mod holding;
+pub mod laws;
 mod reading;
 mod writing;
 

@@ -26,6 +26,7 @@
 mod answers;
 mod faults;
 mod heads;
+pub mod laws;
 mod lines;
 mod orders;
 mod raising;

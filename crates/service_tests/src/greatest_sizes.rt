@@ -7,7 +7,6 @@ use operator_cli::ServeFault;
 use std::alloc::Global;
 use std::io;
 use std::io::{Read, Write};
-use world_model::MAX_MESSAGES;
 
 /// A script, and what it prints.
 #[derive(Drop)]
@@ -178,6 +177,9 @@ impl Write for Counts {
     }
 }
 
+/// The most messages of a world, by number: a constant of the code would follow whatever stands there.
+const MESSAGES: u32 = 1_048_576;
+
 /// A client says its request as often as there may be messages, and once more.
 #[test]
 fn all_messages(rt: HostRuntime) -> Outcome {
@@ -185,12 +187,12 @@ fn all_messages(rt: HostRuntime) -> Outcome {
         lines: 0,
         last: [0; 12],
     };
-    let reader = reader_of(b"sayto c1 n1\n", MAX_MESSAGES + 1);
+    let reader = reader_of(b"sayto c1 n1\n", MESSAGES + 1);
     let ended = serve_script(rt.alloc(), reader, &mut out);
     if ended == Err(ServeFault::Memory) || ended == Ok(2) {
         return Err(Failure::Memory);
     }
     check(ended == Ok(1))?;
-    check(out.lines == MAX_MESSAGES as usize + 4)?;
+    check(out.lines == MESSAGES as usize + 4)?;
     check(out.last == *b"refused 612\n")
 }

@@ -25,6 +25,7 @@ mod finding;
 mod formatting;
 mod heads;
 mod keeping;
+pub mod laws;
 mod memory_plates;
 mod plates;
 mod records;

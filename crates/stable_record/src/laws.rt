@@ -1,8 +1,9 @@
 //! Laws of the definitions. Each function computes nothing: its contract is a theorem.
 
+ghost use Rattle.std.specs.Prelude.{◌≡◌};
 ghost use Rattle.stable_record.specs.Laws.{OneSpelling, OneClientSpelling, EntriesAreFew, CallsGoOn, StrangersLeaveTheIndex};
 
-use crate::RecordFault;
+use crate::{MAX_RECORD_LEN, RecordFault};
 
 /// Each record has one spelling, and no spelling begins another.
 pub fn one_spelling()
@@ -25,4 +26,9 @@ pub fn calls_go_on()
 /// An entry without a live ticket that comes behind the others leaves an index that of the entries.
 pub fn strangers_leave_the_index()
     ensures { StrangersLeaveTheIndex }
+{}
+
+/// The limit by number: a record has at most 60,000 bytes.
+pub fn limits()
+    ensures bytes { MAX_RECORD_LEN ≡ 60000 }
 {}

@@ -1,10 +1,13 @@
 //! Laws of the definitions. Each function computes nothing: its contract is a theorem.
 
+ghost use Rattle.std.specs.Prelude.{◌≡◌};
 ghost use Rattle.world_model.specs.Examples.{FirstReader, OneGrantIsTooFew, SayBeforeKept, RestartWithOldRecord, RestartWithNewRecord, RefusedRises, RestartedClient, GreatestAttempt};
 ghost use Rattle.world_model.specs.Exclusion.{WritersAreAlone, StationsStaySound, NothingIsMuddled};
 ghost use Rattle.world_model.specs.Laws.{ExactStepsAreAllowed, StepsKeepSound, AllowedStepsAreTaken, ExactRunsAreRuns, ResumedIsSound, ResumedIsLawful, OnlyWithinIsLawful, OpeningIsResumable, SaidNumbersFit, SoundIsExclusive, InsideIsTheSet, WriterInsideIsOnly, WaitingIsTheSet, HoldingIsTheSet};
 ghost use Rattle.world_model.specs.Locality.{PlacesAreApart, StepsChangeOnePart, OwnRefusalsComeFirst, ListRefusalsComeSecond, FullOnlyWithoutRoom, MemoryIsNoRefusal, EffectsAreOfTheirEvents, MessagesAreAsListed, PartsAreLocal, RefusalsAreLocal, HistoriesAreRuns};
 ghost use Rattle.world_model.specs.Staying.{PartsStayInside, ClientsStayInside, LeavingEndsIt};
+
+use crate::MAX_MESSAGES;
 
 /// The exclusion theorem. After every run from a lawful opening, under a ballot that crosses, a
 /// writer inside a resource is there alone, and in every station of every node each reader waits only
@@ -19,8 +22,8 @@ pub fn writers_are_alone()
 }
 
 /// Each step of the exact world, its order and numbers forgotten, is one that may happen, and leaves
-/// a sound world; so does each run. The other way round, what may happen is taken, unless the list
-/// of messages is full.
+/// a sound world; so does each run. The other way round, what may happen is taken where the number that
+/// it names is that of a message to its actor, unless the list of messages is full.
 pub fn exact_steps_are_allowed()
     ensures steps { ExactStepsAreAllowed }
     ensures sound { StepsKeepSound }
@@ -115,4 +118,9 @@ pub fn worked_examples()
     ensures refused_rises { RefusedRises }
     ensures restarted_client { RestartedClient }
     ensures greatest_attempt { GreatestAttempt }
+{}
+
+/// The limit by number: a world has at most 1,048,576 messages.
+pub fn limits()
+    ensures messages { MAX_MESSAGES ≡ 1048576 }
 {}
