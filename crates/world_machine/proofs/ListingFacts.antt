@@ -1,6 +1,6 @@
 -- Tickets listed one entry after the other, and what is asked of an actor.
 use Rattle.std.proofs.Common.{◌≡◌, ◌↔◌, ℕ, ◌+◌, ◌<◌, Bool, List, [], ◌∷◌, ◌++◌, length, take, get_or, map, suc, Option, Some, None, Result, Ok, Err, refl, sym, ◌∙◌, ap, subst, arith}
-use Rattle.std.specs.Prelude.{slice_get, IfOk}
+use Rattle.std.specs.Prelude.{slice_get, IfOk, IfSome}
 use Rattle.std.specs.List.{flat_map}
 use Rattle.std.specs.Option.{option_map}
 use Rattle.std.proofs.Math.Seq.{take-suc}
@@ -8,10 +8,12 @@ use Rattle.std.proofs.lemmas.List.{append-nil}
 use Rattle.std.proofs.lemmas.Grind.{flat_map-append}
 use Rattle.std.proofs.lemmas.Option.{slice_get_within, slice_get-get_or, get_or_from_slice_get}
 use Rattle.lock_messages.specs.declared.tickets.Mode.{Mode}
+use Rattle.lock_messages.specs.declared.tickets.Mode.TheVariants.{Read}
 use Rattle.lock_messages.specs.declared.tickets.Ticket.{Ticket}
 use Rattle.lock_messages.specs.declared.messages.Message.{Message}
 use Rattle.lock_model.specs.Ballots.{Ballot}
-use Rattle.lock_model.specs.Stations.{Station}
+use Rattle.lock_model.specs.Decisions.{Among}
+use Rattle.lock_model.specs.Stations.{Station, Waits, Cause}
 use Rattle.vote_weights.specs.Sets.{has_node}
 use Rattle.world_actors.specs.Acting.{ActingNode, ActingClient}
 use Rattle.world_model.specs.declared.events.StepFault.{StepFault}
@@ -21,10 +23,12 @@ use Rattle.world_model.specs.declared.exact.ExactClientPhase.{ExactClientPhase}
 use Rattle.world_model.specs.declared.exact.ExactClientPhase.TheVariants as client
 use Rattle.world_model.specs.declared.exact.ExactWorld.{ExactWorld}
 use Rattle.world_model.specs.ExactWorlds.{numbered}
-use Rattle.world_model.specs.Forgetting.{station_of, client_phase_of, node_at, client_at, forget}
+use Rattle.world_model.specs.Exclusion.{IsExclusive}
+use Rattle.world_model.specs.Forgetting.{station_of, client_phase_of, node_at, client_at, forget, IsSound}
+use Rattle.world_model.specs.Invariants.{IsSafeTicket, IsSafeClient}
 use Rattle.world_model.specs.Views.{ticket_in, ticket_at, ticket_inside}
-use Rattle.world_model.specs.Worlds.{ClientPhase, ClientDown, ClientIdle, Chosen, Asking, IsIn}
-use Rattle.world_machine.specs.Listing.{Tells, IsInsideBy}
+use Rattle.world_model.specs.Worlds.{World, ClientPhase, ClientDown, ClientIdle, Chosen, Asking, IsIn}
+use Rattle.world_machine.specs.Listing.{Tells, IsInsideBy, AreWaiting}
 use Rattle.world_machine.specs.Machines.{node_part, client_part, world_view}
 use Rattle.world_machine.proofs.ListFacts.{numbered-map}
 
@@ -99,3 +103,30 @@ inside-by w c m x = go (numbered w.clients c)
     go : (o : Option ExactClient) → InsideBy (client_at o).phase (ticket_at o) m x
     go None = nobody-by ClientDown m x (λ t granted e. let q : ClientDown ≡ IsIn t granted = e in cc)
     go (Some k) = phase-by k.phase m x
+
+-- the ticket of a client that is inside is its own
+own_ticket_in : (b : Ballot) (w : World) (c kept : ℕ) (p : ExactClientPhase) (t : Ticket) → IsSafeTicket b w c kept (client_phase_of p) → ticket_in p ≡ Some t → t.client ≡ c
+own_ticket_in b w c kept client.Down t safe is = absurd (let q : None ≡ Some t = is in cc)
+own_ticket_in b w c kept client.Idle t safe is = absurd (let q : None ≡ Some t = is in cc)
+own_ticket_in b w c kept (client.Chosen u) t safe is = absurd (let q : None ≡ Some t = is in cc)
+own_ticket_in b w c kept (client.Asking u by) t safe is = absurd (let q : None ≡ Some t = is in cc)
+own_ticket_in b w c kept (client.Inside u by) t safe is =
+    let same : u ≡ t = cc in
+    ap (λ (x : Ticket). x.client) (sym same) ∙ safe.0.client
+
+own_ticket_at : (b : Ballot) (w : World) (c : ℕ) (o : Option ExactClient) (t : Ticket) → IsSafeClient b w c (client_at o) → ticket_at o ≡ Some t → t.client ≡ c
+own_ticket_at b w c None t safe is = absurd (let q : None ≡ Some t = is in cc)
+own_ticket_at b w c (Some k) t safe is = own_ticket_in b w c k.kept k.phase t safe.ticket is
+
+pub own_ticket : (w : ExactWorld) (c : ℕ) → IsSound w → IfSome (ticket_inside c w) (λ t. t.client ≡ c)
+own_ticket w c sound = go (ticket_inside c w) (λ t is. own_ticket_at w.ballot (forget w) c (numbered w.clients c) t (sound.safe.clients c) is)
+  where
+    go : (o : Option Ticket) → ((t : Ticket) → o ≡ Some t → t.client ≡ c) → IfSome o (λ t. t.client ≡ c)
+    go None own = tt
+    go (Some t) own = own t refl
+
+-- each reader among those that wait has a cause
+pub readers_caused : (w : World) (n : ℕ) (x : List ℕ) (tickets : List Ticket) → IsExclusive w → AreWaiting (w.nodes n).kept x tickets → (t : Ticket) → Among t tickets → t.mode ≡ Read → Cause (w.nodes n).kept Read x
+readers_caused w n x tickets exclusive waiting t among reads =
+    let waits : Waits (w.nodes n).kept t.client t.mode x = ((waiting t).0 among).0 in
+    (exclusive.readers n).kept t.client x (subst (λ (m : Mode). Waits (w.nodes n).kept t.client m x) reads waits)

@@ -1,8 +1,9 @@
 // The world: its actors and all messages ever sent.
 
-ghost use Rattle.std.specs.Prelude.{◌≡◌, ◌∷◌, [], take, IfOk, OnOk, IsOkUnless};
+ghost use Rattle.std.specs.Prelude.{◌≡◌, ◌∷◌, [], take, IfOk, IfSome, OnOk, IsOkUnless};
 ghost use Rattle.lock_messages.specs.declared.tickets.Ticket.{Ticket as TicketValue};
 ghost use Rattle.lock_model.specs.Decisions.{Among};
+ghost use Rattle.lock_model.specs.Stations.{Cause};
 ghost use Rattle.world_model.specs.Exclusion.{IsExclusive};
 ghost use Rattle.world_model.specs.ExactWorlds.{numbered, step};
 ghost use Rattle.world_model.specs.Forgetting.{forget, setting_of, IsSound};
@@ -114,10 +115,13 @@ impl World {
         }
     }
 
-    /// Tells that the world is sound, as each is. It computes nothing.
+    /// Tells what holds of every world: it is sound, so a writer inside a resource is there alone, and in
+    /// every station of every node each reader that waits has a cause. It computes nothing.
     pub fn soundness(&self)
-        ensures { IsSound self.now }
+        ensures sound { IsSound self.now }
+        ensures exclusive { IsExclusive (forget self.now) }
     {
+        lists_are_the_sets();
         let _actors = self.nodes.len();
     }
 
@@ -149,22 +153,25 @@ impl World {
         Ok(tickets)
     }
 
-    /// The ticket of a client that is inside, whatever the resource; `None` exactly where the client is
-    /// not inside, or there is no such client. One look-up, without memory.
+    /// The ticket of a client that is inside, whatever the resource, which is the client's own; `None`
+    /// exactly where the client is not inside, or there is no such client. One look-up, without memory.
     pub fn ticket_inside(&self, client: ClientId) -> Option<Ticket>
         ensures ticket { result ≡ ticket_inside client self.now }
         ensures set { IsInsideBy (forget self.now) client result }
+        ensures own { IfSome result (λ t. t.client ≡ client) }
     {
         ticket_inside(&self.clients, client)
     }
 
     /// The tickets that wait for the node's vote for the resource, in the station that the node has
-    /// kept, in the order of its entries.
+    /// kept, in the order of its entries. For each reader among them there is a cause there: a writer holds
+    /// that vote or, under problem 2, waits for it too.
     ///
     /// Errors: there is no such node (601), want of memory (613).
     pub fn waiting(&self, node: NodeId, resource: &ResourceName) -> Result<Vec<Ticket>, StepFault>
         ensures waiting { Tells (λ v. v.items) (waiting node resource.now self.now) result }
         ensures set { IfOk result (λ tickets. AreWaiting ((forget self.now).nodes node).kept resource.now tickets.items) }
+        ensures caused { IfOk result (λ tickets. (t : TicketValue) → Among t tickets.items → t.mode ≡ Mode.Read → Cause ((forget self.now).nodes node).kept Mode.Read resource.now) }
     {
         lists_are_the_sets();
         tickets_at(self.alloc, &self.nodes, node, Status::Waiting, resource)
