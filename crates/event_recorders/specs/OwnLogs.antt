@@ -71,7 +71,15 @@ FindsAfter l e strings = (done : Effect) → IsEffectOf e done → FindsPart (af
 abbrev pub IsUnread : Event → StepFault → Type 0
 IsUnread (event.Take n k) f = (f ≡ fault.NoSuchMessage) ⊎ (f ≡ fault.NotAddressed)
 IsUnread (event.Hear c k) f = (f ≡ fault.NoSuchMessage) ⊎ (f ≡ fault.NotAddressed)
-IsUnread _ f = ⊥
+IsUnread (event.Begin c m x) f = ⊥
+IsUnread (event.Try who) f = ⊥
+IsUnread (event.Kept who) f = ⊥
+IsUnread (event.SayTo c n) f = ⊥
+IsUnread (event.Say n) f = ⊥
+IsUnread (event.Enter c) f = ⊥
+IsUnread (event.Leave c) f = ⊥
+IsUnread (event.Fall who) f = ⊥
+IsUnread (event.Rise who age) f = ⊥
 
 -- why a recorder may refuse an event that its own log allows
 abbrev pub IsRecorderFault : Event → BookFault → Type 0
@@ -85,7 +93,10 @@ IsRecorderFault e book.OtherBook = Unit {0}
 abbrev pub IsDownAtRest : Actor → Part → Type 0
 IsDownAtRest (actor.Node n) (NodePart v) = (v.phase ≡ node.Down) × (v.tried ≡ None)
 IsDownAtRest (actor.Client c) (ClientPart k) = (k.phase ≡ client.Down) × (k.tried ≡ None)
-IsDownAtRest _ _ = ⊥
+IsDownAtRest (actor.Node n) (ClientPart k) = ⊥
+IsDownAtRest (actor.Node n) NoPart = ⊥
+IsDownAtRest (actor.Client c) (NodePart v) = ⊥
+IsDownAtRest (actor.Client c) NoPart = ⊥
 
 -- the log of an actor that has logged nothing, and is down with nothing tried
 pub record IsUnused (l : OwnLog) (who : Actor) : Type 0 where
@@ -97,11 +108,26 @@ pub record IsUnused (l : OwnLog) (who : Actor) : Type 0 where
 abbrev pub reads : Event → Bool
 reads (event.Take n k) = true
 reads (event.Hear c k) = true
-reads _ = false
+reads (event.Begin c m x) = false
+reads (event.Try who) = false
+reads (event.Kept who) = false
+reads (event.SayTo c n) = false
+reads (event.Say n) = false
+reads (event.Enter c) = false
+reads (event.Leave c) = false
+reads (event.Fall who) = false
+reads (event.Rise who age) = false
 
 -- the events that change what an actor keeps or tries to keep
 abbrev pub changes_record : Event → Bool
 changes_record (event.Try who) = true
 changes_record (event.Kept who) = true
 changes_record (event.Rise who age) = true
-changes_record _ = false
+changes_record (event.Begin c m x) = false
+changes_record (event.SayTo c n) = false
+changes_record (event.Say n) = false
+changes_record (event.Take n k) = false
+changes_record (event.Hear c k) = false
+changes_record (event.Enter c) = false
+changes_record (event.Leave c) = false
+changes_record (event.Fall who) = false

@@ -95,7 +95,17 @@ pub record IsLogged (b : BookValue) (k : BerthValue) (e : Event) (done : Effect)
 abbrev pub IsOfEvent : StepFault → Type 0
 IsOfEvent fault.SentListFull = ⊥
 IsOfEvent fault.Memory = ⊥
-IsOfEvent _ = Unit {0}
+IsOfEvent fault.UnknownActor = Unit {0}
+IsOfEvent fault.Down = Unit {0}
+IsOfEvent fault.Up = Unit {0}
+IsOfEvent fault.WrongPhase = Unit {0}
+IsOfEvent fault.NotStored = Unit {0}
+IsOfEvent fault.NothingToSay = Unit {0}
+IsOfEvent fault.NoSuchMessage = Unit {0}
+IsOfEvent fault.NotAddressed = Unit {0}
+IsOfEvent fault.NoQuorum = Unit {0}
+IsOfEvent fault.AttemptsSpent = Unit {0}
+IsOfEvent fault.NothingTried = Unit {0}
 
 -- The event is no step, for this reason. It is the one that the berth's own list gives or, where that
 -- gives none, the list of messages'. The berth has seen all of the history, and nothing else changed.
@@ -126,7 +136,16 @@ IsRefused (bf.NotAStep f) b k e b' k' = MayLog b k e × (length b.history < MAX_
 -- 1 for an Enter, else 0
 abbrev pub enters_by : Event → ℕ
 enters_by (event.Enter c) = 1
-enters_by _ = 0
+enters_by (event.Begin c m x) = 0
+enters_by (event.Try who) = 0
+enters_by (event.Kept who) = 0
+enters_by (event.SayTo c n) = 0
+enters_by (event.Say n) = 0
+enters_by (event.Take n k) = 0
+enters_by (event.Hear c k) = 0
+enters_by (event.Leave c) = 0
+enters_by (event.Fall who) = 0
+enters_by (event.Rise who age) = 0
 
 -- how many Enters a history has
 abbrev pub enters : List (Event × Effect) → ℕ

@@ -16,7 +16,7 @@ ghost use Rattle.line_streams.specs.Streams.{Puts};
 use crate::faults::BookFault;
 use crate::meeting::are_inside_together;
 use crate::owners::{enters_by, has_given, is_of};
-use berth_seats::{BerthSeat, BookSeat, Opening};
+use berth_seats::{BerthSeat, BookSeat, OpenedWith};
 use journal_text::{JournalFault, write_history};
 use lock_messages::Actor;
 use std::alloc::Global;
@@ -82,7 +82,7 @@ impl Book {
     }
 
     // The seat is opened with the world that `B` names, since a call can pick it from its arguments.
-    fn opened<B: Opening>(
+    fn opened<B: OpenedWith>(
         alloc: Global,
         number: u64,
         world: World,

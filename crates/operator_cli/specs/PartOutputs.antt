@@ -43,7 +43,16 @@ rising s nodes clients = record {
 -- the messages that are said have numbers that messages can have
 abbrev pub SaidFits : Effect → Type 0
 SaidFits (effect.Said first count) = 0 < count → first + count ≤ MAX_MESSAGES + 1
-SaidFits _ = Unit {0}
+SaidFits (effect.Chose a) = Unit {0}
+SaidFits effect.Tried = Unit {0}
+SaidFits effect.Kept = Unit {0}
+SaidFits (effect.Sent k m) = Unit {0}
+SaidFits (effect.Took m changed) = Unit {0}
+SaidFits (effect.Heard m heard) = Unit {0}
+SaidFits effect.Inside = Unit {0}
+SaidFits effect.Outside = Unit {0}
+SaidFits effect.Down = Unit {0}
+SaidFits effect.Up = Unit {0}
 
 -- What a call found of the tickets that a query asks for: these; or that the node isn't there; or
 -- memory was refused, and it is.

@@ -44,7 +44,15 @@ StepsKeepSound = (w v : ExactWorld) (e : Event) (done : Effect) → IsSound w �
 abbrev pub NamesItsMessage : ExactWorld → Event → Type 0
 NamesItsMessage w (event.Take n k) = (m : Message) × (numbered w.sent k ≡ Some m) × (is_for_node m n ≡ true)
 NamesItsMessage w (event.Hear c k) = (m : Message) × (numbered w.sent k ≡ Some m) × (is_for_client m c ≡ true)
-NamesItsMessage w _ = Unit {0}
+NamesItsMessage w (event.Begin c m x) = Unit {0}
+NamesItsMessage w (event.Try who) = Unit {0}
+NamesItsMessage w (event.Kept who) = Unit {0}
+NamesItsMessage w (event.SayTo c n) = Unit {0}
+NamesItsMessage w (event.Say n) = Unit {0}
+NamesItsMessage w (event.Enter c) = Unit {0}
+NamesItsMessage w (event.Leave c) = Unit {0}
+NamesItsMessage w (event.Fall who) = Unit {0}
+NamesItsMessage w (event.Rise who age) = Unit {0}
 
 -- The other way round: what may happen is taken, or refused because the list of messages is full.
 abbrev pub AllowedStepsAreTaken : Type 0
@@ -82,7 +90,15 @@ OpeningIsResumable = (b : Ballot) (problems : List Problem) (clients : ℕ) → 
 abbrev pub IsNumbered : ExactWorld → Effect → Type 0
 IsNumbered w (effect.Sent k m) = (k ≡ next_number w) × (k ≤ MAX_MESSAGES)
 IsNumbered w (effect.Said first count) = (first ≡ next_number w) × (0 < count → first + count ≤ MAX_MESSAGES + 1)
-IsNumbered w _ = Unit {0}
+IsNumbered w (effect.Chose a) = Unit {0}
+IsNumbered w effect.Tried = Unit {0}
+IsNumbered w effect.Kept = Unit {0}
+IsNumbered w (effect.Took m changed) = Unit {0}
+IsNumbered w (effect.Heard m heard) = Unit {0}
+IsNumbered w effect.Inside = Unit {0}
+IsNumbered w effect.Outside = Unit {0}
+IsNumbered w effect.Down = Unit {0}
+IsNumbered w effect.Up = Unit {0}
 
 abbrev pub SaidNumbersFit : Type 0
 SaidNumbersFit = (w v : ExactWorld) (e : Event) (done : Effect) → Takes w e done v → IsNumbered w done

@@ -76,7 +76,15 @@ EffectsAreOfTheirEvents = (w v : ExactWorld) (e : Event) (done : Effect) → Tak
 abbrev pub IsAsListed : ExactWorld → Event → Effect → Type 0
 IsAsListed w (event.Take n k) done = message_of done ≡ numbered w.sent k
 IsAsListed w (event.Hear c k) done = message_of done ≡ numbered w.sent k
-IsAsListed w _ done = Unit {0}
+IsAsListed w (event.Begin c m x) done = Unit {0}
+IsAsListed w (event.Try who) done = Unit {0}
+IsAsListed w (event.Kept who) done = Unit {0}
+IsAsListed w (event.SayTo c n) done = Unit {0}
+IsAsListed w (event.Say n) done = Unit {0}
+IsAsListed w (event.Enter c) done = Unit {0}
+IsAsListed w (event.Leave c) done = Unit {0}
+IsAsListed w (event.Fall who) done = Unit {0}
+IsAsListed w (event.Rise who age) done = Unit {0}
 
 abbrev pub MessagesAreAsListed : Type 0
 MessagesAreAsListed = (w v : ExactWorld) (e : Event) (done : Effect) → Takes w e done v → IsAsListed w e done

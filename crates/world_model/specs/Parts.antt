@@ -62,7 +62,15 @@ is_own_fault fault.NoSuchMessage = false
 is_own_fault fault.NotAddressed = false
 is_own_fault fault.SentListFull = false
 is_own_fault fault.Memory = false
-is_own_fault _ = true
+is_own_fault fault.UnknownActor = true
+is_own_fault fault.Down = true
+is_own_fault fault.Up = true
+is_own_fault fault.WrongPhase = true
+is_own_fault fault.NotStored = true
+is_own_fault fault.NothingToSay = true
+is_own_fault fault.NoQuorum = true
+is_own_fault fault.AttemptsSpent = true
+is_own_fault fault.NothingTried = true
 
 -- the refusals that the list of messages may have for an event
 abbrev pub IsListFault : Event → StepFault → Type 0
@@ -70,13 +78,27 @@ IsListFault (event.Take n k) f = (f ≡ fault.NoSuchMessage) ⊎ (f ≡ fault.No
 IsListFault (event.Hear c k) f = (f ≡ fault.NoSuchMessage) ⊎ (f ≡ fault.NotAddressed)
 IsListFault (event.SayTo c n) f = f ≡ fault.SentListFull
 IsListFault (event.Say n) f = f ≡ fault.SentListFull
-IsListFault _ f = ⊥
+IsListFault (event.Begin c m x) f = ⊥
+IsListFault (event.Try who) f = ⊥
+IsListFault (event.Kept who) f = ⊥
+IsListFault (event.Enter c) f = ⊥
+IsListFault (event.Leave c) f = ⊥
+IsListFault (event.Fall who) f = ⊥
+IsListFault (event.Rise who age) f = ⊥
 
 -- the message that an effect carries
 abbrev pub message_of : Effect → Option Message
 message_of (effect.Took m changed) = Some m
 message_of (effect.Heard m heard) = Some m
-message_of _ = None
+message_of (effect.Chose a) = None
+message_of effect.Tried = None
+message_of effect.Kept = None
+message_of (effect.Sent k m) = None
+message_of (effect.Said first count) = None
+message_of effect.Inside = None
+message_of effect.Outside = None
+message_of effect.Down = None
+message_of effect.Up = None
 
 -- the actor after its turn
 abbrev pub after_reading : {A : Type 0} → A → (Message → A) → Option Message → A

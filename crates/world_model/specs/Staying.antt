@@ -24,7 +24,15 @@ inside_ticket (ClientPart k) = ticket_in k.phase
 abbrev pub leaves_or_falls : Event → Bool
 leaves_or_falls (event.Leave c) = true
 leaves_or_falls (event.Fall who) = true
-leaves_or_falls _ = false
+leaves_or_falls (event.Begin c m x) = false
+leaves_or_falls (event.Try who) = false
+leaves_or_falls (event.Kept who) = false
+leaves_or_falls (event.SayTo c n) = false
+leaves_or_falls (event.Say n) = false
+leaves_or_falls (event.Take n k) = false
+leaves_or_falls (event.Hear c k) = false
+leaves_or_falls (event.Enter c) = false
+leaves_or_falls (event.Rise who age) = false
 
 -- none of these events is a Leave or a Fall
 abbrev pub HasNoEnd : List (Event × Effect) → Type 0

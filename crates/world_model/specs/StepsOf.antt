@@ -17,7 +17,14 @@ asks_for_memory (event.Say n) = true
 asks_for_memory (event.SayTo c n) = true
 asks_for_memory (event.Try (actor.Node n)) = true
 asks_for_memory (event.Rise (actor.Node n) age) = true
-asks_for_memory _ = false
+asks_for_memory (event.Begin c m x) = false
+asks_for_memory (event.Try (actor.Client c)) = false
+asks_for_memory (event.Kept who) = false
+asks_for_memory (event.Hear c k) = false
+asks_for_memory (event.Enter c) = false
+asks_for_memory (event.Leave c) = false
+asks_for_memory (event.Fall who) = false
+asks_for_memory (event.Rise (actor.Client c) age) = false
 
 -- The event is refused so; or memory was refused to one that asks for it, and nothing else comes in its
 -- way: the step would be taken.
