@@ -17,6 +17,16 @@ chose 1\ntried\nkept\nsent 1 request n1 c1 1 read a\nchanged\ntried\n\
 kept\nsent 2 grant n1 c1 1 read a\ncounted\ninside\nrefused 604\ninside a: c1 read\n\
 holding n1 a: c1 read\nline 14 fault 805\n";
 
+/// The longest name of a resource, through the world of a script.
+const LONG_NAME: &str = "\
+votes = [1]\nread = 1\nwrite = 1\nproblem = 2\nclients = 1\n---\n\
+begin c1 write abcdefghijklmnopqrstuvwxyz-01234\ntry c1\nkept c1\nsayto c1 n1\ntake n1 1\n\
+try n1\nkept n1\nholding n1 abcdefghijklmnopqrstuvwxyz-01234\n";
+
+const LONG_NAME_EXPECTED: &str = "\
+chose 1\ntried\nkept\nsent 1 request n1 c1 1 write abcdefghijklmnopqrstuvwxyz-01234\nchanged\n\
+tried\nkept\nholding n1 abcdefghijklmnopqrstuvwxyz-01234: c1 write\n";
+
 const BAD_SETTINGS: &str = "votes = [1, 1]\nread = 1\nwrite = 1\nproblem = 1\nclients = 2\n---\n";
 
 /// Serves a script.
@@ -62,6 +72,11 @@ fn serves(alloc: Global, script: &str, expected: &str, status: u8) -> Outcome {
 #[test]
 fn serve_a_script(rt: HostRuntime) -> Outcome {
     serves(rt.alloc(), SCRIPT, EXPECTED, 1)
+}
+
+#[test]
+fn serve_a_long_name(rt: HostRuntime) -> Outcome {
+    serves(rt.alloc(), LONG_NAME, LONG_NAME_EXPECTED, 0)
 }
 
 #[test]

@@ -62,8 +62,9 @@ pub(crate) fn begins_short(alloc: Global, row: &str) -> Option<bool> {
     Some(true)
 }
 
-// One message of each kind.
+// A request for the shortest name, and one message of each kind.
 const KINDS: &str = "\
+request n1 c1 1 read a
 request n3 c700 70000 write db-1
 release n3 c700 70000
 grant n3 c700 70000 read db-1
