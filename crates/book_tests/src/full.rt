@@ -2,11 +2,11 @@
 
 ghost use Rattle.std.specs.Prelude.{◌≡◌};
 
-use crate::logging::{berth_of, logs, opened, takes, takes_all};
+use crate::logging::{berth_of, logs, opened, rises, takes, takes_all};
 use crate::outcomes::{Outcome, check};
 use crate::worlds::{client, client_id, node_id, one_node};
 use history_book::{Berth, Book, BookFault};
-use world_model::{Age, Event, StepFault};
+use world_model::{Event, StepFault};
 
 /// The most events of a book, and the most messages of its world, by number: a constant of the code would
 /// follow whatever stands there.
@@ -14,29 +14,13 @@ const EVENTS: u32 = 4_194_304;
 
 const MESSAGES: u32 = 1_048_576;
 
-/// c1 rises and falls in turn, as often as a history has room for. No events are cheaper, since these
-/// send nothing, and the records that they read are empty: all of it takes a second and 600 MB as it is
-/// built, and a minute in `rt try`, which wants `--seconds 120` for it.
-fn fill(book: &mut Book, berth: &mut Berth) -> Outcome
-    requires { berth.old.number ≡ book.old.number → berth.old.table ≡ book.old.table }
-    ensures book { (book.new.number ≡ book.old.number) × (book.new.table ≡ book.old.table) }
-    ensures berth { (berth.new.number ≡ berth.old.number) × (berth.new.table ≡ berth.old.table) }
-{
-    let who = &client(1)?;
-    let (rise, fall) = (&Event::Rise(*who, Age::Old), &Event::Fall(*who));
-    for _ in 0..EVENTS / 2 {
-        takes(book, berth, *rise)?;
-        takes(book, berth, *fall)?;
-    }
-    Ok(())
-}
-
-/// What may happen, what may not, and what is another's is refused once the history is full.
+/// What may happen, what may not, and what is another's is refused once the history is full. To fill it takes
+/// a second and 600 MB as it is built, and a minute in `rt try`, which wants `--seconds 120` for it.
 fn logs_no_more(book: &mut Book, one: &mut Berth, two: &mut Berth) -> Outcome
     requires one { one.old.number ≡ book.old.number → one.old.table ≡ book.old.table }
     requires two { two.old.number ≡ book.old.number → two.old.table ≡ book.old.table }
 {
-    fill(book, one)?;
+    rises(book, one, EVENTS / 2)?;
     check(book.events() == EVENTS)?;
     logs(book, one, "rise c1 old", Err(BookFault::Full))?;
     logs(book, two, "fall c2", Err(BookFault::Full))?;

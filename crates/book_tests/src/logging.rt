@@ -4,12 +4,12 @@ ghost use Rattle.std.specs.Prelude.{◌≡◌, IfOk};
 ghost use Rattle.history_book.specs.Books.{BookValue, BerthValue};
 
 use crate::outcomes::{Failure, Outcome, check, of_book};
-use crate::worlds::event;
+use crate::worlds::{client, event};
 use history_book::{Berth, Book, BookFault};
 use lock_messages::Actor;
 use std::alloc::Global;
 use world_machine::World;
-use world_model::{Effect, Event};
+use world_model::{Age, Effect, Event};
 
 /// A book of this number over the world.
 pub(crate) fn opened(alloc: Global, number: u64, world: World) -> Result<Book, Failure>
@@ -86,6 +86,22 @@ pub(crate) fn takes_all(book: &mut Book, berth: &mut Berth, lines: &str) -> Outc
     for line in lines.lines() {
         let event = event(line)?;
         takes(book, berth, event)?;
+    }
+    Ok(())
+}
+
+/// c1 rises and falls in turn, so many times. No events are cheaper, since these send nothing, and the
+/// records that they read are empty.
+pub(crate) fn rises(book: &mut Book, berth: &mut Berth, times: u32) -> Outcome
+    requires { berth.old.number ≡ book.old.number → berth.old.table ≡ book.old.table }
+    ensures book { (book.new.number ≡ book.old.number) × (book.new.table ≡ book.old.table) }
+    ensures berth { (berth.new.number ≡ berth.old.number) × (berth.new.table ≡ berth.old.table) }
+{
+    let who = &client(1)?;
+    let (rise, fall) = (&Event::Rise(*who, Age::Old), &Event::Fall(*who));
+    for _ in 0..times {
+        takes(book, berth, *rise)?;
+        takes(book, berth, *fall)?;
     }
     Ok(())
 }

@@ -1,15 +1,12 @@
 // Writers that are interrupted and that fail, under journals that are gathered once and more often.
 
-ghost use Rattle.std.specs.Prelude.{◌≡◌};
-
-use crate::logging::{berth_of, opened, takes};
+use crate::logging::{berth_of, opened, rises};
 use crate::outcomes::{Failure, Outcome, check};
 use crate::worlds::{client, three_nodes};
-use history_book::{Berth, Book, JournalFault};
+use history_book::{Book, JournalFault};
 use std::alloc::Global;
 use std::io;
 use std::io::{Error, ErrorKind, Write};
-use world_model::{Age, Event};
 
 /// A writer that is interrupted before each write, takes so many bytes, and then fails.
 #[derive(Drop)]
@@ -38,21 +35,6 @@ impl Write for Sinks {
     fn flush(&mut self) -> io::Result<()> {
         Ok(())
     }
-}
-
-/// c1 rises and falls in turn: each time the journal has 20 bytes more.
-fn rises(book: &mut Book, berth: &mut Berth, times: u32) -> Outcome
-    requires { berth.old.number ≡ book.old.number → berth.old.table ≡ book.old.table }
-    ensures book { (book.new.number ≡ book.old.number) × (book.new.table ≡ book.old.table) }
-    ensures berth { (berth.new.number ≡ berth.old.number) × (berth.new.table ≡ berth.old.table) }
-{
-    let who = &client(1)?;
-    let (rise, fall) = (&Event::Rise(*who, Age::Old), &Event::Fall(*who));
-    for _ in 0..times {
-        takes(book, berth, *rise)?;
-        takes(book, berth, *fall)?;
-    }
-    Ok(())
 }
 
 /// Whether a writer with so much room takes the journal of so many bytes: all of it, or what there is
