@@ -1,11 +1,13 @@
 -- Sums over sets of nodes, and the node that two sets share.
-use Rattle.std.proofs.Common.{◌≡◌, ℕ, zero, suc, ◌+◌, ◌-◌, ◌<◌, ◌≤◌, Bool, true, false, ◌&&◌, List, [], ◌∷◌, ◌++◌, length, slice_index, sum, sum_by, refl, subst, inl, inr, arith, if◌then◌else◌}
+use Rattle.std.proofs.Common.{◌≡◌, ℕ, zero, suc, ◌+◌, ◌-◌, ◌<◌, ◌≤◌, min, max, Bool, true, false, ◌&&◌, List, [], ◌∷◌, ◌++◌, length, slice_index, sum, sum_by, refl, ◌∙◌, subst, inl, inr, arith, if◌then◌else◌}
 use Rattle.std.specs.List.{range_with_len}
-use Rattle.std.proofs.lemmas.List.{append_assoc, get_or_at, length_push}
+use Rattle.std.proofs.Math.Nat.{max_comm}
+use Rattle.std.proofs.lemmas.Bool.{cases_lt, cases_order}
+use Rattle.std.proofs.lemmas.List.{append_assoc, get_or_at, get_or_past, length_push}
 use Rattle.std.proofs.lemmas.List.Sums.{sum_by-cons}
 use Rattle.lock_messages.specs.declared.tickets.Mode.{Mode}
 use Rattle.lock_messages.specs.declared.tickets.Mode.TheVariants.{Read, Write}
-use Rattle.lock_model.specs.Ballots.{Ballot, nodes, votes_at, votes_of, total, IsEnough, Crosses, IsShared}
+use Rattle.lock_model.specs.Ballots.{Ballot, HasNode, nodes, nodes_of_both, votes_at, votes_of, larger_votes, total, IsEnough, Crosses, AreCrossing, AllCross, IsShared, IsSharedUnderBoth, HasPlace, no_ballot, ballot_at}
 use Rattle.lock_model.specs.Decisions.{Among}
 
 -- what a set has of a value of each element
@@ -15,18 +17,19 @@ part f chosen xs = sum_by (λ n. if chosen n then f n else 0) xs
 abbrev pub both : (ℕ → Bool) → (ℕ → Bool) → ℕ → Bool
 both left right n = left n && right n
 
--- two sets have no more than the whole, and what they share once more
-cell : (a b : Bool) (v l r w m : ℕ) → l + r ≤ w + m → ((if a then v else 0) + l) + ((if b then v else 0) + r) ≤ (v + w) + ((if a && b then v else 0) + m)
-cell true true v l r w m h = omega arith
-cell true false v l r w m h = omega arith
-cell false true v l r w m h = omega arith
-cell false false v l r w m h = omega arith
+-- at a node two sets have no more than the larger of what each may have there, and what both have once more
+cell : (a b : Bool) (v w l r x m : ℕ) → l + r ≤ x + m → ((if a then v else 0) + l) + ((if b then w else 0) + r) ≤ (max v w + x) + ((if a && b then min v w else 0) + m)
+cell true true v w l r x m h = omega arith
+cell true false v w l r x m h = omega arith
+cell false true v w l r x m h = omega arith
+cell false false v w l r x m h = omega arith
 
-pub part-both : (f : ℕ → ℕ) (left right : ℕ → Bool) (xs : List ℕ) → part f left xs + part f right xs ≤ sum_by f xs + part f (both left right) xs
-part-both f left right [] = omega arith
-part-both f left right (x ∷ xs) =
-    rw (sum_by-cons (λ n. if left n then f n else 0) x xs, sum_by-cons (λ n. if right n then f n else 0) x xs, sum_by-cons f x xs, sum_by-cons (λ n. if both left right n then f n else 0) x xs)
-    (cell (left x) (right x) (f x) _ _ _ _ (part-both f left right xs))
+pub part-both : (f g : ℕ → ℕ) (left right : ℕ → Bool) (xs : List ℕ) →
+    part f left xs + part g right xs ≤ sum_by (λ n. max (f n) (g n)) xs + part (λ n. min (f n) (g n)) (both left right) xs
+part-both f g left right [] = omega arith
+part-both f g left right (x ∷ xs) =
+    rw (sum_by-cons (λ n. if left n then f n else 0) x xs, sum_by-cons (λ n. if right n then g n else 0) x xs, sum_by-cons (λ n. max (f n) (g n)) x xs, sum_by-cons (λ n. if both left right n then min (f n) (g n) else 0) x xs)
+    (cell (left x) (right x) (f x) (g x) _ _ _ _ (part-both f g left right xs))
 
 -- a set that has something of the sum has an element with something
 pub record IsPlace (f : ℕ → ℕ) (chosen : ℕ → Bool) (xs : List ℕ) (n : ℕ) : Type 0 where
@@ -71,13 +74,87 @@ both-true : (a b : Bool) → (a && b) ≡ true → (a ≡ true) × (b ≡ true)
 both-true true b h = (refl, h)
 both-true false b h = cc
 
-pub sharing : (b : Ballot) (left right : ℕ → Bool) → total b < votes_of b left + votes_of b right → (n : ℕ) × IsShared b left right n
-sharing b left right h =
-    let p = part-place (votes_at b) (both left right) (nodes b) (omega (arith, part-both (votes_at b) left right (nodes b), votes-all b)) in
-    let r = among-range 1 (length b.votes) p.0 p.1.among in
+-- a sum over the first nodes is no more than one over more nodes
+sum-longer : (f : ℕ → ℕ) (a k m : ℕ) → k ≤ m → sum_by f (range_with_len a k) ≤ sum_by f (range_with_len a m)
+sum-longer f a zero m h = omega arith
+sum-longer f a (suc k) zero h = absurd (omega arith)
+sum-longer f a (suc k) (suc m) h =
+    rw (sum_by-cons f a (range_with_len (a + 1) k), sum_by-cons f a (range_with_len (a + 1) m))
+    (let r = sum-longer f (a + 1) k m (omega arith) in omega arith)
+
+-- a node that has votes is one of the ballot's
+node-with-votes : (b : Ballot) (n : ℕ) → 1 ≤ n → 0 < votes_at b n → HasNode b n
+node-with-votes b n h v =
+    elim (cases_lt (n - 1) (length b.votes)) [
+      | inl within ↦ (h, omega arith)
+      | inr past ↦ absurd (omega (arith, get_or_past b.votes (n - 1) 0 past))
+    ]
+
+share-both : (first second : Ballot) (left right : ℕ → Bool) → larger_votes first second < votes_of first left + votes_of second right →
+    (n : ℕ) × IsSharedUnderBoth first second left right n
+share-both first second left right h =
+    let f : ℕ → ℕ = votes_at first in
+    let g : ℕ → ℕ = votes_at second in
+    let xs : List ℕ = nodes_of_both first second in
+    let l = sum-longer (λ n. if left n then f n else 0) 1 (length first.votes) (max (length first.votes) (length second.votes)) (omega arith) in
+    let r = sum-longer (λ n. if right n then g n else 0) 1 (length second.votes) (max (length first.votes) (length second.votes)) (omega arith) in
+    let p = part-place (λ n. min (f n) (g n)) (both left right) xs (omega (arith, l, r, part-both f g left right xs)) in
+    let range = among-range 1 (max (length first.votes) (length second.votes)) p.0 p.1.among in
     let t = both-true (left p.0) (right p.0) p.1.chosen_is in
-    (p.0, record { node = (r.0, omega arith); in_left = t.0; in_right = t.1; has_votes = p.1.some })
+    let some = p.1.some in
+    let in_first : 0 < votes_at first p.0 = omega (arith, some) in
+    let in_second : 0 < votes_at second p.0 = omega (arith, some) in (
+      p.0,
+      record {
+        under_first = record { node = node-with-votes first p.0 range.0 in_first; in_left = t.0; in_right = t.1; has_votes = in_first };
+        under_second = record { node = node-with-votes second p.0 range.0 in_second; in_left = t.0; in_right = t.1; has_votes = in_second };
+      },
+    )
+
+pub enough-share-both : (first second : Ballot) (mode : Mode) (left right : ℕ → Bool) → AreCrossing first second →
+    IsEnough first Write left → IsEnough second mode right → (n : ℕ) × IsSharedUnderBoth first second left right n
+enough-share-both first second Read left right x l r = share-both first second left right (omega (arith, x.writes_meet_reads))
+enough-share-both first second Write left right x l r = share-both first second left right (omega (arith, x.writes_meet))
+
+-- the larger votes are the same in either order, and of a ballot with itself all that it has
+larger_votes-swap : (first second : Ballot) → larger_votes first second ≡ larger_votes second first
+larger_votes-swap first second =
+    λ i. sum_by (λ n. max_comm (votes_at first n) (votes_at second n) i) (range_with_len 1 (max_comm (length first.votes) (length second.votes) i))
+
+max-itself : (n : ℕ) → max n n ≡ n
+max-itself n = omega arith
+
+larger_votes-itself : (b : Ballot) → larger_votes b b ≡ total b
+larger_votes-itself b = (λ i. sum_by (λ n. max-itself (votes_at b n) i) (range_with_len 1 (max-itself (length b.votes) i))) ∙ votes-all b
+
+pub crosses-itself : (b : Ballot) → Crosses b → AreCrossing b b
+crosses-itself b x =
+    let e = larger_votes-itself b in
+    record {
+      reads_meet_writes = omega (arith, e, x.reads_meet_writes);
+      writes_meet_reads = omega (arith, e, x.reads_meet_writes);
+      writes_meet = omega (arith, e, x.writes_meet);
+    }
+
+crossing-swap : (first second : Ballot) → AreCrossing first second → AreCrossing second first
+crossing-swap first second x =
+    let e = larger_votes-swap first second in
+    record {
+      reads_meet_writes = omega (arith, e, x.writes_meet_reads);
+      writes_meet_reads = omega (arith, e, x.reads_meet_writes);
+      writes_meet = omega (arith, e, x.writes_meet);
+    }
+
+pub any-two-cross : (ballots : List Ballot) (first second : ℕ) → AllCross ballots → HasPlace ballots first → HasPlace ballots second →
+    AreCrossing (ballot_at ballots first) (ballot_at ballots second)
+any-two-cross ballots first second x h k =
+    elim (cases_order first second) [
+      | inl same ↦ rw (← same) (crosses-itself (ballot_at ballots first) (x.each (first - 1) no_ballot (omega arith)))
+      | inr (inl below) ↦ x.each_two (first - 1) (second - 1) no_ballot (omega arith) (omega arith)
+      | inr (inr above) ↦ crossing-swap (ballot_at ballots second) (ballot_at ballots first) (x.each_two (second - 1) (first - 1) no_ballot (omega arith) (omega arith))
+    ]
 
 pub enough-share : (b : Ballot) (mode : Mode) (left right : ℕ → Bool) → Crosses b → IsEnough b Write left → IsEnough b mode right → (n : ℕ) × IsShared b left right n
-enough-share b Read left right x l r = sharing b left right (omega (arith, x.reads_meet_writes))
-enough-share b Write left right x l r = sharing b left right (omega (arith, x.writes_meet))
+enough-share b mode left right x l r =
+    let s = enough-share-both b b mode left right (crosses-itself b x) l r in
+    (s.0, s.1.under_first)

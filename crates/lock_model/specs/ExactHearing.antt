@@ -1,6 +1,6 @@
 -- What a client makes of a message, exactly: a function of its ticket and granted set, or of the
 -- attempt after which it rests.
-use Rattle.std.specs.Prelude.{ℕ, ◌==◌, ◌&&◌, Bool, nat_le, if◌then◌else◌}
+use Rattle.std.specs.Prelude.{ℕ, ◌==◌, ◌&&◌, Bool, true, false, nat_le, if◌then◌else◌}
 use Rattle.std.specs.Str.{bytes_eq}
 use Rattle.lock_messages.specs.declared.tickets.Ticket.{Ticket}
 use Rattle.lock_messages.specs.declared.messages.Message.{Message}
@@ -36,3 +36,11 @@ heard_at_rest nodes c attempt (message.Grant n u) = NotMine
 heard_at_rest nodes c attempt (message.Busy n u) = NotMine
 heard_at_rest nodes c attempt (message.Over n d a) = NotMine
 heard_at_rest nodes c attempt (message.Muddled n d a) = NotMine
+
+-- whether the answer is that a vote was counted
+abbrev pub is_counted : Heard → Bool
+is_counted Counted = true
+is_counted Known = false
+is_counted Busy = false
+is_counted Done = false
+is_counted NotMine = false

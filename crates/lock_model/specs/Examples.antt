@@ -10,7 +10,7 @@ use Rattle.lock_model.specs.declared.entries.Status.{Status}
 use Rattle.lock_model.specs.declared.entries.Status.TheVariants.{Waiting, Holding}
 use Rattle.lock_model.specs.declared.problems.Problem.{Problem}
 use Rattle.lock_model.specs.declared.problems.Problem.TheVariants.{First, Second}
-use Rattle.lock_model.specs.Ballots.{Ballot, votes_of}
+use Rattle.lock_model.specs.Ballots.{Ballot, votes_of, larger_votes}
 use Rattle.lock_model.specs.ExactDecisions.{decision}
 
 -- the ticket of a client for the resource `a`, and for a resource of this name
@@ -87,3 +87,10 @@ weighted = record { votes = 3 ∷ 1 ∷ 1 ∷ 0 ∷ []; read = 2; write = 4 }
 abbrev pub WeightedVotes : Type 0
 WeightedVotes = (votes_of weighted (λ n. (n == 2) || (n == 4)) ≡ 1) × (votes_of weighted (λ n. n == 1) ≡ 3)
     × (votes_of weighted (λ n. (n == 1) || (n == 2)) ≡ 4) × (votes_of weighted (λ n. n == 9) ≡ 0)
+
+-- a ballot of two nodes: beside the first one it has the larger votes at node 2 alone
+abbrev pub short : Ballot
+short = record { votes = 1 ∷ 2 ∷ []; read = 2; write = 2 }
+
+abbrev pub LargerVotes : Type 0
+LargerVotes = (larger_votes weighted short ≡ 6) × (larger_votes short weighted ≡ 6) × (larger_votes weighted weighted ≡ 5)

@@ -9,7 +9,7 @@ use Rattle.lock_messages.specs.Messages.{is_for_node}
 use Rattle.lock_model.specs.declared.entries.Entry.{Entry}
 use Rattle.lock_model.specs.declared.hearing.Heard.{Heard}
 use Rattle.lock_model.specs.declared.problems.Problem.{Problem}
-use Rattle.lock_model.specs.Ballots.{Ballot, Crosses, IsEnough, IsShared}
+use Rattle.lock_model.specs.Ballots.{Ballot, Crosses, IsEnough, IsShared, AreCrossing, IsSharedUnderBoth, HasPlace, ballot_at, AllCross}
 use Rattle.lock_model.specs.Stations.{Station, IsLawful, IsCaused, IsEnded}
 use Rattle.lock_model.specs.Decisions.{Decides}
 use Rattle.lock_model.specs.Hearing.{HearsOfTicket, HearsAtRest}
@@ -23,6 +23,22 @@ use Rattle.lock_model.specs.Judgement.{is_lawful, is_caused}
 abbrev pub EnoughSetsShareANode : Type 0
 EnoughSetsShareANode = (b : Ballot) (mode : Mode) (writers others : ℕ → Bool) → Crosses b →
     IsEnough b Write writers → IsEnough b mode others → (n : ℕ) × IsShared b writers others n
+
+-- where two ballots cross, two sets that are enough, one for a writer under the first ballot and the
+-- other under the second, share a node that has votes in both
+abbrev pub EnoughSetsShareANodeOfBoth : Type 0
+EnoughSetsShareANodeOfBoth = (first second : Ballot) (mode : Mode) (writers others : ℕ → Bool) → AreCrossing first second →
+    IsEnough first Write writers → IsEnough second mode others → (n : ℕ) × IsSharedUnderBoth first second writers others n
+
+-- a ballot that crosses crosses with itself as well
+abbrev pub CrossesWithItself : Type 0
+CrossesWithItself = (b : Ballot) → Crosses b → AreCrossing b b
+
+-- where the ballots of a list cross, those at any two places do, in either order, and the one at a place
+-- with itself
+abbrev pub AnyTwoCross : Type 0
+AnyTwoCross = (ballots : List Ballot) (first second : ℕ) → AllCross ballots → HasPlace ballots first → HasPlace ballots second →
+    AreCrossing (ballot_at ballots first) (ballot_at ballots second)
 
 -- entries, each client once, are those of a lawful station, or of a caused one, exactly where the test
 -- on them passes

@@ -1,12 +1,25 @@
 //! Laws of the definitions. Each function computes nothing: its contract is a theorem.
 
-ghost use Rattle.lock_model.specs.Examples.{FirstReader, RepeatedRequest, WriterBehindReader, ReleasedReader, LateRequest, ReleasedStranger, ReaderPasses, ReaderWaits, ReleaseSettles, MuddledRequest, NextAttempt, WeightedVotes};
-ghost use Rattle.lock_model.specs.Laws.{EnoughSetsShareANode, LawfulIsSeen, CausedIsSeen, SettlingIsExact, SettlingIsUnique, ExactDecisionIsAllowed, ChangesAreSeen, StayingIsSeen, FloorsNeverFall, EndedStaysEnded, HearingOfTicketIsExact, HearingAtRestIsExact};
+ghost use Rattle.lock_model.specs.Examples.{FirstReader, RepeatedRequest, WriterBehindReader, ReleasedReader, LateRequest, ReleasedStranger, ReaderPasses, ReaderWaits, ReleaseSettles, MuddledRequest, NextAttempt, WeightedVotes, LargerVotes};
+ghost use Rattle.lock_model.specs.Laws.{EnoughSetsShareANode, EnoughSetsShareANodeOfBoth, CrossesWithItself, AnyTwoCross, LawfulIsSeen, CausedIsSeen, SettlingIsExact, SettlingIsUnique, ExactDecisionIsAllowed, ChangesAreSeen, StayingIsSeen, FloorsNeverFall, EndedStaysEnded, HearingOfTicketIsExact, HearingAtRestIsExact};
 
 /// Where a ballot crosses, two sets of nodes that are enough, one of them for a writer, share a
 /// node of the ballot that has votes.
 pub fn enough_sets_share_a_node()
     ensures { EnoughSetsShareANode }
+{}
+
+/// Where two ballots cross, two sets of nodes that are enough, one for a writer under the first ballot
+/// and the other under the second, share a node that has votes in both ballots.
+pub fn enough_sets_share_a_node_of_both()
+    ensures { EnoughSetsShareANodeOfBoth }
+{}
+
+/// A ballot that crosses crosses with itself as well; and where the ballots of a list cross, those at
+/// any two places do, in either order.
+pub fn any_two_cross()
+    ensures itself { CrossesWithItself }
+    ensures any_two { AnyTwoCross }
 {}
 
 /// Whether entries are those of a lawful station, and of a caused one, is seen by a test on them.
@@ -61,4 +74,5 @@ pub fn worked_examples()
     ensures muddled_request { MuddledRequest }
     ensures next_attempt { NextAttempt }
     ensures weighted_votes { WeightedVotes }
+    ensures larger_votes { LargerVotes }
 {}

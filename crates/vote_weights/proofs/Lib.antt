@@ -1,2 +1,3 @@
 pub mod SetFacts
 pub mod VoteFacts
+pub mod ListFacts

@@ -11,29 +11,6 @@ use Rattle.lock_messages.specs.Ids.{IsNode}
 use Rattle.lock_messages.specs.declared.ids.TheConstants.{MAX_NODES}
 use Rattle.vote_weights.specs.Sets.{has_node, with_node, IsNodeSet, members_from, marks_of}
 
-or_twice : (a c : Bool) → a || c ≡ a || (a || c)
-or_twice true c = refl
-or_twice false c = refl
-
-or_swap : (a b c : Bool) → a || (b || c) ≡ b || (a || c)
-or_swap true true c = refl
-or_swap true false c = refl
-or_swap false true c = refl
-or_swap false false c = refl
-
-has_node_step : (a b : Bool) (m n k : ℕ) (set tail : List ℕ) → (n == m) ≡ b → has_node tail k ≡ (n == k) || has_node set k →
-    has_node (if a then n ∷ m ∷ set else (if b then m ∷ set else m ∷ tail)) k ≡ (n == k) || ((m == k) || has_node set k)
-has_node_step true b m n k set tail e h = refl
-has_node_step false true m n k set tail e h =
-    let same : n ≡ m = grind (arith, nat_tests) in
-    rw same (or_twice (m == k) (has_node set k))
-has_node_step false false m n k set tail e h = rw h (or_swap (m == k) (n == k) (has_node set k))
-
--- the node is in the set with it, and the others are as they were
-pub has_node-with_node : (set : List ℕ) (n k : ℕ) → has_node (with_node set n) k ≡ (n == k) || has_node set k
-has_node-with_node [] n k = refl
-has_node-with_node (m ∷ set) n k = has_node_step (nat_lt n m) (n == m) m n k set (with_node set n) refl (has_node-with_node set n k)
-
 -- whether a node has a mark is whether it is a member
 has_node-before : (k n : ℕ) (marks : List Bool) → k < n → has_node (members_from n marks) k ≡ false
 has_node-before k n [] h = refl

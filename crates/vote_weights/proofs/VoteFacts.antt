@@ -1,7 +1,8 @@
 -- Sums of votes over the nodes of a ballot.
-use Rattle.std.proofs.Common.{◌≡◌, ◌≢◌, ℕ, ◌+◌, ◌-◌, ◌<◌, ◌≤◌, Bool, true, false, List, [], ◌∷◌, ◌++◌, length, get_or, slice_index, Fits, w8, sum, sum_by, take, map, replicate, refl, arith, if◌then◌else◌}
+use Rattle.std.proofs.Common.{◌≡◌, ℕ, ◌+◌, ◌-◌, ◌<◌, ◌≤◌, Bool, true, false, List, [], ◌∷◌, ◌++◌, length, get_or, slice_index, max, Fits, w8, sum, sum_by, take, map, replicate, refl, inl, inr, arith, if◌then◌else◌}
 use Rattle.std.proofs.Math.Seq.{take-append_seam}
-use Rattle.std.proofs.lemmas.List.{map-id}
+use Rattle.std.proofs.lemmas.Bool.{cases_lt}
+use Rattle.std.proofs.lemmas.List.{map-id, get_or_past}
 use Rattle.std.proofs.lemmas.List.Elements.{All-from_get_or}
 use Rattle.std.proofs.lemmas.List.FromFn.{map-range_with_len_more}
 use Rattle.std.proofs.lemmas.List.Sums.{sum_by_push, sum_by-le}
@@ -77,13 +78,22 @@ pub record IsSharedAt (votes left right : List ℕ) (i : ℕ) : Type 0 where
   pub in_right : get_or (marks_of right) i false ≡ true
   pub has_votes : 0 < get_or votes i 0
 
-pub IsShared-at : (b : Ballot) (left right : List ℕ) (i n : ℕ) → n ≡ i + 1 → i < length b.votes → i < MAX_NODES →
-    IsSharedAt b.votes left right i → IsShared b (has_node left) (has_node right) n
-IsShared-at b left right i n e within few h =
+within-votes : (votes : List ℕ) (i : ℕ) → 0 < get_or votes i 0 → i < length votes
+within-votes votes i h =
+    elim (cases_lt i (length votes)) [
+      | inl within ↦ within
+      | inr past ↦ absurd (omega (arith, get_or_past votes i 0 past))
+    ]
+
+-- (An index with votes is within the ballot.)
+pub IsShared-at : (b : Ballot) (left right : List ℕ) (i n : ℕ) → n ≡ i + 1 → i < MAX_NODES → IsSharedAt b.votes left right i →
+    IsShared b (has_node left) (has_node right) n
+IsShared-at b left right i n e few h =
     let l = get_or-marks_of left i few in
     let r = get_or-marks_of right i few in
     let in_left = h.in_left in
     let in_right = h.in_right in
+    let within : i < length b.votes = within-votes b.votes i h.has_votes in
     let k : i + 1 - 1 ≡ i = omega arith in
     rw e (record {
       node = (omega arith, omega arith);
@@ -92,13 +102,25 @@ IsShared-at b left right i n e within few h =
       has_votes = rw k h.has_votes;
     })
 
-pub IsShared-only : (b : Ballot) (left right : List ℕ) (i n : ℕ) → i < MAX_NODES → (IsSharedAt b.votes left right i → ⊥) →
-    IsShared b (has_node left) (has_node right) n → n ≢ i + 1
-IsShared-only b left right i n few not_here h e =
+pub IsSharedAt-from : (b : Ballot) (left right : List ℕ) (i n : ℕ) → i < MAX_NODES → n ≡ i + 1 →
+    IsShared b (has_node left) (has_node right) n → IsSharedAt b.votes left right i
+IsSharedAt-from b left right i n few e h =
     let l = get_or-marks_of left i few in
     let r = get_or-marks_of right i few in
     let k : i + 1 - 1 ≡ i = omega arith in
     let s : IsShared b (has_node left) (has_node right) (i + 1) = rw e at h in
     let in_left = s.in_left in
     let in_right = s.in_right in
-    not_here (record { in_left = cc; in_right = cc; has_votes = rw k at s.has_votes })
+    record { in_left = cc; in_right = cc; has_votes = rw k at s.has_votes }
+
+-- the larger votes of two ballots at the first nodes
+unfoldable pub larger_before : List ℕ → List ℕ → ℕ → ℕ
+larger_before first second count = sum_by (λ n. max (slice_index first (n - 1)) (slice_index second (n - 1))) (range_with_len 1 count)
+
+pub larger_before_more : (first second : List ℕ) (i : ℕ) →
+    larger_before first second (i + 1) ≡ larger_before first second i + max (slice_index first i) (slice_index second i)
+unfolding larger_before
+larger_before_more first second i =
+    let k : i + 1 - 1 ≡ i = omega arith in
+    let e = sum_by_push (λ n. max (slice_index first (n - 1)) (slice_index second (n - 1))) (range_with_len 1 i) (i + 1) in
+    rw (range_more i) (rw k at e)

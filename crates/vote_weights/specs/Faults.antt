@@ -1,10 +1,10 @@
--- What is wrong with numbers that make no ballot.
+-- What is wrong with numbers that make no ballot. (With ballots that make no list: `ListFaults`.)
 use Rattle.std.specs.Prelude.{◌≡◌, ℕ, ◌+◌, ◌*◌, ◌==◌, ◌||◌, ◌↔◌, length, nat_le, nat_lt, if◌then◌else◌, Option, Some, None, Result, Ok, Err}
 use Rattle.lock_messages.specs.declared.ids.TheConstants.{MAX_NODES}
 use Rattle.lock_model.specs.Ballots.{Ballot, total}
 use Rattle.vote_weights.specs.Ballots.{IsBallot}
 use Rattle.vote_weights.specs.declared.faults.BallotFault.{BallotFault}
-use Rattle.vote_weights.specs.declared.faults.BallotFault.TheVariants.{NoNode, TooManyNodes, OverTotal, ReadsMissWrites, WritesMiss}
+use Rattle.vote_weights.specs.declared.faults.BallotFault.TheVariants.{NoNode, TooManyNodes, OverTotal, ReadsMissWrites, WritesMiss, BallotsMiss, NoBallot, TooManyBallots}
 
 -- the number by which programs print the fault
 abbrev pub fault_number : BallotFault → ℕ
@@ -13,6 +13,9 @@ fault_number TooManyNodes = 202
 fault_number OverTotal = 203
 fault_number ReadsMissWrites = 204
 fault_number WritesMiss = 205
+fault_number (BallotsMiss lower higher) = 206
+fault_number NoBallot = 207
+fault_number TooManyBallots = 208
 
 -- what is wrong with the numbers: the first that applies
 abbrev pub fault_of : Ballot → Option BallotFault

@@ -2,11 +2,12 @@
 
 ghost use Rattle.std.specs.Prelude.{◌≡◌, ℕ, ◌≤◌, ◌*◌, ◌↔◌, length, sum, IsTrue};
 ghost use Rattle.std.specs.Result.{OkIff};
-ghost use Rattle.lock_model.specs.Ballots.{Crosses, IsEnough, IsShared, votes_of, total, needed};
+ghost use Rattle.lock_model.specs.Ballots.{Crosses, AreCrossing, IsEnough, IsShared, IsSharedUnderBoth, votes_of, total, needed};
 ghost use Rattle.vote_weights.specs.Ballots.{IsBallot, ballot_of, room_of};
 ghost use Rattle.vote_weights.specs.Faults.{fault_of, ballot_unless};
 ghost use Rattle.vote_weights.specs.Sets.{has_node};
 
+use crate::crossing::votes_at;
 use crate::{BallotFault, NodeSet};
 use lock_messages::{MAX_NODES, Mode, NodeId};
 use lock_model::laws;
@@ -108,7 +109,7 @@ impl Ballot {
     }
 
     /// The votes of node 1, node 2 and so on.
-    fn votes(&self) -> &[u8]
+    pub(crate) fn votes(&self) -> &[u8]
         ensures votes { result.now ≡ self.now.votes }
         ensures ballot { IsBallot self.now }
     {
@@ -200,10 +201,33 @@ impl Ballot {
         ensures shared { IsShared self.now (has_node a) (has_node b) result }
         ensures lowest { (n : ℕ) → IsShared self.now (has_node a) (has_node b) n → result ≤ n }
     {
-        laws::enough_sets_share_a_node();
+        // The ballot crosses, as `nodes` says, and so it does with itself.
+        laws::any_two_cross();
+        let _ = self.nodes();
+        self.node_shared_with(self, a, b, mode)
+    }
+
+    /// The lowest node that is in both sets and has votes in both ballots. `a` is enough for a writer
+    /// under this ballot and `b` for the mode under the other one, and the two cross.
+    pub(crate) fn node_shared_with(
+        &self,
+        other: &Ballot,
+        a: NodeSet,
+        b: NodeSet,
+        mode: Mode,
+    ) -> NodeId
+        requires crossing { AreCrossing self.now other.now }
+        requires writers { IsEnough self.now Mode.Write (has_node a) }
+        requires others { IsEnough other.now mode (has_node b) }
+        ensures shared { IsSharedUnderBoth self.now other.now (has_node a) (has_node b) result }
+        ensures lowest { (n : ℕ) → IsSharedUnderBoth self.now other.now (has_node a) (has_node b) n → result ≤ n }
+    {
+        laws::enough_sets_share_a_node_of_both();
         let (left, right) = (a.marks(), b.marks());
+        let others = other.votes();
         for (i, votes) in self.votes().iter().enumerate() {
-            if left[i] && right[i] && *votes > 0 {
+            let theirs = votes_at(others, i);
+            if left[i] && right[i] && *votes > 0 && theirs > 0 {
                 return NodeId::of(i as u8 + 1).unwrap();
             }
         }

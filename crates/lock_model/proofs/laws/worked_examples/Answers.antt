@@ -16,4 +16,5 @@ returns c = record {
   muddled_request = refl;
   next_attempt = refl;
   weighted_votes = (refl, refl, refl, refl);
+  larger_votes = (refl, refl, refl);
 }

@@ -1,4 +1,5 @@
-use Rattle.vote_weights.proofs.SetFacts.{has_node-with_node, with_node-room, marks_of-marked, IsNodeSet-members}
+use Rattle.vote_weights.specs.SetLaws.{has_node-with_node}
+use Rattle.vote_weights.proofs.SetFacts.{with_node-room, marks_of-marked, IsNodeSet-members}
 use Rattle.std.proofs.Common.{◌-◌, Bool, List, true}
 use Rattle.std.proofs.Math.ListN.{set}
 use Rattle.vote_weights.proofs.sets.NodeSet.with.Goals as goal
