@@ -11,7 +11,7 @@ use Rattle.lock_messages.specs.declared.tickets.Mode.{Mode}
 use Rattle.lock_messages.specs.declared.tickets.Mode.TheVariants.{Read, Write}
 use Rattle.lock_messages.specs.Names.{IsName, is_name_byte}
 use Rattle.lock_messages.specs.Fields.{is_between, byte_at, number_at, mode_number, mode_at, name_at, AreBytes, IsFieldWidth, FieldsAreExact}
-use Rattle.lock_messages.proofs.StepFacts.{passed, not_stopped, went_on, chosen, done, ok_is}
+use Rattle.lock_messages.specs.FieldSteps.{passed, not_stopped, went_on, chosen, done, ok_is}
 
 -- ---- bytes
 

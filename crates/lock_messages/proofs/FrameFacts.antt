@@ -22,7 +22,7 @@ use Rattle.lock_messages.specs.Frames.{kind_number, head, wish, with_ticket, fra
 use Rattle.lock_messages.specs.Fields.{◌>>=◌, byte_at, number_at, mode_number, mode_at, name_at, AreBytes, IsFieldWidth, FieldsAreExact}
 use Rattle.lock_messages.specs.Reading.{version_at, kind_at, node_at, client_at, attempt_at, length_at, ticket_at, body_at, message_at, reading}
 use Rattle.lock_messages.specs.Laws.{OneSpelling}
-use Rattle.lock_messages.proofs.StepFacts.{bind_ok, bind_again, passed, chosen, done, ok_is, behind, Takes, takes, Takes-then}
+use Rattle.lock_messages.specs.FieldSteps.{bind_ok, bind_again, passed, chosen, done, ok_is, behind, Takes, takes, Takes-then}
 use Rattle.lock_messages.proofs.FieldFacts.{fields_exact}
 
 law : FieldsAreExact FrameFault

@@ -1,4 +1,3 @@
 pub mod NameFacts
-pub mod StepFacts
 pub mod FieldFacts
 pub mod FrameFacts

@@ -1,6 +1,7 @@
 pub mod Ids
 pub mod Names
 pub mod Fields
+pub mod FieldSteps
 pub mod Messages
 pub mod Texts
 pub mod Frames

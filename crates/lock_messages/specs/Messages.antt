@@ -41,3 +41,13 @@ is_for_client (Busy n t) client = t.client == client
 is_for_client (Over n c a) client = c == client
 is_for_client (Done n c a) client = c == client
 is_for_client (Muddled n c a) client = c == client
+
+-- the node that a message names
+abbrev pub named_node : Message → ℕ
+named_node (Request n t) = n
+named_node (Release n c a) = n
+named_node (Grant n t) = n
+named_node (Busy n t) = n
+named_node (Over n c a) = n
+named_node (Done n c a) = n
+named_node (Muddled n c a) = n

@@ -12,7 +12,7 @@ use Rattle.stable_record.specs.Records.{client_record_of}
 use Rattle.lock_messages.specs.Fields.{◌>>=◌, byte_at, number_at, AreBytes, FieldsAreExact}
 use Rattle.stable_record.specs.Reading.{client_reading}
 use Rattle.stable_record.specs.Laws.{OneClientSpelling}
-use Rattle.stable_record.proofs.StepFacts.{bind_ok, bind_again, passed, ok_is, Takes, Takes-then}
+use Rattle.lock_messages.specs.FieldSteps.{bind_ok, bind_again, passed, ok_is, Takes, Takes-then}
 use Rattle.stable_record.proofs.FieldFacts.{is64, byte_takes, number_takes}
 
 abbrev client_at : List ℕ → Result (ℕ × List ℕ) RecordFault

@@ -20,7 +20,7 @@ use Rattle.stable_record.specs.declared.faults.RecordFault.{RecordFault}
 use Rattle.stable_record.specs.declared.faults.RecordFault.TheVariants as faults
 use Rattle.stable_record.specs.Records.{policy_number, status_number, ticket_bytes, live_bytes, entry_bytes, IsTicketOf, IsEntry}
 use Rattle.stable_record.specs.Reading.{policy_at, client_at, floor_at, state_at, attempt_at, length_at, ticket_at, live_at, entry_at}
-use Rattle.stable_record.proofs.StepFacts.{bind_ok, bind_again, not_stopped, went_on, chosen, done, ok_is, behind, Takes, takes, Takes-then}
+use Rattle.lock_messages.specs.FieldSteps.{bind_ok, bind_again, not_stopped, went_on, chosen, done, ok_is, behind, Takes, takes, Takes-then}
 
 pub is16 : IsFieldWidth w16
 is16 = inl refl

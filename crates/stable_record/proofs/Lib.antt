@@ -1,4 +1,3 @@
-pub mod StepFacts
 pub mod MapFacts
 pub mod FieldFacts
 pub mod RecordFacts

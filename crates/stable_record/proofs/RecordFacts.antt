@@ -23,7 +23,7 @@ use Rattle.lock_messages.specs.Fields.{◌>>=◌, AreBytes, FieldsAreExact}
 use Rattle.stable_record.specs.Reading.{IsOrRefused, IsGoodSoFar, AreGood, version_at, policy_at, count_at, entry_at, entries_at, head_at, record_at, judged, reading}
 use Rattle.stable_record.specs.Laws.{OneSpelling}
 use Rattle.stable_record.proofs.MapFacts.{same-turned}
-use Rattle.stable_record.proofs.StepFacts.{bind_ok, bind_again, went_on, ok_is, Takes, Takes-then}
+use Rattle.lock_messages.specs.FieldSteps.{bind_ok, bind_again, went_on, ok_is, Takes, Takes-then}
 use Rattle.stable_record.proofs.FieldFacts.{is16, byte_takes, number_takes, policy_takes, policy_again, entry_takes, entry_again}
 
 abbrev pub read : {A : Type 0} → A → Result A RecordFault

@@ -20,7 +20,7 @@ use Rattle.lock_model.specs.Judgement.{has_cause, is_caused}
 use Rattle.stable_record.specs.Lines.{is_for, waits_for, count_live, one_if}
 use Rattle.voter_core.specs.Freed.{freed, is_freed, OthersStay, waiting_for}
 use Rattle.voter_core.specs.Voters.{admitted_now}
-use Rattle.voter_core.proofs.PassFacts.{count-first, count-few}
+use Rattle.voter_core.proofs.CountFacts.{count-first, count-few}
 use Rattle.voter_core.proofs.EntryFacts.{set-same}
 use Rattle.voter_core.proofs.EndFacts.{ends_in, fresh, ends-unknown, ends-nothing, ended-known, ended-unknown, unknown-entry, known-entry}
 

@@ -1,5 +1,5 @@
 pub mod EntryFacts
-pub mod PassFacts
+pub mod CountFacts
 pub mod EndFacts
 pub mod ChangeFacts
 pub mod RangeFacts

@@ -18,7 +18,7 @@ use Rattle.stable_record.specs.Laws.{StrangersLeaveTheIndex}
 use Rattle.stable_record.specs.Lines.{Tickets, waits_for, count_live, one_if}
 use Rattle.stable_record.specs.Indexing.{IndexesWith, with_announced, announced_entry}
 use Rattle.voter_core.specs.Freed.{waiting_for}
-use Rattle.voter_core.proofs.PassFacts.{count-first}
+use Rattle.voter_core.proofs.CountFacts.{count-first}
 use Rattle.voter_core.proofs.FreedFacts.{all-at}
 use Rattle.voter_core.proofs.EndFacts.{fresh, ended-unknown, unknown-entry, find-last, stays-ended, replaced-ends}
 use Rattle.voter_core.proofs.QueueFacts.{place-of}

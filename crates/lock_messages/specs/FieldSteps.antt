@@ -1,4 +1,5 @@
--- Steps of reading that did not fail, and what they took from the bytes.
+-- What follows of steps of reading that did not fail, and what they took from the bytes. Nothing here has to
+-- be believed: each line is proved.
 use Rattle.std.proofs.Common.{◌≡◌, ℕ, suc, Bool, true, false, cond, List, [], ◌∷◌, ◌++◌, Result, Ok, Err, refl, sym, ap, subst, ◌∙◌, append_assoc, inl, inr, ◌⊎◌}
 use Rattle.lock_messages.specs.Fields.{◌>>=◌, AreBytes}
 
