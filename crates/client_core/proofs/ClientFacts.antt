@@ -16,8 +16,8 @@ pub enters-lawful : (client : ℕ) (b : Ballot) (attempt : ℕ) (s : State) → 
     IsLawfulState client b attempt (enters_in s)
 enters-lawful client b attempt Idle h may = absurd may
 enters-lawful client b attempt (Chosen t) h may = absurd may
-enters-lawful client b attempt (Asking t granted skipped) h may = record { own = h.own; nodes = h.nodes; enough = may }
-enters-lawful client b attempt (Inside t granted skipped) h may = absurd may
+enters-lawful client b attempt (Asking p) h may = record { own = h.own; nodes = h.nodes; enough = may }
+enters-lawful client b attempt (Inside p) h may = absurd may
 
 -- a node more
 add-nodes : (b : Ballot) (before after : List ℕ) (n : ℕ) → HasNode b n → AreNodes b before → AddsNode before n after → AreNodes b after
@@ -50,14 +50,14 @@ pub counts-lawful : (client : ℕ) (b : Ballot) (attempt : ℕ) (s : State) (n :
     IsLawfulState client b attempt s → IsLawfulState client b attempt (counts_in n s)
 counts-lawful client b attempt Idle n at adds h = h
 counts-lawful client b attempt (Chosen t) n at adds h = h
-counts-lawful client b attempt (Asking t granted skipped) n at adds h = record {
+counts-lawful client b attempt (Asking p) n at adds h = record {
   own = h.own;
-  nodes = add-nodes b granted (with_node granted n) n at h.nodes adds;
+  nodes = add-nodes b p.granted (with_node p.granted n) n at h.nodes adds;
 }
-counts-lawful client b attempt (Inside t granted skipped) n at adds h = record {
+counts-lawful client b attempt (Inside p) n at adds h = record {
   own = h.own;
-  nodes = add-nodes b granted (with_node granted n) n at h.nodes adds;
-  enough = add-enough b granted (with_node granted n) n _ adds h.enough;
+  nodes = add-nodes b p.granted (with_node p.granted n) n at h.nodes adds;
+  enough = add-enough b p.granted (with_node p.granted n) n _ adds h.enough;
 }
 
 -- where a vote is counted, the granted set has the node too
@@ -65,5 +65,5 @@ pub granted-counts : (b : Ballot) (client attempt : ℕ) (s : State) (m : Messag
     has_node (granted_in (counts_in n s)) k ≡ ((n == k) || has_node (granted_in s) k)
 granted-counts b client attempt Idle m n k h adds = absurd h
 granted-counts b client attempt (Chosen t) m n k h adds = cc
-granted-counts b client attempt (Asking t granted skipped) m n k h adds = adds k
-granted-counts b client attempt (Inside t granted skipped) m n k h adds = adds k
+granted-counts b client attempt (Asking p) m n k h adds = adds k
+granted-counts b client attempt (Inside p) m n k h adds = adds k

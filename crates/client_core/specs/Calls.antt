@@ -5,15 +5,17 @@ use Rattle.lock_messages.specs.declared.tickets.Mode.{Mode}
 use Rattle.lock_messages.specs.declared.tickets.Ticket.{Ticket}
 use Rattle.lock_messages.specs.declared.messages.Message.{Message}
 use Rattle.lock_messages.specs.declared.messages.Message.TheVariants as message
+use Rattle.lock_messages.specs.Messages.{named_node}
 use Rattle.lock_model.specs.declared.hearing.Heard.{Heard}
 use Rattle.lock_model.specs.declared.hearing.Heard.TheVariants as heard
 use Rattle.lock_model.specs.Ballots.{Ballot, HasNode, IsEnough}
 use Rattle.lock_model.specs.Hearing.{HearsOfTicket, HearsAtRest}
-use Rattle.lock_model.specs.ExactHearing.{is_node_of, heard_of_ticket, heard_at_rest}
+use Rattle.lock_model.specs.ExactHearing.{is_node_of, heard_of_ticket, heard_at_rest, is_counted}
 use Rattle.vote_weights.specs.Sets.{has_node, with_node}
 use Rattle.client_core.specs.declared.faults.ClientFault.{ClientFault}
 use Rattle.client_core.specs.declared.faults.ClientFault.TheVariants.{NotIdle, AttemptsSpent}
 use Rattle.client_core.specs.declared.phases.Phase.TheVariants as phase
+use Rattle.client_core.specs.declared.phases.Present.{Present}
 use Rattle.client_core.specs.declared.phases.State.{State}
 use Rattle.client_core.specs.declared.phases.State.TheVariants.{Idle, Chosen, Asking, Inside}
 use Rattle.client_core.specs.Clients.{Client, client_of, phase_of}
@@ -43,19 +45,23 @@ number_if_left attempt = if nat_lt attempt MAX_ATTEMPT then Ok (attempt + 1) els
 abbrev pub begin_answer_in : State → ℕ → Result ℕ ClientFault
 begin_answer_in Idle attempt = number_if_left attempt
 begin_answer_in (Chosen t) attempt = Err NotIdle
-begin_answer_in (Asking t granted skipped) attempt = Err NotIdle
-begin_answer_in (Inside t granted skipped) attempt = Err NotIdle
+begin_answer_in (Asking p) attempt = Err NotIdle
+begin_answer_in (Inside p) attempt = Err NotIdle
 
 abbrev pub begin_answer : Client → Result ℕ ClientFault
 begin_answer c = begin_answer_in c.state c.attempt
 
 -- `kept`, `enter` and `leave`
 
+-- an attempt as it begins to ask: nothing is granted or skipped
+abbrev pub first_of : Ticket → Present
+first_of t = record { ticket = t; granted = []; skipped = [] }
+
 abbrev pub asks_in : State → State
 asks_in Idle = Idle
-asks_in (Chosen t) = Asking t [] []
-asks_in (Asking t granted skipped) = Asking t granted skipped
-asks_in (Inside t granted skipped) = Inside t granted skipped
+asks_in (Chosen t) = Asking (first_of t)
+asks_in (Asking p) = Asking p
+asks_in (Inside p) = Inside p
 
 -- a chosen ticket is asked with
 abbrev pub asking : Client → Client
@@ -64,8 +70,8 @@ asking c = in_state c (asks_in c.state)
 abbrev pub enters_in : State → State
 enters_in Idle = Idle
 enters_in (Chosen t) = Chosen t
-enters_in (Asking t granted skipped) = Inside t granted skipped
-enters_in (Inside t granted skipped) = Inside t granted skipped
+enters_in (Asking p) = Inside p
+enters_in (Inside p) = Inside p
 
 -- a client that asks is inside, with the same ticket and the same sets
 abbrev pub entered : Client → Client
@@ -75,8 +81,8 @@ entered c = in_state c (enters_in c.state)
 abbrev pub MayEnterIn : Ballot → State → Type 0
 MayEnterIn b Idle = ⊥
 MayEnterIn b (Chosen t) = ⊥
-MayEnterIn b (Asking t granted skipped) = IsEnough b t.mode (has_node granted)
-MayEnterIn b (Inside t granted skipped) = ⊥
+MayEnterIn b (Asking p) = IsEnough b p.ticket.mode (has_node p.granted)
+MayEnterIn b (Inside p) = ⊥
 
 abbrev pub MayEnter : Client → Type 0
 MayEnter c = MayEnterIn c.ballot c.state
@@ -98,8 +104,8 @@ release_of n client attempt = if attempt == 0 then None else Some (message.Relea
 abbrev pub message_in : ℕ → ℕ → ℕ → State → Option Message
 message_in n client attempt Idle = release_of n client attempt
 message_in n client attempt (Chosen t) = None
-message_in n client attempt (Asking t granted skipped) = Some (message.Request n t)
-message_in n client attempt (Inside t granted skipped) = Some (message.Request n t)
+message_in n client attempt (Asking p) = Some (message.Request n p.ticket)
+message_in n client attempt (Inside p) = Some (message.Request n p.ticket)
 
 -- what the client has to say to the node
 abbrev pub message_for : Client → ℕ → Option Message
@@ -114,28 +120,22 @@ ReleasesAll c attempt = (n : ℕ) → HasNode c.ballot n → message_for c n ≡
 abbrev pub heard_in : ℕ → ℕ → ℕ → State → Message → Heard
 heard_in nodes client attempt Idle m = heard_at_rest nodes client attempt m
 heard_in nodes client attempt (Chosen t) m = heard.NotMine
-heard_in nodes client attempt (Asking t granted skipped) m = heard_of_ticket nodes t (has_node granted) m
-heard_in nodes client attempt (Inside t granted skipped) m = heard_of_ticket nodes t (has_node granted) m
+heard_in nodes client attempt (Asking p) m = heard_of_ticket nodes p.ticket (has_node p.granted) m
+heard_in nodes client attempt (Inside p) m = heard_of_ticket nodes p.ticket (has_node p.granted) m
 
 -- what the client makes of the message
 abbrev pub heard_by : Client → Message → Heard
 heard_by c m = heard_in (length c.ballot.votes) c.client c.attempt c.state m
 
--- the node that a message names
-abbrev pub node_of : Message → ℕ
-node_of (message.Request n t) = n
-node_of (message.Release n c a) = n
-node_of (message.Grant n t) = n
-node_of (message.Busy n t) = n
-node_of (message.Over n c a) = n
-node_of (message.Done n c a) = n
-node_of (message.Muddled n c a) = n
+-- the same attempt with the node's Grant counted
+abbrev pub with_vote : ℕ → Present → Present
+with_vote n p = record p { granted = with_node p.granted n }
 
 abbrev pub counts_in : ℕ → State → State
 counts_in n Idle = Idle
 counts_in n (Chosen t) = Chosen t
-counts_in n (Asking t granted skipped) = Asking t (with_node granted n) skipped
-counts_in n (Inside t granted skipped) = Inside t (with_node granted n) skipped
+counts_in n (Asking p) = Asking (with_vote n p)
+counts_in n (Inside p) = Inside (with_vote n p)
 
 -- the client with the node's Grant counted
 abbrev pub counted : Client → ℕ → Client
@@ -149,26 +149,18 @@ AddsNode before n after = (m : ℕ) → has_node after m ≡ ((n == m) || has_no
 abbrev pub AddsVote : State → ℕ → Type 0
 AddsVote Idle n = Unit {0}
 AddsVote (Chosen t) n = Unit {0}
-AddsVote (Asking t granted skipped) n = AddsNode granted n (with_node granted n)
-AddsVote (Inside t granted skipped) n = AddsNode granted n (with_node granted n)
-
--- whether the answer is that a vote was counted
-abbrev pub is_counted : Heard → Bool
-is_counted heard.Counted = true
-is_counted heard.Known = false
-is_counted heard.Busy = false
-is_counted heard.Done = false
-is_counted heard.NotMine = false
+AddsVote (Asking p) n = AddsNode p.granted n (with_node p.granted n)
+AddsVote (Inside p) n = AddsNode p.granted n (with_node p.granted n)
 
 -- what hearing leaves: a Grant that counts puts its node into the granted set, and nothing else changes
 abbrev pub after_hearing : Client → Message → Client
-after_hearing c m = if is_counted (heard_by c m) then counted c (node_of m) else c
+after_hearing c m = if is_counted (heard_by c m) then counted c (named_node m) else c
 
 abbrev pub HearsIn : Ballot → ℕ → ℕ → State → Message → Heard → Type 0
 HearsIn b client attempt Idle m h = HearsAtRest b client attempt m h
 HearsIn b client attempt (Chosen t) m h = h ≡ heard.NotMine
-HearsIn b client attempt (Asking t granted skipped) m h = HearsOfTicket b t (has_node granted) m h
-HearsIn b client attempt (Inside t granted skipped) m h = HearsOfTicket b t (has_node granted) m h
+HearsIn b client attempt (Asking p) m h = HearsOfTicket b p.ticket (has_node p.granted) m h
+HearsIn b client attempt (Inside p) m h = HearsOfTicket b p.ticket (has_node p.granted) m h
 
 -- the answer is the one that the message has for the client
 abbrev pub Hears : Client → Message → Heard → Type 0
@@ -185,18 +177,22 @@ pub record IsOpenTo (b : Ballot) (granted skipped : List ℕ) (n : ℕ) : Type 0
 abbrev pub IsOpenIn : Ballot → State → ℕ → Type 0
 IsOpenIn b Idle n = ⊥
 IsOpenIn b (Chosen t) n = ⊥
-IsOpenIn b (Asking t granted skipped) n = IsOpenTo b granted skipped n
-IsOpenIn b (Inside t granted skipped) n = ⊥
+IsOpenIn b (Asking p) n = IsOpenTo b p.granted p.skipped n
+IsOpenIn b (Inside p) n = ⊥
 
 -- a node that the client can still ask
 abbrev pub IsOpen : Client → ℕ → Type 0
 IsOpen c n = IsOpenIn c.ballot c.state n
 
+-- the same attempt with the node skipped
+abbrev pub without : ℕ → Present → Present
+without n p = record p { skipped = with_node p.skipped n }
+
 abbrev pub skips_in : ℕ → State → State
 skips_in n Idle = Idle
 skips_in n (Chosen t) = Chosen t
-skips_in n (Asking t granted skipped) = Asking t granted (with_node skipped n)
-skips_in n (Inside t granted skipped) = Inside t granted skipped
+skips_in n (Asking p) = Asking (without n p)
+skips_in n (Inside p) = Inside p
 
 -- while it asks, the client with the node skipped
 abbrev pub skipping : Client → ℕ → Client

@@ -1,13 +1,15 @@
 // One client's attempts.
 
 ghost use Rattle.std.specs.Prelude.{◌≡◌, ◌≢◌, ℕ, ◌≤◌, ◌+◌, ◌==◌, ◌&&◌, ◌||◌, ◌↔◌, ◌⊎◌, length, IsTrue, IsNone, IfSome, IfOk, OnOk, OnErr};
+ghost use Rattle.lock_model.specs.ExactHearing.{is_counted};
+ghost use Rattle.lock_messages.specs.Messages.{named_node};
 ghost use Rattle.lock_model.specs.Ballots.{HasNode};
 ghost use Rattle.vote_weights.specs.Sets.{has_node};
 ghost use Rattle.client_core.specs.Clients.{phase_of, ticket_of, granted_of, skipped_of, IsLawfulClient};
-ghost use Rattle.client_core.specs.Calls.{at_rest, begun, begin_answer, asking, entered, MayEnter, MayLeave, left, release_of, message_for, ReleasesAll, heard_by, node_of, counted, is_counted, AddsVote, after_hearing, Hears, IsOpen, skipping};
+ghost use Rattle.client_core.specs.Calls.{at_rest, begun, begin_answer, asking, entered, MayEnter, MayLeave, left, release_of, message_for, ReleasesAll, heard_by, counted, AddsVote, after_hearing, Hears, IsOpen, skipping};
 
 use crate::hearing::{heard_at_rest, heard_of_ticket, is_node_of, node_of};
-use crate::phases::State;
+use crate::phases::{Present, State};
 use crate::{ClientFault, Phase};
 use lock_messages::{Attempt, ClientId, MAX_ATTEMPT, Message, Mode, NodeId, ResourceName, Ticket};
 use lock_model::{Heard, laws};
@@ -179,8 +181,8 @@ impl ClientCore {
         match self.state {
             State::Idle => self.release(node),
             State::Chosen(_) => None,
-            State::Asking(ticket, ..) | State::Inside(ticket, ..) => {
-                Some(Message::Request(node, ticket))
+            State::Asking(present) | State::Inside(present) => {
+                Some(Message::Request(node, present.ticket))
             }
         }
     }
@@ -195,8 +197,8 @@ impl ClientCore {
         match self.state {
             State::Idle => heard_at_rest(nodes, self.client, self.attempt, message),
             State::Chosen(_) => Heard::NotMine,
-            State::Asking(ticket, granted, _) | State::Inside(ticket, granted, _) => {
-                heard_of_ticket(nodes, &ticket, granted, message)
+            State::Asking(present) | State::Inside(present) => {
+                heard_of_ticket(nodes, &present.ticket, present.granted, message)
             }
         }
     }
@@ -223,7 +225,7 @@ impl ClientCore {
         ensures allowed { Hears self.old message.now result }
         ensures exact { self.new ≡ after_hearing self.old message.now }
         ensures unchanged { result ≢ Heard.Counted → self.new ≡ self.old }
-        ensures granted { (n : ℕ) → has_node (granted_of self.new) n ≡ ((is_counted result && (node_of message.now == n)) || has_node (granted_of self.old) n) }
+        ensures granted { (n : ℕ) → has_node (granted_of self.new) n ≡ ((is_counted result && (named_node message.now == n)) || has_node (granted_of self.old) n) }
     {
         let heard = self.heard(message);
         if let Heard::Counted = heard {
@@ -238,8 +240,8 @@ impl ClientCore {
         ensures { IsTrue result ↔ MayEnter self.now }
     {
         match self.state {
-            State::Asking(ticket, granted, _) => self.ballot.enough(ticket.mode, granted),
-            State::Idle | State::Chosen(_) | State::Inside(..) => false,
+            State::Asking(present) => self.ballot.enough(present.ticket.mode, present.granted),
+            State::Idle | State::Chosen(_) | State::Inside(_) => false,
         }
     }
 
@@ -276,7 +278,14 @@ impl ClientCore {
         ensures lowest { IfSome result (λ n. (m : ℕ) → IsOpen self.now m → n ≤ m) }
         ensures none { IsNone result → (m : ℕ) → IsOpen self.now m → ⊥ }
     {
-        let State::Asking(_, granted, skipped) = self.state else {
+        let State::Asking(
+            Present {
+                granted,
+                skipped,
+                ..
+            },
+        ) = self.state
+        else {
             return None;
         };
         for number in 1..=self.ballot.nodes() {

@@ -1,9 +1,9 @@
 // What a client makes of a message.
 
 ghost use Rattle.std.specs.Prelude.{◌≡◌};
+ghost use Rattle.lock_messages.specs.Messages.{named_node};
 ghost use Rattle.lock_model.specs.ExactHearing.{is_node_of, same_ticket, heard_of_ticket, heard_at_rest};
 ghost use Rattle.vote_weights.specs.Sets.{has_node};
-ghost use Rattle.client_core.specs.Calls.{node_of};
 
 use lock_messages::{ClientId, Message, NodeId, Ticket};
 use lock_model::Heard;
@@ -29,7 +29,7 @@ fn same_ticket(a: &Ticket, b: &Ticket) -> bool
 
 /// The node that the message names.
 pub(crate) fn node_of(message: &Message) -> NodeId
-    ensures { result ≡ node_of message.now }
+    ensures { result ≡ named_node message.now }
 {
     match *message {
         Message::Request(node, _) | Message::Grant(node, _) | Message::Busy(node, _) => node,

@@ -18,14 +18,59 @@ pub enum Phase {
     Inside,
 }
 
-/// What a client does, with what it has then: the present ticket, the nodes whose Grant was
-/// counted, and those that were skipped.
+/// What a client has of its present attempt: its ticket, the nodes whose Grant was counted, and those
+/// that were skipped.
+#[derive(Clone, Copy, Debug, PartialEq, Eq, Hash)]
+pub(crate) struct Present {
+    pub(crate) ticket: Ticket,
+    pub(crate) granted: NodeSet,
+    pub(crate) skipped: NodeSet,
+}
+
+impl Present {
+    ghost use Rattle.vote_weights.specs.Sets.{with_node};
+    ghost use Rattle.client_core.specs.Calls.{first_of, with_vote, without, AddsNode};
+
+    /// The attempt with this ticket, as it begins to ask: nothing is granted or skipped.
+    fn first(ticket: Ticket) -> Present
+        ensures { result ≡ first_of ticket }
+    {
+        Present {
+            ticket,
+            granted: NodeSet::empty(),
+            skipped: NodeSet::empty(),
+        }
+    }
+
+    /// The same with the node's Grant counted.
+    fn with_vote(self, node: NodeId) -> Present
+        ensures exact { result ≡ with_vote node self }
+        ensures adds { AddsNode self.granted node (with_node self.granted node) }
+    {
+        Present {
+            granted: self.granted.with(node),
+            ..self
+        }
+    }
+
+    /// The same with the node skipped.
+    fn without(self, node: NodeId) -> Present
+        ensures { result ≡ without node self }
+    {
+        Present {
+            skipped: self.skipped.with(node),
+            ..self
+        }
+    }
+}
+
+/// What a client does, with what it has then.
 #[derive(Clone, Copy, Debug, PartialEq, Eq, Hash)]
 pub(crate) enum State {
     Idle,
     Chosen(Ticket),
-    Asking(Ticket, NodeSet, NodeSet),
-    Inside(Ticket, NodeSet, NodeSet),
+    Asking(Present),
+    Inside(Present),
 }
 
 impl State {
@@ -39,8 +84,8 @@ impl State {
         match self {
             State::Idle => Phase::Idle,
             State::Chosen(_) => Phase::Chosen,
-            State::Asking(..) => Phase::Asking,
-            State::Inside(..) => Phase::Inside,
+            State::Asking(_) => Phase::Asking,
+            State::Inside(_) => Phase::Inside,
         }
     }
 
@@ -50,9 +95,8 @@ impl State {
     {
         match self {
             State::Idle => None,
-            State::Chosen(ticket) | State::Asking(ticket, ..) | State::Inside(ticket, ..) => {
-                Some(ticket)
-            }
+            State::Chosen(ticket) => Some(ticket),
+            State::Asking(present) | State::Inside(present) => Some(present.ticket),
         }
     }
 
@@ -61,8 +105,8 @@ impl State {
         ensures { result ≡ asks_in self }
     {
         match self {
-            State::Chosen(ticket) => State::Asking(ticket, NodeSet::empty(), NodeSet::empty()),
-            State::Idle | State::Asking(..) | State::Inside(..) => self,
+            State::Chosen(ticket) => State::Asking(Present::first(ticket)),
+            State::Idle | State::Asking(_) | State::Inside(_) => self,
         }
     }
 
@@ -71,8 +115,8 @@ impl State {
         ensures { result ≡ enters_in self }
     {
         match self {
-            State::Asking(ticket, granted, skipped) => State::Inside(ticket, granted, skipped),
-            State::Idle | State::Chosen(_) | State::Inside(..) => self,
+            State::Asking(present) => State::Inside(present),
+            State::Idle | State::Chosen(_) | State::Inside(_) => self,
         }
     }
 
@@ -83,12 +127,8 @@ impl State {
     {
         match self {
             State::Idle | State::Chosen(_) => self,
-            State::Asking(ticket, granted, skipped) => {
-                State::Asking(ticket, granted.with(node), skipped)
-            }
-            State::Inside(ticket, granted, skipped) => {
-                State::Inside(ticket, granted.with(node), skipped)
-            }
+            State::Asking(present) => State::Asking(present.with_vote(node)),
+            State::Inside(present) => State::Inside(present.with_vote(node)),
         }
     }
 
@@ -97,10 +137,8 @@ impl State {
         ensures { result ≡ skips_in node self }
     {
         match self {
-            State::Asking(ticket, granted, skipped) => {
-                State::Asking(ticket, granted, skipped.with(node))
-            }
-            State::Idle | State::Chosen(_) | State::Inside(..) => self,
+            State::Asking(present) => State::Asking(present.without(node)),
+            State::Idle | State::Chosen(_) | State::Inside(_) => self,
         }
     }
 }

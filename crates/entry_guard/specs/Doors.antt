@@ -10,8 +10,8 @@ use Rattle.client_core.specs.declared.phases.State.TheVariants.{Idle, Chosen, As
 abbrev pub is_inside_in : State → Bool
 is_inside_in Idle = false
 is_inside_in (Chosen t) = false
-is_inside_in (Asking t granted skipped) = false
-is_inside_in (Inside t granted skipped) = true
+is_inside_in (Asking p) = false
+is_inside_in (Inside p) = true
 
 abbrev pub is_client_inside : Client → Bool
 is_client_inside c = is_inside_in c.state

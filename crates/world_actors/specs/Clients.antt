@@ -2,19 +2,25 @@
 -- client of the exact world.
 use Rattle.std.specs.Prelude.{◌≡◌, ℕ, ◌+◌, ◌≤◌, Bool, true, false, Option, None, IfSome}
 use Rattle.lock_messages.specs.declared.ids.TheConstants.{MAX_ATTEMPT}
+use Rattle.client_core.specs.declared.phases.Present.{Present}
 use Rattle.client_core.specs.declared.phases.State.{State}
 use Rattle.client_core.specs.declared.phases.State.TheVariants.{Idle, Chosen, Asking, Inside}
 use Rattle.client_core.specs.Clients.{Client}
+use Rattle.world_model.specs.declared.exact.ExactPresent.{ExactPresent}
 use Rattle.world_model.specs.declared.exact.ExactClientPhase.{ExactClientPhase}
 use Rattle.world_model.specs.declared.exact.ExactClientPhase.TheVariants as client
 use Rattle.world_actors.specs.Acting.{ActingClient}
 
--- what a client that is up is about; the nodes that it skips are no matter of the exact world
+-- what a client has of its present attempt; the nodes that it skips are no matter of the exact world
+abbrev pub present_of : Present → ExactPresent
+present_of p = record { ticket = p.ticket; granted = p.granted }
+
+-- what a client that is up is about
 abbrev pub phase_of : State → ExactClientPhase
 phase_of Idle = client.Idle
 phase_of (Chosen t) = client.Chosen t
-phase_of (Asking t granted skipped) = client.Asking t granted
-phase_of (Inside t granted skipped) = client.Inside t granted
+phase_of (Asking p) = client.Asking (present_of p)
+phase_of (Inside p) = client.Inside (present_of p)
 
 -- a client that is down is about nothing, whatever its core was about as it fell
 abbrev pub phase_if : Bool → Client → ExactClientPhase
@@ -33,8 +39,8 @@ acting_client core kept tried up = record {
 abbrev pub IsInStep : State → ℕ → ℕ → Option ℕ → Type 0
 IsInStep Idle now kept tried = (now ≡ kept) × (tried ≡ None)
 IsInStep (Chosen t) now kept tried = (now ≡ kept + 1) × (t.attempt ≡ now) × IfSome tried (λ a. a ≡ now)
-IsInStep (Asking t granted skipped) now kept tried = (now ≡ kept) × (tried ≡ None)
-IsInStep (Inside t granted skipped) now kept tried = (now ≡ kept) × (tried ≡ None)
+IsInStep (Asking p) now kept tried = (now ≡ kept) × (tried ≡ None)
+IsInStep (Inside p) now kept tried = (now ≡ kept) × (tried ≡ None)
 
 abbrev pub IsInStepIf : Bool → Client → ℕ → Option ℕ → Type 0
 IsInStepIf true core kept tried = IsInStep core.state core.attempt kept tried

@@ -24,7 +24,8 @@ use Rattle.world_machine.specs.declared.turns.NodeAct.{NodeAct}
 use Rattle.world_machine.specs.declared.turns.ClientAct.{ClientAct}
 use Rattle.world_machine.specs.Doing.{node_event, node_turn, node_asks, client_event, client_turn, Turned, read_turn, Spoke}
 use Rattle.world_machine.specs.Machines.{node_part, client_part, AreNodes, AreClients, with_nodes, with_clients, with_sent}
-use Rattle.world_machine.proofs.ListFacts.{numbered-map, here-or-there, set-same}
+use Rattle.world_model.specs.Numbered.{numbered-map}
+use Rattle.world_machine.proofs.ListFacts.{here-or-there, set-same}
 use Rattle.world_machine.proofs.TurnFacts.{OnlyActs, node-deed, node-asks, client-deed, step-node, step-no-node, step-client, step-no-client, node-acts, node-speaks, client-speaks, take-once, take-acts, hear-once, does-turned, does-spoke}
 
 -- the part under a number

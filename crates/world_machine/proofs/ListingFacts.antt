@@ -24,13 +24,13 @@ use Rattle.world_model.specs.declared.exact.ExactClientPhase.TheVariants as clie
 use Rattle.world_model.specs.declared.exact.ExactWorld.{ExactWorld}
 use Rattle.world_model.specs.ExactWorlds.{numbered}
 use Rattle.world_model.specs.Exclusion.{IsExclusive}
-use Rattle.world_model.specs.Forgetting.{station_of, client_phase_of, node_at, client_at, forget, IsSound}
+use Rattle.world_model.specs.Forgetting.{station_of, present_of, client_phase_of, node_numbered, client_numbered, forget, IsSound}
 use Rattle.world_model.specs.Invariants.{IsSafeTicket, IsSafeClient}
 use Rattle.world_model.specs.Views.{ticket_in, ticket_at, ticket_inside}
-use Rattle.world_model.specs.Worlds.{World, ClientPhase, ClientDown, ClientIdle, Chosen, Asking, IsIn}
+use Rattle.world_model.specs.Worlds.{World, Present, ClientPhase, ClientDown, ClientIdle, Chosen, Asking, IsIn}
 use Rattle.world_machine.specs.Listing.{Tells, IsInsideBy, AreWaiting}
 use Rattle.world_machine.specs.Machines.{node_part, client_part, world_view}
-use Rattle.world_machine.proofs.ListFacts.{numbered-map}
+use Rattle.world_model.specs.Numbered.{numbered-map}
 
 -- one element more
 flat_map-next : {A B : Type 0} (f : A → List B) (xs : List A) (i : ℕ) (x : A) → slice_get xs i ≡ Some x → flat_map f (take (i + 1) xs) ≡ flat_map f (take i xs) ++ f x
@@ -72,7 +72,7 @@ pub listed-such : (f : ExactNode → List Ticket) (P : Station → List Ticket �
     option_map f (numbered w.nodes n) ≡ Some l → P ((forget w).nodes n).kept l
 listed-such f P w n l each = go (numbered w.nodes n) refl
   where
-    go : (o : Option ExactNode) → numbered w.nodes n ≡ o → option_map f o ≡ Some l → P (node_at o).kept l
+    go : (o : Option ExactNode) → numbered w.nodes n ≡ o → option_map f o ≡ Some l → P (node_numbered o).kept l
     go None is h = absurd (let q : None ≡ Some l = h in cc)
     go (Some v) is h =
         let q : Some (f v) ≡ Some l = h in
@@ -82,26 +82,32 @@ listed-such f P w n l each = go (numbered w.nodes n) refl
 
 abbrev InsideBy : ClientPhase → Option Ticket → Mode → List ℕ → Type 0
 InsideBy phase found m x =
-    ((t : Ticket) × (granted : ℕ → Bool) × (phase ≡ IsIn t granted) × (t.mode ≡ m) × (t.resource ≡ x)) ↔ ((t : Ticket) × (found ≡ Some t) × (t.mode ≡ m) × (t.resource ≡ x))
+    ((p : Present) × (phase ≡ IsIn p) × (p.ticket.mode ≡ m) × (p.ticket.resource ≡ x)) ↔ ((t : Ticket) × (found ≡ Some t) × (t.mode ≡ m) × (t.resource ≡ x))
 
-nobody-by : (phase : ClientPhase) (m : Mode) (x : List ℕ) → ((t : Ticket) (granted : ℕ → Bool) → phase ≡ IsIn t granted → ⊥) → InsideBy phase None m x
-nobody-by phase m x none = (λ h. absurd (none h.0 h.1 h.2), λ h. absurd (let q : None ≡ Some h.0 = h.1 in cc))
+nobody-by : (phase : ClientPhase) (m : Mode) (x : List ℕ) → ((p : Present) → phase ≡ IsIn p → ⊥) → InsideBy phase None m x
+nobody-by phase m x none = (λ h. absurd (none h.0 h.1), λ h. absurd (let q : None ≡ Some h.0 = h.1 in cc))
 
 phase-by : (p : ExactClientPhase) (m : Mode) (x : List ℕ) → InsideBy (client_phase_of p) (ticket_in p) m x
-phase-by client.Down m x = nobody-by ClientDown m x (λ t granted e. let q : ClientDown ≡ IsIn t granted = e in cc)
-phase-by client.Idle m x = nobody-by ClientIdle m x (λ t granted e. let q : ClientIdle ≡ IsIn t granted = e in cc)
-phase-by (client.Chosen u) m x = nobody-by (Chosen u) m x (λ t granted e. let q : Chosen u ≡ IsIn t granted = e in cc)
-phase-by (client.Asking u by) m x = nobody-by (Asking u (has_node by)) m x (λ t granted e. let q : Asking u (has_node by) ≡ IsIn t granted = e in cc)
-phase-by (client.Inside u by) m x = (
-  λ h. let q : IsIn u (has_node by) ≡ IsIn h.0 h.1 = h.2 in let same : u ≡ h.0 = cc in (h.0, ap Some same, h.3, h.4),
-  λ h. let q : Some u ≡ Some h.0 = h.1 in let same : u ≡ h.0 = cc in (h.0, has_node by, ap (λ t. IsIn t (has_node by)) same, h.2, h.3),
+phase-by client.Down m x = nobody-by ClientDown m x (λ a e. let q : ClientDown ≡ IsIn a = e in cc)
+phase-by client.Idle m x = nobody-by ClientIdle m x (λ a e. let q : ClientIdle ≡ IsIn a = e in cc)
+phase-by (client.Chosen u) m x = nobody-by (Chosen u) m x (λ a e. let q : Chosen u ≡ IsIn a = e in cc)
+phase-by (client.Asking p) m x = nobody-by (Asking (present_of p)) m x (λ a e. let q : Asking (present_of p) ≡ IsIn a = e in cc)
+phase-by (client.Inside p) m x = (
+  λ h.
+      let q : IsIn (present_of p) ≡ IsIn h.0 = h.1 in
+      let same : present_of p ≡ h.0 = cc in
+      (p.ticket, refl, ap (λ (a : Present). a.ticket.mode) same ∙ h.2, ap (λ (a : Present). a.ticket.resource) same ∙ h.3),
+  λ h.
+      let q : Some p.ticket ≡ Some h.0 = h.1 in
+      let same : p.ticket ≡ h.0 = cc in
+      (present_of p, refl, ap (λ (t : Ticket). t.mode) same ∙ h.2, ap (λ (t : Ticket). t.resource) same ∙ h.3),
 )
 
 pub inside-by : (w : ExactWorld) (c : ℕ) → IsInsideBy (forget w) c (ticket_inside c w)
 inside-by w c m x = go (numbered w.clients c)
   where
-    go : (o : Option ExactClient) → InsideBy (client_at o).phase (ticket_at o) m x
-    go None = nobody-by ClientDown m x (λ t granted e. let q : ClientDown ≡ IsIn t granted = e in cc)
+    go : (o : Option ExactClient) → InsideBy (client_numbered o).phase (ticket_at o) m x
+    go None = nobody-by ClientDown m x (λ a e. let q : ClientDown ≡ IsIn a = e in cc)
     go (Some k) = phase-by k.phase m x
 
 -- the ticket of a client that is inside is its own
@@ -109,12 +115,12 @@ own_ticket_in : (b : Ballot) (w : World) (c kept : ℕ) (p : ExactClientPhase) (
 own_ticket_in b w c kept client.Down t safe is = absurd (let q : None ≡ Some t = is in cc)
 own_ticket_in b w c kept client.Idle t safe is = absurd (let q : None ≡ Some t = is in cc)
 own_ticket_in b w c kept (client.Chosen u) t safe is = absurd (let q : None ≡ Some t = is in cc)
-own_ticket_in b w c kept (client.Asking u by) t safe is = absurd (let q : None ≡ Some t = is in cc)
-own_ticket_in b w c kept (client.Inside u by) t safe is =
-    let same : u ≡ t = cc in
+own_ticket_in b w c kept (client.Asking p) t safe is = absurd (let q : None ≡ Some t = is in cc)
+own_ticket_in b w c kept (client.Inside p) t safe is =
+    let same : p.ticket ≡ t = cc in
     ap (λ (x : Ticket). x.client) (sym same) ∙ safe.0.client
 
-own_ticket_at : (b : Ballot) (w : World) (c : ℕ) (o : Option ExactClient) (t : Ticket) → IsSafeClient b w c (client_at o) → ticket_at o ≡ Some t → t.client ≡ c
+own_ticket_at : (b : Ballot) (w : World) (c : ℕ) (o : Option ExactClient) (t : Ticket) → IsSafeClient b w c (client_numbered o) → ticket_at o ≡ Some t → t.client ≡ c
 own_ticket_at b w c None t safe is = absurd (let q : None ≡ Some t = is in cc)
 own_ticket_at b w c (Some k) t safe is = own_ticket_in b w c k.kept k.phase t safe.ticket is
 

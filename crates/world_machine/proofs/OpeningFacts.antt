@@ -17,7 +17,7 @@ use Rattle.world_model.specs.Openings.{down_node, down_client, empty_station, re
 use Rattle.world_opening.specs.Openings.{AreRecords, AreAttempts, station_in, stations_in}
 use Rattle.world_machine.specs.Machines.{node_part, client_part, world_view, AreNodes, AreClients, IsWorld}
 use Rattle.world_machine.specs.Opened.{problems_in, CanOpen}
-use Rattle.world_machine.proofs.ListFacts.{past-zero, numbered-one, numbered-next}
+use Rattle.world_model.specs.Numbered.{past-zero, numbered-one, numbered-next}
 
 -- lists with one more
 

@@ -36,7 +36,7 @@ use Rattle.world_machine.specs.declared.turns.NodeAct.{NodeAct}
 use Rattle.world_machine.specs.declared.turns.NodeAct.TheVariants as node_act
 use Rattle.world_machine.specs.declared.turns.ClientAct.{ClientAct}
 use Rattle.world_machine.specs.declared.turns.ClientAct.TheVariants as client_act
-use Rattle.world_machine.specs.Doing.{node_event, node_turn, node_asks, client_event, client_turn, IsRefusedTurn, Turned, read_turn, IsKeptBack, Spoke}
+use Rattle.world_machine.specs.Doing.{node_event, node_turn, node_asks, client_event, client_turn, IsNotTurned, Turned, read_turn, IsKeptBack, Spoke}
 use Rattle.world_machine.specs.Machines.{with_sent}
 
 -- the deeds of turns
@@ -141,8 +141,8 @@ tells-speaks c n k client.Idle = go (k.kept == 0)
     go true = λ ok. no ok
     go false = one-speaks k (message.Release n c k.kept)
 tells-speaks c n k (client.Chosen t) = λ ok. no ok
-tells-speaks c n k (client.Asking t granted) = one-speaks k (message.Request n t)
-tells-speaks c n k (client.Inside t granted) = one-speaks k (message.Request n t)
+tells-speaks c n k (client.Asking p) = one-speaks k (message.Request n p.ticket)
+tells-speaks c n k (client.Inside p) = one-speaks k (message.Request n p.ticket)
 
 pub client-speaks : (b : Ballot) (c n : ℕ) (k : ExactClient) → OnlySpeaks (tells b c n k)
 client-speaks b c n k = go (is_node_of (length b.votes) n)
@@ -204,7 +204,7 @@ hear-once w into nodes c number k = go (is_down k.phase)
 -- what the call did
 
 did-refuse : {P : Type 0} (w : ExactWorld) (e : Event) (into : P → ExactWorld) (turn : Turns P) (asks : Bool) (f : StepFault) → step w e ≡ finishes w into turn → (asks ≡ true → asks_for_memory e ≡ true) → (asks ≡ true → OnlyActs turn) →
-    IsRefusedTurn asks turn f → IsRefused e (step w e) f
+    IsNotTurned asks turn f → IsRefused e (step w e) f
 did-refuse w e into turn asks f s may only (inl r) = inl (s ∙ ap (finishes w into) r)
 did-refuse w e into turn asks f s may only (inr h) =
     let t = only h.1 h.2 in

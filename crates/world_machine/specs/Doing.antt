@@ -69,15 +69,15 @@ event_of (doing.Says n) = event.Say n
 event_of (doing.Takes n number) = event.Take n number
 event_of (doing.Hears c number) = event.Hear c number
 
--- the turn is refused so, or memory was refused to one that asks for it
-abbrev pub IsRefusedTurn : {P : Type 0} → Bool → Turns P → StepFault → Type 0
-IsRefusedTurn asks turn f = (turn ≡ Err f) ⊎ ((f ≡ fault.Memory) × (asks ≡ true) × IsOk turn)
+-- the turn is not done: it is refused so, or memory was refused to one that asks for it
+abbrev pub IsNotTurned : {P : Type 0} → Bool → Turns P → StepFault → Type 0
+IsNotTurned asks turn f = (turn ≡ Err f) ⊎ ((f ≡ fault.Memory) × (asks ≡ true) × IsOk turn)
 
 -- The call did the turn, with the actor's part before and after it: `part` says which part of the world
 -- an actor is. A refusal changes nothing.
 abbrev pub Turned : {A P : Type 0} → Bool → (A → P) → Turns P → A → Result Effect StepFault → A → Type 0
 Turned asks part turn before (Ok done) after = turn ≡ acts (part after) done
-Turned asks part turn before (Err f) after = IsRefusedTurn asks turn f × (after ≡ before)
+Turned asks part turn before (Err f) after = IsNotTurned asks turn f × (after ≡ before)
 
 -- a turn in which a message is read, once it is read: the one of the number, if there is one
 abbrev pub read_turn : {P : Type 0} → Option Message → Turns P → Turns P

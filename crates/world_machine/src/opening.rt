@@ -15,14 +15,14 @@ ghost use Rattle.world_machine.specs.Opened.{IsResumed, CanOpen, problems_in};
 
 use crate::World;
 use admission_policy::{Admission, problem_of};
-use lock_messages::{ClientId, NodeId};
+use lock_messages::NodeId;
 use lock_model::Problem;
 use stable_record::{Entries, NodeRecord};
 use std::alloc::{AllocError, Global};
 use vote_weights::Ballot;
 use world_actors::{WorldClient, WorldNode};
 use world_model::laws::openings_are_lawful;
-use world_opening::{Opening, OpeningFault, judge};
+use world_opening::{Opening, OpeningFault, client_at, judge, node_at};
 
 /// The problem that a policy in a box solves.
 fn solved_by(policy: &Box<dyn Admission + Send>) -> Problem
@@ -43,21 +43,6 @@ fn problems_of(
         problems.push(solved_by(policy))?;
     }
     Ok(problems)
-}
-
-/// The node, or the client, at a place that is counted from 0.
-fn node_at(place: usize) -> NodeId
-    requires { place < MAX_NODES }
-    ensures { result ≡ place + 1 }
-{
-    NodeId::of(place as u8 + 1).unwrap()
-}
-
-fn client_at(place: usize) -> ClientId
-    requires { place < MAX_CLIENTS }
-    ensures { result ≡ place + 1 }
-{
-    ClientId::of(place as u32 + 1).unwrap()
 }
 
 /// Clients that are down and have kept these attempts.

@@ -9,7 +9,7 @@ use Rattle.lock_model.specs.declared.entries.Status.{Status}
 use Rattle.lock_model.specs.Ballots.{Ballot}
 use Rattle.lock_model.specs.Stations.{Free, Has, Standing, Station}
 use Rattle.lock_model.specs.Decisions.{Among}
-use Rattle.world_model.specs.Worlds.{NodePhase, NodeDown, NodeIdle, Decided, Stored, Node, ClientPhase, ClientDown, ClientIdle, Chosen, Asking, IsIn, Client, World, Setting, IfDecided, EachStation}
+use Rattle.world_model.specs.Worlds.{NodePhase, NodeDown, NodeIdle, Decided, Stored, Node, Present, ClientPhase, ClientDown, ClientIdle, Chosen, Asking, IsIn, Client, World, Setting, IfDecided, EachStation}
 use Rattle.world_model.specs.Invariants.{IsPresentIn, IsPresent, WasAsked, Owes, IsSafeStation, IsSafeNode, IsGranted, IsSafeTicket, IsSafeClient, IsSafe}
 
 -- the ticket's attempt is one that the client has kept since
@@ -36,8 +36,8 @@ one-present : (p : ClientPhase) (t u : Ticket) → IsPresentIn t p → IsPresent
 one-present ClientDown t u h k = absurd h
 one-present ClientIdle t u h k = absurd h
 one-present (Chosen x) t u h k = absurd h
-one-present (Asking x granted) t u h k = sym h ∙ k
-one-present (IsIn x granted) t u h k = sym h ∙ k
+one-present (Asking p) t u h k = sym h ∙ k
+one-present (IsIn p) t u h k = sym h ∙ k
 
 -- a ticket that was asked for was asked for before, or is newly present
 pub asked-before : (w v : World) → Carries w v → (t : Ticket) → WasAsked v t → WasAsked w t ⊎ (IsPresent v t.client t × IsNewer w v t.client t)
@@ -107,8 +107,8 @@ node-still w v carries n none x safe = record {
   phase = safe.phase;
 }
 
-pub granted-still : (w v : World) → Carries w v → (c attempt : ℕ) (t : Ticket) (granted : ℕ → Bool) → IsGranted w c attempt t granted → IsGranted v c attempt t granted
-granted-still w v carries c attempt t granted h = record { client = h.client; attempt_is = h.attempt_is; grants = λ n g. carries.grows (Grant n t) (h.grants n g) }
+pub granted-still : (w v : World) → Carries w v → (c attempt : ℕ) (p : Present) → IsGranted w c attempt p → IsGranted v c attempt p
+granted-still w v carries c attempt p h = record { client = h.client; attempt_is = h.attempt_is; grants = λ n g. carries.grows (Grant n p.ticket) (h.grants n g) }
 
 pub client-still : (b : Ballot) (w v : World) → Carries w v → (c : ℕ) (k : Client) → IsSafeClient b w c k → IsSafeClient b v c k
 client-still b w v carries c k safe = record { tried = safe.tried; ticket = ticket k.phase safe.ticket }
@@ -117,8 +117,8 @@ client-still b w v carries c k safe = record { tried = safe.tried; ticket = tick
     ticket ClientDown h = tt
     ticket ClientIdle h = tt
     ticket (Chosen t) h = h
-    ticket (Asking t granted) h = granted-still w v carries c k.kept t granted h
-    ticket (IsIn t granted) h = (granted-still w v carries c k.kept t granted h.0, h.1)
+    ticket (Asking p) h = granted-still w v carries c k.kept p h
+    ticket (IsIn p) h = (granted-still w v carries c k.kept p h.0, h.1)
 
 -- what is said of all messages
 

@@ -12,7 +12,7 @@ use Rattle.lock_model.specs.Decisions.{Among}
 use Rattle.lock_model.specs.Hearing.{HearsOfTicket}
 use Rattle.world_model.specs.declared.events.Age.{Age}
 use Rattle.world_model.specs.declared.events.Age.TheVariants.{Old, New}
-use Rattle.world_model.specs.Worlds.{Client, World, Setting, OfClient, ByClient, Begins, begins, TriesAttempt, tries_attempt, KeepsAttempt, keeps_attempt, grants_from, gained, Hears, counts, counts_inside, passes, passes_inside, passes_idle, passes_chosen, Enters, enters, Leaves, gives_up, leaves, ClientFalls, client_falls, ClientRises, client_rises_old, client_rises_new}
+use Rattle.world_model.specs.Worlds.{Present, Client, World, Setting, OfClient, ByClient, Begins, begins, TriesAttempt, tries_attempt, KeepsAttempt, keeps_attempt, grants_from, gained, Hears, counts, counts_inside, passes, passes_inside, passes_idle, passes_chosen, Enters, enters, Leaves, gives_up, leaves, ClientFalls, client_falls, ClientRises, client_rises_old, client_rises_new}
 use Rattle.world_model.specs.Invariants.{IsPresentIn, IsPresent, IsGranted, IsSafeClient, IsSafeNode, IsSafe}
 use Rattle.world_model.proofs.Carried.{self-le, IsNewer, Carries, node-still, client-still, all-safe}
 
@@ -104,67 +104,67 @@ keeps-safe b w c before after (keeps_attempt kept a t) safe = record {
         (omega (arith, attempt), omega (arith, attempt, tried))
 
 -- a vote that counts is one that was sent
-gained-granted : (b : Ballot) (w : World) (c attempt : ℕ) (m : Message) (t : Ticket) (granted : ℕ → Bool) → Among m w.sent → HearsOfTicket b t granted m heard.Counted → IsGranted w c attempt t granted →
-    IsGranted w c attempt t (gained m granted)
-gained-granted b w c attempt m t granted sent hears h = record { client = h.client; attempt_is = h.attempt_is; grants = grants }
+gained-granted : (b : Ballot) (w : World) (c attempt : ℕ) (m : Message) (p : Present) → Among m w.sent → HearsOfTicket b p.ticket p.granted m heard.Counted → IsGranted w c attempt p →
+    IsGranted w c attempt (gained m p)
+gained-granted b w c attempt m p sent hears h = record { client = h.client; attempt_is = h.attempt_is; grants = grants }
   where
     n : ℕ
     n = hears.0
 
-    is : m ≡ Grant n t
+    is : m ≡ Grant n p.ticket
     is = hears.2.1
 
-    go : (k : ℕ) → ((n == k) ≡ true) ⊎ (granted k ≡ true) → Among (Grant k t) w.sent
-    go k (inl e) = subst (λ j. Among (Grant j t) w.sent) (eqb-true n k e) (subst (λ x. Among x w.sent) is sent)
+    go : (k : ℕ) → ((n == k) ≡ true) ⊎ (p.granted k ≡ true) → Among (Grant k p.ticket) w.sent
+    go k (inl e) = subst (λ j. Among (Grant j p.ticket) w.sent) (eqb-true n k e) (subst (λ x. Among x w.sent) is sent)
     go k (inr g) = h.grants k g
 
-    grants : (k : ℕ) → gained m granted k ≡ true → Among (Grant k t) w.sent
-    grants k g = go k (or_cases (n == k) (granted k) (subst (λ x. gained x granted k ≡ true) is g))
+    grants : (k : ℕ) → (gained m p).granted k ≡ true → Among (Grant k p.ticket) w.sent
+    grants k g = go k (or_cases (n == k) (p.granted k) (subst (λ x. (gained x p).granted k ≡ true) is g))
 
 -- more nodes have no fewer votes
 no-fewer : (some more : Bool) (votes : ℕ) → (some ≡ true → more ≡ true) → cond some votes 0 ≤ cond more votes 0
 no-fewer true more votes within = let same : cond more votes 0 ≡ votes = ap (λ c. cond c votes 0) (within refl) in omega (arith, same)
 no-fewer false more votes within = zero-le
 
-gained-more : (m : Message) (granted : ℕ → Bool) (n : ℕ) → granted n ≡ true → gained m granted n ≡ true
-gained-more m granted n g = ap (λ b. grants_from m n || b) g ∙ or-true (grants_from m n)
+gained-more : (m : Message) (p : Present) (n : ℕ) → p.granted n ≡ true → (gained m p).granted n ≡ true
+gained-more m p n g = ap (λ b. grants_from m n || b) g ∙ or-true (grants_from m n)
   where
     or-true : (b : Bool) → (b || true) ≡ true
     or-true true = refl
     or-true false = refl
 
-gained-enough : (b : Ballot) (mode : Mode) (m : Message) (granted : ℕ → Bool) → IsEnough b mode granted → IsEnough b mode (gained m granted)
-gained-enough b mode m granted enough =
-    let more : votes_of b granted ≤ votes_of b (gained m granted) =
-    sum_by-le-sum_by (λ n. cond (granted n) (votes_at b n) 0) (λ n. cond (gained m granted n) (votes_at b n) 0) (nodes b) (λ n. no-fewer (granted n) (gained m granted n) (votes_at b n) (gained-more m granted n)) in
+gained-enough : (b : Ballot) (mode : Mode) (m : Message) (p : Present) → IsEnough b mode p.granted → IsEnough b mode (gained m p).granted
+gained-enough b mode m p enough =
+    let more : votes_of b p.granted ≤ votes_of b (gained m p).granted =
+    sum_by-le-sum_by (λ n. cond (p.granted n) (votes_at b n) 0) (λ n. cond ((gained m p).granted n) (votes_at b n) 0) (nodes b) (λ n. no-fewer (p.granted n) ((gained m p).granted n) (votes_at b n) (gained-more m p n)) in
     omega (arith, enough, more)
 
 hears-safe : (b : Ballot) (w : World) (c : ℕ) (m : Message) (before after : Client) → Among m w.sent → Hears b c m before after → IsSafeClient b w c before → GoesSafely b w c before after
-hears-safe b w c m before after sent (counts kept tried t granted h) safe = record {
+hears-safe b w c m before after sent (counts kept tried p h) safe = record {
   kept = self-le kept;
-  present = λ u p. inl p;
-  safe = record { tried = safe.tried; ticket = gained-granted b w c kept m t granted sent h safe.ticket };
+  present = λ u h. inl h;
+  safe = record { tried = safe.tried; ticket = gained-granted b w c kept m p sent h safe.ticket };
 }
-hears-safe b w c m before after sent (counts_inside kept tried t granted h) safe = record {
+hears-safe b w c m before after sent (counts_inside kept tried p h) safe = record {
   kept = self-le kept;
-  present = λ u p. inl p;
-  safe = record { tried = safe.tried; ticket = (gained-granted b w c kept m t granted sent h safe.ticket.0, gained-enough b t.mode m granted safe.ticket.1) };
+  present = λ u h. inl h;
+  safe = record { tried = safe.tried; ticket = (gained-granted b w c kept m p sent h safe.ticket.0, gained-enough b p.ticket.mode m p safe.ticket.1) };
 }
-hears-safe b w c m before after sent (passes kept tried t granted h hears apart) safe = record { kept = self-le kept; present = λ u p. inl p; safe = safe }
-hears-safe b w c m before after sent (passes_inside kept tried t granted h hears apart) safe = record { kept = self-le kept; present = λ u p. inl p; safe = safe }
+hears-safe b w c m before after sent (passes kept tried p h hears apart) safe = record { kept = self-le kept; present = λ u h. inl h; safe = safe }
+hears-safe b w c m before after sent (passes_inside kept tried p h hears apart) safe = record { kept = self-le kept; present = λ u h. inl h; safe = safe }
 hears-safe b w c m before after sent (passes_idle kept tried h hears) safe = record { kept = self-le kept; present = λ u p. inl p; safe = safe }
 hears-safe b w c m before after sent (passes_chosen kept tried t) safe = record { kept = self-le kept; present = λ u p. inl p; safe = safe }
 
 enters-safe : (b : Ballot) (w : World) (c : ℕ) (before after : Client) → Enters b before after → IsSafeClient b w c before → GoesSafely b w c before after
-enters-safe b w c before after (enters kept tried t granted enough) safe = record {
+enters-safe b w c before after (enters kept tried p enough) safe = record {
   kept = self-le kept;
-  present = λ u p. inl p;
+  present = λ u h. inl h;
   safe = record { tried = safe.tried; ticket = (safe.ticket, enough) };
 }
 
 leaves-safe : (b : Ballot) (w : World) (c : ℕ) (before after : Client) → Leaves before after → IsSafeClient b w c before → GoesSafely b w c before after
-leaves-safe b w c before after (gives_up kept tried t granted) safe = record { kept = self-le kept; present = λ u p. absurd p; safe = record { tried = safe.tried; ticket = tt } }
-leaves-safe b w c before after (leaves kept tried t granted) safe = record { kept = self-le kept; present = λ u p. absurd p; safe = record { tried = safe.tried; ticket = tt } }
+leaves-safe b w c before after (gives_up kept tried p) safe = record { kept = self-le kept; present = λ u h. absurd h; safe = record { tried = safe.tried; ticket = tt } }
+leaves-safe b w c before after (leaves kept tried p) safe = record { kept = self-le kept; present = λ u h. absurd h; safe = record { tried = safe.tried; ticket = tt } }
 
 falls-safe : (b : Ballot) (w : World) (c : ℕ) (before after : Client) → ClientFalls before after → IsSafeClient b w c before → GoesSafely b w c before after
 falls-safe b w c before after (client_falls kept tried phase up) safe = record { kept = self-le kept; present = λ u p. absurd p; safe = record { tried = safe.tried; ticket = tt } }

@@ -95,13 +95,13 @@ release-may w n c a below absent = record {
 }
 
 pub tells-keeps : (s : Setting) (c n : ℕ) (w : World) (before : Client) (said : List Message) (v : World) → IsSafe s w → Tells c n before said → OfClient s c w before before said v → IsSafe s v
-tells-keeps s c n w before said v safe (asks kept tried t granted) of =
-    one-keeps s c w before (Request n t) v safe of (request-may w n t (subst (λ d. IsPresent w d t) (sym own.ticket.client) (subst (λ (k : Client). IsPresentIn t k.phase) (sym of.was) refl)))
+tells-keeps s c n w before said v safe (asks kept tried p) of =
+    one-keeps s c w before (Request n p.ticket) v safe of (request-may w n p.ticket (subst (λ d. IsPresent w d p.ticket) (sym own.ticket.client) (subst (λ (k : Client). IsPresentIn p.ticket k.phase) (sym of.was) refl)))
   where
     own : IsSafeClient s.ballot w c before
     own = subst (IsSafeClient s.ballot w c) of.was (safe.clients c)
-tells-keeps s c n w before said v safe (asks_inside kept tried t granted) of =
-    one-keeps s c w before (Request n t) v safe of (request-may w n t (subst (λ d. IsPresent w d t) (sym own.ticket.0.client) (subst (λ (k : Client). IsPresentIn t k.phase) (sym of.was) refl)))
+tells-keeps s c n w before said v safe (asks_inside kept tried p) of =
+    one-keeps s c w before (Request n p.ticket) v safe of (request-may w n p.ticket (subst (λ d. IsPresent w d p.ticket) (sym own.ticket.0.client) (subst (λ (k : Client). IsPresentIn p.ticket k.phase) (sym of.was) refl)))
   where
     own : IsSafeClient s.ballot w c before
     own = subst (IsSafeClient s.ballot w c) of.was (safe.clients c)

@@ -18,13 +18,14 @@ use Rattle.world_model.specs.declared.events.Event.{Event}
 use Rattle.world_model.specs.declared.events.Event.TheVariants as event
 use Rattle.world_model.specs.declared.events.StepFault.TheVariants as fault
 use Rattle.world_model.specs.declared.exact.ExactClient.{ExactClient}
+use Rattle.world_model.specs.declared.exact.ExactPresent.{ExactPresent}
 use Rattle.world_model.specs.declared.exact.ExactClientPhase.{ExactClientPhase}
 use Rattle.world_model.specs.declared.exact.ExactClientPhase.TheVariants as exact
 use Rattle.world_model.specs.declared.exact.ExactWorld.{ExactWorld}
 use Rattle.world_model.specs.Worlds.{Client, ClientDown, ClientIdle, Chosen, Asking, IsIn, World, Setting, OfClient, ByClient, Happens, Begins, begins, TriesAttempt, tries_attempt, KeepsAttempt, keeps_attempt, Tells, asks, asks_inside, releases, Enters, enters, Leaves, gives_up, leaves, ClientFalls, client_falls, ClientRises, client_rises_old, client_rises_new}
 use Rattle.world_model.specs.Turns.{Turns, acts}
-use Rattle.world_model.specs.ExactClients.{client_in, next_ticket, begins_in, tries_attempt_with, tries_attempt_in, keeps_attempt_with, keeps_attempt_in, says_one, tells_in, tells, enters_in, leaves_in, client_falls_in, client_rises_with, client_rises_in}
-use Rattle.world_model.specs.Forgetting.{client_phase_of, client_of, IsSoundClient}
+use Rattle.world_model.specs.ExactClients.{client_in, next_ticket, begins_in, tries_attempt_with, tries_attempt_in, first_of, keeps_attempt_with, keeps_attempt_in, says_one, tells_in, tells, enters_in, leaves_in, client_falls_in, client_rises_with, client_rises_in}
+use Rattle.world_model.specs.Forgetting.{present_of, client_phase_of, client_of, IsSoundClient}
 use Rattle.world_model.specs.Laws.{IsNumbered}
 use Rattle.world_model.specs.Locality.{IsEffectOf, IsAsListed}
 use Rattle.world_model.proofs.RoomFacts.{fits-one}
@@ -61,8 +62,8 @@ begins-told s c m x k = go k.phase
     go exact.Idle =
         told-if ExactClient (clients s c) s (event.Begin c m x) (client_in k exact.Idle) (nat_lt k.kept MAX_ATTEMPT) (acts next (effect.Chose (k.kept + 1))) (Err fault.AttemptsSpent) more (λ _. refl)
     go (exact.Chosen t) = refl
-    go (exact.Asking t granted) = refl
-    go (exact.Inside t granted) = refl
+    go (exact.Asking p) = refl
+    go (exact.Inside p) = refl
 
 -- Try
 
@@ -79,8 +80,8 @@ tries-attempt-told s c k = go k.phase
     go exact.Down = refl
     go exact.Idle = refl
     go (exact.Chosen t) = chosen t k.tried
-    go (exact.Asking t granted) = refl
-    go (exact.Inside t granted) = refl
+    go (exact.Asking p) = refl
+    go (exact.Inside p) = refl
 
 -- Kept
 
@@ -90,15 +91,15 @@ keeps-attempt-told s c k = go k.phase
     chosen : (t : Ticket) (o : Option ℕ) → ClientTold s (event.Kept (actor.Client c)) c (record { kept = k.kept; tried = o; phase = exact.Chosen t }) (keeps_attempt_with t o)
     chosen t None = refl
     chosen t (Some a) =
-        acting s (event.Kept (actor.Client c)) c KeepsAttempt (λ w v h. h) (record { kept = k.kept; tried = Some a; phase = exact.Chosen t }) (record { kept = a; tried = None; phase = exact.Asking t [] }) effect.Kept
+        acting s (event.Kept (actor.Client c)) c KeepsAttempt (λ w v h. h) (record { kept = k.kept; tried = Some a; phase = exact.Chosen t }) (record { kept = a; tried = None; phase = exact.Asking (first_of t) }) effect.Kept
         (keeps_attempt k.kept a t) (λ ok. record { kept = ok.tried; tried = tt; chosen = tt }) refl (λ w. tt) (λ w. tt)
 
     go : (p : ExactClientPhase) → ClientTold s (event.Kept (actor.Client c)) c (client_in k p) (keeps_attempt_in (client_in k p) p)
     go exact.Down = refl
     go exact.Idle = refl
     go (exact.Chosen t) = chosen t k.tried
-    go (exact.Asking t granted) = refl
-    go (exact.Inside t granted) = refl
+    go (exact.Asking p) = refl
+    go (exact.Inside p) = refl
 
 -- SayTo
 
@@ -127,28 +128,28 @@ tells-told s c n k =
         told-if ExactClient (clients s c) s (event.SayTo c n) (client_in k exact.Idle) (k.kept == 0) (Err fault.NothingToSay) (says_one (client_in k exact.Idle) (message.Release n c k.kept))
         (λ _. refl) (λ some. speaking s c n (client_in k exact.Idle) (message.Release n c k.kept) known (releases k.kept k.tried (grind (arith, nat_tests))))
     go known (exact.Chosen t) = refl
-    go known (exact.Asking t granted) = speaking s c n (client_in k (exact.Asking t granted)) (message.Request n t) known (asks k.kept k.tried t (has_node granted))
-    go known (exact.Inside t granted) = speaking s c n (client_in k (exact.Inside t granted)) (message.Request n t) known (asks_inside k.kept k.tried t (has_node granted))
+    go known (exact.Asking p) = speaking s c n (client_in k (exact.Asking p)) (message.Request n p.ticket) known (asks k.kept k.tried (present_of p))
+    go known (exact.Inside p) = speaking s c n (client_in k (exact.Inside p)) (message.Request n p.ticket) known (asks_inside k.kept k.tried (present_of p))
 
 -- Enter, and Leave
 
 pub enters-told : (s : Setting) (c : ℕ) (k : ExactClient) → ClientTold s (event.Enter c) c k (enters_in s.ballot k k.phase)
 enters-told s c k = go k.phase
   where
-    asking : (t : Ticket) (granted : List ℕ) → nat_le (needed s.ballot t.mode) (votes_of s.ballot (has_node granted)) ≡ true →
-        ClientTold s (event.Enter c) c (client_in k (exact.Asking t granted)) (acts (client_in k (exact.Inside t granted)) effect.Inside)
-    asking t granted enough =
-        acting s (event.Enter c) c (Enters s.ballot) (λ w v h. h) (client_in k (exact.Asking t granted)) (client_in k (exact.Inside t granted)) effect.Inside
-        (enters k.kept k.tried t (has_node granted) (grind (arith, nat_tests))) (λ ok. record { kept = ok.kept; tried = ok.tried; chosen = tt }) refl (λ w. tt) (λ w. tt)
+    asking : (p : ExactPresent) → nat_le (needed s.ballot p.ticket.mode) (votes_of s.ballot (has_node p.granted)) ≡ true →
+        ClientTold s (event.Enter c) c (client_in k (exact.Asking p)) (acts (client_in k (exact.Inside p)) effect.Inside)
+    asking p enough =
+        acting s (event.Enter c) c (Enters s.ballot) (λ w v h. h) (client_in k (exact.Asking p)) (client_in k (exact.Inside p)) effect.Inside
+        (enters k.kept k.tried (present_of p) (grind (arith, nat_tests))) (λ ok. record { kept = ok.kept; tried = ok.tried; chosen = tt }) refl (λ w. tt) (λ w. tt)
 
     go : (p : ExactClientPhase) → ClientTold s (event.Enter c) c (client_in k p) (enters_in s.ballot (client_in k p) p)
     go exact.Down = refl
     go exact.Idle = refl
     go (exact.Chosen t) = refl
-    go (exact.Asking t granted) =
-        told-if ExactClient (clients s c) s (event.Enter c) (client_in k (exact.Asking t granted)) (nat_le (needed s.ballot t.mode) (votes_of s.ballot (has_node granted)))
-        (acts (client_in k (exact.Inside t granted)) effect.Inside) (Err fault.NoQuorum) (asking t granted) (λ _. refl)
-    go (exact.Inside t granted) = refl
+    go (exact.Asking p) =
+        told-if ExactClient (clients s c) s (event.Enter c) (client_in k (exact.Asking p)) (nat_le (needed s.ballot p.ticket.mode) (votes_of s.ballot (has_node p.granted)))
+        (acts (client_in k (exact.Inside p)) effect.Inside) (Err fault.NoQuorum) (asking p) (λ _. refl)
+    go (exact.Inside p) = refl
 
 pub leaves-told : (s : Setting) (c : ℕ) (k : ExactClient) → ClientTold s (event.Leave c) c k (leaves_in k k.phase)
 leaves-told s c k = go k.phase
@@ -161,8 +162,8 @@ leaves-told s c k = go k.phase
     go exact.Down = refl
     go exact.Idle = refl
     go (exact.Chosen t) = refl
-    go (exact.Asking t granted) = out (exact.Asking t granted) (gives_up k.kept k.tried t (has_node granted))
-    go (exact.Inside t granted) = out (exact.Inside t granted) (leaves k.kept k.tried t (has_node granted))
+    go (exact.Asking p) = out (exact.Asking p) (gives_up k.kept k.tried (present_of p))
+    go (exact.Inside p) = out (exact.Inside p) (leaves k.kept k.tried (present_of p))
 
 -- Fall, and Rise
 
@@ -178,8 +179,8 @@ client-falls-told s c k = go k.phase
     go exact.Down = refl
     go exact.Idle = up exact.Idle (λ e. let q : ClientIdle ≡ ClientDown = e in cc)
     go (exact.Chosen t) = up (exact.Chosen t) (λ e. let q : Chosen t ≡ ClientDown = e in cc)
-    go (exact.Asking t granted) = up (exact.Asking t granted) (λ e. let q : Asking t (has_node granted) ≡ ClientDown = e in cc)
-    go (exact.Inside t granted) = up (exact.Inside t granted) (λ e. let q : IsIn t (has_node granted) ≡ ClientDown = e in cc)
+    go (exact.Asking p) = up (exact.Asking p) (λ e. let q : Asking (present_of p) ≡ ClientDown = e in cc)
+    go (exact.Inside p) = up (exact.Inside p) (λ e. let q : IsIn (present_of p) ≡ ClientDown = e in cc)
 
 pub client-rises-told : (s : Setting) (c : ℕ) (age : Age) (k : ExactClient) → ClientTold s (event.Rise (actor.Client c) age) c k (client_rises_in age k k.phase)
 client-rises-told s c age k = go k.phase
@@ -197,5 +198,5 @@ client-rises-told s c age k = go k.phase
     go exact.Down = down age k.tried
     go exact.Idle = refl
     go (exact.Chosen t) = refl
-    go (exact.Asking t granted) = refl
-    go (exact.Inside t granted) = refl
+    go (exact.Asking p) = refl
+    go (exact.Inside p) = refl

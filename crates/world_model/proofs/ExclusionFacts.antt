@@ -26,19 +26,18 @@ record InsideWith (s : Setting) (w : World) (c : ℕ) (m : Mode) (x : List ℕ) 
 
 inside-with : (s : Setting) (w : World) (c : ℕ) (m : Mode) (x : List ℕ) → IsSafe s w → IsInside w c m x → InsideWith s w c m x
 inside-with s w c m x safe inside =
-    let t = inside.0 in
-    let votes = inside.1 in
-    let phase : (w.clients c).phase ≡ IsIn t votes = inside.2 in
-    let own : IsSafeTicket s.ballot w c (w.clients c).kept (IsIn t votes) = subst (IsSafeTicket s.ballot w c (w.clients c).kept) phase (safe.clients c).ticket in
+    let p = inside.0 in
+    let phase : (w.clients c).phase ≡ IsIn p = inside.1 in
+    let own : IsSafeTicket s.ballot w c (w.clients c).kept (IsIn p) = subst (IsSafeTicket s.ballot w c (w.clients c).kept) phase (safe.clients c).ticket in
     record {
-      ticket = t;
-      votes = votes;
+      ticket = p.ticket;
+      votes = p.granted;
       client = own.0.client;
-      mode = inside.3;
-      resource = inside.4;
-      present = subst (IsPresentIn t) (sym phase) refl;
+      mode = inside.2;
+      resource = inside.3;
+      present = subst (IsPresentIn p.ticket) (sym phase) refl;
       grants = own.0.grants;
-      enough = subst (λ mode. IsEnough s.ballot mode votes) inside.3 own.1;
+      enough = subst (λ mode. IsEnough s.ballot mode p.granted) inside.2 own.1;
     }
 
 -- at a node whose vote it has, it holds the resource

@@ -5,79 +5,65 @@ use Rattle.std.proofs.lemmas.Bool.Decides.{nat_tests}
 use Rattle.lock_messages.specs.declared.tickets.Ticket.{Ticket}
 use Rattle.lock_messages.specs.declared.messages.Message.{Message}
 use Rattle.lock_messages.specs.declared.messages.Message.TheVariants as message
-use Rattle.lock_messages.specs.Messages.{is_for_client}
+use Rattle.lock_messages.specs.Messages.{is_for_client, named_node}
 use Rattle.lock_model.specs.declared.hearing.Heard.{Heard}
 use Rattle.lock_model.specs.declared.hearing.Heard.TheVariants as heard
 use Rattle.lock_model.specs.Ballots.{Ballot}
 use Rattle.lock_model.specs.Hearing.{HearsOfTicket}
-use Rattle.lock_model.specs.ExactHearing.{heard_of_ticket, heard_at_rest}
+use Rattle.lock_model.specs.ExactHearing.{heard_of_ticket, heard_at_rest, is_counted}
 use Rattle.lock_model.specs.Laws.{HearingOfTicketIsExact, HearingAtRestIsExact}
 use Rattle.vote_weights.specs.Sets.{has_node, with_node}
+use Rattle.vote_weights.specs.SetLaws.{has_node-with_node}
 use Rattle.world_model.specs.declared.events.Effect.TheVariants as effect
 use Rattle.world_model.specs.declared.events.Event.TheVariants as event
 use Rattle.world_model.specs.declared.events.StepFault.TheVariants as fault
 use Rattle.world_model.specs.declared.exact.ExactClient.{ExactClient}
+use Rattle.world_model.specs.declared.exact.ExactPresent.{ExactPresent}
 use Rattle.world_model.specs.declared.exact.ExactClientPhase.{ExactClientPhase}
 use Rattle.world_model.specs.declared.exact.ExactClientPhase.TheVariants as exact
-use Rattle.world_model.specs.Worlds.{Client, Asking, IsIn, Setting, gained, Hears, counts, counts_inside, passes, passes_inside, passes_idle, passes_chosen}
+use Rattle.world_model.specs.Worlds.{Present, Client, Asking, IsIn, Setting, gained, Hears, counts, counts_inside, passes, passes_inside, passes_idle, passes_chosen}
 use Rattle.world_model.specs.Turns.{reads}
-use Rattle.world_model.specs.ExactClients.{client_in, heard_in, node_of, is_counted, counts_in, after_hearing, is_down, hears}
-use Rattle.world_model.specs.Forgetting.{client_of, IsSoundChoice, IsSoundClient}
+use Rattle.world_model.specs.ExactClients.{client_in, heard_in, with_vote, counts_in, after_hearing, is_down, hears}
+use Rattle.world_model.specs.Forgetting.{present_of, client_of, IsSoundChoice, IsSoundClient}
 use Rattle.world_model.proofs.Told.{told-if}
 use Rattle.world_model.proofs.ClientTurns.{clients, ClientTold}
 
-or-swap : (a b c : Bool) → a || (b || c) ≡ b || (a || c)
-or-swap true true c = refl
-or-swap true false c = refl
-or-swap false b c = refl
-
-with-node-has : (set : List ℕ) (n k : ℕ) → has_node (with_node set n) k ≡ (n == k) || has_node set k
-with-node-has [] n k = refl
-with-node-has (m ∷ set) n k = go (nat_lt n m) (n == m) refl (with-node-has set n k)
-  where
-    go : (below same : Bool) → (n == m) ≡ same → has_node (with_node set n) k ≡ (n == k) || has_node set k →
-        has_node (cond below (n ∷ m ∷ set) (cond same (m ∷ set) (m ∷ with_node set n))) k ≡ (n == k) || ((m == k) || has_node set k)
-    go true same e more = refl
-    go false true e more =
-        let one : n ≡ m = grind (arith, nat_tests) in
-        sym (or_self_left (m == k) (has_node set k)) ∙ ap (λ j. (j == k) || ((m == k) || has_node set k)) (sym one)
-    go false false e more = ap (λ b. (m == k) || b) more ∙ or-swap (m == k) (n == k) (has_node set k)
-
-grant-joins : (m : Message) (n : ℕ) (t : Ticket) (granted : List ℕ) → m ≡ message.Grant n t → has_node (with_node granted (node_of m)) ≡ gained m (has_node granted)
-grant-joins m n t granted e =
-    subst (λ x. has_node (with_node granted (node_of x)) ≡ gained x (has_node granted)) (sym e) (λ i. λ k. with-node-has granted n k i)
+grant-joins : (m : Message) (n : ℕ) (t : Ticket) (p : ExactPresent) → m ≡ message.Grant n t → present_of (with_vote (named_node m) p) ≡ gained m (present_of p)
+grant-joins m n t p e =
+    subst (λ x. present_of (with_vote (named_node x) p) ≡ gained x (present_of p)) (sym e)
+    (λ i. record { ticket = p.ticket; granted = λ k. has_node-with_node p.granted n k i })
 
 -- the laws of hearing, as they are used here
 pub record HearingLaws : Type 1 where
   pub of_ticket : HearingOfTicketIsExact
   pub at_rest : HearingAtRestIsExact
 
--- with a ticket, asking or inside: into puts a granted set into the phase
-with-ticket : HearingLaws → (b : Ballot) (c : ℕ) (m : Message) (k : ExactClient) (into : List ℕ → ExactClientPhase) (seen : (ℕ → Bool) → Client) → ((set : List ℕ) → client_of (client_in k (into set)) ≡ seen (has_node set)) →
-    (t : Ticket) (granted : List ℕ) →
-    (HearsOfTicket b t (has_node granted) m heard.Counted → Hears b c m (seen (has_node granted)) (seen (gained m (has_node granted)))) →
-    ((h : Heard) → HearsOfTicket b t (has_node granted) m h → h ≢ heard.Counted → Hears b c m (seen (has_node granted)) (seen (has_node granted))) →
-    Hears b c m (client_of (client_in k (into granted)))
-    (client_of (cond (is_counted (heard_of_ticket (length b.votes) t (has_node granted) m)) (client_in k (into (with_node granted (node_of m)))) (client_in k (into granted))))
-with-ticket laws b c m k into seen are t granted counted passed = go (heard_of_ticket (length b.votes) t (has_node granted) m) refl
+-- with a ticket, asking or inside: into is the phase with what the client has of its attempt
+with-ticket : HearingLaws → (b : Ballot) (c : ℕ) (m : Message) (k : ExactClient) (into : ExactPresent → ExactClientPhase) (seen : Present → Client) → ((q : ExactPresent) → client_of (client_in k (into q)) ≡ seen (present_of q)) →
+    (p : ExactPresent) →
+    (HearsOfTicket b p.ticket (has_node p.granted) m heard.Counted → Hears b c m (seen (present_of p)) (seen (gained m (present_of p)))) →
+    ((h : Heard) → HearsOfTicket b p.ticket (has_node p.granted) m h → h ≢ heard.Counted → Hears b c m (seen (present_of p)) (seen (present_of p))) →
+    Hears b c m (client_of (client_in k (into p)))
+    (client_of (cond (is_counted (heard_of_ticket (length b.votes) p.ticket (has_node p.granted) m)) (client_in k (into (with_vote (named_node m) p))) (client_in k (into p))))
+with-ticket laws b c m k into seen are p counted passed = go (heard_of_ticket (length b.votes) p.ticket (has_node p.granted) m) refl
   where
     before : ExactClient
-    before = client_in k (into granted)
+    before = client_in k (into p)
 
     with : ExactClient
-    with = client_in k (into (with_node granted (node_of m)))
+    with = client_in k (into (with_vote (named_node m) p))
 
-    from : (x : Heard) → heard_of_ticket (length b.votes) t (has_node granted) m ≡ x → HearsOfTicket b t (has_node granted) m x
-    from x e = (laws.of_ticket b t (has_node granted) m x).1 (sym e)
+    from : (x : Heard) → heard_of_ticket (length b.votes) p.ticket (has_node p.granted) m ≡ x → HearsOfTicket b p.ticket (has_node p.granted) m x
+    from x e = (laws.of_ticket b p.ticket (has_node p.granted) m x).1 (sym e)
 
-    same : (x : Heard) → heard_of_ticket (length b.votes) t (has_node granted) m ≡ x → x ≢ heard.Counted → Hears b c m (client_of before) (client_of before)
-    same x e apart = subst (λ d. Hears b c m d d) (sym (are granted)) (passed x (from x e) apart)
+    same : (x : Heard) → heard_of_ticket (length b.votes) p.ticket (has_node p.granted) m ≡ x → x ≢ heard.Counted → Hears b c m (client_of before) (client_of before)
+    same x e apart = subst (λ d. Hears b c m d d) (sym (are p)) (passed x (from x e) apart)
 
-    go : (x : Heard) → heard_of_ticket (length b.votes) t (has_node granted) m ≡ x → Hears b c m (client_of before) (client_of (cond (is_counted x) with before))
+    go : (x : Heard) → heard_of_ticket (length b.votes) p.ticket (has_node p.granted) m ≡ x → Hears b c m (client_of before) (client_of (cond (is_counted x) with before))
     go heard.Counted e =
         let h = from heard.Counted e in
-        let after : seen (gained m (has_node granted)) ≡ client_of with = ap seen (sym (grant-joins m h.0 t granted h.2.1)) ∙ sym (are (with_node granted (node_of m))) in
-        subst (Hears b c m (client_of before)) after (subst (λ d. Hears b c m d (seen (gained m (has_node granted)))) (sym (are granted)) (counted h))
+        let after : seen (gained m (present_of p)) ≡ client_of with = ap seen (sym (grant-joins m h.0 p.ticket p h.2.1)) ∙ sym (are (with_vote (named_node m) p)) in
+        subst (Hears b c m (client_of before)) after (subst (λ d. Hears b c m d (seen (gained m (present_of p)))) (sym (are p)) (counted h))
     go heard.Known e = same heard.Known e (λ q. let p : heard.Known ≡ heard.Counted = q in cc)
     go heard.Busy e = same heard.Busy e (λ q. let p : heard.Busy ≡ heard.Counted = q in cc)
     go heard.Done e = same heard.Done e (λ q. let p : heard.Done ≡ heard.Counted = q in cc)
@@ -97,25 +83,25 @@ hears-message laws b c m k up = go k.phase up
         let idle = client_in k exact.Idle in
         subst (λ (d : ExactClient). Hears b c m (client_of idle) (client_of d)) (sym (either-same (is_counted x) idle)) (passes_idle k.kept k.tried x ((laws.at_rest b c k.kept m x).1 refl))
     go (exact.Chosen t) e = passes_chosen k.kept k.tried t
-    go (exact.Asking t granted) e =
-        with-ticket laws b c m k (exact.Asking t) (λ set. record { kept = k.kept; tried = k.tried; phase = Asking t set }) (λ set. refl) t granted
-        (counts k.kept k.tried t (has_node granted)) (passes k.kept k.tried t (has_node granted))
-    go (exact.Inside t granted) e =
-        with-ticket laws b c m k (exact.Inside t) (λ set. record { kept = k.kept; tried = k.tried; phase = IsIn t set }) (λ set. refl) t granted
-        (counts_inside k.kept k.tried t (has_node granted)) (passes_inside k.kept k.tried t (has_node granted))
+    go (exact.Asking p) e =
+        with-ticket laws b c m k exact.Asking (λ q. record { kept = k.kept; tried = k.tried; phase = Asking q }) (λ q. refl) p
+        (counts k.kept k.tried (present_of p)) (passes k.kept k.tried (present_of p))
+    go (exact.Inside p) e =
+        with-ticket laws b c m k exact.Inside (λ q. record { kept = k.kept; tried = k.tried; phase = IsIn q }) (λ q. refl) p
+        (counts_inside k.kept k.tried (present_of p)) (passes_inside k.kept k.tried (present_of p))
 
 counts-sound : (n : ℕ) (p : ExactClientPhase) → IsSoundChoice p → IsSoundChoice (counts_in n p)
 counts-sound n exact.Down h = h
 counts-sound n exact.Idle h = h
 counts-sound n (exact.Chosen t) h = h
-counts-sound n (exact.Asking t granted) h = h
-counts-sound n (exact.Inside t granted) h = h
+counts-sound n (exact.Asking p) h = h
+counts-sound n (exact.Inside p) h = h
 
 hears-sound : (nodes c : ℕ) (k : ExactClient) (m : Message) → IsSoundClient k → IsSoundClient (after_hearing nodes c k m)
 hears-sound nodes c k m ok = go (is_counted (heard_in nodes c k.kept k.phase m))
   where
-    go : (b : Bool) → IsSoundClient (cond b (client_in k (counts_in (node_of m) k.phase)) k)
-    go true = record { kept = ok.kept; tried = ok.tried; chosen = counts-sound (node_of m) k.phase ok.chosen }
+    go : (b : Bool) → IsSoundClient (cond b (client_in k (counts_in (named_node m) k.phase)) k)
+    go true = record { kept = ok.kept; tried = ok.tried; chosen = counts-sound (named_node m) k.phase ok.chosen }
     go false = ok
 
 pub hears-told : HearingLaws → (s : Setting) (c number : ℕ) (k : ExactClient) → ClientTold s (event.Hear c number) c k (hears (length s.ballot.votes) c number k)

@@ -10,14 +10,15 @@ use Rattle.lock_messages.specs.declared.tickets.Ticket.{Ticket}
 use Rattle.lock_model.specs.Decisions.{Among}
 use Rattle.lock_model.specs.Laws.{EnoughSetsShareANode}
 use Rattle.world_model.specs.declared.exact.ExactClient.{ExactClient}
+use Rattle.world_model.specs.declared.exact.ExactPresent.{ExactPresent}
 use Rattle.world_model.specs.declared.exact.ExactClientPhase.{ExactClientPhase}
 use Rattle.world_model.specs.declared.exact.ExactClientPhase.TheVariants as client
 use Rattle.world_model.specs.declared.exact.ExactWorld.{ExactWorld}
 use Rattle.vote_weights.specs.Sets.{has_node}
-use Rattle.world_model.specs.Worlds.{ClientDown, IsIn, Client, IsInside}
+use Rattle.world_model.specs.Worlds.{Present, ClientDown, IsIn, Client, IsInside}
 use Rattle.world_model.specs.Invariants.{IsSafeTicket}
 use Rattle.world_model.specs.ExactWorlds.{numbered}
-use Rattle.world_model.specs.Forgetting.{client_phase_of, client_at, forget, setting_of, IsSound}
+use Rattle.world_model.specs.Forgetting.{present_of, client_phase_of, client_numbered, forget, setting_of, IsSound}
 use Rattle.world_model.specs.Views.{ticket_in, ticket_for, inside}
 use Rattle.world_model.proofs.ListFacts.{among-append, numbered-among, among-got, got-numbered}
 use Rattle.world_model.proofs.PhaseFacts.{client-inside}
@@ -55,8 +56,9 @@ only-one f (z ∷ xs) (suc i) x y is gives none =
 
 -- a client's ticket for a resource
 pub record HasTicket (x : List ℕ) (k : ExactClient) (t : Ticket) : Type 0 where
-  pub granted : List ℕ
-  pub phase : k.phase ≡ client.Inside t granted
+  pub present : ExactPresent
+  pub phase : k.phase ≡ client.Inside present
+  pub ticket : present.ticket ≡ t
   pub resource : t.resource ≡ x
 
 abbrev tickets : List ℕ → ExactClient → List Ticket
@@ -65,22 +67,22 @@ tickets x k = ticket_for x (ticket_in k.phase)
 has-ticket : (x : List ℕ) (k : ExactClient) (t : Ticket) → Among t (tickets x k) → HasTicket x k t
 has-ticket x k t m = go k.phase refl m
   where
-    for : (u : Ticket) (granted : List ℕ) (b : Bool) → k.phase ≡ client.Inside u granted → bytes_eq u.resource x ≡ b → Among t (cond b (u ∷ []) []) → HasTicket x k t
-    for u granted true is e (inl s) =
-        record { granted = granted; phase = is ∙ ap (λ y. client.Inside y granted) (sym s); resource = ap (λ (y : Ticket). y.resource) s ∙ (bytes_eq-Decides u.resource x).0 e }
-    for u granted true is e (inr h) = absurd h
-    for u granted false is e h = absurd h
+    for : (p : ExactPresent) (b : Bool) → k.phase ≡ client.Inside p → bytes_eq p.ticket.resource x ≡ b → Among t (cond b (p.ticket ∷ []) []) → HasTicket x k t
+    for p true is e (inl s) =
+        record { present = p; phase = is; ticket = sym s; resource = ap (λ (y : Ticket). y.resource) s ∙ (bytes_eq-Decides p.ticket.resource x).0 e }
+    for p true is e (inr h) = absurd h
+    for p false is e h = absurd h
 
     go : (p : ExactClientPhase) → k.phase ≡ p → Among t (ticket_for x (ticket_in p)) → HasTicket x k t
     go client.Down is h = absurd h
     go client.Idle is h = absurd h
     go (client.Chosen u) is h = absurd h
-    go (client.Asking u granted) is h = absurd h
-    go (client.Inside u granted) is h = for u granted (bytes_eq u.resource x) is refl h
+    go (client.Asking p) is h = absurd h
+    go (client.Inside p) is h = for p (bytes_eq p.ticket.resource x) is refl h
 
 is-listed : (x : List ℕ) (k : ExactClient) (t : Ticket) → HasTicket x k t → tickets x k ≡ t ∷ []
 is-listed x k t has =
-    ap (λ p. ticket_for x (ticket_in p)) has.phase ∙ ap (λ b. cond b (t ∷ []) []) ((bytes_eq-Decides t.resource x).1 has.resource)
+    ap (λ p. ticket_for x (ticket_in p)) has.phase ∙ ap (λ u. ticket_for x (Some u)) has.ticket ∙ ap (λ b. cond b (t ∷ []) []) ((bytes_eq-Decides t.resource x).1 has.resource)
 
 either-empty : (x : List ℕ) (k : ExactClient) → (tickets x k ≡ []) ⊎ ((t : Ticket) × HasTicket x k t)
 either-empty x k = go (tickets x k) refl
@@ -92,12 +94,17 @@ either-empty x k = go (tickets x k) refl
 -- a client with a ticket is inside, with a ticket of its own
 
 client-inside-world : (w : ExactWorld) (x : List ℕ) (c : ℕ) (k : ExactClient) (t : Ticket) → numbered w.clients c ≡ Some k → HasTicket x k t → IsInside (forget w) c t.mode x
-client-inside-world w x c k t is has = (t, has_node has.granted, ap (λ (y : Client). y.phase) (ap client_at is) ∙ ap client_phase_of has.phase, refl, has.resource)
+client-inside-world w x c k t is has = (
+  present_of has.present,
+  ap (λ (y : Client). y.phase) (ap client_numbered is) ∙ ap client_phase_of has.phase,
+  ap (λ (u : Ticket). u.mode) has.ticket,
+  ap (λ (u : Ticket). u.resource) has.ticket ∙ has.resource,
+)
 
 own-client : (w : ExactWorld) → IsSound w → (x : List ℕ) (c : ℕ) (k : ExactClient) (t : Ticket) → numbered w.clients c ≡ Some k → HasTicket x k t → t.client ≡ c
 own-client w sound x c k t is has =
-    let safe = subst (λ (y : Client). IsSafeTicket w.ballot (forget w) c y.kept y.phase) (ap client_at is) (sound.safe.clients c).ticket in
-    (subst (λ p. IsSafeTicket w.ballot (forget w) c k.kept p) (ap client_phase_of has.phase) safe).0.client
+    let safe = subst (λ (y : Client). IsSafeTicket w.ballot (forget w) c y.kept y.phase) (ap client_numbered is) (sound.safe.clients c).ticket in
+    ap (λ (u : Ticket). u.client) (sym has.ticket) ∙ (subst (λ p. IsSafeTicket w.ballot (forget w) c k.kept p) (ap client_phase_of has.phase) safe).0.client
 
 pub inside-is-set : (w : ExactWorld) → IsSound w → (x : List ℕ) (c : ℕ) (m : Mode) → IsInside (forget w) c m x ↔ ((t : Ticket) × Among t (inside x w) × (t.client ≡ c) × (t.mode ≡ m))
 inside-is-set w sound x c m = (to, from)
@@ -105,15 +112,13 @@ inside-is-set w sound x c m = (to, from)
     to : IsInside (forget w) c m x → (t : Ticket) × Among t (inside x w) × (t.client ≡ c) × (t.mode ≡ m)
     to h = go (numbered w.clients c) refl
       where
-        t : Ticket
-        t = h.0
-
         go : (o : Option ExactClient) → numbered w.clients c ≡ o → (u : Ticket) × Among u (inside x w) × (u.client ≡ c) × (u.mode ≡ m)
-        go None is = absurd (let q : ClientDown ≡ IsIn t h.1 = sym (ap (λ (y : Client). y.phase) (ap client_at is)) ∙ h.2 in cc)
+        go None is = absurd (let q : ClientDown ≡ IsIn h.0 = sym (ap (λ (y : Client). y.phase) (ap client_numbered is)) ∙ h.1 in cc)
         go (Some k) is =
-            let phase = client-inside k.phase t h.1 (sym (ap (λ (y : Client). y.phase) (ap client_at is)) ∙ h.2) in
-            let has : HasTicket x k t = record { granted = phase.0; phase = phase.1; resource = h.4 } in
-            (t, part-among (tickets x) w.clients k t (numbered-among w.clients c k is) (subst (Among t) (sym (is-listed x k t has)) (inl refl)), own-client w sound x c k t is has, h.3)
+            let at = client-inside k.phase h.0 (sym (ap (λ (y : Client). y.phase) (ap client_numbered is)) ∙ h.1) in
+            let t = at.0.ticket in
+            let has : HasTicket x k t = record { present = at.0; phase = at.1; ticket = refl; resource = ap (λ (p : Present). p.ticket.resource) at.2 ∙ h.3 } in
+            (t, part-among (tickets x) w.clients k t (numbered-among w.clients c k is) (subst (Among t) (sym (is-listed x k t has)) (inl refl)), own-client w sound x c k t is has, ap (λ (p : Present). p.ticket.mode) at.2 ∙ h.2)
 
     from : (t : Ticket) × Among t (inside x w) × (t.client ≡ c) × (t.mode ≡ m) → IsInside (forget w) c m x
     from h =

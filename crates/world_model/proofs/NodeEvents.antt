@@ -22,8 +22,8 @@ present-kept : (b : Ballot) (w : World) (c kept : ℕ) (p : ClientPhase) (u : Ti
 present-kept b w c kept ClientDown u h p = absurd p
 present-kept b w c kept ClientIdle u h p = absurd p
 present-kept b w c kept (Chosen t) u h p = absurd p
-present-kept b w c kept (Asking t granted) u h p = ap (λ (x : Ticket). x.attempt) (sym p) ∙ h.attempt_is
-present-kept b w c kept (IsIn t granted) u h p = ap (λ (x : Ticket). x.attempt) (sym p) ∙ h.0.attempt_is
+present-kept b w c kept (Asking asked) u h p = ap (λ (x : Ticket). x.attempt) (sym p) ∙ h.attempt_is
+present-kept b w c kept (IsIn asked) u h p = ap (λ (x : Ticket). x.attempt) (sym p) ∙ h.0.attempt_is
 
 pub asks-once : (s : Setting) (w : World) → IsSafe s w → AsksOnce w
 asks-once s w safe = record {

@@ -21,8 +21,9 @@ use Rattle.world_model.specs.declared.exact.ExactStation.{ExactStation}
 use Rattle.world_model.specs.Worlds.{NodeDown, Node, ClientDown, Client, HasClient, IsWithin, IsLawfulOpening}
 use Rattle.world_model.specs.ExactWorlds.{numbered}
 use Rattle.world_model.specs.Openings.{down_node, down_client, resumed, empty_station, attempt_of, kept_attempt, live_within, entry_within, entries_within, stations_within, IsResumable}
-use Rattle.world_model.specs.Forgetting.{station_of, node_at, client_at, forget, setting_of, IsSoundStation, IsSoundNode, IsSoundClient, IsSound}
-use Rattle.world_model.proofs.ListFacts.{numbered-one, numbered-among, among-got, got-numbered}
+use Rattle.world_model.specs.Forgetting.{station_of, node_numbered, client_numbered, forget, setting_of, IsSoundStation, IsSoundNode, IsSoundClient, IsSound}
+use Rattle.world_model.specs.Numbered.{numbered-one}
+use Rattle.world_model.proofs.ListFacts.{numbered-among, among-got, got-numbered}
 use Rattle.world_model.proofs.SafeRuns.{opening-safe}
 use Rattle.world_model.proofs.EntryFacts.{both-parts, both-true, all-at, all-from, each-among, entry-found, entry-of-among, numbered-map}
 
@@ -66,32 +67,32 @@ image-of {A} {B} f P xs all k y h = go (numbered xs k) refl (sym (numbered-map f
 -- what stands in a world that was resumed
 
 module _ (b : Ballot) (stations : List ExactStation) (attempts : List ℕ) where
-  node-is : (n : ℕ) → (forget (resumed b stations attempts)).nodes n ≡ node_at (option_map down_node (numbered stations n))
-  node-is n = ap node_at (numbered-map down_node stations n)
+  node-is : (n : ℕ) → (forget (resumed b stations attempts)).nodes n ≡ node_numbered (option_map down_node (numbered stations n))
+  node-is n = ap node_numbered (numbered-map down_node stations n)
 
-  client-is : (c : ℕ) → (forget (resumed b stations attempts)).clients c ≡ client_at (option_map down_client (numbered attempts c))
-  client-is c = ap client_at (numbered-map down_client attempts c)
+  client-is : (c : ℕ) → (forget (resumed b stations attempts)).clients c ≡ client_numbered (option_map down_client (numbered attempts c))
+  client-is c = ap client_numbered (numbered-map down_client attempts c)
 
   kept-is : (c : ℕ) → ((forget (resumed b stations attempts)).clients c).kept ≡ kept_attempt attempts c
   kept-is c = ap (λ (k : Client). k.kept) (client-is c) ∙ go (numbered attempts c)
     where
-      go : (o : Option ℕ) → (client_at (option_map down_client o)).kept ≡ attempt_of o
+      go : (o : Option ℕ) → (client_numbered (option_map down_client o)).kept ≡ attempt_of o
       go None = refl
       go (Some a) = refl
 
-  node-down : (o : Option ExactStation) → (node_at (option_map down_node o)).phase ≡ NodeDown
+  node-down : (o : Option ExactStation) → (node_numbered (option_map down_node o)).phase ≡ NodeDown
   node-down None = refl
   node-down (Some s) = refl
 
-  client-down : (o : Option ℕ) → (client_at (option_map down_client o)).phase ≡ ClientDown
+  client-down : (o : Option ℕ) → (client_numbered (option_map down_client o)).phase ≡ ClientDown
   client-down None = refl
   client-down (Some a) = refl
 
-  station-untried : (o : Option ExactStation) → (node_at (option_map down_node o)).tried ≡ None
+  station-untried : (o : Option ExactStation) → (node_numbered (option_map down_node o)).tried ≡ None
   station-untried None = refl
   station-untried (Some s) = refl
 
-  attempt-untried : (o : Option ℕ) → (client_at (option_map down_client o)).tried ≡ None
+  attempt-untried : (o : Option ℕ) → (client_numbered (option_map down_client o)).tried ≡ None
   attempt-untried None = refl
   attempt-untried (Some a) = refl
 
@@ -144,15 +145,15 @@ resumed-lawful b stations attempts ok = record {
     sound : (n : ℕ) (s : ExactStation) → numbered stations n ≡ Some s → IsSoundStation s
     sound n s is = each-among IsSoundStation stations s ok.sound (numbered-among stations n s is)
 
-    lawful : (n : ℕ) (o : Option ExactStation) → numbered stations n ≡ o → IsLawful (node_at (option_map down_node o)).kept
+    lawful : (n : ℕ) (o : Option ExactStation) → numbered stations n ≡ o → IsLawful (node_numbered (option_map down_node o)).kept
     lawful n None is = nobody-lawful First
     lawful n (Some s) is = (sound n s is).lawful
 
-    caused : (n : ℕ) (o : Option ExactStation) → numbered stations n ≡ o → IsCaused (node_at (option_map down_node o)).kept
+    caused : (n : ℕ) (o : Option ExactStation) → numbered stations n ≡ o → IsCaused (node_numbered (option_map down_node o)).kept
     caused n None is = nobody-caused First
     caused n (Some s) is = (sound n s is).caused
 
-    within : (n c : ℕ) (o : Option ExactStation) → numbered stations n ≡ o → IsWithin (kept_attempt attempts c) ((node_at (option_map down_node o)).kept.at c)
+    within : (n c : ℕ) (o : Option ExactStation) → numbered stations n ≡ o → IsWithin (kept_attempt attempts c) ((node_numbered (option_map down_node o)).kept.at c)
     within n c None is = stranger-within (kept_attempt attempts c)
     within n c (Some s) is =
         station-is-within attempts s c (sound n s is) (all-at (λ (u : ExactStation). entries_within attempts u.entries) stations s ok.within (numbered-among stations n s is))
@@ -199,7 +200,7 @@ only-within b stations attempts sound lawful =
         let place = among-got stations s m in
         let n = place.0 + 1 in
         let c = e.client in
-        let at : (forget (resumed b stations attempts)).nodes n ≡ node_at (Some (down_node s)) = node-is b stations attempts n ∙ ap (λ o. node_at (option_map down_node o)) (got-numbered stations place.0 s place.1) in
+        let at : (forget (resumed b stations attempts)).nodes n ≡ node_numbered (Some (down_node s)) = node-is b stations attempts n ∙ ap (λ o. node_numbered (option_map down_node o)) (got-numbered stations place.0 s place.1) in
         let within : IsWithin (kept_attempt attempts c) ((station_of s).at c) =
         subst (λ (v : Node). IsWithin (kept_attempt attempts c) (v.kept.at c)) at
         (subst (λ kept. IsWithin kept (((forget (resumed b stations attempts)).nodes n).kept.at c)) (kept-is b stations attempts c) (lawful.within n c)) in

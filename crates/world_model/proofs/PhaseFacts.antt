@@ -12,10 +12,11 @@ use Rattle.world_model.specs.declared.events.Age.TheVariants.{Old, New}
 use Rattle.world_model.specs.declared.exact.ExactStation.{ExactStation}
 use Rattle.world_model.specs.declared.exact.ExactNodePhase.{ExactNodePhase}
 use Rattle.world_model.specs.declared.exact.ExactNodePhase.TheVariants as node
+use Rattle.world_model.specs.declared.exact.ExactPresent.{ExactPresent}
 use Rattle.world_model.specs.declared.exact.ExactClientPhase.{ExactClientPhase}
 use Rattle.world_model.specs.declared.exact.ExactClientPhase.TheVariants as client
-use Rattle.world_model.specs.Worlds.{NodeDown, NodeIdle, Decided, Stored, Node, ClientDown, ClientIdle, Chosen, Asking, IsIn, Client, Begins, begins, TriesAttempt, tries_attempt, TriesStation, tries_station, KeepsAttempt, keeps_attempt, KeepsStation, keeps_station, Tells, asks, asks_inside, releases, Says, says, Takes, takes, takes_same, Hears, counts, counts_inside, passes, passes_inside, passes_idle, passes_chosen, Enters, enters, Leaves, gives_up, leaves, NodeFalls, node_falls, ClientFalls, client_falls, NodeRises, node_rises_old, node_rises_new, ClientRises, client_rises_old, client_rises_new}
-use Rattle.world_model.specs.Forgetting.{station_of, node_phase_of, client_phase_of}
+use Rattle.world_model.specs.Worlds.{NodeDown, NodeIdle, Decided, Stored, Node, Present, ClientDown, ClientIdle, Chosen, Asking, IsIn, Client, Begins, begins, TriesAttempt, tries_attempt, TriesStation, tries_station, KeepsAttempt, keeps_attempt, KeepsStation, keeps_station, Tells, asks, asks_inside, releases, Says, says, Takes, takes, takes_same, Hears, counts, counts_inside, passes, passes_inside, passes_idle, passes_chosen, Enters, enters, Leaves, gives_up, leaves, NodeFalls, node_falls, ClientFalls, client_falls, NodeRises, node_rises_old, node_rises_new, ClientRises, client_rises_old, client_rises_new}
+use Rattle.world_model.specs.Forgetting.{station_of, node_phase_of, present_of, client_phase_of}
 
 -- which exact phase stands for a phase
 
@@ -23,48 +24,47 @@ pub client-idle : (p : ExactClientPhase) → client_phase_of p ≡ ClientIdle �
 client-idle client.Down e = absurd (let q : ClientDown ≡ ClientIdle = e in cc)
 client-idle client.Idle e = refl
 client-idle (client.Chosen t) e = absurd (let q : Chosen t ≡ ClientIdle = e in cc)
-client-idle (client.Asking t granted) e = absurd (let q : Asking t (has_node granted) ≡ ClientIdle = e in cc)
-client-idle (client.Inside t granted) e = absurd (let q : IsIn t (has_node granted) ≡ ClientIdle = e in cc)
+client-idle (client.Asking p) e = absurd (let q : Asking (present_of p) ≡ ClientIdle = e in cc)
+client-idle (client.Inside p) e = absurd (let q : IsIn (present_of p) ≡ ClientIdle = e in cc)
 
 pub client-down : (p : ExactClientPhase) → client_phase_of p ≡ ClientDown → p ≡ client.Down
 client-down client.Down e = refl
 client-down client.Idle e = absurd (let q : ClientIdle ≡ ClientDown = e in cc)
 client-down (client.Chosen t) e = absurd (let q : Chosen t ≡ ClientDown = e in cc)
-client-down (client.Asking t granted) e = absurd (let q : Asking t (has_node granted) ≡ ClientDown = e in cc)
-client-down (client.Inside t granted) e = absurd (let q : IsIn t (has_node granted) ≡ ClientDown = e in cc)
+client-down (client.Asking p) e = absurd (let q : Asking (present_of p) ≡ ClientDown = e in cc)
+client-down (client.Inside p) e = absurd (let q : IsIn (present_of p) ≡ ClientDown = e in cc)
 
 pub client-chosen : (p : ExactClientPhase) (t : Ticket) → client_phase_of p ≡ Chosen t → p ≡ client.Chosen t
 client-chosen client.Down t e = absurd (let q : ClientDown ≡ Chosen t = e in cc)
 client-chosen client.Idle t e = absurd (let q : ClientIdle ≡ Chosen t = e in cc)
 client-chosen (client.Chosen s) t e = let q : Chosen s ≡ Chosen t = e in let r : s ≡ t = cc in ap client.Chosen r
-client-chosen (client.Asking s granted) t e = absurd (let q : Asking s (has_node granted) ≡ Chosen t = e in cc)
-client-chosen (client.Inside s granted) t e = absurd (let q : IsIn s (has_node granted) ≡ Chosen t = e in cc)
+client-chosen (client.Asking p) t e = absurd (let q : Asking (present_of p) ≡ Chosen t = e in cc)
+client-chosen (client.Inside p) t e = absurd (let q : IsIn (present_of p) ≡ Chosen t = e in cc)
 
 -- what is an exact phase, where it asks or is inside
-abbrev pub AskingAs : Ticket → (ℕ → Bool) → ExactClientPhase → Type 0
-AskingAs t set p = (granted : List ℕ) × (p ≡ client.Asking t granted) × (has_node granted ≡ set)
+abbrev pub AskingAs : Present → ExactClientPhase → Type 0
+AskingAs a phase = (p : ExactPresent) × (phase ≡ client.Asking p) × (present_of p ≡ a)
 
-pub client-asking : (p : ExactClientPhase) (t : Ticket) (set : ℕ → Bool) → client_phase_of p ≡ Asking t set → AskingAs t set p
-client-asking client.Down t set e = absurd (let q : ClientDown ≡ Asking t set = e in cc)
-client-asking client.Idle t set e = absurd (let q : ClientIdle ≡ Asking t set = e in cc)
-client-asking (client.Chosen s) t set e = absurd (let q : Chosen s ≡ Asking t set = e in cc)
-client-asking (client.Asking s granted) t set e =
-    let q : Asking s (has_node granted) ≡ Asking t set = e in
-    let r : s ≡ t = cc in
-    let same : has_node granted ≡ set = cc in (granted, ap (λ x. client.Asking x granted) r, same)
-client-asking (client.Inside s granted) t set e = absurd (let q : IsIn s (has_node granted) ≡ Asking t set = e in cc)
+pub client-asking : (phase : ExactClientPhase) (a : Present) → client_phase_of phase ≡ Asking a → AskingAs a phase
+client-asking client.Down a e = absurd (let q : ClientDown ≡ Asking a = e in cc)
+client-asking client.Idle a e = absurd (let q : ClientIdle ≡ Asking a = e in cc)
+client-asking (client.Chosen t) a e = absurd (let q : Chosen t ≡ Asking a = e in cc)
+client-asking (client.Asking p) a e =
+    let q : Asking (present_of p) ≡ Asking a = e in
+    let same : present_of p ≡ a = cc in (p, refl, same)
+client-asking (client.Inside p) a e = absurd (let q : IsIn (present_of p) ≡ Asking a = e in cc)
 
-abbrev pub InsideAs : Ticket → ExactClientPhase → Type 0
-InsideAs t p = (granted : List ℕ) × (p ≡ client.Inside t granted)
+abbrev pub InsideAs : Present → ExactClientPhase → Type 0
+InsideAs a phase = (p : ExactPresent) × (phase ≡ client.Inside p) × (present_of p ≡ a)
 
-pub client-inside : (p : ExactClientPhase) (t : Ticket) (set : ℕ → Bool) → client_phase_of p ≡ IsIn t set → InsideAs t p
-client-inside client.Down t set e = absurd (let q : ClientDown ≡ IsIn t set = e in cc)
-client-inside client.Idle t set e = absurd (let q : ClientIdle ≡ IsIn t set = e in cc)
-client-inside (client.Chosen s) t set e = absurd (let q : Chosen s ≡ IsIn t set = e in cc)
-client-inside (client.Asking s granted) t set e = absurd (let q : Asking s (has_node granted) ≡ IsIn t set = e in cc)
-client-inside (client.Inside s granted) t set e =
-    let q : IsIn s (has_node granted) ≡ IsIn t set = e in
-    let r : s ≡ t = cc in (granted, ap (λ x. client.Inside x granted) r)
+pub client-inside : (phase : ExactClientPhase) (a : Present) → client_phase_of phase ≡ IsIn a → InsideAs a phase
+client-inside client.Down a e = absurd (let q : ClientDown ≡ IsIn a = e in cc)
+client-inside client.Idle a e = absurd (let q : ClientIdle ≡ IsIn a = e in cc)
+client-inside (client.Chosen t) a e = absurd (let q : Chosen t ≡ IsIn a = e in cc)
+client-inside (client.Asking p) a e = absurd (let q : Asking (present_of p) ≡ IsIn a = e in cc)
+client-inside (client.Inside p) a e =
+    let q : IsIn (present_of p) ≡ IsIn a = e in
+    let same : present_of p ≡ a = cc in (p, refl, same)
 
 -- what each relation needs of the actor before it
 
@@ -79,34 +79,34 @@ keeps-needs (keeps_attempt kept a t) = (t, a, refl, refl)
 
 -- a client may speak
 pub data MaySpeak (before : Client) : Type 0 where
-  speaks_asking : (t : Ticket) (set : ℕ → Bool) → before.phase ≡ Asking t set → MaySpeak before
-  speaks_inside : (t : Ticket) (set : ℕ → Bool) → before.phase ≡ IsIn t set → MaySpeak before
+  speaks_asking : (p : Present) → before.phase ≡ Asking p → MaySpeak before
+  speaks_inside : (p : Present) → before.phase ≡ IsIn p → MaySpeak before
   speaks_idle : before.phase ≡ ClientIdle → 0 < before.kept → MaySpeak before
 
 pub tells-needs : {c n : ℕ} {before : Client} {said : List Message} → Tells c n before said → MaySpeak before
-tells-needs (asks kept tried t set) = speaks_asking t set refl
-tells-needs (asks_inside kept tried t set) = speaks_inside t set refl
+tells-needs (asks kept tried p) = speaks_asking p refl
+tells-needs (asks_inside kept tried p) = speaks_inside p refl
 tells-needs (releases kept tried some) = speaks_idle refl some
 
 pub hears-needs : {b : Ballot} {c : ℕ} {m : Message} {before after : Client} → Hears b c m before after → before.phase ≢ ClientDown
-hears-needs (counts kept tried t set h) = λ e. let q : Asking t set ≡ ClientDown = e in cc
-hears-needs (counts_inside kept tried t set h) = λ e. let q : IsIn t set ≡ ClientDown = e in cc
-hears-needs (passes kept tried t set x h apart) = λ e. let q : Asking t set ≡ ClientDown = e in cc
-hears-needs (passes_inside kept tried t set x h apart) = λ e. let q : IsIn t set ≡ ClientDown = e in cc
+hears-needs (counts kept tried p h) = λ e. let q : Asking p ≡ ClientDown = e in cc
+hears-needs (counts_inside kept tried p h) = λ e. let q : IsIn p ≡ ClientDown = e in cc
+hears-needs (passes kept tried p x h apart) = λ e. let q : Asking p ≡ ClientDown = e in cc
+hears-needs (passes_inside kept tried p x h apart) = λ e. let q : IsIn p ≡ ClientDown = e in cc
 hears-needs (passes_idle kept tried x h) = λ e. let q : ClientIdle ≡ ClientDown = e in cc
 hears-needs (passes_chosen kept tried t) = λ e. let q : Chosen t ≡ ClientDown = e in cc
 
-pub enters-needs : {b : Ballot} {before after : Client} → Enters b before after → (t : Ticket) × (set : ℕ → Bool) × (before.phase ≡ Asking t set) × IsEnough b t.mode set
-enters-needs (enters kept tried t set enough) = (t, set, refl, enough)
+pub enters-needs : {b : Ballot} {before after : Client} → Enters b before after → (p : Present) × (before.phase ≡ Asking p) × IsEnough b p.ticket.mode p.granted
+enters-needs (enters kept tried p enough) = (p, refl, enough)
 
 -- a client has something to leave
 pub data MayLeave (before : Client) : Type 0 where
-  leaves_asking : (t : Ticket) (set : ℕ → Bool) → before.phase ≡ Asking t set → MayLeave before
-  leaves_inside : (t : Ticket) (set : ℕ → Bool) → before.phase ≡ IsIn t set → MayLeave before
+  leaves_asking : (p : Present) → before.phase ≡ Asking p → MayLeave before
+  leaves_inside : (p : Present) → before.phase ≡ IsIn p → MayLeave before
 
 pub leaves-needs : {before after : Client} → Leaves before after → MayLeave before
-leaves-needs (gives_up kept tried t set) = leaves_asking t set refl
-leaves-needs (leaves kept tried t set) = leaves_inside t set refl
+leaves-needs (gives_up kept tried p) = leaves_asking p refl
+leaves-needs (leaves kept tried p) = leaves_inside p refl
 
 pub client-falls-needs : {before after : Client} → ClientFalls before after → before.phase ≢ ClientDown
 client-falls-needs (client_falls kept tried phase up) = up

@@ -3,21 +3,22 @@ use Rattle.std.proofs.Common.{◌≡◌, ℕ, Bool, true, false, cond, length, L
 use Rattle.lock_messages.specs.declared.ids.Actor.TheVariants as actor
 use Rattle.lock_messages.specs.declared.messages.Message.{Message}
 use Rattle.lock_messages.specs.declared.tickets.Ticket.{Ticket}
-use Rattle.lock_messages.specs.Messages.{is_for_client}
+use Rattle.lock_messages.specs.Messages.{is_for_client, named_node}
 use Rattle.lock_model.specs.Ballots.{Ballot}
-use Rattle.lock_model.specs.ExactHearing.{is_node_of}
+use Rattle.lock_model.specs.ExactHearing.{is_node_of, is_counted}
 use Rattle.world_model.specs.declared.events.Effect.{Effect}
 use Rattle.world_model.specs.declared.events.Effect.TheVariants as effect
 use Rattle.world_model.specs.declared.events.Event.{Event}
 use Rattle.world_model.specs.declared.events.Event.TheVariants as event
 use Rattle.world_model.specs.declared.events.StepFault.TheVariants as fault
 use Rattle.world_model.specs.declared.exact.ExactClient.{ExactClient}
+use Rattle.world_model.specs.declared.exact.ExactPresent.{ExactPresent}
 use Rattle.world_model.specs.declared.exact.ExactClientPhase.{ExactClientPhase}
 use Rattle.world_model.specs.declared.exact.ExactClientPhase.TheVariants as client
 use Rattle.world_model.specs.declared.exact.ExactNode.{ExactNode}
 use Rattle.world_model.specs.declared.exact.ExactWorld.{ExactWorld}
 use Rattle.world_model.specs.Turns.{Turns, reads}
-use Rattle.world_model.specs.ExactClients.{begins_in, tries_attempt_in, keeps_attempt_in, tells_in, after_hearing, client_in, counts_in, is_counted, heard_in, node_of, is_down, enters_in, leaves_in, client_falls_in, client_rises_in}
+use Rattle.world_model.specs.ExactClients.{begins_in, tries_attempt_in, keeps_attempt_in, tells_in, after_hearing, client_in, counts_in, heard_in, is_down, enters_in, leaves_in, client_falls_in, client_rises_in}
 use Rattle.world_model.specs.ExactWorlds.{Deed, NodeDoes, ClientDoes, deed_of, actor_of, numbered}
 use Rattle.world_model.specs.Laws.{Takes}
 use Rattle.world_model.specs.Locality.{IsHistory, PartsAreLocal, StepsChangeOnePart, own_events, local_part}
@@ -26,19 +27,19 @@ use Rattle.world_model.specs.Staying.{inside_ticket, leaves_or_falls, HasNoEnd}
 use Rattle.world_model.specs.Views.{ticket_in, ticket_at, ticket_inside}
 
 -- a turn that leaves who is inside as it was
-stays-by : (k : ExactClient) (t : Ticket) (turn : ExactClientPhase → Turns ExactClient) (done : Effect) → ((u : Ticket) (granted : List ℕ) → after_turn k (turn (client.Inside u granted)) done ≡ k) → ticket_in k.phase ≡ Some t → ticket_in (after_turn k (turn k.phase) done).phase ≡ Some t
+stays-by : (k : ExactClient) (t : Ticket) (turn : ExactClientPhase → Turns ExactClient) (done : Effect) → ((p : ExactPresent) → after_turn k (turn (client.Inside p)) done ≡ k) → ticket_in k.phase ≡ Some t → ticket_in (after_turn k (turn k.phase) done).phase ≡ Some t
 stays-by k t turn done same h = go k.phase h
   where
     go : (p : ExactClientPhase) → ticket_in p ≡ Some t → ticket_in (after_turn k (turn p) done).phase ≡ Some t
     go client.Down q = absurd (let z : None ≡ Some t = q in cc)
     go client.Idle q = absurd (let z : None ≡ Some t = q in cc)
     go (client.Chosen u) q = absurd (let z : None ≡ Some t = q in cc)
-    go (client.Asking u granted) q = absurd (let z : None ≡ Some t = q in cc)
-    go (client.Inside u granted) q = ap (λ (x : ExactClient). ticket_in x.phase) (same u granted) ∙ h
+    go (client.Asking p) q = absurd (let z : None ≡ Some t = q in cc)
+    go (client.Inside p) q = ap (λ (x : ExactClient). ticket_in x.phase) (same p) ∙ h
 
 -- saying to a node leaves the client as it was
 tells-stays : (k : ExactClient) (t : Ticket) (c n : ℕ) (done : Effect) → ticket_in k.phase ≡ Some t → (b : Bool) → ticket_in (after_turn k (cond b (tells_in c n k k.phase) (Err fault.UnknownActor)) done).phase ≡ Some t
-tells-stays k t c n done h true = stays-by k t (tells_in c n k) done (λ u granted. refl) h
+tells-stays k t c n done h true = stays-by k t (tells_in c n k) done (λ p. refl) h
 tells-stays k t c n done h false = h
 
 -- hearing leaves the phase, but for the votes that are counted
@@ -46,8 +47,8 @@ counts-same : (n : ℕ) (p : ExactClientPhase) → ticket_in (counts_in n p) ≡
 counts-same n client.Down = refl
 counts-same n client.Idle = refl
 counts-same n (client.Chosen t) = refl
-counts-same n (client.Asking t granted) = refl
-counts-same n (client.Inside t granted) = refl
+counts-same n (client.Asking p) = refl
+counts-same n (client.Inside p) = refl
 
 counted-stays : (k : ExactClient) (t : Ticket) (n : ℕ) → ticket_in k.phase ≡ Some t → (b : Bool) → ticket_in (cond b (client_in k (counts_in n k.phase)) k).phase ≡ Some t
 counted-stays k t n h true = counts-same n k.phase ∙ h
@@ -55,15 +56,15 @@ counted-stays k t n h false = h
 
 reads-stays : (k : ExactClient) (t : Ticket) (nodes c : ℕ) → ticket_in k.phase ≡ Some t → (o : Option Message) → ticket_in (after_reading k (after_hearing nodes c k) o).phase ≡ Some t
 reads-stays k t nodes c h None = h
-reads-stays k t nodes c h (Some m) = counted-stays k t (node_of m) h (is_counted (heard_in nodes c k.kept k.phase m))
+reads-stays k t nodes c h (Some m) = counted-stays k t (named_node m) h (is_counted (heard_in nodes c k.kept k.phase m))
 
 -- every event but a Leave and a Fall leaves a client inside, with its ticket
 client-stays : (b : Ballot) (e : Event) (done : Effect) (k : ExactClient) (t : Ticket) → leaves_or_falls e ≡ false → ticket_in k.phase ≡ Some t → inside_ticket (after_own b e done (ClientPart k)) ≡ Some t
-client-stays b (event.Begin c m x) done k t stays h = stays-by k t (begins_in c m x k) done (λ u granted. refl) h
+client-stays b (event.Begin c m x) done k t stays h = stays-by k t (begins_in c m x k) done (λ p. refl) h
 client-stays b (event.Try (actor.Node n)) done k t stays h = h
-client-stays b (event.Try (actor.Client c)) done k t stays h = stays-by k t (tries_attempt_in k) done (λ u granted. refl) h
+client-stays b (event.Try (actor.Client c)) done k t stays h = stays-by k t (tries_attempt_in k) done (λ p. refl) h
 client-stays b (event.Kept (actor.Node n)) done k t stays h = h
-client-stays b (event.Kept (actor.Client c)) done k t stays h = stays-by k t (keeps_attempt_in k) done (λ u granted. refl) h
+client-stays b (event.Kept (actor.Client c)) done k t stays h = stays-by k t (keeps_attempt_in k) done (λ p. refl) h
 client-stays b (event.SayTo c n) done k t stays h = tells-stays k t c n done h (is_node_of (length b.votes) n)
 client-stays b (event.Say n) done k t stays h = h
 client-stays b (event.Take n number) done k t stays h = h
@@ -72,11 +73,11 @@ client-stays b (event.Hear c number) done k t stays h = hears-stays (is_down k.p
     hears-stays : (down : Bool) → ticket_in (after_turn k (cond down (Err fault.Down) (reads number (λ m. is_for_client m c) (after_hearing (length b.votes) c k) (λ m. effect.Heard m (heard_in (length b.votes) c k.kept k.phase m)))) done).phase ≡ Some t
     hears-stays true = h
     hears-stays false = reads-stays k t (length b.votes) c h (message_of done)
-client-stays b (event.Enter c) done k t stays h = stays-by k t (enters_in b k) done (λ u granted. refl) h
+client-stays b (event.Enter c) done k t stays h = stays-by k t (enters_in b k) done (λ p. refl) h
 client-stays b (event.Leave c) done k t stays h = absurd (let z : true ≡ false = stays in cc)
 client-stays b (event.Fall who) done k t stays h = absurd (let z : true ≡ false = stays in cc)
 client-stays b (event.Rise (actor.Node n) age) done k t stays h = h
-client-stays b (event.Rise (actor.Client c) age) done k t stays h = stays-by k t (client_rises_in age k) done (λ u granted. refl) h
+client-stays b (event.Rise (actor.Client c) age) done k t stays h = stays-by k t (client_rises_in age k) done (λ p. refl) h
 
 part-stays : (b : Ballot) (e : Event) (done : Effect) (p : Part) (t : Ticket) → leaves_or_falls e ≡ false → inside_ticket p ≡ Some t → inside_ticket (after_own b e done p) ≡ Some t
 part-stays b e done NoPart t stays h = absurd (let z : None ≡ Some t = h in cc)
@@ -114,8 +115,8 @@ leaves-none k done = go k.phase refl
     go client.Down e = ap ticket_in e
     go client.Idle e = ap ticket_in e
     go (client.Chosen t) e = ap ticket_in e
-    go (client.Asking t granted) e = refl
-    go (client.Inside t granted) e = refl
+    go (client.Asking p) e = refl
+    go (client.Inside p) e = refl
 
 falls-none : (k : ExactClient) (done : Effect) → ticket_in (after_turn k (client_falls_in k k.phase) done).phase ≡ None
 falls-none k done = go k.phase refl
@@ -124,8 +125,8 @@ falls-none k done = go k.phase refl
     go client.Down e = ap ticket_in e
     go client.Idle e = refl
     go (client.Chosen t) e = refl
-    go (client.Asking t granted) e = refl
-    go (client.Inside t granted) e = refl
+    go (client.Asking p) e = refl
+    go (client.Inside p) e = refl
 
 client-ends : (b : Ballot) (e : Event) (done : Effect) (k : ExactClient) (c : ℕ) → actor_of e ≡ actor.Client c → leaves_or_falls e ≡ true → inside_ticket (after_own b e done (ClientPart k)) ≡ None
 client-ends b (event.Leave d) done k c is ends = leaves-none k done

@@ -17,12 +17,13 @@ use Rattle.world_model.specs.declared.exact.ExactWorld.{ExactWorld}
 use Rattle.world_model.specs.Worlds.{Setting, OfNode, OfClient, Happens}
 use Rattle.world_model.specs.Turns.{Turns}
 use Rattle.world_model.specs.ExactWorlds.{numbered, Deed, NodeDoes, ClientDoes, deed_of, actor_in, Stepped, sending, with_node_at, with_client_at, finishes, by_actor, done_by, step}
-use Rattle.world_model.specs.Forgetting.{node_of, client_of, node_at, client_at, forget, setting_of, IsSoundNode, IsSoundClient, IsSound}
+use Rattle.world_model.specs.Forgetting.{node_of, client_of, node_numbered, client_numbered, forget, setting_of, IsSoundNode, IsSoundClient, IsSound}
 use Rattle.world_model.specs.Invariants.{IsSafe}
 use Rattle.world_model.specs.Laws.{IsNumbered}
 use Rattle.world_model.specs.Locality.{IsEffectOf, IsAsListed}
 use Rattle.world_model.specs.Parts.{NodePart, ClientPart, node_part, client_part, part, after_in, said_in}
-use Rattle.world_model.proofs.ListFacts.{numbered-one, numbered-set-here, numbered-set-there, among-append}
+use Rattle.world_model.specs.Numbered.{numbered-one, numbered-set-here, numbered-set-there}
+use Rattle.world_model.proofs.ListFacts.{among-append}
 use Rattle.world_model.proofs.Told.{Told}
 use Rattle.world_model.proofs.ClientTurns.{clients}
 use Rattle.world_model.proofs.NodeTurns.{nodes}
@@ -62,9 +63,9 @@ of-client : (w : ExactWorld) (c : ℕ) (k after : ExactClient) (says : List Mess
     OfClient (setting_of w) c (forget w) (client_of k) (client_of after) says (forget (sending says (with_client_at w c after)))
 of-client w c k after says was = record {
   known = numbered-one w.clients c k was;
-  was = ap client_at was;
-  is = ap client_at (numbered-set-here w.clients c k after was);
-  others = λ d apart. ap client_at (numbered-set-there w.clients c d after (numbered-one w.clients c k was).0 apart);
+  was = ap client_numbered was;
+  is = ap client_numbered (numbered-set-here w.clients c k after was);
+  others = λ d apart. ap client_numbered (numbered-set-there w.clients c d after (numbered-one w.clients c k was).0 apart);
   nodes = λ n. refl;
   sends = λ m. among-append m w.sent says;
 }
@@ -113,9 +114,9 @@ of-node : (w : ExactWorld) (n : ℕ) (v after : ExactNode) (says : List Message)
     OfNode (setting_of w) n (forget w) (node_of v) (node_of after) says (forget (sending says (with_node_at w n after)))
 of-node w n v after says ok was = record {
   known = (let r = numbered-one w.nodes n v was in (r.0, omega (arith, r.1, ok.nodes)));
-  was = ap node_at was;
-  is = ap node_at (numbered-set-here w.nodes n v after was);
-  others = λ d apart. ap node_at (numbered-set-there w.nodes n d after (numbered-one w.nodes n v was).0 apart);
+  was = ap node_numbered was;
+  is = ap node_numbered (numbered-set-here w.nodes n v after was);
+  others = λ d apart. ap node_numbered (numbered-set-there w.nodes n d after (numbered-one w.nodes n v was).0 apart);
   clients = λ c. refl;
   sends = λ m. among-append m w.sent says;
 }

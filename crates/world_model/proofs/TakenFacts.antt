@@ -21,14 +21,14 @@ use Rattle.world_model.specs.declared.exact.ExactClient.{ExactClient}
 use Rattle.world_model.specs.declared.exact.ExactClientPhase.{ExactClientPhase}
 use Rattle.world_model.specs.declared.exact.ExactClientPhase.TheVariants as client
 use Rattle.world_model.specs.declared.exact.ExactWorld.{ExactWorld}
-use Rattle.world_model.specs.Worlds.{NodeDown, Node, ClientDown, Client, World, OfNode, OfClient, ByNode, ByClient, Begins, TriesAttempt, TriesStation, KeepsAttempt, KeepsStation, Tells, Says, Enters, Leaves, NodeFalls, ClientFalls, NodeRises, ClientRises}
+use Rattle.world_model.specs.Worlds.{NodeDown, Node, Present, ClientDown, Client, World, OfNode, OfClient, ByNode, ByClient, Begins, TriesAttempt, TriesStation, KeepsAttempt, KeepsStation, Tells, Says, Enters, Leaves, NodeFalls, ClientFalls, NodeRises, ClientRises}
 use Rattle.world_model.specs.Turns.{Turn, Acts, Turns, acts}
 use Rattle.world_model.specs.ExactNodes.{tries_station_with, tries_station_in, keeps_station_with, keeps_station_in, says_in, node_falls_in, node_rises_with, node_rises_in}
-use Rattle.world_model.specs.ExactClients.{client_in, next_ticket, begins_in, tries_attempt_with, tries_attempt_in, keeps_attempt_with, keeps_attempt_in, says_one, tells_in, tells, is_down, enters_in, leaves_in, client_falls_in, client_rises_with, client_rises_in}
+use Rattle.world_model.specs.ExactClients.{client_in, next_ticket, begins_in, tries_attempt_with, tries_attempt_in, first_of, keeps_attempt_with, keeps_attempt_in, says_one, tells_in, tells, is_down, enters_in, leaves_in, client_falls_in, client_rises_with, client_rises_in}
 use Rattle.world_model.specs.ExactWorlds.{numbered, NodeDoes, ClientDoes, refusal_of}
-use Rattle.world_model.specs.Forgetting.{node_of, node_phase_of, client_of, client_phase_of, node_at, client_at, forget, setting_of, IsSound}
+use Rattle.world_model.specs.Forgetting.{node_of, node_phase_of, client_of, client_phase_of, node_numbered, client_numbered, forget, setting_of, IsSound}
 use Rattle.world_model.specs.Parts.{part, node_part, client_part, refused_in}
-use Rattle.world_model.proofs.ListFacts.{numbered-there}
+use Rattle.world_model.specs.Numbered.{numbered-there}
 use Rattle.world_model.proofs.EntryFacts.{both-true}
 use Rattle.world_model.proofs.PhaseFacts.{client-idle, client-down, client-chosen, client-asking, client-inside, begins-needs, tries-needs, keeps-needs, MaySpeak, speaks_asking, speaks_inside, speaks_idle, tells-needs, enters-needs, MayLeave, leaves_asking, leaves_inside, leaves-needs, client-falls-needs, old-needs, new-needs, node-down, node-decided, node-stored, none-tried, some-tried, station-tries-needs, station-keeps-needs, says-needs, node-falls-needs, node-old-needs, node-new-needs}
 
@@ -58,7 +58,7 @@ tries-attempt-may k after h =
 pub keeps-attempt-may : (k : ExactClient) (after : Client) → KeepsAttempt (client_of k) after → MayTurn ExactClient (keeps_attempt_in k k.phase)
 keeps-attempt-may k after h =
     let n = keeps-needs h in
-    acts-may (keeps_attempt_in k k.phase) (record { kept = n.1; tried = None; phase = client.Asking n.0 [] }) effect.Kept
+    acts-may (keeps_attempt_in k k.phase) (record { kept = n.1; tried = None; phase = client.Asking (first_of n.0) }) effect.Kept
     (ap (keeps_attempt_in k) (client-chosen k.phase n.0 n.2) ∙ ap (keeps_attempt_with n.0) n.3)
 
 pub tells-may : (b : Ballot) (c n : ℕ) (k : ExactClient) (said : List Message) → HasNode b n → Tells c n (client_of k) said → MayTurn ExactClient (tells b c n k)
@@ -70,8 +70,8 @@ tells-may b c n k said known h =
     is_known = both-true (nat_le 1 n) (nat_le n (length b.votes)) (le-leb 1 n known.0) (le-leb n (length b.votes) known.1)
 
     go : MaySpeak (client_of k) → MayTurn ExactClient (tells_in c n k k.phase)
-    go (speaks_asking t set e) = record { turn = _; does = ap (tells_in c n k) (client-asking k.phase t set e).1 }
-    go (speaks_inside t set e) = record { turn = _; does = ap (tells_in c n k) (client-inside k.phase t set e).1 }
+    go (speaks_asking p e) = record { turn = _; does = ap (tells_in c n k) (client-asking k.phase p e).1 }
+    go (speaks_inside p e) = record { turn = _; does = ap (tells_in c n k) (client-inside k.phase p e).1 }
     go (speaks_idle e some) =
         record {
           turn = _;
@@ -82,23 +82,23 @@ pub awake : (p : ExactClientPhase) → client_phase_of p ≢ ClientDown → is_d
 awake client.Down apart = absurd (apart refl)
 awake client.Idle apart = refl
 awake (client.Chosen t) apart = refl
-awake (client.Asking t granted) apart = refl
-awake (client.Inside t granted) apart = refl
+awake (client.Asking p) apart = refl
+awake (client.Inside p) apart = refl
 
 pub enters-may : (b : Ballot) (k : ExactClient) (after : Client) → Enters b (client_of k) after → MayTurn ExactClient (enters_in b k k.phase)
 enters-may b k after h =
     let n = enters-needs h in
-    let a = client-asking k.phase n.0 n.1 n.2 in
-    let enough : needed b n.0.mode ≤ votes_of b (has_node a.0) = subst (λ set. needed b n.0.mode ≤ votes_of b set) (sym a.2) n.3 in
-    acts-may (enters_in b k k.phase) (client_in k (client.Inside n.0 a.0)) effect.Inside
-    (ap (enters_in b k) a.1 ∙ ap (λ e. cond e (acts (client_in k (client.Inside n.0 a.0)) effect.Inside) (Err fault.NoQuorum)) (le-leb (needed b n.0.mode) (votes_of b (has_node a.0)) enough))
+    let a = client-asking k.phase n.0 n.1 in
+    let enough : needed b a.0.ticket.mode ≤ votes_of b (has_node a.0.granted) = subst (λ (p : Present). needed b p.ticket.mode ≤ votes_of b p.granted) (sym a.2) n.2 in
+    acts-may (enters_in b k k.phase) (client_in k (client.Inside a.0)) effect.Inside
+    (ap (enters_in b k) a.1 ∙ ap (λ e. cond e (acts (client_in k (client.Inside a.0)) effect.Inside) (Err fault.NoQuorum)) (le-leb (needed b a.0.ticket.mode) (votes_of b (has_node a.0.granted)) enough))
 
 pub leaves-may : (k : ExactClient) (after : Client) → Leaves (client_of k) after → MayTurn ExactClient (leaves_in k k.phase)
 leaves-may k after h = go (leaves-needs h)
   where
     go : MayLeave (client_of k) → MayTurn ExactClient (leaves_in k k.phase)
-    go (leaves_asking t set e) = acts-may (leaves_in k k.phase) (client_in k client.Idle) effect.Outside (ap (leaves_in k) (client-asking k.phase t set e).1)
-    go (leaves_inside t set e) = acts-may (leaves_in k k.phase) (client_in k client.Idle) effect.Outside (ap (leaves_in k) (client-inside k.phase t set e).1)
+    go (leaves_asking p e) = acts-may (leaves_in k k.phase) (client_in k client.Idle) effect.Outside (ap (leaves_in k) (client-asking k.phase p e).1)
+    go (leaves_inside p e) = acts-may (leaves_in k k.phase) (client_in k client.Idle) effect.Outside (ap (leaves_in k) (client-inside k.phase p e).1)
 
 pub client-falls-may : (k : ExactClient) (after : Client) → ClientFalls (client_of k) after → MayTurn ExactClient (client_falls_in k k.phase)
 client-falls-may k after h = go k.phase (client-falls-needs h)
@@ -107,8 +107,8 @@ client-falls-may k after h = go k.phase (client-falls-needs h)
     go client.Down apart = absurd (apart refl)
     go client.Idle apart = record { turn = _; does = refl }
     go (client.Chosen t) apart = record { turn = _; does = refl }
-    go (client.Asking t granted) apart = record { turn = _; does = refl }
-    go (client.Inside t granted) apart = record { turn = _; does = refl }
+    go (client.Asking p) apart = record { turn = _; does = refl }
+    go (client.Inside p) apart = record { turn = _; does = refl }
 
 pub client-rises-may : (age : Age) (k : ExactClient) (after : Client) → ClientRises age (client_of k) after → MayTurn ExactClient (client_rises_in age k k.phase)
 client-rises-may Old k after h =
@@ -162,7 +162,7 @@ pub record ClientThere (w : ExactWorld) (c : ℕ) (before : Client) : Type 0 whe
 pub client-there : (w : ExactWorld) (c : ℕ) (before after : Client) (said : List Message) (u : World) → OfClient (setting_of w) c (forget w) before after said u → ClientThere w c before
 client-there w c before after said u h =
     let k = numbered-there w.clients c h.known.0 h.known.1 in
-    record { client = k.0; was = k.1; seen = sym (ap client_at k.1) ∙ h.was }
+    record { client = k.0; was = k.1; seen = sym (ap client_numbered k.1) ∙ h.was }
 
 pub record NodeThere (w : ExactWorld) (n : ℕ) (before : Node) : Type 0 where
   pub node : ExactNode
@@ -172,7 +172,7 @@ pub record NodeThere (w : ExactWorld) (n : ℕ) (before : Node) : Type 0 where
 pub node-there : (w : ExactWorld) (n : ℕ) (before after : Node) (said : List Message) (u : World) → IsSound w → OfNode (setting_of w) n (forget w) before after said u → NodeThere w n before
 node-there w n before after said u sound h =
     let v = numbered-there w.nodes n h.known.0 (omega (arith, h.known.1, sound.nodes)) in
-    record { node = v.0; was = v.1; seen = sym (ap node_at v.1) ∙ h.was }
+    record { node = v.0; was = v.1; seen = sym (ap node_numbered v.1) ∙ h.was }
 
 -- and its own part refuses nothing
 

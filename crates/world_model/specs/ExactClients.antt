@@ -5,17 +5,18 @@ use Rattle.lock_messages.specs.declared.tickets.Mode.{Mode}
 use Rattle.lock_messages.specs.declared.tickets.Ticket.{Ticket}
 use Rattle.lock_messages.specs.declared.messages.Message.{Message}
 use Rattle.lock_messages.specs.declared.messages.Message.TheVariants as message
-use Rattle.lock_messages.specs.Messages.{is_for_client}
+use Rattle.lock_messages.specs.Messages.{is_for_client, named_node}
 use Rattle.lock_model.specs.declared.hearing.Heard.{Heard}
 use Rattle.lock_model.specs.declared.hearing.Heard.TheVariants as heard
 use Rattle.lock_model.specs.Ballots.{Ballot, needed, votes_of}
-use Rattle.lock_model.specs.ExactHearing.{is_node_of, heard_of_ticket, heard_at_rest}
+use Rattle.lock_model.specs.ExactHearing.{is_node_of, heard_of_ticket, heard_at_rest, is_counted}
 use Rattle.vote_weights.specs.Sets.{has_node, with_node}
 use Rattle.world_model.specs.declared.events.Age.{Age}
 use Rattle.world_model.specs.declared.events.Age.TheVariants.{Old, New}
 use Rattle.world_model.specs.declared.events.Effect.TheVariants as effect
 use Rattle.world_model.specs.declared.events.StepFault.TheVariants as fault
 use Rattle.world_model.specs.declared.exact.ExactClient.{ExactClient}
+use Rattle.world_model.specs.declared.exact.ExactPresent.{ExactPresent}
 use Rattle.world_model.specs.declared.exact.ExactClientPhase.{ExactClientPhase}
 use Rattle.world_model.specs.declared.exact.ExactClientPhase.TheVariants.{Down, Idle, Chosen, Asking, Inside}
 use Rattle.world_model.specs.Turns.{Turns, acts, speaks, reads}
@@ -34,8 +35,8 @@ begins_in c m x k Down = Err fault.Down
 begins_in c m x k Idle =
     if nat_lt k.kept MAX_ATTEMPT then acts (client_in k (Chosen (next_ticket c m x k.kept))) (effect.Chose (k.kept + 1)) else Err fault.AttemptsSpent
 begins_in c m x k (Chosen t) = Err fault.WrongPhase
-begins_in c m x k (Asking t granted) = Err fault.WrongPhase
-begins_in c m x k (Inside t granted) = Err fault.WrongPhase
+begins_in c m x k (Asking p) = Err fault.WrongPhase
+begins_in c m x k (Inside p) = Err fault.WrongPhase
 
 -- Try: a chosen attempt, with nothing tried, is tried
 
@@ -47,21 +48,25 @@ abbrev pub tries_attempt_in : ExactClient → ExactClientPhase → Turns ExactCl
 tries_attempt_in k Down = Err fault.Down
 tries_attempt_in k Idle = Err fault.WrongPhase
 tries_attempt_in k (Chosen t) = tries_attempt_with k t k.tried
-tries_attempt_in k (Asking t granted) = Err fault.WrongPhase
-tries_attempt_in k (Inside t granted) = Err fault.WrongPhase
+tries_attempt_in k (Asking p) = Err fault.WrongPhase
+tries_attempt_in k (Inside p) = Err fault.WrongPhase
 
 -- Kept: the tried attempt is the kept one, and the client asks with its ticket
 
+-- a ticket with which the client begins to ask, and no node has granted it
+abbrev pub first_of : Ticket → ExactPresent
+first_of t = record { ticket = t; granted = [] }
+
 abbrev pub keeps_attempt_with : Ticket → Option ℕ → Turns ExactClient
 keeps_attempt_with t None = Err fault.NothingTried
-keeps_attempt_with t (Some a) = acts (record { kept = a; tried = None; phase = Asking t [] }) effect.Kept
+keeps_attempt_with t (Some a) = acts (record { kept = a; tried = None; phase = Asking (first_of t) }) effect.Kept
 
 abbrev pub keeps_attempt_in : ExactClient → ExactClientPhase → Turns ExactClient
 keeps_attempt_in k Down = Err fault.Down
 keeps_attempt_in k Idle = Err fault.WrongPhase
 keeps_attempt_in k (Chosen t) = keeps_attempt_with t k.tried
-keeps_attempt_in k (Asking t granted) = Err fault.WrongPhase
-keeps_attempt_in k (Inside t granted) = Err fault.WrongPhase
+keeps_attempt_in k (Asking p) = Err fault.WrongPhase
+keeps_attempt_in k (Inside p) = Err fault.WrongPhase
 
 -- SayTo: to a node of the ballot, the request of the ticket or, at rest, the release of the attempt
 
@@ -72,8 +77,8 @@ abbrev pub tells_in : ℕ → ℕ → ExactClient → ExactClientPhase → Turns
 tells_in c n k Down = Err fault.Down
 tells_in c n k Idle = if k.kept == 0 then Err fault.NothingToSay else says_one k (message.Release n c k.kept)
 tells_in c n k (Chosen t) = Err fault.NotStored
-tells_in c n k (Asking t granted) = says_one k (message.Request n t)
-tells_in c n k (Inside t granted) = says_one k (message.Request n t)
+tells_in c n k (Asking p) = says_one k (message.Request n p.ticket)
+tells_in c n k (Inside p) = says_one k (message.Request n p.ticket)
 
 abbrev pub tells : Ballot → ℕ → ℕ → ExactClient → Turns ExactClient
 tells b c n k = if is_node_of (length b.votes) n then tells_in c n k k.phase else Err fault.UnknownActor
@@ -84,43 +89,28 @@ abbrev pub heard_in : ℕ → ℕ → ℕ → ExactClientPhase → Message → H
 heard_in nodes c kept Down m = heard.NotMine
 heard_in nodes c kept Idle m = heard_at_rest nodes c kept m
 heard_in nodes c kept (Chosen t) m = heard.NotMine
-heard_in nodes c kept (Asking t granted) m = heard_of_ticket nodes t (has_node granted) m
-heard_in nodes c kept (Inside t granted) m = heard_of_ticket nodes t (has_node granted) m
+heard_in nodes c kept (Asking p) m = heard_of_ticket nodes p.ticket (has_node p.granted) m
+heard_in nodes c kept (Inside p) m = heard_of_ticket nodes p.ticket (has_node p.granted) m
 
--- the node that a message names
-abbrev pub node_of : Message → ℕ
-node_of (message.Request n t) = n
-node_of (message.Release n c a) = n
-node_of (message.Grant n t) = n
-node_of (message.Busy n t) = n
-node_of (message.Over n c a) = n
-node_of (message.Done n c a) = n
-node_of (message.Muddled n c a) = n
-
--- whether the answer is that a vote was counted
-abbrev pub is_counted : Heard → Bool
-is_counted heard.Counted = true
-is_counted heard.Known = false
-is_counted heard.Busy = false
-is_counted heard.Done = false
-is_counted heard.NotMine = false
+abbrev pub with_vote : ℕ → ExactPresent → ExactPresent
+with_vote n p = record p { granted = with_node p.granted n }
 
 abbrev pub counts_in : ℕ → ExactClientPhase → ExactClientPhase
 counts_in n Down = Down
 counts_in n Idle = Idle
 counts_in n (Chosen t) = Chosen t
-counts_in n (Asking t granted) = Asking t (with_node granted n)
-counts_in n (Inside t granted) = Inside t (with_node granted n)
+counts_in n (Asking p) = Asking (with_vote n p)
+counts_in n (Inside p) = Inside (with_vote n p)
 
 abbrev pub after_hearing : ℕ → ℕ → ExactClient → Message → ExactClient
-after_hearing nodes c k m = if is_counted (heard_in nodes c k.kept k.phase m) then client_in k (counts_in (node_of m) k.phase) else k
+after_hearing nodes c k m = if is_counted (heard_in nodes c k.kept k.phase m) then client_in k (counts_in (named_node m) k.phase) else k
 
 abbrev pub is_down : ExactClientPhase → Bool
 is_down Down = true
 is_down Idle = false
 is_down (Chosen t) = false
-is_down (Asking t granted) = false
-is_down (Inside t granted) = false
+is_down (Asking p) = false
+is_down (Inside p) = false
 
 abbrev pub hears : ℕ → ℕ → ℕ → ExactClient → Turns ExactClient
 hears nodes c number k =
@@ -133,9 +123,9 @@ abbrev pub enters_in : Ballot → ExactClient → ExactClientPhase → Turns Exa
 enters_in b k Down = Err fault.Down
 enters_in b k Idle = Err fault.WrongPhase
 enters_in b k (Chosen t) = Err fault.WrongPhase
-enters_in b k (Asking t granted) =
-    if nat_le (needed b t.mode) (votes_of b (has_node granted)) then acts (client_in k (Inside t granted)) effect.Inside else Err fault.NoQuorum
-enters_in b k (Inside t granted) = Err fault.WrongPhase
+enters_in b k (Asking p) =
+    if nat_le (needed b p.ticket.mode) (votes_of b (has_node p.granted)) then acts (client_in k (Inside p)) effect.Inside else Err fault.NoQuorum
+enters_in b k (Inside p) = Err fault.WrongPhase
 
 -- Leave: a client that asks or is inside
 
@@ -143,8 +133,8 @@ abbrev pub leaves_in : ExactClient → ExactClientPhase → Turns ExactClient
 leaves_in k Down = Err fault.Down
 leaves_in k Idle = Err fault.WrongPhase
 leaves_in k (Chosen t) = Err fault.WrongPhase
-leaves_in k (Asking t granted) = acts (client_in k Idle) effect.Outside
-leaves_in k (Inside t granted) = acts (client_in k Idle) effect.Outside
+leaves_in k (Asking p) = acts (client_in k Idle) effect.Outside
+leaves_in k (Inside p) = acts (client_in k Idle) effect.Outside
 
 -- Fall: what is kept and tried remains
 
@@ -152,8 +142,8 @@ abbrev pub client_falls_in : ExactClient → ExactClientPhase → Turns ExactCli
 client_falls_in k Down = Err fault.Down
 client_falls_in k Idle = acts (client_in k Down) effect.Down
 client_falls_in k (Chosen t) = acts (client_in k Down) effect.Down
-client_falls_in k (Asking t granted) = acts (client_in k Down) effect.Down
-client_falls_in k (Inside t granted) = acts (client_in k Down) effect.Down
+client_falls_in k (Asking p) = acts (client_in k Down) effect.Down
+client_falls_in k (Inside p) = acts (client_in k Down) effect.Down
 
 -- Rise: with the kept attempt or, where one is tried, with that
 
@@ -166,5 +156,5 @@ abbrev pub client_rises_in : Age → ExactClient → ExactClientPhase → Turns 
 client_rises_in age k Down = client_rises_with age k.kept k.tried
 client_rises_in age k Idle = Err fault.Up
 client_rises_in age k (Chosen t) = Err fault.Up
-client_rises_in age k (Asking t granted) = Err fault.Up
-client_rises_in age k (Inside t granted) = Err fault.Up
+client_rises_in age k (Asking p) = Err fault.Up
+client_rises_in age k (Inside p) = Err fault.Up

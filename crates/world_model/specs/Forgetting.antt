@@ -14,10 +14,11 @@ use Rattle.world_model.specs.declared.exact.ExactNode.{ExactNode}
 use Rattle.world_model.specs.declared.exact.ExactNodePhase.{ExactNodePhase}
 use Rattle.world_model.specs.declared.exact.ExactNodePhase.TheVariants as node
 use Rattle.world_model.specs.declared.exact.ExactClient.{ExactClient}
+use Rattle.world_model.specs.declared.exact.ExactPresent.{ExactPresent}
 use Rattle.world_model.specs.declared.exact.ExactClientPhase.{ExactClientPhase}
 use Rattle.world_model.specs.declared.exact.ExactClientPhase.TheVariants as client
 use Rattle.world_model.specs.declared.exact.ExactWorld.{ExactWorld}
-use Rattle.world_model.specs.Worlds.{NodePhase, NodeDown, NodeIdle, Decided, Stored, Node, ClientPhase, ClientDown, ClientIdle, Chosen, Asking, IsIn, Client, World, Setting}
+use Rattle.world_model.specs.Worlds.{NodePhase, NodeDown, NodeIdle, Decided, Stored, Node, Present, ClientPhase, ClientDown, ClientIdle, Chosen, Asking, IsIn, Client, World, Setting}
 use Rattle.world_model.specs.Invariants.{IsSafe}
 use Rattle.world_model.specs.ExactWorlds.{numbered}
 
@@ -35,27 +36,30 @@ abbrev pub node_of : ExactNode → Node
 node_of v = record { kept = station_of v.kept; tried = option_map station_of v.tried; phase = node_phase_of v.phase }
 
 -- the list of nodes that granted a ticket, as a set
+abbrev pub present_of : ExactPresent → Present
+present_of p = record { ticket = p.ticket; granted = has_node p.granted }
+
 abbrev pub client_phase_of : ExactClientPhase → ClientPhase
 client_phase_of client.Down = ClientDown
 client_phase_of client.Idle = ClientIdle
 client_phase_of (client.Chosen t) = Chosen t
-client_phase_of (client.Asking t granted) = Asking t (has_node granted)
-client_phase_of (client.Inside t granted) = IsIn t (has_node granted)
+client_phase_of (client.Asking p) = Asking (present_of p)
+client_phase_of (client.Inside p) = IsIn (present_of p)
 
 abbrev pub client_of : ExactClient → Client
 client_of k = record { kept = k.kept; tried = k.tried; phase = client_phase_of k.phase }
 
 -- under a number that no actor has stands one that is down and never did anything
-abbrev pub node_at : Option ExactNode → Node
-node_at None = record { kept = meaning First []; tried = None; phase = NodeDown }
-node_at (Some v) = node_of v
+abbrev pub node_numbered : Option ExactNode → Node
+node_numbered None = record { kept = meaning First []; tried = None; phase = NodeDown }
+node_numbered (Some v) = node_of v
 
-abbrev pub client_at : Option ExactClient → Client
-client_at None = record { kept = 0; tried = None; phase = ClientDown }
-client_at (Some k) = client_of k
+abbrev pub client_numbered : Option ExactClient → Client
+client_numbered None = record { kept = 0; tried = None; phase = ClientDown }
+client_numbered (Some k) = client_of k
 
 abbrev pub forget : ExactWorld → World
-forget w = record { nodes = λ n. node_at (numbered w.nodes n); clients = λ c. client_at (numbered w.clients c); sent = w.sent }
+forget w = record { nodes = λ n. node_numbered (numbered w.nodes n); clients = λ c. client_numbered (numbered w.clients c); sent = w.sent }
 
 -- who takes part
 abbrev pub setting_of : ExactWorld → Setting
@@ -85,8 +89,8 @@ abbrev pub IsSoundChoice : ExactClientPhase → Type 0
 IsSoundChoice client.Down = Unit {0}
 IsSoundChoice client.Idle = Unit {0}
 IsSoundChoice (client.Chosen t) = t.attempt ≤ MAX_ATTEMPT
-IsSoundChoice (client.Asking t granted) = Unit {0}
-IsSoundChoice (client.Inside t granted) = Unit {0}
+IsSoundChoice (client.Asking p) = Unit {0}
+IsSoundChoice (client.Inside p) = Unit {0}
 
 -- each attempt of a client is in range: the kept one, the tried one and the chosen one
 pub record IsSoundClient (k : ExactClient) : Type 0 where

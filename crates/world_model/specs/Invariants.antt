@@ -10,15 +10,15 @@ use Rattle.lock_model.specs.declared.entries.Status.TheVariants.{Holding}
 use Rattle.lock_model.specs.Ballots.{Ballot, IsEnough}
 use Rattle.lock_model.specs.Stations.{Has, Standing, Station, IsLawful, IsCaused}
 use Rattle.lock_model.specs.Decisions.{Among}
-use Rattle.world_model.specs.Worlds.{NodePhase, NodeDown, NodeIdle, Decided, Stored, Node, ClientPhase, ClientDown, ClientIdle, Chosen, Asking, IsIn, Client, World, Setting, EachStation, IsWithin}
+use Rattle.world_model.specs.Worlds.{NodePhase, NodeDown, NodeIdle, Decided, Stored, Node, Present, ClientPhase, ClientDown, ClientIdle, Chosen, Asking, IsIn, Client, World, Setting, EachStation, IsWithin}
 
 -- the ticket is the present one: the client asks with it, or is inside with it
 abbrev pub IsPresentIn : Ticket → ClientPhase → Type 0
 IsPresentIn t ClientDown = ⊥
 IsPresentIn t ClientIdle = ⊥
 IsPresentIn t (Chosen u) = ⊥
-IsPresentIn t (Asking u granted) = u ≡ t
-IsPresentIn t (IsIn u granted) = u ≡ t
+IsPresentIn t (Asking p) = p.ticket ≡ t
+IsPresentIn t (IsIn p) = p.ticket ≡ t
 
 abbrev pub IsPresent : World → ℕ → Ticket → Type 0
 IsPresent w c t = IsPresentIn t (w.clients c).phase
@@ -75,18 +75,18 @@ pub record IsSafeNode (w : World) (n : ℕ) (v : Node) : Type 0 where
   pub phase : IsSafePhase n v.kept v.tried v.phase
 
 -- The ticket is the client's own and has this attempt; each node of the set sent a Grant of it.
-pub record IsGranted (w : World) (c attempt : ℕ) (t : Ticket) (granted : ℕ → Bool) : Type 0 where
-  pub client : t.client ≡ c
-  pub attempt_is : t.attempt ≡ attempt
-  pub grants : (n : ℕ) → granted n ≡ true → Among (Grant n t) w.sent
+pub record IsGranted (w : World) (c attempt : ℕ) (p : Present) : Type 0 where
+  pub client : p.ticket.client ≡ c
+  pub attempt_is : p.ticket.attempt ≡ attempt
+  pub grants : (n : ℕ) → p.granted n ≡ true → Among (Grant n p.ticket) w.sent
 
 -- A chosen ticket is the next one, a present ticket the last one, and who is inside has enough votes.
 abbrev pub IsSafeTicket : Ballot → World → ℕ → ℕ → ClientPhase → Type 0
 IsSafeTicket b w c kept ClientDown = Unit {0}
 IsSafeTicket b w c kept ClientIdle = Unit {0}
 IsSafeTicket b w c kept (Chosen t) = (t.client ≡ c) × (t.attempt ≡ kept + 1)
-IsSafeTicket b w c kept (Asking t granted) = IsGranted w c kept t granted
-IsSafeTicket b w c kept (IsIn t granted) = IsGranted w c kept t granted × IsEnough b t.mode granted
+IsSafeTicket b w c kept (Asking p) = IsGranted w c kept p
+IsSafeTicket b w c kept (IsIn p) = IsGranted w c kept p × IsEnough b p.ticket.mode p.granted
 
 pub record IsSafeClient (b : Ballot) (w : World) (c : ℕ) (k : Client) : Type 0 where
   pub tried : IfSome k.tried (λ a. a ≡ k.kept + 1)

@@ -6,6 +6,7 @@ pub mod Turns
 pub mod ExactNodes
 pub mod ExactClients
 pub mod ExactWorlds
+pub mod Numbered
 pub mod Forgetting
 pub mod Openings
 pub mod Views

@@ -18,8 +18,8 @@ abbrev pub ticket_in : ExactClientPhase → Option Ticket
 ticket_in client.Down = None
 ticket_in client.Idle = None
 ticket_in (client.Chosen t) = None
-ticket_in (client.Asking t granted) = None
-ticket_in (client.Inside t granted) = Some t
+ticket_in (client.Asking p) = None
+ticket_in (client.Inside p) = Some p.ticket
 
 abbrev pub ticket_at : Option ExactClient → Option Ticket
 ticket_at None = None

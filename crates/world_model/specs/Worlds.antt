@@ -44,13 +44,18 @@ pub record EachStation (P : Station → Type 0) (v : Node) : Type 0 where
   pub tried : IfSome v.tried P
   pub decided : IfDecided v.phase P
 
--- what a client is about; granted is the set of nodes that granted its ticket
+-- what a client has of its present attempt: its ticket, and the set of nodes that granted it
+pub record Present : Type 0 where
+  pub ticket : Ticket
+  pub granted : ℕ → Bool
+
+-- what a client is about
 pub data ClientPhase : Type 0 where
   ClientDown : ClientPhase
   ClientIdle : ClientPhase
   Chosen : (ticket : Ticket) → ClientPhase
-  Asking : (ticket : Ticket) (granted : ℕ → Bool) → ClientPhase
-  IsIn : (ticket : Ticket) (granted : ℕ → Bool) → ClientPhase
+  Asking : (present : Present) → ClientPhase
+  IsIn : (present : Present) → ClientPhase
 
 -- a client: the attempt that it has kept (0 for none), the one that it is trying to keep, and its phase
 pub record Client : Type 0 where
@@ -109,17 +114,21 @@ pub data TriesAttempt : Client → Client → Type 0 where
 pub data TriesStation : Node → Node → Type 0 where
   tries_station : (kept s : Station) (replies : List Message) → TriesStation (record { kept = kept; tried = None; phase = Decided s replies }) (record { kept = kept; tried = Some s; phase = Decided s replies })
 
+-- a ticket with which the client begins to ask, and no node has granted it
+abbrev pub first_of : Ticket → Present
+first_of t = record { ticket = t; granted = λ n. false }
+
 -- what is tried becomes what is kept
 pub data KeepsAttempt : Client → Client → Type 0 where
-  keeps_attempt : (kept a : ℕ) (t : Ticket) → KeepsAttempt (record { kept = kept; tried = Some a; phase = Chosen t }) (record { kept = a; tried = None; phase = Asking t (λ n. false) })
+  keeps_attempt : (kept a : ℕ) (t : Ticket) → KeepsAttempt (record { kept = kept; tried = Some a; phase = Chosen t }) (record { kept = a; tried = None; phase = Asking (first_of t) })
 
 pub data KeepsStation : Node → Node → Type 0 where
   keeps_station : (kept tried s : Station) (replies : List Message) → KeepsStation (record { kept = kept; tried = Some tried; phase = Decided s replies }) (record { kept = tried; tried = None; phase = Stored replies })
 
 -- a client says to a node the request of its ticket, or while it rests the release of its attempt
 pub data Tells (c n : ℕ) : Client → List Message → Type 0 where
-  asks : (kept : ℕ) (tried : Option ℕ) (t : Ticket) (granted : ℕ → Bool) → Tells c n (record { kept = kept; tried = tried; phase = Asking t granted }) (message.Request n t ∷ [])
-  asks_inside : (kept : ℕ) (tried : Option ℕ) (t : Ticket) (granted : ℕ → Bool) → Tells c n (record { kept = kept; tried = tried; phase = IsIn t granted }) (message.Request n t ∷ [])
+  asks : (kept : ℕ) (tried : Option ℕ) (p : Present) → Tells c n (record { kept = kept; tried = tried; phase = Asking p }) (message.Request n p.ticket ∷ [])
+  asks_inside : (kept : ℕ) (tried : Option ℕ) (p : Present) → Tells c n (record { kept = kept; tried = tried; phase = IsIn p }) (message.Request n p.ticket ∷ [])
   releases : (kept : ℕ) (tried : Option ℕ) → 0 < kept → Tells c n (record { kept = kept; tried = tried; phase = ClientIdle }) (message.Release n c kept ∷ [])
 
 -- a node says its replies
@@ -144,19 +153,19 @@ grants_from (message.Over n c a) k = false
 grants_from (message.Done n c a) k = false
 grants_from (message.Muddled n c a) k = false
 
-abbrev pub gained : Message → (ℕ → Bool) → ℕ → Bool
-gained m granted k = grants_from m k || granted k
+abbrev pub gained : Message → Present → Present
+gained m p = record p { granted = λ k. grants_from m k || p.granted k }
 
 -- a client hears a message: a vote counts where it has the ticket, and nothing else changes it
 pub data Hears (b : Ballot) (c : ℕ) (m : Message) : Client → Client → Type 0 where
-  counts : (kept : ℕ) (tried : Option ℕ) (t : Ticket) (granted : ℕ → Bool) → HearsOfTicket b t granted m heard.Counted →
-      Hears b c m (record { kept = kept; tried = tried; phase = Asking t granted }) (record { kept = kept; tried = tried; phase = Asking t (gained m granted) })
-  counts_inside : (kept : ℕ) (tried : Option ℕ) (t : Ticket) (granted : ℕ → Bool) → HearsOfTicket b t granted m heard.Counted →
-      Hears b c m (record { kept = kept; tried = tried; phase = IsIn t granted }) (record { kept = kept; tried = tried; phase = IsIn t (gained m granted) })
-  passes : (kept : ℕ) (tried : Option ℕ) (t : Ticket) (granted : ℕ → Bool) (h : Heard) → HearsOfTicket b t granted m h → h ≢ heard.Counted →
-      Hears b c m (record { kept = kept; tried = tried; phase = Asking t granted }) (record { kept = kept; tried = tried; phase = Asking t granted })
-  passes_inside : (kept : ℕ) (tried : Option ℕ) (t : Ticket) (granted : ℕ → Bool) (h : Heard) → HearsOfTicket b t granted m h → h ≢ heard.Counted →
-      Hears b c m (record { kept = kept; tried = tried; phase = IsIn t granted }) (record { kept = kept; tried = tried; phase = IsIn t granted })
+  counts : (kept : ℕ) (tried : Option ℕ) (p : Present) → HearsOfTicket b p.ticket p.granted m heard.Counted →
+      Hears b c m (record { kept = kept; tried = tried; phase = Asking p }) (record { kept = kept; tried = tried; phase = Asking (gained m p) })
+  counts_inside : (kept : ℕ) (tried : Option ℕ) (p : Present) → HearsOfTicket b p.ticket p.granted m heard.Counted →
+      Hears b c m (record { kept = kept; tried = tried; phase = IsIn p }) (record { kept = kept; tried = tried; phase = IsIn (gained m p) })
+  passes : (kept : ℕ) (tried : Option ℕ) (p : Present) (h : Heard) → HearsOfTicket b p.ticket p.granted m h → h ≢ heard.Counted →
+      Hears b c m (record { kept = kept; tried = tried; phase = Asking p }) (record { kept = kept; tried = tried; phase = Asking p })
+  passes_inside : (kept : ℕ) (tried : Option ℕ) (p : Present) (h : Heard) → HearsOfTicket b p.ticket p.granted m h → h ≢ heard.Counted →
+      Hears b c m (record { kept = kept; tried = tried; phase = IsIn p }) (record { kept = kept; tried = tried; phase = IsIn p })
   passes_idle : (kept : ℕ) (tried : Option ℕ) (h : Heard) → HearsAtRest b c kept m h →
       Hears b c m (record { kept = kept; tried = tried; phase = ClientIdle }) (record { kept = kept; tried = tried; phase = ClientIdle })
   passes_chosen : (kept : ℕ) (tried : Option ℕ) (t : Ticket) →
@@ -164,13 +173,13 @@ pub data Hears (b : Ballot) (c : ℕ) (m : Message) : Client → Client → Type
 
 -- a client whose votes are enough enters
 pub data Enters (b : Ballot) : Client → Client → Type 0 where
-  enters : (kept : ℕ) (tried : Option ℕ) (t : Ticket) (granted : ℕ → Bool) → IsEnough b t.mode granted →
-      Enters b (record { kept = kept; tried = tried; phase = Asking t granted }) (record { kept = kept; tried = tried; phase = IsIn t granted })
+  enters : (kept : ℕ) (tried : Option ℕ) (p : Present) → IsEnough b p.ticket.mode p.granted →
+      Enters b (record { kept = kept; tried = tried; phase = Asking p }) (record { kept = kept; tried = tried; phase = IsIn p })
 
 -- a client that asks or is inside leaves
 pub data Leaves : Client → Client → Type 0 where
-  gives_up : (kept : ℕ) (tried : Option ℕ) (t : Ticket) (granted : ℕ → Bool) → Leaves (record { kept = kept; tried = tried; phase = Asking t granted }) (record { kept = kept; tried = tried; phase = ClientIdle })
-  leaves : (kept : ℕ) (tried : Option ℕ) (t : Ticket) (granted : ℕ → Bool) → Leaves (record { kept = kept; tried = tried; phase = IsIn t granted }) (record { kept = kept; tried = tried; phase = ClientIdle })
+  gives_up : (kept : ℕ) (tried : Option ℕ) (p : Present) → Leaves (record { kept = kept; tried = tried; phase = Asking p }) (record { kept = kept; tried = tried; phase = ClientIdle })
+  leaves : (kept : ℕ) (tried : Option ℕ) (p : Present) → Leaves (record { kept = kept; tried = tried; phase = IsIn p }) (record { kept = kept; tried = tried; phase = ClientIdle })
 
 -- a fall loses all but what is kept and tried
 pub data NodeFalls : Node → Node → Type 0 where
@@ -223,7 +232,7 @@ Run s w (e ∷ events) v = (u : World) × Happens s w e u × Run s u events v
 
 -- the client is inside the resource, in this mode
 abbrev pub IsInside : World → ℕ → Mode → List ℕ → Type 0
-IsInside w c m x = (t : Ticket) × (granted : ℕ → Bool) × ((w.clients c).phase ≡ IsIn t granted) × (t.mode ≡ m) × (t.resource ≡ x)
+IsInside w c m x = (p : Present) × ((w.clients c).phase ≡ IsIn p) × (p.ticket.mode ≡ m) × (p.ticket.resource ≡ x)
 
 -- neither the floor nor the live attempt is above the attempt that the client has kept
 pub record IsWithin (kept : ℕ) (standing : Standing) : Type 0 where

@@ -32,7 +32,14 @@ pub struct ExactNode {
     pub phase: ExactNodePhase,
 }
 
-/// What a client is about. The nodes that granted its ticket are listed in ascending order.
+/// What a client has of its present attempt: its ticket, and the nodes that granted it, in ascending order.
+#[derive(Debug, Drop)]
+pub struct ExactPresent {
+    pub ticket: Ticket,
+    pub granted: LinkedList<NodeId>,
+}
+
+/// What a client is about.
 #[derive(Debug, Drop)]
 pub enum ExactClientPhase {
     Down,
@@ -40,9 +47,9 @@ pub enum ExactClientPhase {
     /// It has chosen its next attempt.
     Chosen(Ticket),
     /// It asks nodes for their votes.
-    Asking(Ticket, LinkedList<NodeId>),
+    Asking(ExactPresent),
     /// It is inside.
-    Inside(Ticket, LinkedList<NodeId>),
+    Inside(ExactPresent),
 }
 
 /// A client: the attempt that it has kept (0 for none), the one that it is trying to keep, and its

@@ -15,7 +15,7 @@ use Rattle.world_model.specs.ExactWorlds.{numbered}
 use Rattle.world_model.specs.Forgetting.{IsSoundStation}
 use Rattle.world_model.specs.Openings.{entries_within, stations_within, IsResumable}
 use Rattle.world_opening.specs.Openings.{IsFound, IsRecordOf, IsAttemptOf, NodeFinds, ClientFinds, IsFirstWithout, IsEach, AreRecords, AreAttempts, station_in, stations_in}
-use Rattle.world_opening.proofs.ListFacts.{past-zero, numbered-next, numbered-one, numbered-there, numbered-last}
+use Rattle.world_model.specs.Numbered.{past-zero, numbered-next, numbered-one, numbered-there, numbered-last}
 
 pub each-none : {A : Type 0} (P : ℕ → A → Type 0) → IsEach 0 P []
 each-none P = record {

@@ -1,2 +1,1 @@
-mod ListFacts
 mod JudgingFacts

@@ -52,15 +52,20 @@ fn attempt_of(bytes: &[u8]) -> Option<u64>
     read_client(bytes).ok()
 }
 
-/// The node, or the client, at a place that is counted from 0.
-fn node_at(place: usize) -> NodeId
+/// The node whose record stands at this place among those of nodes. Places are counted from 0.
+///
+/// The caller owes a place below `MAX_NODES`.
+pub fn node_at(place: usize) -> NodeId
     requires { place < MAX_NODES }
     ensures { result ≡ place + 1 }
 {
     NodeId::of(place as u8 + 1).unwrap()
 }
 
-fn client_at(place: usize) -> ClientId
+/// The client whose record stands at this place among those of clients. Places are counted from 0.
+///
+/// The caller owes a place below `MAX_CLIENTS`.
+pub fn client_at(place: usize) -> ClientId
     requires { place < MAX_CLIENTS }
     ensures { result ≡ place + 1 }
 {

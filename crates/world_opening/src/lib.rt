@@ -13,4 +13,4 @@ mod faults;
 mod judging;
 
 pub use faults::OpeningFault;
-pub use judging::{Opening, judge};
+pub use judging::{Opening, client_at, judge, node_at};

@@ -1,7 +1,7 @@
 use Rattle.std.proofs.Common.{◌≡◌, ◌<◌, ◌≤◌, ◌-◌, length, Some, ◌∙◌, subst, arith}
 use Rattle.lock_messages.specs.declared.ids.TheConstants.{MAX_CLIENTS}
 use Rattle.world_model.specs.ExactWorlds.{numbered}
-use Rattle.world_machine.proofs.ListFacts.{numbered-at}
+use Rattle.world_model.specs.Numbered.{numbered-at}
 use Rattle.world_machine.proofs.keeping.see_last.Goals as goal
 
 pub returns-then-count-gt0 : goal.returns-then-count-gt0

@@ -1,7 +1,7 @@
 use Rattle.std.proofs.Common.{◌≡◌, Some, sym, ◌∙◌, ap, subst, arith}
 use Rattle.world_model.specs.ExactWorlds.{numbered}
 use Rattle.world_model.specs.Views.{ticket_at}
-use Rattle.world_machine.proofs.ListFacts.{numbered-at}
+use Rattle.world_model.specs.Numbered.{numbered-at}
 use Rattle.world_machine.proofs.ListingFacts.{client-at}
 use Rattle.world_machine.proofs.listing.ticket_inside.Goals as goal
 

@@ -3,7 +3,7 @@ use Rattle.world_model.specs.ExactWorlds.{numbered, step}
 use Rattle.world_model.specs.StepsOf.{Does}
 use Rattle.world_machine.specs.Doing.{client_event, client_turn}
 use Rattle.world_machine.specs.Machines.{client_part, with_clients}
-use Rattle.world_machine.proofs.ListFacts.{numbered-at, numbered-past}
+use Rattle.world_model.specs.Numbered.{numbered-at, numbered-past}
 use Rattle.world_machine.proofs.TurnFacts.{client-deed}
 use Rattle.world_machine.proofs.ActorFacts.{act-client, client-unknown, clients-stay}
 use Rattle.world_machine.proofs.stepping.act_client.Goals as goal

@@ -3,7 +3,7 @@ use Rattle.world_model.specs.ExactWorlds.{numbered, step}
 use Rattle.world_model.specs.StepsOf.{Does}
 use Rattle.world_machine.specs.Doing.{node_event, node_turn}
 use Rattle.world_machine.specs.Machines.{node_part, with_nodes}
-use Rattle.world_machine.proofs.ListFacts.{numbered-at, numbered-past}
+use Rattle.world_model.specs.Numbered.{numbered-at, numbered-past}
 use Rattle.world_machine.proofs.TurnFacts.{node-deed}
 use Rattle.world_machine.proofs.ActorFacts.{act-node, node-unknown, nodes-stay}
 use Rattle.world_machine.proofs.stepping.act_node.Goals as goal

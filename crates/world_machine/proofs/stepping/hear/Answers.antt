@@ -5,7 +5,7 @@ use Rattle.world_model.specs.ExactWorlds.{numbered, step}
 use Rattle.world_model.specs.StepsOf.{Does}
 use Rattle.world_machine.specs.Doing.{Turned, read_turn}
 use Rattle.world_machine.specs.Machines.{client_part, with_clients}
-use Rattle.world_machine.proofs.ListFacts.{numbered-at, numbered-past}
+use Rattle.world_model.specs.Numbered.{numbered-at, numbered-past}
 use Rattle.world_machine.proofs.ActorFacts.{hear-client, client-unknown, clients-stay}
 use Rattle.world_machine.proofs.stepping.hear.Goals as goal
 

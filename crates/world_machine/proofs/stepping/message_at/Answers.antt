@@ -1,5 +1,5 @@
 use Rattle.std.proofs.Common.{sym, ◌∙◌, arith}
-use Rattle.world_machine.proofs.ListFacts.{past-zero}
+use Rattle.world_model.specs.Numbered.{past-zero}
 use Rattle.world_machine.proofs.stepping.message_at.Goals as goal
 
 pub returns : goal.returns

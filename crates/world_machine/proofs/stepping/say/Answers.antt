@@ -4,7 +4,7 @@ use Rattle.world_model.specs.ExactNodes.{says_in}
 use Rattle.world_model.specs.ExactWorlds.{numbered, step}
 use Rattle.world_model.specs.StepsOf.{Does}
 use Rattle.world_machine.specs.Machines.{node_part, with_nodes, with_sent}
-use Rattle.world_machine.proofs.ListFacts.{numbered-at, numbered-past}
+use Rattle.world_model.specs.Numbered.{numbered-at, numbered-past}
 use Rattle.world_machine.proofs.ActorFacts.{say-node, node-unknown, nodes-stay, spoke-room}
 use Rattle.world_machine.proofs.stepping.say.Goals as goal
 

@@ -5,7 +5,7 @@ use Rattle.world_model.specs.ExactWorlds.{numbered, step}
 use Rattle.world_model.specs.StepsOf.{Does}
 use Rattle.world_machine.specs.Doing.{Turned, read_turn}
 use Rattle.world_machine.specs.Machines.{node_part, with_nodes}
-use Rattle.world_machine.proofs.ListFacts.{numbered-at, numbered-past}
+use Rattle.world_model.specs.Numbered.{numbered-at, numbered-past}
 use Rattle.world_machine.proofs.ActorFacts.{take-node, node-unknown, nodes-stay}
 use Rattle.world_machine.proofs.stepping.take.Goals as goal
 

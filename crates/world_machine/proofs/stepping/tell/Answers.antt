@@ -3,7 +3,7 @@ use Rattle.world_model.specs.declared.events.Event.TheVariants as event
 use Rattle.world_model.specs.ExactClients.{tells}
 use Rattle.world_model.specs.ExactWorlds.{numbered}
 use Rattle.world_machine.specs.Machines.{client_part, with_sent}
-use Rattle.world_machine.proofs.ListFacts.{numbered-at, numbered-past}
+use Rattle.world_model.specs.Numbered.{numbered-at, numbered-past}
 use Rattle.world_machine.proofs.ActorFacts.{tell-client, client-unknown, spoke-room}
 use Rattle.world_machine.proofs.stepping.tell.Goals as goal
 

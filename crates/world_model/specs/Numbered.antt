@@ -1,8 +1,11 @@
--- Lists whose places are numbered from 1.
-use Rattle.std.proofs.Common.{◌≡◌, ℕ, ◌+◌, ◌-◌, ◌<◌, ◌≤◌, ◌==◌, ◌⊎◌, Bool, true, false, cond, List, [], ◌∷◌, ◌++◌, length, get_or, map, zero, suc, Some, None, refl, sym, ◌∙◌, ap, inl, inr, arith}
-use Rattle.std.specs.Prelude.{slice_get}
+-- What follows of lists whose places are numbered from 1. Nothing here has to be believed: each line is proved
+-- from `numbered`.
+use Rattle.std.proofs.Common.{◌≡◌, ◌≢◌, ℕ, ◌+◌, ◌-◌, ◌<◌, ◌≤◌, ◌==◌, ◌⊎◌, Bool, true, false, cond, List, [], ◌∷◌, ◌++◌, length, get_or, map, set, zero, suc, Some, None, refl, sym, ◌∙◌, ap, inl, inr, arith}
+use Rattle.std.specs.Prelude.{slice_get, slice_set}
 use Rattle.std.specs.Option.{option_map}
 use Rattle.std.proofs.lemmas.Bool.{eq-eqb, ne_eqb}
+use Rattle.std.proofs.lemmas.List.{get_or-set_same}
+use Rattle.std.proofs.Math.ListN.{length-set}
 use Rattle.std.proofs.lemmas.Option.{slice_get-map, slice_get_past, slice_get_read, slice_get-get_or, slice_get_within}
 use Rattle.world_model.specs.ExactWorlds.{numbered}
 
@@ -71,3 +74,28 @@ numbered-last {A} xs y k x h = go (get-last xs y (k - 1) x (sym (past-zero (xs +
     go : (slice_get xs (k - 1) ≡ Some x) ⊎ ((k - 1 ≡ length xs) × (y ≡ x)) → (numbered xs k ≡ Some x) ⊎ ((k ≡ length xs + 1) × (y ≡ x))
     go (inl e) = inl (past-zero xs k one ∙ e)
     go (inr e) = inr (omega (arith, one, e.0), e.1)
+
+-- what is put into a list, and what it leaves
+
+pub numbered-set-here : {A : Type 0} (xs : List A) (k : ℕ) (x y : A) → numbered xs k ≡ Some x → numbered (slice_set xs (k - 1) y) k ≡ Some y
+numbered-set-here xs k x y h =
+    let in_range = numbered-one xs k x h in
+    let within : k - 1 < length xs = omega (arith, in_range.0, in_range.1) in
+    past-zero (set xs (k - 1) y) k in_range.0 ∙ slice_get-get_or (set xs (k - 1) y) (k - 1) y (let w : k - 1 < length (set xs (k - 1) y) = omega (arith, within, length-set xs (k - 1) y) in w)
+    ∙ ap Some (get_or-set_same xs (k - 1) y y within)
+
+slice_get-set-there : {A : Type 0} (xs : List A) (i j : ℕ) (y : A) → j ≢ i → slice_get (set xs i y) j ≡ slice_get xs j
+slice_get-set-there [] i j y apart = refl
+slice_get-set-there (x ∷ xs) zero zero y apart = absurd (apart refl)
+slice_get-set-there (x ∷ xs) zero (suc j) y apart = refl
+slice_get-set-there (x ∷ xs) (suc i) zero y apart = refl
+slice_get-set-there (x ∷ xs) (suc i) (suc j) y apart = slice_get-set-there xs i j y (λ e. apart (ap suc e))
+
+pub numbered-set-there : {A : Type 0} (xs : List A) (k d : ℕ) (y : A) → 1 ≤ k → d ≢ k → numbered (slice_set xs (k - 1) y) d ≡ numbered xs d
+numbered-set-there {A} xs k d y one apart = go (d == 0) refl
+  where
+    go : (b : Bool) → (d == 0) ≡ b → cond b None (slice_get (set xs (k - 1) y) (d - 1)) ≡ cond b None (slice_get xs (d - 1))
+    go true e = refl
+    go false e =
+        let past : d ≢ 0 = λ q. let p : false ≡ true = sym e ∙ eq-eqb d 0 q in cc in
+        slice_get-set-there xs (k - 1) (d - 1) y (λ q. apart (omega (arith, one, past, q)))
