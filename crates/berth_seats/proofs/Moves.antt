@@ -18,7 +18,7 @@ use Rattle.berth_seats.specs.declared.views.BerthView.{BerthView}
 use Rattle.berth_seats.specs.declared.views.View.{View}
 use Rattle.berth_seats.specs.Views.{is_given, opened, empty_world, first}
 use Rattle.berth_seats.specs.Ties.{IsTied, Fits, AreTied}
-use Rattle.berth_seats.specs.Steps.{with_event, with_given, shown, begun, after, Begins, Tells, ashore, landed, aboard, idle}
+use Rattle.berth_seats.specs.Steps.{with_event, with_given, shown, begun, after, Begins, Tells, TellsTie, ashore, landed, aboard, idle}
 use Rattle.berth_seats.proofs.Lists.{off, begins_itself, begins_longer, not_own, of_other, given_more, given_last, given_apart}
 use Rattle.berth_seats.proofs.Owners.{moved, moved_here, moved_else, apart_at, All, fits_set, fits_new, known}
 
@@ -85,6 +85,17 @@ looks_at views i v t at is has =
 
 pub looks : (n id : ℕ) (me : Me Announcement View) → me.0.is_book ≡ true → me.0.has_berth ≡ true → Allows Rule n id me 0 (λ x. x) (Tells (step n 0 0 0 none) me)
 looks n id me is has s t long at small = (after none me.0, keeps, tt, looks_at s.views id me.0 t at is has, (refl, refl, tied s.views id me.0 t at))
+
+stays_at : (views : List View) (i : ℕ) (v : View) → AreTied views → At views i v → AreTied (set views i v)
+stays_at views i v t at = record {
+  keeper = t.keeper;
+  book = t.book;
+  owner = t.owner;
+  fits = fits_set t.keeper t.book t.owner views i v (λ j u far e. t.fits j u e) (t.fits i v at);
+}
+
+pub asks : (n id : ℕ) (me : Me Announcement View) → Allows Rule n id me 0 (λ x. x) (TellsTie (step n 0 0 0 none) me)
+asks n id me s t long at small = (me.0, keeps, tt, stays_at s.views id me.0 t at, (refl, refl, tied s.views id me.0 t at))
 
 -- a berth of another actor is still tied once an actor more has a berth
 tied_more : (who : Actor) (book : BookView) (k : BerthView) → IsTied book k → IsTied (with_given who book) k

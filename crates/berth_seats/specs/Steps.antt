@@ -51,6 +51,11 @@ Tells step before found now =
     (now.0 ≡ after step.said before.0) × (now.1 ≡ before.1)
     × (before.0.is_book ≡ true → before.0.has_berth ≡ true → IsTied before.0.book before.0.berth)
 
+-- A step tells that the book and the berth that is aboard are tied, and changes nothing.
+abbrev pub TellsTie : Step Announcement → Me Announcement View → ℕ → Me Announcement View → Type 0
+TellsTie step before found now =
+    (now.0 ≡ before.0) × (now.1 ≡ before.1) × (before.0.is_book ≡ true → before.0.has_berth ≡ true → IsTied before.0.book before.0.berth)
+
 -- the seat without a berth
 abbrev pub ashore : View → View
 ashore v = record { is_book = v.is_book; book = v.book; has_berth = false; berth = v.berth }

@@ -49,6 +49,15 @@ impl Play<Announcement, View> for Log {
     ghost then = { Tells };
 }
 
+// The book's seat asks what ties it to the berth that is aboard, and changes nothing.
+pub struct Ask;
+
+impl Play<Announcement, View> for Ask {
+    ghost use Rattle.berth_seats.specs.Steps.{TellsTie};
+
+    ghost then = { TellsTie };
+}
+
 // Takes a berth aboard, and sets it ashore.
 pub struct Boarding;
 

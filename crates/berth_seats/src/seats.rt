@@ -10,7 +10,7 @@ ghost use Rattle.berth_seats.specs.Steps.{with_event, with_given, shown, new_ber
 ghost use mathlib.Core.Option.{none, some};
 ghost use Rattle.berth_seats.specs.declared.views.Announcement.TheVariants.{Add};
 
-use crate::rule::{Begin, Boarding, Log, OpenedWith, Tie};
+use crate::rule::{Ask, Begin, Boarding, Log, OpenedWith, Tie};
 use crate::views::{Announcement, View};
 use atomic_table::{Seat, Shared, Table};
 use lock_messages::Actor;
@@ -77,6 +77,21 @@ impl BookSeat {
         }
     }
 
+    /// Tells that the berth is tied to the book, and changes nothing.
+    /// The caller owes that the berth is this book's.
+    pub fn tie(&mut self, berth: &mut BerthSeat)
+        requires { berth.old.table ≡ self.old.table }
+        ensures book { self.new ≡ self.old }
+        ensures berth { berth.new ≡ berth.old }
+        ensures tied { IsTied self.old.book berth.old.berth }
+    {
+        let BookSeat { table, seat } = self;
+        let words = &table.shared;
+        board(words, seat, &mut berth.seat);
+        compare(words, seat);
+        land(words, seat, &mut berth.seat);
+    }
+
     /// Shows the berth all of the history, and tells that it is tied to the book.
     /// The caller owes that the berth is this book's.
     pub fn look(&mut self, berth: &mut BerthSeat)
@@ -127,6 +142,17 @@ fn board(
     let idle = words.split_seat::<Boarding>(book);
     let other = mem::replace(berth, idle);
     words.join_seat::<Boarding>(book, other);
+}
+
+// Tells that the berth that is aboard is tied to the book.
+fn compare(words: &Shared<Announcement, View, (), Tie>, book: &mut Seat<Announcement, View>)
+    requires table { (book.old.table_id ≡ words.now.table_id) × (words.now.table_id.words ≡ 1) }
+    requires aboard { (book.old.me.0.is_book ≡ true) × (book.old.me.0.has_berth ≡ true) }
+    ensures table { book.new.table_id ≡ words.now.table_id }
+    ensures same { book.new.me ≡ book.old.me }
+    ensures tied { IsTied book.old.me.0.book book.old.me.0.berth }
+{
+    words.load::<Ask>(book, 0);
 }
 
 // Shows the berth that is aboard all of the history.

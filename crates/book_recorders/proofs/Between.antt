@@ -1,18 +1,19 @@
 -- What a call of a book's `log` tells, said of the berth alone.
-use Rattle.std.proofs.Common.{◌≡◌, List, [], ◌∷◌, ◌++◌, Result, Ok, Err, Some, sym, ap, subst, ◌∙◌, append-nil}
+use Rattle.std.proofs.Common.{◌≡◌, List, [], ◌∷◌, ◌++◌, Result, Ok, Err, true, Some, sym, ap, subst, ◌∙◌, append-nil}
 use Rattle.std.specs.Prelude.{IfOk, IfErr}
 use Rattle.std.proofs.lemmas.List.{append_cancel_left}
 use Rattle.std.proofs.lemmas.List.Elements.{filter-append}
 use Rattle.lock_messages.specs.declared.ids.Actor.{Actor}
 use Rattle.world_model.specs.declared.events.Effect.{Effect}
 use Rattle.world_model.specs.declared.events.Event.{Event}
+use Rattle.world_model.specs.declared.events.StepFault.{StepFault}
 use Rattle.world_model.specs.Locality.{own_events, IsHistory, IsAsListed, IsLocalRefusal}
 use Rattle.world_model.specs.Parts.{is_own, own_refusal}
 use Rattle.history_book.specs.declared.faults.BookFault.{BookFault}
 use Rattle.history_book.specs.declared.faults.BookFault.TheVariants as book
-use Rattle.history_book.specs.Books.{BookValue, BerthValue, own_of, own_part, Known, IsLogged, IsRefused}
+use Rattle.history_book.specs.Books.{BookValue, BerthValue, own_of, own_part, Known, IsLogged, IsNoStep, IsFull, IsRefused}
 use Rattle.history_book.proofs.Histories.{history_more}
-use Rattle.book_recorders.specs.Sharing.{after_seeing, Between, HasLogged, HasSeen, MayRefuse}
+use Rattle.book_recorders.specs.Sharing.{after_seeing, Between, HasLogged, HasRefused, HasFoundFull, MayRefuse}
 
 pub own-append : (who : Actor) (xs ys : List (Event × Effect)) → own_events who (xs ++ ys) ≡ own_events who xs ++ own_events who ys
 own-append who xs ys = filter-append (λ (p : Event × Effect). is_own who p.0) xs ys
@@ -48,25 +49,36 @@ has_logged b k e done b' k' logged listed =
       run = subst (λ (x : BerthValue). IsHistory x.opening x.seen b'.world) (sym berth) (history_more k.opening b.world b'.world (k.seen ++ known.begins.0) e done others.run logged.takes);
     }
 
-pub has_seen : (b : BookValue) (k k' : BerthValue) → Known b k → k' ≡ after_seeing k b.history → HasSeen k k'
-has_seen b k k' known is = record {
+has_refused : (f : StepFault) (b : BookValue) (k : BerthValue) (e : Event) (b' : BookValue) (k' : BerthValue) → is_own k.actor e ≡ true → IsNoStep f b k e b' k' → HasRefused f k e k'
+has_refused f b k e b' k' own no_step =
+    let known = no_step.known in
+    record {
+      own = own;
+      of_event = no_step.of_event;
+      between = known.begins.0;
+      now = b.world;
+      others = between_of b k known;
+      refused = no_step.refused;
+      local = subst (λ w. IsLocalRefusal e (own_refusal w.ballot e (own_part k)) (Some f)) (sym known.opening) no_step.own;
+      berth = seen_more k k' b.history _ no_step.berth (sym known.begins.1);
+    }
+
+has_found_full : (b : BookValue) (k : BerthValue) (e : Event) (k' : BerthValue) → is_own k.actor e ≡ true → Known b k → IsFull b.history b.world e → k' ≡ k → HasFoundFull k e k'
+has_found_full b k e k' own known full same = record {
+  own = own;
   between = known.begins.0;
   now = b.world;
   others = between_of b k known;
-  berth = seen_more k k' b.history _ is (sym known.begins.1);
+  full = subst (λ h. IsFull h b.world e) (sym known.begins.1) full;
+  berth = same;
 }
 
 pub may_refuse : (f : BookFault) (b : BookValue) (k : BerthValue) (e : Event) (b' : BookValue) (k' : BerthValue) → IsRefused f b k e b' k' → MayRefuse f k e k'
 may_refuse book.OtherBook b k e b' k' r = r.1.berth
 may_refuse book.OtherActor b k e b' k' r = (r.1, r.2.berth)
-may_refuse book.Full b k e b' k' r = r.2.berth
-may_refuse book.Memory b k e b' k' r = r.2.berth
-may_refuse (book.NotAStep f) b k e b' k' r =
-    let no_step = r.2 in (
-      no_step.of_event,
-      has_seen b k k' no_step.known no_step.berth,
-      subst (λ w. IsLocalRefusal e (own_refusal w.ballot e (own_part k)) (Some f)) (sym no_step.known.opening) no_step.own,
-    )
+may_refuse book.Full b k e b' k' r = has_found_full b k e k' r.0.actor r.2 r.1 r.3.berth
+may_refuse book.Memory b k e b' k' r = (r.0.actor, r.2.berth)
+may_refuse (book.NotAStep f) b k e b' k' r = has_refused f b k e b' k' r.0.actor r.2
 
 -- a book stays the same book, and its opening stays
 
@@ -76,7 +88,7 @@ logged_table b k e done b' k' logged = ap (λ (x : BookValue). x.table) logged.b
 pub refused_same : (f : BookFault) (b : BookValue) (k : BerthValue) (e : Event) (b' : BookValue) (k' : BerthValue) → IsRefused f b k e b' k' → b' ≡ b
 refused_same book.OtherBook b k e b' k' r = r.1.book
 refused_same book.OtherActor b k e b' k' r = r.2.book
-refused_same book.Full b k e b' k' r = r.2.book
+refused_same book.Full b k e b' k' r = r.3.book
 refused_same book.Memory b k e b' k' r = r.2.book
 refused_same (book.NotAStep f) b k e b' k' r = r.2.book
 

@@ -12,7 +12,7 @@ use Rattle.event_recorders.specs.OwnLogs.{OwnLog, part_now, adds, IsAdded, IsUnr
 use Rattle.history_book.specs.declared.faults.BookFault.{BookFault}
 use Rattle.history_book.specs.declared.faults.BookFault.TheVariants as book
 use Rattle.history_book.specs.Books.{BerthValue, own_of, own_part, IsOfEvent}
-use Rattle.book_recorders.specs.Sharing.{after_seeing, HasLogged, HasSeen, MayRefuse, log_of}
+use Rattle.book_recorders.specs.Sharing.{after_seeing, HasLogged, HasRefused, MayRefuse, log_of}
 use Rattle.book_recorders.proofs.Between.{own-append}
 
 -- the own list after what others logged
@@ -44,8 +44,8 @@ is_added effects k e done k' h =
       part = ap part_now log ∙ local-append k.opening.ballot (part k.opening k.actor) (own_of k) ((e, done) ∷ []);
     }
 
-seen_log : (k k' : BerthValue) → HasSeen k k' → log_of k' ≡ log_of k
-seen_log k k' h = log_after k k' _ _ h.berth (own_stays k h.between h.others.others)
+seen_log : (f : StepFault) (k : BerthValue) (e : Event) (k' : BerthValue) → HasRefused f k e k' → log_of k' ≡ log_of k
+seen_log f k e k' h = log_after k k' _ _ h.berth (own_stays k h.between h.others.others)
 
 -- a refusal that the own list doesn't give is of a message that wasn't sent, or is for another
 list_fault : (e : Event) (f : StepFault) → IsOfEvent f → IsListFault e f → IsUnread e f
@@ -71,9 +71,9 @@ unread e f of (inr h) =
 pub is_refused : (f : BookFault) (k : BerthValue) (e : Event) (k' : BerthValue) → is_own k.actor e ≡ true → own_refusal k.opening.ballot e (own_part k) ≡ None → MayRefuse f k e k' → IsRecorderFault e f × (log_of k' ≡ log_of k)
 is_refused book.OtherBook k e k' own allowed r = (tt, ap log_of r)
 is_refused book.OtherActor k e k' own allowed r = absurd (let z : false ≡ true = sym r.0 ∙ own in cc)
-is_refused book.Full k e k' own allowed r = (tt, ap log_of r)
-is_refused book.Memory k e k' own allowed r = (tt, ap log_of r)
-is_refused (book.NotAStep f) k e k' own allowed r = (unread e f r.0 (subst (λ o. IsLocalRefusal e o (Some f)) allowed r.2), seen_log k k' r.1)
+is_refused book.Full k e k' own allowed r = (tt, ap log_of r.berth)
+is_refused book.Memory k e k' own allowed r = (tt, ap log_of r.1)
+is_refused (book.NotAStep f) k e k' own allowed r = (unread e f r.of_event (subst (λ o. IsLocalRefusal e o (Some f)) allowed r.local), seen_log f k e k' r)
 
 -- the same of an answer
 

@@ -32,6 +32,7 @@ pub trait Logs {
         requires { berth.old.number ≡ (book self.old).number → berth.old.table ≡ (book self.old).table }
         ensures book { book self.new ≡ book self.old }
         ensures ok { OnOk result (Known (book self.old) berth.old × (berth.new ≡ sees (book self.old) berth.old)) }
+        ensures number { OnOk result (berth.old.number ≡ (book self.old).number) }
         ensures other { IfErr result (λ f. (f ≡ BookFault.OtherBook) × (berth.old.number ≢ (book self.old).number) × (berth.new ≡ berth.old)) };
 }
 

@@ -61,8 +61,10 @@ impl<B: BookName, K: Logs> Named<B, K> {
     ///
     /// What is said of the berth names no book: the berth goes on from all that it had seen, by what
     /// others logged, none of it its actor's, and then by this event, which may happen there; and all of
-    /// it is a run. After an error the berth is as it was or, where the event is no step (811), has seen
-    /// what others logged. The caller owes that the berth is of the book of this name.
+    /// it is a run. An event is no step (811) of the world that others left, and the berth has seen then
+    /// what they logged; after every other error it is as it was. The book is full (812) only where with
+    /// what others logged the history is full, or the list of messages of the world that they left. The
+    /// caller owes that the berth is of the book of this name.
     #[tactic(auto, using(crate::proofs::Between::has_logged, crate::proofs::Between::may_refuse, crate::proofs::Between::logged_table, crate::proofs::Between::refused_table))]
     pub(crate) fn log(&mut self, berth: &mut Berth, event: Event) -> Result<Effect, BookFault>
         requires { berth.old.table ≡ B.table }

@@ -55,8 +55,10 @@ impl<'a, B: BookName, K: Logs, R: Wait + Copy> BookRecorder<'a, B, K, R> {
     /// errors of `Book::log`.
     ///
     /// The berth goes on from all that it had seen, by what others logged, none of it its actor's, and then
-    /// by this event, which is a step of the world there; and all of it is a run. After an error it is as it
-    /// was or, where the event is no step (811), has seen what others logged.
+    /// by this event, which is a step of the world there; and all of it is a run. An event is no step (811)
+    /// of the world that others left, and the berth has seen then what they logged; after every other error
+    /// it is as it was. The book is full (812) only where with what others logged the history is full, or the
+    /// list of messages of the world that they left.
     pub fn log_event(&mut self, event: Event) -> Result<Effect, BookFault>
         ensures goes_on { IfOk result (λ done. HasLogged self.old event done self.new) }
         ensures stays { IfErr result (λ fault. MayRefuse fault self.old event self.new) }

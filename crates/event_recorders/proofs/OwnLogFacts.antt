@@ -5,9 +5,9 @@ use Rattle.lock_messages.specs.declared.ids.Actor.TheVariants as actor
 use Rattle.lock_messages.specs.declared.messages.Message.{Message}
 use Rattle.lock_messages.specs.declared.messages.Message.TheVariants as message
 use Rattle.lock_messages.specs.declared.ids.TheConstants.{MAX_ATTEMPT}
-use Rattle.lock_messages.specs.Messages.{is_for_client}
+use Rattle.lock_messages.specs.Messages.{is_for_client, named_node}
 use Rattle.lock_model.specs.ExactDecisions.{decision, changes}
-use Rattle.lock_model.specs.ExactHearing.{is_node_of}
+use Rattle.lock_model.specs.ExactHearing.{is_node_of, is_counted}
 use Rattle.lock_messages.specs.declared.tickets.Mode.{Mode}
 use Rattle.lock_model.specs.Ballots.{Ballot, needed, votes_of}
 use Rattle.world_model.specs.declared.events.Effect.{Effect}
@@ -22,7 +22,7 @@ use Rattle.world_model.specs.declared.exact.ExactNodePhase.{ExactNodePhase}
 use Rattle.world_model.specs.declared.exact.ExactNodePhase.TheVariants as node
 use Rattle.world_model.specs.declared.exact.ExactClientPhase.{ExactClientPhase}
 use Rattle.world_model.specs.declared.exact.ExactClientPhase.TheVariants as client
-use Rattle.world_model.specs.ExactClients.{client_in, next_ticket, begins_in, says_one, tells_in, heard_in, node_of, is_counted, counts_in, after_hearing, is_down, enters_in, leaves_in, client_falls_in}
+use Rattle.world_model.specs.ExactClients.{client_in, next_ticket, begins_in, says_one, tells_in, heard_in, counts_in, after_hearing, is_down, enters_in, leaves_in, client_falls_in}
 use Rattle.world_model.specs.ExactNodes.{node_in, says_in, takes_in, decided_on, node_falls_in}
 use Rattle.world_model.specs.Turns.{Turns, acts, reads}
 use Rattle.world_model.specs.Locality.{local_part}
@@ -99,40 +99,40 @@ module _ (strings : List (List ℕ)) (k : ExactClient) (h : FindsPart (ClientPar
   begins c m x client.Down done = h
   begins c m x client.Idle done = either (λ t. Client t done) (nat_lt k.kept MAX_ATTEMPT) (acts (client_in k (client.Chosen (next_ticket c m x k.kept))) (effect.Chose (k.kept + 1))) (Err fault.AttemptsSpent) h h
   begins c m x (client.Chosen t) done = h
-  begins c m x (client.Asking t granted) done = h
-  begins c m x (client.Inside t granted) done = h
+  begins c m x (client.Asking p) done = h
+  begins c m x (client.Inside p) done = h
 
   told : (c n : ℕ) (phase : ExactClientPhase) (done : Effect) → Client (tells_in c n k phase) done
   told c n client.Down done = h
   told c n client.Idle done = either (λ t. Client t done) (k.kept == 0) (Err fault.NothingToSay) (says_one k (message.Release n c k.kept)) h h
   told c n (client.Chosen t) done = h
-  told c n (client.Asking t granted) done = h
-  told c n (client.Inside t granted) done = h
+  told c n (client.Asking p) done = h
+  told c n (client.Inside p) done = h
 
   heard : (nodes c : ℕ) (read : Option Message) → FindsPart (ClientPart (after_reading k (after_hearing nodes c k) read)) strings
   heard nodes c None = h
-  heard nodes c (Some m) = either (λ u. FindsPart (ClientPart u) strings) (is_counted (heard_in nodes c k.kept k.phase m)) (client_in k (counts_in (node_of m) k.phase)) k h h
+  heard nodes c (Some m) = either (λ u. FindsPart (ClientPart u) strings) (is_counted (heard_in nodes c k.kept k.phase m)) (client_in k (counts_in (named_node m) k.phase)) k h h
 
   enters : (b : Ballot) (phase : ExactClientPhase) (done : Effect) → Client (enters_in b k phase) done
   enters b client.Down done = h
   enters b client.Idle done = h
   enters b (client.Chosen t) done = h
-  enters b (client.Asking t granted) done = either (λ u. Client u done) (nat_le (needed b t.mode) (votes_of b (has_node granted))) (acts (client_in k (client.Inside t granted)) effect.Inside) (Err fault.NoQuorum) h h
-  enters b (client.Inside t granted) done = h
+  enters b (client.Asking p) done = either (λ u. Client u done) (nat_le (needed b p.ticket.mode) (votes_of b (has_node p.granted))) (acts (client_in k (client.Inside p)) effect.Inside) (Err fault.NoQuorum) h h
+  enters b (client.Inside p) done = h
 
   leaves : (phase : ExactClientPhase) (done : Effect) → Client (leaves_in k phase) done
   leaves client.Down done = h
   leaves client.Idle done = h
   leaves (client.Chosen t) done = h
-  leaves (client.Asking t granted) done = h
-  leaves (client.Inside t granted) done = h
+  leaves (client.Asking p) done = h
+  leaves (client.Inside p) done = h
 
   client-falls : (phase : ExactClientPhase) (done : Effect) → Client (client_falls_in k phase) done
   client-falls client.Down done = h
   client-falls client.Idle done = h
   client-falls (client.Chosen t) done = h
-  client-falls (client.Asking t granted) done = h
-  client-falls (client.Inside t granted) done = h
+  client-falls (client.Asking p) done = h
+  client-falls (client.Inside p) done = h
 
   client-stays : (b : Ballot) (e : Event) (done : Effect) → changes_record e ≡ false → FindsPart (after_own b e done (ClientPart k)) strings
   client-stays b (event.Begin c m x) done still = begins c m x k.phase done

@@ -1,11 +1,12 @@
 -- What contracts see of a book and of a berth.
-use Rattle.std.specs.Prelude.{◌≡◌, ◌≢◌, ◌⊎◌, ℕ, ◌+◌, ◌<◌, ◌≤◌, Bool, true, false, List, [], ◌∷◌, ◌++◌, length, Option, Some, None, Err, not, ◌&&◌, ◌==◌}
+use Rattle.std.specs.Prelude.{◌≡◌, ◌≢◌, ◌↔◌, ◌⊎◌, ℕ, ◌+◌, ◌<◌, ◌≤◌, Bool, true, false, IsTrue, List, [], ◌∷◌, ◌++◌, length, Option, Some, None, Err, not, ◌&&◌, ◌==◌}
 use Rattle.std.specs.Str.{bytes_eq}
 use mathlib.Core.List.{IsPrefix}
 use Rattle.berth_seats.specs.declared.views.BookView.{BookView}
 use Rattle.berth_seats.specs.Views.{TableId, is_given}
 use Rattle.lock_messages.specs.declared.ids.Actor.{Actor}
 use Rattle.lock_messages.specs.declared.ids.Actor.TheVariants as actor
+use Rattle.lock_messages.specs.declared.tickets.Mode.{Mode}
 use Rattle.lock_messages.specs.declared.tickets.Mode.TheVariants.{Read}
 use Rattle.lock_messages.specs.declared.tickets.Ticket.{Ticket}
 use Rattle.world_model.specs.declared.events.Effect.{Effect}
@@ -15,12 +16,12 @@ use Rattle.world_model.specs.declared.events.StepFault.{StepFault}
 use Rattle.world_model.specs.declared.events.StepFault.TheVariants as fault
 use Rattle.world_model.specs.declared.exact.ExactWorld.{ExactWorld}
 use Rattle.world_model.specs.ExactWorlds.{step}
-use Rattle.world_model.specs.Forgetting.{IsSound}
+use Rattle.world_model.specs.Forgetting.{forget, IsSound}
 use Rattle.world_model.specs.Laws.{Takes}
 use Rattle.world_model.specs.Locality.{own_events, local_part, IsHistory, IsLocalRefusal}
-use Rattle.world_model.specs.Parts.{place, is_own, Part, part, own_refusal}
+use Rattle.world_model.specs.Parts.{is_own, Part, part, own_refusal}
 pub use Rattle.world_model.specs.Staying.{inside_ticket}
-use Rattle.world_model.specs.Worlds.{World}
+use Rattle.world_model.specs.Worlds.{World, IsInside}
 use Rattle.world_machine.specs.Listing.{IsInsideBy}
 use Rattle.history_book.specs.declared.books.TheConstants.{MAX_EVENTS}
 use Rattle.history_book.specs.declared.faults.BookFault.{BookFault}
@@ -117,11 +118,16 @@ pub record IsNoStep (f : StepFault) (b : BookValue) (k : BerthValue) (e : Event)
   pub book : b' ≡ b
   pub berth : k' ≡ sees b k
 
+-- The history has all the events that it may have, or the list of messages of the world that it leaves has
+-- no room for what the event says.
+abbrev pub IsFull : List (Event × Effect) → ExactWorld → Event → Type 0
+IsFull history w e = (length history ≡ MAX_EVENTS) ⊎ (step w e ≡ Err fault.SentListFull)
+
 -- what comes of a fault of the world's step
 abbrev pub IsRefusedBy : BookFault → BookValue → BerthValue → Event → BookValue → BerthValue → Type 0
 IsRefusedBy bf.OtherBook b k e b' k' = ⊥
 IsRefusedBy bf.OtherActor b k e b' k' = ⊥
-IsRefusedBy bf.Full b k e b' k' = (step b.world e ≡ Err fault.SentListFull) × IsSame b k b' k'
+IsRefusedBy bf.Full b k e b' k' = (step b.world e ≡ Err fault.SentListFull) × Known b k × IsSame b k b' k'
 IsRefusedBy bf.Memory b k e b' k' = IsSame b k b' k'
 IsRefusedBy (bf.NotAStep f) b k e b' k' = IsNoStep f b k e b' k'
 
@@ -129,7 +135,7 @@ IsRefusedBy (bf.NotAStep f) b k e b' k' = IsNoStep f b k e b' k'
 abbrev pub IsRefused : BookFault → BookValue → BerthValue → Event → BookValue → BerthValue → Type 0
 IsRefused bf.OtherBook b k e b' k' = (k.number ≢ b.number) × IsSame b k b' k'
 IsRefused bf.OtherActor b k e b' k' = (k.number ≡ b.number) × (is_own k.actor e ≡ false) × IsSame b k b' k'
-IsRefused bf.Full b k e b' k' = MayLog b k e × ((MAX_EVENTS ≤ length b.history) ⊎ (step b.world e ≡ Err fault.SentListFull)) × IsSame b k b' k'
+IsRefused bf.Full b k e b' k' = MayLog b k e × IsFull b.history b.world e × Known b k × IsSame b k b' k'
 IsRefused bf.Memory b k e b' k' = MayLog b k e × (length b.history < MAX_EVENTS) × IsSame b k b' k'
 IsRefused (bf.NotAStep f) b k e b' k' = MayLog b k e × (length b.history < MAX_EVENTS) × IsNoStep f b k e b' k'
 
@@ -181,15 +187,16 @@ pub record IsGiven (who : Actor) (b : BookValue) (k : BerthValue) (b' : BookValu
   pub own : own_of k ≡ []
   pub book : b' ≡ record { number = b.number; table = b.table; opening = b.opening; history = b.history; given = b.given ++ who ∷ []; world = b.world }
 
--- two tickets, for one resource
-abbrev pub for_one_resource : Option Ticket → Option Ticket → Bool
-for_one_resource None u = false
-for_one_resource (Some t) None = false
-for_one_resource (Some t) (Some u) = bytes_eq t.resource u.resource
+-- two tickets, of two clients, for one resource
+abbrev pub are_together : Option Ticket → Option Ticket → Bool
+are_together None u = false
+are_together (Some t) None = false
+are_together (Some t) (Some u) = not (t.client == u.client) && bytes_eq t.resource u.resource
 
--- two actors, each with a ticket, for one resource
-abbrev pub are_together : Actor → Option Ticket → Actor → Option Ticket → Bool
-are_together a t b u = not (place a == place b) && for_one_resource t u
+-- a ticket, if there is one, is the actor's own: the actor is the client that it names
+abbrev pub IsOwnTicket : Actor → Option Ticket → Type 0
+IsOwnTicket who None = Unit {0}
+IsOwnTicket who (Some t) = who ≡ actor.Client t.client
 
 -- a ticket, if there is one, is a reader's
 abbrev pub Reads : Option Ticket → Type 0
@@ -201,10 +208,24 @@ abbrev pub IsInsideAs : World → Actor → Option Ticket → Type 0
 IsInsideAs w (actor.Node n) found = found ≡ None
 IsInsideAs w (actor.Client c) found = IsInsideBy w c found
 
--- whether the two are inside one resource is told by their own lists; both have seen the history
+-- the actors are two clients that are inside one resource
+pub record AreInsideOneResource (w : World) (a b : Actor) : Type 0 where
+  pub first : ℕ
+  pub second : ℕ
+  pub first_mode : Mode
+  pub second_mode : Mode
+  pub resource : List ℕ
+  pub clients : (a ≡ actor.Client first) × (b ≡ actor.Client second)
+  pub two : first ≢ second
+  pub inside : IsInside w first first_mode resource × IsInside w second second_mode resource
+
+-- Whether the two berths are of two clients inside one resource is told by the tickets that their own lists
+-- leave them, each of which is its actor's own; both have seen the history.
 pub record IsMet (answer : Bool) (b : BookValue) (k l k' l' : BerthValue) : Type 0 where
   pub one : Known b k
   pub other : Known b l
-  pub met : answer ≡ are_together k.actor (inside_ticket (own_part k)) l.actor (inside_ticket (own_part l))
+  pub met : IsTrue answer ↔ AreInsideOneResource (forget b.world) k.actor l.actor
+  pub told : answer ≡ are_together (inside_ticket (own_part k)) (inside_ticket (own_part l))
+  pub tickets : IsOwnTicket k.actor (inside_ticket (own_part k)) × IsOwnTicket l.actor (inside_ticket (own_part l))
   pub one_sees : k' ≡ sees b k
   pub other_sees : l' ≡ sees b l

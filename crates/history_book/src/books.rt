@@ -8,7 +8,7 @@ ghost use Rattle.world_model.specs.Forgetting.{forget};
 ghost use Rattle.world_model.specs.Locality.{IsHistory, IsRunOf, IsAsListed};
 ghost use Rattle.world_machine.specs.Listing.{has_actor};
 ghost use Rattle.world_model.specs.Parts.{is_own};
-ghost use Rattle.history_book.specs.Books.{BookValue, BerthValue, Known, sees, IsLogged, IsRefused, IsRefusedBy, IsNoStep, IsOfEvent, IsBook, IsOpened, IsGiven, enters, IsMet, Reads, inside_ticket, own_part};
+ghost use Rattle.history_book.specs.Books.{BookValue, BerthValue, Known, sees, IsLogged, IsRefused, IsRefusedBy, IsSame, IsNoStep, IsOfEvent, IsBook, IsOpened, IsGiven, enters, IsMet, Reads, inside_ticket, own_part};
 ghost use Rattle.berth_seats.specs.Views.{is_given};
 ghost use Rattle.journal_text.specs.Journals.{history_text, IsRecorded};
 ghost use Rattle.line_streams.specs.Streams.{Puts};
@@ -179,6 +179,7 @@ impl Book {
         requires { berth.old.number ≡ self.old.number → berth.old.table ≡ self.old.table }
         ensures book { self.new ≡ self.old }
         ensures ok { OnOk result (Known self.old berth.old × (berth.new ≡ sees self.old berth.old)) }
+        ensures number { OnOk result (berth.old.number ≡ self.old.number) }
         ensures other { IfErr result (λ f. (f ≡ BookFault.OtherBook) × (berth.old.number ≢ self.old.number) × (berth.new ≡ berth.old)) }
     {
         if berth.number != self.number {
@@ -215,6 +216,7 @@ impl Book {
             return Err(BookFault::OtherActor);
         }
         if self.history.len() >= MAX_EVENTS {
+            self.tie(berth);
             return Err(BookFault::Full);
         }
         if self.history.reserve(1).is_err() {
@@ -244,7 +246,10 @@ impl Book {
         ensures stays { (self.new.number ≡ self.old.number) × (self.new.table ≡ self.old.table) × (berth.new.number ≡ berth.old.number) × (berth.new.table ≡ berth.old.table) }
     {
         match fault {
-            StepFault::SentListFull => BookFault::Full,
+            StepFault::SentListFull => {
+                self.tie(berth);
+                BookFault::Full
+            }
             StepFault::Memory => BookFault::Memory,
             StepFault::UnknownActor
             | StepFault::Down
@@ -261,6 +266,16 @@ impl Book {
                 BookFault::NotAStep(fault)
             }
         }
+    }
+
+    // Tells what is known of the book and a berth of it, and changes nothing.
+    fn tie(&mut self, berth: &mut Berth)
+        requires { berth.old.table ≡ self.old.table }
+        ensures known { Known self.old berth.old }
+        ensures same { IsSame self.old berth.old self.new berth.new }
+    {
+        self.seat.tie(&mut berth.seat);
+        locality();
     }
 
     // Shows the berth the history where its event is none that may happen.
@@ -289,6 +304,7 @@ impl Book {
         requires other { other.old.number ≡ self.old.number → other.old.table ≡ self.old.table }
         ensures book { self.new ≡ self.old }
         ensures ok { IfOk result (λ met. IsMet met self.old one.old other.old one.new other.new) }
+        ensures numbers { OnOk result ((one.old.number ≡ self.old.number) × (other.old.number ≡ self.old.number)) }
         ensures read { IfOk result (λ met. met ≡ true → Reads (inside_ticket (own_part one.old)) × Reads (inside_ticket (own_part other.old))) }
         ensures err { IfErr result (λ f. (f ≡ BookFault.OtherBook) × ((one.old.number ≢ self.old.number) ⊎ (other.old.number ≢ self.old.number)) × (one.new ≡ one.old) × (other.new ≡ other.old)) }
     {

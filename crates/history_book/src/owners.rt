@@ -63,7 +63,7 @@ pub(crate) fn is_of(actor: Actor, event: Event) -> bool
 }
 
 /// A number for each actor, of which no other has the same.
-pub(crate) fn place(actor: Actor) -> u32
+fn place(actor: Actor) -> u32
     ensures { result ≡ place actor }
 {
     match actor {
