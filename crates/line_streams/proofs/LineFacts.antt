@@ -1,9 +1,11 @@
 -- The next line of known bytes, as its piece was read.
-use Rattle.std.proofs.Common.{◌≡◌, ℕ, ◌<◌, ◌==◌, Bool, true, false, cond, List, [], ◌∷◌, ◌++◌, length, Option, Some, None, refl, sym, ap, ◌∙◌, arith, length-append}
+use Rattle.std.proofs.Common.{◌≡◌, ℕ, ◌<◌, ◌==◌, Bool, true, false, cond, List, [], ◌∷◌, ◌++◌, length, Option, Some, None, refl, sym, ap, ◌∙◌, arith, append_assoc, length-append}
 use Rattle.std.proofs.lemmas.Bool.Decides.{nat_tests}
+use Rattle.std.proofs.lemmas.List.Elements.{All-head, All-tail}
+use Rattle.std.proofs.lemmas.List.Splits.{slice_split_at}
 use Rattle.line_streams.specs.declared.reading.End.{End}
 use Rattle.line_streams.specs.declared.reading.End.TheVariants.{LineFeed, Input, Limit}
-use Rattle.line_streams.specs.Streams.{is_line_feed, pieces, lines_in, ends_no_line, KnownLeft, EndsPiece}
+use Rattle.line_streams.specs.Streams.{is_line_feed, pieces, lines_in, IsPlain, ends_no_line, KnownLeft, EndsPiece, fed_lines, FedLinesComeFirst}
 use Rattle.line_streams.proofs.StreamFacts.{some_part}
 
 -- a line is what was kept of it; or both are longer than the limit
@@ -45,3 +47,13 @@ next_line limit ys new piece Limit r h =
     let whole : limit < length (piece ++ rest) = simp length-append (omega arith) in
     let some : (length (piece ++ rest) == 0) ≡ false = grind (arith, nat_tests) in
     (piece ++ rest, lines_in more, ap lines_in e ∙ line_and_more (piece ++ rest) more some, (long, whole), tt)
+
+-- lines come first that stand in front with their line feeds
+pub fed_lines_first : FedLinesComeFirst
+fed_lines_first [] behind plain = refl
+fed_lines_first (l ∷ ls) behind plain =
+    let P : List ℕ → Type 0 = IsPlain in
+    let rest = fed_lines ls ++ behind in
+    ap (λ (bs : List ℕ). lines_in (pieces bs)) (append_assoc l (10 ∷ fed_lines ls) behind)
+    ∙ ap lines_in (slice_split_at is_line_feed l 10 rest (All-head P l ls plain) refl) ∙ line_then_bytes l rest
+    ∙ ap (λ (rows : List (List ℕ)). l ∷ rows) (fed_lines_first ls behind (All-tail P l ls plain))

@@ -1,6 +1,6 @@
 -- The pieces of an input, which stand between its line feeds, and how they are read one by one; and
 -- what becomes of texts that are gathered and written.
-use Rattle.std.specs.Prelude.{◌≡◌, ℕ, ◌<◌, ◌≤◌, ◌==◌, if◌then◌else◌, Bool, true, false, List, [], ◌∷◌, ◌++◌, length, take, drop, Option, Some, None, Result, Ok, Err}
+use Rattle.std.specs.Prelude.{◌≡◌, ℕ, ◌+◌, ◌<◌, ◌≤◌, ◌==◌, if◌then◌else◌, Bool, true, false, List, [], ◌∷◌, ◌++◌, length, take, drop, Option, Some, None, Result, Ok, Err}
 use Rattle.std.specs.List.{slice_split, All}
 use Rattle.std.specs.Io.KnownBytes.{append_known, Consumes, Keeps, Appends, IsAtEnd}
 use Rattle.line_streams.specs.declared.reading.End.{End}
@@ -66,11 +66,28 @@ abbrev pub TakesLine : {E : Type 0} → Option (List ℕ) → Option (List ℕ) 
 TakesLine old new piece (Ok end) = IsPlain piece × Consumes old new (piece ++ feed_of end)
 TakesLine old new piece (Err e) = IsPlain piece × Consumes old new piece
 
+-- How long a piece is of which so much was taken: it is within the limit, or just over it.
+abbrev pub FitsLimit : {E : Type 0} → ℕ → List ℕ → Result End E → Type 0
+FitsLimit limit piece (Ok LineFeed) = length piece ≤ limit
+FitsLimit limit piece (Ok Input) = length piece ≤ limit
+FitsLimit limit piece (Ok Limit) = length piece ≡ limit + 1
+FitsLimit limit piece (Err e) = length piece ≤ limit
+
+-- Lines as they stand in a text, a line feed behind each.
+abbrev pub fed_lines : List (List ℕ) → List ℕ
+fed_lines [] = []
+fed_lines (l ∷ ls) = l ++ 10 ∷ fed_lines ls
+
+-- Lines that stand so at the front of a text are its first lines, and those of what is behind them follow.
+abbrev pub FedLinesComeFirst : Type 0
+FedLinesComeFirst = (lines : List (List ℕ)) (behind : List ℕ) → All IsPlain lines → lines_in (pieces (fed_lines lines ++ behind)) ≡ lines ++ lines_in (pieces behind)
+
 -- What was found at the front of some bytes: so many that are no line feed, at most so many, and
--- whether a line feed stands behind them.
+-- whether a line feed stands behind them; both are looked for among so many bytes.
 pub record FindsFront (bytes : List ℕ) (most count : ℕ) (has_feed : Bool) : Type 0 where
   pub within : count ≤ length bytes
   pub few : count ≤ most
+  pub fewer : has_feed ≡ true → count < most
   pub plain : IsPlain (take count bytes)
   pub feed : has_feed ≡ true → (rest : List ℕ) × (drop count bytes ≡ 10 ∷ rest)
   pub some : has_feed ≡ false → 0 < most → 0 < length bytes → 0 < count
@@ -82,9 +99,9 @@ Fetches old new (Ok false) = Keeps old new × IsAtEnd old
 Fetches old new (Err e) = Keeps old new
 
 -- What a call added to a line: a front of what was left that has no line feed, and at most so many
--- bytes; and whether the line feed behind it was taken too.
+-- bytes; and whether the line feed behind it was taken too, which counts among them.
 abbrev pub TakesHeld : {E : Type 0} → ℕ → Option (List ℕ) → Option (List ℕ) → List ℕ → List ℕ → Result Bool E → Type 0
-TakesHeld most old new line after (Ok true) = (front : List ℕ) × (after ≡ line ++ front) × IsPlain front × (length front ≤ most) × Consumes old new (front ++ 10 ∷ [])
+TakesHeld most old new line after (Ok true) = (front : List ℕ) × (after ≡ line ++ front) × IsPlain front × (length front < most) × Consumes old new (front ++ 10 ∷ [])
 TakesHeld most old new line after (Ok false) = (front : List ℕ) × (after ≡ line ++ front) × IsPlain front × (length front ≤ most) × Consumes old new front
 TakesHeld most old new line after (Err e) = Unit {0}
 

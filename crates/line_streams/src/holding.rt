@@ -11,47 +11,49 @@ use crate::StreamFault;
 use std::io::{Error, ErrorKind, Read};
 use std::marker::Model;
 
-/// How many bytes a read may give.
-const ROOM: usize = 32_768;
+/// The most bytes that are read ahead: so many a read may give.
+pub const MAX_AHEAD: usize = 32_768;
 
-/// The most bytes, but for one, that are looked at for a line feed at once.
-pub const MOST: usize = ROOM;
-
-/// Bytes that were read and are still to be given. Contracts see them.
+/// Bytes that were read and are still to be given, and how often the reader may be asked yet. The
+/// reader is passed beside them, the same one at each call.
+///
+/// Contracts see the bytes.
 #[derive(Drop)]
-pub struct Held {
+pub struct ReadAhead {
     // The bytes from `at` to `end`.
-    room: [u8; ROOM],
+    room: [u8; MAX_AHEAD],
     at: usize,
     end: usize,
+    reads_left: u32,
 }
 
-impl Model for Held {
+impl Model for ReadAhead {
     ghost use Rattle.std.specs.Prelude.{ℕ, ◌≤◌, List};
     ghost use Rattle.std.specs.List.{slice_range};
-    ghost use Rattle.line_streams.specs.declared.holding.TheConstants.{ROOM};
+    ghost use Rattle.line_streams.specs.declared.holding.TheConstants.{MAX_AHEAD};
 
     ghost Value = { List ℕ };
 
     ghost view = { λ s. slice_range s.room s.at s.end };
 
-    ghost invariant = { λ s. (s.at ≤ s.end) × (s.end ≤ ROOM) };
+    ghost invariant = { λ s. (s.at ≤ s.end) × (s.end ≤ MAX_AHEAD) };
 }
 
-impl Held {
-    /// Nothing is held.
-    pub fn new() -> Held
+impl ReadAhead {
+    /// Nothing is held, and the reader may be asked so often.
+    pub fn new(reads_left: u32) -> ReadAhead
         ensures { result ≡ [] }
     {
-        Held {
-            room: [0; ROOM],
+        ReadAhead {
+            room: [0; MAX_AHEAD],
             at: 0,
             end: 0,
+            reads_left,
         }
     }
 
     /// Whether a line feed is held.
-    pub fn has_feed(&self) -> bool
+    pub(crate) fn has_feed(&self) -> bool
         ensures { result ≡ list_any is_line_feed self.now }
     {
         has_feed(&self.room[self.at..self.end])
@@ -59,13 +61,10 @@ impl Held {
 
     /// Sees to it that bytes are held, by a read where there is none; answers `false` where none is
     /// left. A fault is `Read`.
-    pub fn fetch<R: Read>(
-        &mut self,
-        reader: &mut R,
-        reads_left: &mut u32,
-    ) -> Result<bool, StreamFault>
+    pub(crate) fn fetch<R: Read>(&mut self, reader: &mut R) -> Result<bool, StreamFault>
         ensures bytes { Fetches (prepend_known self.old (R.remaining reader.old)) (prepend_known self.new (R.remaining reader.new)) result }
         ensures some { IfOk result (λ found. found ≡ true → 0 < length self.new) }
+        ensures room { length self.new ≤ MAX_AHEAD }
         ensures fault { IfErr result (λ e. e ≡ StreamFault.Read) }
     {
         if self.at < self.end {
@@ -73,7 +72,7 @@ impl Held {
         }
         self.at = 0;
         self.end = 0;
-        let Ok(count) = fill(reader, reads_left, &mut self.room) else {
+        let Ok(count) = fill(reader, &mut self.reads_left, &mut self.room) else {
             return Err(StreamFault::Read);
         };
         self.end = count;
@@ -86,10 +85,12 @@ impl Held {
     /// Adds to the line what stands at the front of the bytes that are held, at most `most` bytes;
     /// answers whether a line feed followed, which was taken too. Else a byte was added, if there was one
     /// and one may be added. A fault is `Memory`, and changes nothing.
-    pub fn take(&mut self, line: &mut Vec<u8>, most: usize) -> Result<bool, StreamFault>
+    pub(crate) fn take(&mut self, line: &mut Vec<u8>, most: usize) -> Result<bool, StreamFault>
         ensures bytes { (behind : Option (List ℕ)) → TakesHeld most (prepend_known self.old behind) (prepend_known self.new behind) line.old.items line.new.items result }
         ensures few { IfOk result (λ _. vec_len line.new ≤ vec_len line.old + most) }
+        ensures fewer { IfOk result (λ fed. fed ≡ true → vec_len line.new < vec_len line.old + most) }
         ensures some { IfOk result (λ fed. fed ≡ false → 0 < most → 0 < length self.old → vec_len line.old < vec_len line.new) }
+        ensures room { length self.new ≤ MAX_AHEAD }
         ensures fault { IfErr result (λ e. (e ≡ StreamFault.Memory) × (self.new ≡ self.old) × (line.new.items ≡ line.old.items)) }
     {
         let held = &self.room[self.at..self.end];

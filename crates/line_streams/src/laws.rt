@@ -1,10 +1,19 @@
-//! Laws of the limits. The function computes nothing: its contract is a theorem.
+//! Laws of lines and of the limits. Each function computes nothing: its contract is a theorem.
 
 ghost use Rattle.std.specs.Prelude.{◌≡◌};
+ghost use Rattle.line_streams.specs.Streams.{FedLinesComeFirst};
 
-use crate::MAX_READS;
+use crate::{MAX_AHEAD, MAX_READS};
 
-/// The limit by number: at most 600,000,000 reads, and as many tries of writing one text.
+/// The lines of a text that begins with lines, a line feed behind each, are these, and then those of
+/// what stands behind them.
+pub fn fed_lines_come_first()
+    ensures { FedLinesComeFirst }
+{}
+
+/// The limits by number: at most 600,000,000 reads, and as many tries of writing one text; and at most
+/// 32,768 bytes that are read ahead.
 pub fn limits()
     ensures reads { MAX_READS ≡ 600000000 }
+    ensures ahead { MAX_AHEAD ≡ 32768 }
 {}

@@ -1,6 +1,7 @@
 //! An input that is read line by line, and an output that is gathered before it is written.
 //!
-//! `LineReader` reads in large blocks and gives one line after another, each up to a limit.
+//! `LineReader` reads in large blocks and gives one line after another, each up to a limit;
+//! `ReadAhead` does so for a reader that is passed to it, and need not be given away.
 //! `Gathered` keeps texts until there are many, or until it is asked to let them out. A program that
 //! lets them out wherever `LineReader::has_line` says that no whole line is held serves a person at
 //! a terminal, who waits for each answer, and a pipe of a million lines alike.
@@ -20,5 +21,6 @@ mod reading;
 mod writing;
 
 pub use faults::StreamFault;
+pub use holding::{MAX_AHEAD, ReadAhead};
 pub use reading::{End, LineReader, MAX_READS};
 pub use writing::{Gathered, write_text};

@@ -1,12 +1,11 @@
 // An input, line by line.
 
-ghost use Rattle.std.specs.Prelude.{◌≡◌, ◌≢◌, ◌+◌, ◌≤◌, IfOk, IfErr, IfSome, true, vec_len};
+ghost use Rattle.std.specs.Prelude.{◌≡◌, ◌≢◌, ◌≤◌, length, IfOk, IfErr, IfSome, true};
 ghost use Rattle.std.specs.Io.KnownBytes.{prepend_known};
 ghost use Rattle.std.specs.List.{list_any};
-ghost use Rattle.line_streams.specs.Streams.{is_line_feed, is_last, ends_no_line, ReadsPiece, TakesLine};
+ghost use Rattle.line_streams.specs.Streams.{is_line_feed, is_last, ends_no_line, ReadsPiece, TakesLine, FitsLimit};
 
-use crate::StreamFault;
-use crate::holding::{Held, MOST};
+use crate::{MAX_AHEAD, ReadAhead, StreamFault};
 use std::io::Read;
 use std::marker::Model;
 
@@ -45,16 +44,58 @@ impl End {
     }
 }
 
-/// The bytes of a reader, line by line. The reader is asked in large blocks, and so often as the
-/// caller says at most.
+impl ReadAhead {
+    /// Reads on to the next line feed or to the end, and leaves in `line` what stands before it, in
+    /// place of what stood there. Of a line that is longer than the limit a beginning is left there that is
+    /// longer by a byte, and nothing behind that is taken.
+    ///
+    /// # Errors
+    ///
+    /// `Read` where the reader fails or was asked as often as it may be, `Memory` where the line
+    /// needs room and memory was refused. Then `line` has what was taken of the line, which is within
+    /// the limit, and no line feed was taken.
+    pub fn read_line<R: Read>(
+        &mut self,
+        reader: &mut R,
+        line: &mut Vec<u8>,
+        limit: usize,
+    ) -> Result<End, StreamFault>
+        ensures line { IfOk result (λ end. ReadsPiece limit (prepend_known self.old (R.remaining reader.old)) (prepend_known self.new (R.remaining reader.new)) line.new.items end) }
+        ensures taken { TakesLine (prepend_known self.old (R.remaining reader.old)) (prepend_known self.new (R.remaining reader.new)) line.new.items result }
+        ensures few { FitsLimit limit line.new.items result }
+        ensures ahead { length self.new ≤ MAX_AHEAD }
+        ensures fault { IfErr result (λ e. e ≢ StreamFault.Write) }
+    {
+        line.clear();
+        // Each round takes a byte at least, so the room up to the limit bounds them.
+        loop {
+            let found = self.fetch(reader)?;
+            if !found {
+                return Ok(End::Input);
+            }
+            let most = (limit - line.len()).min(MAX_AHEAD) + 1;
+            let fed = self.take(line, most)?;
+            if fed {
+                return Ok(End::LineFeed);
+            }
+            if line.len() > limit {
+                return Ok(End::Limit);
+            }
+        }
+    }
+}
+
+/// A reader with what was read ahead of it: its bytes, line by line. The reader is asked in large
+/// blocks, and so often as the caller says at most.
 ///
-/// Contracts see the bytes that are left, where they are known.
+/// Contracts see the bytes that are left, where they are known: those that were read ahead, and behind
+/// them what the reader has left.
 #[derive(Drop)]
 pub struct LineReader<R: Read> {
-    reader: R,
-    reads_left: u32,
-    // What was read and is still to be given.
-    held: Held,
+    /// The reader.
+    pub reader: R,
+    /// What was read ahead of it.
+    pub ahead: ReadAhead,
 }
 
 impl<R: Read> Model for LineReader<R> {
@@ -63,7 +104,7 @@ impl<R: Read> Model for LineReader<R> {
 
     ghost Value = { Option (List ℕ) };
 
-    ghost view = { λ s. prepend_known s.held (R.remaining s.reader) };
+    ghost view = { λ s. prepend_known s.ahead (R.remaining s.reader) };
 }
 
 impl<R: Read> LineReader<R> {
@@ -73,8 +114,7 @@ impl<R: Read> LineReader<R> {
     {
         LineReader {
             reader,
-            reads_left,
-            held: Held::new(),
+            ahead: ReadAhead::new(reads_left),
         }
     }
 
@@ -83,58 +123,20 @@ impl<R: Read> LineReader<R> {
     pub fn has_line(&self) -> bool
         ensures { result ≡ true → IfSome self.now (λ xs. list_any is_line_feed xs ≡ true) }
     {
-        self.held.has_feed()
+        self.ahead.has_feed()
     }
 
-    /// Reads on to the next line feed or to the end, and leaves in `line` what stands before it, in
-    /// place of what stood there. Of a line that is longer than the limit a beginning is left there that
-    /// is longer too.
+    /// Reads a line, as `ReadAhead::read_line` does.
     ///
     /// # Errors
     ///
-    /// `Read` where the reader fails or was asked as often as it may be, `Memory` where the line
-    /// needs room and memory was refused. Then `line` has what was taken of the line, and no line feed
-    /// was taken.
+    /// Those of `ReadAhead::read_line`.
     pub fn read_line(&mut self, line: &mut Vec<u8>, limit: usize) -> Result<End, StreamFault>
         ensures line { IfOk result (λ end. ReadsPiece limit self.old self.new line.new.items end) }
         ensures taken { TakesLine self.old self.new line.new.items result }
-        ensures few { IfOk result (λ _. vec_len line.new ≤ limit + 1) }
+        ensures few { FitsLimit limit line.new.items result }
         ensures fault { IfErr result (λ e. e ≢ StreamFault.Write) }
     {
-        let LineReader {
-            reader,
-            reads_left,
-            held,
-        } = self;
-        read_on(reader, reads_left, held, line, limit)
+        self.ahead.read_line(&mut self.reader, line, limit)
     }
-}
-
-/// Reads a line from what is held and then from the reader, as `LineReader::read_line` does.
-fn read_on<R: Read>(
-    reader: &mut R,
-    reads_left: &mut u32,
-    held: &mut Held,
-    line: &mut Vec<u8>,
-    limit: usize,
-) -> Result<End, StreamFault>
-    ensures line { IfOk result (λ end. ReadsPiece limit (prepend_known held.old (R.remaining reader.old)) (prepend_known held.new (R.remaining reader.new)) line.new.items end) }
-    ensures taken { TakesLine (prepend_known held.old (R.remaining reader.old)) (prepend_known held.new (R.remaining reader.new)) line.new.items result }
-    ensures few { IfOk result (λ _. vec_len line.new ≤ limit + 1) }
-    ensures fault { IfErr result (λ e. e ≢ StreamFault.Write) }
-{
-    line.clear();
-    // Each round takes a byte at least, so the room up to the limit bounds them.
-    while line.len() <= limit {
-        let found = held.fetch(reader, reads_left)?;
-        if !found {
-            return Ok(End::Input);
-        }
-        let most = (limit - line.len()).min(MOST) + 1;
-        let fed = held.take(line, most)?;
-        if fed {
-            return Ok(End::LineFeed);
-        }
-    }
-    Ok(End::Limit)
 }

@@ -8,4 +8,4 @@ pub returns : goal.returns
 returns g c h =
     let s = c.self.inside in
     subst (λ (left : Option (List ℕ)). IfSome left (λ xs. list_any is_line_feed xs ≡ true)) c.self.view_is
-    (has_line_left s.held (g.R.Read.remaining s.reader) (sym c.has_feed.ensures ∙ h))
+    (has_line_left s.ahead (g.R.Read.remaining s.reader) (sym c.has_feed.ensures ∙ h))

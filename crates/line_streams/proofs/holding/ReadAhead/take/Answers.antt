@@ -1,9 +1,9 @@
-use Rattle.std.proofs.Common.{◌≤◌, ◌+◌, ◌∙◌, ◌++◌, List, ℕ, [], ◌∷◌, take, sym, ap, subst}
+use Rattle.std.proofs.Common.{◌<◌, ◌≤◌, ◌+◌, ◌∙◌, ◌++◌, List, ℕ, [], ◌∷◌, take, sym, ap, subst}
 use Rattle.std.specs.List.{slice_range}
 use Rattle.std.specs.Io.KnownBytes.{prepend_known, Consumes}
 use Rattle.std.proofs.lemmas.List.{length-take-le}
 use Rattle.line_streams.proofs.StreamFacts.{takes_front, takes_feed}
-use Rattle.line_streams.proofs.holding.Held.take.Goals as goal
+use Rattle.line_streams.proofs.holding.ReadAhead.take.Goals as goal
 
 pub returns-then-feed-clause-bytes : goal.returns-then-feed-clause-bytes
 returns-then-feed-clause-bytes c = λ behind.
@@ -15,7 +15,7 @@ returns-then-feed-clause-bytes c = λ behind.
       take count held,
       c.in_ok-add.ensures.bytes ∙ ap (λ (bs : List ℕ). c.args.line.now.items ++ bs) c.split_at.ensures.front,
       found.plain,
-      subst (λ (n : ℕ). n ≤ c.args.most) (sym (length-take-le count held found.within)) found.few,
+      subst (λ (n : ℕ). n < c.args.most) (sym (length-take-le count held found.within)) (found.fewer c.if-feed.true),
       subst (λ (bs : List ℕ). Consumes (prepend_known bs behind) (prepend_known (slice_range s.room (s.at + count + 1) s.end) behind) (take count held ++ 10 ∷ [])) c.self.view_is
           (takes_feed s.room s.at s.end count behind rest c.self.invariant.0 found.within f),
     )
