@@ -1,6 +1,7 @@
 -- One reopen after others that failed.
-use Rattle.std.proofs.Common.{◌≡◌, ◌+◌, ℕ, Bool, List, Option, Some, None, inl, inr, subst, arith}
+use Rattle.std.proofs.Common.{◌≡◌, ◌+◌, ◌≤◌, ℕ, Bool, List, Option, Some, None, inl, inr, subst, arith}
 use Rattle.std.specs.Prelude.{IfSome, IfNone}
+use Rattle.stable_record.specs.Finding.{Counts}
 use Rattle.actor_steps.specs.Steps.{HasFailed, HasNotReopened, IsReopened}
 
 pub found_since : (times : ℕ) (bytes : List ℕ) (first before now : List (List ℕ)) (count count' : ℕ) (stuck : Bool) → HasNotReopened times first before count count' →
@@ -18,6 +19,11 @@ once_more times first before now a b c so once = record {
   found = λ found there. so.found found (once.found found there);
   failed = failed-since times a b c so.failed once.failed;
 }
+
+-- a count that rose, or stood at its greatest
+pub failed_once : (a b : ℕ) → Counts a b → a ≤ b → HasFailed 1 a b
+failed_once a b (inl rose) least = inl (omega (arith, rose))
+failed_once a b (inr full) least = inr (omega (arith, full, least))
 
 -- what is said of an option that is known
 

@@ -94,8 +94,8 @@ client-tries b c kept tried client.Down h = absurd (cc h)
 client-tries b c kept tried client.Idle h = absurd (cc h)
 client-tries b c kept None (client.Chosen t) h = record { nothing = refl; kept = refl; allowed = refl }
 client-tries b c kept (Some a) (client.Chosen t) h = absurd (cc h)
-client-tries b c kept tried (client.Asking t granted) h = absurd (cc h)
-client-tries b c kept tried (client.Inside t granted) h = absurd (cc h)
+client-tries b c kept tried (client.Asking p) h = absurd (cc h)
+client-tries b c kept tried (client.Inside p) h = absurd (cc h)
 
 may-keep : (b : Ballot) (who : Actor) (p : Part) → own_refusal b (event.Try who) p ≡ None → MayKeep b who p
 may-keep b (actor.Node n) NoPart h = absurd (cc h)
@@ -165,8 +165,8 @@ client-keeps b c kept tried client.Down bytes h e = absurd (cc h)
 client-keeps b c kept tried client.Idle bytes h e = absurd (cc h)
 client-keeps b c kept None (client.Chosen t) bytes h e = absurd (cc h)
 client-keeps b c kept (Some a) (client.Chosen t) bytes h e = record { kept = cc e; nothing = refl }
-client-keeps b c kept tried (client.Asking t granted) bytes h e = absurd (cc h)
-client-keeps b c kept tried (client.Inside t granted) bytes h e = absurd (cc h)
+client-keeps b c kept tried (client.Asking p) bytes h e = absurd (cc h)
+client-keeps b c kept tried (client.Inside p) bytes h e = absurd (cc h)
 
 keeps-then : (b : Ballot) (who : Actor) (p : Part) (bytes : List ℕ) → own_refusal b (event.Kept who) p ≡ None → tried_in p ≡ Some bytes → KeepsThen b who p bytes
 keeps-then b (actor.Node n) NoPart bytes h e = absurd (cc h)
@@ -211,10 +211,10 @@ pub still_added : (l m l' : OwnLog) (e : Event) (done : Effect) → IsAdded l e 
 still_added l m l' e done is same = subst (λ x. IsAdded l e done x) (sym same) is
 
 -- the record failed as these bytes were tried
-pub failed_finds : (l : OwnLog) (who : Actor) (bytes : List ℕ) (before strings : List (List ℕ)) (k : Keeping) (stuck : Bool) → IsTrying l who bytes before → IsPut k bytes before strings stuck → k ≡ keeping.Failed →
-    FindsPart (part_now l) strings
-failed_finds l who bytes before strings k stuck is put failed =
-    let kept : HasFailedPut bytes before strings = subst (λ (x : Keeping). IsPut x bytes before strings stuck) failed put in
+pub failed_finds : (l : OwnLog) (who : Actor) (bytes : List ℕ) (before strings : List (List ℕ)) (k : Keeping) (stuck : Bool) (count count' : ℕ) → IsTrying l who bytes before →
+    IsPut k bytes before strings stuck count count' → k ≡ keeping.Failed → FindsPart (part_now l) strings
+failed_finds l who bytes before strings k stuck count count' is put failed =
+    let kept : HasFailedPut bytes before strings stuck count count' = subst (λ (x : Keeping). IsPut x bytes before strings stuck count count') failed put in
     tries-to (part_now l) bytes strings is.tried (λ found there. either found (kept.only found there))
   where
     either : (found : List ℕ) → Among found before ⊎ (found ≡ bytes) → (found ≡ kept_in (part_now l)) ⊎ (found ≡ bytes)
@@ -249,8 +249,8 @@ client-falls b c kept None phase bytes h e = absurd (cc e)
 client-falls b c kept (Some a) client.Down bytes h e = absurd (cc h)
 client-falls b c kept (Some a) client.Idle bytes h e = record { old = refl; new = refl; kept = refl; tried = cc e; same = refl; tries = e }
 client-falls b c kept (Some a) (client.Chosen t) bytes h e = record { old = refl; new = refl; kept = refl; tried = cc e; same = refl; tries = e }
-client-falls b c kept (Some a) (client.Asking t granted) bytes h e = record { old = refl; new = refl; kept = refl; tried = cc e; same = refl; tries = e }
-client-falls b c kept (Some a) (client.Inside t granted) bytes h e = record { old = refl; new = refl; kept = refl; tried = cc e; same = refl; tries = e }
+client-falls b c kept (Some a) (client.Asking p) bytes h e = record { old = refl; new = refl; kept = refl; tried = cc e; same = refl; tries = e }
+client-falls b c kept (Some a) (client.Inside p) bytes h e = record { old = refl; new = refl; kept = refl; tried = cc e; same = refl; tries = e }
 
 falls-to : (b : Ballot) (who : Actor) (p : Part) (bytes : List ℕ) → own_refusal b (event.Fall who) p ≡ None → tried_in p ≡ Some bytes → FallsTo b who p (after_own b (event.Fall who) effect.Down p) bytes
 falls-to b (actor.Node n) NoPart bytes h e = absurd (cc h)
@@ -311,8 +311,8 @@ client-rises b c New kept None client.Down h = absurd (cc h)
 client-rises b c New kept (Some t) client.Down h = refl
 client-rises b c age kept tried client.Idle h = absurd (cc h)
 client-rises b c age kept tried (client.Chosen t) h = absurd (cc h)
-client-rises b c age kept tried (client.Asking t granted) h = absurd (cc h)
-client-rises b c age kept tried (client.Inside t granted) h = absurd (cc h)
+client-rises b c age kept tried (client.Asking p) h = absurd (cc h)
+client-rises b c age kept tried (client.Inside p) h = absurd (cc h)
 
 rises : (b : Ballot) (who : Actor) (age : Age) (p : Part) → own_refusal b (event.Rise who age) p ≡ None → tried_in (after_own b (event.Rise who age) effect.Up p) ≡ None
 rises b (actor.Node n) age NoPart h = absurd (cc h)
@@ -366,8 +366,8 @@ client-rests b c kept None client.Down d t = record { allowed = refl; kept = ref
 client-rests b c kept (Some a) phase d t = absurd (cc t)
 client-rests b c kept None client.Idle d t = absurd (cc d)
 client-rests b c kept None (client.Chosen s) d t = absurd (cc d)
-client-rests b c kept None (client.Asking s granted) d t = absurd (cc d)
-client-rests b c kept None (client.Inside s granted) d t = absurd (cc d)
+client-rests b c kept None (client.Asking p) d t = absurd (cc d)
+client-rests b c kept None (client.Inside p) d t = absurd (cc d)
 
 at-rest : (b : Ballot) (who : Actor) (p : Part) → IsDownAtRest who p → AtRest b who p
 at-rest b (actor.Node n) NoPart h = absurd h

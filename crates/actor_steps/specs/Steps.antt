@@ -1,5 +1,5 @@
 -- What the steps that nodes and clients share have done.
-use Rattle.std.specs.Prelude.{◌≡◌, ◌⊎◌, ℕ, ◌+◌, ◌≤◌, Bool, false, List, [], ◌∷◌, Option, Some, None, Result, Ok, Err}
+use Rattle.std.specs.Prelude.{◌≡◌, ◌⊎◌, ℕ, ◌+◌, ◌<◌, ◌≤◌, Bool, true, false, List, [], ◌∷◌, Option, Some, None, Result, Ok, Err}
 use Rattle.lock_messages.specs.declared.ids.Actor.{Actor}
 use Rattle.lock_model.specs.Decisions.{Among}
 use Rattle.stable_record.specs.Finding.{FindsOnly, FindsOnlyOr, most_failures}
@@ -13,6 +13,7 @@ use Rattle.history_book.specs.declared.faults.BookFault.{BookFault}
 use Rattle.history_book.specs.declared.faults.BookFault.TheVariants as book
 use Rattle.event_recorders.specs.declared.faults.RunFault.{RunFault}
 use Rattle.event_recorders.specs.declared.faults.RunFault.TheVariants as fault
+use Rattle.actor_steps.specs.declared.reopening.TheConstants.{MAX_REOPENS}
 use Rattle.actor_steps.specs.declared.keeping.Keeping.{Keeping}
 use Rattle.actor_steps.specs.declared.keeping.Keeping.TheVariants as keeping
 use Rattle.event_recorders.specs.OwnLogs.{OwnLog, part_now, kept_in, tried_in, FindsKept, FindsPart, adds, IsAdded}
@@ -24,6 +25,11 @@ run_fault_of book.Full = fault.Book
 run_fault_of book.OtherActor = fault.Book
 run_fault_of book.OtherBook = fault.Book
 run_fault_of (book.NotAStep f) = fault.Book
+
+-- what comes of any other event: its effect, or the fault by which the thread ends
+abbrev pub effect_of : Result Effect BookFault → Result Effect RunFault
+effect_of (Ok done) = Ok done
+effect_of (Err f) = Err (run_fault_of f)
 
 -- What comes of a Take or a Hear: its effect, or nothing where the book says that it is no step; the thread
 -- ends where the book refuses it for another reason.
@@ -49,6 +55,16 @@ IsKeepingFault f = (f ≡ fault.Spent) ⊎ IsBookFault f
 abbrev pub HasFailed : ℕ → ℕ → ℕ → Type 0
 HasFailed times before now = (before + times ≤ now) ⊎ (most_failures ≤ now)
 
+-- Why no reopen found anything, after so many that failed: there may be no more (911), or memory was refused
+-- (914).
+abbrev pub EndsReopening : RunFault → ℕ → Type 0
+EndsReopening fault.NotReopened failed = failed ≡ MAX_REOPENS
+EndsReopening fault.Memory failed = failed < MAX_REOPENS
+EndsReopening fault.TooFewNodes failed = ⊥
+EndsReopening fault.GaveUp failed = ⊥
+EndsReopening fault.Book failed = ⊥
+EndsReopening fault.Spent failed = ⊥
+
 -- a reopen failed: nothing new is found, and the device has failed so many times more
 pub record HasNotReopened (times : ℕ) (before now : List (List ℕ)) (count count' : ℕ) : Type 0 where
   pub found : FindsOnly before now
@@ -67,14 +83,17 @@ pub record HasFound (bytes : List ℕ) (l : OwnLog) (strings : List (List ℕ)) 
   pub free : stuck ≡ false
   pub finds : FindsPart (part_now l) strings
 
--- the device failed in a keep of these bytes: a restart finds them, or what it could find before
-pub record HasFailedPut (bytes : List ℕ) (before now : List (List ℕ)) : Type 0 where
+-- The device failed in a keep of these bytes, which it has counted: a restart finds them, or what it could
+-- find before, and the record is stuck.
+pub record HasFailedPut (bytes : List ℕ) (before now : List (List ℕ)) (stuck : Bool) (count count' : ℕ) : Type 0 where
   pub only : FindsOnlyOr before bytes now
+  pub is_stuck : stuck ≡ true
+  pub counted : HasFailed 1 count count'
 
 -- What came of a keep: a restart finds just these bytes, and the record isn't stuck; or the device failed.
-abbrev pub IsPut : Keeping → List ℕ → List (List ℕ) → List (List ℕ) → Bool → Type 0
-IsPut keeping.Kept bytes before now stuck = (now ≡ bytes ∷ []) × (stuck ≡ false)
-IsPut keeping.Failed bytes before now stuck = HasFailedPut bytes before now
+abbrev pub IsPut : Keeping → List ℕ → List (List ℕ) → List (List ℕ) → Bool → ℕ → ℕ → Type 0
+IsPut keeping.Kept bytes before now stuck count count' = (now ≡ bytes ∷ []) × (stuck ≡ false)
+IsPut keeping.Failed bytes before now stuck count count' = HasFailedPut bytes before now stuck count count'
 
 -- the actor tried, and has kept
 pub record IsKept (l : OwnLog) (who : Actor) (l' : OwnLog) : Type 0 where

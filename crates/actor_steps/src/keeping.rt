@@ -4,7 +4,8 @@ ghost use Rattle.std.specs.Prelude.{◌≡◌, ◌≤◌, ◌⊎◌, ◌↔◌, 
 ghost use Rattle.world_model.specs.Parts.{own_refusal, after_own};
 ghost use Rattle.event_recorders.specs.OwnLogs.{part_now, FindsPart, IsAdded, tried_in};
 ghost use Rattle.stable_record.specs.declared.formats.TheConstants.{MAX_RECORD_LEN};
-ghost use Rattle.actor_steps.specs.Steps.{HasFound, IsKept, IsKeepingFault, IsBookFault, IsTrying, IsPut};
+ghost use Rattle.actor_steps.specs.Steps.{HasFound, HasFailed, IsKept, IsKeepingFault, IsBookFault, IsTrying, IsPut};
+ghost use Rattle.actor_steps.specs.Endings.{falls_of, EndsFrom};
 
 use crate::logging::log_own;
 use event_recorders::{Gate, Recorder, RunFault};
@@ -62,14 +63,16 @@ fn log_kept<R: Recorder>(
     Ok(())
 }
 
-/// Keeps the bytes in a record that isn't stuck. The errors: no change of the record can be numbered any
-/// more (916), exactly where it is so, or memory was refused (914).
+/// Keeps the bytes in a record that isn't stuck. The errors, which leave the record as it was: no change of
+/// it can be numbered any more (916), exactly where it is so, or memory was refused (914).
 fn put(bytes: &[u8], stable: &mut dyn StableRecord) -> Result<Keeping, RunFault>
     requires fits { length bytes.now ≤ MAX_RECORD_LEN }
     requires free { stuck_of stable.old ≡ false }
-    ensures put { IfOk result (λ keeping. IsPut keeping bytes.now (finds stable.old) (finds stable.new) (stuck_of stable.new)) }
+    ensures put { IfOk result (λ keeping. IsPut keeping bytes.now (finds stable.old) (finds stable.new) (stuck_of stable.new) (failures_of stable.old) (failures_of stable.new)) }
     ensures refused { IfErr result (λ fault. (fault ≡ RunFault.Spent) ⊎ (fault ≡ RunFault.Memory)) }
     ensures spent { (result ≡ Err RunFault.Spent) ↔ (spent_of stable.old ≡ true) }
+    ensures unchanged { IfErr result (λ fault. (finds stable.new ≡ finds stable.old) × (stuck_of stable.new ≡ false) × (spent_of stable.new ≡ spent_of stable.old) × (failures_of stable.new ≡ failures_of stable.old)) }
+    ensures count { HasFailed 0 (failures_of stable.old) (failures_of stable.new) }
 {
     match stable.keep(bytes) {
         Ok(()) => Ok(Keeping::Kept),
@@ -87,7 +90,8 @@ fn put(bytes: &[u8], stable: &mut dyn StableRecord) -> Result<Keeping, RunFault>
 /// keep, at most `MAX_RECORD_LEN`, that a restart finds in the record what the actor keeps, and that the
 /// record isn't stuck. The errors log nothing but, perhaps, the Try and, where the book refuses the Kept,
 /// no more: memory was refused (914), the book is full or another's (915), no change of the record can be
-/// numbered any more (916, which comes only where that is so).
+/// numbered any more (916, which comes only where that is so). A failure of the device is told by none of
+/// them: the record isn't stuck then.
 #[tactic(auto, using(crate::proofs::StepFacts::both_kept, crate::proofs::StepFacts::still_added, crate::proofs::StepFacts::failed_finds))]
 pub fn keep_next<R: Recorder, G: Gate>(
     actor: Actor,
@@ -106,6 +110,12 @@ pub fn keep_next<R: Recorder, G: Gate>(
     ensures failed { result ≡ Ok Keeping.Failed → IsAdded (R.own_log recorder.old) (Event.Try actor) Effect.Tried (R.own_log recorder.new) × FindsPart (part_now (R.own_log recorder.new)) (finds stable.new) }
     ensures refused { IfErr result (λ fault. IsKeepingFault fault × ((R.own_log recorder.new ≡ R.own_log recorder.old) ⊎ IsAdded (R.own_log recorder.old) (Event.Try actor) Effect.Tried (R.own_log recorder.new))) }
     ensures spent { result ≡ Err RunFault.Spent → spent_of stable.old ≡ true }
+    // The device failed in this call, or its count stands at the greatest.
+    ensures device { result ≡ Ok Keeping.Failed → HasFailed 1 (failures_of stable.old) (failures_of stable.new) }
+    ensures free { IfErr result (λ fault. stuck_of stable.new ≡ false) }
+    ensures ended { IfErr result (λ fault. EndsFrom fault (falls_of (R.own_log recorder.old)) (R.own_log recorder.new) (stuck_of stable.new) (spent_of stable.new) (failures_of stable.old) (failures_of stable.new)) }
+    ensures falls { falls_of (R.own_log recorder.new) ≡ falls_of (R.own_log recorder.old) }
+    ensures count { HasFailed 0 (failures_of stable.old) (failures_of stable.new) }
 {
     let actor = &actor;
     log_try(*actor, bytes, &*stable, recorder)?;

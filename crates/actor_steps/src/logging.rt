@@ -3,7 +3,8 @@
 ghost use Rattle.std.specs.Prelude.{◌≡◌, true, false, None, OnOk, IfOk, IfErr, IfSome, IfNone};
 ghost use Rattle.world_model.specs.Parts.{is_own, own_refusal};
 ghost use Rattle.event_recorders.specs.OwnLogs.{part_now, FindsPart, FindsAfter, IsAdded, reads, changes_record};
-ghost use Rattle.actor_steps.specs.Steps.{run_fault_of, reading_of, IsBookFault};
+ghost use Rattle.actor_steps.specs.Steps.{run_fault_of, effect_of, reading_of, IsBookFault};
+ghost use Rattle.actor_steps.specs.Endings.{is_fall, falls_of};
 
 use event_recorders::laws::own_logs_tell_parts;
 use event_recorders::{Recorder, RunFault};
@@ -23,6 +24,16 @@ pub fn run_fault_of(fault: BookFault) -> RunFault
     }
 }
 
+/// What came of an event that reads no message: its effect, or the fault of the thread.
+fn effect_of(logged: Result<Effect, BookFault>) -> Result<Effect, RunFault>
+    ensures { result ≡ effect_of logged }
+{
+    match logged {
+        Ok(effect) => Ok(effect),
+        Err(fault) => Err(run_fault_of(fault)),
+    }
+}
+
 /// Logs an event that reads no message.
 pub(crate) fn log_own<R: Recorder>(
     recorder: &mut R,
@@ -36,10 +47,7 @@ pub(crate) fn log_own<R: Recorder>(
     ensures logged { IfOk result (λ done. IsAdded (R.own_log recorder.old) event done (R.own_log recorder.new)) }
     ensures refused { IfErr result (λ fault. IsBookFault fault × (R.own_log recorder.new ≡ R.own_log recorder.old)) }
 {
-    match recorder.log(event, stable) {
-        Ok(effect) => Ok(effect),
-        Err(fault) => Err(run_fault_of(fault)),
-    }
+    effect_of(recorder.log(event, stable))
 }
 
 /// Logs an event that neither reads a message nor changes what the actor keeps or tries to keep: a
@@ -61,6 +69,7 @@ pub fn log_plain<R: Recorder>(
     ensures logged { IfOk result (λ done. IsAdded (R.own_log recorder.old) event done (R.own_log recorder.new)) }
     ensures found { OnOk result (FindsPart (part_now (R.own_log recorder.new)) (finds stable.now)) }
     ensures refused { IfErr result (λ fault. IsBookFault fault × (R.own_log recorder.new ≡ R.own_log recorder.old)) }
+    ensures falls { is_fall event ≡ false → falls_of (R.own_log recorder.new) ≡ falls_of (R.own_log recorder.old) }
 {
     own_logs_tell_parts();
     log_own(recorder, event, stable)
@@ -96,6 +105,7 @@ pub fn log_reading<R: Recorder>(
     ensures dropped { IfOk result (λ o. IfNone o (R.own_log recorder.new ≡ R.own_log recorder.old)) }
     ensures found { OnOk result (FindsPart (part_now (R.own_log recorder.new)) (finds stable.now)) }
     ensures refused { IfErr result (λ fault. IsBookFault fault × (R.own_log recorder.new ≡ R.own_log recorder.old)) }
+    ensures falls { falls_of (R.own_log recorder.new) ≡ falls_of (R.own_log recorder.old) }
 {
     own_logs_tell_parts();
     reading_of(recorder.log(event, stable))

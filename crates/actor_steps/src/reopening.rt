@@ -1,7 +1,7 @@
 // Reopening a record whose device may fail.
 
-ghost use Rattle.std.specs.Prelude.{◌≡◌, ◌⊎◌, IfOk, IfErr, IfSome, IfNone, Err};
-ghost use Rattle.actor_steps.specs.Steps.{HasFailed, HasNotReopened, IsReopened};
+ghost use Rattle.std.specs.Prelude.{◌≡◌, ◌+◌, ◌<◌, OnOk, IfOk, IfErr, IfSome, IfNone};
+ghost use Rattle.actor_steps.specs.Steps.{HasFailed, HasNotReopened, IsReopened, EndsReopening};
 
 use event_recorders::RunFault;
 use stable_record::{RecordFault, StableRecord};
@@ -9,30 +9,40 @@ use stable_record::{RecordFault, StableRecord};
 /// How many reopens of a record fail in a row before its actor gives up.
 pub const MAX_REOPENS: u8 = 3;
 
-/// What one reopen finds; `None` where the device failed.
-fn reopen_once(stable: &mut dyn StableRecord) -> Result<Option<Vec<u8>>, RunFault>
-    ensures found { IfOk result (λ o. IfSome o (λ bytes. IsReopened bytes.items (finds stable.old) (finds stable.new) (stuck_of stable.new))) }
-    ensures failed { IfOk result (λ o. IfNone o (HasNotReopened 1 (finds stable.old) (finds stable.new) (failures_of stable.old) (failures_of stable.new))) }
-    ensures memory { IfErr result (λ fault. fault ≡ RunFault.Memory) }
+/// What one reopen finds; `None` where the device failed, which is counted. 914: memory was refused, and
+/// nothing has changed.
+fn reopen_once(stable: &mut dyn StableRecord, failed: &mut u8) -> Result<Option<Vec<u8>>, RunFault>
+    requires { failed.old < MAX_REOPENS }
+    ensures found { IfOk result (λ o. IfSome o (λ bytes. IsReopened bytes.items (finds stable.old) (finds stable.new) (stuck_of stable.new) × (failed.new ≡ failed.old))) }
+    ensures failed { IfOk result (λ o. IfNone o (HasNotReopened 1 (finds stable.old) (finds stable.new) (failures_of stable.old) (failures_of stable.new) × (failed.new ≡ failed.old + 1))) }
+    ensures memory { IfErr result (λ fault. (fault ≡ RunFault.Memory) × (failed.new ≡ failed.old)) }
+    ensures unchanged { IfErr result (λ fault. (finds stable.new ≡ finds stable.old) × (stuck_of stable.new ≡ stuck_of stable.old) × (failures_of stable.new ≡ failures_of stable.old)) }
+    ensures count { HasFailed 0 (failures_of stable.old) (failures_of stable.new) }
 {
     match stable.reopen() {
         Ok(bytes) => Ok(Some(bytes)),
-        Err(RecordFault::Device) => Ok(None),
+        Err(RecordFault::Device) => {
+            *failed += 1;
+            Ok(None)
+        }
         Err(RecordFault::Memory) => Err(RunFault::Memory),
         Err(_) => unreachable!(),
     }
 }
 
-/// What the record finds; it is reopened up to `MAX_REOPENS` times while its device fails.
+/// What the record finds; it is reopened up to `MAX_REOPENS` times while its device fails. Counts the
+/// reopens that failed.
 ///
-/// The errors: the device failed each time (911), or memory was refused (914).
-pub(crate) fn reopened(stable: &mut dyn StableRecord) -> Result<Vec<u8>, RunFault>
+/// The errors: each of them failed (911), or memory was refused before (914).
+pub(crate) fn reopened(stable: &mut dyn StableRecord, failed: &mut u8) -> Result<Vec<u8>, RunFault>
+    requires { failed.old ≡ 0 }
     ensures found { IfOk result (λ bytes. IsReopened bytes.items (finds stable.old) (finds stable.new) (stuck_of stable.new)) }
-    ensures failed { result ≡ Err RunFault.NotReopened → HasFailed MAX_REOPENS (failures_of stable.old) (failures_of stable.new) }
-    ensures faults { IfErr result (λ fault. (fault ≡ RunFault.NotReopened) ⊎ (fault ≡ RunFault.Memory)) }
+    ensures few { OnOk result (failed.new < MAX_REOPENS) }
+    ensures ended { IfErr result (λ fault. EndsReopening fault failed.new) }
+    ensures failed { HasFailed failed.new (failures_of stable.old) (failures_of stable.new) }
 {
-    for _ in 0..MAX_REOPENS {
-        let found = reopen_once(stable)?;
+    while *failed < MAX_REOPENS {
+        let found = reopen_once(stable, failed)?;
         match found {
             Some(bytes) => return Ok(bytes),
             None => {}

@@ -1,10 +1,11 @@
 // Rising with what a record finds.
 
-ghost use Rattle.std.specs.Prelude.{◌≡◌, ◌⊎◌, ◌↔◌, false, None, Some, OnOk, IfOk, IfErr, Err, [], ◌∷◌};
+ghost use Rattle.std.specs.Prelude.{◌≡◌, ◌+◌, ◌≤◌, ◌⊎◌, ◌↔◌, false, None, Some, OnOk, IfOk, IfErr, Err, [], ◌∷◌};
 ghost use Rattle.world_model.specs.Parts.{own_refusal};
 ghost use Rattle.world_model.specs.declared.events.Age.{Age as AgeValue};
 ghost use Rattle.event_recorders.specs.OwnLogs.{part_now, FindsPart, IsAdded, IsUnused, tried_in};
 ghost use Rattle.actor_steps.specs.Steps.{HasFound, IsBookFault, IsRiseFault, IsRisenAgain, HasFailed, IsRising, IsFallen};
+ghost use Rattle.actor_steps.specs.Endings.{falls_of, EndsFrom};
 
 use crate::logging::log_own;
 use crate::reopening::{MAX_REOPENS, reopened};
@@ -73,8 +74,12 @@ pub fn rise_first<R: Recorder>(
     ensures found { IfOk result (λ bytes. HasFound bytes.items (R.own_log recorder.new) (finds stable.new) (stuck_of stable.new)) }
     ensures refused { IfErr result (λ fault. IsRiseFault fault × (R.own_log recorder.new ≡ R.own_log recorder.old)) }
     ensures failed { result ≡ Err RunFault.NotReopened → HasFailed MAX_REOPENS (failures_of stable.old) (failures_of stable.new) }
+    ensures ended { IfErr result (λ fault. EndsFrom fault (falls_of (R.own_log recorder.old)) (R.own_log recorder.new) (stuck_of stable.new) (spent_of stable.new) (failures_of stable.old) (failures_of stable.new)) }
+    ensures falls { falls_of (R.own_log recorder.new) ≡ falls_of (R.own_log recorder.old) }
+    ensures count { HasFailed 0 (failures_of stable.old) (failures_of stable.new) }
 {
-    let bytes = reopened(stable)?;
+    let mut failed = 0;
+    let bytes = reopened(stable, &mut failed)?;
     log_rise(actor, Age::Old, bytes.as_slice(), &*stable, recorder)?;
     Ok(bytes)
 }
@@ -109,10 +114,14 @@ pub fn rise_again<R: Recorder>(
     ensures found { IfOk result (λ bytes. HasFound bytes.items (R.own_log recorder.new) (finds stable.new) (stuck_of stable.new)) }
     ensures refused { IfErr result (λ fault. IsRiseFault fault × ((R.own_log recorder.new ≡ R.own_log recorder.old) ⊎ IsAdded (R.own_log recorder.old) (Event.Fall actor) Effect.Down (R.own_log recorder.new))) }
     ensures failed { result ≡ Err RunFault.NotReopened → HasFailed MAX_REOPENS (failures_of stable.old) (failures_of stable.new) }
+    ensures ended { IfErr result (λ fault. EndsFrom fault (falls_of (R.own_log recorder.old) + 1) (R.own_log recorder.new) (stuck_of stable.new) (spent_of stable.new) (failures_of stable.old) (failures_of stable.new)) }
+    ensures falls { falls_of (R.own_log recorder.new) ≤ falls_of (R.own_log recorder.old) + 1 }
+    ensures count { HasFailed 0 (failures_of stable.old) (failures_of stable.new) }
 {
     let actor = &actor;
     log_fall(*actor, tried, &*stable, recorder)?;
-    let bytes = reopened(stable)?;
+    let mut failed = 0;
+    let bytes = reopened(stable, &mut failed)?;
     let age = age_of(bytes.as_slice(), tried);
     log_rise(*actor, age, bytes.as_slice(), &*stable, recorder)?;
     Ok(bytes)

@@ -17,7 +17,7 @@ use Rattle.world_model.specs.Locality.{local_part}
 use Rattle.world_model.specs.Parts.{Part, NodePart, after_own}
 use Rattle.world_actors.specs.Nodes.{station_in}
 use Rattle.event_recorders.specs.OwnLogs.{OwnLog, part_now, IsAdded, kept_in}
-use Rattle.node_loop.specs.Standing.{StandsIdle, HasFailed, IsReady}
+use Rattle.node_loop.specs.Standing.{StandsIdle, FailsToKeep, IsReady}
 use Rattle.actor_steps.specs.Steps.{HasFound, IsRisenAgain}
 
 -- a node that is up with this record kept, idle
@@ -30,7 +30,7 @@ record IsUpWith (p : Problem) (q : Part) (r : NodeRecord) : Type 0 where
   pub problem : r.policy ≡ p
   pub part : q ≡ NodePart (idle_with r)
 
-risen_with : (l l' : OwnLog) (v : Voter) (before : NodeRecord) (tried : List ℕ) (strings : List (List ℕ)) (age : Age) → HasFailed l v before tried strings →
+risen_with : (l l' : OwnLog) (v : Voter) (before : NodeRecord) (tried : List ℕ) (strings : List (List ℕ)) (age : Age) → FailsToKeep l v before tried strings →
     IsRisenAgain l (actor.Node v.node) age l' → (r : NodeRecord) × IsUpWith v.problem (part_now l') r
 risen_with l l' v before tried strings Old s again = (
   before,
@@ -82,7 +82,7 @@ first_up l l' n kept p strings s added = record {
 
 -- rising again: the core that restarts with what was found
 pub restarts : (l l' : OwnLog) (v v' : Voter) (n : ℕ) (before : NodeRecord) (tried : List ℕ) (strings strings' : List (List ℕ)) (stuck : Bool) (age : Age) (found bytes : List ℕ) (r : NodeRecord) →
-    OneSpelling → n ≡ v.node → HasFailed l v before tried strings → IsRisenAgain l (actor.Node n) age l' → HasFound found l' strings' stuck → bytes ≡ found →
+    OneSpelling → n ≡ v.node → FailsToKeep l v before tried strings → IsRisenAgain l (actor.Node n) age l' → HasFound found l' strings' stuck → bytes ≡ found →
     IsRecordOf v.problem bytes r → v' ≡ risen v.node r → StandsIdle l' v' strings' stuck
 restarts l l' v v' n before tried strings strings' stuck age found bytes r law number failed again here read is core =
     let again' : IsRisenAgain l (actor.Node v.node) age l' = subst (λ (k : ℕ). IsRisenAgain l (actor.Node k) age l') number again in
@@ -92,7 +92,7 @@ restarts l l' v v' n before tried strings strings' stuck age found bytes r law n
 
 -- what is found after a fall is a record of the problem
 pub finds_record : (l l' : OwnLog) (v : Voter) (n : ℕ) (before : NodeRecord) (tried : List ℕ) (strings strings' : List (List ℕ)) (stuck : Bool) (age : Age) (found bytes : List ℕ) →
-    n ≡ v.node → HasFailed l v before tried strings → IsRisenAgain l (actor.Node n) age l' → HasFound found l' strings' stuck → bytes ≡ found → (r : NodeRecord) × IsRecordOf v.problem bytes r
+    n ≡ v.node → FailsToKeep l v before tried strings → IsRisenAgain l (actor.Node n) age l' → HasFound found l' strings' stuck → bytes ≡ found → (r : NodeRecord) × IsRecordOf v.problem bytes r
 finds_record l l' v n before tried strings strings' stuck age found bytes number failed again here read =
     let again' : IsRisenAgain l (actor.Node v.node) age l' = subst (λ (k : ℕ). IsRisenAgain l (actor.Node k) age l') number again in
     let up = risen_with l l' v before tried strings age failed again' in

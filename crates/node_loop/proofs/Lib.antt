@@ -1,3 +1,4 @@
+pub mod EndFacts
 pub mod KeepFacts
 pub mod SendFacts
 pub mod SentFacts

@@ -45,7 +45,7 @@ HasKept keeping.Kept l core strings stuck = StandsBy (Stored (replies_in core.st
 HasKept keeping.Failed l core strings stuck = StandsIdle l core strings stuck
 
 -- The node tries to keep what it decided, and a restart finds that or what it had kept before.
-pub record HasFailed (l : OwnLog) (core : Voter) (before : NodeRecord) (tried : List ℕ) (strings : List (List ℕ)) : Type 0 where
+pub record FailsToKeep (l : OwnLog) (core : Voter) (before : NodeRecord) (tried : List ℕ) (strings : List (List ℕ)) : Type 0 where
   pub actor : l.actor ≡ actor.Node core.node
   pub part : part_now l ≡ NodePart (record { kept = station_in before; tried = Some (station_in (record_of core)); phase = node.Decided (station_in (record_of core)) (replies_in core.state) })
   pub good : IsNodeRecord before

@@ -1,13 +1,15 @@
 // A node's turn: from a parcel to the replies.
 
-ghost use Rattle.std.specs.Prelude.{◌≡◌, [], ◌∷◌, ◌++◌, IfOk, IfErr, IfSome, IfNone, OnOk};
+ghost use Rattle.std.specs.Prelude.{◌≡◌, [], ◌∷◌, ◌++◌, ◌+◌, IfOk, IfErr, IfSome, IfNone, OnOk, IsOkUnless};
 ghost use Rattle.stable_record.specs.declared.node_records.NodeRecord.{NodeRecord};
 ghost use Rattle.voter_core.specs.Voters.{Idle, Decided, Stored, record_of, replies_in};
 ghost use Rattle.lossy_link.specs.Links.{one_more};
 ghost use Rattle.lossy_link.specs.declared.parcels.Post.{Post as PostValue};
 ghost use Rattle.lossy_link.specs.declared.parcels.Sending.{Sending as SendingValue};
 ghost use Rattle.node_loop.specs.Replies.{sent_of, SentFollows, IsSentIn};
-ghost use Rattle.node_loop.specs.Standing.{StandsBy, StandsIdle, HasTaken, HasKept, HasFailed, IsNodeFault};
+ghost use Rattle.node_loop.specs.Standing.{StandsBy, StandsIdle, HasTaken, HasKept, FailsToKeep, IsNodeFault};
+ghost use Rattle.actor_steps.specs.Steps.{IsBookFault};
+ghost use Rattle.actor_steps.specs.Endings.{falls_of, FailuresFollow, EndsFrom};
 
 use crate::replies::send_all;
 use actor_steps::{Keeping, keep_next, log_plain, log_reading, rise_again};
@@ -35,7 +37,8 @@ fn take<R: Recorder>(
     ensures dropped { IfOk result (λ o. IfNone o ((core.new ≡ core.old) × (R.own_log recorder.new ≡ R.own_log recorder.old))) }
     ensures taken { IfOk result (λ o. IfSome o (λ changed. HasTaken changed (R.own_log recorder.new) core.new (record_of core.old) (finds stable.now) (stuck_of stable.now))) }
     ensures silent { OnOk result (sent_of (R.own_log recorder.new) ≡ sent_of (R.own_log recorder.old)) }
-    ensures faults { IfErr result IsNodeFault }
+    ensures faults { IfErr result IsBookFault }
+    ensures falls { falls_of (R.own_log recorder.new) ≡ falls_of (R.own_log recorder.old) }
 {
     let event = Event::Take(core.node(), number);
     let Some(done) = log_reading(recorder, event, stable)? else {
@@ -53,7 +56,7 @@ fn take<R: Recorder>(
 
 /// Keeps what the node decided. Where the record's device fails, the node falls and rises again with
 /// what is found.
-#[tactic(auto, using(crate::proofs::SentFacts::keeping_sends_nothing, crate::proofs::SentFacts::trying_sends_nothing))]
+#[tactic(auto, using(crate::proofs::SentFacts::keeping_sends_nothing, crate::proofs::SentFacts::trying_sends_nothing, crate::proofs::EndFacts::failures_stay, crate::proofs::EndFacts::failures_rise, crate::proofs::EndFacts::failures_on))]
 fn keep<R: Recorder, G: Gate>(
     alloc: Global,
     core: &mut NodeCore,
@@ -65,6 +68,8 @@ fn keep<R: Recorder, G: Gate>(
     ensures sent { IfOk result (λ keeping. IsSentIn keeping core.new.node (R.own_log recorder.old) (R.own_log recorder.new)) }
     ensures kept { IfOk result (λ keeping. HasKept keeping (R.own_log recorder.new) core.new (finds stable.new) (stuck_of stable.new)) }
     ensures faults { IfErr result IsNodeFault }
+    ensures ended { IfErr result (λ fault. EndsFrom fault (falls_of (R.own_log recorder.old)) (R.own_log recorder.new) (stuck_of stable.new) (spent_of stable.new) (failures_of stable.old) (failures_of stable.new)) }
+    ensures falls { FailuresFollow (falls_of (R.own_log recorder.old)) (falls_of (R.own_log recorder.new)) (failures_of stable.old) (failures_of stable.new) }
 {
     let Ok(bytes) = core.next_bytes(alloc) else {
         return Err(RunFault::Memory);
@@ -73,12 +78,16 @@ fn keep<R: Recorder, G: Gate>(
     // What the core hands out is a record that can be kept: so its bytes fit, and can be read again.
     let _station = core.record();
     let actor = Actor::Node(core.node());
-    let keeping = keep_next(actor, &bytes, stable, recorder, gate)?;
-    match keeping {
-        Keeping::Kept => core.kept(),
-        Keeping::Failed => restart(&bytes, core, stable, recorder)?,
+    match keep_next(actor, &bytes, stable, recorder, gate)? {
+        Keeping::Kept => {
+            core.kept();
+            Ok(Keeping::Kept)
+        }
+        Keeping::Failed => {
+            restart(&bytes, core, stable, recorder)?;
+            Ok(Keeping::Failed)
+        }
     }
-    Ok(keeping)
 }
 
 /// The node falls, and rises again with what its record is found to be.
@@ -88,10 +97,12 @@ fn restart<R: Recorder>(
     stable: &mut dyn StableRecord,
     recorder: &mut R,
 ) -> Result<(), RunFault>
-    requires { (before : NodeRecord) × HasFailed (R.own_log recorder.old) core.old before tried.now (finds stable.old) }
+    requires { (before : NodeRecord) × FailsToKeep (R.own_log recorder.old) core.old before tried.now (finds stable.old) }
     ensures idle { OnOk result (StandsIdle (R.own_log recorder.new) core.new (finds stable.new) (stuck_of stable.new)) }
     ensures sent { OnOk result (sent_of (R.own_log recorder.new) ≡ sent_of (R.own_log recorder.old) ++ SendingValue.Told (PostValue.Nudge core.new.node) ∷ []) }
     ensures faults { IfErr result IsNodeFault }
+    ensures ended { IfErr result (λ fault. EndsFrom fault (falls_of (R.own_log recorder.old) + 1) (R.own_log recorder.new) (stuck_of stable.new) (spent_of stable.new) (failures_of stable.old) (failures_of stable.new)) }
+    ensures falls { FailuresFollow (falls_of (R.own_log recorder.old) + 1) (falls_of (R.own_log recorder.new)) (failures_of stable.old) (failures_of stable.new) }
 {
     one_spelling();
     let found = rise_again(Actor::Node(core.node()), tried, stable, recorder)?;
@@ -114,7 +125,8 @@ fn say<R: Recorder, L: Link>(
     requires { StandsBy (Stored (replies_in core.old.state)) (R.own_log recorder.old) core.old (record_of core.old) (finds stable.now) (stuck_of stable.now) }
     ensures idle { OnOk result (StandsIdle (R.own_log recorder.new) core.new (finds stable.now) (stuck_of stable.now)) }
     ensures sent { OnOk result (SentFollows (R.own_log recorder.old) (R.own_log recorder.new) (L.given link.old) (L.given link.new)) }
-    ensures faults { IfErr result IsNodeFault }
+    ensures faults { IfErr result IsBookFault }
+    ensures falls { falls_of (R.own_log recorder.new) ≡ falls_of (R.own_log recorder.old) }
 {
     let done = log_plain(recorder, Event::Say(core.node()), stable)?;
     let Effect::Said { first, .. } = done else {
@@ -127,7 +139,7 @@ fn say<R: Recorder, L: Link>(
 /// Tells every client that it should ask the node again, since replies are lost.
 fn tell_lost<L: Link>(node: NodeId, link: &mut L) -> Result<(), RunFault>
     ensures told { OnOk result (L.given link.new ≡ one_more (L.given link.old) (SendingValue.Told (PostValue.Nudge node))) }
-    ensures faults { IfErr result IsNodeFault }
+    ensures memory { IsOkUnless result RunFault.Memory }
 {
     if link.tell_all(Post::Nudge(node)).is_err() {
         return Err(RunFault::Memory);
@@ -136,7 +148,7 @@ fn tell_lost<L: Link>(node: NodeId, link: &mut L) -> Result<(), RunFault>
 }
 
 /// A turn: takes the message of the number, keeps what it changes, and sends the replies.
-#[tactic(auto, using(crate::proofs::SentFacts::follows_none, crate::proofs::SentFacts::follows_from, crate::proofs::SentFacts::nudge_follows))]
+#[tactic(auto, using(crate::proofs::SentFacts::follows_none, crate::proofs::SentFacts::follows_from, crate::proofs::SentFacts::nudge_follows, crate::proofs::EndFacts::failures_stay, crate::proofs::EndFacts::failures_on))]
 fn take_turn<R: Recorder, L: Link, G: Gate>(
     alloc: Global,
     number: u32,
@@ -150,6 +162,8 @@ fn take_turn<R: Recorder, L: Link, G: Gate>(
     ensures idle { OnOk result (StandsIdle (R.own_log recorder.new) core.new (finds stable.new) (stuck_of stable.new)) }
     ensures sent { OnOk result (SentFollows (R.own_log recorder.old) (R.own_log recorder.new) (L.given link.old) (L.given link.new)) }
     ensures faults { IfErr result IsNodeFault }
+    ensures ended { IfErr result (λ fault. EndsFrom fault (falls_of (R.own_log recorder.old)) (R.own_log recorder.new) (stuck_of stable.new) (spent_of stable.new) (failures_of stable.old) (failures_of stable.new)) }
+    ensures falls { FailuresFollow (falls_of (R.own_log recorder.old)) (falls_of (R.own_log recorder.new)) (failures_of stable.old) (failures_of stable.new) }
 {
     let Some(changed) = take(number, core, &*stable, recorder)? else {
         return Ok(());
@@ -178,6 +192,8 @@ pub(crate) fn attend<R: Recorder, L: Link, G: Gate>(
     ensures idle { OnOk result (StandsIdle (R.own_log recorder.new) core.new (finds stable.new) (stuck_of stable.new)) }
     ensures sent { OnOk result (SentFollows (R.own_log recorder.old) (R.own_log recorder.new) (L.given link.old) (L.given link.new)) }
     ensures faults { IfErr result IsNodeFault }
+    ensures ended { IfErr result (λ fault. EndsFrom fault (falls_of (R.own_log recorder.old)) (R.own_log recorder.new) (stuck_of stable.new) (spent_of stable.new) (failures_of stable.old) (failures_of stable.new)) }
+    ensures falls { FailuresFollow (falls_of (R.own_log recorder.old)) (falls_of (R.own_log recorder.new)) (failures_of stable.old) (failures_of stable.new) }
 {
     let Post::Parcel(Parcel { number, frame }) = post else {
         return Ok(());

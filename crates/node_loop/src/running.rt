@@ -6,6 +6,8 @@ ghost use Rattle.event_recorders.specs.OwnLogs.{part_now};
 ghost use Rattle.lossy_link.specs.Links.{all_more};
 ghost use Rattle.node_loop.specs.Replies.{sent_of, SentFollows};
 ghost use Rattle.node_loop.specs.Standing.{StandsIdle, IsReady, IsIdleNode, IsAtEnd, IsNodeFault};
+ghost use Rattle.actor_steps.specs.Steps.{HasFailed};
+ghost use Rattle.actor_steps.specs.Endings.{falls_of, FailuresFollow, EndsFrom, EndsBy};
 
 use crate::attending::attend;
 use actor_steps::rise_first;
@@ -31,6 +33,8 @@ fn rise<R: Recorder>(
     ensures idle { IfOk result (λ core. StandsIdle (R.own_log recorder.new) core (finds stable.new) (stuck_of stable.new)) }
     ensures silent { OnOk result (sent_of (R.own_log recorder.new) ≡ []) }
     ensures faults { IfErr result IsNodeFault }
+    ensures ended { IfErr result (λ fault. EndsFrom fault (falls_of (R.own_log recorder.old)) (R.own_log recorder.new) (stuck_of stable.new) (spent_of stable.new) (failures_of stable.old) (failures_of stable.new)) }
+    ensures falls { FailuresFollow (falls_of (R.own_log recorder.old)) (falls_of (R.own_log recorder.new)) (failures_of stable.old) (failures_of stable.new) }
 {
     one_spelling();
     let found = rise_first(Actor::Node(node), stable, recorder)?;
@@ -42,7 +46,7 @@ fn rise<R: Recorder>(
 }
 
 /// Attends to one post after the other, until no more come.
-#[tactic(auto, using(crate::proofs::SentFacts::follows_on, crate::proofs::SentFacts::follows_none))]
+#[tactic(auto, using(crate::proofs::SentFacts::follows_on, crate::proofs::SentFacts::follows_none, crate::proofs::EndFacts::failures_on, crate::proofs::EndFacts::ends_on))]
 fn serve<W: Wait, R: Recorder, L: Link, G: Gate>(
     rt: &W,
     alloc: Global,
@@ -57,6 +61,8 @@ fn serve<W: Wait, R: Recorder, L: Link, G: Gate>(
     ensures sent { OnOk result (SentFollows (R.own_log recorder.old) (R.own_log recorder.new) (L.given link.old) (L.given link.new)) }
     ensures closed { OnOk result (IsAtEnd (L.coming link.new)) }
     ensures faults { IfErr result IsNodeFault }
+    ensures ended { IfErr result (λ fault. EndsFrom fault (falls_of (R.own_log recorder.old)) (R.own_log recorder.new) (stuck_of stable.new) (spent_of stable.new) (failures_of stable.old) (failures_of stable.new)) }
+    ensures falls { FailuresFollow (falls_of (R.own_log recorder.old)) (falls_of (R.own_log recorder.new)) (failures_of stable.old) (failures_of stable.new) }
 {
     for _ in rt.forever() {
         let Ok(post) = link.receive() else {
@@ -84,6 +90,8 @@ fn live<W: Wait, R: Recorder, L: Link, G: Gate>(
     ensures sent { OnOk result (L.given link.new ≡ all_more (L.given link.old) (sent_of (R.own_log recorder.new))) }
     ensures closed { OnOk result (IsAtEnd (L.coming link.new)) }
     ensures faults { IfErr result IsNodeFault }
+    ensures ended { IfErr result (λ fault. EndsBy fault (R.own_log recorder.new) (stuck_of stable.new) (spent_of stable.new) (failures_of stable.old) (failures_of stable.new)) }
+    ensures falls { HasFailed (falls_of (R.own_log recorder.new)) (failures_of stable.old) (failures_of stable.new) }
 {
     let mut core = rise(alloc, node, stable, policy, recorder)?;
     serve(rt, alloc, &mut core, stable, recorder, link, gate)
@@ -110,23 +118,27 @@ pub fn run_node<W: Wait, R: Recorder, L: Link, G: Gate>(
     rt: &W,
     alloc: Global,
     node: NodeId,
-    mut stable: Box<dyn StableRecord + Send>,
+    stable: &mut dyn StableRecord,
     policy: Box<dyn Admission + Send>,
     recorder: &mut R,
     link: &mut L,
     gate: &G,
 ) -> Result<(), RunFault>
-    requires { (kept : NodeRecord) × IsReady (R.own_log recorder.old) node kept (problem_of policy) (finds stable) }
+    requires { (kept : NodeRecord) × IsReady (R.own_log recorder.old) node kept (problem_of policy) (finds stable.old) }
     // All that it took it has answered.
     ensures idle { OnOk result (IsIdleNode (part_now (R.own_log recorder.new))) }
     // What was sent is what its own log tells: its replies, and after each fall its nudge.
     ensures sent { OnOk result (L.given link.new ≡ all_more (L.given link.old) (sent_of (R.own_log recorder.new))) }
     // It ends without a fault only where nothing comes any more.
     ensures closed { OnOk result (IsAtEnd (L.coming link.new)) }
-    // 911, 914, 915 or 916.
+    // Each fall that it logged has a failure of its record's device.
+    ensures falls { HasFailed (falls_of (R.own_log recorder.new)) (failures_of stable.old) (failures_of stable.new) }
+    // 911, 914, 915 or 916,
     ensures faults { IfErr result IsNodeFault }
+    // each only where its log and its record tell the cause.
+    ensures ended { IfErr result (λ fault. EndsBy fault (R.own_log recorder.new) (stuck_of stable.new) (spent_of stable.new) (failures_of stable.old) (failures_of stable.new)) }
 {
-    let ended = live(rt, alloc, node, &mut *stable, policy, recorder, link, gate);
+    let ended = live(rt, alloc, node, stable, policy, recorder, link, gate);
     if ended.is_err() {
         let _ = link.tell_all(Post::Gone(node));
     }
