@@ -1,3 +1,5 @@
 pub mod Actors
 pub mod Conditions
+pub mod Ends
+pub mod Faults
 pub mod Tasks

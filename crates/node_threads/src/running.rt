@@ -10,9 +10,11 @@ ghost use Rattle.world_machine.specs.Listing.{has_actor};
 ghost use Rattle.world_model.specs.Forgetting.{IsSound};
 ghost use Rattle.world_model.specs.Locality.{IsHistory};
 ghost use Rattle.node_threads.specs.Conditions.{MayRun};
+ghost use Rattle.node_threads.specs.Faults.{AreFaults};
 ghost use Rattle.node_threads.specs.Tasks.{IsNodeTask, IsClientTask, own_wishes};
 
 use crate::berths::{client_tasks, node_tasks};
+use crate::ends::faults_of;
 use crate::runs::opened;
 use crate::tasks::{ClientTask, NodeTask};
 use admission_policy::Admission;
@@ -178,6 +180,8 @@ pub fn run_all<R: Threads + Wait + Copy + Send, G: Gate + Sync>(
     ensures opening { IfOk result (λ end. end.book.opening ≡ world) }
     ensures history { IfOk result (λ end. IsHistory world end.book.history end.book.world) }
     ensures entered { IfOk result (λ end. end.entered ≡ enters end.book.history) }
+    // Each actor that ended by a fault is told once, in order, with a fault that it may have.
+    ensures faults { IfOk result (λ end. AreFaults world end.faults.items) }
     ensures err { IfErr result (λ f. f ≡ RunFault.Memory) }
 {
     world.soundness();
@@ -196,7 +200,10 @@ pub fn run_all<R: Threads + Wait + Copy + Send, G: Gate + Sync>(
         rt, alloc, shared, nodes, clients, gate,
     );
     let SharedBook { book } = shared;
-    let Ok(faults) = ended else {
+    let Ok(ends) = ended else {
+        return Err(RunFault::Memory);
+    };
+    let Ok(faults) = faults_of(alloc, &ends) else {
         return Err(RunFault::Memory);
     };
     book.standing();

@@ -1,15 +1,16 @@
 // A run, from the world to the end of its threads.
 
-ghost use Rattle.std.specs.Prelude.{◌≡◌, IfErr, All};
+ghost use Rattle.std.specs.Prelude.{◌≡◌, map, All, IfOk, IfErr};
+ghost use Rattle.node_threads.specs.Ends.{AreNodeEnds, AreClientEnds, with_wishes};
 ghost use Rattle.node_threads.specs.Tasks.{IsNodeTask, IsClientTask};
 
+use crate::ends::Ends;
 use crate::opened::Opened;
 use crate::tasks::{ClientTask, NodeTask};
 use crate::threads::run_threads;
 use berth_seats::OpenedWith;
 use book_recorders::{BookName, Logs, Named};
 use event_recorders::{Gate, RunFault};
-use lock_messages::Actor;
 use std::alloc::Global;
 use std::marker::Brand;
 use std::sync::{Mutex, Wait};
@@ -23,11 +24,13 @@ fn named<B: BookName + Send, K: Logs + Send, R: Threads + Wait + Copy + Send, G:
     nodes: Vec<NodeTask<R>>,
     clients: Vec<ClientTask<R>>,
     gate: &G,
-) -> (K, Result<Vec<(Actor, RunFault)>, RunFault>)
+) -> (K, Result<Ends, RunFault>)
     requires table { (K.book book).table ≡ B.table }
     requires nodes { All (λ task. IsNodeTask B.table task.node task.berth (problem_of task.policy) (finds task.stable)) nodes.items }
     requires clients { All (λ task. IsClientTask B.table task.client task.ballot task.wishes.items task.berth (finds task.stable)) clients.items }
-    ensures { IfErr result.1 (λ f. f ≡ RunFault.Memory) }
+    ensures nodes { IfOk result.1 (λ ends. AreNodeEnds (map (λ t. t.node) nodes.items) ends.nodes.items) }
+    ensures clients { IfOk result.1 (λ ends. AreClientEnds (map (λ t. with_wishes t.client t.wishes.items) clients.items) ends.clients.items) }
+    ensures err { IfErr result.1 (λ f. f ≡ RunFault.Memory) }
 {
     let lock = Mutex::new(Named::<B, K>::of(book));
     let ended = run_threads(rt, alloc, nodes, clients, &lock, gate);
@@ -47,11 +50,13 @@ pub(crate) fn opened<
     nodes: Vec<NodeTask<R>>,
     clients: Vec<ClientTask<R>>,
     gate: &G,
-) -> (K, Result<Vec<(Actor, RunFault)>, RunFault>)
+) -> (K, Result<Ends, RunFault>)
     requires opening { (K.book book).opening ≡ O.world }
     requires nodes { All (λ task. IsNodeTask (K.book book).table task.node task.berth (problem_of task.policy) (finds task.stable)) nodes.items }
     requires clients { All (λ task. IsClientTask (K.book book).table task.client task.ballot task.wishes.items task.berth (finds task.stable)) clients.items }
     ensures opening { (K.book result.0).opening ≡ O.world }
+    ensures nodes { IfOk result.1 (λ ends. AreNodeEnds (map (λ t. t.node) nodes.items) ends.nodes.items) }
+    ensures clients { IfOk result.1 (λ ends. AreClientEnds (map (λ t. with_wishes t.client t.wishes.items) clients.items) ends.clients.items) }
     ensures err { IfErr result.1 (λ f. f ≡ RunFault.Memory) }
 {
     let book = Opened::<O, K>::of(book);

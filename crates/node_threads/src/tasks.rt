@@ -1,14 +1,17 @@
 // What each thread is given.
 
+ghost use Rattle.std.specs.Prelude.{◌≡◌};
+ghost use Rattle.node_threads.specs.Ends.{IsNodeEnd, IsClientEnd};
 ghost use Rattle.node_threads.specs.Tasks.{IsNodeTask, IsClientTask};
 
+use crate::ends::{ClientEnd, NodeEnd};
 use admission_policy::Admission;
 use book_recorders::{BookName, BookRecorder, Logs, Named};
 use client_loop::run_client;
-use event_recorders::{Gate, RunFault};
+use event_recorders::Gate;
 use history_book::Berth;
 use history_check::Wish;
-use lock_messages::{Actor, ClientId, NodeId};
+use lock_messages::{ClientId, NodeId};
 use lossy_link::ChannelLink;
 use node_loop::run_node;
 use stable_record::StableRecord;
@@ -37,15 +40,17 @@ pub(crate) struct ClientTask<R: Wait + Copy> {
     pub(crate) link: ChannelLink<R>,
 }
 
-/// Runs a node, and answers the fault by which it ended, if it did.
+/// Runs a node, and answers how it ended.
 pub(crate) fn do_node<B: BookName, K: Logs, R: Wait + Copy, G: Gate>(
     rt: R,
     alloc: Global,
     task: NodeTask<R>,
     book: &Mutex<Named<B, K>>,
     gate: &G,
-) -> Option<(Actor, RunFault)>
+) -> NodeEnd
     requires { IsNodeTask B.table task.node task.berth (problem_of task.policy) (finds task.stable) }
+    ensures node { result.node ≡ task.node }
+    ensures end { IsNodeEnd result }
 {
     let NodeTask {
         node,
@@ -54,32 +59,39 @@ pub(crate) fn do_node<B: BookName, K: Logs, R: Wait + Copy, G: Gate>(
         policy,
         link,
     } = task;
+    let mut stable = stable;
     let mut link = link;
     let mut recorder = BookRecorder::of(rt, book, berth);
     match run_node(
         &rt,
         alloc,
         node,
-        stable,
+        &mut *stable,
         policy,
         &mut recorder,
         &mut link,
         gate,
     ) {
-        Ok(()) => None,
-        Err(fault) => Some((Actor::Node(node), fault)),
+        Ok(()) => NodeEnd { node, fault: None },
+        Err(fault) => NodeEnd {
+            node,
+            fault: Some(fault),
+        },
     }
 }
 
-/// Runs a client, and answers the fault by which it ended, if it did.
+/// Runs a client, and answers how it ended.
 pub(crate) fn do_client<B: BookName, K: Logs, R: Wait + Copy, G: Gate>(
     rt: R,
     alloc: Global,
     task: ClientTask<R>,
     book: &Mutex<Named<B, K>>,
     gate: &G,
-) -> Option<(Actor, RunFault)>
+) -> ClientEnd
     requires { IsClientTask B.table task.client task.ballot task.wishes.items task.berth (finds task.stable) }
+    ensures client { result.client ≡ task.client }
+    ensures wishes { result.wishes.items ≡ task.wishes.items }
+    ensures end { IsClientEnd result }
 {
     let ClientTask {
         client,
@@ -102,7 +114,17 @@ pub(crate) fn do_client<B: BookName, K: Logs, R: Wait + Copy, G: Gate>(
         &mut link,
         gate,
     ) {
-        Ok(_) => None,
-        Err((_, fault)) => Some((Actor::Client(client), fault)),
+        Ok(entered) => ClientEnd {
+            client,
+            wishes,
+            entered,
+            fault: None,
+        },
+        Err((entered, cause)) => ClientEnd {
+            client,
+            wishes,
+            entered,
+            fault: Some(cause),
+        },
     }
 }

@@ -1,0 +1,151 @@
+-- The faults of ends that stand in the order of their actors are told in that order.
+use Rattle.std.proofs.Common.{◌≡◌, ℕ, ◌+◌, ◌<◌, ◌≤◌, List, [], ◌∷◌, ◌++◌, length, get_or, map, Option, Some, None, zero, suc, refl, sym, ◌∙◌, ap, subst, arith}
+use Rattle.std.specs.List.{All, AllPairs, filter_map, cons_option, range_with_len}
+use Rattle.std.specs.Option.{option_map}
+use Rattle.std.specs.Prelude.{IfSome}
+use Rattle.std.proofs.lemmas.List.Elements.{All-nil, All-cons, All-head, All-tail, All-append, All-weaker}
+use Rattle.std.proofs.lemmas.List.Kept.{AllPairs-cons}
+use Rattle.lock_messages.specs.declared.ids.Actor.{Actor}
+use Rattle.lock_messages.specs.declared.ids.Actor.TheVariants as actor
+use Rattle.event_recorders.specs.declared.faults.RunFault.{RunFault}
+use Rattle.history_check.specs.declared.wishes.Wish.{Wish}
+use Rattle.world_model.specs.declared.exact.ExactWorld.{ExactWorld}
+use Rattle.node_threads.specs.declared.ends.NodeEnd.{NodeEnd}
+use Rattle.node_threads.specs.declared.ends.ClientEnd.{ClientEnd}
+use Rattle.node_threads.specs.Ends.{IsNodeEnd, AreNodeEnds, AreClientEnds, with_wishes, client_in, node_fault, client_fault}
+use Rattle.node_threads.specs.Faults.{ComesBefore, IsActorOf, MayEndBy, AreFaults}
+
+-- the actor with its fault
+abbrev Told : Type 0
+Told = Actor × RunFault
+
+abbrev told : Actor → Option RunFault → Option Told
+told a o = option_map (λ f. (a, f)) o
+
+-- it stands before the rest, where there is one
+all_told : (P : Told → Type 0) (a : Actor) (o : Option RunFault) (rest : List Told) → ((f : RunFault) → o ≡ Some f → P (a, f)) → All P rest → All P (cons_option (told a o) rest)
+all_told P a None rest here each = each
+all_told P a (Some f) rest here each = All-cons P (a, f) rest (here f refl) each
+
+abbrev Ordered : List Told → Type 0
+Ordered ps = AllPairs (λ p q. ComesBefore p.0 q.0) ps
+
+in_order : (a : Actor) (o : Option RunFault) (rest : List Told) → All (λ q. ComesBefore a q.0) rest → Ordered rest → Ordered (cons_option (told a o) rest)
+in_order a None rest below order = order
+in_order a (Some f) rest below order = AllPairs-cons (λ p q. ComesBefore p.0 q.0) (a, f) rest below order
+
+-- two lists in order, the first before the second
+both_in_order : (ps qs : List Told) → All (λ p. All (λ q. ComesBefore p.0 q.0) qs) ps → Ordered ps → Ordered qs → Ordered (ps ++ qs)
+both_in_order [] qs apart first then = then
+both_in_order (p ∷ ps) qs apart first then =
+    let R : Told → Told → Type 0 = λ x y. ComesBefore x.0 y.0 in
+    let below : All (R p) ps = λ k d within. first 0 (suc k) d (omega arith) (omega arith) in
+    let rest : Ordered ps = λ i j d lower within. first (suc i) (suc j) d (omega arith) (omega arith) in
+    AllPairs-cons R p (ps ++ qs) (All-append (R p) ps qs below (All-head (λ x. All (R x) qs) p ps apart)) (both_in_order ps qs (All-tail (λ x. All (R x) qs) p ps apart) rest then)
+
+-- the actor has a number from low on and below high
+record Within (who : ℕ → Actor) (low high : ℕ) (a : Actor) : Type 0 where
+  number : ℕ
+  is : a ≡ who number
+  from : low ≤ number
+  to : number < high
+
+widened : (who : ℕ → Actor) (low high : ℕ) (a : Actor) → Within who (low + 1) high a → Within who low high a
+widened who low high a w = record { number = w.number; is = w.is; from = (let h = w.from in omega arith); to = w.to }
+
+-- what stands at the front of a count, and the rest of it
+first_counted : {X : Type 0} (num : X → ℕ) (x : X) (xs : List X) (low count : ℕ) → map num (x ∷ xs) ≡ range_with_len low (suc count) → num x ≡ low
+first_counted num x xs low count at = cc
+
+rest_counted : {X : Type 0} (num : X → ℕ) (x : X) (xs : List X) (low count : ℕ) → map num (x ∷ xs) ≡ range_with_len low (suc count) → map num xs ≡ range_with_len (low + 1) count
+rest_counted num x xs low count at = cc
+
+none_counted : {X : Type 0} (num : X → ℕ) (x : X) (xs : List X) (low : ℕ) → map num (x ∷ xs) ≡ range_with_len low zero → ⊥
+none_counted num x xs low at = cc
+
+module _ {X : Type 0} (num : X → ℕ) (who : ℕ → Actor) (fault : X → Option RunFault) where
+  abbrev faulty : List X → List Told
+  faulty xs = filter_map (λ x. told (who (num x)) (fault x)) xs
+
+  all_within : (xs : List X) (low count : ℕ) → map num xs ≡ range_with_len low count → All (λ p. Within who low (low + count) p.0) (faulty xs)
+  all_within [] low count at = All-nil (λ p. Within who low (low + count) p.0)
+  all_within (x ∷ xs) low zero at = absurd (none_counted num x xs low at)
+  all_within (x ∷ xs) low (suc count) at =
+      let same : num x ≡ low = first_counted num x xs low count at in
+      let rest = all_within xs (low + 1) count (rest_counted num x xs low count at) in
+      let n : low + 1 + count ≡ low + suc count = omega arith in
+      let here : Within who low (low + suc count) (who (num x)) = record { number = num x; is = refl; from = omega arith; to = omega arith } in
+      all_told (λ p. Within who low (low + suc count) p.0) (who (num x)) (fault x) (faulty xs) (λ f is. here)
+      (All-weaker (λ p. Within who (low + 1) (low + 1 + count) p.0) (λ p. Within who low (low + suc count) p.0)
+      (λ p w. subst (λ k. Within who low k p.0) n (widened who low (low + 1 + count) p.0 w)) (faulty xs) rest)
+
+  all_in_order : ((n k : ℕ) → n < k → ComesBefore (who n) (who k)) → (xs : List X) (low count : ℕ) → map num xs ≡ range_with_len low count → Ordered (faulty xs)
+  all_in_order lower [] low count at = λ i j d before within. absurd (omega arith)
+  all_in_order lower (x ∷ xs) low zero at = absurd (none_counted num x xs low at)
+  all_in_order lower (x ∷ xs) low (suc count) at =
+      let same : num x ≡ low = first_counted num x xs low count at in
+      let tail = rest_counted num x xs low count at in
+      let below : (p : Told) → Within who (low + 1) (low + 1 + count) p.0 → ComesBefore (who (num x)) p.0 =
+      λ p w. subst (ComesBefore (who (num x))) (sym w.is) (lower (num x) w.number (let h = w.from in omega arith)) in
+      in_order (who (num x)) (fault x) (faulty xs) (All-weaker (λ p. Within who (low + 1) (low + 1 + count) p.0) (λ q. ComesBefore (who (num x)) q.0) below (faulty xs) (all_within xs (low + 1) count tail))
+      (all_in_order lower xs (low + 1) count tail)
+
+  all_may : (xs : List X) → All (λ x. IfSome (fault x) (λ f. MayEndBy (who (num x)) f)) xs → All (λ p. MayEndBy p.0 p.1) (faulty xs)
+  all_may [] each = All-nil (λ p. MayEndBy p.0 p.1)
+  all_may (x ∷ xs) each =
+      let P : X → Type 0 = λ y. IfSome (fault y) (λ f. MayEndBy (who (num y)) f) in
+      all_told (λ p. MayEndBy p.0 p.1) (who (num x)) (fault x) (faulty xs) (λ f is. subst (λ o. IfSome o (MayEndBy (who (num x)))) is (All-head P x xs each)) (all_may xs (All-tail P x xs each))
+
+-- the world's actors, by their numbers
+nodes_of : (w : ExactWorld) (a : Actor) → Within actor.Node 1 (1 + length w.nodes) a → IsActorOf w a
+nodes_of w a at = subst (IsActorOf w) (sym at.is) (at.from, (let h = at.to in omega arith))
+
+clients_of : (w : ExactWorld) (a : Actor) → Within actor.Client 1 (1 + length w.clients) a → IsActorOf w a
+clients_of w a at = subst (IsActorOf w) (sym at.is) (at.from, (let h = at.to in omega arith))
+
+-- nodes come before clients
+apart : (low high low' high' : ℕ) (a b : Actor) → Within actor.Node low high a → Within actor.Client low' high' b → ComesBefore a b
+apart low high low' high' a b one other = subst (λ x. ComesBefore x b) (sym one.is) (subst (ComesBefore (actor.Node one.number)) (sym other.is) tt)
+
+faults_in_order : (w : ExactWorld) (nodes : List NodeEnd) (clients : List ClientEnd) (faults : List Told) → map (λ e. e.node) nodes ≡ range_with_len 1 (length w.nodes) → All IsNodeEnd nodes
+    → map (λ e. e.client) clients ≡ range_with_len 1 (length w.clients) → faults ≡ filter_map node_fault nodes ++ filter_map client_fault clients → AreFaults w faults
+faults_in_order w nodes clients faults all_nodes each all_clients is =
+    let ps = filter_map node_fault nodes in
+    let qs = filter_map client_fault clients in
+    let some = all_within (λ (e : NodeEnd). e.node) actor.Node (λ e. e.fault) nodes 1 (length w.nodes) all_nodes in
+    let others = all_within (λ (e : ClientEnd). e.client) actor.Client (λ e. e.fault) clients 1 (length w.clients) all_clients in
+    let N : Told → Type 0 = λ p. Within actor.Node 1 (1 + length w.nodes) p.0 in
+    let C : Told → Type 0 = λ p. Within actor.Client 1 (1 + length w.clients) p.0 in
+    subst (AreFaults w) (sym is) (record {
+      ordered = both_in_order ps qs
+          (All-weaker N (λ p. All (λ q. ComesBefore p.0 q.0) qs) (λ p one. All-weaker C (λ q. ComesBefore p.0 q.0) (λ q other. apart 1 (1 + length w.nodes) 1 (1 + length w.clients) p.0 q.0 one other) qs others) ps some)
+          (all_in_order (λ (e : NodeEnd). e.node) actor.Node (λ e. e.fault) (λ n k lower. lower) nodes 1 (length w.nodes) all_nodes)
+          (all_in_order (λ (e : ClientEnd). e.client) actor.Client (λ e. e.fault) (λ n k lower. lower) clients 1 (length w.clients) all_clients);
+      theirs = All-append (λ p. IsActorOf w p.0) ps qs (All-weaker N (λ p. IsActorOf w p.0) (λ p at. nodes_of w p.0 at) ps some) (All-weaker C (λ p. IsActorOf w p.0) (λ p at. clients_of w p.0 at) qs others);
+      each = All-append (λ p. MayEndBy p.0 p.1) ps qs (all_may (λ (e : NodeEnd). e.node) actor.Node (λ e. e.fault) nodes each)
+          (all_may (λ (e : ClientEnd). e.client) actor.Client (λ e. e.fault) clients (λ k d within. free (get_or clients k d).fault));
+    })
+  where
+    free : (o : Option RunFault) → IfSome o (λ f. Unit {0})
+    free None = tt
+    free (Some f) = tt
+
+-- the first of each pair
+firsts : {X Y A B : Type 0} (f : X → A × B) (h : Y → A × B) (xs : List X) (ys : List Y) → map f xs ≡ map h ys → map (λ x. (f x).0) xs ≡ map (λ y. (h y).0) ys
+firsts f h [] [] at = refl
+firsts f h [] (y ∷ ys) at = absurd (let z : [] ≡ h y ∷ map h ys = at in cc)
+firsts f h (x ∷ xs) [] at = absurd (let z : f x ∷ map f xs ≡ [] = at in cc)
+firsts f h (x ∷ xs) (y ∷ ys) at =
+    let z : f x ∷ map f xs ≡ h y ∷ map h ys = at in
+    let here : f x ≡ h y = cc in
+    let rest : map f xs ≡ map h ys = cc in
+    ap (λ p. p.0 ∷ map (λ x. (f x).0) xs) here ∙ ap (λ l. (h y).0 ∷ l) (firsts f h xs ys rest)
+
+-- the faults of the ends of all tasks
+pub faults_are : {X Y : Type 0} (node : X → ℕ) (client : Y → ℕ) (given : Y → List Wish) (w opened : ExactWorld) (tasks : List X) (others : List Y) (nodes : List NodeEnd) (clients : List ClientEnd) (faults : List Told)
+    → opened ≡ w → map node tasks ≡ range_with_len 1 (length opened.nodes) → map client others ≡ range_with_len 1 (length opened.clients)
+    → AreNodeEnds (map node tasks) nodes → AreClientEnds (map (λ t. with_wishes (client t) (given t)) others) clients → faults ≡ filter_map node_fault nodes ++ filter_map client_fault clients → AreFaults w faults
+faults_are node client given w opened tasks others nodes clients faults opening all_nodes all_clients of_nodes of_clients is =
+    let named = firsts client_in (λ t. with_wishes (client t) (given t)) clients others of_clients.named in
+    faults_in_order w nodes clients faults (of_nodes.named ∙ all_nodes ∙ ap (λ (v : ExactWorld). range_with_len 1 (length v.nodes)) opening) of_nodes.each
+    (named ∙ all_clients ∙ ap (λ (v : ExactWorld). range_with_len 1 (length v.clients)) opening) is

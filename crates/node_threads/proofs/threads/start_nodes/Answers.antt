@@ -1,0 +1,44 @@
+use Rattle.std.proofs.Common.{◌≡◌, length, map, sym, ap, ◌∙◌}
+use Rattle.std.specs.Vec.Iter.{into_iter_items}
+use Rattle.std.proofs.Crossing.{crosses, dyn_box_send}
+use denote.Param.Send.{sendable}
+use denote.Param.Sent.{Sends}
+use Rattle.lock_messages.proofs.ids.NodeId.TheSendSync as node_id
+use Rattle.history_book.proofs.books.Berth.TheSendSync as berth
+use Rattle.lossy_link.proofs.channel_links.ChannelLink.TheSendSync as link
+use Rattle.book_recorders.proofs.named.Named.TheSendSync as named
+use Rattle.node_threads.specs.Tasks.{IsNodeTask}
+use Rattle.node_threads.proofs.Promises.{one_more_started, all_started}
+use Rattle.node_threads.proofs.Taking.{first_of, rest_of}
+use Rattle.node_threads.proofs.threads.start_nodes.Goals as goal
+
+-- a node's record and policy may go to its thread, as their boxes say
+pub spawn_with-requires-send-F : goal.spawn_with-requires-send-F
+spawn_with-requires-send-F g c κs within =
+    let records : Sends g.dyn-1.0 = g.dyn-1.2 in
+    let policies : Sends g.dyn-2.0 = g.dyn-2.2 in
+    let name = c.type_bounds.send-B in
+    let book = c.type_bounds.send-K in
+    let handle = c.type_bounds.send-R in
+    let gate = c.type_bounds.sync-G in
+    search (sendable, crosses, dyn_box_send, node_id.the_send, berth.the_send, link.the_send, named.the_send) depth 40 fits 5000
+
+pub spawn_with-requires-clause-runs : goal.spawn_with-requires-clause-runs
+spawn_with-requires-clause-runs g c κs within =
+    first_of c.in-Some.task (λ t. IsNodeTask g.B.BookName.table t.node t.berth ((goal.Admission-dyn g (t.policy.vtable, t.policy.value)).problem_of t.policy.value)
+    ((goal.StableRecord-dyn g (t.stable.vtable, t.stable.value)).finds t.stable.value)) _ _ c.in-Some.ensures.steps.0 c.loop-task.invariant.tasks
+
+pub loop-task-preserved : goal.loop-task-preserved
+loop-task-preserved g c = record {
+  can = tt;
+  finite = tt;
+  tasks = rest_of c.in-Some.task (λ t. IsNodeTask g.B.BookName.table t.node t.berth ((goal.Admission-dyn g (t.policy.vtable, t.policy.value)).problem_of t.policy.value)
+      ((goal.StableRecord-dyn g (t.stable.vtable, t.stable.value)).finds t.stable.value)) _ _ c.in-Some.ensures.steps.0 c.loop-task.invariant.tasks;
+  named = one_more_started (λ t. t.promise.node) (λ t. t.node) c.loop-task.threads.items _ _ _ c.in-Ok.handle c.in-Some.task _
+      c.loop-task.invariant.named c.in-Some.ensures.steps.0 c.in-Ok-push.ensures.items (ap (λ p. p.node) c.in-Ok.ensures.ok);
+}
+
+pub returns-clause-named : goal.returns-clause-named
+returns-clause-named g c =
+    let none : length (into_iter_items c.loop-task.task-iterator) ≡ 0 = sym c.loop-task.task-iterator.rest.ok.0 ∙ c.in-None.ensures.steps.0 in
+    all_started (λ t. t.promise.node) (λ t. t.node) c.loop-task.threads.items _ _ c.loop-task.invariant.named none

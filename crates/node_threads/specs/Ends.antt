@@ -1,0 +1,43 @@
+-- How the threads of a run may end.
+use Rattle.std.specs.Prelude.{◌≡◌, ◌≤◌, ℕ, List, length, map, All, IfSome, IfNone, Option}
+use Rattle.std.specs.Option.{option_map}
+use Rattle.lock_messages.specs.declared.ids.Actor.{Actor}
+use Rattle.lock_messages.specs.declared.ids.Actor.TheVariants as actor
+use Rattle.event_recorders.specs.declared.faults.RunFault.{RunFault}
+use Rattle.history_check.specs.declared.wishes.Wish.{Wish}
+use Rattle.node_loop.specs.Standing.{IsNodeFault}
+use Rattle.node_threads.specs.declared.ends.NodeEnd.{NodeEnd}
+use Rattle.node_threads.specs.declared.ends.ClientEnd.{ClientEnd}
+
+-- A node that ended by a fault ended by one of a node's.
+abbrev pub IsNodeEnd : NodeEnd → Type 0
+IsNodeEnd e = IfSome e.fault IsNodeFault
+
+-- A client that ended without a fault entered all its wishes, and none entered more than it has.
+pub record IsClientEnd (e : ClientEnd) : Type 0 where
+  pub all : IfNone e.fault (e.entered ≡ length e.wishes.items)
+  pub few : e.entered ≤ length e.wishes.items
+
+-- the ends of just these nodes, in order
+pub record AreNodeEnds (nodes : List ℕ) (ends : List NodeEnd) : Type 0 where
+  pub named : map (λ e. e.node) ends ≡ nodes
+  pub each : All IsNodeEnd ends
+
+-- a client with the wishes that it was given
+abbrev pub with_wishes : ℕ → List Wish → ℕ × List Wish
+with_wishes c wishes = (c, wishes)
+
+abbrev pub client_in : ClientEnd → ℕ × List Wish
+client_in e = with_wishes e.client e.wishes.items
+
+-- the ends of just these clients with these wishes, in order
+pub record AreClientEnds (clients : List (ℕ × List Wish)) (ends : List ClientEnd) : Type 0 where
+  pub named : map client_in ends ≡ clients
+  pub each : All IsClientEnd ends
+
+-- the actor with the fault by which it ended, if it did
+abbrev pub node_fault : NodeEnd → Option (Actor × RunFault)
+node_fault e = option_map (λ f. (actor.Node e.node, f)) e.fault
+
+abbrev pub client_fault : ClientEnd → Option (Actor × RunFault)
+client_fault e = option_map (λ f. (actor.Client e.client, f)) e.fault
