@@ -5,7 +5,11 @@
 #![tactic(auto)]
 
 #[cfg(test)]
+mod fuses;
+#[cfg(test)]
 mod listed;
+#[cfg(test)]
+mod opening;
 #[cfg(test)]
 mod outcomes;
 #[cfg(test)]

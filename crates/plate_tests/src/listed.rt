@@ -38,6 +38,13 @@ impl ListedPlate {
         self.calls.get(first..self.made).unwrap_or(&[])
     }
 
+    /// How many of its calls were made to fail.
+    pub(crate) fn failed(&self) -> u64 {
+        let (first, second) = self.failing;
+        let made = |number: usize| u64::from(0 < number && number <= self.made);
+        made(first).saturating_add(made(second))
+    }
+
     /// The plate without its list.
     pub(crate) fn into_inner(self) -> MemoryPlate {
         self.inner

@@ -1,5 +1,6 @@
 //! Records on plates that a crash may tear: what opening finds, wherever the work was stopped.
 
+use crate::opening::{found_after, found_on};
 use crate::outcomes::{Outcome, check};
 use lossy_link::{Fate, Weather, WeatherFault};
 use slot_record::{MemoryPlate, Plate, SlotFault, SlotRecord};
@@ -10,9 +11,7 @@ use std::alloc::Global;
 /// stands there.
 const LEAST_PLATE_LEN: u32 = 120_026;
 
-/// The device calls of `format`, and of `open`.
-const FORMAT_CALLS: u32 = 7;
-
+/// The device calls of `open`.
 const OPEN_CALLS: u32 = 4;
 
 /// A new plate, whose device call with this number and all later ones fail; at 0 none does.
@@ -27,20 +26,6 @@ fn plate_with(alloc: Global, size: u32, fuse: u32) -> Option<MemoryPlate> {
 /// A record `F` over such a plate.
 fn formatted(alloc: Global, fuse: u32) -> Option<SlotRecord<MemoryPlate>> {
     SlotRecord::format(alloc, plate_with(alloc, LEAST_PLATE_LEN, fuse)?, b"F").ok()
-}
-
-/// The first byte of what opening finds; a dash where no slot counts.
-fn found_on(alloc: Global, plate: MemoryPlate) -> Option<u8> {
-    match SlotRecord::open(alloc, plate) {
-        Ok((_, body)) => body.first().copied(),
-        Err((_, SlotFault::NotFormatted)) => Some(b'-'),
-        Err(_) => None,
-    }
-}
-
-/// The same after a crash that leaves this byte wherever something was written since the last sync.
-fn found_after(alloc: Global, plate: &MemoryPlate, fill: u8) -> Option<u8> {
-    found_on(alloc, plate.after_crash(fill).ok()?)
 }
 
 /// What is found after a crash in these keeps, behind `F`, where a device call fails.
@@ -133,62 +118,6 @@ fn crash_in_the_work_after_a_crash(rt: HostRuntime) -> Outcome {
     for call in 12..19u32 {
         check(survives_two(rt.alloc(), call, 0), call as usize)?;
         check(survives_two(rt.alloc(), call, 1), call as usize)?;
-    }
-    Ok(())
-}
-
-/// Whether `format` is stopped as it should be, where its device call with this number fails.
-fn format_stops(alloc: Global, call: u32) -> Option<bool> {
-    let plate = plate_with(alloc, LEAST_PLATE_LEN, call)?;
-    match SlotRecord::format(alloc, plate, b"F") {
-        Ok(record) => {
-            let found = found_after(alloc, &record.into_plate(), 255)?;
-            Some(call > FORMAT_CALLS && found == b'F')
-        }
-        Err((plate, fault)) => {
-            let found = found_after(alloc, &plate, 0)?;
-            let failed = fault == SlotFault::Device && plate.failures() == 1;
-            Some(call <= FORMAT_CALLS && failed && found == b'-')
-        }
-    }
-}
-
-/// Whether `open` is, and gives the record once the plate is mended.
-fn open_stops(alloc: Global, call: u32) -> Option<bool> {
-    let mut plate = formatted(alloc, 0)?.into_plate();
-    if call > 0 {
-        plate.fuse(call);
-    }
-    match SlotRecord::open(alloc, plate) {
-        Ok((_, body)) => Some(call > OPEN_CALLS && body.as_slice() == b"F".as_slice()),
-        Err((mut plate, fault)) => {
-            plate.mend();
-            let found = found_on(alloc, plate)?;
-            Some(call <= OPEN_CALLS && fault == SlotFault::Device && found == b'F')
-        }
-    }
-}
-
-/// Whether `reopen` is; the record is stuck then.
-fn reopen_stops(alloc: Global, call: u32) -> Option<bool> {
-    let mut record = formatted(alloc, call.wrapping_add(FORMAT_CALLS))?;
-    let right = match record.reopen() {
-        Ok(body) => call > OPEN_CALLS && body.as_slice() == b"F".as_slice() && !record.stuck(),
-        Err(fault) => {
-            let next = record.keep(b"A") == Err(RecordFault::Stuck);
-            let failed = fault == RecordFault::Device && record.failures() == 1;
-            call <= OPEN_CALLS && failed && record.stuck() && next
-        }
-    };
-    Some(right && found_after(alloc, &record.into_plate(), 1)? == b'F')
-}
-
-#[test]
-fn stopped_at_each_call(rt: HostRuntime) -> Outcome {
-    for call in 1..9u32 {
-        check(format_stops(rt.alloc(), call), call as usize)?;
-        check(open_stops(rt.alloc(), call), 10 + call as usize)?;
-        check(reopen_stops(rt.alloc(), call), 20 + call as usize)?;
     }
     Ok(())
 }

@@ -2,8 +2,9 @@
 
 ghost use Rattle.std.specs.Prelude.{◌≡◌, ◌+◌, ◌<◌, ◌≤◌, ◌^◌, [], Some, None, length, map, replicate, OnOk, IfOk, IsOkUnless};
 ghost use Rattle.stable_record.specs.Faulty.{counted};
-ghost use Rattle.slot_record.specs.Images.{part};
-ghost use Rattle.slot_record.specs.MemoryPlates.{Idle, Written, Torn, Synced, call_of, Makes, MayLeave, put, content, filled, IsWithin, lasts, burnt};
+ghost use Rattle.slot_record.specs.Images.{part, IsWritten};
+ghost use Rattle.slot_record.specs.Plates.{Only, NothingNew, Tears, GoesOn, Called};
+ghost use Rattle.slot_record.specs.MemoryPlates.{Idle, Written, Torn, Synced, state_of, call_of, Makes, MayLeave, put, content, filled, IsWithin, lasts, burnt};
 
 use crate::{Plate, PlateFault, SlotFault};
 use std::alloc::Global;
@@ -240,15 +241,44 @@ impl Plate for MemoryPlate {
         self.count
     }
 
-    fn read_at(&mut self, at: u32, buffer: &mut [u8]) -> Result<(), PlateFault> {
+    // Clauses at a call of the impl take the place of the trait's, which are therefore repeated here.
+
+    /// Fails just by the fuse, or where memory to note the call was refused. It is noted as idle, also
+    /// where the fuse lets it fail.
+    fn read_at(&mut self, at: u32, buffer: &mut [u8]) -> Result<(), PlateFault>
+        requires { at + length buffer.old ≤ (state_of self.old).size }
+        ensures read { OnOk result (buffer.new ≡ part at (length buffer.old) (state_of self.old).seen) }
+        ensures seen { OnOk result ((state_of self.new).seen ≡ (state_of self.old).seen) }
+        ensures images { NothingNew (state_of self.old) (state_of self.new) }
+        ensures time { GoesOn (state_of self.old) (state_of self.new) }
+        ensures called { Called (state_of self.old) (state_of self.new) result }
+        ensures makes { Makes Idle Idle self.old result self.new }
+    {
         self.try_read(at, buffer)
     }
 
-    fn write_at(&mut self, at: u32, bytes: &[u8]) -> Result<(), PlateFault> {
+    /// Fails just by the fuse, or where memory to note the call was refused. It is noted with its bytes,
+    /// and with the torn range alone where the fuse lets it fail.
+    fn write_at(&mut self, at: u32, bytes: &[u8]) -> Result<(), PlateFault>
+        requires { at + length bytes.now ≤ (state_of self.old).size }
+        ensures written { OnOk result (IsWritten at bytes.now (state_of self.old).seen (state_of self.new).seen) }
+        ensures images { Tears at (length bytes.now) (state_of self.old) (state_of self.new) }
+        ensures time { GoesOn (state_of self.old) (state_of self.new) }
+        ensures called { Called (state_of self.old) (state_of self.new) result }
+        ensures makes { Makes (Written at bytes.now) (Torn at (length bytes.now)) self.old result self.new }
+    {
         self.try_write(at, bytes)
     }
 
-    fn sync(&mut self) -> Result<(), PlateFault> {
+    /// Fails just by the fuse, or where memory to note the call was refused. It is noted as a sync, and
+    /// as idle where the fuse lets it fail.
+    fn sync(&mut self) -> Result<(), PlateFault>
+        ensures synced { OnOk result (Only (state_of self.old).seen (state_of self.new)) }
+        ensures images { NothingNew (state_of self.old) (state_of self.new) }
+        ensures time { GoesOn (state_of self.old) (state_of self.new) }
+        ensures called { Called (state_of self.old) (state_of self.new) result }
+        ensures makes { Makes Synced Idle self.old result self.new }
+    {
         self.try_sync()
     }
 }
