@@ -6,6 +6,7 @@ use Rattle.std.specs.List.{range_with_len, sum_by}
 use Rattle.lock_messages.specs.declared.tickets.Mode.{Mode}
 use Rattle.lock_model.specs.Ballots.{Ballot, HasNode, IsEnough, needed, votes_at, votes_of}
 use Rattle.vote_weights.specs.Sets.{has_node, with_node}
+use Rattle.vote_weights.specs.SetLaws.{has_node-with_node}
 use Rattle.client_core.specs.declared.phases.State.{State}
 use Rattle.client_core.specs.declared.phases.State.TheVariants.{Idle, Chosen, Asking, Inside}
 use Rattle.client_core.specs.Clients.{Client}
@@ -13,29 +14,6 @@ use Rattle.client_core.specs.Calls.{skipping, skips_in}
 use Rattle.client_loop.specs.declared.progress.Progress.{Progress}
 use Rattle.client_loop.specs.Standing.{IsAlike}
 use Rattle.client_loop.specs.Nodes.{SkipsIn, Skips}
-
-or_twice : (a c : Bool) → a || c ≡ a || (a || c)
-or_twice true c = refl
-or_twice false c = refl
-
-or_swap : (a b c : Bool) → a || (b || c) ≡ b || (a || c)
-or_swap true true c = refl
-or_swap true false c = refl
-or_swap false true c = refl
-or_swap false false c = refl
-
-with_step : (a b : Bool) (m n k : ℕ) (set tail : List ℕ) → (n == m) ≡ b → has_node tail k ≡ (n == k) || has_node set k →
-    has_node (if a then n ∷ m ∷ set else (if b then m ∷ set else m ∷ tail)) k ≡ (n == k) || ((m == k) || has_node set k)
-with_step true b m n k set tail e h = refl
-with_step false true m n k set tail e h =
-    let same : n ≡ m = grind (arith, nat_tests) in
-    rw same (or_twice (m == k) (has_node set k))
-with_step false false m n k set tail e h = rw h (or_swap (m == k) (n == k) (has_node set k))
-
--- the node is in the set with it, and the others are as they were
-pub has_with : (set : List ℕ) (n k : ℕ) → has_node (with_node set n) k ≡ (n == k) || has_node set k
-has_with [] n k = refl
-has_with (m ∷ set) n k = with_step (nat_lt n m) (n == m) m n k set (with_node set n) refl (has_with set n k)
 
 -- votes hang on the ballot's nodes alone
 sum_alike : (votes : ℕ → ℕ) (p q : ℕ → Bool) (from count : ℕ) → ((n : ℕ) → from ≤ n → n < from + count → p n ≡ q n) →
@@ -56,8 +34,8 @@ votes_alike b p q h = sum_alike (votes_at b) p q 1 (length b.votes) (λ n low hi
 skips_none_in : (these : ℕ → Bool) (s : State) → ((n : ℕ) → these n ≡ false) → SkipsIn these s s
 skips_none_in these Idle none = refl
 skips_none_in these (Chosen t) none = refl
-skips_none_in these (Asking t granted skipped) none = record { more = skipped; state = refl; members = λ n. rw (none n) refl }
-skips_none_in these (Inside t granted skipped) none = refl
+skips_none_in these (Asking p) none = record { more = p.skipped; state = refl; members = λ n. rw (none n) refl }
+skips_none_in these (Inside p) none = refl
 
 pub skips_none : (these : ℕ → Bool) (c : Client) → ((n : ℕ) → these n ≡ false) → Skips these c c
 skips_none these c none = record { client = refl; ballot = refl; attempt = refl; state = skips_none_in these c.state none }
@@ -70,12 +48,12 @@ or_assoc false b c = refl
 skips_more_in : (these those : ℕ → Bool) (k : ℕ) (s after : State) → SkipsIn these s after → ((n : ℕ) → those n ≡ ((k == n) || these n)) → SkipsIn those s (skips_in k after)
 skips_more_in these those k Idle after h also = ap (skips_in k) h
 skips_more_in these those k (Chosen t) after h also = ap (skips_in k) h
-skips_more_in these those k (Asking t granted skipped) after h also = record {
+skips_more_in these those k (Asking p) after h also = record {
   more = with_node h.more k;
   state = ap (skips_in k) h.state;
-  members = λ n. rw (has_with h.more k n, h.members n, also n) (or_assoc (k == n) (these n) (has_node skipped n));
+  members = λ n. rw (has_node-with_node h.more k n, h.members n, also n) (or_assoc (k == n) (these n) (has_node p.skipped n));
 }
-skips_more_in these those k (Inside t granted skipped) after h also = ap (skips_in k) h
+skips_more_in these those k (Inside p) after h also = ap (skips_in k) h
 
 pub skips_more : (these those : ℕ → Bool) (k : ℕ) (before after : Client) → Skips these before after → ((n : ℕ) → those n ≡ ((k == n) || these n)) → Skips those before (skipping after k)
 skips_more these those k before after h also = record {
@@ -89,8 +67,8 @@ skips_more these those k before after h also = record {
 skips_alike_in : (these those : ℕ → Bool) (s after : State) → SkipsIn these s after → ((n : ℕ) → those n ≡ these n) → SkipsIn those s after
 skips_alike_in these those Idle after h same = h
 skips_alike_in these those (Chosen t) after h same = h
-skips_alike_in these those (Asking t granted skipped) after h same = record { more = h.more; state = h.state; members = λ n. rw (same n) (h.members n) }
-skips_alike_in these those (Inside t granted skipped) after h same = h
+skips_alike_in these those (Asking p) after h same = record { more = h.more; state = h.state; members = λ n. rw (same n) (h.members n) }
+skips_alike_in these those (Inside p) after h same = h
 
 pub skips_alike : (these those : ℕ → Bool) (before after : Client) → Skips these before after → ((n : ℕ) → those n ≡ these n) → Skips those before after
 skips_alike these those before after h same = record {
@@ -116,7 +94,7 @@ among_below nodes number n e = grind (arith, nat_tests)
 pub gone_more : (number n : ℕ) (gone before : List ℕ) → 1 ≤ number → has_node gone n ≡ (is_below number n || has_node before n) →
     has_node (with_node gone number) n ≡ (is_below (number + 1) n || has_node before n)
 gone_more number n gone before low h =
-    has_with gone number n ∙ ap (λ (b : Bool). (number == n) || b) h ∙ or_assoc (number == n) (is_below number n) (has_node before n)
+    has_node-with_node gone number n ∙ ap (λ (b : Bool). (number == n) || b) h ∙ or_assoc (number == n) (is_below number n) (has_node before n)
     ∙ ap (λ (b : Bool). b || has_node before n) (sym (below_more number n low))
 
 pub skips_below_one : (c : Client) → Skips (is_below 1) c c

@@ -96,8 +96,8 @@ says_in b c n attempt Idle true false m node zero_is has =
     let some = rw zero_is at has in
     rw (node, zero_is) cc
 says_in b c n attempt (Chosen t) true none m node zero_is has = cc
-says_in b c n attempt (Asking t granted skipped) true none m node zero_is has = rw node cc
-says_in b c n attempt (Inside t granted skipped) true none m node zero_is has = rw node cc
+says_in b c n attempt (Asking p) true none m node zero_is has = rw node cc
+says_in b c n attempt (Inside p) true none m node zero_is has = rw node cc
 
 pub says_message : (c : Client) (n : ℕ) (m : Message) → message_for c n ≡ Some m → said_by c.ballot (event.SayTo c.client n) (ClientPart (part_of c)) ≡ m ∷ []
 says_message c n m has = says_in c.ballot c.client n c.attempt c.state (is_node_of (length c.ballot.votes) n) (c.attempt == 0) m refl refl has

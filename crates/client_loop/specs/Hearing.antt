@@ -2,12 +2,12 @@
 use Rattle.std.specs.Prelude.{◌≡◌, ◌⊎◌, ℕ, true, List}
 use Rattle.lock_messages.specs.declared.messages.Message.{Message}
 use Rattle.lock_messages.specs.Frames.{frame_of}
-use Rattle.lock_messages.specs.Messages.{IsMessage, is_for_client}
+use Rattle.lock_messages.specs.Messages.{IsMessage, is_for_client, named_node}
 use Rattle.lock_model.specs.declared.hearing.Heard.{Heard}
 use Rattle.lock_model.specs.declared.hearing.Heard.TheVariants as heard
 use Rattle.vote_weights.specs.Sets.{with_node}
 use Rattle.client_core.specs.Clients.{Client}
-use Rattle.client_core.specs.Calls.{node_of, heard_by, after_hearing}
+use Rattle.client_core.specs.Calls.{heard_by, after_hearing}
 use Rattle.world_model.specs.declared.events.Effect.TheVariants as effect
 use Rattle.world_model.specs.declared.events.Event.TheVariants as event
 use Rattle.client_loop.specs.declared.progress.Progress.{Progress}
@@ -32,7 +32,7 @@ pub record Hears (number : ℕ) (l l' : OwnLog) (before after : Client) (message
 pub record HearsOf (number : ℕ) (l l' : OwnLog) (before after : Client) (node : ℕ) (answer : Heard) : Type 0 where
   pub message : Message
   pub hears : Hears number l l' before after message answer
-  pub named : node ≡ node_of message
+  pub named : node ≡ named_node message
 
 -- the client heard nothing
 pub record HearsNothing (l l' : OwnLog) (before after : Client) : Type 0 where

@@ -2,10 +2,10 @@
 -- skipped.
 use Rattle.std.specs.Prelude.{◌≡◌, ℕ, Bool, true, false, not, ◌||◌, ◌&&◌, List, length}
 use Rattle.lock_messages.specs.declared.tickets.Mode.{Mode}
-use Rattle.lock_messages.specs.declared.tickets.Ticket.{Ticket}
 use Rattle.lock_model.specs.Ballots.{Ballot, HasNode, IsEnough}
 use Rattle.lock_model.specs.ExactHearing.{is_node_of}
 use Rattle.vote_weights.specs.Sets.{has_node}
+use Rattle.client_core.specs.declared.phases.Present.{Present}
 use Rattle.client_core.specs.declared.phases.State.{State}
 use Rattle.client_core.specs.declared.phases.State.TheVariants.{Idle, Chosen, Asking, Inside}
 use Rattle.client_core.specs.Clients.{Client}
@@ -35,17 +35,17 @@ is_among b n = is_node_of (length b.votes) n
 abbrev pub is_gone_among : Ballot → List ℕ → ℕ → Bool
 is_gone_among b gone n = is_among b n && has_node gone n
 
--- the set has these nodes too
-pub record SkipsMore (these : ℕ → Bool) (t : Ticket) (granted skipped : List ℕ) (after : State) : Type 0 where
+-- the same attempt, in which these nodes are skipped too
+pub record SkipsMore (these : ℕ → Bool) (p : Present) (after : State) : Type 0 where
   pub more : List ℕ
-  pub state : after ≡ Asking t granted more
-  pub members : (n : ℕ) → has_node more n ≡ (these n || has_node skipped n)
+  pub state : after ≡ Asking (record p { skipped = more })
+  pub members : (n : ℕ) → has_node more n ≡ (these n || has_node p.skipped n)
 
 abbrev pub SkipsIn : (ℕ → Bool) → State → State → Type 0
 SkipsIn these Idle after = after ≡ Idle
 SkipsIn these (Chosen t) after = after ≡ Chosen t
-SkipsIn these (Asking t granted skipped) after = SkipsMore these t granted skipped after
-SkipsIn these (Inside t granted skipped) after = after ≡ Inside t granted skipped
+SkipsIn these (Asking p) after = SkipsMore these p after
+SkipsIn these (Inside p) after = after ≡ Inside p
 
 -- While it asks the client skips these nodes too; in every other phase it is as it was. Nothing else of it
 -- changes.

@@ -1,7 +1,7 @@
 // What a client says and hears.
 
 ghost use Rattle.std.specs.Prelude.{◌≡◌, ◌↔◌, ◌++◌, ◌∷◌, [], IsTrue, IfOk, IfSome, IfNone, OnOk, OnErr, IfErr};
-ghost use Rattle.client_core.specs.Calls.{node_of};
+ghost use Rattle.lock_messages.specs.Messages.{named_node};
 ghost use Rattle.client_core.specs.Clients.{phase_of};
 ghost use Rattle.client_loop.specs.Sendings.{sent_of, sending_to, SentFollows, SentUnlessMemory};
 ghost use Rattle.client_loop.specs.Hearing.{IsFrameFor, Hears, HearsOf, HearsNothing};
@@ -77,7 +77,7 @@ pub(crate) fn tell<R: Recorder, L: Link>(
 
 /// The node that a message names.
 fn node_of(message: &Message) -> NodeId
-    ensures { result ≡ node_of message.now }
+    ensures { result ≡ named_node message.now }
 {
     match *message {
         Message::Request(node, _) | Message::Grant(node, _) | Message::Busy(node, _) => node,

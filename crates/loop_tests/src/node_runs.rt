@@ -105,7 +105,7 @@ fn run_over<B: BookName, K: Logs, R: Wait + Copy, G: Gate>(
     requires table { berth.table ≡ B.table }
     requires log { IsNewNode (log_of berth) }
 {
-    let stable = record_on(alloc, device, nothing_kept(alloc)?.as_slice())?;
+    let mut stable = record_on(alloc, device, nothing_kept(alloc)?.as_slice())?;
     let policy = policy(alloc)?;
     let node = node_id(1)?;
     let mut recorder = BookRecorder::of(rt, lock, berth);
@@ -114,7 +114,7 @@ fn run_over<B: BookName, K: Logs, R: Wait + Copy, G: Gate>(
         &rt,
         alloc,
         node,
-        stable,
+        &mut *stable,
         policy,
         &mut recorder,
         &mut link,

@@ -34,7 +34,7 @@ fn run_over<B: BookName, K: Logs, R: Wait + Copy>(
     requires table { berth.table ≡ B.table }
     requires log { IsNewNode (log_of berth) }
 {
-    let stable = counted_record(alloc, nothing_kept(alloc)?.as_slice(), counts)?;
+    let mut stable = counted_record(alloc, nothing_kept(alloc)?.as_slice(), counts)?;
     let policy = policy(alloc)?;
     let node = node_id(1)?;
     let counts: &Counts = counts;
@@ -49,7 +49,7 @@ fn run_over<B: BookName, K: Logs, R: Wait + Copy>(
         &rt,
         alloc,
         node,
-        stable,
+        &mut *stable,
         policy,
         &mut recorder,
         &mut link,

@@ -39,6 +39,9 @@ fn ballot_text(fault: BallotFault) -> &'static str
         BallotFault::OverTotal => "settings fault 203\n",
         BallotFault::ReadsMissWrites => "settings fault 204\n",
         BallotFault::WritesMiss => "settings fault 205\n",
+        BallotFault::BallotsMiss(_, _) => "settings fault 206\n",
+        BallotFault::NoBallot => "settings fault 207\n",
+        BallotFault::TooManyBallots => "settings fault 208\n",
     }
 }
 
@@ -107,6 +110,9 @@ fn refused_ballot_text(fault: BallotFault) -> &'static str
         BallotFault::OverTotal => "refused 203\n",
         BallotFault::ReadsMissWrites => "refused 204\n",
         BallotFault::WritesMiss => "refused 205\n",
+        BallotFault::BallotsMiss(_, _) => "refused 206\n",
+        BallotFault::NoBallot => "refused 207\n",
+        BallotFault::TooManyBallots => "refused 208\n",
     }
 }
 

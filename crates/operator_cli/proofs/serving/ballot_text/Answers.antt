@@ -39,3 +39,24 @@ text_205 = refl
 
 pub returns-in-WritesMiss : goal.returns-in-WritesMiss
 returns-in-WritesMiss c = text_205 ∙ ap (λ (f : BallotFault). settings_fault_text (fault_number f)) (sym c.in-WritesMiss.is)
+
+text_206 : codes "settings fault 206\n" ≡ settings_fault_text 206
+unfolding digits
+text_206 = refl
+
+pub returns-in-BallotsMiss : goal.returns-in-BallotsMiss
+returns-in-BallotsMiss c = text_206 ∙ ap (λ (f : BallotFault). settings_fault_text (fault_number f)) (sym c.in-BallotsMiss.is)
+
+text_207 : codes "settings fault 207\n" ≡ settings_fault_text 207
+unfolding digits
+text_207 = refl
+
+pub returns-in-NoBallot : goal.returns-in-NoBallot
+returns-in-NoBallot c = text_207 ∙ ap (λ (f : BallotFault). settings_fault_text (fault_number f)) (sym c.in-NoBallot.is)
+
+text_208 : codes "settings fault 208\n" ≡ settings_fault_text 208
+unfolding digits
+text_208 = refl
+
+pub returns-in-TooManyBallots : goal.returns-in-TooManyBallots
+returns-in-TooManyBallots c = text_208 ∙ ap (λ (f : BallotFault). settings_fault_text (fault_number f)) (sym c.in-TooManyBallots.is)

@@ -39,3 +39,24 @@ text_205 = refl
 
 pub returns-in-WritesMiss : goal.returns-in-WritesMiss
 returns-in-WritesMiss c = text_205 ∙ ap (λ (f : BallotFault). refused_text (fault_number f)) (sym c.in-WritesMiss.is)
+
+text_206 : codes "refused 206\n" ≡ refused_text 206
+unfolding digits
+text_206 = refl
+
+pub returns-in-BallotsMiss : goal.returns-in-BallotsMiss
+returns-in-BallotsMiss c = text_206 ∙ ap (λ (f : BallotFault). refused_text (fault_number f)) (sym c.in-BallotsMiss.is)
+
+text_207 : codes "refused 207\n" ≡ refused_text 207
+unfolding digits
+text_207 = refl
+
+pub returns-in-NoBallot : goal.returns-in-NoBallot
+returns-in-NoBallot c = text_207 ∙ ap (λ (f : BallotFault). refused_text (fault_number f)) (sym c.in-NoBallot.is)
+
+text_208 : codes "refused 208\n" ≡ refused_text 208
+unfolding digits
+text_208 = refl
+
+pub returns-in-TooManyBallots : goal.returns-in-TooManyBallots
+returns-in-TooManyBallots c = text_208 ∙ ap (λ (f : BallotFault). refused_text (fault_number f)) (sym c.in-TooManyBallots.is)
