@@ -1,10 +1,10 @@
 // Auditing a journal from a world in which all are down.
 
-use crate::outcomes::Failure;
 use admission_policy::{Admission, FirstProblem};
 use journal_audit::{AuditFault, Verdict, audit};
 use std::alloc::Global;
 use std::io::Read;
+use test_outcomes::Failure;
 use vote_weights::Ballot;
 use world_machine::World;
 

@@ -1,8 +1,8 @@
 // The lines of journals, read and written again, and wishes.
 
-use crate::outcomes::{Failure, Outcome, check_row};
 use history_check::{read_event, read_wish, write_event};
 use std::alloc::Global;
+use test_outcomes::{Failure, Outcome, check_row};
 
 /// The line of each event, and of the greatest numbers.
 const EVENTS: [&str; 18] = [

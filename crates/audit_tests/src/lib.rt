@@ -12,8 +12,6 @@ mod auditing;
 #[cfg(test)]
 mod journal_lines;
 #[cfg(test)]
-mod outcomes;
-#[cfg(test)]
 mod streams;
 #[cfg(test)]
 mod verdicts;

@@ -1,13 +1,13 @@
 // Readers that give little, fail in the middle or bring too much, and a writer that takes nothing.
 
 use crate::auditing::{audited, found, world};
-use crate::outcomes::{Failure, Outcome, check, check_row};
 use history_check::LineFault;
 use journal_audit::{AuditFault, Cause, Verdict, audit, audit_lines};
 use line_streams::LineReader;
 use std::alloc::Global;
 use std::io;
 use std::io::{Error, ErrorKind, Read, Write};
+use test_outcomes::{Failure, Outcome, check, check_row};
 use world_model::StepFault;
 
 /// A reader asks two nodes, hears two grants and enters.

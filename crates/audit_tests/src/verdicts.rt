@@ -1,9 +1,9 @@
 // Worked journals, with their verdicts as they are written.
 
 use crate::auditing::audited;
-use crate::outcomes::{Failure, Outcome, check_row};
 use journal_audit::AuditFault;
 use std::alloc::Global;
+use test_outcomes::{Failure, Outcome, check_row};
 
 /// A verdict, and behind its line feed the journal.
 const ROWS: [&[u8]; 18] = [

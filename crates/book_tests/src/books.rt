@@ -2,9 +2,9 @@
 
 use crate::journals::{is_sound, journal_of};
 use crate::logging::{berth_of, logs, opened};
-use crate::outcomes::{Failure, Outcome, check};
 use crate::worlds::{attempt, client, node, three_nodes};
 use history_book::BookFault;
+use test_outcomes::{Failure, Outcome, check};
 use world_model::{Effect, StepFault};
 
 #[test]
@@ -42,7 +42,7 @@ fn one_berth_each(rt: HostRuntime) -> Outcome {
     drop(one);
     match last {
         Ok(Some(_)) => Ok(()),
-        Ok(None) => Err(Failure::Wrong),
+        Ok(None) => Err(Failure::Wrong(0)),
         Err(_) => Err(Failure::Memory),
     }
 }

@@ -3,9 +3,9 @@
 ghost use Rattle.std.specs.Prelude.{◌≡◌};
 
 use crate::logging::{berth_of, logs, opened, rises, takes, takes_all};
-use crate::outcomes::{Outcome, check};
 use crate::worlds::{client, client_id, node_id, one_node};
 use history_book::{Berth, Book, BookFault};
+use test_outcomes::{Outcome, check};
 use world_model::{Event, StepFault};
 
 /// The most events of a book, and the most messages of its world, by number: a constant of the code would

@@ -2,11 +2,11 @@
 // the order in which it gets on; messages come late, again and out of order, or to another than theirs;
 // actors fall and rise.
 
-use crate::outcomes::Failure;
 use crate::worlds::node_id;
 use lock_messages::{Actor, ClientId, Message, Mode, NodeId, ResourceName};
 use rand_core::utils::NextWord;
 use rand_pcg::Pcg32;
+use test_outcomes::Failure;
 use world_machine::World;
 use world_model::{Age, Event};
 
@@ -16,7 +16,7 @@ fn some_resource(words: &mut Pcg32) -> Result<ResourceName, Failure> {
     } else {
         b"b"
     };
-    ResourceName::of(name).ok_or(Failure::Wrong)
+    ResourceName::of(name).ok_or(Failure::Wrong(0))
 }
 
 fn some_mode(words: &mut Pcg32) -> Mode {

@@ -1,9 +1,10 @@
 // The journal of a book, and what an audit finds of it.
 
-use crate::outcomes::{Failure, Outcome, check, of_journal};
+use crate::faults::of_journal;
 use history_book::Book;
 use journal_audit::{Verdict, audit};
 use std::alloc::Global;
+use test_outcomes::{Failure, Outcome, check};
 use world_machine::World;
 
 /// The journal of a book, as bytes.

@@ -9,6 +9,8 @@
 #[cfg(test)]
 mod books;
 #[cfg(test)]
+mod faults;
+#[cfg(test)]
 mod full;
 #[cfg(test)]
 mod generator;
@@ -18,8 +20,6 @@ mod journals;
 mod logging;
 #[cfg(test)]
 mod meetings;
-#[cfg(test)]
-mod outcomes;
 #[cfg(test)]
 mod random_events;
 #[cfg(test)]

@@ -3,11 +3,12 @@
 ghost use Rattle.std.specs.Prelude.{◌≡◌, IfOk};
 ghost use Rattle.history_book.specs.Books.{BookValue, BerthValue};
 
-use crate::outcomes::{Failure, Outcome, check, of_book};
+use crate::faults::of_book;
 use crate::worlds::{client, event};
 use history_book::{Berth, Book, BookFault};
 use lock_messages::Actor;
 use std::alloc::Global;
+use test_outcomes::{Failure, Outcome, check};
 use world_machine::World;
 use world_model::{Age, Effect, Event};
 
@@ -30,7 +31,7 @@ pub(crate) fn berth_of(book: &mut Book, actor: Actor) -> Result<Berth, Failure>
 {
     match book.berth(actor) {
         Ok(Some(berth)) => Ok(berth),
-        Ok(None) => Err(Failure::Wrong),
+        Ok(None) => Err(Failure::Wrong(0)),
         Err(fault) => Err(of_book(fault)),
     }
 }

@@ -3,9 +3,9 @@
 ghost use Rattle.std.specs.Prelude.{◌≡◌, ◌≢◌};
 
 use crate::logging::{berth_of, meets, opened, takes_all};
-use crate::outcomes::{Outcome, check};
 use crate::worlds::{client, node, one_node};
 use history_book::{Berth, Book, BookFault};
+use test_outcomes::{Outcome, check};
 
 const FIRST_ASKS: &str = "rise c1 old\nbegin c1 read a\ntry c1\nkept c1\nsayto c1 n1";
 

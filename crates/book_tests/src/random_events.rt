@@ -6,13 +6,13 @@ ghost use Rattle.book_tests.specs.Ties.{IsOf};
 use crate::generator::event_of_turn;
 use crate::journals::{is_sound, journal_of};
 use crate::logging::{berth_of, log, opened};
-use crate::outcomes::{Failure, Outcome, check};
 use crate::worlds::{client, node, three_nodes};
 use history_book::{Berth, Book, BookFault};
 use lock_messages::Actor;
 use rand_core::utils::NextWord;
 use rand_pcg::Pcg32;
 use std::alloc::Global;
+use test_outcomes::{Failure, Outcome, check};
 use world_machine::World;
 use world_model::{Effect, Event, StepFault};
 
@@ -79,7 +79,7 @@ fn agree(answer: Result<Effect, BookFault>, did: Result<Effect, StepFault>) -> O
         (Err(BookFault::Memory), _) | (_, Err(StepFault::Memory)) => Err(Failure::Memory),
         (Ok(done), Ok(same)) => check(done == same),
         (Err(BookFault::NotAStep(fault)), Err(same)) => check(fault == same),
-        _ => Err(Failure::Wrong),
+        _ => Err(Failure::Wrong(0)),
     }
 }
 
@@ -96,7 +96,7 @@ fn log_at(
 {
     let place = place as usize;
     if place >= berths.len() {
-        return Err(Failure::Wrong);
+        return Err(Failure::Wrong(0));
     }
     Ok(log(book, &mut berths[place], event))
 }

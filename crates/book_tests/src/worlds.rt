@@ -1,20 +1,20 @@
 // Worlds in which all are down and nothing is kept, and a few values.
 
-use crate::outcomes::Failure;
 use admission_policy::{Admission, FirstProblem};
 use history_check::read_event;
 use lock_messages::{Actor, Attempt, ClientId, NodeId};
 use std::alloc::Global;
+use test_outcomes::Failure;
 use vote_weights::Ballot;
 use world_machine::World;
 use world_model::Event;
 
 pub(crate) fn node_id(number: u8) -> Result<NodeId, Failure> {
-    NodeId::of(number).ok_or(Failure::Wrong)
+    NodeId::of(number).ok_or(Failure::Wrong(0))
 }
 
 pub(crate) fn client_id(number: u32) -> Result<ClientId, Failure> {
-    ClientId::of(number).ok_or(Failure::Wrong)
+    ClientId::of(number).ok_or(Failure::Wrong(0))
 }
 
 pub(crate) fn node(number: u8) -> Result<Actor, Failure> {
@@ -28,14 +28,14 @@ pub(crate) fn client(number: u32) -> Result<Actor, Failure> {
 }
 
 pub(crate) fn attempt(number: u64) -> Result<Attempt, Failure> {
-    Attempt::of(number).ok_or(Failure::Wrong)
+    Attempt::of(number).ok_or(Failure::Wrong(0))
 }
 
 /// The event of a line.
 pub(crate) fn event(line: &str) -> Result<Event, Failure> {
     match read_event(line.as_bytes()) {
         Ok(event) => Ok(event),
-        Err(_) => Err(Failure::Wrong),
+        Err(_) => Err(Failure::Wrong(0)),
     }
 }
 
@@ -47,7 +47,7 @@ fn world_of(alloc: Global, ballot: Ballot) -> Result<World, Failure> {
         policies.push(policy)?;
     }
     if policies.len() != ballot.nodes() as usize {
-        return Err(Failure::Wrong);
+        return Err(Failure::Wrong(0));
     }
     match World::start(alloc, ballot, 4, policies) {
         Ok(world) => Ok(world),
@@ -59,7 +59,7 @@ fn world_of(alloc: Global, ballot: Ballot) -> Result<World, Failure> {
 pub(crate) fn three_nodes(alloc: Global) -> Result<World, Failure> {
     match Ballot::of(&[1, 1, 1], 2, 2) {
         Ok(ballot) => world_of(alloc, ballot),
-        Err(_) => Err(Failure::Wrong),
+        Err(_) => Err(Failure::Wrong(0)),
     }
 }
 
@@ -67,6 +67,6 @@ pub(crate) fn three_nodes(alloc: Global) -> Result<World, Failure> {
 pub(crate) fn one_node(alloc: Global) -> Result<World, Failure> {
     match Ballot::of(&[1], 1, 1) {
         Ok(ballot) => world_of(alloc, ballot),
-        Err(_) => Err(Failure::Wrong),
+        Err(_) => Err(Failure::Wrong(0)),
     }
 }

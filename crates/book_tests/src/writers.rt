@@ -1,12 +1,12 @@
 // Writers that are interrupted and that fail, under journals that are gathered once and more often.
 
 use crate::logging::{berth_of, opened, rises};
-use crate::outcomes::{Failure, Outcome, check};
 use crate::worlds::{client, three_nodes};
 use history_book::{Book, JournalFault};
 use std::alloc::Global;
 use std::io;
 use std::io::{Error, ErrorKind, Write};
+use test_outcomes::{Failure, Outcome, check};
 
 /// A writer that is interrupted before each write, takes so many bytes, and then fails.
 #[derive(Drop)]

@@ -1,9 +1,9 @@
 // The journal of a book, and what an audit finds of it.
 
-use crate::outcomes::{Failure, Outcome};
 use history_book::Book;
 use journal_audit::{Verdict, audit};
 use std::alloc::Global;
+use test_outcomes::{Failure, Outcome};
 use world_machine::World;
 
 /// Ends the test unless an audit from the world finds the journal sound, of so many lines.

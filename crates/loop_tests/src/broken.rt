@@ -3,10 +3,10 @@
 ghost use Rattle.std.specs.Prelude.{◌≡◌, true, IfOk};
 ghost use Rattle.stable_record.specs.Faulty.{counted};
 
-use crate::outcomes::Failure;
 use stable_record::{MAX_RECORD_LEN, RecordFault, StableRecord};
 use std::alloc::Global;
 use std::marker::Model;
+use test_outcomes::Failure;
 
 /// A record whose device breaks at the first keep: that leaves the old bytes, and no reopen finds them
 /// any more.

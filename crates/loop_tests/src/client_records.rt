@@ -4,11 +4,11 @@ use crate::clients::told;
 use crate::clients_beside::{Row, WHOLE, end_of, ends};
 use crate::gates::OpenGate;
 use crate::neighbours::Coming;
-use crate::outcomes::{Failure, Outcome, check};
 use crate::records::Device;
 use stable_record::Leaves;
 use std::alloc::Global;
 use std::sync::Wait;
+use test_outcomes::{Failure, Outcome, check_row};
 
 const OLD: Row = Row {
     nodes: (1, 2),
@@ -167,7 +167,7 @@ fn wishes_with_a_record_that_fails(rt: HostRuntime) -> Outcome {
         let (every, leaves, events) = *row;
         let device = Device::Faulty(every, leaves, 0);
         let right = has_six(rt, rt.alloc(), device, events)?;
-        check(right, number)?;
+        check_row(right, number)?;
     }
     Ok(())
 }

@@ -2,10 +2,10 @@
 
 ghost use Rattle.std.specs.Prelude.{◌≡◌, ◌≤◌, length, All, IfOk};
 
-use crate::outcomes::Failure;
 use event_recorders::RunFault;
 use history_check::{MAX_WISHES, Wish, read_wish};
 use std::alloc::Global;
+use test_outcomes::Failure;
 
 /// What a client's loop answers.
 pub(crate) type Answer = Result<u32, (u32, RunFault)>;

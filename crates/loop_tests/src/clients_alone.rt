@@ -10,7 +10,6 @@ use crate::audits::journal_of;
 use crate::clients::{Answer, is_run, told, wishes};
 use crate::gates::OpenGate;
 use crate::openings::{own_book, resumed};
-use crate::outcomes::{Failure, Outcome, check};
 use crate::posts::{is_sent, posts};
 use crate::records::{Device, record_on};
 use crate::worlds::{ballot, client_id, node_id};
@@ -24,6 +23,7 @@ use lossy_link::{ListLink, Post, Sending};
 use stable_record::{Leaves, client_bytes};
 use std::alloc::Global;
 use std::sync::Wait;
+use test_outcomes::{Failure, Outcome, check_row};
 use vote_weights::Ballot;
 
 /// Runs c1, which has made this attempt last, in a book of its own over a list of posts, with a record on
@@ -176,7 +176,7 @@ leave c1
 fn too_few_nodes(rt: HostRuntime) -> Outcome {
     for (number, row) in ROWS.iter().enumerate() {
         let right = is_row(&rt, rt.alloc(), row)?;
-        check(right, number)?;
+        check_row(right, number)?;
     }
     Ok(())
 }
@@ -203,7 +203,7 @@ fn a_thousand_nudges(rt: HostRuntime) -> Outcome {
     let is_end = ended
         .journal
         .ends_with(b"\nsayto c1 n1\nleave c1\nsayto c1 n1\n");
-    check(is_answer && is_last && is_end && sent.len() == 1_001, 0)
+    check_row(is_answer && is_last && is_end && sent.len() == 1_001, 0)
 }
 
 /// Ends the test unless c1 with one wish ends by this fault over these posts, with this journal, and has sent
@@ -218,7 +218,7 @@ fn ends_over<R: Wait>(
 ) -> Outcome {
     let ended = end_of(rt, alloc, Device::Memory, 0, "c1 read a", posts)?;
     let right = is_run(&ended.journal, ended.answer, journal, Err((0, fault)))?;
-    check(right && ended.link.sent().len() == sent, 0)
+    check_row(right && ended.link.sent().len() == sent, 0)
 }
 
 /// A nudge of a node to which nothing was sent is dropped, and doesn't count.
@@ -270,7 +270,7 @@ fn ends<R: Wait>(
     let posts = Vec::new(alloc);
     let ended = end_of(rt, alloc, device, attempt, "c1 read a", posts)?;
     let right = is_run(&ended.journal, ended.answer, journal, Err((0, fault)))?;
-    check(right && ended.link.sent().is_empty(), 0)
+    check_row(right && ended.link.sent().is_empty(), 0)
 }
 
 /// 916: the record can number no change. The client has begun and tried.
@@ -308,7 +308,7 @@ fn the_last_attempt(rt: HostRuntime) -> Outcome {
         posts,
     )?;
     let is_answer = told(ended.answer)? == Err((0, RunFault::TooFewNodes));
-    check(is_answer && ended.link.sent().len() == 1, 0)
+    check_row(is_answer && ended.link.sent().len() == 1, 0)
 }
 
 /// 911: three reopens fail, and nothing is logged.

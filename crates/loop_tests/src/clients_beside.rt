@@ -8,7 +8,6 @@ use crate::audits::{count_of, journal_of};
 use crate::clients::{Answer, is_run, told, wishes};
 use crate::gates::OpenGate;
 use crate::neighbours::{Coming, Neighbour};
-use crate::outcomes::{Failure, Outcome, check};
 use crate::posts::{frame, posts};
 use crate::records::{Device, record_on};
 use crate::worlds::{ballot, client_id, node_id, opened, world};
@@ -22,6 +21,7 @@ use stable_record::client_bytes;
 use std::alloc::Global;
 use std::marker::Brand;
 use std::sync::{Mutex, Wait};
+use test_outcomes::{Failure, Outcome, check_row};
 use vote_weights::Ballot;
 
 /// Runs c1, with a record on this device, beside the first of the nodes, in the book under this lock. This
@@ -131,7 +131,7 @@ pub(crate) fn ends<R: Wait + Copy>(rt: R, alloc: Global, device: Device, row: &R
     let coming = Coming::behind(posts(alloc, row.posts)?);
     let (journal, answer) = end_of(rt, alloc, row.nodes, device, row.wishes, coming, &OpenGate)?;
     let right = is_run(&journal, answer, row.journal, row.answer)?;
-    check(right, 0)
+    check_row(right, 0)
 }
 
 pub(crate) const WHOLE: Row = Row {
@@ -320,10 +320,10 @@ fn nudges_of_two_wishes(rt: HostRuntime) -> Outcome {
         coming,
         &OpenGate,
     )?;
-    check(told(answer)? == Ok(2), 0)?;
-    check(count_of(&journal, "enter c1")? == 2, 1)?;
+    check_row(told(answer)? == Ok(2), 0)?;
+    check_row(count_of(&journal, "enter c1")? == 2, 1)?;
     // Each wish says its request and its release once, and again at each nudge.
-    check(count_of(&journal, "sayto c1 n1")? == 1_204, 2)
+    check_row(count_of(&journal, "sayto c1 n1")? == 1_204, 2)
 }
 
 /// 913: 600 nudges before the grant, and as many before the answer to the release. The thousandth comes
@@ -344,10 +344,10 @@ fn a_thousand_nudges_of_which_the_last_come_behind_leave(rt: HostRuntime) -> Out
         coming,
         &OpenGate,
     )?;
-    check(told(answer)? == Err((1, RunFault::GaveUp)), 0)?;
-    check(count_of(&journal, "leave c1")? == 1, 1)?;
+    check_row(told(answer)? == Err((1, RunFault::GaveUp)), 0)?;
+    check_row(count_of(&journal, "leave c1")? == 1, 1)?;
     // The request and 600 more, the release and 399 more, and the release once at the end.
-    check(count_of(&journal, "sayto c1 n1")? == 1_002, 2)
+    check_row(count_of(&journal, "sayto c1 n1")? == 1_002, 2)
 }
 
 /// A node that is gone is skipped, in the next wish too, and is told no release.

@@ -6,12 +6,12 @@ use crate::clients_beside::end_of as client_end;
 use crate::gates::CountingGate;
 use crate::neighbours::Coming;
 use crate::node_runs::end_of as node_end;
-use crate::outcomes::{Failure, Outcome, check};
 use crate::records::Device;
 use crate::worlds::{client_id, node_id};
 use event_recorders::RunFault;
 use lock_messages::Actor;
 use stable_record::Leaves;
+use test_outcomes::{Failure, Outcome, check_row};
 
 /// Whether the gate was called before a keep as often as this line stands in the journal, before no keep of
 /// another actor, and inside as often as c1 enters.
@@ -39,11 +39,11 @@ fn of_a_node(rt: HostRuntime) -> Outcome {
     let device = Device::Faulty(2, Leaves::Old, 0);
     let posts = "1 request, 2 release, 2 release";
     let ended = node_end(rt, rt.alloc(), device, GIVES_UP, posts, &gate)?;
-    check(is_called(&gate, &ended.journal, "try n1")?, 0)?;
+    check_row(is_called(&gate, &ended.journal, "try n1")?, 0)?;
     if ended.answer == Err(RunFault::Memory) {
         return Err(Failure::Memory);
     }
-    check(ended.answer == Ok(()) && gate.calls() == (3, 0, 0), 1)
+    check_row(ended.answer == Ok(()) && gate.calls() == (3, 0, 0), 1)
 }
 
 /// A client keeps an attempt, fails to keep the next, keeps it the second time, and enters with both.
@@ -54,8 +54,8 @@ fn of_a_client(rt: HostRuntime) -> Outcome {
     let wishes = "c1 read a, c1 read b";
     let coming = Coming::answers(rt.alloc());
     let (journal, answer) = client_end(rt, rt.alloc(), (1, 2), device, wishes, coming, &gate)?;
-    check(is_called(&gate, &journal, "try c1")?, 0)?;
-    check(told(answer)? == Ok(2) && gate.calls() == (3, 0, 2), 1)
+    check_row(is_called(&gate, &journal, "try c1")?, 0)?;
+    check_row(told(answer)? == Ok(2) && gate.calls() == (3, 0, 2), 1)
 }
 
 /// A client that has too few nodes for its second wish is inside for the first alone.
@@ -73,7 +73,7 @@ fn of_a_client_that_enters_once(rt: HostRuntime) -> Outcome {
         coming,
         &gate,
     )?;
-    check(is_called(&gate, &journal, "try c1")?, 0)?;
+    check_row(is_called(&gate, &journal, "try c1")?, 0)?;
     let too_few = Err((1, RunFault::TooFewNodes));
-    check(told(answer)? == too_few && gate.calls() == (2, 0, 1), 1)
+    check_row(told(answer)? == too_few && gate.calls() == (2, 0, 1), 1)
 }

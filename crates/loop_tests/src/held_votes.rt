@@ -6,10 +6,10 @@ ghost use Rattle.loop_tests.specs.Fresh.{IsNewClient};
 
 use crate::audits::journal_of;
 use crate::clients::{Answer, is_run, wishes};
+use crate::faults::of_book;
 use crate::gates::OpenGate;
 use crate::neighbours::{Coming, Neighbour};
 use crate::node_runs::event;
-use crate::outcomes::{Failure, Outcome, check, of_book};
 use crate::posts::frame;
 use crate::records::{Device, record_on};
 use crate::worlds::{all_opened, ballot, client_id, node_id, world};
@@ -22,6 +22,7 @@ use stable_record::client_bytes;
 use std::alloc::Global;
 use std::marker::Brand;
 use std::sync::{Mutex, Wait};
+use test_outcomes::{Failure, Outcome, check_row};
 use vote_weights::Ballot;
 
 /// How c2 asks n1 as a writer: message 1.
@@ -156,5 +157,5 @@ leave c1
 fn too_few_nodes_after_a_busy(rt: HostRuntime) -> Outcome {
     let (journal, answer) = end_of(rt, rt.alloc())?;
     let too_few = Err((0, RunFault::TooFewNodes));
-    check(is_run(&journal, answer, BUSY_AND_GONE, too_few)?, 0)
+    check_row(is_run(&journal, answer, BUSY_AND_GONE, too_few)?, 0)
 }

@@ -19,6 +19,8 @@ mod clients_alone;
 #[cfg(test)]
 mod clients_beside;
 #[cfg(test)]
+mod faults;
+#[cfg(test)]
 mod gate_calls;
 #[cfg(test)]
 mod gates;
@@ -32,8 +34,6 @@ mod node_runs;
 mod nodes;
 #[cfg(test)]
 mod openings;
-#[cfg(test)]
-mod outcomes;
 #[cfg(test)]
 mod posts;
 #[cfg(test)]

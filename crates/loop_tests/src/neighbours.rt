@@ -2,7 +2,7 @@
 
 ghost use Rattle.std.specs.Prelude.{IsOkUnless};
 
-use crate::outcomes::{Failure, Outcome, of_book};
+use crate::faults::of_book;
 use book_recorders::{BookName, BookRecorder, Logs};
 use bytes::Bytes;
 use history_book::BookFault;
@@ -10,6 +10,7 @@ use lock_messages::{Actor, NodeId};
 use lossy_link::{Link, LinkFault, Parcel, Post};
 use std::alloc::Global;
 use std::sync::Wait;
+use test_outcomes::{Failure, Outcome};
 use world_model::{Age, Effect, Event};
 
 /// What is brought beside a node's answers: these posts before them all, so many nudges before the answer

@@ -6,8 +6,8 @@ ghost use Rattle.book_recorders.specs.Sharing.{log_of};
 ghost use Rattle.loop_tests.specs.Fresh.{IsNewNode, empty_record};
 
 use crate::audits::journal_of;
+use crate::faults::of_book;
 use crate::gates::OpenGate;
-use crate::outcomes::{Failure, Outcome, check, of_book};
 use crate::posts::{is_sent, is_sent_until, posts};
 use crate::records::{Device, record_on};
 use crate::worlds::{all_opened, ballot, client_id, node_id, policy, world};
@@ -23,6 +23,7 @@ use stable_record::{Entries, NodeRecord, node_bytes};
 use std::alloc::Global;
 use std::marker::Brand;
 use std::sync::{Mutex, Wait};
+use test_outcomes::{Failure, Outcome, check_row};
 use world_model::Event;
 
 /// What a node's loop answers.
@@ -239,6 +240,6 @@ pub(crate) fn does<R: Wait + Copy>(
     let is_cut = answer == Err(RunFault::Memory);
     let has_sent = has_sent(alloc, link.sent(), row, answer)?;
     let is_logged = is_logged(&journal, asks, row.events, is_cut);
-    check(has_sent && is_logged && (is_cut || answer == expected), 0)?;
+    check_row(has_sent && is_logged && (is_cut || answer == expected), 0)?;
     if is_cut { Err(Failure::Memory) } else { Ok(()) }
 }

@@ -3,7 +3,6 @@
 use crate::audits::lines_of;
 use crate::gates::OpenGate;
 use crate::node_runs::{Ended, Row, does, end_of};
-use crate::outcomes::{Failure, Outcome, check};
 use crate::records::Device;
 use crate::worlds::node_id;
 use event_recorders::RunFault;
@@ -11,6 +10,7 @@ use lossy_link::{Post, Sending};
 use stable_record::Leaves;
 use std::alloc::Global;
 use std::sync::Wait;
+use test_outcomes::{Failure, Outcome, check_row};
 
 /// How c1 asks n1: message 1.
 const ASKS: &str = "\
@@ -287,7 +287,7 @@ fn records_that_fail(rt: HostRuntime) -> Outcome {
         let (every, leaves, nudged, events) = *row;
         let device = Device::Faulty(every, leaves, 0);
         let right = falls(rt, rt.alloc(), device, nudged, events)?;
-        check(right, number)?;
+        check_row(right, number)?;
     }
     Ok(())
 }

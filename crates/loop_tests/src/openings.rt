@@ -6,7 +6,7 @@ ghost use Rattle.book_recorders.specs.Alone.{IsAlone};
 ghost use Rattle.book_recorders.specs.Sharing.{log_of};
 ghost use Rattle.loop_tests.specs.Clients.{HasKept, IsClientOf};
 
-use crate::outcomes::{Failure, of_book};
+use crate::faults::of_book;
 use crate::worlds::{client_id, policy};
 use admission_policy::Admission;
 use book_recorders::open_alone;
@@ -14,6 +14,7 @@ use history_book::{Berth, Book};
 use lock_messages::Actor;
 use stable_record::client_bytes;
 use std::alloc::Global;
+use test_outcomes::Failure;
 use vote_weights::Ballot;
 use world_machine::{OpeningFault, World};
 

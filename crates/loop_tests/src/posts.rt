@@ -1,11 +1,11 @@
 // Posts and sendings, as rows of tests spell them.
 
-use crate::outcomes::Failure;
 use crate::worlds::{attempt, client_id, node_id, resource};
 use bytes::Bytes;
 use lock_messages::{Actor, Message, Mode, Ticket, encode};
 use lossy_link::{Parcel, Post, Sending};
 use std::alloc::Global;
+use test_outcomes::Failure;
 
 /// The first ticket of a client, for `a`.
 fn ticket(client: u32, mode: Mode) -> Result<Ticket, Failure> {

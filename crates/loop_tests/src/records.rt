@@ -3,12 +3,12 @@
 ghost use Rattle.std.specs.Prelude.{◌≡◌, ◌∷◌, [], IfOk};
 
 use crate::broken::BrokenRecord;
-use crate::outcomes::Failure;
 use stable_record::{
     FaultyRecord, Leaves, MAX_RECORD_LEN, MemoryRecord, RecordFault, StableRecord,
 };
 use std::alloc::Global;
 use std::marker::Model;
+use test_outcomes::Failure;
 
 /// On what a record lies.
 #[derive(Clone, Copy, Debug)]

@@ -8,7 +8,6 @@ ghost use Rattle.loop_tests.specs.Clients.{IsClientOf};
 use crate::audits::{journal_of, lines_of};
 use crate::clients::{Answer, told, wishes};
 use crate::openings::{own_book, resumed};
-use crate::outcomes::{Failure, Outcome, check};
 use crate::watches::{Counts, ENOUGH, Room, Watched, counted_record};
 use crate::worlds::{ballot, client_id};
 use book_recorders::{ListRecorder, Logs};
@@ -20,6 +19,7 @@ use lossy_link::ListLink;
 use stable_record::client_bytes;
 use std::alloc::Global;
 use std::sync::{Arc, Wait};
+use test_outcomes::{Failure, Outcome, check_row};
 use vote_weights::Ballot;
 
 /// Runs c1 over a link that brings nothing, with so much room in a book of its own. Answers the book, how
@@ -86,9 +86,9 @@ fn before_a_keep_of_a_client(rt: HostRuntime) -> Outcome {
     let counts = Counts::shared(rt.alloc())?;
     let (_, _, answer) = end_of(&rt, rt.alloc(), ENOUGH, &counts)?;
     let (calls, wrong, keeps) = counts.calls();
-    check(wrong == 0, 0)?;
+    check_row(wrong == 0, 0)?;
     let is_answer = told(answer)? == Err((0, RunFault::TooFewNodes));
-    check(is_answer && calls == 1 && keeps == 1, 1)
+    check_row(is_answer && calls == 1 && keeps == 1, 1)
 }
 
 /// What c1 logs for which nothing comes.
@@ -106,7 +106,7 @@ leave c1
 fn ends_full<R: Wait>(rt: &R, alloc: Global, room: Room, logged: usize) -> Outcome {
     let counts = Counts::shared(alloc)?;
     let (journal, sent, answer) = end_of(rt, alloc, room, &counts)?;
-    check(ASKS.as_bytes().starts_with(&journal), logged)?;
+    check_row(ASKS.as_bytes().starts_with(&journal), logged)?;
     let fault = if logged == 6 {
         RunFault::TooFewNodes
     } else {
@@ -114,7 +114,7 @@ fn ends_full<R: Wait>(rt: &R, alloc: Global, room: Room, logged: usize) -> Outco
     };
     let is_answer = told(answer)? == Err((0, fault));
     let is_sent = (sent == 1) == (logged >= 5);
-    check(is_answer && is_sent && lines_of(&journal) == logged, logged)
+    check_row(is_answer && is_sent && lines_of(&journal) == logged, logged)
 }
 
 /// A book that has no room behind so many events of c1.

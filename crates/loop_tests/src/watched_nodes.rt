@@ -6,7 +6,6 @@ ghost use Rattle.loop_tests.specs.Fresh.{IsNewNode};
 
 use crate::audits::{journal_of, lines_of};
 use crate::node_runs::{Answer, nothing_kept, tells};
-use crate::outcomes::{Failure, Outcome, check};
 use crate::posts::{is_sent, posts};
 use crate::watches::{Counts, ENOUGH, Room, Watched, counted_record};
 use crate::worlds::{all_opened, ballot, client_id, node_id, policy, world};
@@ -19,6 +18,7 @@ use node_loop::run_node;
 use std::alloc::Global;
 use std::marker::Brand;
 use std::sync::{Arc, Mutex, Wait};
+use test_outcomes::{Failure, Outcome, check_row};
 
 /// Runs n1 over these posts, with so much room; answers the link, and what the loop answered.
 #[tactic(auto, using(crate::proofs::Ready::node_ready))]
@@ -133,11 +133,11 @@ fn before_each_keep_of_a_node(rt: HostRuntime) -> Outcome {
     let posts = "1 request, 2 release, 3 request";
     let (_, _, answer) = end_of(rt, rt.alloc(), ASKS_AGAIN, posts, ENOUGH, &counts)?;
     let (calls, wrong, keeps) = counts.calls();
-    check(wrong == 0, 0)?;
+    check_row(wrong == 0, 0)?;
     if answer == Err(RunFault::Memory) {
         return Err(Failure::Memory);
     }
-    check(answer == Ok(()) && calls == 3 && keeps == 3, 1)
+    check_row(answer == Ok(()) && calls == 3 && keeps == 3, 1)
 }
 
 /// How c1 asks n1, and what n1 then logs.
@@ -168,7 +168,7 @@ sayto c1 n1
 fn ends_full<R: Wait + Copy>(rt: R, alloc: Global, room: Room, logged: usize) -> Outcome {
     let counts = Counts::shared(alloc)?;
     let (journal, link, answer) = end_of(rt, alloc, ASKS, "1 request", room, &counts)?;
-    check(TURN.as_bytes().starts_with(&journal), logged)?;
+    check_row(TURN.as_bytes().starts_with(&journal), logged)?;
     // That a node is gone is told as far as there is memory for it.
     if answer == Err(RunFault::Memory) || (answer.is_err() && link.sent().is_empty()) {
         return Err(Failure::Memory);
@@ -181,7 +181,7 @@ fn ends_full<R: Wait + Copy>(rt: R, alloc: Global, room: Room, logged: usize) ->
     };
     let right = answer == expected && lines_of(&journal).checked_sub(5) == Some(logged);
     let client = Actor::Client(client_id(1)?);
-    check(right && is_sent(alloc, client, link.sent(), sent)?, logged)
+    check_row(right && is_sent(alloc, client, link.sent(), sent)?, logged)
 }
 
 /// A book that has no room behind so many events of n1.

@@ -3,7 +3,6 @@
 
 ghost use Rattle.std.specs.Prelude.{◌≡◌, ◌∷◌, [], IfOk};
 
-use crate::outcomes::Failure;
 use client_core::ClientCore;
 use entry_guard::EntryGuard;
 use event_recorders::{Gate, Recorder};
@@ -15,6 +14,7 @@ use std::marker::Model;
 use std::sync::Arc;
 use std::sync::atomic::AtomicU32;
 use std::sync::atomic::Ordering::SeqCst;
+use test_outcomes::Failure;
 use world_model::{Effect, Event};
 
 /// How many Trys were logged, how often a record was kept, how often a gate was called before a keep, and

@@ -3,12 +3,13 @@
 ghost use Rattle.std.specs.Prelude.{◌≡◌, ◌∷◌, [], IfOk};
 ghost use Rattle.loop_tests.specs.Fresh.{IsNew, IsNewBook, IsUnlogged};
 
-use crate::outcomes::{Failure, of_book};
+use crate::faults::of_book;
 use admission_policy::{Admission, FirstProblem};
 use history_book::{Berth, Book};
 use lock_messages::{Actor, Attempt, ClientId, NodeId, ResourceName};
 use lock_model::Problem;
 use std::alloc::Global;
+use test_outcomes::Failure;
 use vote_weights::Ballot;
 use world_machine::World;
 

@@ -1,12 +1,13 @@
 //! A client's attempts: scripts of calls, each with its answer, and what every message is in every
 //! phase.
 
-use crate::outcomes::{Outcome, Table, check, each};
 use crate::rows::{message, mode, node};
+use crate::tables::{Table, each};
 use client_core::{ClientCore, Phase};
 use lock_messages::{ClientId, MAX_ATTEMPT, ResourceName};
 use std::alloc::Global;
 use std::fmt;
+use test_outcomes::{Outcome, check_answer};
 use vote_weights::Ballot;
 
 /// Adds what there is, or `nothing`.
@@ -86,7 +87,7 @@ fn goes(alloc: Global, core: &mut ClientCore, row: &str) -> Option<bool> {
 /// Plays a script.
 fn plays(alloc: Global, core: &mut ClientCore, script: &str) -> Outcome {
     for (row, text) in script.lines().enumerate() {
-        check(goes(alloc, core, text), row)?;
+        check_answer(goes(alloc, core, text), row)?;
     }
     Ok(())
 }
@@ -107,7 +108,7 @@ fn plays_after(alloc: Global, attempt: u64, script: &str) -> Outcome {
             let mut core = core;
             plays(alloc, &mut core, script)
         }
-        None => check(None, 0),
+        None => check_answer(None, 0),
     }
 }
 
@@ -217,7 +218,7 @@ fn attempts_to_their_end(rt: HostRuntime) -> Outcome {
     plays_after(rt.alloc(), 1_000_000_000_000, SPENT)?;
     plays_after(rt.alloc(), 999_999_999_999, LAST)?;
     let Some(mut core) = weighted() else {
-        return check(None, 0);
+        return check_answer(None, 0);
     };
     plays(rt.alloc(), &mut core, NEXT_NODE)
 }

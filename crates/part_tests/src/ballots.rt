@@ -1,9 +1,10 @@
 //! Weighted votes, refused ballots, sets of nodes, and the node that two quorums share.
 
-use crate::outcomes::{Outcome, Table, each};
 use crate::rows::{mode, numbers};
+use crate::tables::{Table, each};
 use lock_messages::{Mode, NodeId};
 use std::alloc::Global;
+use test_outcomes::Outcome;
 use vote_weights::{Ballot, NodeSet};
 
 /// The set of the nodes of a word as `1,2`.

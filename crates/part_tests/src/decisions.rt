@@ -2,11 +2,12 @@
 //! of messages, each with its replies.
 
 use crate::nodes::{FIRST, SECOND, SETTLED, WRITER_WAITS, has_record, policy_of, risen, same_step};
-use crate::outcomes::{Outcome, Table, check, each};
 use crate::rows::{message, release};
+use crate::tables::{Table, each};
 use lock_messages::Message;
 use lock_model::{Entry, Problem, Status, decide};
 use std::alloc::Global;
+use test_outcomes::{Outcome, check_answer};
 use voter_core::NodeCore;
 
 /// The replies as text, one after the other.
@@ -96,8 +97,8 @@ fn leads_on(
 
 /// The same under both problems.
 fn both_lead_to(alloc: Global, script: &str, left: &str) -> Outcome {
-    check(leads_to(alloc, Problem::First, script, left), 1)?;
-    check(leads_to(alloc, Problem::Second, script, left), 2)
+    check_answer(leads_to(alloc, Problem::First, script, left), 1)?;
+    check_answer(leads_to(alloc, Problem::Second, script, left), 2)
 }
 
 /// Whether a script goes to its end, and leaves this record.
@@ -153,8 +154,8 @@ request n1 c3 1 read a > busy n1 c3 1 read a";
 fn waiting_writer(rt: HostRuntime) -> Outcome {
     let passed = "c1 0 holds, c2 0 waits, c3 0 holds";
     let alloc = rt.alloc();
-    check(leads_to(alloc, Problem::First, READER_PASSES, passed), 1)?;
-    check(
+    check_answer(leads_to(alloc, Problem::First, READER_PASSES, passed), 1)?;
+    check_answer(
         leaves(alloc, Problem::Second, READER_WAITS, WRITER_WAITS),
         2,
     )
@@ -177,8 +178,8 @@ release n1 c2 1 > done n1 c2 1, grant n1 c3 1 read a";
 fn release_settles(rt: HostRuntime) -> Outcome {
     let left = "c1 0 holds, c2 1 free, c3 0 holds";
     let alloc = rt.alloc();
-    check(leads_to(alloc, Problem::First, NOTHING_TO_SETTLE, left), 1)?;
-    check(leaves(alloc, Problem::Second, RELEASE_SETTLES, SETTLED), 2)
+    check_answer(leads_to(alloc, Problem::First, NOTHING_TO_SETTLE, left), 1)?;
+    check_answer(leaves(alloc, Problem::Second, RELEASE_SETTLES, SETTLED), 2)
 }
 
 const MUDDLED_REQUEST: &str = "\
@@ -205,7 +206,7 @@ const NEXT_ATTEMPT_RECORD: &str = "01 01 0002 \
 fn next_attempt_settles_the_last(rt: HostRuntime) -> Outcome {
     both_lead_to(rt.alloc(), NEXT_ATTEMPT, "c2 0 holds, c1 1 holds")?;
     let record = NEXT_ATTEMPT_RECORD;
-    check(leaves(rt.alloc(), Problem::First, NEXT_ATTEMPT, record), 3)
+    check_answer(leaves(rt.alloc(), Problem::First, NEXT_ATTEMPT, record), 3)
 }
 
 // What is for a client.
@@ -293,7 +294,7 @@ fn settles_on(
 fn settle(alloc: Global, problems: &[Problem], beginning: &str, orders: &str) -> Outcome {
     for problem in problems {
         for (row, order) in orders.lines().enumerate() {
-            check(settles(alloc, *problem, beginning, order), row)?;
+            check_answer(settles(alloc, *problem, beginning, order), row)?;
         }
     }
     Ok(())

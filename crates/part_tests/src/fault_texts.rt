@@ -1,11 +1,11 @@
 //! The number and the text of each fault, once.
 
-use crate::outcomes::{Outcome, check};
 use client_core::ClientFault;
 use lock_messages::{Actor, FrameFault, NodeId};
 use stable_record::RecordFault;
 use std::alloc::Global;
 use std::fmt;
+use test_outcomes::{Outcome, check_answer};
 use vote_weights::BallotFault;
 use voter_core::VoterFault;
 use world_opening::OpeningFault;
@@ -154,5 +154,5 @@ fn texts_of_faults(rt: HostRuntime) -> Outcome {
         Some(rows) => Some(rows.as_str() == TEXTS),
         None => None,
     };
-    check(answer, 0)
+    check_answer(answer, 0)
 }

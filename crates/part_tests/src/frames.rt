@@ -1,9 +1,10 @@
 //! Frames against bytes that were written by hand, and against a plain reader of the table of fields.
 
-use crate::outcomes::{Outcome, Table, each};
 use crate::rows::{bytes, message, number, spells};
+use crate::tables::{Table, each};
 use lock_messages::{decode, encode};
 use std::alloc::Global;
+use test_outcomes::Outcome;
 
 /// The number of the fault that reading a frame finds; 0 where it finds none.
 fn fault_of(frame: &[u8]) -> u16 {

@@ -3,7 +3,6 @@
 ghost use Rattle.std.specs.Prelude.{◌≡◌, ◌↔◌, IsTrue, false};
 ghost use Rattle.client_core.specs.Calls.{MayEnter, entered, left, ReleasesAll};
 
-use crate::outcomes::{Outcome, check};
 use crate::rows::{message, node};
 use client_core::{ClientCore, Heard, Phase};
 use entry_guard::{Door, EntryGuard, OwnedEntry, enter_and_leave, enter_client};
@@ -12,6 +11,7 @@ use std::alloc::Global;
 use std::mem;
 use std::sync::Arc;
 use std::sync::atomic::{AtomicUsize, Ordering};
+use test_outcomes::{Outcome, check_answer};
 use vote_weights::Ballot;
 
 const GRANTS: &str = "\
@@ -165,12 +165,12 @@ fn leaves_by_a_question_mark() -> Option<bool> {
 
 #[test]
 fn guard(rt: HostRuntime) -> Outcome {
-    check(is_guarded(), 1)?;
-    check(is_refused(), 2)?;
-    check(leaves_by_a_question_mark(), 3)?;
-    check(is_owned(rt.alloc()), 4)?;
-    check(is_handed_back(rt.alloc()), 5)?;
-    check(is_visited(rt.alloc()), 6)
+    check_answer(is_guarded(), 1)?;
+    check_answer(is_refused(), 2)?;
+    check_answer(leaves_by_a_question_mark(), 3)?;
+    check_answer(is_owned(rt.alloc()), 4)?;
+    check_answer(is_handed_back(rt.alloc()), 5)?;
+    check_answer(is_visited(rt.alloc()), 6)
 }
 
 fn boxed(alloc: Global, votes: usize) -> Option<Box<dyn Door + Send>> {
@@ -265,8 +265,8 @@ fn owned_door_leaves_once(alloc: Global, spent: bool) -> Option<bool> {
 
 #[test]
 fn leaves_once(rt: HostRuntime) -> Outcome {
-    check(leaves_once_on_each_path(rt.alloc()), 1)?;
-    check(stays(rt.alloc()), 2)?;
-    check(owned_door_leaves_once(rt.alloc(), true), 3)?;
-    check(owned_door_leaves_once(rt.alloc(), false), 4)
+    check_answer(leaves_once_on_each_path(rt.alloc()), 1)?;
+    check_answer(stays(rt.alloc()), 2)?;
+    check_answer(owned_door_leaves_once(rt.alloc(), true), 3)?;
+    check_answer(owned_door_leaves_once(rt.alloc(), false), 4)
 }

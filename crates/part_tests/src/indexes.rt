@@ -1,11 +1,11 @@
 //! The tickets of a record by resource.
 
 use crate::nodes::WRITER_WAITS;
-use crate::outcomes::{Outcome, check};
 use crate::rows::{bytes, client};
 use lock_messages::ResourceName;
 use stable_record::{Line, NodeRecord, ResourceIndex, read_node};
 use std::alloc::Global;
+use test_outcomes::{Outcome, check_answer};
 
 /// c9 waits for `b` as a writer behind c4 and c6, which hold it as readers; c8 waits for `a` as a
 /// reader and c2 as a writer, since c1 holds it as a writer; c5 has no live ticket.
@@ -78,6 +78,6 @@ fn indexes(alloc: Global, record: &str, rows: &str) -> Option<bool> {
 
 #[test]
 fn lines_of_resources(rt: HostRuntime) -> Outcome {
-    check(indexes(rt.alloc(), TWO_RESOURCES, LINES), 1)?;
-    check(indexes(rt.alloc(), WRITER_WAITS, LINES_OF_ONE), 2)
+    check_answer(indexes(rt.alloc(), TWO_RESOURCES, LINES), 1)?;
+    check_answer(indexes(rt.alloc(), WRITER_WAITS, LINES_OF_ONE), 2)
 }

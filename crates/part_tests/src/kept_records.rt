@@ -1,11 +1,11 @@
 //! Records that are kept: in memory, and on a device that fails.
 
-use crate::outcomes::{Outcome, check};
 use stable_record::{
     FaultyRecord, Leaves, MAX_RECORD_LEN, MemoryRecord, RecordFault, StableRecord,
 };
 use std::alloc::Global;
 use std::str;
+use test_outcomes::{Outcome, check_answer};
 
 /// Adds the number of a fault that is not want of memory.
 fn tell_fault(shown: &mut String, fault: RecordFault) -> Option<()> {
@@ -48,7 +48,7 @@ fn goes(alloc: Global, record: &mut dyn StableRecord, row: &str) -> Option<bool>
 
 fn plays(alloc: Global, record: &mut dyn StableRecord, script: &str) -> Outcome {
     for (row, text) in script.lines().enumerate() {
-        check(goes(alloc, record, text), row)?;
+        check_answer(goes(alloc, record, text), row)?;
     }
     Ok(())
 }
@@ -78,7 +78,7 @@ fn plays_faulty(alloc: Global, every: u32, leaves: Leaves, bad: u32, script: &st
     }
     match FaultyRecord::of(alloc, b"A", every, leaves) {
         Ok(record) => plays(alloc, &mut record.with_bad_reopens(bad), script),
-        Err(_) => check(None, 0),
+        Err(_) => check_answer(None, 0),
     }
 }
 
@@ -110,11 +110,11 @@ fn plays_in_memory(alloc: Global, script: &str) -> Outcome {
         MemoryRecord::holding(alloc, b"A"),
         MemoryRecord::holding(alloc, b"A"),
     ) else {
-        return check(None, 0);
+        return check_answer(None, 0);
     };
     plays(alloc, &mut record, script)?;
     let Ok(boxed) = Box::new(alloc, other) else {
-        return check(None, 0);
+        return check_answer(None, 0);
     };
     let mut boxed: Box<dyn StableRecord + Send> = boxed;
     plays(alloc, &mut *boxed, script)
@@ -124,7 +124,7 @@ fn plays_in_memory(alloc: Global, script: &str) -> Outcome {
 fn kept_by_generic_code(rt: HostRuntime) -> Outcome {
     plays_in_memory(rt.alloc(), KEEPS)?;
     plays_faulty(rt.alloc(), 9, Leaves::Old, 0, KEEPS)?;
-    check(keeps_the_longest(rt.alloc()), 0)
+    check_answer(keeps_the_longest(rt.alloc()), 0)
 }
 
 /// Whether the longest record is kept, and one that is longer is refused and leaves it.

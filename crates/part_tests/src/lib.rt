@@ -27,8 +27,6 @@ mod long_runs;
 #[cfg(test)]
 mod nodes;
 #[cfg(test)]
-mod outcomes;
-#[cfg(test)]
 mod policies;
 #[cfg(test)]
 mod record_tables;
@@ -38,5 +36,7 @@ mod records;
 mod restarts;
 #[cfg(test)]
 mod rows;
+#[cfg(test)]
+mod tables;
 #[cfg(test)]
 mod words;

@@ -5,13 +5,13 @@ ghost use Rattle.std.specs.Prelude.{◌≤◌};
 
 use crate::decisions::new_core;
 use crate::nodes::{keeps, policy_of, risen, same_step, speaks, takes};
-use crate::outcomes::{Outcome, check};
 use lock_messages::{Attempt, ClientId, Message, Mode, NodeId, ResourceName, Ticket};
 use lock_model::{Entry, Live, Problem, Status};
 use rand_core::utils::NextWord;
 use rand_pcg::Pcg32;
 use stable_record::{Line, ResourceIndex};
 use std::alloc::Global;
+use test_outcomes::{Outcome, check_answer};
 use voter_core::NodeCore;
 
 /// The seed of the messages.
@@ -71,8 +71,8 @@ fn agrees(alloc: Global, problem: Problem) -> Option<bool> {
 
 #[test]
 fn long_runs_as_plain(rt: HostRuntime) -> Outcome {
-    check(agrees(rt.alloc(), Problem::First), 1)?;
-    check(agrees(rt.alloc(), Problem::Second), 2)
+    check_answer(agrees(rt.alloc(), Problem::First), 1)?;
+    check_answer(agrees(rt.alloc(), Problem::Second), 2)
 }
 
 /// Whether both have the same tickets.
@@ -118,8 +118,8 @@ fn goes_along(alloc: Global, problem: Problem) -> Option<bool> {
 
 #[test]
 fn index_of_long_runs(rt: HostRuntime) -> Outcome {
-    check(goes_along(rt.alloc(), Problem::First), 1)?;
-    check(goes_along(rt.alloc(), Problem::Second), 2)
+    check_answer(goes_along(rt.alloc(), Problem::First), 1)?;
+    check_answer(goes_along(rt.alloc(), Problem::Second), 2)
 }
 
 /// Whether a hundred readers of one resource come and go again, each with one reply.
@@ -222,7 +222,7 @@ fn lets_all_in(alloc: Global) -> Option<bool> {
 
 #[test]
 fn many_entries(rt: HostRuntime) -> Outcome {
-    check(comes_and_goes(rt.alloc(), Problem::First), 1)?;
-    check(comes_and_goes(rt.alloc(), Problem::Second), 2)?;
-    check(lets_all_in(rt.alloc()), 3)
+    check_answer(comes_and_goes(rt.alloc(), Problem::First), 1)?;
+    check_answer(comes_and_goes(rt.alloc(), Problem::Second), 2)?;
+    check_answer(lets_all_in(rt.alloc()), 3)
 }

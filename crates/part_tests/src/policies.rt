@@ -5,13 +5,13 @@ ghost use Rattle.std.specs.Prelude.{IfSome};
 ghost use Rattle.stable_record.specs.Records.{IsNodeRecord};
 
 use crate::nodes::{FIRST, SECOND, WRITER_WAITS, keeps, risen, speaks, takes};
-use crate::outcomes::{Outcome, check};
 use crate::rows::{bytes, message};
 use admission_policy::{Admission, Counted, FirstProblem, SecondProblem};
 use lock_messages::NodeId;
 use lock_model::Problem;
 use stable_record::{IndexedRecord, read_node};
 use std::alloc::Global;
+use test_outcomes::{Outcome, check_answer};
 use voter_core::NodeCore;
 
 /// Whether this is a policy of the problem, by its number and its four answers, and has counted so
@@ -62,10 +62,10 @@ fn answers_by_the_rule(problem: Problem, number: u8) -> bool {
 
 #[test]
 fn policies_by_their_rules(_rt: HostRuntime) -> Outcome {
-    check(Some(plain_policies_count_nothing()), 0)?;
-    check(Some(counts_count()), 1)?;
-    check(Some(answers_by_the_rule(Problem::First, 1)), 2)?;
-    check(Some(answers_by_the_rule(Problem::Second, 2)), 3)
+    check_answer(Some(plain_policies_count_nothing()), 0)?;
+    check_answer(Some(counts_count()), 1)?;
+    check_answer(Some(answers_by_the_rule(Problem::First, 1)), 2)?;
+    check_answer(Some(answers_by_the_rule(Problem::Second, 2)), 3)
 }
 
 /// A counting policy of the problem.
@@ -180,12 +180,12 @@ fn stays(alloc: Global) -> Option<bool> {
 fn a_policy_watched_through_a_node(rt: HostRuntime) -> Outcome {
     let alloc = rt.alloc();
     for calls in 0..=5u64 {
-        check(is_watched(alloc, 1, &FIRST, calls), calls as usize)?;
-        check(is_watched(alloc, 2, &SECOND, calls), calls as usize)?;
+        check_answer(is_watched(alloc, 1, &FIRST, calls), calls as usize)?;
+        check_answer(is_watched(alloc, 2, &SECOND, calls), calls as usize)?;
     }
-    check(is_told(alloc, 1, &FIRST, (3, 0)), 11)?;
-    check(is_told(alloc, 2, &SECOND, (2, 1)), 12)?;
-    check(comes_back(alloc, &[1, 2, 0], 501), 21)?;
-    check(comes_back(alloc, &FIRST, 502), 22)?;
-    check(stays(alloc), 23)
+    check_answer(is_told(alloc, 1, &FIRST, (3, 0)), 11)?;
+    check_answer(is_told(alloc, 2, &SECOND, (2, 1)), 12)?;
+    check_answer(comes_back(alloc, &[1, 2, 0], 501), 21)?;
+    check_answer(comes_back(alloc, &FIRST, 502), 22)?;
+    check_answer(stays(alloc), 23)
 }

@@ -1,9 +1,10 @@
 //! Each change of one byte of a node's record against a plain reader of the table of fields.
 
-use crate::outcomes::{Outcome, Table, each};
 use crate::rows::{bytes, number, spells};
+use crate::tables::{Table, each};
 use stable_record::{node_bytes, read_node};
 use std::alloc::Global;
+use test_outcomes::Outcome;
 
 // c1 holds `ab` as a writer, c2 waits for it as a reader, c3 has attempts up to 1 ended.
 const RECORD: &str = "01 01 0003 \

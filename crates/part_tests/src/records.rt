@@ -1,14 +1,15 @@
 //! Node and client records against bytes that were written by hand, and entries.
 
 use crate::nodes::{SETTLED, WRITER_WAITS};
-use crate::outcomes::{Outcome, Table, check, each};
 use crate::rows::{bytes, message};
+use crate::tables::{Table, each};
 use lock_messages::{ClientId, Message, Mode, ResourceName};
 use lock_model::Problem;
 use stable_record::{
     Entries, Entry, Live, RecordFault, Status, client_bytes, node_bytes, read_client, read_node,
 };
 use std::alloc::Global;
+use test_outcomes::{Outcome, check_answer};
 
 /// The number of the fault that reading a node's record finds; 0 where it finds none.
 fn fault_of(alloc: Global, bytes: &[u8]) -> Option<u16> {
@@ -135,7 +136,7 @@ fn records_of_every_size(rt: HostRuntime) -> Outcome {
     each(rt.alloc(), Table::WrittenAgain, WRITER_WAITS)?;
     each(rt.alloc(), Table::WrittenAgain, SETTLED)?;
     for clients in [0, 1, 2, 100, 1_024u16] {
-        check(has_size(rt.alloc(), clients), clients as usize)?;
+        check_answer(has_size(rt.alloc(), clients), clients as usize)?;
     }
     Ok(())
 }
@@ -203,7 +204,7 @@ fn admits(entries: &Entries, resource: &ResourceName) -> bool {
 
 #[test]
 fn entries_in_order(rt: HostRuntime) -> Outcome {
-    check(are_in_order(rt.alloc()), 0)
+    check_answer(are_in_order(rt.alloc()), 0)
 }
 
 // The attempt that a client's record has, or its fault.
@@ -229,7 +230,7 @@ pub(crate) fn is_read(alloc: Global, row: &str) -> Option<bool> {
 fn client_records(rt: HostRuntime) -> Outcome {
     each(rt.alloc(), Table::ClientRecords, CLIENT_RECORDS)?;
     let (first, last) = (client_bytes(0), client_bytes(1_000_000_000_000));
-    check(Some(first == [1, 0, 0, 0, 0, 0, 0, 0, 0]), 7)?;
-    check(Some(last == [1, 0, 0, 0, 0xe8, 0xd4, 0xa5, 0x10, 0]), 8)?;
-    check(Some(read_client(&[]).is_err()), 9)
+    check_answer(Some(first == [1, 0, 0, 0, 0, 0, 0, 0, 0]), 7)?;
+    check_answer(Some(last == [1, 0, 0, 0, 0xe8, 0xd4, 0xa5, 0x10, 0]), 8)?;
+    check_answer(Some(read_client(&[]).is_err()), 9)
 }

@@ -1,11 +1,11 @@
 //! A node that is put back at rest with its record.
 
 use crate::nodes::{FIRST, SETTLED, WRITER_WAITS, has_record, policy_of, risen, takes};
-use crate::outcomes::{Outcome, check};
 use crate::rows::{bytes, message};
 use lock_model::Problem;
 use stable_record::RecordFault;
 use std::alloc::Global;
+use test_outcomes::{Outcome, check_answer};
 use voter_core::{NodeCore, Phase, VoterFault};
 
 /// n1 with the record in which a writer waits.
@@ -54,5 +54,5 @@ fn goes_on(alloc: Global) -> Option<bool> {
 
 #[test]
 fn restarted_node(rt: HostRuntime) -> Outcome {
-    check(goes_on(rt.alloc()), 0)
+    check_answer(goes_on(rt.alloc()), 0)
 }

@@ -1,10 +1,11 @@
 //! Numbers and names at their limits, and words as they print.
 
-use crate::outcomes::{Outcome, Table, check, each};
 use crate::rows::{client, message, node};
+use crate::tables::{Table, each};
 use lock_messages::{Actor, ClientId, NodeId, ResourceName};
 use std::alloc::Global;
 use std::cmp::Ordering;
+use test_outcomes::{Outcome, check_answer};
 
 // Each kind of message, numbers and names at their limits.
 const MESSAGES: &str = "\
@@ -77,7 +78,7 @@ fn are_bytes_of_names() -> bool {
 #[test]
 fn words_out_of_range(rt: HostRuntime) -> Outcome {
     each(rt.alloc(), Table::NoMessages, NO_MESSAGES)?;
-    check(Some(are_bytes_of_names()), 256)
+    check_answer(Some(are_bytes_of_names()), 256)
 }
 
 // Two names, the lesser first.

@@ -2,9 +2,9 @@
 
 ghost use Rattle.std.specs.Prelude.{IsTrue};
 
-use crate::outcomes::{Outcome, check};
 use slot_record::{MemoryPlate, Plate};
 use std::alloc::Global;
+use test_outcomes::{Outcome, check_answer};
 
 /// Whether the second call from now fails, by a fuse: yes, which is proved from the contracts of the calls.
 fn second_call_fails(plate: &mut MemoryPlate) -> bool
@@ -27,5 +27,5 @@ fn burns(alloc: Global) -> Option<bool> {
 
 #[test]
 fn fuse_and_mend(rt: HostRuntime) -> Outcome {
-    check(burns(rt.alloc()), 0)
+    check_answer(burns(rt.alloc()), 0)
 }

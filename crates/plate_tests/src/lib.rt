@@ -11,8 +11,6 @@ mod listed;
 #[cfg(test)]
 mod opening;
 #[cfg(test)]
-mod outcomes;
-#[cfg(test)]
 mod plates;
 #[cfg(test)]
 mod stops;

@@ -1,11 +1,11 @@
 //! Records on plates that a crash may tear: what opening finds, wherever the work was stopped.
 
 use crate::opening::{found_after, found_on};
-use crate::outcomes::{Outcome, check};
 use lossy_link::{Fate, Weather, WeatherFault};
 use slot_record::{MemoryPlate, Plate, SlotFault, SlotRecord};
 use stable_record::{MAX_RECORD_LEN, RecordFault, StableRecord};
 use std::alloc::Global;
+use test_outcomes::{Outcome, check_answer};
 
 /// The least bytes of a plate that has a record, by number: a constant of the code would follow whatever
 /// stands there.
@@ -66,7 +66,7 @@ fn is_found(alloc: Global, bodies: &[u8], before: u32, fill: u8, found: &[u8]) -
 #[test]
 fn torn_keep(rt: HostRuntime) -> Outcome {
     for (row, (bodies, before, fill, found)) in TORN_KEEPS.iter().enumerate() {
-        check(is_found(rt.alloc(), bodies, *before, *fill, found), row)?;
+        check_answer(is_found(rt.alloc(), bodies, *before, *fill, found), row)?;
     }
     Ok(())
 }
@@ -116,8 +116,8 @@ fn survives_two(alloc: Global, call: u32, fill: u8) -> Option<bool> {
 #[test]
 fn crash_in_the_work_after_a_crash(rt: HostRuntime) -> Outcome {
     for call in 12..19u32 {
-        check(survives_two(rt.alloc(), call, 0), call as usize)?;
-        check(survives_two(rt.alloc(), call, 1), call as usize)?;
+        check_answer(survives_two(rt.alloc(), call, 0), call as usize)?;
+        check_answer(survives_two(rt.alloc(), call, 1), call as usize)?;
     }
     Ok(())
 }
@@ -172,7 +172,7 @@ fn finds(alloc: Global, first: Head, second: Head, body: u8) -> Option<bool> {
 #[test]
 fn which_slot_has_the_record(rt: HostRuntime) -> Outcome {
     for (row, (first, second, body)) in SLOT_RULE.iter().enumerate() {
-        check(finds(rt.alloc(), *first, *second, *body), row)?;
+        check_answer(finds(rt.alloc(), *first, *second, *body), row)?;
     }
     Ok(())
 }
@@ -198,8 +198,8 @@ fn keeps_nothing_more(alloc: Global) -> Option<bool> {
 
 #[test]
 fn spent_sequence(rt: HostRuntime) -> Outcome {
-    check(keeps_nothing_more(rt.alloc()), 0)?;
-    check(keeps_the_last(rt.alloc()), 1)
+    check_answer(keeps_nothing_more(rt.alloc()), 0)?;
+    check_answer(keeps_the_last(rt.alloc()), 1)
 }
 
 /// Whether a plate of this size refuses a body of this length with the fault of this number; with 0
@@ -236,10 +236,10 @@ fn all_is_lost() -> Option<bool> {
 #[test]
 fn weather_and_plate_size(rt: HostRuntime) -> Outcome {
     let refused = Weather::of(1, 500, 300, 201).err();
-    check(Some(refused == Some(WeatherFault::OverThousand)), 100)?;
-    check(all_is_lost(), 101)?;
+    check_answer(Some(refused == Some(WeatherFault::OverThousand)), 100)?;
+    check_answer(all_is_lost(), 101)?;
     for (row, (size, length, number)) in SIZES.iter().enumerate() {
-        check(is_refused(rt.alloc(), *size, *length, *number), row)?;
+        check_answer(is_refused(rt.alloc(), *size, *length, *number), row)?;
     }
     Ok(())
 }
@@ -262,7 +262,7 @@ fn keeps_in_a_box(alloc: Global) -> Option<bool> {
 
 #[test]
 fn record_on_a_plate_in_a_box(rt: HostRuntime) -> Outcome {
-    check(keeps_in_a_box(rt.alloc()), 0)
+    check_answer(keeps_in_a_box(rt.alloc()), 0)
 }
 
 const SLOT_FAULTS: [SlotFault; 6] = [
@@ -291,7 +291,7 @@ fn shows(alloc: Global, fault: SlotFault, row: Option<&str>) -> Option<bool> {
 fn slot_faults(rt: HostRuntime) -> Outcome {
     let mut rows = SLOT_FAULT_TEXTS.lines();
     for (row, fault) in SLOT_FAULTS.iter().enumerate() {
-        check(shows(rt.alloc(), *fault, rows.next()), row)?;
+        check_answer(shows(rt.alloc(), *fault, rows.next()), row)?;
     }
     Ok(())
 }

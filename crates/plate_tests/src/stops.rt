@@ -3,10 +3,10 @@
 
 use crate::listed::{Call, ListedPlate};
 use crate::opening::{found_after, found_on};
-use crate::outcomes::{Outcome, check};
 use slot_record::{MemoryPlate, Plate, SlotFault, SlotRecord};
 use stable_record::{RecordFault, StableRecord};
 use std::alloc::Global;
+use test_outcomes::{Outcome, check_answer};
 
 /// What is done on a plate, behind what.
 #[derive(Clone, Copy, Debug)]
@@ -355,7 +355,7 @@ fn stops_each(alloc: Global, row: &Row) -> Option<bool> {
 #[test]
 fn calls_and_stops(rt: HostRuntime) -> Outcome {
     for (place, row) in STOPS.iter().enumerate() {
-        check(stops_each(rt.alloc(), row), place)?;
+        check_answer(stops_each(rt.alloc(), row), place)?;
     }
     Ok(())
 }

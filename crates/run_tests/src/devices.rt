@@ -2,10 +2,10 @@
 
 ghost use Rattle.std.specs.Prelude.{◌≡◌, ◌∷◌, [], IfOk};
 
-use crate::outcomes::Failure;
 use slot_record::{LEAST_PLATE_LEN, MemoryPlate, SlotFault, SlotRecord};
 use stable_record::{FaultyRecord, Leaves, MemoryRecord, StableRecord};
 use std::alloc::Global;
+use test_outcomes::Failure;
 
 /// On what a record lies.
 #[derive(Clone, Copy, Debug)]

@@ -2,13 +2,13 @@
 
 use crate::devices::Device;
 use crate::gates::OpenGate;
-use crate::outcomes::{Failure, Outcome, check};
 use crate::rows::{Row, client, node, run_row};
 use event_recorders::RunFault;
 use stable_record::Leaves;
 use std::alloc::Global;
 use std::sync::Wait;
 use std::thread::Threads;
+use test_outcomes::{Failure, Outcome, check_row};
 
 /// Three nodes with a vote each, of which two read and two write, and four clients.
 const SETTING: Row<'static> = Row {
@@ -44,7 +44,7 @@ fn ends<R: Threads + Wait + Copy + Send>(
         ..SETTING
     };
     let seen = run_row(rt, alloc, &row, &OpenGate)?;
-    check(seen.entered == 2 && seen.faults.is_empty(), every as usize)
+    check_row(seen.entered == 2 && seen.faults.is_empty(), every as usize)
 }
 
 #[test]
@@ -83,10 +83,10 @@ fn a_node_that_cannot_start(rt: HostRuntime) -> Outcome {
     };
     let seen = run_row(rt, rt.alloc(), &row, &OpenGate)?;
     let expected = [(node(1)?, RunFault::NotReopened)];
-    check(seen.faults.as_slice() == expected.as_slice(), 1)?;
-    check(seen.entered == 1, 2)?;
+    check_row(seen.faults.as_slice() == expected.as_slice(), 1)?;
+    check_row(seen.entered == 1, 2)?;
     let (lines, _) = of_the_first_node(seen.journal.as_slice())?;
-    check(lines == 0, 3)
+    check_row(lines == 0, 3)
 }
 
 #[test]
@@ -103,8 +103,8 @@ fn a_writer_lacks_a_node(rt: HostRuntime) -> Outcome {
         (node(3)?, RunFault::NotReopened),
         (client(1)?, RunFault::TooFewNodes),
     ];
-    check(seen.faults.as_slice() == expected.as_slice(), 1)?;
-    check(seen.entered == 1, 2)
+    check_row(seen.faults.as_slice() == expected.as_slice(), 1)?;
+    check_row(seen.entered == 1, 2)
 }
 
 #[test]
@@ -116,8 +116,8 @@ fn a_plate_fails(rt: HostRuntime) -> Outcome {
     };
     let seen = run_row(rt, rt.alloc(), &row, &OpenGate)?;
     let expected = [(node(1)?, RunFault::NotReopened)];
-    check(seen.faults.as_slice() == expected.as_slice(), 1)?;
-    check(seen.entered == 1, 2)?;
+    check_row(seen.faults.as_slice() == expected.as_slice(), 1)?;
+    check_row(seen.entered == 1, 2)?;
     let (_, kept) = of_the_first_node(seen.journal.as_slice())?;
-    check(kept == 1, 3)
+    check_row(kept == 1, 3)
 }

@@ -7,12 +7,12 @@ ghost use Rattle.run_service.specs.Empty.{empty_node, empty_client};
 ghost use Rattle.world_model.specs.Openings.{opening};
 
 use crate::devices::{Device, record_on};
-use crate::outcomes::Failure;
 use admission_policy::{Admission, FirstProblem};
 use history_check::{MAX_WISHES, Wish, read_wish};
 use lock_model::Problem;
 use stable_record::{StableRecord, client_bytes};
 use std::alloc::Global;
+use test_outcomes::Failure;
 use vote_weights::Ballot;
 use world_machine::World;
 

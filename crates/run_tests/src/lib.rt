@@ -17,8 +17,6 @@ mod gates;
 #[cfg(test)]
 mod given;
 #[cfg(test)]
-mod outcomes;
-#[cfg(test)]
 mod quiet;
 #[cfg(test)]
 mod rows;

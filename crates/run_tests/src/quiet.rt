@@ -2,10 +2,10 @@
 
 use crate::devices::Device;
 use crate::gates::OpenGate;
-use crate::outcomes::{Failure, Outcome, check};
 use crate::rows::{Row, client, run_row};
 use event_recorders::RunFault;
 use std::alloc::Global;
+use test_outcomes::{Failure, Outcome, check_row};
 
 /// Three nodes with a vote each, of which two read and two write, and four clients.
 const SETTING: Row<'static> = Row {
@@ -26,8 +26,8 @@ fn one_wish(rt: HostRuntime) -> Outcome {
         ..SETTING
     };
     let seen = run_row(rt, rt.alloc(), &row, &OpenGate)?;
-    check(seen.faults.is_empty(), 1)?;
-    check(seen.entered == 1 && seen.events == 36, 2)
+    check_row(seen.faults.is_empty(), 1)?;
+    check_row(seen.entered == 1 && seen.events == 36, 2)
 }
 
 /// The longest name of a resource: no actor ends for want of memory.
@@ -38,15 +38,15 @@ fn a_long_name(rt: HostRuntime) -> Outcome {
         ..SETTING
     };
     let seen = run_row(rt, rt.alloc(), &row, &OpenGate)?;
-    check(seen.faults.is_empty(), 1)?;
-    check(seen.entered == 1 && seen.events == 36, 2)
+    check_row(seen.faults.is_empty(), 1)?;
+    check_row(seen.entered == 1 && seen.events == 36, 2)
 }
 
 #[test]
 fn no_wish(rt: HostRuntime) -> Outcome {
     let seen = run_row(rt, rt.alloc(), &SETTING, &OpenGate)?;
-    check(seen.faults.is_empty(), 1)?;
-    check(seen.entered == 0 && seen.events == 7, 2)
+    check_row(seen.faults.is_empty(), 1)?;
+    check_row(seen.entered == 0 && seen.events == 7, 2)
 }
 
 #[test]
@@ -63,8 +63,8 @@ fn a_client_gives_up(rt: HostRuntime) -> Outcome {
     };
     let seen = run_row(rt, rt.alloc(), &row, &OpenGate)?;
     let expected = [(client(1)?, RunFault::GaveUp)];
-    check(seen.faults.as_slice() == expected.as_slice(), 1)?;
-    check(seen.entered == 0, 2)
+    check_row(seen.faults.as_slice() == expected.as_slice(), 1)?;
+    check_row(seen.entered == 0, 2)
 }
 
 #[test]
@@ -84,8 +84,8 @@ fn two_clients_give_up(rt: HostRuntime) -> Outcome {
         (client(1)?, RunFault::GaveUp),
         (client(2)?, RunFault::GaveUp),
     ];
-    check(seen.faults.as_slice() == expected.as_slice(), 1)?;
-    check(seen.entered == 0, 2)
+    check_row(seen.faults.as_slice() == expected.as_slice(), 1)?;
+    check_row(seen.entered == 0, 2)
 }
 
 /// The lines of the journal that begin so, in order.
@@ -111,12 +111,12 @@ fn wishes_in_their_order(rt: HostRuntime) -> Outcome {
         ..SETTING
     };
     let seen = run_row(rt, alloc, &row, &OpenGate)?;
-    check(seen.faults.is_empty() && seen.entered == 4, 1)?;
+    check_row(seen.faults.is_empty() && seen.entered == 4, 1)?;
     let first = lines_of(alloc, seen.journal.as_slice(), "begin c1")?;
-    check(
+    check_row(
         first.as_str() == "begin c1 read a\nbegin c1 write b\nbegin c1 read c\n",
         2,
     )?;
     let second = lines_of(alloc, seen.journal.as_slice(), "begin c2")?;
-    check(second.as_str() == "begin c2 write d\n", 3)
+    check_row(second.as_str() == "begin c2 write d\n", 3)
 }

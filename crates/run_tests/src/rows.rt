@@ -6,7 +6,6 @@ ghost use Rattle.lock_messages.specs.declared.ids.TheConstants.{MAX_CLIENTS};
 use crate::audits::journal_of;
 use crate::devices::Device;
 use crate::given::{policies, records, wishes, world};
-use crate::outcomes::Failure;
 use event_recorders::{Gate, RunFault};
 use lock_messages::{Actor, ClientId, MAX_CLIENTS, NodeId};
 use lossy_link::Weather;
@@ -14,6 +13,7 @@ use node_threads::{RunEnd, run_all};
 use std::alloc::Global;
 use std::sync::Wait;
 use std::thread::Threads;
+use test_outcomes::Failure;
 use vote_weights::Ballot;
 
 /// What a run is given: its ballot, its clients, its wishes, the devices of its nodes and of its clients,

@@ -2,7 +2,6 @@
 
 use crate::devices::Device;
 use crate::given::{client_records, node_records, policies};
-use crate::outcomes::{Failure, Outcome, check};
 use crate::supplies::{second_policies, second_records};
 use lock_messages::MAX_NODES;
 use operator_cli::{Command, Order, Policies, ServeFault};
@@ -10,6 +9,7 @@ use run_service::{Records, serve_run};
 use std::alloc::Global;
 use std::sync::Wait;
 use std::thread::Threads;
+use test_outcomes::{Failure, Outcome, check_row};
 
 /// What a run by these settings prints, and its status.
 fn served<R: Threads + Wait + Copy + Send>(
@@ -59,8 +59,8 @@ fn prints<R: Threads + Wait + Copy + Send>(
     expected: &str,
 ) -> Outcome {
     let (out, status) = served(rt, alloc, settings)?;
-    check(status == 0, 1)?;
-    check(out.as_slice() == expected.as_bytes(), 2)
+    check_row(status == 0, 1)?;
+    check_row(out.as_slice() == expected.as_bytes(), 2)
 }
 
 /// All of seven actors rise; three events are for the attempt, six for each of two asks, two for the visit,
@@ -109,6 +109,6 @@ wishes = ['c1 read a']
 #[test]
 fn a_hopeless_run(rt: HostRuntime) -> Outcome {
     let (out, status) = served(rt, rt.alloc(), ALL_LOST)?;
-    check(status == 1 && out.starts_with(b"entered 0\n"), 1)?;
-    check(out.ends_with(b"\nc1 fault 913\n"), 2)
+    check_row(status == 1 && out.starts_with(b"entered 0\n"), 1)?;
+    check_row(out.ends_with(b"\nc1 fault 913\n"), 2)
 }

@@ -2,11 +2,11 @@
 
 use crate::devices::Device;
 use crate::gates::OpenGate;
-use crate::outcomes::{Failure, Outcome, check};
 use crate::rows::{Row, run_row};
 use std::alloc::Global;
 use std::sync::Wait;
 use std::thread::Threads;
+use test_outcomes::{Failure, Outcome, check_row};
 
 /// Twenty wishes of each of eight clients on three resources.
 const WISHES: u32 = 160;
@@ -49,7 +49,7 @@ fn storm<R: Threads + Wait + Copy + Send>(rt: R, alloc: Global, seed: u64) -> Ou
         weather: (seed, 200, 200, 200),
     };
     let seen = run_row(rt, alloc, &row, &OpenGate)?;
-    check(
+    check_row(
         seen.faults.is_empty() && seen.entered == WISHES,
         seed as usize,
     )

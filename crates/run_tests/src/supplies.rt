@@ -5,12 +5,12 @@ ghost use Rattle.lock_messages.specs.declared.ids.TheConstants.{MAX_NODES};
 ghost use Rattle.run_service.specs.Empty.{empty_node};
 
 use crate::devices::{Device, record_on};
-use crate::outcomes::Failure;
 use admission_policy::{Admission, SecondProblem};
 use lock_messages::MAX_NODES;
 use lock_model::Problem;
 use stable_record::StableRecord;
 use std::alloc::Global;
+use test_outcomes::Failure;
 
 /// The record of a node for problem 2 that has kept nothing.
 const NOTHING: [u8; 4] = [1, 2, 0, 0];

@@ -2,8 +2,8 @@
 
 use crate::devices::Device;
 use crate::gates::{InsideTogether, KeepTogether};
-use crate::outcomes::{Outcome, check};
 use crate::rows::{Row, run_row};
+use test_outcomes::{Outcome, check_row};
 
 #[test]
 fn two_inside_at_once(rt: HostRuntime) -> Outcome {
@@ -19,8 +19,8 @@ fn two_inside_at_once(rt: HostRuntime) -> Outcome {
         weather: (1, 0, 0, 0),
     };
     let seen = run_row(rt, rt.alloc(), &row, &gate)?;
-    check(gate.came() == (2, 0), 1)?;
-    check(seen.entered == 2 && seen.faults.is_empty(), 2)
+    check_row(gate.came() == (2, 0), 1)?;
+    check_row(seen.entered == 2 && seen.faults.is_empty(), 2)
 }
 
 #[test]
@@ -37,6 +37,6 @@ fn two_keeps_at_once(rt: HostRuntime) -> Outcome {
         weather: (1, 0, 0, 0),
     };
     let seen = run_row(rt, rt.alloc(), &row, &gate)?;
-    check(gate.came() == (true, 0), 1)?;
-    check(seen.entered == 2 && seen.faults.is_empty(), 2)
+    check_row(gate.came() == (true, 0), 1)?;
+    check_row(seen.entered == 2 && seen.faults.is_empty(), 2)
 }

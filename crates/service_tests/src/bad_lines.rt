@@ -1,8 +1,8 @@
 // Each fault of a line. A line of a table is bad by itself, behind good settings.
 
-use crate::outcomes::{Failure, Outcome};
 use crate::playing::{each_is_bad, plays_lines};
 use std::alloc::Global;
+use test_outcomes::{Failure, Outcome};
 
 #[test]
 fn first_words(rt: HostRuntime) -> Outcome {

@@ -1,8 +1,8 @@
 // Each fault of settings, and which of two comes first.
 
-use crate::outcomes::{Failure, Outcome};
 use crate::playing::{each_is_refused, plays};
 use std::alloc::Global;
+use test_outcomes::{Failure, Outcome};
 
 #[test]
 fn heads_without_an_end(rt: HostRuntime) -> Outcome {

@@ -1,9 +1,9 @@
 // What `ballot` and `audit` print, through `serve`.
 
-use crate::outcomes::{Failure, Outcome};
 use crate::playing::{SETTINGS, answers_row};
 use operator_cli::Command;
 use std::alloc::Global;
+use test_outcomes::{Failure, Outcome};
 
 /// Votes with what a read and a write need, what is printed of them, and the status.
 const BALLOTS: [(&str, &str, u8); 8] = [

@@ -1,10 +1,10 @@
 // The texts of all faults of events, lines, settings and runs, with their numbers.
 
-use crate::outcomes::{Outcome, check_row};
 use lossy_link::WeatherFault;
 use operator_cli::{LineFault, ServeFault, SettingsFault};
 use std::alloc::Global;
 use std::fmt::Display;
+use test_outcomes::{Outcome, check_row};
 use vote_weights::BallotFault;
 use world_model::StepFault;
 

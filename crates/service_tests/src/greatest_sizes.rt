@@ -1,12 +1,12 @@
 // The greatest sizes: 16 nodes with 4,080 votes, 1,024 clients inside, as many messages as there may
 // be, and inputs of many reads.
 
-use crate::outcomes::{Failure, Outcome, check};
 use crate::playing::{plays, serve_script, served};
 use operator_cli::ServeFault;
 use std::alloc::Global;
 use std::io;
 use std::io::{Read, Write};
+use test_outcomes::{Failure, Outcome, check};
 
 /// A script, and what it prints.
 #[derive(Drop)]

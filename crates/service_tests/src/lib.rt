@@ -19,8 +19,6 @@ mod fault_texts;
 #[cfg(test)]
 mod greatest_sizes;
 #[cfg(test)]
-mod outcomes;
-#[cfg(test)]
 mod playing;
 #[cfg(test)]
 mod restarts;

@@ -3,13 +3,13 @@
 ghost use Rattle.std.specs.Prelude.{IfSome};
 ghost use Rattle.operator_cli.specs.Outputs.{IsServed};
 
-use crate::outcomes::{Failure, Outcome, check_row};
 use admission_policy::{Admission, FirstProblem, SecondProblem};
 use journal_audit::AuditFault;
 use lock_messages::MAX_NODES;
 use operator_cli::{Command, Order, Policies, ServeFault, serve};
 use std::alloc::Global;
 use std::io::{Read, Write};
+use test_outcomes::{Failure, Outcome, check_row};
 
 /// Settings of three nodes with a vote each, of which two read and two write, and four clients.
 pub(crate) const SETTINGS: &str =

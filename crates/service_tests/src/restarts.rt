@@ -1,7 +1,7 @@
 // Actors that fall and rise, and messages that come late, by the world's own calls.
 
-use crate::outcomes::{Outcome, check};
 use crate::worlds::{one_inside, play, three_nodes};
+use test_outcomes::{Outcome, check};
 
 const DECIDES: &str = "\
 begin c1 read a > chose 1

@@ -1,7 +1,7 @@
 // Scripts that show what the examples don't.
 
-use crate::outcomes::Outcome;
 use crate::playing::{plays, plays_lines};
+use test_outcomes::Outcome;
 
 #[test]
 fn last_lines(rt: HostRuntime) -> Outcome {

@@ -1,11 +1,11 @@
 // Readers that give little, inputs that are cut, and readers and writers that fail.
 
-use crate::outcomes::{Failure, Outcome, check, check_row};
 use crate::playing::{serve_script, served};
 use operator_cli::ServeFault;
 use std::alloc::Global;
 use std::io;
 use std::io::{Error, ErrorKind, Read, Write};
+use test_outcomes::{Failure, Outcome, check, check_row};
 
 const SCRIPT: &str = "\
 votes = [1, 1, 1]\nread = 2\nwrite = 2\nproblem = 1\nclients = 4\n---\n\

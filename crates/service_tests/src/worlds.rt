@@ -2,11 +2,11 @@
 //
 // A table has an event and what it does on each line.
 
-use crate::outcomes::{Failure, Outcome, check, check_row};
 use admission_policy::{Admission, FirstProblem};
 use history_check::read_event;
 use lock_messages::ResourceName;
 use std::alloc::Global;
+use test_outcomes::{Failure, Outcome, check, check_row};
 use vote_weights::Ballot;
 use world_machine::World;
 use world_model::{Effect, Event, MAX_MESSAGES, StepFault};

@@ -1,9 +1,9 @@
 // One client of the world by itself: what it keeps over a restart, and what it says.
 
-use crate::outcomes::{Failure, Outcome, check};
 use crate::values::{attempt, client, node, resource, ticket};
 use lock_messages::{Message, Mode};
 use lock_model::Heard;
+use test_outcomes::{Failure, Outcome, check};
 use vote_weights::Ballot;
 use world_actors::WorldClient;
 use world_model::{Age, StepFault};

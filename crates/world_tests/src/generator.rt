@@ -1,10 +1,10 @@
 // Events of a fixed generator: 5 nodes and 6 clients, 2 resources. Messages come late, again and out of
 // order, or never; actors fall and rise; every client in turn asks, enters and releases.
 
-use crate::outcomes::Failure;
 use lock_messages::{Actor, ClientId, Message, Mode, NodeId, ResourceName};
 use rand_core::utils::NextWord;
 use rand_pcg::Pcg32;
+use test_outcomes::Failure;
 use world_machine::World;
 use world_model::{Age, Event};
 

@@ -16,8 +16,6 @@ mod nodes_alone;
 #[cfg(test)]
 mod openings;
 #[cfg(test)]
-mod outcomes;
-#[cfg(test)]
 mod policies;
 #[cfg(test)]
 mod queries;

@@ -1,11 +1,11 @@
 // One node of the world by itself: what it keeps over a restart, and what it says.
 
-use crate::outcomes::{Failure, Outcome, check};
 use crate::values::{node, request, ticket};
 use admission_policy::{Admission, FirstProblem, SecondProblem};
 use lock_messages::{Message, Mode};
 use stable_record::read_node;
 use std::alloc::Global;
+use test_outcomes::{Failure, Outcome, check};
 use world_actors::WorldNode;
 use world_model::{Age, StepFault};
 

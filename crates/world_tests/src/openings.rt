@@ -1,11 +1,11 @@
 // Worlds that resume from records, and worlds that start.
 
-use crate::outcomes::{Failure, Outcome, check, check_row};
 use crate::policies::{are_back, policies};
 use crate::records::records;
 use admission_policy::Admission;
 use lock_messages::{Actor, ClientId, MAX_CLIENTS, Mode, NodeId, ResourceName};
 use std::alloc::Global;
+use test_outcomes::{Failure, Outcome, check, check_row};
 use vote_weights::Ballot;
 use world_machine::{OpeningFault, World};
 use world_model::{Age, Event, StepFault};

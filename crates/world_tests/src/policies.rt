@@ -1,8 +1,8 @@
 // Three policies that can be told apart: of the problems 1, 2 and 1, told of 1, 2 and 3 readers.
 
-use crate::outcomes::Failure;
 use admission_policy::{Admission, Counted, FirstProblem, SecondProblem};
 use std::alloc::Global;
+use test_outcomes::Failure;
 
 fn told<P: Admission>(policy: P, readers: u64) -> Counted<P> {
     let mut policy = Counted::of(policy);

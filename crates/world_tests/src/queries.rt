@@ -1,10 +1,10 @@
 // What is asked of a world: who is inside, who waits and who holds, what is kept, and what was sent.
 
-use crate::outcomes::{Failure, Outcome, check};
 use crate::values::{client, node, resource, ticket};
 use admission_policy::{Admission, FirstProblem};
 use lock_messages::{Actor, Message, Mode, ResourceName};
 use std::alloc::Global;
+use test_outcomes::{Failure, Outcome, check};
 use vote_weights::Ballot;
 use world_machine::World;
 use world_model::{Age, Event};

@@ -2,12 +2,12 @@
 // says so of every world; this shows that it says it of worlds in which clients enter.
 
 use crate::generator::{CLIENTS, NODES, client, event_of_turn, name, node};
-use crate::outcomes::{Failure, Outcome, check};
 use admission_policy::{Admission, FirstProblem, SecondProblem};
 use lock_messages::{Actor, Mode};
 use lock_model::Problem;
 use rand_pcg::Pcg32;
 use std::alloc::Global;
+use test_outcomes::{Failure, Outcome, check};
 use vote_weights::Ballot;
 use world_machine::World;
 use world_model::{Age, Effect, Event, StepFault};

@@ -1,7 +1,7 @@
 // Records that were written by hand, each under a name.
 
-use crate::outcomes::Failure;
 use std::alloc::Global;
+use test_outcomes::Failure;
 
 /// The bytes of a record, each word a field, in hexadecimal digits.
 fn spelled(name: &str) -> Option<&'static str> {

@@ -1,7 +1,7 @@
 // The few values that tests share.
 
-use crate::outcomes::Failure;
 use lock_messages::{Attempt, ClientId, Message, Mode, NodeId, ResourceName, Ticket};
+use test_outcomes::Failure;
 
 pub(crate) fn node(number: u8) -> Result<NodeId, Failure> {
     NodeId::of(number).ok_or(Failure::Wrong(0))

@@ -1,19 +1,24 @@
-// How a test ends before its end.
+// Why a test ended before its end.
 
 use std::alloc::{AllocError, AllocFailed};
 use std::fmt;
 use world_model::StepFault;
 
-/// Why a test ended: memory was refused, or something is wrong; in a table, in the row of this number,
-/// counted from 0.
-#[derive(Clone, Copy, Debug)]
-pub(crate) enum Failure {
+/// Why a test ended. A row is one of the test's table, counted from 0; where there is no table it is 0,
+/// or a number that tells one check of the test from another.
+#[derive(Clone, Copy, Debug, PartialEq, Eq)]
+pub enum Failure {
+    /// Memory was refused.
     Memory,
+    /// The row has no answer: it can't be read, memory was refused for it, or a call was refused that
+    /// should not be.
+    NoAnswer(usize),
+    /// In this row something is not so.
     Wrong(usize),
 }
 
 /// What a test, or a step of one, answers.
-pub(crate) type Outcome = Result<(), Failure>;
+pub type Outcome = Result<(), Failure>;
 
 impl From<AllocError> for Failure {
     fn from(_error: AllocError) -> Failure {
@@ -34,25 +39,12 @@ impl From<fmt::Error> for Failure {
     }
 }
 
+/// Where a test expects a step to be taken, a refusal is wrong.
 impl From<StepFault> for Failure {
     fn from(fault: StepFault) -> Failure {
         match fault {
             StepFault::Memory => Failure::Memory,
             _ => Failure::Wrong(0),
         }
-    }
-}
-
-/// Ends the test where something is not so.
-pub(crate) fn check(holds: bool) -> Outcome {
-    check_row(holds, 0)
-}
-
-/// Ends the test where a row of its table is not so.
-pub(crate) fn check_row(holds: bool, row: usize) -> Outcome {
-    if holds {
-        Ok(())
-    } else {
-        Err(Failure::Wrong(row))
     }
 }

@@ -1,28 +1,8 @@
-//! How a test ends, and how the rows of a table are asked.
+//! How the rows of a table are asked.
 
 use crate::{attempts, ballots, decisions, frames, record_tables, records, words};
 use std::alloc::Global;
-
-/// Why a test failed, with the number of the row, from 0.
-#[derive(Clone, Copy, Debug)]
-pub(crate) enum Failure {
-    /// The row can't be read, memory was refused, or a call was refused that should not be.
-    NoAnswer(usize),
-    /// The row's answer is wrong.
-    Wrong(usize),
-}
-
-/// What a test answers.
-pub(crate) type Outcome = Result<(), Failure>;
-
-/// Fails where the answer to a row is wrong, or there is none.
-pub(crate) fn check(answer: Option<bool>, row: usize) -> Outcome {
-    match answer {
-        Some(true) => Ok(()),
-        Some(false) => Err(Failure::Wrong(row)),
-        None => Err(Failure::NoAnswer(row)),
-    }
-}
+use test_outcomes::{Outcome, check_answer};
 
 /// What the rows of a table say. (One function that names them all is cheaper to prove than to hand
 /// each test's own function to a loop.)
@@ -87,7 +67,7 @@ fn holds(alloc: Global, table: Table, row: &str) -> Option<bool> {
 /// Asks of each row of a table, one after the other.
 pub(crate) fn each(alloc: Global, table: Table, rows: &str) -> Outcome {
     for (row, text) in rows.lines().enumerate() {
-        check(holds(alloc, table, text), row)?;
+        check_answer(holds(alloc, table, text), row)?;
     }
     Ok(())
 }

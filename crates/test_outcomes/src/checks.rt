@@ -1,0 +1,37 @@
+// What ends a test.
+
+ghost use Rattle.std.specs.Prelude.{◌≡◌, ◌⊎◌, true, false, Some, None, OnOk, IfErr};
+
+use crate::{Failure, Outcome};
+
+/// Ends the test, as wrong in row 0, where something is not so.
+pub fn check(holds: bool) -> Outcome
+    ensures passes { OnOk result (holds ≡ true) }
+    ensures fails { IfErr result (λ failure. (holds ≡ false) × (failure ≡ Failure.Wrong 0)) }
+{
+    check_row(holds, 0)
+}
+
+/// Ends the test, as wrong in the row, where something is not so.
+pub fn check_row(holds: bool, row: usize) -> Outcome
+    ensures passes { OnOk result (holds ≡ true) }
+    ensures fails { IfErr result (λ failure. (holds ≡ false) × (failure ≡ Failure.Wrong row)) }
+{
+    if holds {
+        Ok(())
+    } else {
+        Err(Failure::Wrong(row))
+    }
+}
+
+/// Ends the test where the answer to a row is wrong, or there is none.
+pub fn check_answer(answer: Option<bool>, row: usize) -> Outcome
+    ensures passes { OnOk result (answer ≡ Some true) }
+    ensures fails { IfErr result (λ failure. ((answer ≡ Some false) × (failure ≡ Failure.Wrong row)) ⊎ ((answer ≡ None) × (failure ≡ Failure.NoAnswer row))) }
+{
+    match answer {
+        Some(true) => Ok(()),
+        Some(false) => Err(Failure::Wrong(row)),
+        None => Err(Failure::NoAnswer(row)),
+    }
+}
