@@ -61,9 +61,14 @@ no_write fault.Write h = absurd h
 no_write fault.Memory h = λ e. let clash : fault.Memory ≡ fault.Write = e in cc
 no_write fault.TooManyLines h = absurd h
 
-pub no_write_in : (r : Result Verdict AuditFault) → IfErr r CutsShort → IfErr r (λ e. e ≢ fault.Write)
+-- want of memory cuts it short
+pub memory_cuts : (r : Result Verdict AuditFault) → IfErr r (λ e. e ≡ fault.Memory) → IfErr r CutsShort
+memory_cuts (Ok v) h = tt
+memory_cuts (Err e) h = subst CutsShort (sym h) tt
+
+pub no_write_in : (r : Result Verdict AuditFault) → IfErr r (λ e. e ≡ fault.Memory) → IfErr r (λ e. e ≢ fault.Write)
 no_write_in (Ok v) h = tt
-no_write_in (Err e) h = no_write e h
+no_write_in (Err e) h = no_write e (subst CutsShort (sym h) tt)
 
 pub cut_short : (w : ExactWorld) (text : Option (List ℕ)) (e : AuditFault) → CutsShort e → Finds w text (Err e)
 cut_short w None e h = tt

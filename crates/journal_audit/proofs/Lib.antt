@@ -2,4 +2,5 @@ pub mod RunFacts
 pub mod VerdictLaws
 pub mod LineFacts
 pub mod JudgeFacts
+pub mod LeftFacts
 pub mod AuditFacts

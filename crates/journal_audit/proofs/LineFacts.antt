@@ -1,5 +1,5 @@
 -- The next line of a text, as it is read.
-use Rattle.std.proofs.Common.{◌≡◌, ℕ, ◌<◌, true, false, nat_lt, List, ◌∷◌, length, Option, Result, Ok, Err, sym, ap, ◌∙◌, arith}
+use Rattle.std.proofs.Common.{◌≡◌, ℕ, ◌<◌, ◌≤◌, Bool, true, false, nat_lt, List, ◌∷◌, length, Option, Result, Ok, Err, refl, sym, ap, ◌∙◌, arith}
 use Rattle.std.proofs.lemmas.Bool.Decides.{nat_tests}
 use Rattle.world_model.specs.declared.events.Event.{Event}
 use Rattle.history_check.specs.declared.faults.LineFault.{LineFault}
@@ -36,3 +36,14 @@ line_comes ys new piece end says r some e =
 -- a line that is too long says no event
 pub never_long : (ys : List ℕ) (new : Option (List ℕ)) (piece : List ℕ) (x : Event) → EndsPiece MAX_LINE_LEN ys new piece Limit → event_of piece ≡ Ok x → ⊥
 never_long ys new piece x r e = let (rest, more, cut, long) = r in let clash : Err bad.Words ≡ Ok x = sym (too_long piece long) ∙ e in cc
+
+-- so one that says an event is short
+pub short_line : (piece : List ℕ) (x : Event) → event_of piece ≡ Ok x → length piece ≤ MAX_LINE_LEN
+short_line piece x e = if_short (nat_lt MAX_LINE_LEN (length piece)) refl
+  where
+    if_short : (b : Bool) → nat_lt MAX_LINE_LEN (length piece) ≡ b → length piece ≤ MAX_LINE_LEN
+    if_short true t =
+        let long : MAX_LINE_LEN < length piece = grind (arith, nat_tests) in
+        let clash : Err bad.Words ≡ Ok x = sym (too_long piece long) ∙ e in
+        absurd (cc)
+    if_short false t = grind (arith, nat_tests)

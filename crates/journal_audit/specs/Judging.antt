@@ -1,11 +1,16 @@
 -- What the private functions of an audit owe one another. Who reads what `audit` promises has no need of
 -- them.
-use Rattle.std.specs.Prelude.{◌≡◌, ℕ, List, [], ◌∷◌, Option, Some, None, Result, Ok, Err}
+use Rattle.std.specs.Prelude.{◌≡◌, ℕ, ◌≤◌, List, [], ◌∷◌, ◌++◌, length, Option, Some, None, Result, Ok, Err}
+use Rattle.std.specs.Io.KnownBytes.{Consumes}
+use Rattle.history_check.specs.declared.words.TheConstants.{MAX_LINE_LEN}
+use Rattle.line_streams.specs.declared.reading.End.{End}
+use Rattle.line_streams.specs.Streams.{IsPlain, feed_of}
 use Rattle.journal_audit.specs.declared.faults.AuditFault.{AuditFault}
 use Rattle.journal_audit.specs.declared.faults.AuditFault.TheVariants as fault
 use Rattle.journal_audit.specs.declared.verdicts.TheConstants.{MAX_LINES}
 use Rattle.journal_audit.specs.declared.verdicts.Verdict.{Verdict}
 use Rattle.journal_audit.specs.declared.verdicts.Verdict.TheVariants.{Sound}
+use Rattle.journal_audit.specs.Leavings.{HasEnded, IsTaken}
 use Rattle.journal_audit.specs.Verdicts.{text_lines}
 
 -- the faults that cut an audit short
@@ -26,3 +31,15 @@ EndsIn lines (Err fault.TooManyLines) = (l : List ℕ) × (behind : List (List �
 abbrev pub EndsLines : Option (List ℕ) → Result Verdict AuditFault → Type 0
 EndsLines None r = Unit {0}
 EndsLines (Some text) r = EndsIn (text_lines text) r
+
+-- Some bytes of a line were taken, which is no longer than one may be.
+abbrev pub TakesPart : Option (List ℕ) → Option (List ℕ) → Type 0
+TakesPart text left = (line : List ℕ) × (length line ≤ MAX_LINE_LEN) × IsPlain line × Consumes text left line
+
+-- What such a call took: the end of the text, or a line, or a part of one.
+abbrev pub TakesLast : Option (List ℕ) → Option (List ℕ) → Result Verdict AuditFault → Type 0
+TakesLast text left (Ok v) = HasEnded text left
+TakesLast text left (Err fault.Read) = TakesPart text left
+TakesLast text left (Err fault.Write) = Unit {0}
+TakesLast text left (Err fault.Memory) = TakesPart text left
+TakesLast text left (Err fault.TooManyLines) = (line : List ℕ) × (end : End) × IsTaken text left line end × IsPlain line × Consumes text left (line ++ feed_of end)

@@ -1,4 +1,5 @@
 pub mod Faults
 pub mod Verdicts
 pub mod Audits
+pub mod Leavings
 pub mod Judging

@@ -2,6 +2,7 @@
 
 ghost use Rattle.std.specs.Prelude.{◌≡◌};
 ghost use Rattle.journal_audit.specs.Audits.{Audits};
+ghost use Rattle.journal_audit.specs.Leavings.{Leaves};
 ghost use Rattle.journal_audit.specs.Verdicts.{Finds};
 
 use crate::judging::judge_lines;
@@ -14,7 +15,10 @@ use std::io::{Read, Write};
 use world_machine::World;
 
 /// Judges the lines that are left of an input, as `audit` does; the reads that were made before count
-/// with those that it makes.
+/// with those that it makes. Of the input it takes the lines up to the one that its verdict speaks of, and
+/// leaves what stands behind: after `Unsound` of a line just what follows that line's line feed, or the 129
+/// bytes of it that show it too long; after `Sound` nothing. After 816 and 818 the lines that it took are
+/// a run, and at most one line more was begun.
 ///
 /// # Errors
 ///
@@ -28,6 +32,7 @@ pub fn audit_lines<R: Read, W: Write>(
     requires { Unit {0} }
     ensures verdict { Finds world source.old result }
     ensures told { Audits world source.old (W.contents writer.old) (W.contents writer.new) result }
+    ensures left { Leaves world source.old source.new result }
 {
     events_are_spelled_once();
     let mut world = world;

@@ -2,8 +2,9 @@
 
 ghost use Rattle.std.specs.Prelude.{◌≡◌, ◌≢◌, [], IfOk, IfErr};
 ghost use Rattle.history_check.specs.declared.words.TheConstants.{MAX_LINE_LEN};
-ghost use Rattle.line_streams.specs.Streams.{ReadsPiece};
-ghost use Rattle.journal_audit.specs.Judging.{CutsShort, EndsLines};
+ghost use Rattle.line_streams.specs.Streams.{ReadsPiece, TakesLine, FitsLimit};
+ghost use Rattle.journal_audit.specs.Judging.{CutsShort, EndsLines, TakesLast};
+ghost use Rattle.journal_audit.specs.Leavings.{Leaves};
 ghost use Rattle.journal_audit.specs.Verdicts.{Finds};
 
 use crate::{AuditFault, Cause, MAX_LINES, Verdict};
@@ -19,6 +20,8 @@ use world_model::StepFault;
 fn read_piece<R: Read>(source: &mut LineReader<R>, piece: &mut Vec<u8>) -> Result<End, AuditFault>
     ensures line { IfOk result (λ end. ReadsPiece MAX_LINE_LEN source.old source.new piece.new.items end) }
     ensures fault { IfErr result CutsShort }
+    ensures taken { TakesLine source.old source.new piece.new.items result }
+    ensures few { FitsLimit MAX_LINE_LEN piece.new.items result }
 {
     match source.read_line(piece, MAX_LINE_LEN) {
         Ok(end) => Ok(end),
@@ -30,7 +33,7 @@ fn read_piece<R: Read>(source: &mut LineReader<R>, piece: &mut Vec<u8>) -> Resul
 /// What is found where the line of this number is refused.
 fn refused(number: u32, fault: StepFault) -> Result<Verdict, AuditFault>
     ensures verdict { IfOk result (λ v. (v ≡ Verdict.Unsound number (Cause.Refused fault)) × (fault ≢ StepFault.Memory)) }
-    ensures memory { IfErr result CutsShort }
+    ensures memory { IfErr result (λ e. e ≡ AuditFault.Memory) }
 {
     match fault {
         StepFault::Memory => Err(AuditFault::Memory),
@@ -45,6 +48,8 @@ fn end_lines<R: Read>(
 ) -> Result<Verdict, AuditFault>
     ensures lines { EndsLines source.old result }
     ensures fault { IfErr result (λ e. e ≢ AuditFault.Write) }
+    ensures sound { IfOk result (λ v. v ≡ Verdict.Sound MAX_LINES) }
+    ensures left { TakesLast source.old source.new result }
 {
     let end = match read_piece(source, piece) {
         Ok(end) => end,
@@ -66,6 +71,7 @@ pub fn judge_lines<R: Read>(
     requires { Unit {0} }
     ensures found { Finds world.old source.old result }
     ensures fault { IfErr result (λ e. e ≢ AuditFault.Write) }
+    ensures left { Leaves world.old source.old source.new result }
 {
     events_are_spelled_once();
     let Ok(mut piece) = Vec::with_capacity(alloc, MAX_LINE_LEN + 1) else {

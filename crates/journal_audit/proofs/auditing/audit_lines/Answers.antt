@@ -1,4 +1,5 @@
 use Rattle.journal_audit.proofs.AuditFacts.{verdict_found, no_verdict, not_told}
+use Rattle.journal_audit.proofs.LeftFacts.{untold_left}
 use Rattle.journal_audit.proofs.auditing.audit_lines.Goals as goal
 
 pub returns-in-Err-clause-told : goal.returns-in-Err-clause-told
@@ -12,3 +13,6 @@ pub returns-clause-told : goal.returns-clause-told
 returns-clause-told g c =
     not_told c.events_are_spelled_once.ensures c.args.world c.args.source.now (g.W.Write.contents c.args.writer.now) (g.W.Write.contents c.tell_verdict.new.writer) c.in-Ok.verdict c.in-Err-tell_verdict.fault c.in-Err-tell_verdict.fault
     c.in-Ok.ensures.found c.in-Err-tell_verdict.ensures.text c.in-Err-tell_verdict.ensures.fault
+
+pub returns-clause-left : goal.returns-clause-left
+returns-clause-left g c = untold_left c.args.world c.args.source.now c.judge_lines.new.source c.in-Ok.verdict c.in-Err-tell_verdict.fault c.in-Ok.ensures.left c.in-Err-tell_verdict.ensures.fault
