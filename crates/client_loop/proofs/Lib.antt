@@ -1,5 +1,6 @@
 pub mod Logs
 pub mod Attempts
+pub mod EnterFacts
 pub mod NodeFacts
 pub mod HearFacts
 pub mod SentFacts

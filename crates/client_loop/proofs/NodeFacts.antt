@@ -97,6 +97,9 @@ gone_more number n gone before low h =
     has_node-with_node gone number n ∙ ap (λ (b : Bool). (number == n) || b) h ∙ or_assoc (number == n) (is_below number n) (has_node before n)
     ∙ ap (λ (b : Bool). b || has_node before n) (sym (below_more number n low))
 
+pub gone_one : (gone : List ℕ) (n : ℕ) → has_node gone n ≡ (is_below 1 n || has_node gone n)
+gone_one gone n = rw (below_one n) refl
+
 pub skips_below_one : (c : Client) → Skips (is_below 1) c c
 skips_below_one c = skips_none (is_below 1) c below_one
 
@@ -143,6 +146,10 @@ gone_among nodes number n gone e = ap (λ (b : Bool). b && has_node gone n) (amo
 
 pub enough_alike : (b : Ballot) (mode : Mode) (p q : ℕ → Bool) → ((n : ℕ) → HasNode b n → p n ≡ q n) → IsEnough b mode p → IsEnough b mode q
 enough_alike b mode p q h enough = subst (λ (v : ℕ). needed b mode ≤ v) (votes_alike b p q h) enough
+
+-- a core that stays
+pub alike_none : (c : Client) → IsAlike c c
+alike_none c = record { client = refl; ballot = refl; part = refl; phase = refl }
 
 -- one core after the other
 pub alike_on : (a b c : Client) → IsAlike a b → IsAlike b c → IsAlike a c

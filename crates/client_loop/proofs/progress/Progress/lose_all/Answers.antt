@@ -1,5 +1,16 @@
-use Rattle.client_loop.proofs.NodeFacts.{alike_on, lose_others, lose_gone, lose_step}
+use Rattle.std.proofs.Common.{refl}
+use Rattle.client_loop.proofs.NodeFacts.{alike_none, alike_on, gone_one, lose_others, lose_gone, lose_step, skips_below_one}
 use Rattle.client_loop.proofs.progress.Progress.lose_all.Goals as goal
+
+pub loop-number-init : goal.loop-number-init
+loop-number-init c =
+    let before = c.args.self.now in
+    record {
+      gone = λ n. gone_one before.gone n;
+      skipped = skips_below_one before.core;
+      alike = alike_none before.core;
+      others = refl;
+    }
 
 pub loop-number-preserved : goal.loop-number-preserved
 loop-number-preserved c =

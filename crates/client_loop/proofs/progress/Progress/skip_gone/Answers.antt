@@ -1,5 +1,15 @@
-use Rattle.client_loop.proofs.NodeFacts.{alike_on, skip_others, skip_step}
+use Rattle.std.proofs.Common.{refl}
+use Rattle.client_loop.proofs.NodeFacts.{alike_none, alike_on, skip_others, skip_step, skips_gone_one}
 use Rattle.client_loop.proofs.progress.Progress.skip_gone.Goals as goal
+
+pub loop-number-init : goal.loop-number-init
+loop-number-init c =
+    let before = c.args.self.now in
+    record {
+      skipped = skips_gone_one before.gone before.core;
+      alike = alike_none before.core;
+      others = refl;
+    }
 
 pub loop-number-preserved : goal.loop-number-preserved
 loop-number-preserved c =
