@@ -1,2 +1,3 @@
 pub mod ReopenFacts
 pub mod StepFacts
+pub mod EndFacts

@@ -4,3 +4,4 @@ pub mod EnterFacts
 pub mod NodeFacts
 pub mod HearFacts
 pub mod SentFacts
+pub mod EndFacts

@@ -3,3 +3,4 @@ pub mod Visits
 pub mod Nodes
 pub mod Hearing
 pub mod Sendings
+pub mod Endings

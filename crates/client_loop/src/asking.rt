@@ -1,10 +1,15 @@
 // Asking nodes for their votes.
 
-ghost use Rattle.std.specs.Prelude.{◌≡◌, OnOk, IfErr};
+ghost use Rattle.std.specs.Prelude.{◌≡◌, OnOk, IfErr, Err};
 ghost use Rattle.client_core.specs.Calls.{MayEnter};
 ghost use Rattle.client_loop.specs.Sendings.{SentFollows, SentUnlessMemory};
 ghost use Rattle.client_loop.specs.Standing.{Stands};
 ghost use Rattle.client_loop.specs.Visits.{visits_of};
+ghost use Rattle.client_core.specs.Clients.{phase_of};
+ghost use Rattle.client_loop.specs.Endings.{IsAskFault};
+ghost use Rattle.client_loop.specs.Nodes.{CanSuffice};
+ghost use Rattle.actor_steps.specs.Steps.{IsBookFault};
+ghost use Rattle.actor_steps.specs.Endings.{falls_of};
 
 use crate::posts::take_post;
 use crate::progress::Progress;
@@ -30,6 +35,9 @@ fn ask_on<R: Recorder, L: Link>(
     ensures faulted { IfErr result (λ f. SentUnlessMemory f (R.own_log recorder.old) (R.own_log recorder.new) (L.given link.old) (L.given link.new)) }
     ensures stands { Stands (R.own_log recorder.new) (finds stable.now) progress.new.core }
     ensures visits { visits_of (R.own_log recorder.new) ≡ visits_of (R.own_log recorder.old) }
+    ensures phase { phase_of progress.new.core ≡ phase_of progress.old.core }
+    ensures falls { falls_of (R.own_log recorder.new) ≡ falls_of (R.own_log recorder.old) }
+    ensures faults { IfErr result IsBookFault }
 {
     let Some(node) = progress.core.next_ask() else {
         return Ok(());
@@ -60,6 +68,11 @@ pub(crate) fn ask<W: Wait, R: Recorder, L: Link>(
     ensures faulted { IfErr result (λ f. SentUnlessMemory f (R.own_log recorder.old) (R.own_log recorder.new) (L.given link.old) (L.given link.new)) }
     ensures stands { Stands (R.own_log recorder.new) (finds stable.now) progress.new.core }
     ensures visits { visits_of (R.own_log recorder.new) ≡ visits_of (R.own_log recorder.old) }
+    ensures phase { phase_of progress.new.core ≡ phase_of progress.old.core }
+    ensures falls { falls_of (R.own_log recorder.new) ≡ falls_of (R.own_log recorder.old) }
+    ensures faults { IfErr result IsAskFault }
+    // 912: only where the nodes that granted and those that aren't gone are not enough.
+    ensures too_few { result ≡ Err RunFault.TooFewNodes → CanSuffice progress.new.core.ballot mode progress.new.granted progress.new.gone → ⊥ }
 {
     for _ in rt.forever() {
         if progress.core.may_enter() {

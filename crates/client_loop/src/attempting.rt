@@ -1,10 +1,12 @@
 // Making an attempt: its number is chosen, and kept before it is used.
 
-ghost use Rattle.std.specs.Prelude.{◌≡◌, OnOk, false, Some, Ok};
+ghost use Rattle.std.specs.Prelude.{◌≡◌, ◌+◌, OnOk, IfErr, true, false, Some, Ok};
 ghost use Rattle.client_core.specs.Clients.{phase_of};
 ghost use Rattle.client_core.specs.declared.phases.Phase.TheVariants as phase;
 ghost use Rattle.client_loop.specs.Sendings.{sent_of};
 ghost use Rattle.client_loop.specs.Standing.{Stands, HasChosen, HasTried};
+ghost use Rattle.actor_steps.specs.Endings.{falls_of, FailuresFollow};
+ghost use Rattle.client_loop.specs.Endings.{ClientEndsFrom};
 ghost use Rattle.client_loop.specs.Visits.{visits_of, use_of};
 
 use crate::progress::Progress;
@@ -19,7 +21,7 @@ use std::sync::Wait;
 use world_model::Event;
 
 /// Chooses the next attempt, for the wish. 916: none is left.
-#[tactic(auto, using(crate::proofs::SentFacts::begin_sends_nothing))]
+#[tactic(auto, using(crate::proofs::SentFacts::begin_sends_nothing, crate::proofs::EndFacts::book_ends))]
 fn begin<R: Recorder>(
     core: &mut ClientCore,
     wish: &Wish,
@@ -28,10 +30,13 @@ fn begin<R: Recorder>(
 ) -> Result<(), RunFault>
     requires stands { Stands (R.own_log recorder.old) (finds stable.now) core.old }
     requires idle { phase_of core.old ≡ phase.Idle }
+    requires free { stuck_of stable.now ≡ false }
     ensures silent { sent_of (R.own_log recorder.new) ≡ sent_of (R.own_log recorder.old) }
     ensures chosen { OnOk result (HasChosen (R.own_log recorder.new) (finds stable.now) core.new) }
     ensures begun { OnOk result ((visits_of (R.own_log recorder.new)).begun ≡ Some (use_of wish.now)) }
     ensures entered { (visits_of (R.own_log recorder.new)).entered ≡ (visits_of (R.own_log recorder.old)).entered }
+    ensures falls { falls_of (R.own_log recorder.new) ≡ falls_of (R.own_log recorder.old) }
+    ensures ended { IfErr result (λ fault. ClientEndsFrom fault (falls_of (R.own_log recorder.old)) (R.own_log recorder.new) (stuck_of stable.now) (spent_of stable.now) (failures_of stable.now) (failures_of stable.now)) }
 {
     let Wish { mode, resource, .. } = *wish;
     let resource = &resource;
@@ -49,6 +54,7 @@ fn begin<R: Recorder>(
 }
 
 /// Rises again with the attempt that the record holds, after it failed to keep the chosen one.
+#[tactic(auto, using(crate::proofs::EndFacts::client_ends, actor_steps::proofs::EndFacts::failures_stay))]
 fn rise_anew<R: Recorder>(
     core: &mut ClientCore,
     stable: &mut dyn StableRecord,
@@ -60,6 +66,8 @@ fn rise_anew<R: Recorder>(
     ensures idle { OnOk result (phase_of core.new ≡ phase.Idle) }
     ensures silent { sent_of (R.own_log recorder.new) ≡ sent_of (R.own_log recorder.old) }
     ensures visits { visits_of (R.own_log recorder.new) ≡ visits_of (R.own_log recorder.old) }
+    ensures ended { IfErr result (λ fault. ClientEndsFrom fault (falls_of (R.own_log recorder.old) + 1) (R.own_log recorder.new) (stuck_of stable.new) (spent_of stable.new) (failures_of stable.old) (failures_of stable.new)) }
+    ensures falls { FailuresFollow (falls_of (R.own_log recorder.old) + 1) (falls_of (R.own_log recorder.new)) (failures_of stable.old) (failures_of stable.new) }
 {
     let bytes = client_bytes(core.attempt());
     let found = rise_again(Actor::Client(core.client()), &bytes, stable, recorder)?;
@@ -72,7 +80,7 @@ fn rise_anew<R: Recorder>(
 
 /// Keeps the chosen attempt, with which the client then asks. Whether it was kept; where the record
 /// failed, the client has risen again.
-#[tactic(auto, using(crate::proofs::SentFacts::keeping_sends_nothing, crate::proofs::SentFacts::trying_sends_nothing, crate::proofs::SentFacts::tried_sends_nothing))]
+#[tactic(auto, using(crate::proofs::SentFacts::keeping_sends_nothing, crate::proofs::SentFacts::trying_sends_nothing, crate::proofs::SentFacts::tried_sends_nothing, crate::proofs::EndFacts::client_ends, crate::proofs::EndFacts::client_ends_on, actor_steps::proofs::EndFacts::failures_stay, actor_steps::proofs::EndFacts::failures_rise, actor_steps::proofs::EndFacts::failures_on))]
 fn keep_chosen<R: Recorder, G: Gate>(
     core: &mut ClientCore,
     stable: &mut dyn StableRecord,
@@ -86,6 +94,9 @@ fn keep_chosen<R: Recorder, G: Gate>(
     ensures again { result ≡ Ok false → phase_of core.new ≡ phase.Idle }
     ensures silent { sent_of (R.own_log recorder.new) ≡ sent_of (R.own_log recorder.old) }
     ensures visits { visits_of (R.own_log recorder.new) ≡ visits_of (R.own_log recorder.old) }
+    ensures asking { result ≡ Ok true → phase_of core.new ≡ phase.Asking }
+    ensures ended { IfErr result (λ fault. ClientEndsFrom fault (falls_of (R.own_log recorder.old)) (R.own_log recorder.new) (stuck_of stable.new) (spent_of stable.new) (failures_of stable.old) (failures_of stable.new)) }
+    ensures falls { FailuresFollow (falls_of (R.own_log recorder.old)) (falls_of (R.own_log recorder.new)) (failures_of stable.old) (failures_of stable.new) }
 {
     records_fit();
     let bytes = client_bytes(core.attempt());
@@ -104,6 +115,7 @@ fn keep_chosen<R: Recorder, G: Gate>(
 
 /// Makes the next attempt for the wish, and once more for as long as the record fails. The nodes that
 /// are gone are skipped in it.
+#[tactic(auto, using(crate::proofs::EndFacts::client_ends_on, actor_steps::proofs::EndFacts::failures_on, crate::proofs::EndFacts::failures_same))]
 pub(crate) fn attempt<W: Wait, R: Recorder, G: Gate>(
     rt: &W,
     wish: &Wish,
@@ -120,6 +132,9 @@ pub(crate) fn attempt<W: Wait, R: Recorder, G: Gate>(
     ensures silent { sent_of (R.own_log recorder.new) ≡ sent_of (R.own_log recorder.old) }
     ensures begun { OnOk result ((visits_of (R.own_log recorder.new)).begun ≡ Some (use_of wish.now)) }
     ensures entered { (visits_of (R.own_log recorder.new)).entered ≡ (visits_of (R.own_log recorder.old)).entered }
+    ensures asking { OnOk result (phase_of progress.new.core ≡ phase.Asking) }
+    ensures ended { IfErr result (λ fault. ClientEndsFrom fault (falls_of (R.own_log recorder.old)) (R.own_log recorder.new) (stuck_of stable.new) (spent_of stable.new) (failures_of stable.old) (failures_of stable.new)) }
+    ensures falls { FailuresFollow (falls_of (R.own_log recorder.old)) (falls_of (R.own_log recorder.new)) (failures_of stable.old) (failures_of stable.new) }
 {
     for _ in rt.forever() {
         begin(&mut progress.core, wish, &*stable, recorder)?;

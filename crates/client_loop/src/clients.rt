@@ -7,6 +7,9 @@ ghost use Rattle.event_recorders.specs.OwnLogs.{IsUnused, FindsPart};
 ghost use Rattle.lossy_link.specs.Links.{all_more};
 ghost use Rattle.client_loop.specs.Sendings.{sent_of, SentFollows, SentUnlessMemory, ToldUnlessMemory};
 ghost use Rattle.client_loop.specs.Standing.{Stands, KeepsAttempt};
+ghost use Rattle.actor_steps.specs.Steps.{HasFailed};
+ghost use Rattle.actor_steps.specs.Endings.{falls_of, FailuresFollow};
+ghost use Rattle.client_loop.specs.Endings.{ClientEndsFrom, ClientEndsBy};
 ghost use Rattle.client_loop.specs.Visits.{visits_of, HasEntered, entries_of};
 
 use crate::progress::Progress;
@@ -23,7 +26,7 @@ use std::sync::Wait;
 use vote_weights::Ballot;
 
 /// The client's core as it first rises, with the attempt that its record holds.
-#[tactic(auto, using(crate::proofs::SentFacts::first_rise_sends_nothing, crate::proofs::SentFacts::unused_sends_nothing))]
+#[tactic(auto, using(crate::proofs::SentFacts::first_rise_sends_nothing, crate::proofs::SentFacts::unused_sends_nothing, crate::proofs::EndFacts::client_ends, actor_steps::proofs::EndFacts::failures_stay))]
 fn rise<R: Recorder>(
     client: ClientId,
     ballot: Ballot,
@@ -39,6 +42,8 @@ fn rise<R: Recorder>(
     ensures idle { IfOk result (λ core. phase_of core ≡ phase.Idle) }
     ensures silent { sent_of (R.own_log recorder.new) ≡ [] }
     ensures visits { (visits_of (R.own_log recorder.new)).entered ≡ [] }
+    ensures ended { IfErr result (λ fault. ClientEndsFrom fault (falls_of (R.own_log recorder.old)) (R.own_log recorder.new) (stuck_of stable.new) (spent_of stable.new) (failures_of stable.old) (failures_of stable.new)) }
+    ensures falls { FailuresFollow (falls_of (R.own_log recorder.old)) (falls_of (R.own_log recorder.new)) (failures_of stable.old) (failures_of stable.new) }
 {
     let bytes = rise_first(Actor::Client(client), stable, recorder)?;
     let Ok(attempt) = read_client(bytes.as_slice()) else {
@@ -48,7 +53,7 @@ fn rise<R: Recorder>(
 }
 
 /// Fulfils the wishes in order.
-#[tactic(auto, using(crate::proofs::SentFacts::follows_on, crate::proofs::SentFacts::unless_on))]
+#[tactic(auto, using(crate::proofs::SentFacts::follows_on, crate::proofs::SentFacts::unless_on, crate::proofs::EndFacts::client_ends_on, actor_steps::proofs::EndFacts::failures_on))]
 fn fulfil_all<W: Wait, R: Recorder, L: Link, G: Gate>(
     rt: &W,
     alloc: Global,
@@ -68,6 +73,8 @@ fn fulfil_all<W: Wait, R: Recorder, L: Link, G: Gate>(
     ensures faulted { IfErr result (λ p. SentUnlessMemory p.1 (R.own_log recorder.old) (R.own_log recorder.new) (L.given link.old) (L.given link.new)) }
     ensures entered { HasEntered wishes.now (entries_of result) (R.own_log recorder.new) }
     ensures all { IfOk result (λ n. n ≡ length wishes.now) }
+    ensures ended { IfErr result (λ p. ClientEndsFrom p.1 (falls_of (R.own_log recorder.old)) (R.own_log recorder.new) (stuck_of stable.new) (spent_of stable.new) (failures_of stable.old) (failures_of stable.new)) }
+    ensures falls { FailuresFollow (falls_of (R.own_log recorder.old)) (falls_of (R.own_log recorder.new)) (failures_of stable.old) (failures_of stable.new) }
 {
     let mut progress = Progress::of(core);
     let mut entered = 0;
@@ -91,7 +98,7 @@ fn fulfil_all<W: Wait, R: Recorder, L: Link, G: Gate>(
 }
 
 /// Rises, and fulfils the wishes in order.
-#[tactic(auto, using(crate::proofs::SentFacts::all_told, crate::proofs::SentFacts::told_unless, crate::proofs::SentFacts::told_nothing))]
+#[tactic(auto, using(crate::proofs::SentFacts::all_told, crate::proofs::SentFacts::told_unless, crate::proofs::SentFacts::told_nothing, actor_steps::proofs::EndFacts::failures_on))]
 fn run<W: Wait, R: Recorder, L: Link, G: Gate>(
     rt: &W,
     alloc: Global,
@@ -112,6 +119,8 @@ fn run<W: Wait, R: Recorder, L: Link, G: Gate>(
     ensures faulted { IfErr result (λ p. ToldUnlessMemory p.1 (R.own_log recorder.new) (L.given link.old) (L.given link.new)) }
     ensures entered { HasEntered wishes.now (entries_of result) (R.own_log recorder.new) }
     ensures all { IfOk result (λ n. n ≡ length wishes.now) }
+    ensures ended { IfErr result (λ p. ClientEndsBy p.1 (R.own_log recorder.new) (stuck_of stable.new) (spent_of stable.new) (failures_of stable.old) (failures_of stable.new)) }
+    ensures falls { HasFailed (falls_of (R.own_log recorder.new)) (failures_of stable.old) (failures_of stable.new) }
 {
     let core = match rise(client, ballot, stable, recorder) {
         Ok(core) => core,
@@ -150,14 +159,14 @@ pub fn run_client<W: Wait, R: Recorder, L: Link, G: Gate>(
     client: ClientId,
     ballot: Ballot,
     wishes: &[Wish],
-    stable: Box<dyn StableRecord + Send>,
+    stable: &mut dyn StableRecord,
     recorder: &mut R,
     link: &mut L,
     gate: &G,
 ) -> Result<u32, (u32, RunFault)>
     requires unused { IsUnused (R.own_log recorder.old) (Actor.Client client) }
     requires ballot { (R.own_log recorder.old).ballot ≡ ballot }
-    requires found { FindsPart (R.own_log recorder.old).opening (finds stable) }
+    requires found { FindsPart (R.own_log recorder.old).opening (finds stable.old) }
     requires kept { KeepsAttempt (R.own_log recorder.old).opening }
     requires own { All (λ wish. wish.client ≡ client) wishes.now }
     requires few { length wishes.now ≤ MAX_WISHES }
@@ -165,17 +174,10 @@ pub fn run_client<W: Wait, R: Recorder, L: Link, G: Gate>(
     ensures faulted { IfErr result (λ p. ToldUnlessMemory p.1 (R.own_log recorder.new) (L.given link.old) (L.given link.new)) }
     ensures entered { HasEntered wishes.now (entries_of result) (R.own_log recorder.new) }
     ensures all { IfOk result (λ n. n ≡ length wishes.now) }
+    ensures ended { IfErr result (λ p. ClientEndsBy p.1 (R.own_log recorder.new) (stuck_of stable.new) (spent_of stable.new) (failures_of stable.old) (failures_of stable.new)) }
+    ensures falls { HasFailed (falls_of (R.own_log recorder.new)) (failures_of stable.old) (failures_of stable.new) }
 {
-    let mut stable = stable;
     run(
-        rt,
-        alloc,
-        client,
-        ballot,
-        wishes,
-        &mut *stable,
-        recorder,
-        link,
-        gate,
+        rt, alloc, client, ballot, wishes, stable, recorder, link, gate,
     )
 }

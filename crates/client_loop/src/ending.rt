@@ -1,9 +1,15 @@
 // Giving up a wish.
 
-ghost use Rattle.std.specs.Prelude.{◌≡◌, OnOk, IfErr};
+ghost use Rattle.std.specs.Prelude.{◌≡◌, ◌⊎◌, OnOk, IfErr};
 ghost use Rattle.client_loop.specs.Sendings.{SentFollows, SentUnlessMemory};
 ghost use Rattle.client_loop.specs.Standing.{Stands};
 ghost use Rattle.client_loop.specs.Visits.{visits_of};
+ghost use Rattle.client_core.specs.Clients.{phase_of};
+ghost use Rattle.client_core.specs.declared.phases.Phase.TheVariants as phase;
+ghost use Rattle.event_recorders.specs.OwnLogs.{part_now};
+ghost use Rattle.client_loop.specs.Endings.{IsAskFault, IsOutside, EndsAsking};
+ghost use Rattle.actor_steps.specs.Steps.{IsBookFault};
+ghost use Rattle.actor_steps.specs.Endings.{falls_of};
 
 use crate::entering::log_leave;
 use crate::progress::Progress;
@@ -15,7 +21,7 @@ use stable_record::StableRecord;
 use std::alloc::Global;
 
 /// Leaves, where the client asks, and says the release once to each node that was asked and isn't gone.
-#[tactic(auto, using(crate::proofs::SentFacts::follows_from, crate::proofs::SentFacts::unless_none, crate::proofs::SentFacts::unless_from))]
+#[tactic(auto, using(crate::proofs::SentFacts::follows_from, crate::proofs::SentFacts::unless_none, crate::proofs::SentFacts::unless_from, crate::proofs::EndFacts::is_outside))]
 fn give_up<R: Recorder, L: Link>(
     alloc: Global,
     progress: &mut Progress,
@@ -23,10 +29,14 @@ fn give_up<R: Recorder, L: Link>(
     recorder: &mut R,
     link: &mut L,
 ) -> Result<(), RunFault>
-    requires { Stands (R.own_log recorder.old) (finds stable.now) progress.old.core }
+    requires stands { Stands (R.own_log recorder.old) (finds stable.now) progress.old.core }
+    requires phase { (phase_of progress.old.core ≡ phase.Asking) ⊎ (phase_of progress.old.core ≡ phase.Idle) }
     ensures sent { OnOk result (SentFollows (R.own_log recorder.old) (R.own_log recorder.new) (L.given link.old) (L.given link.new)) }
     ensures faulted { IfErr result (λ f. SentUnlessMemory f (R.own_log recorder.old) (R.own_log recorder.new) (L.given link.old) (L.given link.new)) }
     ensures visits { visits_of (R.own_log recorder.new) ≡ visits_of (R.own_log recorder.old) }
+    ensures falls { falls_of (R.own_log recorder.new) ≡ falls_of (R.own_log recorder.old) }
+    ensures faults { IfErr result IsBookFault }
+    ensures outside { OnOk result (IsOutside (part_now (R.own_log recorder.new))) }
 {
     if let Phase::Asking = progress.core.phase() {
         progress.core.leave();
@@ -46,10 +56,15 @@ pub(crate) fn end<R: Recorder, L: Link>(
     recorder: &mut R,
     link: &mut L,
 ) -> RunFault
-    requires { Stands (R.own_log recorder.old) (finds stable.now) progress.old.core }
+    requires stands { Stands (R.own_log recorder.old) (finds stable.now) progress.old.core }
+    requires phase { (phase_of progress.old.core ≡ phase.Asking) ⊎ (phase_of progress.old.core ≡ phase.Idle) }
+    requires fault { IsAskFault fault }
     ensures faulted { SentUnlessMemory result (R.own_log recorder.old) (R.own_log recorder.new) (L.given link.old) (L.given link.new) }
     ensures memory { fault ≡ RunFault.Memory → result ≡ RunFault.Memory }
     ensures visits { visits_of (R.own_log recorder.new) ≡ visits_of (R.own_log recorder.old) }
+    ensures falls { falls_of (R.own_log recorder.new) ≡ falls_of (R.own_log recorder.old) }
+    ensures ended { EndsAsking result (R.own_log recorder.new) }
+    ensures told { (result ≡ fault) ⊎ IsBookFault result }
 {
     match fault {
         RunFault::TooFewNodes | RunFault::GaveUp => {

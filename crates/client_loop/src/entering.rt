@@ -1,6 +1,6 @@
 // Being inside.
 
-ghost use Rattle.std.specs.Prelude.{◌≡◌, ◌<◌, OnOk, OnErr};
+ghost use Rattle.std.specs.Prelude.{◌≡◌, ◌<◌, OnOk, OnErr, IfErr};
 ghost use Rattle.client_core.specs.Clients.{phase_of};
 ghost use Rattle.client_core.specs.declared.phases.Phase.TheVariants as phase;
 ghost use Rattle.client_core.specs.Calls.{MayEnter, entered as inside_of, left};
@@ -8,6 +8,8 @@ ghost use Rattle.world_model.specs.Parts.{ClientPart};
 ghost use Rattle.event_recorders.specs.OwnLogs.{part_now};
 ghost use Rattle.client_loop.specs.Sendings.{sent_of};
 ghost use Rattle.client_loop.specs.Standing.{Stands, HasLeft, part_of};
+ghost use Rattle.actor_steps.specs.Steps.{IsBookFault};
+ghost use Rattle.actor_steps.specs.Endings.{falls_of};
 ghost use Rattle.client_loop.specs.Visits.{visits_of, visits_entering, tally, AddsUse, AddsAtMost};
 
 use actor_steps::log_plain;
@@ -44,6 +46,8 @@ fn enter<R: Recorder>(
     ensures silent { sent_of (R.own_log recorder.new) ≡ sent_of (R.own_log recorder.old) }
     ensures entered { OnOk result (visits_of (R.own_log recorder.new) ≡ visits_entering (visits_of (R.own_log recorder.old))) }
     ensures refused { OnErr result (R.own_log recorder.new ≡ R.own_log recorder.old) }
+    ensures falls { falls_of (R.own_log recorder.new) ≡ falls_of (R.own_log recorder.old) }
+    ensures faults { IfErr result IsBookFault }
 {
     log_plain(recorder, Event::Enter(core.client()), stable)?;
     Ok(())
@@ -60,6 +64,8 @@ pub(crate) fn log_leave<R: Recorder>(
     ensures outside { OnOk result (Stands (R.own_log recorder.new) (finds stable.now) core.now) }
     ensures silent { sent_of (R.own_log recorder.new) ≡ sent_of (R.own_log recorder.old) }
     ensures visits { visits_of (R.own_log recorder.new) ≡ visits_of (R.own_log recorder.old) }
+    ensures falls { falls_of (R.own_log recorder.new) ≡ falls_of (R.own_log recorder.old) }
+    ensures faults { IfErr result IsBookFault }
 {
     log_plain(recorder, Event::Leave(core.client()), stable)?;
     Ok(())
@@ -81,6 +87,8 @@ pub(crate) fn visit<R: Recorder, G: Gate>(
     ensures silent { sent_of (R.own_log recorder.new) ≡ sent_of (R.own_log recorder.old) }
     ensures entered { OnOk result (AddsUse (visits_of (R.own_log recorder.old)).begun (tally entered.old (R.own_log recorder.old)) (tally entered.new (R.own_log recorder.new))) }
     ensures counted { AddsAtMost (visits_of (R.own_log recorder.old)).begun (tally entered.old (R.own_log recorder.old)) (tally entered.new (R.own_log recorder.new)) }
+    ensures falls { falls_of (R.own_log recorder.new) ≡ falls_of (R.own_log recorder.old) }
+    ensures faults { IfErr result IsBookFault }
 {
     enter(core, stable, recorder)?;
     *entered += 1;

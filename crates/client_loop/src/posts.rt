@@ -1,11 +1,15 @@
 // What a client does on a post.
 
-ghost use Rattle.std.specs.Prelude.{◌≡◌, OnOk, OnErr, IfErr};
+ghost use Rattle.std.specs.Prelude.{◌≡◌, ◌↔◌, ◌≤◌, ◌+◌, true, OnOk, OnErr, IfErr, Err};
 ghost use Rattle.client_core.specs.Clients.{phase_of};
 ghost use Rattle.client_loop.specs.Hearing.{IsFrameFor, TakesParcel};
 ghost use Rattle.client_loop.specs.Sendings.{sent_of, SentFollows, SentUnlessMemory};
 ghost use Rattle.client_loop.specs.Standing.{Stands};
 ghost use Rattle.client_loop.specs.Visits.{visits_of};
+ghost use Rattle.client_loop.specs.Endings.{IsPostFault};
+ghost use Rattle.vote_weights.specs.Sets.{has_node};
+ghost use Rattle.actor_steps.specs.Steps.{IsBookFault};
+ghost use Rattle.actor_steps.specs.Endings.{falls_of};
 
 use crate::progress::{MAX_NUDGES, Progress};
 use crate::talking::{hear, tell};
@@ -31,6 +35,8 @@ fn take_parcel<R: Recorder>(
     ensures stands { Stands (R.own_log recorder.new) (finds stable.now) progress.new.core }
     ensures phase { phase_of progress.new.core ≡ phase_of progress.old.core }
     ensures visits { visits_of (R.own_log recorder.new) ≡ visits_of (R.own_log recorder.old) }
+    ensures falls { falls_of (R.own_log recorder.new) ≡ falls_of (R.own_log recorder.old) }
+    ensures faults { IfErr result IsBookFault }
 {
     let Some((node, heard)) = hear(&mut progress.core, parcel, stable, recorder)? else {
         return Ok(());
@@ -57,6 +63,10 @@ fn take_nudge<R: Recorder, L: Link>(
     ensures stands { Stands (R.own_log recorder.new) (finds stable.now) progress.new.core }
     ensures phase { phase_of progress.new.core ≡ phase_of progress.old.core }
     ensures visits { visits_of (R.own_log recorder.new) ≡ visits_of (R.own_log recorder.old) }
+    ensures falls { falls_of (R.own_log recorder.new) ≡ falls_of (R.own_log recorder.old) }
+    ensures faults { IfErr result IsPostFault }
+    // 913: exactly at the last nudge that a wish may have, of a node to which it has sent something.
+    ensures gave_up { (result ≡ Err RunFault.GaveUp) ↔ ((has_node progress.old.asked node ≡ true) × (MAX_NUDGES ≤ progress.old.nudges + 1)) }
 {
     if !progress.asked.has(node) {
         return Ok(());
@@ -86,6 +96,8 @@ pub(crate) fn take_post<R: Recorder, L: Link>(
     ensures stands { Stands (R.own_log recorder.new) (finds stable.now) progress.new.core }
     ensures phase { phase_of progress.new.core ≡ phase_of progress.old.core }
     ensures visits { visits_of (R.own_log recorder.new) ≡ visits_of (R.own_log recorder.old) }
+    ensures falls { falls_of (R.own_log recorder.new) ≡ falls_of (R.own_log recorder.old) }
+    ensures faults { IfErr result IsPostFault }
 {
     let Ok(post) = link.receive() else {
         progress.lose_all();

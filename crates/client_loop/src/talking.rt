@@ -7,6 +7,8 @@ ghost use Rattle.client_loop.specs.Sendings.{sent_of, sending_to, SentFollows, S
 ghost use Rattle.client_loop.specs.Hearing.{IsFrameFor, Hears, HearsOf, HearsNothing};
 ghost use Rattle.client_loop.specs.Standing.{Stands};
 ghost use Rattle.client_loop.specs.Visits.{visits_of};
+ghost use Rattle.actor_steps.specs.Steps.{IsBookFault};
+ghost use Rattle.actor_steps.specs.Endings.{falls_of};
 
 use actor_steps::{log_plain, log_reading};
 use client_core::ClientCore;
@@ -33,6 +35,8 @@ fn said<R: Recorder>(
     ensures refused { OnErr result (R.own_log recorder.new ≡ R.own_log recorder.old) }
     ensures stands { Stands (R.own_log recorder.new) (finds stable.now) core.now }
     ensures visits { visits_of (R.own_log recorder.new) ≡ visits_of (R.own_log recorder.old) }
+    ensures falls { falls_of (R.own_log recorder.new) ≡ falls_of (R.own_log recorder.old) }
+    ensures faults { IfErr result IsBookFault }
 {
     let Some(message) = core.message_for(node) else {
         return Ok(None);
@@ -59,6 +63,8 @@ pub(crate) fn tell<R: Recorder, L: Link>(
     ensures faulted { IfErr result (λ f. SentUnlessMemory f (R.own_log recorder.old) (R.own_log recorder.new) (L.given link.old) (L.given link.new)) }
     ensures stands { Stands (R.own_log recorder.new) (finds stable.now) core.now }
     ensures visits { visits_of (R.own_log recorder.new) ≡ visits_of (R.own_log recorder.old) }
+    ensures falls { falls_of (R.own_log recorder.new) ≡ falls_of (R.own_log recorder.old) }
+    ensures faults { IfErr result IsBookFault }
 {
     let Some((number, message)) = said(core, node, stable, recorder)? else {
         return Ok(());
@@ -115,6 +121,8 @@ fn heard<R: Recorder>(
     ensures stands { Stands (R.own_log recorder.new) (finds stable.now) core.new }
     ensures phase { phase_of core.new ≡ phase_of core.old }
     ensures visits { visits_of (R.own_log recorder.new) ≡ visits_of (R.own_log recorder.old) }
+    ensures falls { falls_of (R.own_log recorder.new) ≡ falls_of (R.own_log recorder.old) }
+    ensures faults { IfErr result IsBookFault }
 {
     let Some(done) = log_reading(recorder, Event::Hear(core.client(), number), stable)? else {
         return Ok(None);
@@ -143,6 +151,8 @@ pub(crate) fn hear<R: Recorder>(
     ensures stands { Stands (R.own_log recorder.new) (finds stable.now) core.new }
     ensures phase { phase_of core.new ≡ phase_of core.old }
     ensures visits { visits_of (R.own_log recorder.new) ≡ visits_of (R.own_log recorder.old) }
+    ensures falls { falls_of (R.own_log recorder.new) ≡ falls_of (R.own_log recorder.old) }
+    ensures faults { IfErr result IsBookFault }
 {
     if !is_for_client(&parcel.frame, core.client()) {
         return Ok(None);

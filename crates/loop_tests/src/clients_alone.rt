@@ -44,7 +44,7 @@ fn run<K: Logs + Drop, R: Wait>(
     requires wishes { All (λ wish. wish.client ≡ 1) wishes.now }
     requires few { length wishes.now ≤ MAX_WISHES }
 {
-    let stable = record_on(alloc, device, &client_bytes(attempt))?;
+    let mut stable = record_on(alloc, device, &client_bytes(attempt))?;
     let client = client_id(1)?;
     let (book, berth) = own;
     let mut recorder = ListRecorder::over(book, berth);
@@ -55,7 +55,7 @@ fn run<K: Logs + Drop, R: Wait>(
         client,
         ballot,
         wishes,
-        stable,
+        &mut *stable,
         &mut recorder,
         &mut link,
         &OpenGate,

@@ -44,7 +44,7 @@ fn run_over<B: BookName, K: Logs, R: Wait + Copy, G: Gate>(
     requires wishes { All (λ wish. wish.client ≡ 1) wishes.now }
     requires few { length wishes.now ≤ MAX_WISHES }
 {
-    let stable = record_on(alloc, device, &client_bytes(0))?;
+    let mut stable = record_on(alloc, device, &client_bytes(0))?;
     let client = client_id(1)?;
     let (one, two) = berths;
     let beside = BookRecorder::of(rt, lock, one);
@@ -56,7 +56,7 @@ fn run_over<B: BookName, K: Logs, R: Wait + Copy, G: Gate>(
         client,
         ballot,
         wishes,
-        stable,
+        &mut *stable,
         &mut recorder,
         &mut link,
         gate,

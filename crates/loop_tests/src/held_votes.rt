@@ -68,7 +68,7 @@ fn run_over<B: BookName, K: Logs, R: Wait + Copy>(
     requires wishes { All (λ wish. wish.client ≡ 1) wishes.now }
     requires few { length wishes.now ≤ MAX_WISHES }
 {
-    let stable = record_on(alloc, Device::Memory, &client_bytes(0))?;
+    let mut stable = record_on(alloc, Device::Memory, &client_bytes(0))?;
     let client = client_id(1)?;
     let nodes = (node_id(1)?, node_id(2)?);
     let (node, one, two) = berths;
@@ -87,7 +87,7 @@ fn run_over<B: BookName, K: Logs, R: Wait + Copy>(
         client,
         ballot,
         wishes,
-        stable,
+        &mut *stable,
         &mut recorder,
         &mut link,
         &OpenGate,

@@ -38,7 +38,7 @@ fn run<K: Logs + Drop, R: Wait>(
     requires wishes { All (λ wish. wish.client ≡ 1) wishes.now }
     requires few { length wishes.now ≤ MAX_WISHES }
 {
-    let stable = counted_record(alloc, &client_bytes(0), counts)?;
+    let mut stable = counted_record(alloc, &client_bytes(0), counts)?;
     let client = client_id(1)?;
     let counts: &Counts = counts;
     let (book, berth) = own;
@@ -55,7 +55,7 @@ fn run<K: Logs + Drop, R: Wait>(
         client,
         ballot,
         wishes,
-        stable,
+        &mut *stable,
         &mut recorder,
         &mut link,
         counts,

@@ -1,4 +1,3 @@
-pub mod EndFacts
 pub mod KeepFacts
 pub mod SendFacts
 pub mod SentFacts

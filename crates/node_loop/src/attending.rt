@@ -56,7 +56,7 @@ fn take<R: Recorder>(
 
 /// Keeps what the node decided. Where the record's device fails, the node falls and rises again with
 /// what is found.
-#[tactic(auto, using(crate::proofs::SentFacts::keeping_sends_nothing, crate::proofs::SentFacts::trying_sends_nothing, crate::proofs::EndFacts::failures_stay, crate::proofs::EndFacts::failures_rise, crate::proofs::EndFacts::failures_on))]
+#[tactic(auto, using(crate::proofs::SentFacts::keeping_sends_nothing, crate::proofs::SentFacts::trying_sends_nothing, actor_steps::proofs::EndFacts::failures_stay, actor_steps::proofs::EndFacts::failures_rise, actor_steps::proofs::EndFacts::failures_on))]
 fn keep<R: Recorder, G: Gate>(
     alloc: Global,
     core: &mut NodeCore,
@@ -148,7 +148,7 @@ fn tell_lost<L: Link>(node: NodeId, link: &mut L) -> Result<(), RunFault>
 }
 
 /// A turn: takes the message of the number, keeps what it changes, and sends the replies.
-#[tactic(auto, using(crate::proofs::SentFacts::follows_none, crate::proofs::SentFacts::follows_from, crate::proofs::SentFacts::nudge_follows, crate::proofs::EndFacts::failures_stay, crate::proofs::EndFacts::failures_on))]
+#[tactic(auto, using(crate::proofs::SentFacts::follows_none, crate::proofs::SentFacts::follows_from, crate::proofs::SentFacts::nudge_follows, actor_steps::proofs::EndFacts::failures_stay, actor_steps::proofs::EndFacts::failures_on))]
 fn take_turn<R: Recorder, L: Link, G: Gate>(
     alloc: Global,
     number: u32,

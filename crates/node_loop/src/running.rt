@@ -46,7 +46,7 @@ fn rise<R: Recorder>(
 }
 
 /// Attends to one post after the other, until no more come.
-#[tactic(auto, using(crate::proofs::SentFacts::follows_on, crate::proofs::SentFacts::follows_none, crate::proofs::EndFacts::failures_on, crate::proofs::EndFacts::ends_on))]
+#[tactic(auto, using(crate::proofs::SentFacts::follows_on, crate::proofs::SentFacts::follows_none, actor_steps::proofs::EndFacts::failures_on, actor_steps::proofs::EndFacts::ends_on))]
 fn serve<W: Wait, R: Recorder, L: Link, G: Gate>(
     rt: &W,
     alloc: Global,

@@ -101,6 +101,7 @@ pub(crate) fn do_client<B: BookName, K: Logs, R: Wait + Copy, G: Gate>(
         stable,
         link,
     } = task;
+    let mut stable = stable;
     let mut link = link;
     let mut recorder = BookRecorder::of(rt, book, berth);
     match run_client(
@@ -109,7 +110,7 @@ pub(crate) fn do_client<B: BookName, K: Logs, R: Wait + Copy, G: Gate>(
         client,
         ballot,
         wishes.as_slice(),
-        stable,
+        &mut *stable,
         &mut recorder,
         &mut link,
         gate,

@@ -1,16 +1,21 @@
 use Rattle.std.proofs.Common.{◌≡◌, false}
 use Rattle.client_core.specs.Clients.{phase_of}
 use Rattle.client_core.specs.declared.phases.Phase.TheVariants as phase
+use Rattle.actor_steps.specs.Endings.{falls_of, FailuresFollow}
 use Rattle.client_loop.specs.Sendings.{sent_of}
 use Rattle.client_loop.specs.Standing.{Stands}
 use Rattle.client_loop.specs.Visits.{visits_of}
 use Rattle.client_loop.proofs.attempting.attempt.Given as goal
 
 abbrev pub invariant-loop : goal.invariant-loop
-invariant-loop g l =
-    (goal.iterator-loop g).can_next l.iterator' × (goal.iterator-loop g).is_finite l.iterator'
-    × Stands (g.R.Recorder.own_log l.recorder) ((goal.StableRecord-dyn g l.stable.now).finds l.stable.now.1) l.progress.core
-    × ((goal.StableRecord-dyn g l.stable.now).stuck_of l.stable.now.1 ≡ false)
-    × (phase_of l.progress.core ≡ phase.Idle)
-    × ((visits_of (g.R.Recorder.own_log l.recorder)).entered ≡ (visits_of (g.R.Recorder.own_log l.fn.recorder)).entered)
-    × (sent_of (g.R.Recorder.own_log l.recorder) ≡ sent_of (g.R.Recorder.own_log l.fn.recorder))
+invariant-loop g l = record {
+  next : (goal.iterator-loop g).can_next l.iterator';
+  finite : (goal.iterator-loop g).is_finite l.iterator';
+  stands : Stands (g.R.Recorder.own_log l.recorder) ((goal.StableRecord-dyn g l.stable.now).finds l.stable.now.1) l.progress.core;
+  free : (goal.StableRecord-dyn g l.stable.now).stuck_of l.stable.now.1 ≡ false;
+  idle : phase_of l.progress.core ≡ phase.Idle;
+  entered : (visits_of (g.R.Recorder.own_log l.recorder)).entered ≡ (visits_of (g.R.Recorder.own_log l.fn.recorder)).entered;
+  silent : sent_of (g.R.Recorder.own_log l.recorder) ≡ sent_of (g.R.Recorder.own_log l.fn.recorder);
+  falls : FailuresFollow (falls_of (g.R.Recorder.own_log l.fn.recorder)) (falls_of (g.R.Recorder.own_log l.recorder)) ((goal.StableRecord-dyn g l.fn.stable.now).failures_of l.fn.stable.now.1)
+      ((goal.StableRecord-dyn g l.stable.now).failures_of l.stable.now.1);
+}

@@ -1,5 +1,6 @@
 use Rattle.std.proofs.Common.{◌∙◌}
 use Rattle.client_loop.proofs.Logs.{visits-adds, tried-visits}
+use Rattle.actor_steps.proofs.EndFacts.{failures_rise, failures_on}
 use Rattle.client_loop.proofs.attempting.keep_chosen.Goals as goal
 
 pub returns-in_err-keeping-clause-visits : goal.returns-in_err-keeping-clause-visits
@@ -19,3 +20,13 @@ pub returns-in_ok-rise_anew-in-Failed-clause-visits : goal.returns-in_ok-rise_an
 returns-in_ok-rise_anew-in-Failed-clause-visits g c =
     let failed = c.in_ok-keeping.ensures.failed cc in
     c.rise_anew.ensures.visits ∙ visits-adds _ _ _ _ failed.0
+
+-- the keep failed, and then the client fell
+
+pub returns-in_err-rise_anew-in-Failed-clause-falls : goal.returns-in_err-rise_anew-in-Failed-clause-falls
+returns-in_err-rise_anew-in-Failed-clause-falls g c =
+    failures_on _ _ _ _ _ _ (failures_rise _ _ _ _ c.keep_next.ensures.falls (c.in_ok-keeping.ensures.device cc)) c.rise_anew.ensures.falls
+
+pub returns-in_ok-rise_anew-in-Failed-clause-falls : goal.returns-in_ok-rise_anew-in-Failed-clause-falls
+returns-in_ok-rise_anew-in-Failed-clause-falls g c =
+    failures_on _ _ _ _ _ _ (failures_rise _ _ _ _ c.keep_next.ensures.falls (c.in_ok-keeping.ensures.device cc)) c.rise_anew.ensures.falls

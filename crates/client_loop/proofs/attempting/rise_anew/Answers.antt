@@ -1,6 +1,7 @@
 use Rattle.client_loop.proofs.Logs.{fallen-visits}
 use Rattle.client_loop.proofs.Attempts.{rises-again, reads-again, risen-visits}
 use Rattle.client_loop.proofs.SentFacts.{fallen_sends_nothing, rising_sends_nothing}
+use Rattle.actor_steps.proofs.EndFacts.{failures_stay}
 use Rattle.client_loop.proofs.attempting.rise_anew.Goals as goal
 
 pub returns-in_err-found-clause-visits : goal.returns-in_err-found-clause-visits
@@ -26,3 +27,6 @@ returns-in_err-found-clause-silent g c = fallen_sends_nothing _ _ _ c.in_err-fou
 
 pub returns-clause-silent : goal.returns-clause-silent
 returns-clause-silent g c = rising_sends_nothing _ _ _ _ _ c.in_ok-found.ensures.risen
+
+pub returns-clause-falls : goal.returns-clause-falls
+returns-clause-falls g c = failures_stay _ _ _ _ c.rise_again.ensures.falls c.rise_again.ensures.count

@@ -1,5 +1,6 @@
 use Rattle.std.proofs.Common.{◌≡◌}
 use Rattle.client_core.specs.Clients.{phase_of}
+use Rattle.actor_steps.specs.Endings.{falls_of}
 use Rattle.client_loop.specs.Sendings.{SentFollows}
 use Rattle.client_loop.specs.Standing.{Stands}
 use Rattle.client_loop.specs.Visits.{visits_of}
@@ -11,4 +12,5 @@ invariant-loop g l = record {
   stands : Stands (g.R.Recorder.own_log l.recorder) ((goal.StableRecord-dyn g l.stable.now).finds l.stable.now.1) l.progress.core;
   phase : phase_of l.progress.core ≡ phase_of l.fn.progress.core;
   visits : visits_of (g.R.Recorder.own_log l.recorder) ≡ visits_of (g.R.Recorder.own_log l.fn.recorder);
+  falls : falls_of (g.R.Recorder.own_log l.recorder) ≡ falls_of (g.R.Recorder.own_log l.fn.recorder);
 }

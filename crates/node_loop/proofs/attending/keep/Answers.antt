@@ -1,4 +1,4 @@
-use Rattle.node_loop.proofs.EndFacts.{failures_rise, failures_on}
+use Rattle.actor_steps.proofs.EndFacts.{failures_rise, failures_on}
 use Rattle.node_loop.proofs.attending.keep.Goals as goal
 
 -- the keep failed, and then the node fell

@@ -1,5 +1,5 @@
 use Rattle.std.proofs.lemmas.Result.{IfErr-weaker}
-use Rattle.node_loop.proofs.EndFacts.{failures_on, ends_on, failed_since, ended_since}
+use Rattle.actor_steps.proofs.EndFacts.{failures_on, ends_on, failed_since, ended_since}
 use Rattle.node_loop.proofs.running.live.Goals as goal
 
 pub returns-in_err-core-clause-falls : goal.returns-in_err-core-clause-falls

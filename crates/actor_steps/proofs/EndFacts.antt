@@ -35,13 +35,13 @@ ends_on f m n l stuck spent a b c first second = record { ends = λ start since.
 
 -- since a log that is unused
 
-none-fallen : (l : OwnLog) (who : Actor) (a : ℕ) → IsUnused l who → HasFailed (falls_of l) a a
-none-fallen l who a unused =
+pub none_fallen : (l : OwnLog) (who : Actor) (a : ℕ) → IsUnused l who → HasFailed (falls_of l) a a
+none_fallen l who a unused =
     let none : falls_of l ≡ 0 = ap (count_by (λ (p : Event × Effect). is_fall p.0)) unused.events in
     inl (omega (arith, none))
 
 pub failed_since : (l l' : OwnLog) (who : Actor) (a b : ℕ) → IsUnused l who → FailuresFollow (falls_of l) (falls_of l') a b → HasFailed (falls_of l') a b
-failed_since l l' who a b unused follows = follows.follows a (none-fallen l who a unused)
+failed_since l l' who a b unused follows = follows.follows a (none_fallen l who a unused)
 
 pub ended_since : (f : RunFault) (l l' : OwnLog) (who : Actor) (stuck spent : Bool) (a b : ℕ) → IsUnused l who → EndsFrom f (falls_of l) l' stuck spent a b → EndsBy f l' stuck spent a b
-ended_since f l l' who stuck spent a b unused ends = ends.ends a (none-fallen l who a unused)
+ended_since f l l' who stuck spent a b unused ends = ends.ends a (none_fallen l who a unused)

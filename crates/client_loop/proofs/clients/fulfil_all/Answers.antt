@@ -1,0 +1,16 @@
+use Rattle.std.proofs.Common.{rules, arith}
+use Rattle.std.proofs.lemmas.Grind.{common_steps}
+use Rattle.actor_steps.proofs.EndFacts.{failures_on}
+use Rattle.client_loop.proofs.SentFacts.{follows_on}
+use Rattle.client_loop.proofs.clients.fulfil_all.Goals as goal
+
+pub loop-wish-preserved : goal.loop-wish-preserved
+loop-wish-preserved g c = record {
+  stands = c.in_default.ensures.stands;
+  free = c.in_default.ensures.free;
+  idle = c.in_default.ensures.idle;
+  entered = let added = c.in_default.ensures.entered in let before = c.loop-wish.invariant.entered in let count = c.loop-wish.invariant.count in let at = c.wish-item.is in grind (arith, common_steps);
+  count = search rules;
+  sent = follows_on _ _ _ _ _ _ c.loop-wish.invariant.sent c.in_default.ensures.sent;
+  falls = failures_on _ _ _ _ _ _ c.loop-wish.invariant.falls c.fulfil-fulfilled.ensures.falls;
+}
