@@ -5,3 +5,4 @@ pub mod NodeFacts
 pub mod HearFacts
 pub mod SentFacts
 pub mod EndFacts
+pub mod BeginFacts

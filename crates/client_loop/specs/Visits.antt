@@ -1,6 +1,9 @@
 -- What a client's own events say of its wishes.
 use Rattle.std.specs.Prelude.{◌≡◌, ℕ, ◌+◌, ◌≤◌, ◌⊎◌, List, [], ◌∷◌, ◌++◌, length, map, take, Option, Some, None, Result, Ok, Err}
+use Rattle.std.specs.List.{All}
+use Rattle.lock_messages.specs.declared.ids.Actor.{Actor}
 use Rattle.lock_messages.specs.declared.tickets.Mode.{Mode}
+use Rattle.lock_model.specs.Decisions.{Among}
 use Rattle.world_model.specs.declared.events.Effect.{Effect}
 use Rattle.world_model.specs.declared.events.Event.{Event}
 use Rattle.world_model.specs.declared.events.Event.TheVariants as event
@@ -13,19 +16,25 @@ pub record Use : Type 0 where
   pub mode : Mode
   pub resource : List ℕ
 
--- the use that was begun last, if one was; and for each Enter, in order, the use that was begun last
--- before it
+-- whose events they are; the use that was begun last, if one was; for each Enter, in order, the use that was
+-- begun last before it; and the use of each Begin, in order
 pub record Visits : Type 0 where
+  pub whose : Actor
   pub begun : Option Use
   pub entered : List (Option Use)
+  pub begins : List Use
 
 -- the visits with one Enter more
 abbrev pub visits_entering : Visits → Visits
-visits_entering v = record { begun = v.begun; entered = v.entered ++ v.begun ∷ [] }
+visits_entering v = record v { entered = v.entered ++ v.begun ∷ [] }
+
+-- the visits with one Begin more
+abbrev pub visits_beginning : Use → Visits → Visits
+visits_beginning u v = record v { begun = Some u; begins = v.begins ++ u ∷ [] }
 
 -- what one event more makes of them
 abbrev pub visits_after : Visits → Event → Visits
-visits_after v (event.Begin c m x) = record { begun = Some (record { mode = m; resource = x }); entered = v.entered }
+visits_after v (event.Begin c m x) = visits_beginning (record { mode = m; resource = x }) v
 visits_after v (event.Enter c) = visits_entering v
 visits_after v (event.Try who) = v
 visits_after v (event.Kept who) = v
@@ -43,7 +52,7 @@ visits_from v (p ∷ events) = visits_from (visits_after v p.0) events
 
 -- what the client's own events say
 abbrev pub visits_of : OwnLog → Visits
-visits_of l = visits_from (record { begun = None; entered = [] }) l.events
+visits_of l = visits_from (record { whose = l.actor; begun = None; entered = []; begins = [] }) l.events
 
 -- what a wish wishes
 abbrev pub use_of : Wish → Use
@@ -80,3 +89,23 @@ AddsAtMost u before after = AddsNothing before after ⊎ AddsUse u before after
 abbrev pub entries_of : Result ℕ (ℕ × RunFault) → ℕ
 entries_of (Ok n) = n
 entries_of (Err e) = e.0
+
+-- each of these uses is one of those that are wished
+abbrev pub AreWished : List Use → List Use → Type 0
+AreWished wished begins = All (λ u. Among u wished) begins
+
+-- Of the same actor, nothing but this use was begun since, if anything was: where it is wished, and all that
+-- was begun before, all is that is begun now.
+pub record BeginsOnly (u : Use) (before after : Visits) : Type 0 where
+  pub whose : after.whose ≡ before.whose
+  pub only : (wished : List Use) → Among u wished → AreWished wished before.begins → AreWished wished after.begins
+
+-- of the same actor, nothing was begun since
+pub record BeginsNothing (before after : Visits) : Type 0 where
+  pub whose : after.whose ≡ before.whose
+  pub none : after.begins ≡ before.begins
+
+-- The log is the actor's, and each of its Begins has the mode and the resource of a wish.
+pub record HasBegun (who : Actor) (wishes : List Wish) (l : OwnLog) : Type 0 where
+  pub whose : l.actor ≡ who
+  pub each : AreWished (map (λ w. use_of w) wishes) (visits_of l).begins

@@ -7,7 +7,7 @@ ghost use Rattle.client_loop.specs.Sendings.{sent_of};
 ghost use Rattle.client_loop.specs.Standing.{Stands, HasChosen, HasTried};
 ghost use Rattle.actor_steps.specs.Endings.{falls_of, FailuresFollow};
 ghost use Rattle.client_loop.specs.Endings.{ClientEndsFrom};
-ghost use Rattle.client_loop.specs.Visits.{visits_of, use_of};
+ghost use Rattle.client_loop.specs.Visits.{visits_of, use_of, BeginsOnly};
 
 use crate::progress::Progress;
 use actor_steps::{Keeping, keep_next, log_plain, rise_again};
@@ -21,7 +21,7 @@ use std::sync::Wait;
 use world_model::Event;
 
 /// Chooses the next attempt, for the wish. 916: none is left.
-#[tactic(auto, using(crate::proofs::SentFacts::begin_sends_nothing, crate::proofs::EndFacts::book_ends))]
+#[tactic(auto, using(crate::proofs::SentFacts::begin_sends_nothing, crate::proofs::EndFacts::book_ends, crate::proofs::BeginFacts::begins_none))]
 fn begin<R: Recorder>(
     core: &mut ClientCore,
     wish: &Wish,
@@ -37,6 +37,7 @@ fn begin<R: Recorder>(
     ensures entered { (visits_of (R.own_log recorder.new)).entered ≡ (visits_of (R.own_log recorder.old)).entered }
     ensures falls { falls_of (R.own_log recorder.new) ≡ falls_of (R.own_log recorder.old) }
     ensures ended { IfErr result (λ fault. ClientEndsFrom fault (falls_of (R.own_log recorder.old)) (R.own_log recorder.new) (stuck_of stable.now) (spent_of stable.now) (failures_of stable.now) (failures_of stable.now)) }
+    ensures begins { BeginsOnly (use_of wish.now) (visits_of (R.own_log recorder.old)) (visits_of (R.own_log recorder.new)) }
 {
     let Wish { mode, resource, .. } = *wish;
     let resource = &resource;
@@ -115,7 +116,7 @@ fn keep_chosen<R: Recorder, G: Gate>(
 
 /// Makes the next attempt for the wish, and once more for as long as the record fails. The nodes that
 /// are gone are skipped in it.
-#[tactic(auto, using(crate::proofs::EndFacts::client_ends_on, actor_steps::proofs::EndFacts::failures_on, crate::proofs::EndFacts::failures_same))]
+#[tactic(auto, using(crate::proofs::EndFacts::client_ends_on, actor_steps::proofs::EndFacts::failures_on, crate::proofs::EndFacts::failures_same, crate::proofs::BeginFacts::begins_none, crate::proofs::BeginFacts::begins_on))]
 pub(crate) fn attempt<W: Wait, R: Recorder, G: Gate>(
     rt: &W,
     wish: &Wish,
@@ -135,6 +136,7 @@ pub(crate) fn attempt<W: Wait, R: Recorder, G: Gate>(
     ensures asking { OnOk result (phase_of progress.new.core ≡ phase.Asking) }
     ensures ended { IfErr result (λ fault. ClientEndsFrom fault (falls_of (R.own_log recorder.old)) (R.own_log recorder.new) (stuck_of stable.new) (spent_of stable.new) (failures_of stable.old) (failures_of stable.new)) }
     ensures falls { FailuresFollow (falls_of (R.own_log recorder.old)) (falls_of (R.own_log recorder.new)) (failures_of stable.old) (failures_of stable.new) }
+    ensures begins { BeginsOnly (use_of wish.now) (visits_of (R.own_log recorder.old)) (visits_of (R.own_log recorder.new)) }
 {
     for _ in rt.forever() {
         begin(&mut progress.core, wish, &*stable, recorder)?;

@@ -10,7 +10,7 @@ ghost use Rattle.client_loop.specs.Standing.{Stands, KeepsAttempt};
 ghost use Rattle.actor_steps.specs.Steps.{HasFailed};
 ghost use Rattle.actor_steps.specs.Endings.{falls_of, FailuresFollow};
 ghost use Rattle.client_loop.specs.Endings.{ClientEndsFrom, ClientEndsBy};
-ghost use Rattle.client_loop.specs.Visits.{visits_of, HasEntered, entries_of};
+ghost use Rattle.client_loop.specs.Visits.{visits_of, HasEntered, HasBegun, entries_of};
 
 use crate::progress::Progress;
 use crate::wishing::fulfil;
@@ -42,6 +42,8 @@ fn rise<R: Recorder>(
     ensures idle { IfOk result (λ core. phase_of core ≡ phase.Idle) }
     ensures silent { sent_of (R.own_log recorder.new) ≡ [] }
     ensures visits { (visits_of (R.own_log recorder.new)).entered ≡ [] }
+    ensures begins { (visits_of (R.own_log recorder.new)).begins ≡ [] }
+    ensures whose { (visits_of (R.own_log recorder.new)).whose ≡ (R.own_log recorder.old).actor }
     ensures ended { IfErr result (λ fault. ClientEndsFrom fault (falls_of (R.own_log recorder.old)) (R.own_log recorder.new) (stuck_of stable.new) (spent_of stable.new) (failures_of stable.old) (failures_of stable.new)) }
     ensures falls { FailuresFollow (falls_of (R.own_log recorder.old)) (falls_of (R.own_log recorder.new)) (failures_of stable.old) (failures_of stable.new) }
 {
@@ -69,12 +71,14 @@ fn fulfil_all<W: Wait, R: Recorder, L: Link, G: Gate>(
     requires idle { phase_of core ≡ phase.Idle }
     requires few { length wishes.now ≤ MAX_WISHES }
     requires fresh { (visits_of (R.own_log recorder.old)).entered ≡ [] }
+    requires first { HasBegun (R.own_log recorder.old).actor wishes.now (R.own_log recorder.old) }
     ensures sent { OnOk result (SentFollows (R.own_log recorder.old) (R.own_log recorder.new) (L.given link.old) (L.given link.new)) }
     ensures faulted { IfErr result (λ p. SentUnlessMemory p.1 (R.own_log recorder.old) (R.own_log recorder.new) (L.given link.old) (L.given link.new)) }
     ensures entered { HasEntered wishes.now (entries_of result) (R.own_log recorder.new) }
     ensures all { IfOk result (λ n. n ≡ length wishes.now) }
     ensures ended { IfErr result (λ p. ClientEndsFrom p.1 (falls_of (R.own_log recorder.old)) (R.own_log recorder.new) (stuck_of stable.new) (spent_of stable.new) (failures_of stable.old) (failures_of stable.new)) }
     ensures falls { FailuresFollow (falls_of (R.own_log recorder.old)) (falls_of (R.own_log recorder.new)) (failures_of stable.old) (failures_of stable.new) }
+    ensures begun { HasBegun (R.own_log recorder.old).actor wishes.now (R.own_log recorder.new) }
 {
     let mut progress = Progress::of(core);
     let mut entered = 0;
@@ -98,7 +102,7 @@ fn fulfil_all<W: Wait, R: Recorder, L: Link, G: Gate>(
 }
 
 /// Rises, and fulfils the wishes in order.
-#[tactic(auto, using(crate::proofs::SentFacts::all_told, crate::proofs::SentFacts::told_unless, crate::proofs::SentFacts::told_nothing, actor_steps::proofs::EndFacts::failures_on))]
+#[tactic(auto, using(crate::proofs::SentFacts::all_told, crate::proofs::SentFacts::told_unless, crate::proofs::SentFacts::told_nothing, actor_steps::proofs::EndFacts::failures_on, crate::proofs::BeginFacts::none_begun))]
 fn run<W: Wait, R: Recorder, L: Link, G: Gate>(
     rt: &W,
     alloc: Global,
@@ -121,6 +125,7 @@ fn run<W: Wait, R: Recorder, L: Link, G: Gate>(
     ensures all { IfOk result (λ n. n ≡ length wishes.now) }
     ensures ended { IfErr result (λ p. ClientEndsBy p.1 (R.own_log recorder.new) (stuck_of stable.new) (spent_of stable.new) (failures_of stable.old) (failures_of stable.new)) }
     ensures falls { HasFailed (falls_of (R.own_log recorder.new)) (failures_of stable.old) (failures_of stable.new) }
+    ensures begun { HasBegun (R.own_log recorder.old).actor wishes.now (R.own_log recorder.new) }
 {
     let core = match rise(client, ballot, stable, recorder) {
         Ok(core) => core,
@@ -176,6 +181,7 @@ pub fn run_client<W: Wait, R: Recorder, L: Link, G: Gate>(
     ensures all { IfOk result (λ n. n ≡ length wishes.now) }
     ensures ended { IfErr result (λ p. ClientEndsBy p.1 (R.own_log recorder.new) (stuck_of stable.new) (spent_of stable.new) (failures_of stable.old) (failures_of stable.new)) }
     ensures falls { HasFailed (falls_of (R.own_log recorder.new)) (failures_of stable.old) (failures_of stable.new) }
+    ensures begun { HasBegun (R.own_log recorder.old).actor wishes.now (R.own_log recorder.new) }
 {
     run(
         rt, alloc, client, ballot, wishes, stable, recorder, link, gate,

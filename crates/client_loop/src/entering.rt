@@ -10,7 +10,7 @@ ghost use Rattle.client_loop.specs.Sendings.{sent_of};
 ghost use Rattle.client_loop.specs.Standing.{Stands, HasLeft, part_of};
 ghost use Rattle.actor_steps.specs.Steps.{IsBookFault};
 ghost use Rattle.actor_steps.specs.Endings.{falls_of};
-ghost use Rattle.client_loop.specs.Visits.{visits_of, visits_entering, tally, AddsUse, AddsAtMost};
+ghost use Rattle.client_loop.specs.Visits.{visits_of, visits_entering, tally, AddsUse, AddsAtMost, BeginsNothing};
 
 use actor_steps::log_plain;
 use client_core::ClientCore;
@@ -34,7 +34,7 @@ fn stay<R: Recorder, G: Gate>(core: &mut ClientCore, recorder: &R, gate: &G)
 }
 
 /// Logs that the client enters.
-#[tactic(auto, using(crate::proofs::SentFacts::enter_sends_nothing))]
+#[tactic(auto, using(crate::proofs::SentFacts::enter_sends_nothing, crate::proofs::BeginFacts::nothing_begun))]
 fn enter<R: Recorder>(
     core: &ClientCore,
     stable: &dyn StableRecord,
@@ -48,6 +48,7 @@ fn enter<R: Recorder>(
     ensures refused { OnErr result (R.own_log recorder.new ≡ R.own_log recorder.old) }
     ensures falls { falls_of (R.own_log recorder.new) ≡ falls_of (R.own_log recorder.old) }
     ensures faults { IfErr result IsBookFault }
+    ensures begins { BeginsNothing (visits_of (R.own_log recorder.old)) (visits_of (R.own_log recorder.new)) }
 {
     log_plain(recorder, Event::Enter(core.client()), stable)?;
     Ok(())
@@ -72,6 +73,7 @@ pub(crate) fn log_leave<R: Recorder>(
 }
 
 /// Enters, is inside for as long as the gate keeps it, and leaves; the entering is counted.
+#[tactic(auto, using(crate::proofs::BeginFacts::nothing_on))]
 pub(crate) fn visit<R: Recorder, G: Gate>(
     core: &mut ClientCore,
     entered: &mut u32,
@@ -89,6 +91,7 @@ pub(crate) fn visit<R: Recorder, G: Gate>(
     ensures counted { AddsAtMost (visits_of (R.own_log recorder.old)).begun (tally entered.old (R.own_log recorder.old)) (tally entered.new (R.own_log recorder.new)) }
     ensures falls { falls_of (R.own_log recorder.new) ≡ falls_of (R.own_log recorder.old) }
     ensures faults { IfErr result IsBookFault }
+    ensures begins { BeginsNothing (visits_of (R.own_log recorder.old)) (visits_of (R.own_log recorder.new)) }
 {
     enter(core, stable, recorder)?;
     *entered += 1;

@@ -7,7 +7,7 @@ ghost use Rattle.client_loop.specs.Sendings.{SentFollows, SentUnlessMemory};
 ghost use Rattle.client_loop.specs.Standing.{Stands};
 ghost use Rattle.actor_steps.specs.Endings.{falls_of, FailuresFollow};
 ghost use Rattle.client_loop.specs.Endings.{ClientEndsFrom};
-ghost use Rattle.client_loop.specs.Visits.{tally, AddsUse, AddsAtMost, use_of};
+ghost use Rattle.client_loop.specs.Visits.{visits_of, tally, AddsUse, AddsAtMost, BeginsOnly, use_of};
 
 use crate::asking::ask;
 use crate::attempting::attempt;
@@ -24,7 +24,7 @@ use std::sync::Wait;
 
 /// Fulfils the wish: attempts, asks, enters and leaves, and releases the nodes that it asked. The
 /// entering is counted, also where the client ends by a fault after it.
-#[tactic(auto, using(crate::proofs::SentFacts::follows_from, crate::proofs::SentFacts::follows_on, crate::proofs::SentFacts::follows_none, crate::proofs::SentFacts::unless_none, crate::proofs::SentFacts::unless_on, crate::proofs::SentFacts::unless_from, crate::proofs::SentFacts::unless_both, crate::proofs::EndFacts::client_ends_on, crate::proofs::EndFacts::asking_ends, crate::proofs::EndFacts::book_ends, crate::proofs::EndFacts::failures_same, actor_steps::proofs::EndFacts::failures_on))]
+#[tactic(auto, using(crate::proofs::SentFacts::follows_from, crate::proofs::SentFacts::follows_on, crate::proofs::SentFacts::follows_none, crate::proofs::SentFacts::unless_none, crate::proofs::SentFacts::unless_on, crate::proofs::SentFacts::unless_from, crate::proofs::SentFacts::unless_both, crate::proofs::EndFacts::client_ends_on, crate::proofs::EndFacts::asking_ends, crate::proofs::EndFacts::book_ends, crate::proofs::EndFacts::failures_same, actor_steps::proofs::EndFacts::failures_on, crate::proofs::BeginFacts::begins_still, crate::proofs::BeginFacts::begins_no_more))]
 pub(crate) fn fulfil<W: Wait, R: Recorder, L: Link, G: Gate>(
     rt: &W,
     alloc: Global,
@@ -49,6 +49,7 @@ pub(crate) fn fulfil<W: Wait, R: Recorder, L: Link, G: Gate>(
     ensures counted { AddsAtMost (Some (use_of wish.now)) (tally entered.old (R.own_log recorder.old)) (tally entered.new (R.own_log recorder.new)) }
     ensures ended { IfErr result (λ fault. ClientEndsFrom fault (falls_of (R.own_log recorder.old)) (R.own_log recorder.new) (stuck_of stable.new) (spent_of stable.new) (failures_of stable.old) (failures_of stable.new)) }
     ensures falls { FailuresFollow (falls_of (R.own_log recorder.old)) (falls_of (R.own_log recorder.new)) (failures_of stable.old) (failures_of stable.new) }
+    ensures begins { BeginsOnly (use_of wish.now) (visits_of (R.own_log recorder.old)) (visits_of (R.own_log recorder.new)) }
 {
     progress.begin_wish();
     attempt(rt, wish, progress, stable, recorder, gate)?;

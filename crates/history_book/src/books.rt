@@ -268,8 +268,10 @@ impl Book {
         }
     }
 
-    // Tells what is known of the book and a berth of it, and changes nothing.
-    fn tie(&mut self, berth: &mut Berth)
+    /// Tells what is known of the book and a berth of it: the history is a run, what the berth has seen
+    /// begins it, and its actor's events in it are the berth's own. Nothing changes, and the berth needs not
+    /// have seen all. The caller owes that the berth is this book's own.
+    pub fn tie(&mut self, berth: &mut Berth)
         requires { berth.old.table ≡ self.old.table }
         ensures known { Known self.old berth.old }
         ensures same { IsSame self.old berth.old self.new berth.new }

@@ -5,3 +5,4 @@ pub mod Promises
 pub mod Ready
 pub mod Taking
 pub mod Telling
+pub mod Wishing

@@ -1,10 +1,12 @@
 -- The faults of ends that stand in the order of their actors are told in that order.
-use Rattle.std.proofs.Common.{◌≡◌, ℕ, ◌+◌, ◌<◌, ◌≤◌, List, [], ◌∷◌, ◌++◌, length, get_or, map, Option, Some, None, zero, suc, refl, sym, ◌∙◌, ap, subst, arith}
+use Rattle.std.proofs.Common.{◌≡◌, ℕ, ◌+◌, ◌<◌, ◌≤◌, List, [], ◌∷◌, ◌++◌, length, take, get_or, map, Option, Some, None, zero, suc, refl, sym, ◌∙◌, ap, subst, arith}
 use Rattle.std.specs.List.{All, AllPairs, filter_map, cons_option, range_with_len}
 use Rattle.std.specs.Option.{option_map}
 use Rattle.std.specs.Prelude.{IfSome}
 use Rattle.std.proofs.lemmas.List.Elements.{All-nil, All-cons, All-head, All-tail, All-append, All-weaker}
+use Rattle.std.proofs.lemmas.List.{append-nil}
 use Rattle.std.proofs.lemmas.List.Kept.{AllPairs-cons}
+use Rattle.berth_seats.specs.Views.{TableId}
 use Rattle.lock_messages.specs.declared.ids.Actor.{Actor}
 use Rattle.lock_messages.specs.declared.ids.Actor.TheVariants as actor
 use Rattle.event_recorders.specs.declared.faults.RunFault.{RunFault}
@@ -130,22 +132,45 @@ faults_in_order w nodes clients faults all_nodes each all_clients is =
     free None = tt
     free (Some f) = tt
 
--- the first of each pair
-firsts : {X Y A B : Type 0} (f : X → A × B) (h : Y → A × B) (xs : List X) (ys : List Y) → map f xs ≡ map h ys → map (λ x. (f x).0) xs ≡ map (λ y. (h y).0) ys
-firsts f h [] [] at = refl
-firsts f h [] (y ∷ ys) at = absurd (let z : [] ≡ h y ∷ map h ys = at in cc)
-firsts f h (x ∷ xs) [] at = absurd (let z : f x ∷ map f xs ≡ [] = at in cc)
-firsts f h (x ∷ xs) (y ∷ ys) at =
+-- a part of what two lists have in common
+pub same_parts : {X Y A B : Type 0} (f : X → A) (h : Y → A) (part : A → B) (xs : List X) (ys : List Y) → map f xs ≡ map h ys → map (λ x. part (f x)) xs ≡ map (λ y. part (h y)) ys
+same_parts f h part [] [] at = refl
+same_parts f h part [] (y ∷ ys) at = absurd (let z : [] ≡ h y ∷ map h ys = at in cc)
+same_parts f h part (x ∷ xs) [] at = absurd (let z : f x ∷ map f xs ≡ [] = at in cc)
+same_parts f h part (x ∷ xs) (y ∷ ys) at =
     let z : f x ∷ map f xs ≡ h y ∷ map h ys = at in
     let here : f x ≡ h y = cc in
     let rest : map f xs ≡ map h ys = cc in
-    ap (λ p. p.0 ∷ map (λ x. (f x).0) xs) here ∙ ap (λ l. (h y).0 ∷ l) (firsts f h xs ys rest)
+    ap (λ p. part p ∷ map (λ x. part (f x)) xs) here ∙ ap (λ l. part (h y) ∷ l) (same_parts f h part xs ys rest)
 
 -- the faults of the ends of all tasks
-pub faults_are : {X Y : Type 0} (node : X → ℕ) (client : Y → ℕ) (given : Y → List Wish) (w opened : ExactWorld) (tasks : List X) (others : List Y) (nodes : List NodeEnd) (clients : List ClientEnd) (faults : List Told)
+pub faults_are : {X Y : Type 0} (node : X → ℕ) (client : Y → ℕ) (given : Y → List Wish) (table : Y → TableId) (w opened : ExactWorld) (tasks : List X) (others : List Y) (nodes : List NodeEnd) (clients : List ClientEnd) (faults : List Told)
     → opened ≡ w → map node tasks ≡ range_with_len 1 (length opened.nodes) → map client others ≡ range_with_len 1 (length opened.clients)
-    → AreNodeEnds (map node tasks) nodes → AreClientEnds (map (λ t. with_wishes (client t) (given t)) others) clients → faults ≡ filter_map node_fault nodes ++ filter_map client_fault clients → AreFaults w faults
-faults_are node client given w opened tasks others nodes clients faults opening all_nodes all_clients of_nodes of_clients is =
-    let named = firsts client_in (λ t. with_wishes (client t) (given t)) clients others of_clients.named in
+    → AreNodeEnds (map node tasks) nodes → AreClientEnds (map (λ t. with_wishes (client t) (given t) (table t)) others) clients → faults ≡ filter_map node_fault nodes ++ filter_map client_fault clients → AreFaults w faults
+faults_are node client given table w opened tasks others nodes clients faults opening all_nodes all_clients of_nodes of_clients is =
+    let named = same_parts client_in (λ t. with_wishes (client t) (given t) (table t)) (λ (p : ℕ × List Wish × TableId). p.0) clients others of_clients.named in
     faults_in_order w nodes clients faults (of_nodes.named ∙ all_nodes ∙ ap (λ (v : ExactWorld). range_with_len 1 (length v.nodes)) opening) of_nodes.each
     (named ∙ all_clients ∙ ap (λ (v : ExactWorld). range_with_len 1 (length v.clients)) opening) is
+
+-- The faults of the ends that were seen, one end more.
+
+onto_option : {X : Type 0} (o : Option X) (xs ys : List X) → cons_option o (xs ++ ys) ≡ cons_option o xs ++ ys
+onto_option None xs ys = refl
+onto_option (Some x) xs ys = refl
+
+seen_more : {X Y : Type 0} (f : X → Option Y) (xs : List X) (i : ℕ) (x other : X) → i < length xs → x ≡ get_or xs i other → filter_map f (take (suc i) xs) ≡ filter_map f (take i xs) ++ cons_option (f x) []
+seen_more f [] i x other few at = absurd (omega (arith, few))
+seen_more f (y ∷ ys) zero x other few at = ap (λ z. cons_option (f z) []) (sym at)
+seen_more f (y ∷ ys) (suc i) x other few at =
+    ap (λ zs. cons_option (f y) zs) (seen_more f ys i x other (omega (arith, few)) at) ∙ onto_option (f y) (filter_map f (take i ys)) (cons_option (f x) [])
+
+one_on : {X : Type 0} (f : ClientEnd → Option X) (ends : List ClientEnd) (i : ℕ) → filter_map f (take (i + 1) ends) ≡ filter_map f (take (suc i) ends)
+one_on f ends i = let same : i + 1 ≡ suc i = omega arith in ap (λ n. filter_map f (take n ends)) same
+
+pub faulty_seen : (ends : List ClientEnd) (i : ℕ) (e other : ClientEnd) (f : RunFault) → i < length ends → e ≡ get_or ends i other → e.fault ≡ Some f
+    → filter_map client_fault (take (i + 1) ends) ≡ filter_map client_fault (take i ends) ++ (actor.Client e.client, f) ∷ []
+faulty_seen ends i e other f few at faulty = one_on client_fault ends i ∙ seen_more client_fault ends i e other few at ∙ ap (λ (o : Option RunFault). filter_map client_fault (take i ends) ++ cons_option (told (actor.Client e.client) o) []) faulty
+
+pub well_seen : (ends : List ClientEnd) (i : ℕ) (e other : ClientEnd) → i < length ends → e ≡ get_or ends i other → e.fault ≡ None → filter_map client_fault (take (i + 1) ends) ≡ filter_map client_fault (take i ends)
+well_seen ends i e other few at well =
+    one_on client_fault ends i ∙ seen_more client_fault ends i e other few at ∙ ap (λ (o : Option RunFault). filter_map client_fault (take i ends) ++ cons_option (told (actor.Client e.client) o) []) well ∙ append-nil (filter_map client_fault (take i ends))

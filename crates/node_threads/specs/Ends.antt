@@ -1,10 +1,13 @@
 -- How the threads of a run may end.
 use Rattle.std.specs.Prelude.{◌≡◌, ◌≤◌, ℕ, List, length, map, All, IfSome, IfNone, Option}
 use Rattle.std.specs.Option.{option_map}
+use Rattle.berth_seats.specs.Views.{TableId}
 use Rattle.lock_messages.specs.declared.ids.Actor.{Actor}
 use Rattle.lock_messages.specs.declared.ids.Actor.TheVariants as actor
 use Rattle.event_recorders.specs.declared.faults.RunFault.{RunFault}
 use Rattle.history_check.specs.declared.wishes.Wish.{Wish}
+use Rattle.book_recorders.specs.Sharing.{log_of}
+use Rattle.client_loop.specs.Visits.{HasBegun, HasEntered}
 use Rattle.node_loop.specs.Standing.{IsNodeFault}
 use Rattle.node_threads.specs.declared.ends.NodeEnd.{NodeEnd}
 use Rattle.node_threads.specs.declared.ends.ClientEnd.{ClientEnd}
@@ -13,25 +16,28 @@ use Rattle.node_threads.specs.declared.ends.ClientEnd.{ClientEnd}
 abbrev pub IsNodeEnd : NodeEnd → Type 0
 IsNodeEnd e = IfSome e.fault IsNodeFault
 
--- A client that ended without a fault entered all its wishes, and none entered more than it has.
+-- A client that ended without a fault entered all its wishes, and none entered more than it has. Its log is
+-- its berth's; it begins nothing but what it wishes, and enters so many of its wishes, in order.
 pub record IsClientEnd (e : ClientEnd) : Type 0 where
   pub all : IfNone e.fault (e.entered ≡ length e.wishes.items)
   pub few : e.entered ≤ length e.wishes.items
+  pub begun : HasBegun (actor.Client e.client) e.wishes.items (log_of e.berth)
+  pub entries : HasEntered e.wishes.items e.entered (log_of e.berth)
 
 -- the ends of just these nodes, in order
 pub record AreNodeEnds (nodes : List ℕ) (ends : List NodeEnd) : Type 0 where
   pub named : map (λ e. e.node) ends ≡ nodes
   pub each : All IsNodeEnd ends
 
--- a client with the wishes that it was given
-abbrev pub with_wishes : ℕ → List Wish → ℕ × List Wish
-with_wishes c wishes = (c, wishes)
+-- a client with the wishes that it was given, and the table of the book whose berth it was given
+abbrev pub with_wishes : ℕ → List Wish → TableId → ℕ × List Wish × TableId
+with_wishes c wishes book = (c, wishes, book)
 
-abbrev pub client_in : ClientEnd → ℕ × List Wish
-client_in e = with_wishes e.client e.wishes.items
+abbrev pub client_in : ClientEnd → ℕ × List Wish × TableId
+client_in e = with_wishes e.client e.wishes.items e.berth.table
 
--- the ends of just these clients with these wishes, in order
-pub record AreClientEnds (clients : List (ℕ × List Wish)) (ends : List ClientEnd) : Type 0 where
+-- the ends of just these clients with these wishes and with berths of these books, in order
+pub record AreClientEnds (clients : List (ℕ × List Wish × TableId)) (ends : List ClientEnd) : Type 0 where
   pub named : map client_in ends ≡ clients
   pub each : All IsClientEnd ends
 

@@ -3,3 +3,4 @@ pub mod Conditions
 pub mod Ends
 pub mod Faults
 pub mod Tasks
+pub mod Wishes

@@ -5,6 +5,7 @@ ghost use Rattle.std.specs.List.{filter_map};
 ghost use Rattle.node_threads.specs.Ends.{node_fault, client_fault};
 
 use event_recorders::RunFault;
+use history_book::Berth;
 use history_check::Wish;
 use lock_messages::{Actor, ClientId, NodeId};
 use std::alloc::{AllocError, Global};
@@ -16,14 +17,15 @@ pub(crate) struct NodeEnd {
     pub(crate) fault: Option<RunFault>,
 }
 
-/// How a client's thread ended: the wishes that it was given, and how many of them were entered, also where
-/// it ended by a fault.
+/// How a client's thread ended: the wishes that it was given, how many of them were entered, also where it
+/// ended by a fault, and the berth through which it logged.
 #[derive(Drop)]
 pub(crate) struct ClientEnd {
     pub(crate) client: ClientId,
     pub(crate) wishes: Vec<Wish>,
     pub(crate) entered: u32,
     pub(crate) fault: Option<RunFault>,
+    pub(crate) berth: Berth,
 }
 
 /// How all threads ended.
@@ -46,9 +48,15 @@ fn node_faults(alloc: Global, ends: &[NodeEnd]) -> Result<Vec<(Actor, RunFault)>
 fn client_faults(alloc: Global, ends: &[ClientEnd]) -> Result<Vec<(Actor, RunFault)>, AllocError>
     ensures { IfOk result (λ faults. faults.items ≡ filter_map client_fault ends.now) }
 {
-    ends.iter()
-        .filter_map(|end| end.fault.map(|fault| (Actor::Client(end.client), fault)))
-        .collect(alloc)
+    let mut faults = Vec::new(alloc);
+    for end in ends {
+        if let Some(fault) = end.fault {
+            let Ok(()) = faults.push((Actor::Client(end.client), fault)) else {
+                return Err(AllocError);
+            };
+        }
+    }
+    Ok(faults)
 }
 
 /// The actors that ended by faults, with these, nodes first.

@@ -2,7 +2,7 @@
 
 ghost use Rattle.std.specs.Prelude.{◌≡◌, ◌≤◌, ◌+◌, ◌++◌, length, map, true, All, IfOk, IfErr};
 ghost use Rattle.std.specs.List.{range_with_len};
-ghost use Rattle.history_book.specs.Books.{enters};
+ghost use Rattle.history_book.specs.Books.{enters, Known};
 ghost use Rattle.lock_messages.specs.declared.ids.TheConstants.{MAX_NODES, MAX_CLIENTS};
 ghost use Rattle.lossy_link.specs.ChannelLinks.{link_at};
 ghost use Rattle.world_machine.specs.Keeping.{KeepsRecords};
@@ -12,9 +12,10 @@ ghost use Rattle.world_model.specs.Locality.{IsHistory};
 ghost use Rattle.node_threads.specs.Conditions.{MayRun};
 ghost use Rattle.node_threads.specs.Faults.{AreFaults};
 ghost use Rattle.node_threads.specs.Tasks.{IsNodeTask, IsClientTask, own_wishes};
+ghost use Rattle.node_threads.specs.Wishes.{AllDidAsWished};
 
 use crate::berths::{client_tasks, node_tasks};
-use crate::ends::faults_of;
+use crate::ends::{ClientEnd, Ends, faults_of};
 use crate::runs::opened;
 use crate::tasks::{ClientTask, NodeTask};
 use admission_policy::Admission;
@@ -142,6 +143,19 @@ fn tasks_of<R: Wait + Copy>(
     Ok(Tasks { nodes, clients })
 }
 
+/// Ties each client's berth to the book again.
+fn tie_all(book: &mut Book, ends: Vec<ClientEnd>)
+    requires { All (λ end. end.berth.table ≡ book.old.table) ends.items }
+    ensures book { book.new ≡ book.old }
+    ensures tied { All (λ end. Known book.old end.berth) ends.items }
+{
+    for ended in ends {
+        let ClientEnd { berth, .. } = ended;
+        let mut berth = berth;
+        book.tie(&mut berth);
+    }
+}
+
 /// Runs the service: a thread for each node and each client, which log in one book over the world, until
 /// all have ended. The book's history is a run from the world, and `entered` is how many Enters it has.
 ///
@@ -182,6 +196,8 @@ pub fn run_all<R: Threads + Wait + Copy + Send, G: Gate + Sync>(
     ensures entered { IfOk result (λ end. end.entered ≡ enters end.book.history) }
     // Each actor that ended by a fault is told once, in order, with a fault that it may have.
     ensures faults { IfOk result (λ end. AreFaults world end.faults.items) }
+    // Each client began and entered its own wishes alone, in order, and all of them unless it is told.
+    ensures wished { IfOk result (λ end. AllDidAsWished world end.book.history wishes.now end.faults.items) }
     ensures err { IfErr result (λ f. f ≡ RunFault.Memory) }
 {
     world.soundness();
@@ -206,6 +222,9 @@ pub fn run_all<R: Threads + Wait + Copy + Send, G: Gate + Sync>(
     let Ok(faults) = faults_of(alloc, &ends) else {
         return Err(RunFault::Memory);
     };
+    let mut book = book;
+    let Ends { clients, .. } = ends;
+    tie_all(&mut book, clients);
     book.standing();
     let entered = book.entered();
     Ok(RunEnd {

@@ -28,8 +28,9 @@ fn named<B: BookName + Send, K: Logs + Send, R: Threads + Wait + Copy + Send, G:
     requires table { (K.book book).table ≡ B.table }
     requires nodes { All (λ task. IsNodeTask B.table task.node task.berth (problem_of task.policy) (finds task.stable)) nodes.items }
     requires clients { All (λ task. IsClientTask B.table task.client task.ballot task.wishes.items task.berth (finds task.stable)) clients.items }
+    ensures table { (K.book result.0).table ≡ (K.book book).table }
     ensures nodes { IfOk result.1 (λ ends. AreNodeEnds (map (λ t. t.node) nodes.items) ends.nodes.items) }
-    ensures clients { IfOk result.1 (λ ends. AreClientEnds (map (λ t. with_wishes t.client t.wishes.items) clients.items) ends.clients.items) }
+    ensures clients { IfOk result.1 (λ ends. AreClientEnds (map (λ t. with_wishes t.client t.wishes.items t.berth.table) clients.items) ends.clients.items) }
     ensures err { IfErr result.1 (λ f. f ≡ RunFault.Memory) }
 {
     let lock = Mutex::new(Named::<B, K>::of(book));
@@ -55,8 +56,9 @@ pub(crate) fn opened<
     requires nodes { All (λ task. IsNodeTask (K.book book).table task.node task.berth (problem_of task.policy) (finds task.stable)) nodes.items }
     requires clients { All (λ task. IsClientTask (K.book book).table task.client task.ballot task.wishes.items task.berth (finds task.stable)) clients.items }
     ensures opening { (K.book result.0).opening ≡ O.world }
+    ensures table { (K.book result.0).table ≡ (K.book book).table }
     ensures nodes { IfOk result.1 (λ ends. AreNodeEnds (map (λ t. t.node) nodes.items) ends.nodes.items) }
-    ensures clients { IfOk result.1 (λ ends. AreClientEnds (map (λ t. with_wishes t.client t.wishes.items) clients.items) ends.clients.items) }
+    ensures clients { IfOk result.1 (λ ends. AreClientEnds (map (λ t. with_wishes t.client t.wishes.items t.berth.table) clients.items) ends.clients.items) }
     ensures err { IfErr result.1 (λ f. f ≡ RunFault.Memory) }
 {
     let book = Opened::<O, K>::of(book);

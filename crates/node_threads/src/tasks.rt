@@ -91,6 +91,7 @@ pub(crate) fn do_client<B: BookName, K: Logs, R: Wait + Copy, G: Gate>(
     requires { IsClientTask B.table task.client task.ballot task.wishes.items task.berth (finds task.stable) }
     ensures client { result.client ≡ task.client }
     ensures wishes { result.wishes.items ≡ task.wishes.items }
+    ensures table { result.berth.table ≡ task.berth.table }
     ensures end { IsClientEnd result }
 {
     let ClientTask {
@@ -104,7 +105,7 @@ pub(crate) fn do_client<B: BookName, K: Logs, R: Wait + Copy, G: Gate>(
     let mut stable = stable;
     let mut link = link;
     let mut recorder = BookRecorder::of(rt, book, berth);
-    match run_client(
+    let ended = run_client(
         &rt,
         alloc,
         client,
@@ -114,18 +115,22 @@ pub(crate) fn do_client<B: BookName, K: Logs, R: Wait + Copy, G: Gate>(
         &mut recorder,
         &mut link,
         gate,
-    ) {
+    );
+    let berth = recorder.into_berth();
+    match ended {
         Ok(entered) => ClientEnd {
             client,
             wishes,
             entered,
             fault: None,
+            berth,
         },
         Err((entered, cause)) => ClientEnd {
             client,
             wishes,
             entered,
             fault: Some(cause),
+            berth,
         },
     }
 }

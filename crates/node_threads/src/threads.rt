@@ -9,6 +9,7 @@ use crate::ends::{ClientEnd, Ends, NodeEnd};
 use crate::tasks::{ClientTask, NodeTask, do_client, do_node};
 use book_recorders::{BookName, Logs, Named};
 use event_recorders::{Gate, RunFault};
+use history_book::Berth;
 use history_check::Wish;
 use lock_messages::{ClientId, NodeId};
 use std::alloc::Global;
@@ -27,15 +28,17 @@ impl Promise<NodeEnd> for OfNode {
     ghost kept_by = { λ p e. (e.node ≡ p.node) × IsNodeEnd e };
 }
 
-/// What is promised of a client's thread: that it gives an end of this client, with these wishes.
+/// What is promised of a client's thread: that it gives an end of this client, with these wishes and a berth
+/// of the same book.
 #[derive(Drop)]
 struct OfClient {
     client: ClientId,
     wishes: Snapshot<Vec<Wish>>,
+    berth: Snapshot<Berth>,
 }
 
 impl Promise<ClientEnd> for OfClient {
-    ghost kept_by = { λ p e. (client_in e ≡ with_wishes p.client p.wishes.value.items) × IsClientEnd e };
+    ghost kept_by = { λ p e. (client_in e ≡ with_wishes p.client p.wishes.value.items p.berth.value.table) × IsClientEnd e };
 }
 
 /// Starts a thread for each node's task.
@@ -95,14 +98,17 @@ fn start_clients<
     gate: &'s G,
 ) -> Result<Vec<PromisedHandle<ClientEnd, OfClient>>, RunFault>
     requires { All (λ task. IsClientTask B.table task.client task.ballot task.wishes.items task.berth (finds task.stable)) clients.items }
-    ensures named { IfOk result (λ threads. map (λ t. with_wishes t.promise.client t.promise.wishes.value.items) threads.items ≡ map (λ t. with_wishes t.client t.wishes.items) clients.items) }
+    ensures named { IfOk result (λ threads. map (λ t. with_wishes t.promise.client t.promise.wishes.value.items t.promise.berth.value.table) threads.items ≡ map (λ t. with_wishes t.client t.wishes.items t.berth.table) clients.items) }
     ensures err { IfErr result (λ f. f ≡ RunFault.Memory) }
 {
     let mut threads = Vec::new(alloc);
     for task in clients {
+        let wishes = Snapshot::of(&task.wishes);
+        let berth = Snapshot::of(&task.berth);
         let promise = OfClient {
             client: task.client,
-            wishes: Snapshot::of(&task.wishes),
+            wishes,
+            berth,
         };
         let Ok(handle) = scope.spawn_with(
             promise,
@@ -110,6 +116,7 @@ fn start_clients<
                 requires { IsClientTask B.table task.client task.ballot task.wishes.items task.berth (finds task.stable) }
                 ensures client { result.client ≡ task.client }
                 ensures wishes { result.wishes.items ≡ task.wishes.items }
+                ensures table { result.berth.table ≡ task.berth.table }
                 ensures end { IsClientEnd result }
             { do_client(rt, alloc, task, book, gate) },
         ) else {
@@ -141,7 +148,7 @@ fn join_clients<R: Threads>(
     rt: &R,
     threads: Vec<PromisedHandle<ClientEnd, OfClient>>,
 ) -> Result<Vec<ClientEnd>, RunFault>
-    ensures ends { IfOk result (λ ends. AreClientEnds (map (λ t. with_wishes t.promise.client t.promise.wishes.value.items) threads.items) ends.items) }
+    ensures ends { IfOk result (λ ends. AreClientEnds (map (λ t. with_wishes t.promise.client t.promise.wishes.value.items t.promise.berth.value.table) threads.items) ends.items) }
     ensures err { IfErr result (λ f. f ≡ RunFault.Memory) }
 {
     let Ok(ends) = thread::join_promised(rt, threads) else {
@@ -168,7 +175,7 @@ pub(crate) fn run_threads<
     requires nodes { All (λ task. IsNodeTask B.table task.node task.berth (problem_of task.policy) (finds task.stable)) nodes.items }
     requires clients { All (λ task. IsClientTask B.table task.client task.ballot task.wishes.items task.berth (finds task.stable)) clients.items }
     ensures nodes { IfOk result (λ ends. AreNodeEnds (map (λ t. t.node) nodes.items) ends.nodes.items) }
-    ensures clients { IfOk result (λ ends. AreClientEnds (map (λ t. with_wishes t.client t.wishes.items) clients.items) ends.clients.items) }
+    ensures clients { IfOk result (λ ends. AreClientEnds (map (λ t. with_wishes t.client t.wishes.items t.berth.table) clients.items) ends.clients.items) }
     ensures err { IfErr result (λ f. f ≡ RunFault.Memory) }
 {
     thread::scope(
@@ -179,7 +186,7 @@ pub(crate) fn run_threads<
             requires nodes { All (λ task. IsNodeTask B.table task.node task.berth (problem_of task.policy) (finds task.stable)) nodes.items }
             requires clients { All (λ task. IsClientTask B.table task.client task.ballot task.wishes.items task.berth (finds task.stable)) clients.items }
             ensures nodes { IfOk result (λ ends. AreNodeEnds (map (λ t. t.node) nodes.items) ends.nodes.items) }
-            ensures clients { IfOk result (λ ends. AreClientEnds (map (λ t. with_wishes t.client t.wishes.items) clients.items) ends.clients.items) }
+            ensures clients { IfOk result (λ ends. AreClientEnds (map (λ t. with_wishes t.client t.wishes.items t.berth.table) clients.items) ends.clients.items) }
             ensures err { IfErr result (λ f. f ≡ RunFault.Memory) }
         {
             let node_threads = start_nodes(scope, rt, alloc, nodes, book, gate)?;

@@ -54,7 +54,7 @@ is_sound false xs head lines g e are_sound are_exact h k recorded = tt
 is_sound true xs head lines g e are_sound are_exact h k recorded = sound_output xs head lines g e are_sound are_exact h k (recorded refl)
 
 tells : (journal : Bool) (xs head : List ℕ) (lines : List (List ℕ)) (g : Given) (old new : Option (List ℕ)) (r : Result ℕ ServeFault) → JournalsAreSound → VerdictsAreExact
-    → head_of (pieces xs) ≡ Ok (head, lines) → settings_of (command.Run journal) head ≡ Ok g → TellsEnd journal head g.settings old new r → Tells journal head g.settings old new r
+    → head_of (pieces xs) ≡ Ok (head, lines) → settings_of (command.Run journal) head ≡ Ok g → TellsEnd journal head g.settings g.wishes old new r → Tells journal head g.settings g.wishes old new r
 tells journal xs head lines g old new (Ok status) are_sound are_exact h k p =
     let (e, is_end, written, is_status, recorded) = p in
     (e, is_end, written, is_status, is_sound journal xs head lines g e are_sound are_exact h k recorded)
@@ -64,6 +64,12 @@ tells_by : (journal : Bool) (xs head : List ℕ) (lines : List (List ℕ)) (give
     → head_of (pieces xs) ≡ Ok (head, lines) → settings_of (command.Run journal) head ≡ given → RunsBy journal head given old new r → TellsBy journal head given old new r
 tells_by journal xs head lines (Ok g) old new r are_sound are_exact h k p = tells journal xs head lines g old new r are_sound are_exact h k p
 tells_by journal xs head lines (Err e) old new r are_sound are_exact h k p = p
+
+-- What is told of settings that were read.
+
+pub told_by : (journal : Bool) (head : List ℕ) (g : Given) (old new : Option (List ℕ)) (r : Result ℕ ServeFault) → settings_of (command.Run journal) head ≡ Ok g → TellsEnd journal head g.settings g.wishes old new r
+    → RunsHead journal head old new r
+told_by journal head g old new r h p = inl (subst (λ (q : Result Given SettingsFault). RunsBy journal head q old new r) (sym h) p)
 
 -- A head that was read.
 

@@ -1,6 +1,7 @@
 -- What `serve_run` writes, and its status.
 use Rattle.std.specs.Prelude.{◌≡◌, ◌⊎◌, ℕ, Bool, true, false, List, length, Option, Some, None, Result, Ok, Err}
 use Rattle.std.specs.Io.KnownBytes.{Keeps, Appends}
+use Rattle.history_check.specs.declared.wishes.Wish.{Wish}
 use Rattle.journal_audit.specs.declared.verdicts.Verdict.TheVariants.{Sound}
 use Rattle.line_streams.specs.Streams.{pieces, AppendsBeginning}
 use Rattle.operator_cli.specs.declared.faults.ServeFault.{ServeFault}
@@ -28,14 +29,14 @@ IsFoundSound true head e = output_of command.Audit (journal_behind head e.histor
 
 -- How a run ends that has settings: all of the text of its end was written, and the status is the end's;
 -- or after a fault a beginning of it, or nothing where the run didn't come to its end.
-abbrev pub Tells : Bool → List ℕ → Settings → Option (List ℕ) → Option (List ℕ) → Result ℕ ServeFault → Type 0
-Tells journal head s old new (Ok status) = (e : End) × IsEndOf s e × Appends old new (run_text journal head e) × (status ≡ end_status e.faults) × IsFoundSound journal head e
-Tells journal head s old new (Err f) = Keeps old new ⊎ ((e : End) × IsEndOf s e × AppendsBeginning old new (run_text journal head e))
+abbrev pub Tells : Bool → List ℕ → Settings → List Wish → Option (List ℕ) → Option (List ℕ) → Result ℕ ServeFault → Type 0
+Tells journal head s wishes old new (Ok status) = (e : End) × IsEndOf s wishes e × Appends old new (run_text journal head e) × (status ≡ end_status e.faults) × IsFoundSound journal head e
+Tells journal head s wishes old new (Err f) = Keeps old new ⊎ ((e : End) × IsEndOf s wishes e × AppendsBeginning old new (run_text journal head e))
 
 -- the same, and for settings that are refused the line of their fault
 abbrev pub TellsBy : Bool → List ℕ → Result Given SettingsFault → Option (List ℕ) → Option (List ℕ) → Result ℕ ServeFault → Type 0
 TellsBy journal head (Err e) old new r = Writes (refusal_output e) old new r
-TellsBy journal head (Ok g) old new r = Tells journal head g.settings old new r
+TellsBy journal head (Ok g) old new r = Tells journal head g.settings g.wishes old new r
 
 abbrev pub TellsBehind : Bool → Result (List ℕ × List (List ℕ)) SettingsFault → Option (List ℕ) → Option (List ℕ) → Result ℕ ServeFault → Type 0
 TellsBehind journal (Err e) old new r = Writes (refusal_output e) old new r

@@ -1,11 +1,12 @@
 // A whole run, from the bytes of its settings to what is told of its end.
 
-ghost use Rattle.std.specs.Prelude.{◌≡◌, ◌≤◌, ◌++◌, map, replicate, codes, IfOk, OnOk};
+ghost use Rattle.std.specs.Prelude.{◌≡◌, ◌≤◌, ◌++◌, List, map, replicate, codes, IfOk, OnOk};
 ghost use Rattle.lock_messages.specs.declared.ids.TheConstants.{MAX_NODES, MAX_CLIENTS};
 ghost use Rattle.lock_model.specs.declared.problems.Problem.TheVariants.{First, Second};
 ghost use Rattle.history_book.specs.Books.{enters};
 ghost use Rattle.journal_text.specs.Journals.{IsRecorded};
 ghost use Rattle.line_streams.specs.Streams.{Puts};
+ghost use Rattle.history_check.specs.declared.wishes.Wish.{Wish as WishValue};
 ghost use Rattle.operator_cli.specs.Openings.{all_down};
 ghost use Rattle.operator_cli.specs.Settings.{AreAmong};
 ghost use Rattle.run_service.specs.Empty.{empty_node, empty_client};
@@ -97,10 +98,9 @@ fn tell<W: Write>(
     end: &RunEnd,
     writer: &mut W,
 ) -> Result<u8, ServeFault>
-    requires end { IsEndOf settings.now (record { history = end.now.book.history; world = end.now.book.world; faults = end.now.faults.items }) }
     requires entered { end.now.entered ≡ enters end.now.book.history }
     requires opening { end.now.book.opening ≡ all_down settings.now }
-    ensures { TellsEnd journal head.now settings.now (W.contents writer.old) (W.contents writer.new) result }
+    ensures { (wishes : List WishValue) → IsEndOf settings.now wishes (record { history = end.now.book.history; world = end.now.book.world; faults = end.now.faults.items }) → TellsEnd journal head.now settings.now wishes (W.contents writer.old) (W.contents writer.new) result }
 {
     let told = if journal {
         put_journal(alloc, head, end, writer)
@@ -136,7 +136,7 @@ fn run<T: Threads + Wait + Copy + Send>(
     requires records_second { map (λ r. finds r) records.second.items ≡ replicate MAX_NODES (empty_node Second) }
     requires records_clients { map (λ r. finds r) records.clients.items ≡ replicate MAX_CLIENTS empty_client }
     ensures opening { IfOk result (λ end. end.book.opening ≡ all_down settings.now) }
-    ensures end { IfOk result (λ end. IsEndOf settings.now (record { history = end.book.history; world = end.book.world; faults = end.faults.items })) }
+    ensures end { IfOk result (λ end. IsEndOf settings.now wishes.now (record { history = end.book.history; world = end.book.world; faults = end.faults.items })) }
     ensures entered { IfOk result (λ end. end.entered ≡ enters end.book.history) }
 {
     let nodes = settings.ballot.nodes();

@@ -4,7 +4,7 @@ use Rattle.client_core.specs.declared.phases.Phase.TheVariants as phase
 use Rattle.actor_steps.specs.Endings.{falls_of, FailuresFollow}
 use Rattle.client_loop.specs.Sendings.{sent_of}
 use Rattle.client_loop.specs.Standing.{Stands}
-use Rattle.client_loop.specs.Visits.{visits_of}
+use Rattle.client_loop.specs.Visits.{visits_of, use_of, BeginsOnly}
 use Rattle.client_loop.proofs.attempting.attempt.Given as goal
 
 abbrev pub invariant-loop : goal.invariant-loop
@@ -18,4 +18,5 @@ invariant-loop g l = record {
   silent : sent_of (g.R.Recorder.own_log l.recorder) ≡ sent_of (g.R.Recorder.own_log l.fn.recorder);
   falls : FailuresFollow (falls_of (g.R.Recorder.own_log l.fn.recorder)) (falls_of (g.R.Recorder.own_log l.recorder)) ((goal.StableRecord-dyn g l.fn.stable.now).failures_of l.fn.stable.now.1)
       ((goal.StableRecord-dyn g l.stable.now).failures_of l.stable.now.1);
+  begins : BeginsOnly (use_of l.wish) (visits_of (g.R.Recorder.own_log l.fn.recorder)) (visits_of (g.R.Recorder.own_log l.recorder));
 }

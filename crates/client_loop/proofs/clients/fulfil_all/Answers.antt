@@ -1,6 +1,7 @@
 use Rattle.std.proofs.Common.{rules, arith}
 use Rattle.std.proofs.lemmas.Grind.{common_steps}
 use Rattle.actor_steps.proofs.EndFacts.{failures_on}
+use Rattle.client_loop.proofs.BeginFacts.{wish_begun}
 use Rattle.client_loop.proofs.SentFacts.{follows_on}
 use Rattle.client_loop.proofs.clients.fulfil_all.Goals as goal
 
@@ -13,4 +14,8 @@ loop-wish-preserved g c = record {
   count = search rules;
   sent = follows_on _ _ _ _ _ _ c.loop-wish.invariant.sent c.in_default.ensures.sent;
   falls = failures_on _ _ _ _ _ _ c.loop-wish.invariant.falls c.fulfil-fulfilled.ensures.falls;
+  begun = wish_begun _ _ _ c.wish-item.result _ _ _ c.loop-wish-test.true c.wish-item.is c.fulfil-fulfilled.ensures.begins c.loop-wish.invariant.begun;
 }
+
+pub returns-in-Err-clause-begun : goal.returns-in-Err-clause-begun
+returns-in-Err-clause-begun g c = wish_begun _ _ _ c.wish-item.result _ _ _ c.loop-wish-test.true c.wish-item.is c.fulfil-fulfilled.ensures.begins c.loop-wish.invariant.begun

@@ -1,3 +1,4 @@
+use Rattle.client_loop.proofs.BeginFacts.{entering_begins}
 use Rattle.client_loop.proofs.Logs.{visits-adds}
 use Rattle.client_loop.proofs.EnterFacts.{enter_allowed, enter_stands}
 use Rattle.client_loop.proofs.entering.enter.Goals as goal
@@ -10,3 +11,6 @@ log_plain-requires-clause-allowed g c = enter_allowed _ _ c.args.core.now c.clie
 
 pub returns-clause-inside : goal.returns-clause-inside
 returns-clause-inside g c = enter_stands _ _ _ c.args.core.now _ _ c.requires.may c.requires.stands c.in_ok-log_plain.ensures.logged
+
+pub returns-clause-begins : goal.returns-clause-begins
+returns-clause-begins g c = entering_begins _ _ (visits-adds _ _ _ _ c.in_ok-log_plain.ensures.logged)

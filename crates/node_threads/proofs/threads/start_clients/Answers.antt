@@ -34,17 +34,17 @@ pub loop-task-preserved : goal.loop-task-preserved
 loop-task-preserved g c =
     let task = c.in-Some.task in
     let handle = c.in-Ok.handle in
-    let same : with_wishes handle.promise.client handle.promise.wishes.value.items ≡ with_wishes task.client task.wishes.items =
-    ap (λ p. with_wishes p.client p.wishes.value.items) c.in-Ok.ensures.ok ∙ ap (λ v. with_wishes task.client v.items) c.of.ensures in record {
+    let same : with_wishes handle.promise.client handle.promise.wishes.value.items handle.promise.berth.value.table ≡ with_wishes task.client task.wishes.items task.berth.table =
+    ap (λ p. with_wishes p.client p.wishes.value.items p.berth.value.table) c.in-Ok.ensures.ok ∙ ap (λ v. with_wishes task.client v.items c.of-berth.result.value.table) c.of-wishes.ensures ∙ ap (λ k. with_wishes task.client task.wishes.items k.table) c.of-berth.ensures in record {
       can = tt;
       finite = tt;
       tasks = rest_of task (λ t. IsClientTask g.B.BookName.table t.client t.ballot t.wishes.items t.berth ((goal.StableRecord-dyn g (t.stable.vtable, t.stable.value)).finds t.stable.value)) _ _
           c.in-Some.ensures.steps.0 c.loop-task.invariant.tasks;
-      named = one_more_started (λ t. with_wishes t.promise.client t.promise.wishes.value.items) (λ t. with_wishes t.client t.wishes.items) c.loop-task.threads.items _ _ _ handle task _
+      named = one_more_started (λ t. with_wishes t.promise.client t.promise.wishes.value.items t.promise.berth.value.table) (λ t. with_wishes t.client t.wishes.items t.berth.table) c.loop-task.threads.items _ _ _ handle task _
           c.loop-task.invariant.named c.in-Some.ensures.steps.0 c.in-Ok-push.ensures.items same;
     }
 
 pub returns-clause-named : goal.returns-clause-named
 returns-clause-named g c =
     let none : length (into_iter_items c.loop-task.task-iterator) ≡ 0 = sym c.loop-task.task-iterator.rest.ok.0 ∙ c.in-None.ensures.steps.0 in
-    all_started (λ t. with_wishes t.promise.client t.promise.wishes.value.items) (λ t. with_wishes t.client t.wishes.items) c.loop-task.threads.items _ _ c.loop-task.invariant.named none
+    all_started (λ t. with_wishes t.promise.client t.promise.wishes.value.items t.promise.berth.value.table) (λ t. with_wishes t.client t.wishes.items t.berth.table) c.loop-task.threads.items _ _ c.loop-task.invariant.named none

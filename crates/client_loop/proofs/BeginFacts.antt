@@ -1,0 +1,87 @@
+-- What a client's log has begun.
+use Rattle.std.proofs.Common.{◌≡◌, ◌⊎◌, inl, inr, ℕ, zero, suc, ◌<◌, get_or, List, [], ◌∷◌, ◌++◌, length, map, refl, sym, ap, subst, ◌∙◌, arith}
+use Rattle.std.specs.List.{All}
+use Rattle.std.proofs.lemmas.List.Elements.{All-nil, All-push}
+use Rattle.lock_messages.specs.declared.ids.Actor.{Actor}
+use Rattle.lock_model.specs.Decisions.{Among}
+use Rattle.world_model.specs.declared.events.Effect.{Effect}
+use Rattle.world_model.specs.declared.events.Event.{Event}
+use Rattle.world_model.specs.declared.events.Event.TheVariants as event
+use Rattle.history_check.specs.declared.wishes.Wish.{Wish}
+use Rattle.event_recorders.specs.OwnLogs.{OwnLog}
+use Rattle.client_loop.specs.Visits.{Use, Visits, AreWished, BeginsOnly, BeginsNothing, HasBegun, use_of, visits_after, visits_from, visits_of, visits_entering, visits_beginning}
+
+pub begins_none : (u : Use) (a b : Visits) → b ≡ a → BeginsOnly u a b
+begins_none u a b same = record { whose = ap (λ (v : Visits). v.whose) same; only = λ wished is before. subst (λ (v : Visits). AreWished wished v.begins) (sym same) before }
+
+pub begins_one : (u : Use) (a b : Visits) → b ≡ visits_beginning u a → BeginsOnly u a b
+begins_one u a b more = record {
+  whose = ap (λ (v : Visits). v.whose) more;
+  only = λ wished is before. subst (λ (v : Visits). AreWished wished v.begins) (sym more) (All-push (λ (x : Use). Among x wished) a.begins u before is);
+}
+
+pub begins_on : (u : Use) (a b c : Visits) → BeginsOnly u a b → BeginsOnly u b c → BeginsOnly u a c
+begins_on u a b c first second = record { whose = second.whose ∙ first.whose; only = λ wished is before. second.only wished is (first.only wished is before) }
+
+-- one use, and then nothing
+pub begins_still : (u : Use) (a b c : Visits) → BeginsOnly u a b → c ≡ b → BeginsOnly u a c
+begins_still u a b c first same = begins_on u a b c first (begins_none u b c same)
+
+pub begins_no_more : (u : Use) (a b c : Visits) → BeginsOnly u a b → BeginsNothing b c → BeginsOnly u a c
+begins_no_more u a b c first then = record {
+  whose = then.whose ∙ first.whose;
+  only = λ wished is before. subst (λ (us : List Use). AreWished wished us) (sym then.none) (first.only wished is before);
+}
+
+pub nothing_begun : (a b : Visits) → b ≡ a → BeginsNothing a b
+nothing_begun a b same = record { whose = ap (λ (v : Visits). v.whose) same; none = ap (λ (v : Visits). v.begins) same }
+
+pub entering_begins : (a b : Visits) → b ≡ visits_entering a → BeginsNothing a b
+entering_begins a b more = record { whose = ap (λ (v : Visits). v.whose) more; none = ap (λ (v : Visits). v.begins) more }
+
+pub nothing_on : (a b c : Visits) → BeginsNothing a b → c ≡ b → BeginsNothing a c
+nothing_on a b c first same = record { whose = ap (λ (v : Visits). v.whose) same ∙ first.whose; none = ap (λ (v : Visits). v.begins) same ∙ first.none }
+
+-- whose the visits of a log are
+whose_after : (v : Visits) (e : Event) → (visits_after v e).whose ≡ v.whose
+whose_after v (event.Begin c m x) = refl
+whose_after v (event.Enter c) = refl
+whose_after v (event.Try who) = refl
+whose_after v (event.Kept who) = refl
+whose_after v (event.SayTo c n) = refl
+whose_after v (event.Say n) = refl
+whose_after v (event.Take n k) = refl
+whose_after v (event.Hear c k) = refl
+whose_after v (event.Leave c) = refl
+whose_after v (event.Fall who) = refl
+whose_after v (event.Rise who age) = refl
+
+whose_from : (v : Visits) (events : List (Event × Effect)) → (visits_from v events).whose ≡ v.whose
+whose_from v [] = refl
+whose_from v (p ∷ events) = whose_from (visits_after v p.0) events ∙ whose_after v p.0
+
+whose_of : (l : OwnLog) → (visits_of l).whose ≡ l.actor
+whose_of l = whose_from _ l.events
+
+-- nothing was begun yet
+pub none_begun : (who : Actor) (wishes : List Wish) (l : OwnLog) → (visits_of l).whose ≡ who → (visits_of l).begins ≡ [] → HasBegun who wishes l
+none_begun who wishes l is none = record {
+  whose = sym (whose_of l) ∙ is;
+  each = subst (λ (us : List Use). AreWished (map (λ w. use_of w) wishes) us) (sym none) (All-nil (λ (x : Use). Among x (map (λ w. use_of w) wishes)));
+}
+
+-- what a wish of the list wishes is wished
+is_wished : (wishes : List Wish) (i : ℕ) (w other : Wish) → i < length wishes → w ≡ get_or wishes i other → Among (use_of w) (map (λ (x : Wish). use_of x) wishes)
+is_wished [] i w other few at = absurd (omega (arith, few))
+is_wished (x ∷ xs) zero w other few at = inl (ap (λ (v : Wish). use_of v) at)
+is_wished (x ∷ xs) (suc i) w other few at = inr (is_wished xs i w other (omega (arith, few)) at)
+
+-- the same of a log that goes on from one of the same actor
+pub begun_since : (who : Actor) (wishes : List Wish) (l l' : OwnLog) → (visits_of l).whose ≡ who → HasBegun l.actor wishes l' → HasBegun who wishes l'
+begun_since who wishes l l' is begun = record { whose = begun.whose ∙ sym (whose_of l) ∙ is; each = begun.each }
+
+pub wish_begun : (who : Actor) (wishes : List Wish) (i : ℕ) (w other : Wish) (l l' : OwnLog) → i < length wishes → w ≡ get_or wishes i other → BeginsOnly (use_of w) (visits_of l) (visits_of l') → HasBegun who wishes l → HasBegun who wishes l'
+wish_begun who wishes i w other l l' few at only before = record {
+  whose = sym (whose_of l') ∙ only.whose ∙ whose_of l ∙ before.whose;
+  each = only.only (map (λ (x : Wish). use_of x) wishes) (is_wished wishes i w other few at) before.each;
+}
