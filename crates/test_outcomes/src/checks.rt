@@ -4,7 +4,7 @@ ghost use Rattle.std.specs.Prelude.{◌≡◌, ◌⊎◌, true, false, Some, Non
 
 use crate::{Failure, Outcome};
 
-/// Ends the test, as wrong in row 0, where something is not so.
+/// Ends the test, as wrong in its first row, where something is not so.
 pub fn check(holds: bool) -> Outcome
     ensures passes { OnOk result (holds ≡ true) }
     ensures fails { IfErr result (λ failure. (holds ≡ false) × (failure ≡ Failure.Wrong 0)) }
