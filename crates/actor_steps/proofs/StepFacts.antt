@@ -73,12 +73,12 @@ tries-to p bytes strings tried finds = subst (λ o. FindsKept (kept_in p) o stri
 
 -- Try
 
-record MayKeep (b : Ballot) (who : Actor) (p : Part) : Type 0 where
+record MayKeep (b : List Ballot) (who : Actor) (p : Part) : Type 0 where
   nothing : tried_in p ≡ None
   kept : kept_in (after_own b (event.Try who) effect.Tried p) ≡ kept_in p
   allowed : own_refusal b (event.Kept who) (after_own b (event.Try who) effect.Tried p) ≡ None
 
-node-tries : (b : Ballot) (n : ℕ) (kept : ExactStation) (tried : Option ExactStation) (phase : ExactNodePhase) →
+node-tries : (b : List Ballot) (n : ℕ) (kept : ExactStation) (tried : Option ExactStation) (phase : ExactNodePhase) →
     own_refusal b (event.Try (actor.Node n)) (NodePart (record { kept = kept; tried = tried; phase = phase })) ≡ None →
     MayKeep b (actor.Node n) (NodePart (record { kept = kept; tried = tried; phase = phase }))
 node-tries b n kept tried node.Down h = absurd (cc h)
@@ -87,17 +87,17 @@ node-tries b n kept None (node.Decided s replies) h = record { nothing = refl; k
 node-tries b n kept (Some t) (node.Decided s replies) h = absurd (cc h)
 node-tries b n kept tried (node.Stored replies) h = absurd (cc h)
 
-client-tries : (b : Ballot) (c kept : ℕ) (tried : Option ℕ) (phase : ExactClientPhase) →
+client-tries : (b : List Ballot) (c kept : ℕ) (tried : Option ℕ) (phase : ExactClientPhase) →
     own_refusal b (event.Try (actor.Client c)) (ClientPart (record { kept = kept; tried = tried; phase = phase })) ≡ None →
     MayKeep b (actor.Client c) (ClientPart (record { kept = kept; tried = tried; phase = phase }))
 client-tries b c kept tried client.Down h = absurd (cc h)
 client-tries b c kept tried client.Idle h = absurd (cc h)
-client-tries b c kept None (client.Chosen t) h = record { nothing = refl; kept = refl; allowed = refl }
-client-tries b c kept (Some a) (client.Chosen t) h = absurd (cc h)
+client-tries b c kept None (client.Chosen t place) h = record { nothing = refl; kept = refl; allowed = refl }
+client-tries b c kept (Some a) (client.Chosen t place) h = absurd (cc h)
 client-tries b c kept tried (client.Asking p) h = absurd (cc h)
 client-tries b c kept tried (client.Inside p) h = absurd (cc h)
 
-may-keep : (b : Ballot) (who : Actor) (p : Part) → own_refusal b (event.Try who) p ≡ None → MayKeep b who p
+may-keep : (b : List Ballot) (who : Actor) (p : Part) → own_refusal b (event.Try who) p ≡ None → MayKeep b who p
 may-keep b (actor.Node n) NoPart h = absurd (cc h)
 may-keep b (actor.Node n) (NodePart v) h = node-tries b n v.kept v.tried v.phase h
 may-keep b (actor.Node n) (ClientPart k) h = absurd (cc h)
@@ -106,18 +106,18 @@ may-keep b (actor.Client c) (NodePart v) h = absurd (cc h)
 may-keep b (actor.Client c) (ClientPart k) h = client-tries b c k.kept k.tried k.phase h
 
 -- the record finds what is kept, as the actor begins to try
-try-finds : (b : Ballot) (who : Actor) (p : Part) (bytes : List ℕ) (strings : List (List ℕ)) → own_refusal b (event.Try who) p ≡ None → FindsPart p strings →
+try-finds : (b : List Ballot) (who : Actor) (p : Part) (bytes : List ℕ) (strings : List (List ℕ)) → own_refusal b (event.Try who) p ≡ None → FindsPart p strings →
     FindsKept (kept_in (after_own b (event.Try who) effect.Tried p)) (Some bytes) strings
 try-finds b who p bytes strings allowed finds =
     let may = may-keep b who p allowed in
     let just-kept : strings ≡ kept_in p ∷ [] = subst (λ o. FindsKept (kept_in p) o strings) may.nothing finds in
     one-of-two (kept_in (after_own b (event.Try who) effect.Tried p)) bytes strings (just-kept ∙ ap (λ x. x ∷ []) (sym may.kept))
 
-pub try_found : (l : OwnLog) (who : Actor) (bytes : List ℕ) (strings : List (List ℕ)) → own_refusal l.ballot (event.Try who) (part_now l) ≡ None →
-    tried_in (after_own l.ballot (event.Try who) effect.Tried (part_now l)) ≡ Some bytes → FindsPart (part_now l) strings → FindsAfter l (event.Try who) strings
+pub try_found : (l : OwnLog) (who : Actor) (bytes : List ℕ) (strings : List (List ℕ)) → own_refusal l.ballots (event.Try who) (part_now l) ≡ None →
+    tried_in (after_own l.ballots (event.Try who) effect.Tried (part_now l)) ≡ Some bytes → FindsPart (part_now l) strings → FindsAfter l (event.Try who) strings
 try_found l who bytes strings allowed tried finds =
-    λ done is. subst (λ d. FindsPart (after_own l.ballot (event.Try who) d (part_now l)) strings) (sym is)
-    (tries-to (after_own l.ballot (event.Try who) effect.Tried (part_now l)) bytes strings tried (try-finds l.ballot who (part_now l) bytes strings allowed finds))
+    λ done is. subst (λ d. FindsPart (after_own l.ballots (event.Try who) d (part_now l)) strings) (sym is)
+    (tries-to (after_own l.ballots (event.Try who) effect.Tried (part_now l)) bytes strings tried (try-finds l.ballots who (part_now l) bytes strings allowed finds))
 
 pub try_added : (l l' : OwnLog) (who : Actor) (done : Effect) → IsAdded l (event.Try who) done l' → IsAdded l (event.Try who) effect.Tried l'
 try_added l l' who done is = subst (λ d. IsAdded l (event.Try who) d l') is.kind is
@@ -126,30 +126,30 @@ try_added l l' who done is = subst (λ d. IsAdded l (event.Try who) d l') is.kin
 same-actor : (l l' : OwnLog) (e : Event) (done : Effect) → IsAdded l e done l' → l'.actor ≡ l.actor
 same-actor l l' e done is = ap (λ (x : OwnLog). x.actor) is.log
 
-same-ballot : (l l' : OwnLog) (e : Event) (done : Effect) → IsAdded l e done l' → l'.ballot ≡ l.ballot
-same-ballot l l' e done is = ap (λ (x : OwnLog). x.ballot) is.log
+same-ballot : (l l' : OwnLog) (e : Event) (done : Effect) → IsAdded l e done l' → l'.ballots ≡ l.ballots
+same-ballot l l' e done is = ap (λ (x : OwnLog). x.ballots) is.log
 
-pub trying : (l l' : OwnLog) (who : Actor) (done : Effect) (bytes : List ℕ) (strings : List (List ℕ)) → l.actor ≡ who → own_refusal l.ballot (event.Try who) (part_now l) ≡ None →
-    tried_in (after_own l.ballot (event.Try who) effect.Tried (part_now l)) ≡ Some bytes → FindsPart (part_now l) strings → IsAdded l (event.Try who) done l' → IsTrying l' who bytes strings
+pub trying : (l l' : OwnLog) (who : Actor) (done : Effect) (bytes : List ℕ) (strings : List (List ℕ)) → l.actor ≡ who → own_refusal l.ballots (event.Try who) (part_now l) ≡ None →
+    tried_in (after_own l.ballots (event.Try who) effect.Tried (part_now l)) ≡ Some bytes → FindsPart (part_now l) strings → IsAdded l (event.Try who) done l' → IsTrying l' who bytes strings
 trying l l' who done bytes strings own allowed tried finds is =
     let added = try_added l l' who done is in
-    let may = may-keep l.ballot who (part_now l) allowed in
-    let after : part_now l' ≡ after_own l.ballot (event.Try who) effect.Tried (part_now l) = added.part in
+    let may = may-keep l.ballots who (part_now l) allowed in
+    let after : part_now l' ≡ after_own l.ballots (event.Try who) effect.Tried (part_now l) = added.part in
     record {
       actor = same-actor l l' (event.Try who) done is ∙ own;
       allowed = ap (λ b. own_refusal b (event.Kept who) (part_now l')) (same-ballot l l' (event.Try who) done is)
-          ∙ ap (λ p. own_refusal l.ballot (event.Kept who) p) after ∙ may.allowed;
+          ∙ ap (λ p. own_refusal l.ballots (event.Kept who) p) after ∙ may.allowed;
       tried = ap tried_in after ∙ tried;
-      finds = subst (λ p. FindsKept (kept_in p) (Some bytes) strings) (sym after) (try-finds l.ballot who (part_now l) bytes strings allowed finds);
+      finds = subst (λ p. FindsKept (kept_in p) (Some bytes) strings) (sym after) (try-finds l.ballots who (part_now l) bytes strings allowed finds);
     }
 
 -- Kept
 
-record KeepsThen (b : Ballot) (who : Actor) (p : Part) (bytes : List ℕ) : Type 0 where
+record KeepsThen (b : List Ballot) (who : Actor) (p : Part) (bytes : List ℕ) : Type 0 where
   kept : kept_in (after_own b (event.Kept who) effect.Kept p) ≡ bytes
   nothing : tried_in (after_own b (event.Kept who) effect.Kept p) ≡ None
 
-node-keeps : (b : Ballot) (n : ℕ) (kept : ExactStation) (tried : Option ExactStation) (phase : ExactNodePhase) (bytes : List ℕ) →
+node-keeps : (b : List Ballot) (n : ℕ) (kept : ExactStation) (tried : Option ExactStation) (phase : ExactNodePhase) (bytes : List ℕ) →
     own_refusal b (event.Kept (actor.Node n)) (NodePart (record { kept = kept; tried = tried; phase = phase })) ≡ None →
     tried_in (NodePart (record { kept = kept; tried = tried; phase = phase })) ≡ Some bytes → KeepsThen b (actor.Node n) (NodePart (record { kept = kept; tried = tried; phase = phase })) bytes
 node-keeps b n kept tried node.Down bytes h e = absurd (cc h)
@@ -158,17 +158,17 @@ node-keeps b n kept None (node.Decided s replies) bytes h e = absurd (cc h)
 node-keeps b n kept (Some t) (node.Decided s replies) bytes h e = record { kept = cc e; nothing = refl }
 node-keeps b n kept tried (node.Stored replies) bytes h e = absurd (cc h)
 
-client-keeps : (b : Ballot) (c kept : ℕ) (tried : Option ℕ) (phase : ExactClientPhase) (bytes : List ℕ) →
+client-keeps : (b : List Ballot) (c kept : ℕ) (tried : Option ℕ) (phase : ExactClientPhase) (bytes : List ℕ) →
     own_refusal b (event.Kept (actor.Client c)) (ClientPart (record { kept = kept; tried = tried; phase = phase })) ≡ None →
     tried_in (ClientPart (record { kept = kept; tried = tried; phase = phase })) ≡ Some bytes → KeepsThen b (actor.Client c) (ClientPart (record { kept = kept; tried = tried; phase = phase })) bytes
 client-keeps b c kept tried client.Down bytes h e = absurd (cc h)
 client-keeps b c kept tried client.Idle bytes h e = absurd (cc h)
-client-keeps b c kept None (client.Chosen t) bytes h e = absurd (cc h)
-client-keeps b c kept (Some a) (client.Chosen t) bytes h e = record { kept = cc e; nothing = refl }
+client-keeps b c kept None (client.Chosen t place) bytes h e = absurd (cc h)
+client-keeps b c kept (Some a) (client.Chosen t place) bytes h e = record { kept = cc e; nothing = refl }
 client-keeps b c kept tried (client.Asking p) bytes h e = absurd (cc h)
 client-keeps b c kept tried (client.Inside p) bytes h e = absurd (cc h)
 
-keeps-then : (b : Ballot) (who : Actor) (p : Part) (bytes : List ℕ) → own_refusal b (event.Kept who) p ≡ None → tried_in p ≡ Some bytes → KeepsThen b who p bytes
+keeps-then : (b : List Ballot) (who : Actor) (p : Part) (bytes : List ℕ) → own_refusal b (event.Kept who) p ≡ None → tried_in p ≡ Some bytes → KeepsThen b who p bytes
 keeps-then b (actor.Node n) NoPart bytes h e = absurd (cc h)
 keeps-then b (actor.Node n) (NodePart v) bytes h e = node-keeps b n v.kept v.tried v.phase bytes h e
 keeps-then b (actor.Node n) (ClientPart k) bytes h e = absurd (cc h)
@@ -177,14 +177,14 @@ keeps-then b (actor.Client c) (NodePart v) bytes h e = absurd (cc h)
 keeps-then b (actor.Client c) (ClientPart k) bytes h e = client-keeps b c k.kept k.tried k.phase bytes h e
 
 kept-finds : (l : OwnLog) (who : Actor) (bytes : List ℕ) (before strings : List (List ℕ)) → IsTrying l who bytes before → strings ≡ bytes ∷ [] →
-    FindsPart (after_own l.ballot (event.Kept who) effect.Kept (part_now l)) strings
+    FindsPart (after_own l.ballots (event.Kept who) effect.Kept (part_now l)) strings
 kept-finds l who bytes before strings is found =
-    let then = keeps-then l.ballot who (part_now l) bytes is.allowed is.tried in
-    just (after_own l.ballot (event.Kept who) effect.Kept (part_now l)) bytes strings then.kept then.nothing found
+    let then = keeps-then l.ballots who (part_now l) bytes is.allowed is.tried in
+    just (after_own l.ballots (event.Kept who) effect.Kept (part_now l)) bytes strings then.kept then.nothing found
 
 pub kept_found : (l : OwnLog) (who : Actor) (bytes : List ℕ) (before strings : List (List ℕ)) → IsTrying l who bytes before → strings ≡ bytes ∷ [] → FindsAfter l (event.Kept who) strings
 kept_found l who bytes before strings is found =
-    λ done e. subst (λ d. FindsPart (after_own l.ballot (event.Kept who) d (part_now l)) strings) (sym e) (kept-finds l who bytes before strings is found)
+    λ done e. subst (λ d. FindsPart (after_own l.ballots (event.Kept who) d (part_now l)) strings) (sym e) (kept-finds l who bytes before strings is found)
 
 pub kept_added : (l l' : OwnLog) (who : Actor) (done : Effect) → IsAdded l (event.Kept who) done l' → IsAdded l (event.Kept who) effect.Kept l'
 kept_added l l' who done is = subst (λ d. IsAdded l (event.Kept who) d l') is.kind is
@@ -192,8 +192,8 @@ kept_added l l' who done is = subst (λ d. IsAdded l (event.Kept who) d l') is.k
 pub kept_then : (l l' : OwnLog) (who : Actor) (done : Effect) (bytes : List ℕ) (before strings : List (List ℕ)) (stuck : Bool) → IsTrying l who bytes before → strings ≡ bytes ∷ [] → stuck ≡ false →
     IsAdded l (event.Kept who) done l' → HasFound bytes l' strings stuck
 kept_then l l' who done bytes before strings stuck is found free added =
-    let after : part_now l' ≡ after_own l.ballot (event.Kept who) effect.Kept (part_now l) = (kept_added l l' who done added).part in
-    let then = keeps-then l.ballot who (part_now l) bytes is.allowed is.tried in
+    let after : part_now l' ≡ after_own l.ballots (event.Kept who) effect.Kept (part_now l) = (kept_added l l' who done added).part in
+    let then = keeps-then l.ballots who (part_now l) bytes is.allowed is.tried in
     record {
       kept = sym (ap kept_in after ∙ then.kept);
       found = found;
@@ -223,7 +223,7 @@ failed_finds l who bytes before strings k stuck count count' is put failed =
 
 -- Fall
 
-record FallsTo (b : Ballot) (who : Actor) (p q : Part) (bytes : List ℕ) : Type 0 where
+record FallsTo (b : List Ballot) (who : Actor) (p q : Part) (bytes : List ℕ) : Type 0 where
   old : own_refusal b (event.Rise who Old) q ≡ None
   new : own_refusal b (event.Rise who New) q ≡ None
   kept : kept_in (after_own b (event.Rise who Old) effect.Up q) ≡ kept_in q
@@ -231,7 +231,7 @@ record FallsTo (b : Ballot) (who : Actor) (p q : Part) (bytes : List ℕ) : Type
   same : kept_in q ≡ kept_in p
   tries : tried_in q ≡ Some bytes
 
-node-falls : (b : Ballot) (n : ℕ) (kept : ExactStation) (tried : Option ExactStation) (phase : ExactNodePhase) (bytes : List ℕ) →
+node-falls : (b : List Ballot) (n : ℕ) (kept : ExactStation) (tried : Option ExactStation) (phase : ExactNodePhase) (bytes : List ℕ) →
     own_refusal b (event.Fall (actor.Node n)) (NodePart (record { kept = kept; tried = tried; phase = phase })) ≡ None →
     tried_in (NodePart (record { kept = kept; tried = tried; phase = phase })) ≡ Some bytes →
     FallsTo b (actor.Node n) (NodePart (record { kept = kept; tried = tried; phase = phase })) (after_own b (event.Fall (actor.Node n)) effect.Down (NodePart (record { kept = kept; tried = tried; phase = phase }))) bytes
@@ -241,18 +241,18 @@ node-falls b n kept (Some t) node.Idle bytes h e = record { old = refl; new = re
 node-falls b n kept (Some t) (node.Decided s replies) bytes h e = record { old = refl; new = refl; kept = refl; tried = cc e; same = refl; tries = e }
 node-falls b n kept (Some t) (node.Stored replies) bytes h e = record { old = refl; new = refl; kept = refl; tried = cc e; same = refl; tries = e }
 
-client-falls : (b : Ballot) (c kept : ℕ) (tried : Option ℕ) (phase : ExactClientPhase) (bytes : List ℕ) →
+client-falls : (b : List Ballot) (c kept : ℕ) (tried : Option ℕ) (phase : ExactClientPhase) (bytes : List ℕ) →
     own_refusal b (event.Fall (actor.Client c)) (ClientPart (record { kept = kept; tried = tried; phase = phase })) ≡ None →
     tried_in (ClientPart (record { kept = kept; tried = tried; phase = phase })) ≡ Some bytes →
     FallsTo b (actor.Client c) (ClientPart (record { kept = kept; tried = tried; phase = phase })) (after_own b (event.Fall (actor.Client c)) effect.Down (ClientPart (record { kept = kept; tried = tried; phase = phase }))) bytes
 client-falls b c kept None phase bytes h e = absurd (cc e)
 client-falls b c kept (Some a) client.Down bytes h e = absurd (cc h)
 client-falls b c kept (Some a) client.Idle bytes h e = record { old = refl; new = refl; kept = refl; tried = cc e; same = refl; tries = e }
-client-falls b c kept (Some a) (client.Chosen t) bytes h e = record { old = refl; new = refl; kept = refl; tried = cc e; same = refl; tries = e }
+client-falls b c kept (Some a) (client.Chosen t place) bytes h e = record { old = refl; new = refl; kept = refl; tried = cc e; same = refl; tries = e }
 client-falls b c kept (Some a) (client.Asking p) bytes h e = record { old = refl; new = refl; kept = refl; tried = cc e; same = refl; tries = e }
 client-falls b c kept (Some a) (client.Inside p) bytes h e = record { old = refl; new = refl; kept = refl; tried = cc e; same = refl; tries = e }
 
-falls-to : (b : Ballot) (who : Actor) (p : Part) (bytes : List ℕ) → own_refusal b (event.Fall who) p ≡ None → tried_in p ≡ Some bytes → FallsTo b who p (after_own b (event.Fall who) effect.Down p) bytes
+falls-to : (b : List Ballot) (who : Actor) (p : Part) (bytes : List ℕ) → own_refusal b (event.Fall who) p ≡ None → tried_in p ≡ Some bytes → FallsTo b who p (after_own b (event.Fall who) effect.Down p) bytes
 falls-to b (actor.Node n) NoPart bytes h e = absurd (cc h)
 falls-to b (actor.Node n) (NodePart v) bytes h e = node-falls b n v.kept v.tried v.phase bytes h e
 falls-to b (actor.Node n) (ClientPart k) bytes h e = absurd (cc h)
@@ -260,40 +260,40 @@ falls-to b (actor.Client c) NoPart bytes h e = absurd (cc h)
 falls-to b (actor.Client c) (NodePart v) bytes h e = absurd (cc h)
 falls-to b (actor.Client c) (ClientPart k) bytes h e = client-falls b c k.kept k.tried k.phase bytes h e
 
-fall-finds : (b : Ballot) (who : Actor) (p : Part) (bytes : List ℕ) (strings : List (List ℕ)) → own_refusal b (event.Fall who) p ≡ None → tried_in p ≡ Some bytes → FindsPart p strings →
+fall-finds : (b : List Ballot) (who : Actor) (p : Part) (bytes : List ℕ) (strings : List (List ℕ)) → own_refusal b (event.Fall who) p ≡ None → tried_in p ≡ Some bytes → FindsPart p strings →
     FindsKept (kept_in (after_own b (event.Fall who) effect.Down p)) (Some bytes) strings
 fall-finds b who p bytes strings allowed tried finds =
     let to = falls-to b who p bytes allowed tried in
     subst (λ k. FindsKept k (Some bytes) strings) (sym to.same) (subst (λ o. FindsKept (kept_in p) o strings) tried finds)
 
-pub fall_found : (l : OwnLog) (who : Actor) (bytes : List ℕ) (strings : List (List ℕ)) → own_refusal l.ballot (event.Fall who) (part_now l) ≡ None → tried_in (part_now l) ≡ Some bytes →
+pub fall_found : (l : OwnLog) (who : Actor) (bytes : List ℕ) (strings : List (List ℕ)) → own_refusal l.ballots (event.Fall who) (part_now l) ≡ None → tried_in (part_now l) ≡ Some bytes →
     FindsPart (part_now l) strings → FindsAfter l (event.Fall who) strings
 fall_found l who bytes strings allowed tried finds =
-    let to = falls-to l.ballot who (part_now l) bytes allowed tried in
-    λ done is. subst (λ d. FindsPart (after_own l.ballot (event.Fall who) d (part_now l)) strings) (sym is)
-    (tries-to (after_own l.ballot (event.Fall who) effect.Down (part_now l)) bytes strings to.tries (fall-finds l.ballot who (part_now l) bytes strings allowed tried finds))
+    let to = falls-to l.ballots who (part_now l) bytes allowed tried in
+    λ done is. subst (λ d. FindsPart (after_own l.ballots (event.Fall who) d (part_now l)) strings) (sym is)
+    (tries-to (after_own l.ballots (event.Fall who) effect.Down (part_now l)) bytes strings to.tries (fall-finds l.ballots who (part_now l) bytes strings allowed tried finds))
 
 pub fall_added : (l l' : OwnLog) (who : Actor) (done : Effect) → IsAdded l (event.Fall who) done l' → IsAdded l (event.Fall who) effect.Down l'
 fall_added l l' who done is = subst (λ d. IsAdded l (event.Fall who) d l') is.kind is
 
-pub fallen : (l l' : OwnLog) (who : Actor) (done : Effect) (bytes : List ℕ) (strings : List (List ℕ)) → l.actor ≡ who → own_refusal l.ballot (event.Fall who) (part_now l) ≡ None →
+pub fallen : (l l' : OwnLog) (who : Actor) (done : Effect) (bytes : List ℕ) (strings : List (List ℕ)) → l.actor ≡ who → own_refusal l.ballots (event.Fall who) (part_now l) ≡ None →
     tried_in (part_now l) ≡ Some bytes → FindsPart (part_now l) strings → IsAdded l (event.Fall who) done l' → IsFallen l' who bytes strings
 fallen l l' who done bytes strings own allowed tried finds is =
-    let to = falls-to l.ballot who (part_now l) bytes allowed tried in
-    let after : part_now l' ≡ after_own l.ballot (event.Fall who) effect.Down (part_now l) = (fall_added l l' who done is).part in
-    let ballot : l'.ballot ≡ l.ballot = same-ballot l l' (event.Fall who) done is in
+    let to = falls-to l.ballots who (part_now l) bytes allowed tried in
+    let after : part_now l' ≡ after_own l.ballots (event.Fall who) effect.Down (part_now l) = (fall_added l l' who done is).part in
+    let ballot : l'.ballots ≡ l.ballots = same-ballot l l' (event.Fall who) done is in
     record {
       actor = same-actor l l' (event.Fall who) done is ∙ own;
-      old = ap (λ b. own_refusal b (event.Rise who Old) (part_now l')) ballot ∙ ap (λ p. own_refusal l.ballot (event.Rise who Old) p) after ∙ to.old;
-      new = ap (λ b. own_refusal b (event.Rise who New) (part_now l')) ballot ∙ ap (λ p. own_refusal l.ballot (event.Rise who New) p) after ∙ to.new;
-      kept = ap (λ b. kept_in (after_own b (event.Rise who Old) effect.Up (part_now l'))) ballot ∙ ap (λ p. kept_in (after_own l.ballot (event.Rise who Old) effect.Up p)) after ∙ to.kept ∙ ap kept_in (sym after);
-      tried = ap (λ b. kept_in (after_own b (event.Rise who New) effect.Up (part_now l'))) ballot ∙ ap (λ p. kept_in (after_own l.ballot (event.Rise who New) effect.Up p)) after ∙ to.tried;
-      finds = subst (λ p. FindsKept (kept_in p) (Some bytes) strings) (sym after) (fall-finds l.ballot who (part_now l) bytes strings allowed tried finds);
+      old = ap (λ b. own_refusal b (event.Rise who Old) (part_now l')) ballot ∙ ap (λ p. own_refusal l.ballots (event.Rise who Old) p) after ∙ to.old;
+      new = ap (λ b. own_refusal b (event.Rise who New) (part_now l')) ballot ∙ ap (λ p. own_refusal l.ballots (event.Rise who New) p) after ∙ to.new;
+      kept = ap (λ b. kept_in (after_own b (event.Rise who Old) effect.Up (part_now l'))) ballot ∙ ap (λ p. kept_in (after_own l.ballots (event.Rise who Old) effect.Up p)) after ∙ to.kept ∙ ap kept_in (sym after);
+      tried = ap (λ b. kept_in (after_own b (event.Rise who New) effect.Up (part_now l'))) ballot ∙ ap (λ p. kept_in (after_own l.ballots (event.Rise who New) effect.Up p)) after ∙ to.tried;
+      finds = subst (λ p. FindsKept (kept_in p) (Some bytes) strings) (sym after) (fall-finds l.ballots who (part_now l) bytes strings allowed tried finds);
     }
 
 -- Rise
 
-node-rises : (b : Ballot) (n : ℕ) (age : Age) (kept : ExactStation) (tried : Option ExactStation) (phase : ExactNodePhase) →
+node-rises : (b : List Ballot) (n : ℕ) (age : Age) (kept : ExactStation) (tried : Option ExactStation) (phase : ExactNodePhase) →
     own_refusal b (event.Rise (actor.Node n) age) (NodePart (record { kept = kept; tried = tried; phase = phase })) ≡ None →
     tried_in (after_own b (event.Rise (actor.Node n) age) effect.Up (NodePart (record { kept = kept; tried = tried; phase = phase }))) ≡ None
 node-rises b n Old kept tried node.Down h = refl
@@ -303,18 +303,18 @@ node-rises b n age kept tried node.Idle h = absurd (cc h)
 node-rises b n age kept tried (node.Decided s replies) h = absurd (cc h)
 node-rises b n age kept tried (node.Stored replies) h = absurd (cc h)
 
-client-rises : (b : Ballot) (c : ℕ) (age : Age) (kept : ℕ) (tried : Option ℕ) (phase : ExactClientPhase) →
+client-rises : (b : List Ballot) (c : ℕ) (age : Age) (kept : ℕ) (tried : Option ℕ) (phase : ExactClientPhase) →
     own_refusal b (event.Rise (actor.Client c) age) (ClientPart (record { kept = kept; tried = tried; phase = phase })) ≡ None →
     tried_in (after_own b (event.Rise (actor.Client c) age) effect.Up (ClientPart (record { kept = kept; tried = tried; phase = phase }))) ≡ None
 client-rises b c Old kept tried client.Down h = refl
 client-rises b c New kept None client.Down h = absurd (cc h)
 client-rises b c New kept (Some t) client.Down h = refl
 client-rises b c age kept tried client.Idle h = absurd (cc h)
-client-rises b c age kept tried (client.Chosen t) h = absurd (cc h)
+client-rises b c age kept tried (client.Chosen t place) h = absurd (cc h)
 client-rises b c age kept tried (client.Asking p) h = absurd (cc h)
 client-rises b c age kept tried (client.Inside p) h = absurd (cc h)
 
-rises : (b : Ballot) (who : Actor) (age : Age) (p : Part) → own_refusal b (event.Rise who age) p ≡ None → tried_in (after_own b (event.Rise who age) effect.Up p) ≡ None
+rises : (b : List Ballot) (who : Actor) (age : Age) (p : Part) → own_refusal b (event.Rise who age) p ≡ None → tried_in (after_own b (event.Rise who age) effect.Up p) ≡ None
 rises b (actor.Node n) age NoPart h = absurd (cc h)
 rises b (actor.Node n) age (NodePart v) h = node-rises b n age v.kept v.tried v.phase h
 rises b (actor.Node n) age (ClientPart k) h = absurd (cc h)
@@ -323,13 +323,13 @@ rises b (actor.Client c) age (NodePart v) h = absurd (cc h)
 rises b (actor.Client c) age (ClientPart k) h = client-rises b c age k.kept k.tried k.phase h
 
 rise-finds : (l : OwnLog) (who : Actor) (age : Age) (bytes : List ℕ) (strings : List (List ℕ)) → IsRising l who age bytes → strings ≡ bytes ∷ [] →
-    FindsPart (after_own l.ballot (event.Rise who age) effect.Up (part_now l)) strings
+    FindsPart (after_own l.ballots (event.Rise who age) effect.Up (part_now l)) strings
 rise-finds l who age bytes strings is found =
-    just (after_own l.ballot (event.Rise who age) effect.Up (part_now l)) bytes strings is.kept (rises l.ballot who age (part_now l) is.allowed) found
+    just (after_own l.ballots (event.Rise who age) effect.Up (part_now l)) bytes strings is.kept (rises l.ballots who age (part_now l) is.allowed) found
 
 pub rise_found : (l : OwnLog) (who : Actor) (age : Age) (bytes : List ℕ) (strings : List (List ℕ)) → IsRising l who age bytes → strings ≡ bytes ∷ [] → FindsAfter l (event.Rise who age) strings
 rise_found l who age bytes strings is found =
-    λ done e. subst (λ d. FindsPart (after_own l.ballot (event.Rise who age) d (part_now l)) strings) (sym e) (rise-finds l who age bytes strings is found)
+    λ done e. subst (λ d. FindsPart (after_own l.ballots (event.Rise who age) d (part_now l)) strings) (sym e) (rise-finds l who age bytes strings is found)
 
 pub rise_added : (l l' : OwnLog) (who : Actor) (age : Age) (done : Effect) → IsAdded l (event.Rise who age) done l' → IsAdded l (event.Rise who age) effect.Up l'
 rise_added l l' who age done is = subst (λ d. IsAdded l (event.Rise who age) d l') is.kind is
@@ -337,7 +337,7 @@ rise_added l l' who age done is = subst (λ d. IsAdded l (event.Rise who age) d 
 pub risen_then : (l l' : OwnLog) (who : Actor) (age : Age) (done : Effect) (bytes : List ℕ) (strings : List (List ℕ)) (stuck : Bool) → IsRising l who age bytes → strings ≡ bytes ∷ [] → stuck ≡ false →
     IsAdded l (event.Rise who age) done l' → HasFound bytes l' strings stuck
 risen_then l l' who age done bytes strings stuck is found free added =
-    let after : part_now l' ≡ after_own l.ballot (event.Rise who age) effect.Up (part_now l) = (rise_added l l' who age done added).part in
+    let after : part_now l' ≡ after_own l.ballots (event.Rise who age) effect.Up (part_now l) = (rise_added l l' who age done added).part in
     record {
       kept = sym (ap kept_in after ∙ is.kept);
       found = found;
@@ -347,12 +347,12 @@ risen_then l l' who age done bytes strings stuck is found free added =
 
 -- an actor that has logged nothing rises with what it kept
 
-record AtRest (b : Ballot) (who : Actor) (p : Part) : Type 0 where
+record AtRest (b : List Ballot) (who : Actor) (p : Part) : Type 0 where
   allowed : own_refusal b (event.Rise who Old) p ≡ None
   kept : kept_in (after_own b (event.Rise who Old) effect.Up p) ≡ kept_in p
   nothing : tried_in p ≡ None
 
-node-rests : (b : Ballot) (n : ℕ) (kept : ExactStation) (tried : Option ExactStation) (phase : ExactNodePhase) → phase ≡ node.Down → tried ≡ None →
+node-rests : (b : List Ballot) (n : ℕ) (kept : ExactStation) (tried : Option ExactStation) (phase : ExactNodePhase) → phase ≡ node.Down → tried ≡ None →
     AtRest b (actor.Node n) (NodePart (record { kept = kept; tried = tried; phase = phase }))
 node-rests b n kept None node.Down d t = record { allowed = refl; kept = refl; nothing = refl }
 node-rests b n kept (Some s) phase d t = absurd (cc t)
@@ -360,16 +360,16 @@ node-rests b n kept None node.Idle d t = absurd (cc d)
 node-rests b n kept None (node.Decided s replies) d t = absurd (cc d)
 node-rests b n kept None (node.Stored replies) d t = absurd (cc d)
 
-client-rests : (b : Ballot) (c kept : ℕ) (tried : Option ℕ) (phase : ExactClientPhase) → phase ≡ client.Down → tried ≡ None →
+client-rests : (b : List Ballot) (c kept : ℕ) (tried : Option ℕ) (phase : ExactClientPhase) → phase ≡ client.Down → tried ≡ None →
     AtRest b (actor.Client c) (ClientPart (record { kept = kept; tried = tried; phase = phase }))
 client-rests b c kept None client.Down d t = record { allowed = refl; kept = refl; nothing = refl }
 client-rests b c kept (Some a) phase d t = absurd (cc t)
 client-rests b c kept None client.Idle d t = absurd (cc d)
-client-rests b c kept None (client.Chosen s) d t = absurd (cc d)
+client-rests b c kept None (client.Chosen s place) d t = absurd (cc d)
 client-rests b c kept None (client.Asking p) d t = absurd (cc d)
 client-rests b c kept None (client.Inside p) d t = absurd (cc d)
 
-at-rest : (b : Ballot) (who : Actor) (p : Part) → IsDownAtRest who p → AtRest b who p
+at-rest : (b : List Ballot) (who : Actor) (p : Part) → IsDownAtRest who p → AtRest b who p
 at-rest b (actor.Node n) NoPart h = absurd h
 at-rest b (actor.Node n) (NodePart v) h = node-rests b n v.kept v.tried v.phase h.0 h.1
 at-rest b (actor.Node n) (ClientPart k) h = absurd h
@@ -379,14 +379,14 @@ at-rest b (actor.Client c) (ClientPart k) h = client-rests b c k.kept k.tried k.
 
 pub rising_first : (l : OwnLog) (who : Actor) (bytes : List ℕ) (strings : List (List ℕ)) → IsUnused l who → FindsPart l.opening strings → Among bytes strings → IsRising l who Old bytes
 rising_first l who bytes strings is finds there =
-    let rest = at-rest l.ballot who l.opening is.down in
+    let rest = at-rest l.ballots who l.opening is.down in
     let just-kept : strings ≡ kept_in l.opening ∷ [] = subst (λ o. FindsKept (kept_in l.opening) o strings) rest.nothing finds in
     let same : bytes ≡ kept_in l.opening = is-one (kept_in l.opening) bytes (subst (λ s. Among bytes s) just-kept there) in
-    let now : part_now l ≡ l.opening = ap (λ events. part_now (record { actor = l.actor; ballot = l.ballot; opening = l.opening; events = events })) is.events in
+    let now : part_now l ≡ l.opening = ap (λ events. part_now (record { actor = l.actor; ballots = l.ballots; opening = l.opening; events = events })) is.events in
     record {
       actor = is.actor;
-      allowed = ap (λ p. own_refusal l.ballot (event.Rise who Old) p) now ∙ rest.allowed;
-      kept = ap (λ p. kept_in (after_own l.ballot (event.Rise who Old) effect.Up p)) now ∙ rest.kept ∙ sym same;
+      allowed = ap (λ p. own_refusal l.ballots (event.Rise who Old) p) now ∙ rest.allowed;
+      kept = ap (λ p. kept_in (after_own l.ballots (event.Rise who Old) effect.Up p)) now ∙ rest.kept ∙ sym same;
     }
 
 -- an actor that fell rises with what was found

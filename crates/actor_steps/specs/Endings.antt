@@ -13,7 +13,7 @@ use Rattle.actor_steps.specs.Steps.{HasFailed}
 
 abbrev pub is_fall : Event → Bool
 is_fall (event.Fall who) = true
-is_fall (event.Begin c m x) = false
+is_fall (event.Begin c m x place) = false
 is_fall (event.Try who) = false
 is_fall (event.Kept who) = false
 is_fall (event.SayTo c n) = false

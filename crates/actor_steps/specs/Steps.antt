@@ -109,21 +109,21 @@ pub record IsRisenAgain (l : OwnLog) (who : Actor) (age : Age) (l' : OwnLog) : T
 -- kept and these.
 pub record IsTrying (l : OwnLog) (who : Actor) (bytes : List ℕ) (strings : List (List ℕ)) : Type 0 where
   pub actor : l.actor ≡ who
-  pub allowed : own_refusal l.ballot (event.Kept who) (part_now l) ≡ None
+  pub allowed : own_refusal l.ballots (event.Kept who) (part_now l) ≡ None
   pub tried : tried_in (part_now l) ≡ Some bytes
   pub finds : FindsKept (kept_in (part_now l)) (Some bytes) strings
 
 -- the actor has fallen: it may rise with what it kept, and with these bytes, which it tried to keep
 pub record IsFallen (l : OwnLog) (who : Actor) (bytes : List ℕ) (strings : List (List ℕ)) : Type 0 where
   pub actor : l.actor ≡ who
-  pub old : own_refusal l.ballot (event.Rise who Old) (part_now l) ≡ None
-  pub new : own_refusal l.ballot (event.Rise who New) (part_now l) ≡ None
-  pub kept : kept_in (after_own l.ballot (event.Rise who Old) effect.Up (part_now l)) ≡ kept_in (part_now l)
-  pub tried : kept_in (after_own l.ballot (event.Rise who New) effect.Up (part_now l)) ≡ bytes
+  pub old : own_refusal l.ballots (event.Rise who Old) (part_now l) ≡ None
+  pub new : own_refusal l.ballots (event.Rise who New) (part_now l) ≡ None
+  pub kept : kept_in (after_own l.ballots (event.Rise who Old) effect.Up (part_now l)) ≡ kept_in (part_now l)
+  pub tried : kept_in (after_own l.ballots (event.Rise who New) effect.Up (part_now l)) ≡ bytes
   pub finds : FindsKept (kept_in (part_now l)) (Some bytes) strings
 
 -- the actor may rise, and has kept these bytes then
 pub record IsRising (l : OwnLog) (who : Actor) (age : Age) (bytes : List ℕ) : Type 0 where
   pub actor : l.actor ≡ who
-  pub allowed : own_refusal l.ballot (event.Rise who age) (part_now l) ≡ None
-  pub kept : kept_in (after_own l.ballot (event.Rise who age) effect.Up (part_now l)) ≡ bytes
+  pub allowed : own_refusal l.ballots (event.Rise who age) (part_now l) ≡ None
+  pub kept : kept_in (after_own l.ballots (event.Rise who age) effect.Up (part_now l)) ≡ bytes

@@ -31,8 +31,8 @@ fn log_try<R: Recorder>(
     recorder: &mut R,
 ) -> Result<(), RunFault>
     requires actor { (R.own_log recorder.old).actor ≡ actor }
-    requires allowed { own_refusal (R.own_log recorder.old).ballot (Event.Try actor) (part_now (R.own_log recorder.old)) ≡ None }
-    requires tries { tried_in (after_own (R.own_log recorder.old).ballot (Event.Try actor) Effect.Tried (part_now (R.own_log recorder.old))) ≡ Some bytes.now }
+    requires allowed { own_refusal (R.own_log recorder.old).ballots (Event.Try actor) (part_now (R.own_log recorder.old)) ≡ None }
+    requires tries { tried_in (after_own (R.own_log recorder.old).ballots (Event.Try actor) Effect.Tried (part_now (R.own_log recorder.old))) ≡ Some bytes.now }
     requires found { FindsPart (part_now (R.own_log recorder.old)) (finds stable.now) }
     ensures tried { OnOk result (IsAdded (R.own_log recorder.old) (Event.Try actor) Effect.Tried (R.own_log recorder.new)) }
     ensures trying { OnOk result (IsTrying (R.own_log recorder.new) actor bytes.now (finds stable.now)) }
@@ -101,8 +101,8 @@ pub fn keep_next<R: Recorder, G: Gate>(
     gate: &G,
 ) -> Result<Keeping, RunFault>
     requires actor { (R.own_log recorder.old).actor ≡ actor }
-    requires allowed { own_refusal (R.own_log recorder.old).ballot (Event.Try actor) (part_now (R.own_log recorder.old)) ≡ None }
-    requires tries { tried_in (after_own (R.own_log recorder.old).ballot (Event.Try actor) Effect.Tried (part_now (R.own_log recorder.old))) ≡ Some bytes.now }
+    requires allowed { own_refusal (R.own_log recorder.old).ballots (Event.Try actor) (part_now (R.own_log recorder.old)) ≡ None }
+    requires tries { tried_in (after_own (R.own_log recorder.old).ballots (Event.Try actor) Effect.Tried (part_now (R.own_log recorder.old))) ≡ Some bytes.now }
     requires fits { length bytes.now ≤ MAX_RECORD_LEN }
     requires found { FindsPart (part_now (R.own_log recorder.old)) (finds stable.old) }
     requires free { stuck_of stable.old ≡ false }

@@ -41,7 +41,7 @@ pub(crate) fn log_own<R: Recorder>(
     stable: &dyn StableRecord,
 ) -> Result<Effect, RunFault>
     requires own { is_own (R.own_log recorder.old).actor event ≡ true }
-    requires allowed { own_refusal (R.own_log recorder.old).ballot event (part_now (R.own_log recorder.old)) ≡ None }
+    requires allowed { own_refusal (R.own_log recorder.old).ballots event (part_now (R.own_log recorder.old)) ≡ None }
     requires plain { reads event ≡ false }
     requires found { FindsAfter (R.own_log recorder.old) event (finds stable.now) }
     ensures logged { IfOk result (λ done. IsAdded (R.own_log recorder.old) event done (R.own_log recorder.new)) }
@@ -62,7 +62,7 @@ pub fn log_plain<R: Recorder>(
     stable: &dyn StableRecord,
 ) -> Result<Effect, RunFault>
     requires own { is_own (R.own_log recorder.old).actor event ≡ true }
-    requires allowed { own_refusal (R.own_log recorder.old).ballot event (part_now (R.own_log recorder.old)) ≡ None }
+    requires allowed { own_refusal (R.own_log recorder.old).ballots event (part_now (R.own_log recorder.old)) ≡ None }
     requires plain { reads event ≡ false }
     requires stays { changes_record event ≡ false }
     requires found { FindsPart (part_now (R.own_log recorder.old)) (finds stable.now) }
@@ -98,7 +98,7 @@ pub fn log_reading<R: Recorder>(
     stable: &dyn StableRecord,
 ) -> Result<Option<Effect>, RunFault>
     requires own { is_own (R.own_log recorder.old).actor event ≡ true }
-    requires allowed { own_refusal (R.own_log recorder.old).ballot event (part_now (R.own_log recorder.old)) ≡ None }
+    requires allowed { own_refusal (R.own_log recorder.old).ballots event (part_now (R.own_log recorder.old)) ≡ None }
     requires reading { reads event ≡ true }
     requires found { FindsPart (part_now (R.own_log recorder.old)) (finds stable.now) }
     ensures logged { IfOk result (λ o. IfSome o (λ done. IsAdded (R.own_log recorder.old) event done (R.own_log recorder.new))) }

@@ -44,7 +44,7 @@ fn log_fall<R: Recorder>(
     recorder: &mut R,
 ) -> Result<(), RunFault>
     requires actor { (R.own_log recorder.old).actor ≡ actor }
-    requires allowed { own_refusal (R.own_log recorder.old).ballot (Event.Fall actor) (part_now (R.own_log recorder.old)) ≡ None }
+    requires allowed { own_refusal (R.own_log recorder.old).ballots (Event.Fall actor) (part_now (R.own_log recorder.old)) ≡ None }
     requires tries { tried_in (part_now (R.own_log recorder.old)) ≡ Some tried.now }
     requires found { FindsPart (part_now (R.own_log recorder.old)) (finds stable.now) }
     ensures down { OnOk result (IsAdded (R.own_log recorder.old) (Event.Fall actor) Effect.Down (R.own_log recorder.new)) }
@@ -107,7 +107,7 @@ pub fn rise_again<R: Recorder>(
     recorder: &mut R,
 ) -> Result<Vec<u8>, RunFault>
     requires actor { (R.own_log recorder.old).actor ≡ actor }
-    requires allowed { own_refusal (R.own_log recorder.old).ballot (Event.Fall actor) (part_now (R.own_log recorder.old)) ≡ None }
+    requires allowed { own_refusal (R.own_log recorder.old).ballots (Event.Fall actor) (part_now (R.own_log recorder.old)) ≡ None }
     requires tries { tried_in (part_now (R.own_log recorder.old)) ≡ Some tried.now }
     requires found { FindsPart (part_now (R.own_log recorder.old)) (finds stable.old) }
     ensures risen { IfOk result (λ bytes. (age : AgeValue) × IsRisenAgain (R.own_log recorder.old) actor age (R.own_log recorder.new) × ((age ≡ Age.New) ↔ (bytes.items ≡ tried.now))) }

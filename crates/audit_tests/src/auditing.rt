@@ -5,7 +5,7 @@ use journal_audit::{AuditFault, Verdict, audit};
 use std::alloc::Global;
 use std::io::Read;
 use test_outcomes::Failure;
-use vote_weights::Ballot;
+use vote_weights::{Ballot, BallotList};
 use world_machine::World;
 
 /// A world of three nodes with a vote each, of which two read and two write, under problem 1, and of
@@ -14,15 +14,18 @@ pub(crate) fn world(alloc: Global) -> Result<World, Failure> {
     let Ok(ballot) = Ballot::of(&[1, 1, 1], 2, 2) else {
         return Err(Failure::Wrong(0));
     };
+    let Ok(ballots) = BallotList::of(&[ballot]) else {
+        return Err(Failure::Wrong(0));
+    };
     let mut policies = Vec::new(alloc);
     for _ in 0..3 {
         let policy: Box<dyn Admission + Send> = Box::new(alloc, FirstProblem)?;
         policies.push(policy)?;
     }
-    if policies.len() != ballot.nodes() as usize {
+    if policies.len() != ballots.nodes() as usize {
         return Err(Failure::Wrong(0));
     }
-    match World::start(alloc, ballot, 4, policies) {
+    match World::start(alloc, ballots, 4, policies) {
         Ok(world) => Ok(world),
         Err(_) => Err(Failure::Memory),
     }

@@ -5,9 +5,11 @@ use std::alloc::Global;
 use test_outcomes::{Failure, Outcome, check_row};
 
 /// The line of each event, and of the greatest numbers.
-const EVENTS: [&str; 18] = [
+const EVENTS: [&str; 20] = [
     "begin c1 read a",
     "begin c1024 write abcdefghijklmnopqrstuvwxyz-01234",
+    "begin c1 read a b2",
+    "begin c1024 write abcdefghijklmnopqrstuvwxyz-01234 b8",
     "try n1",
     "try c3",
     "kept n16",
@@ -45,12 +47,18 @@ fn events_there_and_back(rt: HostRuntime) -> Outcome {
 }
 
 /// Texts, each with the number of its fault; 0 where it is a wish.
-const WISHES: [(&str, u16); 10] = [
+const WISHES: [(&str, u16); 16] = [
     ("c1 read a", 0),
     ("c1024 write db-1", 0),
     ("", 805),
     ("c1 read", 805),
-    ("c1 read a ", 805),
+    ("c1 read a ", 803),
+    ("c1 read a b2", 0),
+    ("c1024 write db-1 b8", 0),
+    ("c1 read a b1", 803),
+    ("c1 read a b02", 803),
+    ("c1 read a b9", 803),
+    ("c1 read a b2 ", 805),
     ("n1 read a", 802),
     ("c1025 reed A", 802),
     ("c1 reed A", 801),

@@ -33,7 +33,7 @@ opened w = record { opening = w; history = []; given = [] }
 
 -- a world with nobody in it
 abbrev pub empty_world : ExactWorld
-empty_world = record { ballot = record { votes = []; read = 0; write = 0 }; nodes = []; clients = []; sent = [] }
+empty_world = record { ballots = []; nodes = []; clients = []; sent = [] }
 
 -- no berth is aboard
 abbrev pub no_berth : BerthView

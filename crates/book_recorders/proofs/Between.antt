@@ -59,7 +59,7 @@ has_refused f b k e b' k' own no_step =
       now = b.world;
       others = between_of b k known;
       refused = no_step.refused;
-      local = subst (λ w. IsLocalRefusal e (own_refusal w.ballot e (own_part k)) (Some f)) (sym known.opening) no_step.own;
+      local = subst (λ w. IsLocalRefusal e (own_refusal w.ballots e (own_part k)) (Some f)) (sym known.opening) no_step.own;
       berth = seen_more k k' b.history _ no_step.berth (sym known.begins.1);
     }
 

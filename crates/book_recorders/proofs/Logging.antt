@@ -30,7 +30,7 @@ own_grows k between e done others own =
 
 -- the own log, with these events
 abbrev with_events : BerthValue → List (Event × Effect) → OwnLog
-with_events k l = record { actor = k.actor; ballot = k.opening.ballot; opening = part k.opening k.actor; events = l }
+with_events k l = record { actor = k.actor; ballots = k.opening.ballots; opening = part k.opening k.actor; events = l }
 
 log_after : (k k' : BerthValue) (seen own : List (Event × Effect)) → k' ≡ after_seeing k seen → own_events k.actor seen ≡ own → log_of k' ≡ with_events k own
 log_after k k' seen own is same = ap log_of is ∙ ap (with_events k) same
@@ -41,7 +41,7 @@ is_added effects k e done k' h =
     record {
       kind = effects h.before h.after e done h.takes;
       log = log;
-      part = ap part_now log ∙ local-append k.opening.ballot (part k.opening k.actor) (own_of k) ((e, done) ∷ []);
+      part = ap part_now log ∙ local-append k.opening.ballots (part k.opening k.actor) (own_of k) ((e, done) ∷ []);
     }
 
 seen_log : (f : StepFault) (k : BerthValue) (e : Event) (k' : BerthValue) → HasRefused f k e k' → log_of k' ≡ log_of k
@@ -53,7 +53,7 @@ list_fault (event.Take n k) f of is = is
 list_fault (event.Hear c k) f of is = is
 list_fault (event.SayTo c n) f of is = absurd (subst IsOfEvent is of)
 list_fault (event.Say n) f of is = absurd (subst IsOfEvent is of)
-list_fault (event.Begin c m x) f of is = is
+list_fault (event.Begin c m x place) f of is = is
 list_fault (event.Try who) f of is = is
 list_fault (event.Kept who) f of is = is
 list_fault (event.Enter c) f of is = is
@@ -68,7 +68,7 @@ unread e f of (inr h) =
     let same : h.0 ≡ f = cc in
     list_fault e f of (subst (IsListFault e) same h.2)
 
-pub is_refused : (f : BookFault) (k : BerthValue) (e : Event) (k' : BerthValue) → is_own k.actor e ≡ true → own_refusal k.opening.ballot e (own_part k) ≡ None → MayRefuse f k e k' → IsRecorderFault e f × (log_of k' ≡ log_of k)
+pub is_refused : (f : BookFault) (k : BerthValue) (e : Event) (k' : BerthValue) → is_own k.actor e ≡ true → own_refusal k.opening.ballots e (own_part k) ≡ None → MayRefuse f k e k' → IsRecorderFault e f × (log_of k' ≡ log_of k)
 is_refused book.OtherBook k e k' own allowed r = (tt, ap log_of r)
 is_refused book.OtherActor k e k' own allowed r = absurd (let z : false ≡ true = sym r.0 ∙ own in cc)
 is_refused book.Full k e k' own allowed r = (tt, ap log_of r.berth)
@@ -81,6 +81,6 @@ pub added_if : EffectsAreOfTheirEvents → (r : Result Effect BookFault) (k : Be
 added_if effects (Ok done) k e k' logged = is_added effects k e done k' logged
 added_if effects (Err f) k e k' logged = tt
 
-pub recorder_if : (r : Result Effect BookFault) (k : BerthValue) (e : Event) (k' : BerthValue) → is_own k.actor e ≡ true → own_refusal k.opening.ballot e (own_part k) ≡ None → IfErr r (λ f. MayRefuse f k e k') → IfErr r (λ f. IsRecorderFault e f × (log_of k' ≡ log_of k))
+pub recorder_if : (r : Result Effect BookFault) (k : BerthValue) (e : Event) (k' : BerthValue) → is_own k.actor e ≡ true → own_refusal k.opening.ballots e (own_part k) ≡ None → IfErr r (λ f. MayRefuse f k e k') → IfErr r (λ f. IsRecorderFault e f × (log_of k' ≡ log_of k))
 recorder_if (Ok done) k e k' own allowed refused = tt
 recorder_if (Err f) k e k' own allowed refused = is_refused f k e k' own allowed refused

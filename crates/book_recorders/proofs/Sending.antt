@@ -11,7 +11,7 @@ use Rattle.lock_messages.proofs.messages.Message.TheSendSync as message
 use Rattle.stable_record.proofs.node_records.NodeRecord.TheSendSync as node_record
 use Rattle.stable_record.proofs.resource_index.ResourceIndex.TheSendSync as index
 use Rattle.voter_core.proofs.phases.Phase.TheSendSync as phase
-use Rattle.vote_weights.proofs.ballots.Ballot.TheSendSync as ballot
+use Rattle.vote_weights.proofs.lists.BallotList.TheSendSync as ballots
 use Rattle.world_actors.proofs.clients.WorldClient.TheSendSync as client
 use Rattle.world_model.proofs.events.Event.TheSendSync as event
 use Rattle.world_model.proofs.events.Effect.TheSendSync as effect
@@ -29,7 +29,7 @@ node_send : (T : RattleType) (k : Ghosts T.Denot) → Sends (table_of T.Denot k)
 node_send T k s t = let inner = core_send T k s t in search (sendable, crosses, node_record.the_field_send) depth 20
 
 world_send : (T : RattleType) (k : Ghosts T.Denot) → Sends (table_of T.Denot k) → IsSend T → IsSend (world.the_row T k)
-world_send T k s t = let inner = node_send T k s t in search (sendable, crosses, ballot.the_send, client.the_send, message.the_send) depth 20
+world_send T k s t = let inner = node_send T k s t in search (sendable, crosses, ballots.the_send, client.the_send, message.the_send) depth 20
 
 -- a function that names `Book` where `Send` is asked takes this, with what it knows of its own table
 pub book_send : (T : RattleType) (k : Ghosts T.Denot) → Sends (table_of T.Denot k) → IsSend T → IsSend (book.the_row T k)

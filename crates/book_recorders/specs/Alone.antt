@@ -23,4 +23,4 @@ pub record IsUnloggedOf (w : ExactWorld) (who : Actor) (b : BookValue) (k : Bert
   pub opening : b.opening ≡ w
   pub world : b.world ≡ w
   pub history : b.history ≡ []
-  pub log : log_of k ≡ record { actor = who; ballot = w.ballot; opening = part w who; events = [] }
+  pub log : log_of k ≡ record { actor = who; ballots = w.ballots; opening = part w who; events = [] }

@@ -47,7 +47,7 @@ pub record HasRefused (f : StepFault) (k : BerthValue) (e : Event) (k' : BerthVa
   pub now : ExactWorld
   pub others : Between k between now
   pub refused : step now e ≡ Err f
-  pub local : IsLocalRefusal e (own_refusal k.opening.ballot e (own_part k)) (Some f)
+  pub local : IsLocalRefusal e (own_refusal k.opening.ballots e (own_part k)) (Some f)
   pub berth : k' ≡ after_seeing k (k.seen ++ between)
 
 -- With what others logged since the history is full, or the list of messages of the world that it leaves has no
@@ -71,7 +71,7 @@ MayRefuse (book.NotAStep f) k e k' = HasRefused f k e k'
 
 -- the berth's own log: its actor, the actor's part of the world as the book was opened, and its own events
 abbrev pub log_of : BerthValue → OwnLog
-log_of k = record { actor = k.actor; ballot = k.opening.ballot; opening = part k.opening k.actor; events = own_of k }
+log_of k = record { actor = k.actor; ballots = k.opening.ballots; opening = part k.opening k.actor; events = own_of k }
 
 -- no book's table
 abbrev pub no_table : TableId

@@ -71,7 +71,7 @@ fn client_event(
 ) -> Result<Event, Failure> {
     let (name, node) = (some_resource(words)?, some_node(words)?);
     Ok(match turn % 8 {
-        0 => Event::Begin(client, some_mode(words), name),
+        0 => Event::Begin(client, some_mode(words), name, 1),
         1 => Event::Try(Actor::Client(client)),
         2 => Event::Kept(Actor::Client(client)),
         3 | 4 => Event::SayTo(client, node),

@@ -5,7 +5,7 @@ use history_check::read_event;
 use lock_messages::{Actor, Attempt, ClientId, NodeId};
 use std::alloc::Global;
 use test_outcomes::Failure;
-use vote_weights::Ballot;
+use vote_weights::{Ballot, BallotList};
 use world_machine::World;
 use world_model::Event;
 
@@ -41,15 +41,18 @@ pub(crate) fn event(line: &str) -> Result<Event, Failure> {
 
 /// A world of this ballot, under problem 1, and of four clients.
 fn world_of(alloc: Global, ballot: Ballot) -> Result<World, Failure> {
+    let Ok(ballots) = BallotList::of(&[ballot]) else {
+        return Err(Failure::Wrong(0));
+    };
     let mut policies = Vec::new(alloc);
-    for _ in 0..ballot.nodes() {
+    for _ in 0..ballots.nodes() {
         let policy: Box<dyn Admission + Send> = Box::new(alloc, FirstProblem)?;
         policies.push(policy)?;
     }
-    if policies.len() != ballot.nodes() as usize {
+    if policies.len() != ballots.nodes() as usize {
         return Err(Failure::Wrong(0));
     }
-    match World::start(alloc, ballot, 4, policies) {
+    match World::start(alloc, ballots, 4, policies) {
         Ok(world) => Ok(world),
         Err(_) => Err(Failure::Memory),
     }

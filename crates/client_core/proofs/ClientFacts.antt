@@ -4,7 +4,7 @@ use Rattle.std.proofs.lemmas.Bool.Decides.{nat_tests}
 use Rattle.std.proofs.lemmas.List.Sums.{sum_by-le-sum_by}
 use Rattle.lock_messages.specs.declared.messages.Message.{Message}
 use Rattle.lock_model.specs.declared.hearing.Heard.TheVariants as heard
-use Rattle.lock_model.specs.Ballots.{Ballot, HasNode, nodes, votes_at, votes_of}
+use Rattle.lock_model.specs.Ballots.{Ballot, HasAnyNode, ballot_at, nodes, votes_at, votes_of}
 use Rattle.vote_weights.specs.Sets.{has_node, with_node}
 use Rattle.client_core.specs.declared.phases.State.{State}
 use Rattle.client_core.specs.declared.phases.State.TheVariants.{Idle, Chosen, Asking, Inside}
@@ -12,18 +12,18 @@ use Rattle.client_core.specs.Clients.{IsLawfulState, AreNodes, granted_in}
 use Rattle.client_core.specs.Calls.{MayEnterIn, enters_in, counts_in, AddsNode, AddsVote, HearsIn}
 
 -- a client that enters with enough votes is lawfully inside
-pub enters-lawful : (client : ℕ) (b : Ballot) (attempt : ℕ) (s : State) → IsLawfulState client b attempt s → MayEnterIn b s →
+pub enters-lawful : (client : ℕ) (b : List Ballot) (attempt : ℕ) (s : State) → IsLawfulState client b attempt s → MayEnterIn b s →
     IsLawfulState client b attempt (enters_in s)
 enters-lawful client b attempt Idle h may = absurd may
-enters-lawful client b attempt (Chosen t) h may = absurd may
-enters-lawful client b attempt (Asking p) h may = record { own = h.own; nodes = h.nodes; enough = may }
+enters-lawful client b attempt (Chosen t place) h may = absurd may
+enters-lawful client b attempt (Asking p) h may = record { own = h.own; placed = h.placed; nodes = h.nodes; enough = may }
 enters-lawful client b attempt (Inside p) h may = absurd may
 
 -- a node more
-add-nodes : (b : Ballot) (before after : List ℕ) (n : ℕ) → HasNode b n → AreNodes b before → AddsNode before n after → AreNodes b after
+add-nodes : (b : List Ballot) (before after : List ℕ) (n : ℕ) → HasAnyNode b n → AreNodes b before → AddsNode before n after → AreNodes b after
 add-nodes b before after n at h adds m e = go (n == m) refl
   where
-    go : (same : Bool) → (n == m) ≡ same → HasNode b m
+    go : (same : Bool) → (n == m) ≡ same → HasAnyNode b m
     go true same =
         let one : n ≡ m = grind (arith, nat_tests) in
         rw (← one) at
@@ -46,24 +46,26 @@ add-enough b before after n needed adds h =
     omega arith
 
 -- a counted vote leaves a lawful state
-pub counts-lawful : (client : ℕ) (b : Ballot) (attempt : ℕ) (s : State) (n : ℕ) → HasNode b n → AddsVote s n →
+pub counts-lawful : (client : ℕ) (b : List Ballot) (attempt : ℕ) (s : State) (n : ℕ) → HasAnyNode b n → AddsVote s n →
     IsLawfulState client b attempt s → IsLawfulState client b attempt (counts_in n s)
 counts-lawful client b attempt Idle n at adds h = h
-counts-lawful client b attempt (Chosen t) n at adds h = h
+counts-lawful client b attempt (Chosen t place) n at adds h = h
 counts-lawful client b attempt (Asking p) n at adds h = record {
   own = h.own;
+  placed = h.placed;
   nodes = add-nodes b p.granted (with_node p.granted n) n at h.nodes adds;
 }
 counts-lawful client b attempt (Inside p) n at adds h = record {
   own = h.own;
+  placed = h.placed;
   nodes = add-nodes b p.granted (with_node p.granted n) n at h.nodes adds;
-  enough = add-enough b p.granted (with_node p.granted n) n _ adds h.enough;
+  enough = add-enough (ballot_at b p.place) p.granted (with_node p.granted n) n _ adds h.enough;
 }
 
 -- where a vote is counted, the granted set has the node too
-pub granted-counts : (b : Ballot) (client attempt : ℕ) (s : State) (m : Message) (n k : ℕ) → HearsIn b client attempt s m heard.Counted → AddsVote s n →
+pub granted-counts : (b : List Ballot) (client attempt : ℕ) (s : State) (m : Message) (n k : ℕ) → HearsIn b client attempt s m heard.Counted → AddsVote s n →
     has_node (granted_in (counts_in n s)) k ≡ ((n == k) || has_node (granted_in s) k)
 granted-counts b client attempt Idle m n k h adds = absurd h
-granted-counts b client attempt (Chosen t) m n k h adds = cc
+granted-counts b client attempt (Chosen t place) m n k h adds = cc
 granted-counts b client attempt (Asking p) m n k h adds = adds k
 granted-counts b client attempt (Inside p) m n k h adds = adds k

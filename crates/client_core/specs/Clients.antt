@@ -2,7 +2,7 @@
 use Rattle.std.specs.Prelude.{◌≡◌, ℕ, ◌≤◌, true, List, [], Option, Some, None}
 use Rattle.lock_messages.specs.declared.ids.TheConstants.{MAX_ATTEMPT}
 use Rattle.lock_messages.specs.declared.tickets.Ticket.{Ticket}
-use Rattle.lock_model.specs.Ballots.{Ballot, HasNode, IsEnough}
+use Rattle.lock_model.specs.Ballots.{Ballot, HasAnyNode, HasPlace, IsEnough, ballot_at}
 use Rattle.vote_weights.specs.Sets.{has_node}
 use Rattle.client_core.specs.declared.phases.Phase.{Phase}
 use Rattle.client_core.specs.declared.phases.Phase.TheVariants as phase
@@ -10,24 +10,24 @@ use Rattle.client_core.specs.declared.phases.Present.{Present}
 use Rattle.client_core.specs.declared.phases.State.{State}
 use Rattle.client_core.specs.declared.phases.State.TheVariants.{Idle, Chosen, Asking, Inside}
 
--- Its number, the ballot whose nodes it asks, the number of its latest attempt (0 for none), and what
--- it does: nothing, or with a chosen ticket, or asking or being inside with what it has of its present
--- attempt: the ticket, and the nodes whose Grant was counted and those that were skipped, each in
--- ascending order.
+-- Its number, the ballots of its list in order, the number of its latest attempt (0 for none), and what
+-- it does: nothing, or with a chosen ticket and place, or asking or being inside with what it has of its
+-- present attempt: the ticket, the place of the ballot by which its votes count, and the nodes whose Grant
+-- was counted and those that were skipped, each in ascending order.
 pub record Client : Type 0 where
   pub client : ℕ
-  pub ballot : Ballot
+  pub ballots : List Ballot
   pub attempt : ℕ
   pub state : State
 
 -- the client with these
-abbrev pub client_of : ℕ → Ballot → ℕ → State → Client
-client_of client ballot attempt state = record { client = client; ballot = ballot; attempt = attempt; state = state }
+abbrev pub client_of : ℕ → List Ballot → ℕ → State → Client
+client_of client ballots attempt state = record { client = client; ballots = ballots; attempt = attempt; state = state }
 
 -- the phase
 abbrev pub phase_in : State → Phase
 phase_in Idle = phase.Idle
-phase_in (Chosen t) = phase.Chosen
+phase_in (Chosen t place) = phase.Chosen
 phase_in (Asking p) = phase.Asking
 phase_in (Inside p) = phase.Inside
 
@@ -37,7 +37,7 @@ phase_of c = phase_in c.state
 -- the present ticket
 abbrev pub ticket_in : State → Option Ticket
 ticket_in Idle = None
-ticket_in (Chosen t) = Some t
+ticket_in (Chosen t place) = Some t
 ticket_in (Asking p) = Some p.ticket
 ticket_in (Inside p) = Some p.ticket
 
@@ -47,7 +47,7 @@ ticket_of c = ticket_in c.state
 -- the nodes whose Grant of the present ticket was counted
 abbrev pub granted_in : State → List ℕ
 granted_in Idle = []
-granted_in (Chosen t) = []
+granted_in (Chosen t place) = []
 granted_in (Asking p) = p.granted
 granted_in (Inside p) = p.granted
 
@@ -57,7 +57,7 @@ granted_of c = granted_in c.state
 -- the nodes that were skipped in the present attempt
 abbrev pub skipped_in : State → List ℕ
 skipped_in Idle = []
-skipped_in (Chosen t) = []
+skipped_in (Chosen t place) = []
 skipped_in (Asking p) = p.skipped
 skipped_in (Inside p) = p.skipped
 
@@ -70,29 +70,40 @@ pub record IsOwn (number latest : ℕ) (t : Ticket) : Type 0 where
   pub attempt : t.attempt ≡ latest
   pub begun : 1 ≤ latest
 
--- each of the nodes is one of the ballot's
-abbrev pub AreNodes : Ballot → List ℕ → Type 0
-AreNodes b set = (n : ℕ) → has_node set n ≡ true → HasNode b n
+-- each of the nodes is one of the list's
+abbrev pub AreNodes : List Ballot → List ℕ → Type 0
+AreNodes ballots set = (n : ℕ) → has_node set n ≡ true → HasAnyNode ballots n
 
--- the client asks with this: the ticket is its own, and nodes of the ballot granted it
-pub record AsksWith (client : ℕ) (b : Ballot) (attempt : ℕ) (p : Present) : Type 0 where
+-- the nodes that granted the ticket have enough votes by the ballot of the attempt's place
+abbrev pub HasEnough : List Ballot → Present → Type 0
+HasEnough ballots p = IsEnough (ballot_at ballots p.place) p.ticket.mode (has_node p.granted)
+
+-- the client has chosen this: the ticket is its own, and the list has the place
+pub record HasChosen (client : ℕ) (ballots : List Ballot) (attempt : ℕ) (t : Ticket) (place : ℕ) : Type 0 where
+  pub own : IsOwn client attempt t
+  pub placed : HasPlace ballots place
+
+-- the client asks with this: the ticket is its own, the list has the place, and nodes of the list granted it
+pub record AsksWith (client : ℕ) (ballots : List Ballot) (attempt : ℕ) (p : Present) : Type 0 where
   pub own : IsOwn client attempt p.ticket
-  pub nodes : AreNodes b p.granted
+  pub placed : HasPlace ballots p.place
+  pub nodes : AreNodes ballots p.granted
 
 -- it is inside with this: the nodes that granted the ticket are enough
-pub record IsEntered (client : ℕ) (b : Ballot) (attempt : ℕ) (p : Present) : Type 0 where
+pub record IsEntered (client : ℕ) (ballots : List Ballot) (attempt : ℕ) (p : Present) : Type 0 where
   pub own : IsOwn client attempt p.ticket
-  pub nodes : AreNodes b p.granted
-  pub enough : IsEnough b p.ticket.mode (has_node p.granted)
+  pub placed : HasPlace ballots p.place
+  pub nodes : AreNodes ballots p.granted
+  pub enough : HasEnough ballots p
 
 -- what holds of each client's state
-abbrev pub IsLawfulState : ℕ → Ballot → ℕ → State → Type 0
-IsLawfulState client b attempt Idle = Unit {0}
-IsLawfulState client b attempt (Chosen t) = IsOwn client attempt t
-IsLawfulState client b attempt (Asking p) = AsksWith client b attempt p
-IsLawfulState client b attempt (Inside p) = IsEntered client b attempt p
+abbrev pub IsLawfulState : ℕ → List Ballot → ℕ → State → Type 0
+IsLawfulState client ballots attempt Idle = Unit {0}
+IsLawfulState client ballots attempt (Chosen t place) = HasChosen client ballots attempt t place
+IsLawfulState client ballots attempt (Asking p) = AsksWith client ballots attempt p
+IsLawfulState client ballots attempt (Inside p) = IsEntered client ballots attempt p
 
 -- what holds of each client
 pub record IsLawfulClient (c : Client) : Type 0 where
   pub numbered : c.attempt ≤ MAX_ATTEMPT
-  pub state : IsLawfulState c.client c.ballot c.attempt c.state
+  pub state : IsLawfulState c.client c.ballots c.attempt c.state

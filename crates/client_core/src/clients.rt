@@ -1,9 +1,9 @@
 // One client's attempts.
 
-ghost use Rattle.std.specs.Prelude.{◌≡◌, ◌≢◌, ℕ, ◌≤◌, ◌+◌, ◌==◌, ◌&&◌, ◌||◌, ◌↔◌, ◌⊎◌, length, IsTrue, IsNone, IfSome, IfOk, OnOk, OnErr};
+ghost use Rattle.std.specs.Prelude.{◌≡◌, ◌≢◌, ℕ, ◌≤◌, ◌+◌, ◌==◌, ◌&&◌, ◌||◌, ◌↔◌, ◌⊎◌, IsTrue, IsNone, IfSome, IfOk, OnOk, OnErr};
 ghost use Rattle.lock_model.specs.ExactHearing.{is_counted};
 ghost use Rattle.lock_messages.specs.Messages.{named_node};
-ghost use Rattle.lock_model.specs.Ballots.{HasNode};
+ghost use Rattle.lock_model.specs.Ballots.{HasAnyNode, HasPlace};
 ghost use Rattle.vote_weights.specs.Sets.{has_node};
 ghost use Rattle.client_core.specs.Clients.{phase_of, ticket_of, granted_of, skipped_of, IsLawfulClient};
 ghost use Rattle.client_core.specs.Calls.{at_rest, begun, begin_answer, asking, entered, MayEnter, MayLeave, left, release_of, message_for, ReleasesAll, heard_by, counted, AddsVote, after_hearing, Hears, IsOpen, skipping};
@@ -14,16 +14,16 @@ use crate::{ClientFault, Phase};
 use lock_messages::{Attempt, ClientId, MAX_ATTEMPT, Message, Mode, NodeId, ResourceName, Ticket};
 use lock_model::{Heard, laws};
 use std::marker::Model;
-use vote_weights::Ballot;
+use vote_weights::BallotList;
 
 /// One client's attempts to use resources, one at a time.
 ///
-/// Contracts see the client's number, its ballot, the number of its latest attempt, and what it
+/// Contracts see the client's number, its ballots in order, the number of its latest attempt, and what it
 /// does with what it has then.
 #[derive(Debug, PartialEq, Eq, Drop)]
 pub struct ClientCore {
     client: ClientId,
-    ballot: Ballot,
+    ballots: BallotList,
     attempt: u64,
     state: State,
 }
@@ -33,13 +33,13 @@ impl Model for ClientCore {
 
     ghost Value = { Client };
 
-    ghost view = { λ c. client_of c.client c.ballot c.attempt c.state };
+    ghost view = { λ c. client_of c.client c.ballots c.attempt c.state };
 
-    ghost invariant = { λ c. IsLawfulClient (client_of c.client c.ballot c.attempt c.state) };
+    ghost invariant = { λ c. IsLawfulClient (client_of c.client c.ballots c.attempt c.state) };
 
     ghost inverse = { λ c. record {
       client = c.client;
-      ballot = c.ballot;
+      ballots = c.ballots;
       attempt = c.attempt;
       state = c.state;
     } };
@@ -50,29 +50,29 @@ impl ClientCore {
     /// else that attempt is over.
     ///
     /// The caller owes an attempt of at most `MAX_ATTEMPT`.
-    pub fn rise(client: ClientId, attempt: u64, ballot: Ballot) -> ClientCore
+    pub fn rise(client: ClientId, attempt: u64, ballots: BallotList) -> ClientCore
         requires { attempt ≤ MAX_ATTEMPT }
-        ensures { result ≡ at_rest client ballot attempt }
+        ensures { result ≡ at_rest client ballots attempt }
     {
         let state = State::Idle;
         ClientCore {
             client,
-            ballot,
+            ballots,
             attempt,
             state,
         }
     }
 
     /// Puts the client back at rest after the attempt that its record has, as a restart does: 0 for
-    /// none yet, else that attempt is over. The number and the ballot stay, and what it was about is
+    /// none yet, else that attempt is over. The number and the ballots stay, and what it was about is
     /// lost.
     ///
     /// The caller owes an attempt of at most `MAX_ATTEMPT`.
     pub fn restart(&mut self, attempt: u64)
         requires { attempt ≤ MAX_ATTEMPT }
-        ensures { self.new ≡ at_rest self.old.client self.old.ballot attempt }
+        ensures { self.new ≡ at_rest self.old.client self.old.ballots attempt }
     {
-        *self = ClientCore::rise(self.client, attempt, self.ballot);
+        *self = ClientCore::rise(self.client, attempt, self.ballots);
     }
 
     /// The client's number.
@@ -82,11 +82,11 @@ impl ClientCore {
         self.client
     }
 
-    /// The ballot whose nodes the client asks.
-    pub fn ballot(&self) -> Ballot
-        ensures { result ≡ self.now.ballot }
+    /// The ballots by which its attempts may count their votes.
+    pub fn ballots(&self) -> BallotList
+        ensures { result ≡ self.now.ballots }
     {
-        self.ballot
+        self.ballots
     }
 
     /// What the client does.
@@ -118,21 +118,27 @@ impl ClientCore {
     }
 
     /// Begins the next attempt, whose number it answers: a new ticket, with nothing granted or
-    /// skipped. The client has then chosen it.
+    /// skipped, whose votes count by the ballot at this place of the list. The client has then chosen it.
     ///
     /// The caller keeps the number in the client's record, and then calls `kept`.
     ///
     /// # Errors
     ///
     /// `NotIdle` (701) while an attempt is under way, else `AttemptsSpent` (702) after the attempt
-    /// `MAX_ATTEMPT`. Nothing changes then.
-    pub fn begin(&mut self, resource: ResourceName, mode: Mode) -> Result<Attempt, ClientFault>
-        ensures answer { result ≡ begin_answer self.old }
-        ensures begun { OnOk result (self.new ≡ begun self.old resource mode) }
+    /// `MAX_ATTEMPT`, else `NoSuchPlace` (703) where the list doesn't have the place. Nothing changes then.
+    pub fn begin(
+        &mut self,
+        resource: ResourceName,
+        mode: Mode,
+        place: u8,
+    ) -> Result<Attempt, ClientFault>
+        ensures answer { result ≡ begin_answer self.old place }
+        ensures begun { OnOk result (self.new ≡ begun self.old resource mode place) }
         ensures number { IfOk result (λ a. a ≡ self.old.attempt + 1) }
         ensures refused { OnErr result (self.new ≡ self.old) }
         ensures not_idle { (result ≡ Err ClientFault.NotIdle) ↔ (phase_of self.old ≢ Phase.Idle) }
         ensures spent { (result ≡ Err ClientFault.AttemptsSpent) ↔ ((phase_of self.old ≡ Phase.Idle) × (self.old.attempt ≡ MAX_ATTEMPT)) }
+        ensures no_place { (result ≡ Err ClientFault.NoSuchPlace) ↔ ((phase_of self.old ≡ Phase.Idle) × (self.old.attempt ≢ MAX_ATTEMPT) × (HasPlace self.old.ballots place → ⊥)) }
     {
         let State::Idle = self.state else {
             return Err(ClientFault::NotIdle);
@@ -140,13 +146,17 @@ impl ClientCore {
         let Some(attempt) = Attempt::of(self.attempt + 1) else {
             return Err(ClientFault::AttemptsSpent);
         };
-        self.attempt = attempt.get();
-        self.state = State::Chosen(Ticket {
+        if place < 1 || place > self.ballots.count() {
+            return Err(ClientFault::NoSuchPlace);
+        }
+        let ticket = Ticket {
             client: self.client,
             attempt,
             mode,
             resource,
-        });
+        };
+        self.attempt = attempt.get();
+        self.state = State::Chosen(ticket, place);
         Ok(attempt)
     }
 
@@ -171,16 +181,16 @@ impl ClientCore {
 
     /// What there is to say to the node: the request of the present ticket while the client asks or
     /// is inside, the release of the latest attempt while it is idle, if there was one. `None` else,
-    /// and for a node outside the ballot.
+    /// and for a node that no ballot of the list has.
     pub fn message_for(&self, node: NodeId) -> Option<Message>
         ensures { result ≡ message_for self.now node }
     {
-        if !is_node_of(self.ballot.nodes(), node) {
+        if !is_node_of(self.ballots.nodes(), node) {
             return None;
         }
         match self.state {
             State::Idle => self.release(node),
-            State::Chosen(_) => None,
+            State::Chosen(..) => None,
             State::Asking(present) | State::Inside(present) => {
                 Some(Message::Request(node, present.ticket))
             }
@@ -193,10 +203,10 @@ impl ClientCore {
         ensures allowed { Hears self.now message.now result }
     {
         laws::hearing_is_exact();
-        let nodes = self.ballot.nodes();
+        let nodes = self.ballots.nodes();
         match self.state {
             State::Idle => heard_at_rest(nodes, self.client, self.attempt, message),
-            State::Chosen(_) => Heard::NotMine,
+            State::Chosen(..) => Heard::NotMine,
             State::Asking(present) | State::Inside(present) => {
                 heard_of_ticket(nodes, &present.ticket, present.granted, message)
             }
@@ -205,7 +215,7 @@ impl ClientCore {
 
     /// Counts the node's vote.
     fn count(&mut self, node: NodeId)
-        requires { HasNode self.old.ballot node }
+        requires { HasAnyNode self.old.ballots node }
         ensures exact { self.new ≡ counted self.old node }
         ensures adds { AddsVote self.old.state node }
     {
@@ -215,11 +225,11 @@ impl ClientCore {
     /// Hears a message, and answers what the client makes of it.
     ///
     /// `Counted` is a vote: while the client asks or is inside, a Grant of the present ticket, from
-    /// a node of the ballot whose Grant was not counted yet (Gifford 1979: a node's votes count
+    /// a node of the list whose Grant was not counted yet (Gifford 1979: a node's votes count
     /// once). Its node is then among the granted ones; every other answer changes nothing. `Known`
     /// is the same from a node that was counted, `Busy` a Busy of the present ticket, `Done`, while
     /// the client is idle, a Done of its latest attempt, and `NotMine` everything else: what names
-    /// another client, a node outside the ballot, or another ticket or attempt.
+    /// another client, a node that no ballot of the list has, or another ticket or attempt.
     pub fn hear(&mut self, message: &Message) -> Heard
         ensures heard { result ≡ heard_by self.old message.now }
         ensures allowed { Hears self.old message.now result }
@@ -235,17 +245,22 @@ impl ClientCore {
     }
 
     /// Whether the client may enter: it asks, and the nodes that granted its ticket have enough
-    /// votes for its mode (Gifford 1979).
+    /// votes for its mode by the ballot of its attempt (Gifford 1979).
     pub fn may_enter(&self) -> bool
         ensures { IsTrue result ↔ MayEnter self.now }
     {
         match self.state {
-            State::Asking(present) => self.ballot.enough(present.ticket.mode, present.granted),
-            State::Idle | State::Chosen(_) | State::Inside(_) => false,
+            State::Asking(present) => {
+                let Some(ballot) = self.ballots.ballot(present.place) else {
+                    unreachable!()
+                };
+                ballot.enough(present.ticket.mode, present.granted)
+            }
+            State::Idle | State::Chosen(..) | State::Inside(_) => false,
         }
     }
 
-    /// Enters: the client is inside, with the same ticket and the same votes.
+    /// Enters: the client is inside, with the same ticket, by the same ballot, and the same votes.
     ///
     /// The caller owes that it may; `may_enter` tells.
     pub fn enter(&mut self)
@@ -258,7 +273,7 @@ impl ClientCore {
     }
 
     /// Leaves, or gives up asking: the client is idle and its attempt over. `message_for` has then
-    /// the release of the attempt for each node of the ballot.
+    /// the release of the attempt for each node of the list.
     ///
     /// The caller owes that the phase is `Asking` or `Inside`.
     pub fn leave(&mut self)
@@ -271,8 +286,8 @@ impl ClientCore {
         self.state = State::Idle;
     }
 
-    /// The node to ask next: while the client asks, the lowest of its ballot whose Grant was not
-    /// counted and that was not skipped. `None` where there is none, and in every other phase.
+    /// The node to ask next: while the client asks, the lowest of its attempt's ballot whose Grant was
+    /// not counted and that was not skipped. `None` where there is none, and in every other phase.
     pub fn next_ask(&self) -> Option<NodeId>
         ensures open { IfSome result (λ n. IsOpen self.now n) }
         ensures lowest { IfSome result (λ n. (m : ℕ) → IsOpen self.now m → n ≤ m) }
@@ -280,6 +295,7 @@ impl ClientCore {
     {
         let State::Asking(
             Present {
+                place,
                 granted,
                 skipped,
                 ..
@@ -288,7 +304,10 @@ impl ClientCore {
         else {
             return None;
         };
-        for number in 1..=self.ballot.nodes() {
+        let Some(ballot) = self.ballots.ballot(place) else {
+            unreachable!()
+        };
+        for number in 1..=ballot.nodes() {
             let node = NodeId::of(number)?;
             if !granted.has(node) && !skipped.has(node) {
                 return Some(node);

@@ -9,7 +9,7 @@ use lock_messages::{ClientId, Message, NodeId, Ticket};
 use lock_model::Heard;
 use vote_weights::NodeSet;
 
-/// Whether the node is one of a ballot that has so many.
+/// Whether the node is one of so many.
 pub(crate) fn is_node_of(nodes: u8, node: NodeId) -> bool
     ensures { result ≡ is_node_of nodes node }
 {

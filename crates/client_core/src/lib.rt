@@ -1,10 +1,10 @@
 //! One client's attempts to use a resource, as a core that decides and neither sends nor keeps.
 //!
-//! A client begins an attempt, keeps its number in its record, asks the nodes of its ballot for
-//! their votes, enters once the votes are enough for its mode, and leaves; then it tells each node
-//! that the attempt is over. `ClientCore` says at each point what there is to send and to whom, and
-//! what to make of what is heard. The caller carries the messages, and keeps the number between
-//! `begin` and `kept`.
+//! A client begins an attempt by one of the ballots of a list, keeps its number in its record, asks the
+//! nodes of that ballot for their votes, enters once the votes are enough for its mode, and leaves; then
+//! it tells each node of the list that the attempt is over. `ClientCore` says at each point what there is
+//! to send and to whom, and what to make of what is heard. The caller carries the messages, and keeps the
+//! number between `begin` and `kept`.
 //!
 //! The crate promises that the votes of an attempt are those of the nodes whose Grant of the very
 //! ticket was heard, each counted once (Gifford 1979); that a client which is inside has enough of

@@ -18,11 +18,12 @@ pub enum Phase {
     Inside,
 }
 
-/// What a client has of its present attempt: its ticket, the nodes whose Grant was counted, and those
-/// that were skipped.
+/// What a client has of its present attempt: its ticket, the place of the ballot by which its votes
+/// count, the nodes whose Grant was counted, and those that were skipped.
 #[derive(Clone, Copy, Debug, PartialEq, Eq, Hash)]
 pub(crate) struct Present {
     pub(crate) ticket: Ticket,
+    pub(crate) place: u8,
     pub(crate) granted: NodeSet,
     pub(crate) skipped: NodeSet,
 }
@@ -31,12 +32,13 @@ impl Present {
     ghost use Rattle.vote_weights.specs.Sets.{with_node};
     ghost use Rattle.client_core.specs.Calls.{first_of, with_vote, without, AddsNode};
 
-    /// The attempt with this ticket, as it begins to ask: nothing is granted or skipped.
-    fn first(ticket: Ticket) -> Present
-        ensures { result ≡ first_of ticket }
+    /// The attempt with this ticket and place, as it begins to ask: nothing is granted or skipped.
+    fn first(ticket: Ticket, place: u8) -> Present
+        ensures { result ≡ first_of ticket place }
     {
         Present {
             ticket,
+            place,
             granted: NodeSet::empty(),
             skipped: NodeSet::empty(),
         }
@@ -68,7 +70,8 @@ impl Present {
 #[derive(Clone, Copy, Debug, PartialEq, Eq, Hash)]
 pub(crate) enum State {
     Idle,
-    Chosen(Ticket),
+    /// The ticket, and the place of the ballot by which its votes will count.
+    Chosen(Ticket, u8),
     Asking(Present),
     Inside(Present),
 }
@@ -83,7 +86,7 @@ impl State {
     {
         match self {
             State::Idle => Phase::Idle,
-            State::Chosen(_) => Phase::Chosen,
+            State::Chosen(..) => Phase::Chosen,
             State::Asking(_) => Phase::Asking,
             State::Inside(_) => Phase::Inside,
         }
@@ -95,7 +98,7 @@ impl State {
     {
         match self {
             State::Idle => None,
-            State::Chosen(ticket) => Some(ticket),
+            State::Chosen(ticket, _) => Some(ticket),
             State::Asking(present) | State::Inside(present) => Some(present.ticket),
         }
     }
@@ -105,7 +108,7 @@ impl State {
         ensures { result ≡ asks_in self }
     {
         match self {
-            State::Chosen(ticket) => State::Asking(Present::first(ticket)),
+            State::Chosen(ticket, place) => State::Asking(Present::first(ticket, place)),
             State::Idle | State::Asking(_) | State::Inside(_) => self,
         }
     }
@@ -116,7 +119,7 @@ impl State {
     {
         match self {
             State::Asking(present) => State::Inside(present),
-            State::Idle | State::Chosen(_) | State::Inside(_) => self,
+            State::Idle | State::Chosen(..) | State::Inside(_) => self,
         }
     }
 
@@ -126,7 +129,7 @@ impl State {
         ensures adds { AddsVote self node }
     {
         match self {
-            State::Idle | State::Chosen(_) => self,
+            State::Idle | State::Chosen(..) => self,
             State::Asking(present) => State::Asking(present.with_vote(node)),
             State::Inside(present) => State::Inside(present.with_vote(node)),
         }
@@ -138,7 +141,7 @@ impl State {
     {
         match self {
             State::Asking(present) => State::Asking(present.without(node)),
-            State::Idle | State::Chosen(_) | State::Inside(_) => self,
+            State::Idle | State::Chosen(..) | State::Inside(_) => self,
         }
     }
 }

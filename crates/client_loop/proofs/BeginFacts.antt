@@ -3,25 +3,29 @@ use Rattle.std.proofs.Common.{◌≡◌, ◌⊎◌, inl, inr, ℕ, zero, suc, �
 use Rattle.std.specs.List.{All}
 use Rattle.std.proofs.lemmas.List.Elements.{All-nil, All-push}
 use Rattle.lock_messages.specs.declared.ids.Actor.{Actor}
+use Rattle.lock_model.specs.Ballots.{Ballot, HasPlace}
 use Rattle.lock_model.specs.Decisions.{Among}
+use Rattle.client_core.specs.Clients.{Client}
 use Rattle.world_model.specs.declared.events.Effect.{Effect}
 use Rattle.world_model.specs.declared.events.Event.{Event}
 use Rattle.world_model.specs.declared.events.Event.TheVariants as event
 use Rattle.history_check.specs.declared.wishes.Wish.{Wish}
 use Rattle.event_recorders.specs.OwnLogs.{OwnLog}
-use Rattle.client_loop.specs.Visits.{Use, Visits, AreWished, BeginsOnly, BeginsNothing, HasBegun, use_of, visits_after, visits_from, visits_of, visits_entering, visits_beginning}
+use Rattle.client_loop.specs.Standing.{Stands}
+use Rattle.client_loop.specs.Visits.{Use, Visits, AreWished, BeginsOnly, BeginsNothing, HasBegun, ArePlaced, use_of, visits_after, visits_from, visits_of, visits_entering, visits_beginning}
 
 pub begins_none : (u : Use) (a b : Visits) → b ≡ a → BeginsOnly u a b
-begins_none u a b same = record { whose = ap (λ (v : Visits). v.whose) same; only = λ wished is before. subst (λ (v : Visits). AreWished wished v.begins) (sym same) before }
+begins_none u a b same = record { whose = ap (λ (v : Visits). v.whose) same; ballots = ap (λ (v : Visits). v.ballots) same; only = λ wished is before. subst (λ (v : Visits). AreWished wished v.begins) (sym same) before }
 
 pub begins_one : (u : Use) (a b : Visits) → b ≡ visits_beginning u a → BeginsOnly u a b
 begins_one u a b more = record {
   whose = ap (λ (v : Visits). v.whose) more;
+  ballots = ap (λ (v : Visits). v.ballots) more;
   only = λ wished is before. subst (λ (v : Visits). AreWished wished v.begins) (sym more) (All-push (λ (x : Use). Among x wished) a.begins u before is);
 }
 
 pub begins_on : (u : Use) (a b c : Visits) → BeginsOnly u a b → BeginsOnly u b c → BeginsOnly u a c
-begins_on u a b c first second = record { whose = second.whose ∙ first.whose; only = λ wished is before. second.only wished is (first.only wished is before) }
+begins_on u a b c first second = record { whose = second.whose ∙ first.whose; ballots = second.ballots ∙ first.ballots; only = λ wished is before. second.only wished is (first.only wished is before) }
 
 -- one use, and then nothing
 pub begins_still : (u : Use) (a b c : Visits) → BeginsOnly u a b → c ≡ b → BeginsOnly u a c
@@ -30,21 +34,62 @@ begins_still u a b c first same = begins_on u a b c first (begins_none u b c sam
 pub begins_no_more : (u : Use) (a b c : Visits) → BeginsOnly u a b → BeginsNothing b c → BeginsOnly u a c
 begins_no_more u a b c first then = record {
   whose = then.whose ∙ first.whose;
+  ballots = then.ballots ∙ first.ballots;
   only = λ wished is before. subst (λ (us : List Use). AreWished wished us) (sym then.none) (first.only wished is before);
 }
 
 pub nothing_begun : (a b : Visits) → b ≡ a → BeginsNothing a b
-nothing_begun a b same = record { whose = ap (λ (v : Visits). v.whose) same; none = ap (λ (v : Visits). v.begins) same }
+nothing_begun a b same = record { whose = ap (λ (v : Visits). v.whose) same; ballots = ap (λ (v : Visits). v.ballots) same; none = ap (λ (v : Visits). v.begins) same }
 
 pub entering_begins : (a b : Visits) → b ≡ visits_entering a → BeginsNothing a b
-entering_begins a b more = record { whose = ap (λ (v : Visits). v.whose) more; none = ap (λ (v : Visits). v.begins) more }
+entering_begins a b more = record { whose = ap (λ (v : Visits). v.whose) more; ballots = ap (λ (v : Visits). v.ballots) more; none = ap (λ (v : Visits). v.begins) more }
 
 pub nothing_on : (a b c : Visits) → BeginsNothing a b → c ≡ b → BeginsNothing a c
-nothing_on a b c first same = record { whose = ap (λ (v : Visits). v.whose) same ∙ first.whose; none = ap (λ (v : Visits). v.begins) same ∙ first.none }
+nothing_on a b c first same = record { whose = ap (λ (v : Visits). v.whose) same ∙ first.whose; ballots = ap (λ (v : Visits). v.ballots) same ∙ first.ballots; none = ap (λ (v : Visits). v.begins) same ∙ first.none }
+
+-- the ballots of a log stay
+ballots_after : (v : Visits) (e : Event) → (visits_after v e).ballots ≡ v.ballots
+ballots_after v (event.Begin c m x place) = refl
+ballots_after v (event.Enter c) = refl
+ballots_after v (event.Try who) = refl
+ballots_after v (event.Kept who) = refl
+ballots_after v (event.SayTo c n) = refl
+ballots_after v (event.Say n) = refl
+ballots_after v (event.Take n k) = refl
+ballots_after v (event.Hear c k) = refl
+ballots_after v (event.Leave c) = refl
+ballots_after v (event.Fall who) = refl
+ballots_after v (event.Rise who age) = refl
+
+ballots_from : (v : Visits) (events : List (Event × Effect)) → (visits_from v events).ballots ≡ v.ballots
+ballots_from v [] = refl
+ballots_from v (p ∷ events) = ballots_from (visits_after v p.0) events ∙ ballots_after v p.0
+
+pub ballots_of : (l : OwnLog) → (visits_of l).ballots ≡ l.ballots
+ballots_of l = ballots_from _ l.events
+
+pub same_ballots : (l l' : OwnLog) → (visits_of l').ballots ≡ (visits_of l).ballots → l'.ballots ≡ l.ballots
+same_ballots l l' same = sym (ballots_of l') ∙ same ∙ ballots_of l
+
+-- so a place that they had is there still
+pub placed_on : (u : Use) (place : ℕ) (l l' : OwnLog) → BeginsOnly u (visits_of l) (visits_of l') → HasPlace l.ballots place → HasPlace l'.ballots place
+placed_on u place l l' only placed = subst (λ (b : List Ballot). HasPlace b place) (sym (same_ballots l l' only.ballots)) placed
+
+-- and the client's core has it
+pub placed_in : (place : ℕ) (l l' : OwnLog) (finds : List (List ℕ)) (core : Client) → visits_of l' ≡ visits_of l → Stands l' finds core → HasPlace l.ballots place → HasPlace core.ballots place
+placed_in place l l' finds core same stands placed =
+    subst (λ (b : List Ballot). HasPlace b place) (sym (same_ballots l l' (ap (λ (v : Visits). v.ballots) same)) ∙ stands.ballots) placed
+
+pub placed_since : (ballots : List Ballot) (l l' : OwnLog) (wishes : List Wish) → (visits_of l').ballots ≡ l.ballots → l.ballots ≡ ballots → ArePlaced ballots wishes → ArePlaced l'.ballots wishes
+placed_since ballots l l' wishes same is placed = subst (λ (b : List Ballot). ArePlaced b wishes) (sym (sym (ballots_of l') ∙ same ∙ is)) placed
+
+pub wish_placed : (ballots now : List Ballot) (wishes : List Wish) (i : ℕ) (w other : Wish) → i < length wishes → w ≡ get_or wishes i other → ArePlaced ballots wishes → now ≡ ballots → HasPlace now w.place
+wish_placed ballots now wishes i w other few at placed same =
+    subst (λ (b : List Ballot). HasPlace b w.place) (sym same) (subst (λ (v : Wish). HasPlace ballots v.place) (sym at) (placed i other few))
 
 -- whose the visits of a log are
 whose_after : (v : Visits) (e : Event) → (visits_after v e).whose ≡ v.whose
-whose_after v (event.Begin c m x) = refl
+whose_after v (event.Begin c m x place) = refl
 whose_after v (event.Enter c) = refl
 whose_after v (event.Try who) = refl
 whose_after v (event.Kept who) = refl

@@ -16,7 +16,7 @@ use Rattle.actor_steps.specs.Steps.{HasFailed, IsBookFault}
 use Rattle.actor_steps.specs.Endings.{falls_of, FailuresFollow, EndsBy, EndsFrom}
 use Rattle.actor_steps.proofs.EndFacts.{none_fallen, failures_stay}
 use Rattle.client_loop.specs.Standing.{Stands, part_of}
-use Rattle.client_loop.specs.Endings.{IsOutside, HasSpentAttempts, EndsAsking, ClientEndsBy, ClientEndsFrom}
+use Rattle.client_loop.specs.Endings.{IsOutside, HasSpentAttempts, EndsAsking, ClientEndsBy, ClientEndsFrom, ClientEndsSomehow}
 
 -- a client ends as any actor does
 ends-too : (f : RunFault) (l : OwnLog) (stuck spent : Bool) (before now : ℕ) → EndsBy f l stuck spent before now → ClientEndsBy f l stuck spent before now
@@ -35,6 +35,10 @@ client_ends_on f m n l stuck spent a b c first second = record { ends = λ start
 
 pub client_ended_since : (f : RunFault) (l l' : OwnLog) (who : Actor) (stuck spent : Bool) (a b : ℕ) → IsUnused l who → ClientEndsFrom f (falls_of l) l' stuck spent a b → ClientEndsBy f l' stuck spent a b
 client_ended_since f l l' who stuck spent a b unused ends = ends.ends a (none_fallen l who a unused)
+
+-- what a record answers is some answer
+pub client_ends_somehow : (f : RunFault) (l : OwnLog) (stuck spent : Bool) (before now : ℕ) → ClientEndsBy f l stuck spent before now → ClientEndsSomehow f l
+client_ends_somehow f l stuck spent before now ends = record { stuck = stuck; spent = spent; before = before; now = now; ends = ends }
 
 -- where the record isn't stuck, the book's refusal left no failure behind
 by-book : (f : RunFault) (l : OwnLog) (stuck spent : Bool) (before now : ℕ) → IsBookFault f → stuck ≡ false → ClientEndsBy f l stuck spent before now
@@ -64,7 +68,7 @@ failures_same m n a same =
 -- no attempt is left
 idle-part : (s : State) → phase_in s ≡ phase.Idle → part_phase s ≡ client.Idle
 idle-part Idle h = refl
-idle-part (Chosen t) h = absurd (let clash : phase.Chosen ≡ phase.Idle = h in cc)
+idle-part (Chosen t place) h = absurd (let clash : phase.Chosen ≡ phase.Idle = h in cc)
 idle-part (Asking p) h = absurd (let clash : phase.Asking ≡ phase.Idle = h in cc)
 idle-part (Inside p) h = absurd (let clash : phase.Inside ≡ phase.Idle = h in cc)
 

@@ -13,19 +13,19 @@ use Rattle.world_actors.proofs.ClientFacts.{enough}
 use Rattle.event_recorders.specs.OwnLogs.{OwnLog, IsAdded, part_now}
 use Rattle.client_loop.specs.Standing.{Stands, part_of}
 
-pub enter_allowed : (l : OwnLog) (finds : List (List ℕ)) (c : Client) (who : ℕ) → MayEnter c → Stands l finds c → own_refusal l.ballot (event.Enter who) (part_now l) ≡ None
+pub enter_allowed : (l : OwnLog) (finds : List (List ℕ)) (c : Client) (who : ℕ) → MayEnter c → Stands l finds c → own_refusal l.ballots (event.Enter who) (part_now l) ≡ None
 enter_allowed l finds c who may h =
-    ap (λ (p : Part). own_refusal l.ballot (event.Enter who) p) h.part
-    ∙ ap (λ (b : Ballot). own_refusal b (event.Enter who) (ClientPart (part_of c))) h.ballot
-    ∙ ap refusal_of (enough c.ballot (part_of c) c.state may)
+    ap (λ (p : Part). own_refusal l.ballots (event.Enter who) p) h.part
+    ∙ ap (λ (b : List Ballot). own_refusal b (event.Enter who) (ClientPart (part_of c))) h.ballots
+    ∙ ap refusal_of (enough c.ballots (part_of c) c.state may)
 
-enters-to : (c : Client) (who : ℕ) (done : Effect) → MayEnter c → after_own c.ballot (event.Enter who) done (ClientPart (part_of c)) ≡ ClientPart (part_of (entered c))
-enters-to c who done may = ap (λ t. ClientPart (after_turn (part_of c) t done)) (enough c.ballot (part_of c) c.state may)
+enters-to : (c : Client) (who : ℕ) (done : Effect) → MayEnter c → after_own c.ballots (event.Enter who) done (ClientPart (part_of c)) ≡ ClientPart (part_of (entered c))
+enters-to c who done may = ap (λ t. ClientPart (after_turn (part_of c) t done)) (enough c.ballots (part_of c) c.state may)
 
 pub enter_stands : (l l' : OwnLog) (finds : List (List ℕ)) (c : Client) (who : ℕ) (done : Effect) → MayEnter c → Stands l finds c → IsAdded l (event.Enter who) done l' → Stands l' finds (entered c)
 enter_stands l l' finds c who done may h added = record {
   actor = ap (λ (x : OwnLog). x.actor) added.log ∙ h.actor;
-  ballot = ap (λ (x : OwnLog). x.ballot) added.log ∙ h.ballot;
-  part = added.part ∙ ap (λ (p : Part). after_own l.ballot (event.Enter who) done p) h.part ∙ ap (λ (b : Ballot). after_own b (event.Enter who) done (ClientPart (part_of c))) h.ballot ∙ enters-to c who done may;
+  ballots = ap (λ (x : OwnLog). x.ballots) added.log ∙ h.ballots;
+  part = added.part ∙ ap (λ (p : Part). after_own l.ballots (event.Enter who) done p) h.part ∙ ap (λ (b : List Ballot). after_own b (event.Enter who) done (ClientPart (part_of c))) h.ballots ∙ enters-to c who done may;
   found = h.found;
 }

@@ -33,12 +33,12 @@ votes_alike b p q h = sum_alike (votes_at b) p q 1 (length b.votes) (λ n low hi
 -- skipping none
 skips_none_in : (these : ℕ → Bool) (s : State) → ((n : ℕ) → these n ≡ false) → SkipsIn these s s
 skips_none_in these Idle none = refl
-skips_none_in these (Chosen t) none = refl
+skips_none_in these (Chosen t place) none = refl
 skips_none_in these (Asking p) none = record { more = p.skipped; state = refl; members = λ n. rw (none n) refl }
 skips_none_in these (Inside p) none = refl
 
 pub skips_none : (these : ℕ → Bool) (c : Client) → ((n : ℕ) → these n ≡ false) → Skips these c c
-skips_none these c none = record { client = refl; ballot = refl; attempt = refl; state = skips_none_in these c.state none }
+skips_none these c none = record { client = refl; ballots = refl; attempt = refl; state = skips_none_in these c.state none }
 
 -- skipping one more
 or_assoc : (a b c : Bool) → a || (b || c) ≡ (a || b) || c
@@ -47,7 +47,7 @@ or_assoc false b c = refl
 
 skips_more_in : (these those : ℕ → Bool) (k : ℕ) (s after : State) → SkipsIn these s after → ((n : ℕ) → those n ≡ ((k == n) || these n)) → SkipsIn those s (skips_in k after)
 skips_more_in these those k Idle after h also = ap (skips_in k) h
-skips_more_in these those k (Chosen t) after h also = ap (skips_in k) h
+skips_more_in these those k (Chosen t place) after h also = ap (skips_in k) h
 skips_more_in these those k (Asking p) after h also = record {
   more = with_node h.more k;
   state = ap (skips_in k) h.state;
@@ -58,7 +58,7 @@ skips_more_in these those k (Inside p) after h also = ap (skips_in k) h
 pub skips_more : (these those : ℕ → Bool) (k : ℕ) (before after : Client) → Skips these before after → ((n : ℕ) → those n ≡ ((k == n) || these n)) → Skips those before (skipping after k)
 skips_more these those k before after h also = record {
   client = h.client;
-  ballot = h.ballot;
+  ballots = h.ballots;
   attempt = h.attempt;
   state = skips_more_in these those k before.state after.state h.state also;
 }
@@ -66,14 +66,14 @@ skips_more these those k before after h also = record {
 -- skipping as many
 skips_alike_in : (these those : ℕ → Bool) (s after : State) → SkipsIn these s after → ((n : ℕ) → those n ≡ these n) → SkipsIn those s after
 skips_alike_in these those Idle after h same = h
-skips_alike_in these those (Chosen t) after h same = h
+skips_alike_in these those (Chosen t place) after h same = h
 skips_alike_in these those (Asking p) after h same = record { more = h.more; state = h.state; members = λ n. rw (same n) (h.members n) }
 skips_alike_in these those (Inside p) after h same = h
 
 pub skips_alike : (these those : ℕ → Bool) (before after : Client) → Skips these before after → ((n : ℕ) → those n ≡ these n) → Skips those before after
 skips_alike these those before after h same = record {
   client = h.client;
-  ballot = h.ballot;
+  ballots = h.ballots;
   attempt = h.attempt;
   state = skips_alike_in these those before.state after.state h.state same;
 }
@@ -149,13 +149,13 @@ enough_alike b mode p q h enough = subst (λ (v : ℕ). needed b mode ≤ v) (vo
 
 -- a core that stays
 pub alike_none : (c : Client) → IsAlike c c
-alike_none c = record { client = refl; ballot = refl; part = refl; phase = refl }
+alike_none c = record { client = refl; ballots = refl; part = refl; phase = refl }
 
 -- one core after the other
 pub alike_on : (a b c : Client) → IsAlike a b → IsAlike b c → IsAlike a c
 alike_on a b c first second = record {
   client = second.client ∙ first.client;
-  ballot = second.ballot ∙ first.ballot;
+  ballots = second.ballots ∙ first.ballots;
   part = second.part ∙ first.part;
   phase = second.phase ∙ first.phase;
 }

@@ -5,7 +5,7 @@ use Rattle.lock_messages.specs.declared.ids.Actor.TheVariants as actor
 use Rattle.lock_messages.specs.declared.messages.Message.{Message}
 use Rattle.lock_messages.specs.declared.tickets.Mode.{Mode}
 use Rattle.lock_messages.specs.Frames.{frame_of}
-use Rattle.lock_model.specs.Ballots.{Ballot}
+use Rattle.lock_model.specs.Ballots.{Ballot, node_count}
 use Rattle.lock_model.specs.ExactHearing.{is_node_of}
 use Rattle.lossy_link.specs.declared.parcels.Sending.{Sending}
 use Rattle.lossy_link.specs.declared.parcels.Sending.TheVariants as sending
@@ -30,22 +30,22 @@ use Rattle.client_loop.specs.Standing.{Stands, part_of}
 use Rattle.client_loop.specs.Sendings.{sent_for, sent_by, sent_of, sending_to, number_of, SentFollows, SentUnlessMemory, ToldUnlessMemory}
 
 -- one event more sends what it sends from the part before it
-by_one_more : (b : Ballot) (p : Part) (own : List (Event × Effect)) (e : Event) (done : Effect) →
+by_one_more : (b : List Ballot) (p : Part) (own : List (Event × Effect)) (e : Event) (done : Effect) →
     sent_by b p (own ++ (e, done) ∷ []) ≡ sent_by b p own ++ sent_for b e done (local_part b p own)
 by_one_more b p [] e done = append-nil (sent_for b e done p)
 by_one_more b p (q ∷ own) e done =
     ap (λ xs. sent_for b q.0 q.1 p ++ xs) (by_one_more b (after_own b q.0 q.1 p) own e done)
     ∙ sym (append_assoc (sent_for b q.0 q.1 p) (sent_by b (after_own b q.0 q.1 p) own) (sent_for b e done (local_part b (after_own b q.0 q.1 p) own)))
 
-pub sent_more : (l l' : OwnLog) (e : Event) (done : Effect) → IsAdded l e done l' → sent_of l' ≡ sent_of l ++ sent_for l.ballot e done (part_now l)
-sent_more l l' e done added = ap sent_of added.log ∙ by_one_more l.ballot l.opening l.events e done
+pub sent_more : (l l' : OwnLog) (e : Event) (done : Effect) → IsAdded l e done l' → sent_of l' ≡ sent_of l ++ sent_for l.ballots e done (part_now l)
+sent_more l l' e done added = ap sent_of added.log ∙ by_one_more l.ballots l.opening l.events e done
 
 -- all events but SayTo send nothing
-silent : (l l' : OwnLog) (e : Event) (done : Effect) → IsAdded l e done l' → sent_for l.ballot e done (part_now l) ≡ [] → sent_of l' ≡ sent_of l
+silent : (l l' : OwnLog) (e : Event) (done : Effect) → IsAdded l e done l' → sent_for l.ballots e done (part_now l) ≡ [] → sent_of l' ≡ sent_of l
 silent l l' e done added nothing = sent_more l l' e done added ∙ ap (λ (xs : List Sending). sent_of l ++ xs) nothing ∙ append-nil (sent_of l)
 
-pub begin_sends_nothing : (l l' : OwnLog) (c : ℕ) (m : Mode) (x : List ℕ) (done : Effect) → IsAdded l (event.Begin c m x) done l' → sent_of l' ≡ sent_of l
-begin_sends_nothing l l' c m x done added = silent l l' (event.Begin c m x) done added refl
+pub begin_sends_nothing : (l l' : OwnLog) (c : ℕ) (m : Mode) (x : List ℕ) (place : ℕ) (done : Effect) → IsAdded l (event.Begin c m x place) done l' → sent_of l' ≡ sent_of l
+begin_sends_nothing l l' c m x place done added = silent l l' (event.Begin c m x place) done added refl
 
 pub hear_sends_nothing : (l l' : OwnLog) (c k : ℕ) (done : Effect) → IsAdded l (event.Hear c k) done l' → sent_of l' ≡ sent_of l
 hear_sends_nothing l l' c k done added = silent l l' (event.Hear c k) done added refl
@@ -57,7 +57,7 @@ pub leave_sends_nothing : (l l' : OwnLog) (c : ℕ) (done : Effect) → IsAdded 
 leave_sends_nothing l l' c done added = silent l l' (event.Leave c) done added refl
 
 pub first_rise_sends_nothing : (l l' : OwnLog) (who : Actor) (age : Age) → IsUnused l who → IsAdded l (event.Rise who age) effect.Up l' → sent_of l' ≡ []
-first_rise_sends_nothing l l' who age unused added = silent l l' (event.Rise who age) effect.Up added refl ∙ ap (sent_by l.ballot l.opening) unused.events
+first_rise_sends_nothing l l' who age unused added = silent l l' (event.Rise who age) effect.Up added refl ∙ ap (sent_by l.ballots l.opening) unused.events
 
 pub keeping_sends_nothing : (l l' : OwnLog) (who : Actor) → IsKept l who l' → sent_of l' ≡ sent_of l
 keeping_sends_nothing l l' who kept =
@@ -78,7 +78,7 @@ fallen_sends_nothing l l' who (inl same) = ap sent_of same
 fallen_sends_nothing l l' who (inr added) = silent l l' (event.Fall who) effect.Down added refl
 
 pub unused_sends_nothing : (l : OwnLog) (who : Actor) → IsUnused l who → sent_of l ≡ []
-unused_sends_nothing l who unused = ap (sent_by l.ballot l.opening) unused.events
+unused_sends_nothing l who unused = ap (sent_by l.ballots l.opening) unused.events
 
 pub rising_sends_nothing : (l l' : OwnLog) (who : Actor) (bytes tried : List ℕ) → ((age : Age) × IsRisenAgain l who age l' × ((age ≡ New) ↔ (bytes ≡ tried))) → sent_of l' ≡ sent_of l
 rising_sends_nothing l l' who bytes tried (age, again, new) =
@@ -86,29 +86,29 @@ rising_sends_nothing l l' who bytes tried (age, again, new) =
     silent fallen l' (event.Rise who age) effect.Up again.risen refl ∙ silent l fallen (event.Fall who) effect.Down again.fallen refl
 
 -- what a client says to a node is the message that its core has for it
-says_in : (b : Ballot) (c n attempt : ℕ) (s : State) (is_node none : Bool) (m : Message) → is_node_of (length b.votes) n ≡ is_node → (attempt == 0) ≡ none →
+says_in : (b : List Ballot) (c n attempt : ℕ) (s : State) (is_node none : Bool) (m : Message) → is_node_of (node_count b) n ≡ is_node → (attempt == 0) ≡ none →
     (if is_node then message_in n c attempt s else None) ≡ Some m →
-    said_by b (event.SayTo c n) (ClientPart (part_of (record { client = c; ballot = b; attempt = attempt; state = s }))) ≡ m ∷ []
+    said_by b (event.SayTo c n) (ClientPart (part_of (record { client = c; ballots = b; attempt = attempt; state = s }))) ≡ m ∷ []
 says_in b c n attempt s false none m node zero_is has = cc
 says_in b c n attempt Idle true true m node zero_is has =
     let none = rw zero_is at has in cc
 says_in b c n attempt Idle true false m node zero_is has =
     let some = rw zero_is at has in
     rw (node, zero_is) cc
-says_in b c n attempt (Chosen t) true none m node zero_is has = cc
+says_in b c n attempt (Chosen t place) true none m node zero_is has = cc
 says_in b c n attempt (Asking p) true none m node zero_is has = rw node cc
 says_in b c n attempt (Inside p) true none m node zero_is has = rw node cc
 
-pub says_message : (c : Client) (n : ℕ) (m : Message) → message_for c n ≡ Some m → said_by c.ballot (event.SayTo c.client n) (ClientPart (part_of c)) ≡ m ∷ []
-says_message c n m has = says_in c.ballot c.client n c.attempt c.state (is_node_of (length c.ballot.votes) n) (c.attempt == 0) m refl refl has
+pub says_message : (c : Client) (n : ℕ) (m : Message) → message_for c n ≡ Some m → said_by c.ballots (event.SayTo c.client n) (ClientPart (part_of c)) ≡ m ∷ []
+says_message c n m has = says_in c.ballots c.client n c.attempt c.state (is_node_of (node_count c.ballots) n) (c.attempt == 0) m refl refl has
 
 -- a SayTo sends its message
 pub sayto_sends : (l l' : OwnLog) (finds : List (List ℕ)) (c : Client) (who n number : ℕ) (m said : Message) (done : Effect) → Stands l finds c → who ≡ c.client → message_for c n ≡ Some m →
     done ≡ effect.Sent number said → IsAdded l (event.SayTo who n) done l' → sent_of l' ≡ sent_of l ++ sending_to n number m ∷ []
 sayto_sends l l' finds c who n number m said done s same has is added =
-    let says : said_by l.ballot (event.SayTo who n) (part_now l) ≡ m ∷ [] =
-    ap (λ (p : Part). said_by l.ballot (event.SayTo who n) p) s.part ∙ ap (λ (b : Ballot). said_by b (event.SayTo who n) (ClientPart (part_of c))) s.ballot
-    ∙ ap (λ (k : ℕ). said_by c.ballot (event.SayTo k n) (ClientPart (part_of c))) same ∙ says_message c n m has in
+    let says : said_by l.ballots (event.SayTo who n) (part_now l) ≡ m ∷ [] =
+    ap (λ (p : Part). said_by l.ballots (event.SayTo who n) p) s.part ∙ ap (λ (b : List Ballot). said_by b (event.SayTo who n) (ClientPart (part_of c))) s.ballots
+    ∙ ap (λ (k : ℕ). said_by c.ballots (event.SayTo k n) (ClientPart (part_of c))) same ∙ says_message c n m has in
     sent_more l l' (event.SayTo who n) done added
     ∙ ap (λ (xs : List Message). sent_of l ++ map (sending_to n (number_of done)) xs) says
     ∙ ap (λ (d : Effect). sent_of l ++ sending_to n (number_of d) m ∷ []) is

@@ -48,3 +48,11 @@ ClientEndsBy fault.GaveUp l stuck spent before now = IsOutside (part_now l)
 -- the same since whatever moment since which the device had failed this often before
 pub record ClientEndsFrom (f : RunFault) (times : ℕ) (l : OwnLog) (stuck spent : Bool) (before now : ℕ) : Type 0 where
   pub ends : (start : ℕ) → HasFailed times start before → ClientEndsBy f l stuck spent start now
+
+-- a client that owns its record, which nobody sees afterwards, ends by this fault with some answers of it
+pub record ClientEndsSomehow (f : RunFault) (l : OwnLog) : Type 0 where
+  pub stuck : Bool
+  pub spent : Bool
+  pub before : ℕ
+  pub now : ℕ
+  pub ends : ClientEndsBy f l stuck spent before now

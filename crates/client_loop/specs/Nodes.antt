@@ -2,7 +2,7 @@
 -- skipped.
 use Rattle.std.specs.Prelude.{◌≡◌, ℕ, Bool, true, false, not, ◌||◌, ◌&&◌, List, length}
 use Rattle.lock_messages.specs.declared.tickets.Mode.{Mode}
-use Rattle.lock_model.specs.Ballots.{Ballot, HasNode, IsEnough}
+use Rattle.lock_model.specs.Ballots.{Ballot, HasAnyNode, IsEnough, ballot_at, node_count}
 use Rattle.lock_model.specs.ExactHearing.{is_node_of}
 use Rattle.vote_weights.specs.Sets.{has_node}
 use Rattle.client_core.specs.declared.phases.Present.{Present}
@@ -14,9 +14,10 @@ use Rattle.client_core.specs.Clients.{Client}
 abbrev pub is_possible : List ℕ → List ℕ → ℕ → Bool
 is_possible granted gone n = has_node granted n || not (has_node gone n)
 
--- the votes of the nodes that granted and of those that aren't gone are enough for the mode
-abbrev pub CanSuffice : Ballot → Mode → List ℕ → List ℕ → Type 0
-CanSuffice b mode granted gone = IsEnough b mode (is_possible granted gone)
+-- by the ballot of the place, the votes of the nodes that granted and of those that aren't gone are enough for
+-- the mode
+abbrev pub CanSuffice : List Ballot → ℕ → Mode → List ℕ → List ℕ → Type 0
+CanSuffice b place mode granted gone = IsEnough (ballot_at b place) mode (is_possible granted gone)
 
 -- The node has to answer the release: it was asked, has not answered and isn't gone.
 pub record Owes (asked released gone : List ℕ) (n : ℕ) : Type 0 where
@@ -24,15 +25,15 @@ pub record Owes (asked released gone : List ℕ) (n : ℕ) : Type 0 where
   pub is_silent : has_node released n ≡ false
   pub is_there : has_node gone n ≡ false
 
--- no node of the ballot has to answer the release
-abbrev pub IsReleased : Ballot → List ℕ → List ℕ → List ℕ → Type 0
-IsReleased b asked released gone = (n : ℕ) → HasNode b n → Owes asked released gone n → ⊥
+-- no node of the ballots has to answer the release
+abbrev pub IsReleased : List Ballot → List ℕ → List ℕ → List ℕ → Type 0
+IsReleased b asked released gone = (n : ℕ) → HasAnyNode b n → Owes asked released gone n → ⊥
 
--- whether it is a node of the ballot, and whether it is one that is gone
-abbrev pub is_among : Ballot → ℕ → Bool
-is_among b n = is_node_of (length b.votes) n
+-- whether it is a node of the ballots, and whether it is one that is gone
+abbrev pub is_among : List Ballot → ℕ → Bool
+is_among b n = is_node_of (node_count b) n
 
-abbrev pub is_gone_among : Ballot → List ℕ → ℕ → Bool
+abbrev pub is_gone_among : List Ballot → List ℕ → ℕ → Bool
 is_gone_among b gone n = is_among b n && has_node gone n
 
 -- the same attempt, in which these nodes are skipped too
@@ -43,7 +44,7 @@ pub record SkipsMore (these : ℕ → Bool) (p : Present) (after : State) : Type
 
 abbrev pub SkipsIn : (ℕ → Bool) → State → State → Type 0
 SkipsIn these Idle after = after ≡ Idle
-SkipsIn these (Chosen t) after = after ≡ Chosen t
+SkipsIn these (Chosen t place) after = after ≡ Chosen t place
 SkipsIn these (Asking p) after = SkipsMore these p after
 SkipsIn these (Inside p) after = after ≡ Inside p
 
@@ -51,6 +52,6 @@ SkipsIn these (Inside p) after = after ≡ Inside p
 -- changes.
 pub record Skips (these : ℕ → Bool) (before after : Client) : Type 0 where
   pub client : after.client ≡ before.client
-  pub ballot : after.ballot ≡ before.ballot
+  pub ballots : after.ballots ≡ before.ballots
   pub attempt : after.attempt ≡ before.attempt
   pub state : SkipsIn these before.state after.state

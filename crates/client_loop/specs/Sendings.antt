@@ -35,9 +35,9 @@ number_of effect.Down = 0
 number_of effect.Up = 0
 
 -- What a client sends for an event of its own: at a SayTo what its part says there, to the node.
-abbrev pub sent_for : Ballot → Event → Effect → Part → List Sending
+abbrev pub sent_for : List Ballot → Event → Effect → Part → List Sending
 sent_for b (event.SayTo c n) done p = map (sending_to n (number_of done)) (said_by b (event.SayTo c n) p)
-sent_for b (event.Begin c m x) done p = []
+sent_for b (event.Begin c m x place) done p = []
 sent_for b (event.Try who) done p = []
 sent_for b (event.Kept who) done p = []
 sent_for b (event.Say n) done p = []
@@ -49,13 +49,13 @@ sent_for b (event.Fall who) done p = []
 sent_for b (event.Rise who age) done p = []
 
 -- the same for a list of its events, from a part on
-abbrev pub sent_by : Ballot → Part → List (Event × Effect) → List Sending
+abbrev pub sent_by : List Ballot → Part → List (Event × Effect) → List Sending
 sent_by b p [] = []
 sent_by b p (q ∷ own) = sent_for b q.0 q.1 p ++ sent_by b (after_own b q.0 q.1 p) own
 
 -- what a client has sent, as its own log tells it
 abbrev pub sent_of : OwnLog → List Sending
-sent_of l = sent_by l.ballot l.opening l.events
+sent_of l = sent_by l.ballots l.opening l.events
 
 -- Where what was given to a link before is what one log tells, on top of what was there, what was given
 -- since is what the other log tells.

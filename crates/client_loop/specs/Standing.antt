@@ -20,14 +20,14 @@ part_of core = record { kept = core.attempt; tried = None; phase = phase_of core
 -- keeps.
 pub record Stands (l : OwnLog) (finds : List (List ℕ)) (core : Client) : Type 0 where
   pub actor : l.actor ≡ actor.Client core.client
-  pub ballot : l.ballot ≡ core.ballot
+  pub ballots : l.ballots ≡ core.ballots
   pub part : part_now l ≡ ClientPart (part_of core)
   pub found : FindsPart (ClientPart (part_of core)) finds
 
 -- the two cores stand for one part of the world: they differ in what they skip alone
 pub record IsAlike (before after : Client) : Type 0 where
   pub client : after.client ≡ before.client
-  pub ballot : after.ballot ≡ before.ballot
+  pub ballots : after.ballots ≡ before.ballots
   pub part : part_of after ≡ part_of before
   pub phase : phase_in after.state ≡ phase_in before.state
 
@@ -38,27 +38,29 @@ pub record HasLeft (l : OwnLog) (finds : List (List ℕ)) (core : Client) : Type
   pub may : MayLeave before
   pub after : core ≡ left before
 
--- The core has chosen its next attempt with this ticket, the log has begun it, and the record finds the
+-- The core has chosen its next attempt with this ticket and place, the log has begun it, and the record finds the
 -- attempt before.
 pub record HasChosen (l : OwnLog) (finds : List (List ℕ)) (core : Client) : Type 0 where
   pub before : ℕ
   pub ticket : Ticket
+  pub place : ℕ
   pub actor : l.actor ≡ actor.Client core.client
-  pub ballot : l.ballot ≡ core.ballot
-  pub state : core.state ≡ Chosen ticket
+  pub ballots : l.ballots ≡ core.ballots
+  pub state : core.state ≡ Chosen ticket place
   pub next : core.attempt ≡ before + 1
   pub own : ticket.attempt ≡ core.attempt
-  pub part : part_now l ≡ ClientPart (record { kept = before; tried = None; phase = client.Chosen ticket })
+  pub part : part_now l ≡ ClientPart (record { kept = before; tried = None; phase = client.Chosen ticket place })
   pub found : FindsPart (part_now l) finds
 
 -- The log has it also that this attempt is tried; the record finds it or the attempt before.
 pub record HasTried (l : OwnLog) (finds : List (List ℕ)) (core : Client) : Type 0 where
   pub before : ℕ
   pub ticket : Ticket
+  pub place : ℕ
   pub actor : l.actor ≡ actor.Client core.client
-  pub ballot : l.ballot ≡ core.ballot
+  pub ballots : l.ballots ≡ core.ballots
   pub next : core.attempt ≡ before + 1
-  pub part : part_now l ≡ ClientPart (record { kept = before; tried = Some core.attempt; phase = client.Chosen ticket })
+  pub part : part_now l ≡ ClientPart (record { kept = before; tried = Some core.attempt; phase = client.Chosen ticket place })
   pub found : FindsPart (part_now l) finds
 
 -- a client's part, whose attempt is one that there may be

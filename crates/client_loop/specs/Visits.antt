@@ -3,6 +3,7 @@ use Rattle.std.specs.Prelude.{◌≡◌, ℕ, ◌+◌, ◌≤◌, ◌⊎◌, Lis
 use Rattle.std.specs.List.{All}
 use Rattle.lock_messages.specs.declared.ids.Actor.{Actor}
 use Rattle.lock_messages.specs.declared.tickets.Mode.{Mode}
+use Rattle.lock_model.specs.Ballots.{Ballot, HasPlace}
 use Rattle.lock_model.specs.Decisions.{Among}
 use Rattle.world_model.specs.declared.events.Effect.{Effect}
 use Rattle.world_model.specs.declared.events.Event.{Event}
@@ -11,15 +12,17 @@ use Rattle.history_check.specs.declared.wishes.Wish.{Wish}
 use Rattle.event_recorders.specs.declared.faults.RunFault.{RunFault}
 use Rattle.event_recorders.specs.OwnLogs.{OwnLog}
 
--- a use of a resource
+-- a use of a resource, by the ballot at a place
 pub record Use : Type 0 where
   pub mode : Mode
   pub resource : List ℕ
+  pub place : ℕ
 
--- whose events they are; the use that was begun last, if one was; for each Enter, in order, the use that was
--- begun last before it; and the use of each Begin, in order
+-- whose events they are, and the ballots that there are; the use that was begun last, if one was; for each
+-- Enter, in order, the use that was begun last before it; and the use of each Begin, in order
 pub record Visits : Type 0 where
   pub whose : Actor
+  pub ballots : List Ballot
   pub begun : Option Use
   pub entered : List (Option Use)
   pub begins : List Use
@@ -34,7 +37,7 @@ visits_beginning u v = record v { begun = Some u; begins = v.begins ++ u ∷ [] 
 
 -- what one event more makes of them
 abbrev pub visits_after : Visits → Event → Visits
-visits_after v (event.Begin c m x) = visits_beginning (record { mode = m; resource = x }) v
+visits_after v (event.Begin c m x place) = visits_beginning (record { mode = m; resource = x; place = place }) v
 visits_after v (event.Enter c) = visits_entering v
 visits_after v (event.Try who) = v
 visits_after v (event.Kept who) = v
@@ -52,14 +55,14 @@ visits_from v (p ∷ events) = visits_from (visits_after v p.0) events
 
 -- what the client's own events say
 abbrev pub visits_of : OwnLog → Visits
-visits_of l = visits_from (record { whose = l.actor; begun = None; entered = []; begins = [] }) l.events
+visits_of l = visits_from (record { whose = l.actor; ballots = l.ballots; begun = None; entered = []; begins = [] }) l.events
 
 -- what a wish wishes
 abbrev pub use_of : Wish → Use
-use_of w = record { mode = w.mode; resource = w.resource }
+use_of w = record { mode = w.mode; resource = w.resource; place = w.place }
 
 -- So many wishes were entered, each once and in order, and nothing else was: the k-th Enter has the
--- mode and the resource of the k-th wish.
+-- mode, the resource and the place of the k-th wish.
 pub record HasEntered (wishes : List Wish) (n : ℕ) (l : OwnLog) : Type 0 where
   pub few : n ≤ length wishes
   pub count : length (visits_of l).entered ≡ n
@@ -98,14 +101,20 @@ AreWished wished begins = All (λ u. Among u wished) begins
 -- was begun before, all is that is begun now.
 pub record BeginsOnly (u : Use) (before after : Visits) : Type 0 where
   pub whose : after.whose ≡ before.whose
+  pub ballots : after.ballots ≡ before.ballots
   pub only : (wished : List Use) → Among u wished → AreWished wished before.begins → AreWished wished after.begins
 
 -- of the same actor, nothing was begun since
 pub record BeginsNothing (before after : Visits) : Type 0 where
   pub whose : after.whose ≡ before.whose
+  pub ballots : after.ballots ≡ before.ballots
   pub none : after.begins ≡ before.begins
 
--- The log is the actor's, and each of its Begins has the mode and the resource of a wish.
+-- The log is the actor's, and each of its Begins has the mode, the resource and the place of a wish.
 pub record HasBegun (who : Actor) (wishes : List Wish) (l : OwnLog) : Type 0 where
   pub whose : l.actor ≡ who
   pub each : AreWished (map (λ w. use_of w) wishes) (visits_of l).begins
+
+-- each wish has a place that the ballots have
+abbrev pub ArePlaced : List Ballot → List Wish → Type 0
+ArePlaced ballots wishes = All (λ w. HasPlace ballots w.place) wishes

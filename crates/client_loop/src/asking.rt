@@ -1,6 +1,7 @@
 // Asking nodes for their votes.
 
 ghost use Rattle.std.specs.Prelude.{◌≡◌, OnOk, IfErr, Err};
+ghost use Rattle.lock_model.specs.Ballots.{HasPlace};
 ghost use Rattle.client_core.specs.Calls.{MayEnter};
 ghost use Rattle.client_loop.specs.Sendings.{SentFollows, SentUnlessMemory};
 ghost use Rattle.client_loop.specs.Standing.{Stands};
@@ -15,7 +16,7 @@ use crate::posts::take_post;
 use crate::progress::Progress;
 use crate::talking::tell;
 use event_recorders::{Recorder, RunFault};
-use lock_messages::Mode;
+use history_check::Wish;
 use lossy_link::Link;
 use stable_record::StableRecord;
 use std::alloc::Global;
@@ -50,19 +51,20 @@ fn ask_on<R: Recorder, L: Link>(
     Ok(())
 }
 
-/// Asks one node after another until the votes are enough. 912: the nodes that granted and those that
-/// aren't gone are not enough.
+/// Asks one node after another until the votes are enough for the wish. 912: the nodes that granted and
+/// those that aren't gone are not enough.
 #[tactic(auto, using(crate::proofs::SentFacts::follows_none, crate::proofs::SentFacts::follows_on, crate::proofs::SentFacts::unless_on, crate::proofs::SentFacts::unless_follows))]
 pub(crate) fn ask<W: Wait, R: Recorder, L: Link>(
     rt: &W,
     alloc: Global,
-    mode: Mode,
+    wish: &Wish,
     progress: &mut Progress,
     stable: &dyn StableRecord,
     recorder: &mut R,
     link: &mut L,
 ) -> Result<(), RunFault>
-    requires { Stands (R.own_log recorder.old) (finds stable.now) progress.old.core }
+    requires stands { Stands (R.own_log recorder.old) (finds stable.now) progress.old.core }
+    requires placed { HasPlace (R.own_log recorder.old).ballots wish.now.place }
     ensures may_enter { OnOk result (MayEnter progress.new.core) }
     ensures sent { OnOk result (SentFollows (R.own_log recorder.old) (R.own_log recorder.new) (L.given link.old) (L.given link.new)) }
     ensures faulted { IfErr result (λ f. SentUnlessMemory f (R.own_log recorder.old) (R.own_log recorder.new) (L.given link.old) (L.given link.new)) }
@@ -72,13 +74,13 @@ pub(crate) fn ask<W: Wait, R: Recorder, L: Link>(
     ensures falls { falls_of (R.own_log recorder.new) ≡ falls_of (R.own_log recorder.old) }
     ensures faults { IfErr result IsAskFault }
     // 912: only where the nodes that granted and those that aren't gone are not enough.
-    ensures too_few { result ≡ Err RunFault.TooFewNodes → CanSuffice progress.new.core.ballot mode progress.new.granted progress.new.gone → ⊥ }
+    ensures too_few { result ≡ Err RunFault.TooFewNodes → CanSuffice progress.new.core.ballots wish.now.place wish.now.mode progress.new.granted progress.new.gone → ⊥ }
 {
     for _ in rt.forever() {
         if progress.core.may_enter() {
             return Ok(());
         }
-        if !progress.can_suffice(mode) {
+        if !progress.can_suffice(wish.place, wish.mode) {
             return Err(RunFault::TooFewNodes);
         }
         ask_on(alloc, progress, stable, recorder, link)?;

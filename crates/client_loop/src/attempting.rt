@@ -1,6 +1,7 @@
 // Making an attempt: its number is chosen, and kept before it is used.
 
 ghost use Rattle.std.specs.Prelude.{◌≡◌, ◌+◌, OnOk, IfErr, true, false, Some, Ok};
+ghost use Rattle.lock_model.specs.Ballots.{HasPlace};
 ghost use Rattle.client_core.specs.Clients.{phase_of};
 ghost use Rattle.client_core.specs.declared.phases.Phase.TheVariants as phase;
 ghost use Rattle.client_loop.specs.Sendings.{sent_of};
@@ -31,6 +32,7 @@ fn begin<R: Recorder>(
     requires stands { Stands (R.own_log recorder.old) (finds stable.now) core.old }
     requires idle { phase_of core.old ≡ phase.Idle }
     requires free { stuck_of stable.now ≡ false }
+    requires placed { HasPlace (R.own_log recorder.old).ballots wish.now.place }
     ensures silent { sent_of (R.own_log recorder.new) ≡ sent_of (R.own_log recorder.old) }
     ensures chosen { OnOk result (HasChosen (R.own_log recorder.new) (finds stable.now) core.new) }
     ensures begun { OnOk result ((visits_of (R.own_log recorder.new)).begun ≡ Some (use_of wish.now)) }
@@ -39,16 +41,21 @@ fn begin<R: Recorder>(
     ensures ended { IfErr result (λ fault. ClientEndsFrom fault (falls_of (R.own_log recorder.old)) (R.own_log recorder.new) (stuck_of stable.now) (spent_of stable.now) (failures_of stable.now) (failures_of stable.now)) }
     ensures begins { BeginsOnly (use_of wish.now) (visits_of (R.own_log recorder.old)) (visits_of (R.own_log recorder.new)) }
 {
-    let Wish { mode, resource, .. } = *wish;
+    let Wish {
+        mode,
+        resource,
+        place,
+        ..
+    } = *wish;
     let resource = &resource;
-    match core.begin(*resource, mode) {
+    match core.begin(*resource, mode, place) {
         Ok(_) => {}
         Err(ClientFault::AttemptsSpent) => return Err(RunFault::Spent),
-        Err(ClientFault::NotIdle) => unreachable!(),
+        Err(ClientFault::NotIdle | ClientFault::NoSuchPlace) => unreachable!(),
     }
     log_plain(
         recorder,
-        Event::Begin(core.client(), mode, *resource),
+        Event::Begin(core.client(), mode, *resource, place),
         stable,
     )?;
     Ok(())
@@ -128,6 +135,7 @@ pub(crate) fn attempt<W: Wait, R: Recorder, G: Gate>(
     requires stands { Stands (R.own_log recorder.old) (finds stable.old) progress.old.core }
     requires free { stuck_of stable.old ≡ false }
     requires idle { phase_of progress.old.core ≡ phase.Idle }
+    requires placed { HasPlace (R.own_log recorder.old).ballots wish.now.place }
     ensures stands { OnOk result (Stands (R.own_log recorder.new) (finds stable.new) progress.new.core) }
     ensures free { OnOk result (stuck_of stable.new ≡ false) }
     ensures silent { sent_of (R.own_log recorder.new) ≡ sent_of (R.own_log recorder.old) }

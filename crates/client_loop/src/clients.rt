@@ -9,8 +9,8 @@ ghost use Rattle.client_loop.specs.Sendings.{sent_of, SentFollows, SentUnlessMem
 ghost use Rattle.client_loop.specs.Standing.{Stands, KeepsAttempt};
 ghost use Rattle.actor_steps.specs.Steps.{HasFailed};
 ghost use Rattle.actor_steps.specs.Endings.{falls_of, FailuresFollow};
-ghost use Rattle.client_loop.specs.Endings.{ClientEndsFrom, ClientEndsBy};
-ghost use Rattle.client_loop.specs.Visits.{visits_of, HasEntered, HasBegun, entries_of};
+ghost use Rattle.client_loop.specs.Endings.{ClientEndsFrom, ClientEndsBy, ClientEndsSomehow};
+ghost use Rattle.client_loop.specs.Visits.{visits_of, HasEntered, HasBegun, ArePlaced, entries_of};
 
 use crate::progress::Progress;
 use crate::wishing::fulfil;
@@ -23,18 +23,18 @@ use lossy_link::Link;
 use stable_record::{StableRecord, read_client};
 use std::alloc::Global;
 use std::sync::Wait;
-use vote_weights::Ballot;
+use vote_weights::BallotList;
 
 /// The client's core as it first rises, with the attempt that its record holds.
 #[tactic(auto, using(crate::proofs::SentFacts::first_rise_sends_nothing, crate::proofs::SentFacts::unused_sends_nothing, crate::proofs::EndFacts::client_ends, actor_steps::proofs::EndFacts::failures_stay))]
 fn rise<R: Recorder>(
     client: ClientId,
-    ballot: Ballot,
+    ballots: BallotList,
     stable: &mut dyn StableRecord,
     recorder: &mut R,
 ) -> Result<ClientCore, RunFault>
     requires unused { IsUnused (R.own_log recorder.old) (Actor.Client client) }
-    requires ballot { (R.own_log recorder.old).ballot ≡ ballot }
+    requires ballots { (R.own_log recorder.old).ballots ≡ ballots }
     requires found { FindsPart (R.own_log recorder.old).opening (finds stable.old) }
     requires kept { KeepsAttempt (R.own_log recorder.old).opening }
     ensures stands { IfOk result (λ core. Stands (R.own_log recorder.new) (finds stable.new) core) }
@@ -44,6 +44,7 @@ fn rise<R: Recorder>(
     ensures visits { (visits_of (R.own_log recorder.new)).entered ≡ [] }
     ensures begins { (visits_of (R.own_log recorder.new)).begins ≡ [] }
     ensures whose { (visits_of (R.own_log recorder.new)).whose ≡ (R.own_log recorder.old).actor }
+    ensures ballots { (visits_of (R.own_log recorder.new)).ballots ≡ (R.own_log recorder.old).ballots }
     ensures ended { IfErr result (λ fault. ClientEndsFrom fault (falls_of (R.own_log recorder.old)) (R.own_log recorder.new) (stuck_of stable.new) (spent_of stable.new) (failures_of stable.old) (failures_of stable.new)) }
     ensures falls { FailuresFollow (falls_of (R.own_log recorder.old)) (falls_of (R.own_log recorder.new)) (failures_of stable.old) (failures_of stable.new) }
 {
@@ -51,7 +52,7 @@ fn rise<R: Recorder>(
     let Ok(attempt) = read_client(bytes.as_slice()) else {
         unreachable!()
     };
-    Ok(ClientCore::rise(client, attempt, ballot))
+    Ok(ClientCore::rise(client, attempt, ballots))
 }
 
 /// Fulfils the wishes in order.
@@ -70,6 +71,7 @@ fn fulfil_all<W: Wait, R: Recorder, L: Link, G: Gate>(
     requires free { stuck_of stable.old ≡ false }
     requires idle { phase_of core ≡ phase.Idle }
     requires few { length wishes.now ≤ MAX_WISHES }
+    requires placed { ArePlaced (R.own_log recorder.old).ballots wishes.now }
     requires fresh { (visits_of (R.own_log recorder.old)).entered ≡ [] }
     requires first { HasBegun (R.own_log recorder.old).actor wishes.now (R.own_log recorder.old) }
     ensures sent { OnOk result (SentFollows (R.own_log recorder.old) (R.own_log recorder.new) (L.given link.old) (L.given link.new)) }
@@ -101,13 +103,16 @@ fn fulfil_all<W: Wait, R: Recorder, L: Link, G: Gate>(
     Ok(entered)
 }
 
-/// Rises, and fulfils the wishes in order.
+/// Runs a client as `run_client` does, over a record that is lent to it: so its contract also ties each fall,
+/// and each fault, to what that record answers afterwards.
+///
+/// The caller owes what it owes `run_client`, and gets its errors.
 #[tactic(auto, using(crate::proofs::SentFacts::all_told, crate::proofs::SentFacts::told_unless, crate::proofs::SentFacts::told_nothing, actor_steps::proofs::EndFacts::failures_on, crate::proofs::BeginFacts::none_begun))]
-fn run<W: Wait, R: Recorder, L: Link, G: Gate>(
+pub fn run_client_over<W: Wait, R: Recorder, L: Link, G: Gate>(
     rt: &W,
     alloc: Global,
     client: ClientId,
-    ballot: Ballot,
+    ballots: BallotList,
     wishes: &[Wish],
     stable: &mut dyn StableRecord,
     recorder: &mut R,
@@ -115,10 +120,12 @@ fn run<W: Wait, R: Recorder, L: Link, G: Gate>(
     gate: &G,
 ) -> Result<u32, (u32, RunFault)>
     requires unused { IsUnused (R.own_log recorder.old) (Actor.Client client) }
-    requires ballot { (R.own_log recorder.old).ballot ≡ ballot }
+    requires ballots { (R.own_log recorder.old).ballots ≡ ballots }
     requires found { FindsPart (R.own_log recorder.old).opening (finds stable.old) }
     requires kept { KeepsAttempt (R.own_log recorder.old).opening }
+    requires own { All (λ wish. wish.client ≡ client) wishes.now }
     requires few { length wishes.now ≤ MAX_WISHES }
+    requires placed { ArePlaced ballots wishes.now }
     ensures sent { OnOk result (L.given link.new ≡ all_more (L.given link.old) (sent_of (R.own_log recorder.new))) }
     ensures faulted { IfErr result (λ p. ToldUnlessMemory p.1 (R.own_log recorder.new) (L.given link.old) (L.given link.new)) }
     ensures entered { HasEntered wishes.now (entries_of result) (R.own_log recorder.new) }
@@ -127,7 +134,7 @@ fn run<W: Wait, R: Recorder, L: Link, G: Gate>(
     ensures falls { HasFailed (falls_of (R.own_log recorder.new)) (failures_of stable.old) (failures_of stable.new) }
     ensures begun { HasBegun (R.own_log recorder.old).actor wishes.now (R.own_log recorder.new) }
 {
-    let core = match rise(client, ballot, stable, recorder) {
+    let core = match rise(client, ballots, stable, recorder) {
         Ok(core) => core,
         Err(fault) => return Err((0, fault)),
     };
@@ -146,9 +153,10 @@ fn run<W: Wait, R: Recorder, L: Link, G: Gate>(
 /// every node. Where its record fails it falls, rises with what the record holds, and takes the wish up
 /// again.
 ///
-/// The caller owes wishes of this client, at most `MAX_WISHES`; a recorder of this client, with this
-/// ballot, that has logged nothing, and whose opening has the client down, with an attempt of at most
-/// `MAX_ATTEMPT` kept and nothing tried; and a record in which a restart finds just that attempt.
+/// The caller owes wishes of this client, at most `MAX_WISHES`, whose places the list has; a recorder of
+/// this client, with these ballots, that has logged nothing, and whose opening has the client down, with
+/// an attempt of at most `MAX_ATTEMPT` kept and nothing tried; and a record in which a restart finds just
+/// that attempt.
 ///
 /// # Errors
 ///
@@ -158,32 +166,42 @@ fn run<W: Wait, R: Recorder, L: Link, G: Gate>(
 /// memory was refused (914); the book is full or another's (915); no change of the record can be numbered
 /// any more, or no attempt is left (916). Nothing is logged after that. It may wait at the link, the
 /// recorder and the gate.
+#[tactic(auto, using(crate::proofs::EndFacts::client_ends_somehow))]
 pub fn run_client<W: Wait, R: Recorder, L: Link, G: Gate>(
     rt: &W,
     alloc: Global,
     client: ClientId,
-    ballot: Ballot,
+    ballots: BallotList,
     wishes: &[Wish],
-    stable: &mut dyn StableRecord,
+    stable: Box<dyn StableRecord + Send>,
     recorder: &mut R,
     link: &mut L,
     gate: &G,
 ) -> Result<u32, (u32, RunFault)>
     requires unused { IsUnused (R.own_log recorder.old) (Actor.Client client) }
-    requires ballot { (R.own_log recorder.old).ballot ≡ ballot }
-    requires found { FindsPart (R.own_log recorder.old).opening (finds stable.old) }
+    requires ballots { (R.own_log recorder.old).ballots ≡ ballots }
+    requires found { FindsPart (R.own_log recorder.old).opening (finds stable) }
     requires kept { KeepsAttempt (R.own_log recorder.old).opening }
     requires own { All (λ wish. wish.client ≡ client) wishes.now }
     requires few { length wishes.now ≤ MAX_WISHES }
+    requires placed { ArePlaced ballots wishes.now }
     ensures sent { OnOk result (L.given link.new ≡ all_more (L.given link.old) (sent_of (R.own_log recorder.new))) }
     ensures faulted { IfErr result (λ p. ToldUnlessMemory p.1 (R.own_log recorder.new) (L.given link.old) (L.given link.new)) }
     ensures entered { HasEntered wishes.now (entries_of result) (R.own_log recorder.new) }
     ensures all { IfOk result (λ n. n ≡ length wishes.now) }
-    ensures ended { IfErr result (λ p. ClientEndsBy p.1 (R.own_log recorder.new) (stuck_of stable.new) (spent_of stable.new) (failures_of stable.old) (failures_of stable.new)) }
-    ensures falls { HasFailed (falls_of (R.own_log recorder.new)) (failures_of stable.old) (failures_of stable.new) }
+    ensures ended { IfErr result (λ p. ClientEndsSomehow p.1 (R.own_log recorder.new)) }
     ensures begun { HasBegun (R.own_log recorder.old).actor wishes.now (R.own_log recorder.new) }
 {
-    run(
-        rt, alloc, client, ballot, wishes, stable, recorder, link, gate,
+    let mut stable = stable;
+    run_client_over(
+        rt,
+        alloc,
+        client,
+        ballots,
+        wishes,
+        &mut *stable,
+        recorder,
+        link,
+        gate,
     )
 }

@@ -25,5 +25,5 @@ mod releasing;
 mod talking;
 mod wishing;
 
-pub use clients::run_client;
+pub use clients::{run_client, run_client_over};
 pub use progress::MAX_NUDGES;

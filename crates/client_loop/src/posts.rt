@@ -1,6 +1,6 @@
 // What a client does on a post.
 
-ghost use Rattle.std.specs.Prelude.{◌≡◌, ◌↔◌, ◌≤◌, ◌+◌, true, OnOk, OnErr, IfErr, Err};
+ghost use Rattle.std.specs.Prelude.{◌≡◌, ◌↔◌, ◌≤◌, ◌+◌, ◌-◌, ◌^◌, min, if◌then◌else◌, true, OnOk, OnErr, IfErr, Err};
 ghost use Rattle.client_core.specs.Clients.{phase_of};
 ghost use Rattle.client_loop.specs.Hearing.{IsFrameFor, TakesParcel};
 ghost use Rattle.client_loop.specs.Sendings.{sent_of, SentFollows, SentUnlessMemory};
@@ -65,6 +65,8 @@ fn take_nudge<R: Recorder, L: Link>(
     ensures visits { visits_of (R.own_log recorder.new) ≡ visits_of (R.own_log recorder.old) }
     ensures falls { falls_of (R.own_log recorder.new) ≡ falls_of (R.own_log recorder.old) }
     ensures faults { IfErr result IsPostFault }
+    // A nudge of a node to which it has sent something is counted, and nothing else changes.
+    ensures counted { progress.new ≡ (if has_node progress.old.asked node then record progress.old { nudges = min (progress.old.nudges + 1) (2 ^ 32 - 1) } else progress.old) }
     // 913: exactly at the last nudge that a wish may have, of a node to which it has sent something.
     ensures gave_up { (result ≡ Err RunFault.GaveUp) ↔ ((has_node progress.old.asked node ≡ true) × (MAX_NUDGES ≤ progress.old.nudges + 1)) }
 {

@@ -1,6 +1,7 @@
 // What a client remembers from post to post.
 
 ghost use Rattle.std.specs.Prelude.{◌≡◌, ◌↔◌, ◌||◌, ℕ, [], IsTrue, if◌then◌else◌};
+ghost use Rattle.lock_model.specs.Ballots.{HasPlace};
 ghost use Rattle.vote_weights.specs.Sets.{has_node, with_node};
 ghost use Rattle.client_core.specs.Calls.{skipping};
 ghost use Rattle.client_loop.specs.Hearing.{granted_after, released_after};
@@ -75,14 +76,14 @@ impl Progress {
         self.core.skip(node);
     }
 
-    /// Every node of the ballot is gone.
+    /// Every node of the ballots is gone.
     pub(crate) fn lose_all(&mut self)
-        ensures gone { (n : ℕ) → has_node self.new.gone n ≡ (is_among self.old.core.ballot n || has_node self.old.gone n) }
-        ensures skipped { Skips (is_among self.old.core.ballot) self.old.core self.new.core }
+        ensures gone { (n : ℕ) → has_node self.new.gone n ≡ (is_among self.old.core.ballots n || has_node self.old.gone n) }
+        ensures skipped { Skips (is_among self.old.core.ballots) self.old.core self.new.core }
         ensures alike { IsAlike self.old.core self.new.core }
         ensures others { self.new ≡ record self.old { core = self.new.core; gone = self.new.gone } }
     {
-        for number in 1..self.core.ballot().nodes() + 1 {
+        for number in 1..self.core.ballots().nodes() + 1 {
             let Some(node) = NodeId::of(number) else {
                 return;
             };
@@ -102,11 +103,11 @@ impl Progress {
 
     /// Skips the nodes that are gone.
     pub(crate) fn skip_gone(&mut self)
-        ensures skipped { Skips (is_gone_among self.old.core.ballot self.old.gone) self.old.core self.new.core }
+        ensures skipped { Skips (is_gone_among self.old.core.ballots self.old.gone) self.old.core self.new.core }
         ensures alike { IsAlike self.old.core self.new.core }
         ensures others { self.new ≡ record self.old { core = self.new.core } }
     {
-        for number in 1..self.core.ballot().nodes() + 1 {
+        for number in 1..self.core.ballots().nodes() + 1 {
             let Some(node) = NodeId::of(number) else {
                 return;
             };
@@ -114,11 +115,15 @@ impl Progress {
         }
     }
 
-    /// Whether the nodes that granted and those that aren't gone are enough.
-    pub(crate) fn can_suffice(&self, mode: Mode) -> bool
-        ensures { IsTrue result ↔ CanSuffice self.now.core.ballot mode self.now.granted self.now.gone }
+    /// Whether the nodes that granted and those that aren't gone are enough by the ballot at the place,
+    /// which the list has to have.
+    pub(crate) fn can_suffice(&self, place: u8, mode: Mode) -> bool
+        requires { HasPlace self.now.core.ballots place }
+        ensures { IsTrue result ↔ CanSuffice self.now.core.ballots place mode self.now.granted self.now.gone }
     {
-        let ballot = self.core.ballot();
+        let Some(ballot) = self.core.ballots().ballot(place) else {
+            unreachable!()
+        };
         let mut possible = self.granted;
         for number in 1..ballot.nodes() + 1 {
             let Some(node) = NodeId::of(number) else {
@@ -140,9 +145,9 @@ impl Progress {
 
     /// Whether each node that was asked has answered the release, or is gone.
     pub(crate) fn is_released(&self) -> bool
-        ensures { IsTrue result ↔ IsReleased self.now.core.ballot self.now.asked self.now.released self.now.gone }
+        ensures { IsTrue result ↔ IsReleased self.now.core.ballots self.now.asked self.now.released self.now.gone }
     {
-        for number in 1..self.core.ballot().nodes() + 1 {
+        for number in 1..self.core.ballots().nodes() + 1 {
             let Some(node) = NodeId::of(number) else {
                 return true;
             };

@@ -6,6 +6,7 @@ ghost use Rattle.client_loop.specs.Sendings.{SentFollows, SentUnlessMemory};
 ghost use Rattle.client_loop.specs.Standing.{Stands};
 ghost use Rattle.client_loop.specs.Visits.{visits_of};
 ghost use Rattle.client_loop.specs.Endings.{IsPostFault};
+ghost use Rattle.client_loop.specs.Nodes.{IsReleased};
 ghost use Rattle.actor_steps.specs.Steps.{IsBookFault};
 ghost use Rattle.actor_steps.specs.Endings.{falls_of};
 
@@ -36,7 +37,7 @@ pub(crate) fn tell_releases<R: Recorder, L: Link>(
     ensures falls { falls_of (R.own_log recorder.new) ≡ falls_of (R.own_log recorder.old) }
     ensures faults { IfErr result IsBookFault }
 {
-    for number in 1..=progress.core.ballot().nodes() {
+    for number in 1..=progress.core.ballots().nodes() {
         let Some(node) = NodeId::of(number) else {
             return Ok(());
         };
@@ -65,6 +66,8 @@ pub(crate) fn release<W: Wait, R: Recorder, L: Link>(
     ensures visits { visits_of (R.own_log recorder.new) ≡ visits_of (R.own_log recorder.old) }
     ensures falls { falls_of (R.own_log recorder.new) ≡ falls_of (R.own_log recorder.old) }
     ensures faults { IfErr result IsPostFault }
+    // Each node of the ballots that was asked has answered, or is gone.
+    ensures released { OnOk result (IsReleased progress.new.core.ballots progress.new.asked progress.new.released progress.new.gone) }
 {
     tell_releases(alloc, progress, stable, recorder, link)?;
     for _ in rt.forever() {

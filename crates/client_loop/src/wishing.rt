@@ -1,6 +1,7 @@
 // One wish, from its attempt to its release.
 
 ghost use Rattle.std.specs.Prelude.{◌≡◌, ◌<◌, OnOk, false, Some, IfErr};
+ghost use Rattle.lock_model.specs.Ballots.{HasPlace};
 ghost use Rattle.client_core.specs.Clients.{phase_of};
 ghost use Rattle.client_core.specs.declared.phases.Phase.TheVariants as phase;
 ghost use Rattle.client_loop.specs.Sendings.{SentFollows, SentUnlessMemory};
@@ -40,6 +41,7 @@ pub(crate) fn fulfil<W: Wait, R: Recorder, L: Link, G: Gate>(
     requires free { stuck_of stable.old ≡ false }
     requires idle { phase_of progress.old.core ≡ phase.Idle }
     requires room { entered.old < MAX_WISHES }
+    requires placed { HasPlace (R.own_log recorder.old).ballots wish.now.place }
     ensures sent { OnOk result (SentFollows (R.own_log recorder.old) (R.own_log recorder.new) (L.given link.old) (L.given link.new)) }
     ensures faulted { IfErr result (λ f. SentUnlessMemory f (R.own_log recorder.old) (R.own_log recorder.new) (L.given link.old) (L.given link.new)) }
     ensures stands { OnOk result (Stands (R.own_log recorder.new) (finds stable.new) progress.new.core) }
@@ -54,7 +56,7 @@ pub(crate) fn fulfil<W: Wait, R: Recorder, L: Link, G: Gate>(
     progress.begin_wish();
     attempt(rt, wish, progress, stable, recorder, gate)?;
     let stable = &*stable;
-    if let Err(fault) = ask(rt, alloc, wish.mode, progress, stable, recorder, link) {
+    if let Err(fault) = ask(rt, alloc, wish, progress, stable, recorder, link) {
         return Err(end(alloc, fault, progress, stable, recorder, link));
     }
     visit(&mut progress.core, entered, stable, recorder, gate)?;

@@ -45,10 +45,12 @@ kept, sent 2 grant n1 c1 1 read a, counted, inside, inside a: c1 read.
 Settings: `votes` is a list with the votes of each node, 0 to 255, node 1 first, 16 nodes at most;
 `read` and `write` are how many votes a reader and a writer collect (read + write, and twice write,
 are over all votes); `problem` is 1 (a reader waits only where a writer holds) or 2 (it waits also
-where a writer waits); `clients` is how many clients there are, 1 to 1024. These are needed. Five
-more are for `rwvote run`, and judged by every command: `seed`, the number of the weather; `lose`,
-`twice` and `late`, how many of a thousand parcels are lost, go twice and are late, 1000 together at
-most; and `wishes`, a list of at most 4096 texts as `c1 read a`.
+where a writer waits); `clients` is how many clients there are, 1 to 1024. These are needed. `more`
+has other ballots, up to seven, as `more = [{ votes = [1, 1, 1], read = 1, write = 3 }]`: the first
+ballot is at place 1, those of `more` at 2 and on, and each two have to cross. Five more are for
+`rwvote run`, and judged by every command: `seed`, the number of the weather; `lose`, `twice` and
+`late`, how many of a thousand parcels are lost, go twice and are late, 1000 together at most; and
+`wishes`, a list of at most 4096 texts as `c1 read a`, or `c1 read a b2` by the ballot at place 2.
 
 The lines may also be typed one by one: each answer goes out before the next line is waited for, and
 `sent K` tells the number that the next `take` or `hear` names.
@@ -57,23 +59,24 @@ All nodes and clients are up at first. (As a journal begins they are down: here 
 they first rise print `refused 603`.) Events: `begin cC read|write NAME`, `try nN|cC`, `kept nN|cC`,
 `sayto cC nN`, `say nN`, `take nN K`, `hear cC K`, `enter cC`, `leave cC`, `fall nN|cC`,
 `rise nN|cC old|new`. `nN` is node N, `cC` client C, `K` the number of a message, as `sent K` prints
-it, `NAME` 1 to 32 of a-z, 0-9 and -. Queries: `inside NAME`, and of what node N has kept,
-`waiting nN NAME` and `holding nN NAME`.
+it, `NAME` 1 to 32 of a-z, 0-9 and -. A `begin` may end with `bP`, P from 2 to 8: the attempt's votes
+count by the ballot at place P then, else by the first. Queries: `inside NAME`, and of what node N
+has kept, `waiting nN NAME` and `holding nN NAME`.
 
 `refused N`: 601 no such node or client, 602 it is down, 603 it is up, 604 not in this phase, 605 not
 kept yet, 606 nothing to say, 607 no such message, 608 for another, 609 too few votes, 610 no
-attempts left, 611 nothing was tried, 612 too many messages. Nothing has changed then, and the
-script goes on, also where the settings don't have the node or client.
+attempts left, 611 nothing was tried, 612 too many messages, 614 no ballot at this place. Nothing has
+changed then, and the script goes on, also where the settings don't have the node or client.
 
 `line L fault N` ends the script: line L behind `---` has 801 an unknown word, 802 no actor (`c0`,
-`c1025` and `n17` are none in any settings), 803 no number, 804 no name, 805 words missing or left
-over, or over 128 bytes. A blank line or a comment behind `---` is 801.
+`c1025` and `n17` are none in any settings), 803 no number or no place, 804 no name, 805 words
+missing or left over, or over 128 bytes. A blank line or a comment behind `---` is 801.
 
 `settings fault N` stands alone: 921 no TOML, 922 a value missing or out of range, 923 an unknown key,
 924 no line `---` within 65536 bytes (also where lines end with CRLF), 925 no memory; 201 no node, 202
 more than 16, 203 a need over all votes, 204 a read and a write could miss each other, 205 two writes
-could; 901 `lose`, `twice` and `late` over 1000 together; 801, 802, 804 or 805 the first wish that is
-none, as of a line.
+could; 206 under two of the ballots, 208 over eight ballots; 901 `lose`, `twice` and `late` over 1000
+together; 801 to 805 the first wish that is none, as of a line.
 
 The status is 0; 1 where an event or a query was refused, a line was bad, or `fault N` stands on
 standard error (931 the input failed, 932 the output, 933 no memory); 2 where the settings or the
@@ -100,8 +103,9 @@ which all nodes and clients are down and nothing is kept. Of a journal that can'
 first line that is wrong: `unsound L refused N` where the event can't happen then, `unsound L fault N`
 where the line is no event. Lines count from 1 behind `---`, and the numbers are those of
 `rwvote script --help`; a blank line or a comment is `unsound L fault 801`. Nothing behind that line
-is read. The settings and the events are written as for `script`; a query is no event. A script is no
-journal, since it begins with all of them up: `begin c1 read a` as the first line gives
+is read. The settings and the events are written as for `script`: further ballots stand in `more`, and
+a `begin` by one of them ends with its place, as `b2`; a query is no event. A script is no journal,
+since it begins with all of them up: `begin c1 read a` as the first line gives
 `unsound 1 refused 602`.
 
 The status is 0 for a sound journal; 1 for another one, and where `fault N` stands on standard error:
@@ -121,11 +125,13 @@ clients = 2
 ---
 END
 
-It prints `total 4 read 2 write 3`: all votes, and how many a reader and a writer collect. The
-settings are those of `script`, but that `problem` and `clients` may be missing.
+It prints `total 4 read 2 write 3`: all votes, and how many a reader and a writer collect; and a line
+for each ballot of `more`. The settings are those of `script`, but that `problem` and `clients` may be
+missing.
 
 `refused N` says that the votes make no ballot: 201 no node, 202 more than 16, 203 a need over all
-votes, 204 a read and a write could miss each other, 205 two writes could.
+votes, 204 a read and a write could miss each other, 205 two writes could; or that the ballots make no
+list: 206 a read and a write, or two writes, could miss each other under two of them, 208 over eight.
 
 The status is 0; 1 where the ballot was refused, or where `fault N` stands on standard error (931 the
 input failed, 932 the output, 933 no memory); 2 where the settings or the words were refused.";
@@ -150,9 +156,9 @@ events of all. With `--journal` it prints the settings, `---` and these events i
 `rwvote audit` finds sound: `rwvote run --journal | rwvote audit`.
 
 The settings are those of `script`. `wishes` says what clients are to do: each sees to its own, in
-order, and leaves a resource as soon as it is inside. `lose`, `twice`, `late` and `seed` make the
-weather in which messages are lost, repeated and delayed. What threads come to may differ from run
-to run.
+order, and leaves a resource as soon as it is inside; one that ends with `b2` collects its votes by
+the second ballot, the first of `more`. `lose`, `twice`, `late` and `seed` make the weather in which
+messages are lost, repeated and delayed. What threads come to may differ from run to run.
 
 A run ends once each client has ended. Where clients wait for what can't come any more, it ends once
 every thread waits for a message and none is on its way: who waits for votes ends by 912 then.

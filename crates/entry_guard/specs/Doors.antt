@@ -9,7 +9,7 @@ use Rattle.client_core.specs.declared.phases.State.TheVariants.{Idle, Chosen, As
 -- whether a client in this state is inside
 abbrev pub is_inside_in : State → Bool
 is_inside_in Idle = false
-is_inside_in (Chosen t) = false
+is_inside_in (Chosen t place) = false
 is_inside_in (Asking p) = false
 is_inside_in (Inside p) = true
 

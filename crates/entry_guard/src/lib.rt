@@ -6,7 +6,7 @@
 //!
 //! The crate promises that a guard is made exactly where the door may enter, and that the door is
 //! outside after the guard was dropped. A client core is then idle after the same attempt, and has
-//! the release of that attempt to say to each node of its ballot. `enter_and_leave` shows the same of a
+//! the release of that attempt to say to each node of its ballots. `enter_and_leave` shows the same of a
 //! core in a box: it takes memory for the box, and no other call does. No call waits. A guard that is
 //! forgotten (`std::mem::forget`) leaves its door inside.
 //!

@@ -9,7 +9,7 @@ use Rattle.lock_messages.specs.Messages.{is_for_client, named_node}
 use Rattle.lock_model.specs.ExactDecisions.{decision, changes}
 use Rattle.lock_model.specs.ExactHearing.{is_node_of, is_counted}
 use Rattle.lock_messages.specs.declared.tickets.Mode.{Mode}
-use Rattle.lock_model.specs.Ballots.{Ballot, needed, votes_of}
+use Rattle.lock_model.specs.Ballots.{Ballot, needed, votes_of, ballot_at, has_place, node_count}
 use Rattle.world_model.specs.declared.events.Effect.{Effect}
 use Rattle.vote_weights.specs.Sets.{has_node}
 use Rattle.world_model.specs.declared.events.Effect.TheVariants as effect
@@ -22,7 +22,7 @@ use Rattle.world_model.specs.declared.exact.ExactNodePhase.{ExactNodePhase}
 use Rattle.world_model.specs.declared.exact.ExactNodePhase.TheVariants as node
 use Rattle.world_model.specs.declared.exact.ExactClientPhase.{ExactClientPhase}
 use Rattle.world_model.specs.declared.exact.ExactClientPhase.TheVariants as client
-use Rattle.world_model.specs.ExactClients.{client_in, next_ticket, begins_in, says_one, tells_in, heard_in, counts_in, after_hearing, is_down, enters_in, leaves_in, client_falls_in}
+use Rattle.world_model.specs.ExactClients.{client_in, next_ticket, begins_by, begins_in, says_one, tells_in, heard_in, counts_in, after_hearing, is_down, enters_in, leaves_in, client_falls_in}
 use Rattle.world_model.specs.ExactNodes.{node_in, says_in, takes_in, decided_on, node_falls_in}
 use Rattle.world_model.specs.Turns.{Turns, acts, reads}
 use Rattle.world_model.specs.Locality.{local_part}
@@ -31,13 +31,13 @@ use Rattle.event_recorders.specs.OwnLogs.{FindsPart, changes_record}
 use Rattle.event_recorders.specs.Laws.{PartsFollow, RecordsStay}
 
 -- one event more, at the end of a list
-pub part-after : (b : Ballot) (p : Part) (own : List (Event × Effect)) (e : Event) (done : Effect) →
+pub part-after : (b : List Ballot) (p : Part) (own : List (Event × Effect)) (e : Event) (done : Effect) →
     local_part b p (own ++ (e, done) ∷ []) ≡ after_own b e done (local_part b p own)
 part-after b p [] e done = refl
 part-after b p (q ∷ own) e done = part-after b (after_own b q.0 q.1 p) own e done
 
 pub parts-follow : PartsFollow
-parts-follow l e done = part-after l.ballot l.opening l.events e done
+parts-follow l e done = part-after l.ballots l.opening l.events e done
 
 -- what holds of both arms holds of the one that is chosen
 either : {A : Type 0} (F : A → Type 0) (b : Bool) (x y : A) → F x → F y → F (cond b x y)
@@ -76,8 +76,8 @@ module _ (strings : List (List ℕ)) (v : ExactNode) (h : FindsPart (NodePart v)
   node-falls (node.Decided s replies) done = h
   node-falls (node.Stored replies) done = h
 
-  node-stays : (b : Ballot) (e : Event) (done : Effect) → changes_record e ≡ false → FindsPart (after_own b e done (NodePart v)) strings
-  node-stays b (event.Begin c m x) done still = h
+  node-stays : (b : List Ballot) (e : Event) (done : Effect) → changes_record e ≡ false → FindsPart (after_own b e done (NodePart v)) strings
+  node-stays b (event.Begin c m x place) done still = h
   node-stays b (event.Try who) done still = absurd (cc still)
   node-stays b (event.Kept who) done still = absurd (cc still)
   node-stays b (event.SayTo c n) done still = h
@@ -95,17 +95,20 @@ module _ (strings : List (List ℕ)) (k : ExactClient) (h : FindsPart (ClientPar
   abbrev Client : Turns ExactClient → Effect → Type 0
   Client turn done = FindsPart (ClientPart (after_turn k turn done)) strings
 
-  begins : (c : ℕ) (m : Mode) (x : List ℕ) (phase : ExactClientPhase) (done : Effect) → Client (begins_in c m x k phase) done
-  begins c m x client.Down done = h
-  begins c m x client.Idle done = either (λ t. Client t done) (nat_lt k.kept MAX_ATTEMPT) (acts (client_in k (client.Chosen (next_ticket c m x k.kept))) (effect.Chose (k.kept + 1))) (Err fault.AttemptsSpent) h h
-  begins c m x (client.Chosen t) done = h
-  begins c m x (client.Asking p) done = h
-  begins c m x (client.Inside p) done = h
+  begins : (b : List Ballot) (c : ℕ) (m : Mode) (x : List ℕ) (place : ℕ) (phase : ExactClientPhase) (done : Effect) → Client (begins_in b c m x place k phase) done
+  begins b c m x place client.Down done = h
+  begins b c m x place client.Idle done =
+      let turn = acts (client_in k (client.Chosen (next_ticket c m x k.kept) place)) (effect.Chose (k.kept + 1)) in
+      either (λ t. Client t done) (nat_lt k.kept MAX_ATTEMPT) (begins_by b place turn) (Err fault.AttemptsSpent)
+      (either (λ t. Client t done) (has_place b place) turn (Err fault.NoSuchPlace) h h) h
+  begins b c m x place (client.Chosen t chosen) done = h
+  begins b c m x place (client.Asking p) done = h
+  begins b c m x place (client.Inside p) done = h
 
   told : (c n : ℕ) (phase : ExactClientPhase) (done : Effect) → Client (tells_in c n k phase) done
   told c n client.Down done = h
   told c n client.Idle done = either (λ t. Client t done) (k.kept == 0) (Err fault.NothingToSay) (says_one k (message.Release n c k.kept)) h h
-  told c n (client.Chosen t) done = h
+  told c n (client.Chosen t place) done = h
   told c n (client.Asking p) done = h
   told c n (client.Inside p) done = h
 
@@ -113,37 +116,37 @@ module _ (strings : List (List ℕ)) (k : ExactClient) (h : FindsPart (ClientPar
   heard nodes c None = h
   heard nodes c (Some m) = either (λ u. FindsPart (ClientPart u) strings) (is_counted (heard_in nodes c k.kept k.phase m)) (client_in k (counts_in (named_node m) k.phase)) k h h
 
-  enters : (b : Ballot) (phase : ExactClientPhase) (done : Effect) → Client (enters_in b k phase) done
+  enters : (b : List Ballot) (phase : ExactClientPhase) (done : Effect) → Client (enters_in b k phase) done
   enters b client.Down done = h
   enters b client.Idle done = h
-  enters b (client.Chosen t) done = h
-  enters b (client.Asking p) done = either (λ u. Client u done) (nat_le (needed b p.ticket.mode) (votes_of b (has_node p.granted))) (acts (client_in k (client.Inside p)) effect.Inside) (Err fault.NoQuorum) h h
+  enters b (client.Chosen t place) done = h
+  enters b (client.Asking p) done = either (λ u. Client u done) (nat_le (needed (ballot_at b p.place) p.ticket.mode) (votes_of (ballot_at b p.place) (has_node p.granted))) (acts (client_in k (client.Inside p)) effect.Inside) (Err fault.NoQuorum) h h
   enters b (client.Inside p) done = h
 
   leaves : (phase : ExactClientPhase) (done : Effect) → Client (leaves_in k phase) done
   leaves client.Down done = h
   leaves client.Idle done = h
-  leaves (client.Chosen t) done = h
+  leaves (client.Chosen t place) done = h
   leaves (client.Asking p) done = h
   leaves (client.Inside p) done = h
 
   client-falls : (phase : ExactClientPhase) (done : Effect) → Client (client_falls_in k phase) done
   client-falls client.Down done = h
   client-falls client.Idle done = h
-  client-falls (client.Chosen t) done = h
+  client-falls (client.Chosen t place) done = h
   client-falls (client.Asking p) done = h
   client-falls (client.Inside p) done = h
 
-  client-stays : (b : Ballot) (e : Event) (done : Effect) → changes_record e ≡ false → FindsPart (after_own b e done (ClientPart k)) strings
-  client-stays b (event.Begin c m x) done still = begins c m x k.phase done
+  client-stays : (b : List Ballot) (e : Event) (done : Effect) → changes_record e ≡ false → FindsPart (after_own b e done (ClientPart k)) strings
+  client-stays b (event.Begin c m x place) done still = begins b c m x place k.phase done
   client-stays b (event.Try who) done still = absurd (cc still)
   client-stays b (event.Kept who) done still = absurd (cc still)
-  client-stays b (event.SayTo c n) done still = either (λ t. Client t done) (is_node_of (length b.votes) n) (tells_in c n k k.phase) (Err fault.UnknownActor) (told c n k.phase done) h
+  client-stays b (event.SayTo c n) done still = either (λ t. Client t done) (is_node_of (node_count b) n) (tells_in c n k k.phase) (Err fault.UnknownActor) (told c n k.phase done) h
   client-stays b (event.Say n) done still = h
   client-stays b (event.Take n number) done still = h
   client-stays b (event.Hear c number) done still =
-      either (λ t. Client t done) (is_down k.phase) (Err fault.Down) (reads number (λ m. is_for_client m c) (after_hearing (length b.votes) c k) (λ m. effect.Heard m (heard_in (length b.votes) c k.kept k.phase m))) h
-      (heard (length b.votes) c (message_of done))
+      either (λ t. Client t done) (is_down k.phase) (Err fault.Down) (reads number (λ m. is_for_client m c) (after_hearing (node_count b) c k) (λ m. effect.Heard m (heard_in (node_count b) c k.kept k.phase m))) h
+      (heard (node_count b) c (message_of done))
   client-stays b (event.Enter c) done still = enters b k.phase done
   client-stays b (event.Leave c) done still = leaves k.phase done
   client-stays b (event.Fall (actor.Node n)) done still = h

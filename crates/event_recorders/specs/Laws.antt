@@ -12,11 +12,11 @@ use Rattle.event_recorders.specs.OwnLogs.{OwnLog, part_now, adds, FindsPart, cha
 
 -- the part after one event more is what the event makes of the part before
 abbrev pub PartsFollow : Type 0
-PartsFollow = (l : OwnLog) (e : Event) (done : Effect) → part_now (adds l e done) ≡ after_own l.ballot e done (part_now l)
+PartsFollow = (l : OwnLog) (e : Event) (done : Effect) → part_now (adds l e done) ≡ after_own l.ballots e done (part_now l)
 
 -- all events but Try, Kept and Rise leave what is kept and tried, so a record goes on to find it
 abbrev pub RecordsStay : Type 0
-RecordsStay = (b : Ballot) (e : Event) (done : Effect) (p : Part) (strings : List (List ℕ)) → changes_record e ≡ false → FindsPart p strings →
+RecordsStay = (b : List Ballot) (e : Event) (done : Effect) (p : Part) (strings : List (List ℕ)) → changes_record e ≡ false → FindsPart p strings →
     FindsPart (after_own b e done p) strings
 
 -- a record has no more bytes than can be kept

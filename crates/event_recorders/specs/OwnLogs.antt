@@ -19,28 +19,28 @@ use Rattle.world_machine.specs.Listing.{station_bytes}
 use Rattle.history_book.specs.declared.faults.BookFault.{BookFault}
 use Rattle.history_book.specs.declared.faults.BookFault.TheVariants as book
 
--- An actor's own log: the actor; the ballot, and the actor's part of the world, as the log was opened;
+-- An actor's own log: the actor; the ballots, and the actor's part of the world, as the log was opened;
 -- and the actor's events since then, each with its effect.
 pub record OwnLog : Type 0 where
   pub actor : Actor
-  pub ballot : Ballot
+  pub ballots : List Ballot
   pub opening : Part
   pub events : List (Event × Effect)
 
 -- the actor's part of the world, as its own events tell it
 abbrev pub part_now : OwnLog → Part
-part_now l = local_part l.ballot l.opening l.events
+part_now l = local_part l.ballots l.opening l.events
 
 -- the log with one event more
 abbrev pub adds : OwnLog → Event → Effect → OwnLog
-adds l e done = record { actor = l.actor; ballot = l.ballot; opening = l.opening; events = l.events ++ (e, done) ∷ [] }
+adds l e done = record { actor = l.actor; ballots = l.ballots; opening = l.opening; events = l.events ++ (e, done) ∷ [] }
 
 -- The event joined the log: its effect is of its kind, nothing else of the log changed, and the actor's
 -- part is what the event makes of it.
 pub record IsAdded (l : OwnLog) (e : Event) (done : Effect) (l' : OwnLog) : Type 0 where
   pub kind : IsEffectOf e done
   pub log : l' ≡ adds l e done
-  pub part : part_now l' ≡ after_own l.ballot e done (part_now l)
+  pub part : part_now l' ≡ after_own l.ballots e done (part_now l)
 
 -- What a restart may find: just what is kept or, while something is tried, nothing but what is kept and
 -- what is tried.
@@ -65,13 +65,13 @@ FindsPart p strings = FindsKept (kept_in p) (tried_in p) strings
 
 -- a restart may find what the actor has kept once the event has happened, whatever it does
 abbrev pub FindsAfter : OwnLog → Event → List (List ℕ) → Type 0
-FindsAfter l e strings = (done : Effect) → IsEffectOf e done → FindsPart (after_own l.ballot e done (part_now l)) strings
+FindsAfter l e strings = (done : Effect) → IsEffectOf e done → FindsPart (after_own l.ballots e done (part_now l)) strings
 
 -- no message of the number was sent, or it is for another actor
 abbrev pub IsUnread : Event → StepFault → Type 0
 IsUnread (event.Take n k) f = (f ≡ fault.NoSuchMessage) ⊎ (f ≡ fault.NotAddressed)
 IsUnread (event.Hear c k) f = (f ≡ fault.NoSuchMessage) ⊎ (f ≡ fault.NotAddressed)
-IsUnread (event.Begin c m x) f = ⊥
+IsUnread (event.Begin c m x place) f = ⊥
 IsUnread (event.Try who) f = ⊥
 IsUnread (event.Kept who) f = ⊥
 IsUnread (event.SayTo c n) f = ⊥
@@ -108,7 +108,7 @@ pub record IsUnused (l : OwnLog) (who : Actor) : Type 0 where
 abbrev pub reads : Event → Bool
 reads (event.Take n k) = true
 reads (event.Hear c k) = true
-reads (event.Begin c m x) = false
+reads (event.Begin c m x place) = false
 reads (event.Try who) = false
 reads (event.Kept who) = false
 reads (event.SayTo c n) = false
@@ -123,7 +123,7 @@ abbrev pub changes_record : Event → Bool
 changes_record (event.Try who) = true
 changes_record (event.Kept who) = true
 changes_record (event.Rise who age) = true
-changes_record (event.Begin c m x) = false
+changes_record (event.Begin c m x place) = false
 changes_record (event.SayTo c n) = false
 changes_record (event.Say n) = false
 changes_record (event.Take n k) = false

@@ -10,7 +10,7 @@ use world_model::{Effect, Event};
 
 /// One actor's way to a log.
 ///
-/// What it means is in one word, which no code computes. `own_log`: its actor, the ballot and the
+/// What it means is in one word, which no code computes. `own_log`: its actor, the ballots and the
 /// actor's part of the world as the log was opened, and the actor's events since then with their
 /// effects. It tells the actor's part of the world as it is now (`part_now`). The rules are our own.
 pub trait Recorder {
@@ -28,7 +28,7 @@ pub trait Recorder {
     /// wasn't sent or is for another (811 with 607 or 608). It may wait for a lock.
     fn log(&mut self, event: Event, stable: &dyn StableRecord) -> Result<Effect, BookFault>
         requires own { is_own (own_log self.old).actor event ≡ true }
-        requires allowed { own_refusal (own_log self.old).ballot event (part_now (own_log self.old)) ≡ None }
+        requires allowed { own_refusal (own_log self.old).ballots event (part_now (own_log self.old)) ≡ None }
         requires found { FindsAfter (own_log self.old) event (finds stable.now) }
         // The event joins the log with its effect, which is of its kind, and a message that it carries is for
         // this actor.

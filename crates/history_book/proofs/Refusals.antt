@@ -18,19 +18,19 @@ known b k law run begins own opening = record {
   own = own;
   opening = opening;
   part = law b.opening b.world b.history run k.actor
-      ∙ ap (λ l. local_part b.opening.ballot (part b.opening k.actor) l) own
-      ∙ ap (λ w. local_part w.ballot (part w k.actor) (own_of k)) (sym opening);
+      ∙ ap (λ l. local_part b.opening.ballots (part b.opening k.actor) l) own
+      ∙ ap (λ w. local_part w.ballots (part w k.actor) (own_of k)) (sym opening);
 }
 
-pub local_refusal : (b : BookValue) (k : BerthValue) (e : Event) (f : StepFault) → PlacesAreApart → RefusalsAreLocal → Known b k → is_own k.actor e ≡ true → step b.world e ≡ Err f → IsLocalRefusal e (own_refusal b.opening.ballot e (own_part k)) (Some f)
+pub local_refusal : (b : BookValue) (k : BerthValue) (e : Event) (f : StepFault) → PlacesAreApart → RefusalsAreLocal → Known b k → is_own k.actor e ≡ true → step b.world e ≡ Err f → IsLocalRefusal e (own_refusal b.opening.ballots e (own_part k)) (Some f)
 local_refusal b k e f apart law is own refused =
     let who : actor_of e ≡ k.actor = apart (actor_of e) k.actor (eqb-true (place (actor_of e)) (place k.actor) own) in
     let said = law b.opening b.world b.history is.run e in
-    let here : IsLocalRefusal e (own_refusal b.opening.ballot e (local_part b.opening.ballot (part b.opening k.actor) (own_events k.actor b.history))) (refusal b.world e) =
-    subst (λ (a : Actor). IsLocalRefusal e (own_refusal b.opening.ballot e (local_part b.opening.ballot (part b.opening a) (own_events a b.history))) (refusal b.world e)) who said in
-    let listed = subst (λ (l : List (Event × Effect)). IsLocalRefusal e (own_refusal b.opening.ballot e (local_part b.opening.ballot (part b.opening k.actor) l)) (refusal b.world e)) is.own here in
-    let opened = subst (λ w. IsLocalRefusal e (own_refusal b.opening.ballot e (local_part w.ballot (part w k.actor) (own_of k))) (refusal b.world e)) (sym is.opening) listed in
-    subst (λ r. IsLocalRefusal e (own_refusal b.opening.ballot e (own_part k)) (refusal_of r)) refused opened
+    let here : IsLocalRefusal e (own_refusal b.opening.ballots e (local_part b.opening.ballots (part b.opening k.actor) (own_events k.actor b.history))) (refusal b.world e) =
+    subst (λ (a : Actor). IsLocalRefusal e (own_refusal b.opening.ballots e (local_part b.opening.ballots (part b.opening a) (own_events a b.history))) (refusal b.world e)) who said in
+    let listed = subst (λ (l : List (Event × Effect)). IsLocalRefusal e (own_refusal b.opening.ballots e (local_part b.opening.ballots (part b.opening k.actor) l)) (refusal b.world e)) is.own here in
+    let opened = subst (λ w. IsLocalRefusal e (own_refusal b.opening.ballots e (local_part w.ballots (part w k.actor) (own_of k))) (refusal b.world e)) (sym is.opening) listed in
+    subst (λ r. IsLocalRefusal e (own_refusal b.opening.ballots e (own_part k)) (refusal_of r)) refused opened
 
 -- a refusal that is no want of memory is the step's
 is_memory : StepFault → Bool

@@ -20,19 +20,19 @@ ticket_of_actor : (w : ExactWorld) (who : Actor) (c : ℕ) → who ≡ actor.Cli
 ticket_of_actor w who c is = sym (ticket-by-part w c) ∙ ap (λ a. inside_ticket (part w a)) (sym is)
 
 -- the part in the book, by what the berth has seen and what came since
-part_after : (b : BookValue) (k : BerthValue) (more : List (Event × Effect)) → PartsAreLocal → GoesOn b k more → part b.world k.actor ≡ local_part k.opening.ballot (own_part k) (own_events k.actor more)
+part_after : (b : BookValue) (k : BerthValue) (more : List (Event × Effect)) → PartsAreLocal → GoesOn b k more → part b.world k.actor ≡ local_part k.opening.ballots (own_part k) (own_events k.actor more)
 part_after b k more law goes =
     law b.opening b.world b.history goes.run k.actor
-    ∙ ap (λ w. local_part w.ballot (part w k.actor) (own_events k.actor b.history)) (sym goes.opening)
-    ∙ ap (λ l. local_part k.opening.ballot (part k.opening k.actor) (own_events k.actor l)) goes.history
-    ∙ ap (λ l. local_part k.opening.ballot (part k.opening k.actor) l) (filter-append (λ (p : Event × Effect). is_own k.actor p.0) k.seen more)
-    ∙ local-append k.opening.ballot (part k.opening k.actor) (own_of k) (own_events k.actor more)
+    ∙ ap (λ w. local_part w.ballots (part w k.actor) (own_events k.actor b.history)) (sym goes.opening)
+    ∙ ap (λ l. local_part k.opening.ballots (part k.opening k.actor) (own_events k.actor l)) goes.history
+    ∙ ap (λ l. local_part k.opening.ballots (part k.opening k.actor) l) (filter-append (λ (p : Event × Effect). is_own k.actor p.0) k.seen more)
+    ∙ local-append k.opening.ballots (part k.opening k.actor) (own_of k) (own_events k.actor more)
 
 pub stays : PartsAreLocal → PartsStayInside → (b : BookValue) (k : BerthValue) (more : List (Event × Effect)) (c : ℕ) (t : Ticket) → GoesOn b k more → k.actor ≡ actor.Client c → inside_ticket (own_part k) ≡ Some t → HasNoEnd (own_events k.actor more) → ticket_inside c b.world ≡ Some t
 stays local law b k more c t goes is inside all =
     ticket_of_actor b.world k.actor c is
     ∙ ap inside_ticket (part_after b k more local goes)
-    ∙ law k.opening.ballot (own_part k) t (own_events k.actor more) inside all
+    ∙ law k.opening.ballots (own_part k) t (own_events k.actor more) inside all
 
 pub tells : (b : BookValue) (k : BerthValue) (c : ℕ) → Known b k → k.actor ≡ actor.Client c → ticket_inside c b.world ≡ inside_ticket (own_part k)
 tells b k c known is = ticket_of_actor b.world k.actor c is ∙ ap inside_ticket known.part

@@ -52,7 +52,7 @@ own_of k = own_events k.actor k.seen
 
 -- the actor's part of the world, as the berth's own list tells it
 abbrev pub own_part : BerthValue → Part
-own_part k = local_part k.opening.ballot (part k.opening k.actor) (own_of k)
+own_part k = local_part k.opening.ballots (part k.opening k.actor) (own_of k)
 
 -- What is known of a book and a berth of it: the history is a run from the opening and leaves the book's
 -- world; what the berth has seen begins it; the actor's events in it are the berth's own; they agree on
@@ -92,7 +92,7 @@ pub record IsLogged (b : BookValue) (k : BerthValue) (e : Event) (done : Effect)
   pub book : b' ≡ longer b e done b'.world
   pub berth : k' ≡ sees b' k
 
--- the event can't happen now: 601 to 611, and not that the list of messages is full or want of memory
+-- the event can't happen now: 601 to 611 or 614, and not that the list of messages is full or want of memory
 abbrev pub IsOfEvent : StepFault → Type 0
 IsOfEvent fault.SentListFull = ⊥
 IsOfEvent fault.Memory = ⊥
@@ -107,6 +107,7 @@ IsOfEvent fault.NotAddressed = Unit {0}
 IsOfEvent fault.NoQuorum = Unit {0}
 IsOfEvent fault.AttemptsSpent = Unit {0}
 IsOfEvent fault.NothingTried = Unit {0}
+IsOfEvent fault.NoSuchPlace = Unit {0}
 
 -- The event is no step, for this reason. It is the one that the berth's own list gives or, where that
 -- gives none, the list of messages'. The berth has seen all of the history, and nothing else changed.
@@ -114,7 +115,7 @@ pub record IsNoStep (f : StepFault) (b : BookValue) (k : BerthValue) (e : Event)
   pub of_event : IsOfEvent f
   pub known : Known b k
   pub refused : step b.world e ≡ Err f
-  pub own : IsLocalRefusal e (own_refusal b.opening.ballot e (own_part k)) (Some f)
+  pub own : IsLocalRefusal e (own_refusal b.opening.ballots e (own_part k)) (Some f)
   pub book : b' ≡ b
   pub berth : k' ≡ sees b k
 
@@ -142,7 +143,7 @@ IsRefused (bf.NotAStep f) b k e b' k' = MayLog b k e × (length b.history < MAX_
 -- 1 for an Enter, else 0
 abbrev pub enters_by : Event → ℕ
 enters_by (event.Enter c) = 1
-enters_by (event.Begin c m x) = 0
+enters_by (event.Begin c m x place) = 0
 enters_by (event.Try who) = 0
 enters_by (event.Kept who) = 0
 enters_by (event.SayTo c n) = 0

@@ -164,10 +164,13 @@ impl Book {
     ///
     /// The errors: `Write` (817) where the writer fails or takes nothing, `Memory` (818) where memory was
     /// refused. Then a beginning of the journal was written.
+    #[tactic(auto, using(crate::proofs::Histories::few_ballots))]
     pub fn write_journal<W: Write>(&self, alloc: Global, writer: &mut W) -> Result<(), JournalFault>
         ensures text { Puts (W.contents writer.old) (W.contents writer.new) (history_text self.now.history) result }
         ensures recorded { OnOk result (IsRecorded self.now.opening self.now.history self.now.world) }
     {
+        self.world.soundness();
+        locality();
         write_history(alloc, self.history.as_slice(), writer)
     }
 
@@ -261,7 +264,8 @@ impl Book {
             | StepFault::NotAddressed
             | StepFault::NoQuorum
             | StepFault::AttemptsSpent
-            | StepFault::NothingTried => {
+            | StepFault::NothingTried
+            | StepFault::NoSuchPlace => {
                 self.tell(berth, event, fault);
                 BookFault::NotAStep(fault)
             }

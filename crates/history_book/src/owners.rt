@@ -14,7 +14,7 @@ fn whose(event: Event) -> Actor
     ensures { result ≡ actor_of event }
 {
     match event {
-        Event::Begin(c, _, _) => Actor::Client(c),
+        Event::Begin(c, _, _, _) => Actor::Client(c),
         Event::Try(who) => who,
         Event::Kept(who) => who,
         Event::SayTo(c, _) => Actor::Client(c),

@@ -12,7 +12,7 @@ use Rattle.history_check.proofs.LineLaws.{bind_ok, bound, ok_same, one_spelling}
 use Rattle.history_check.proofs.WordFacts.{never_ok}
 
 among : (e : Event) → IsAmong (command_of (line.Event e)) event_commands
-among (event.Begin c m x) = inl refl
+among (event.Begin c m x place) = inl refl
 among (event.Try who) = inr (inl refl)
 among (event.Kept who) = inr (inr (inl refl))
 among (event.SayTo c n) = inr (inr (inr (inl refl)))

@@ -1,6 +1,7 @@
 -- A line says something exactly where it is the one text of it.
-use Rattle.std.proofs.Common.{◌≡◌, inl, inr, ◌↔◌, ℕ, zero, suc, ◌+◌, ◌≤◌, Bool, true, false, cond, nat_le, nat_lt, List, [], ◌∷◌, ◌++◌, length, Result, Ok, Err, refl, sym, ap, subst, ◌∙◌, arith}
+use Rattle.std.proofs.Common.{◌≡◌, inl, inr, ◌↔◌, ℕ, zero, suc, ◌+◌, ◌≤◌, Bool, true, false, cond, not, ◌&&◌, nat_le, nat_lt, List, [], ◌∷◌, ◌++◌, length, Option, Some, Result, Ok, Err, refl, sym, ap, subst, ◌∙◌, arith}
 use Rattle.std.specs.List.{slice_split, onto_first, join_with_byte}
+use Rattle.std.specs.Option.{is_some, ok_or}
 use Rattle.std.specs.Str.{bytes_eq}
 use Rattle.std.proofs.lemmas.Bool.Decides.{nat_tests}
 use Rattle.std.proofs.lemmas.List.{length-append}
@@ -16,9 +17,9 @@ use Rattle.history_check.specs.declared.lines.Line.TheVariants as line
 use Rattle.history_check.specs.declared.lines.Query.TheVariants as query
 use Rattle.history_check.specs.declared.words.TheConstants.{MAX_LINE_LEN}
 use Rattle.history_check.specs.Commands.{word_of, named}
-use Rattle.history_check.specs.Lines.{◌>>=◌, Kind, kinds_of, Arguments, value_in, value_text, argument_texts, parts_text, text_of, command_of, AreValues, IsInRange, is_space, words, exactly, values_in, arguments_in, given, said_by, words_say, line_of}
+use Rattle.history_check.specs.Lines.{◌>>=◌, Kind, kinds_of, Value, Arguments, left_out, value_in, value_texts, argument_texts, parts_text, text_of, command_of, IsValue, AreValues, IsInRange, is_space, words, between, least_words, values_in, arguments_in, given, said_by, words_say, line_of}
 use Rattle.history_check.specs.Laws.{IsAmong}
-use Rattle.history_check.proofs.WordFacts.{never_ok, at_most, value_is, value_says, Plain, plain_value, short_value}
+use Rattle.history_check.proofs.WordFacts.{never_ok, was_some, at_most, value_is, left_is, spelled_by, width, IsSpelledBy, IsGoodWord, Plain}
 
 pub bind_ok : {A B : Type 0} (r : Result A LineFault) (f : A → Result B LineFault) (y : B) → (r >>= f) ≡ Ok y → (x : A) × (r ≡ Ok x) × (f x ≡ Ok y)
 bind_ok (Ok x) f y h = (x, refl, h)
@@ -86,34 +87,46 @@ finds [] c h = absurd h
 finds (d ∷ ds) c h = found_at (bytes_eq (word_of c) (word_of d)) c d ds refl h (finds ds c)
 
 -- From words to arguments.
-exactly_is : (n : ℕ) (ws us : List (List ℕ)) → exactly n ws ≡ Ok us → ws ≡ us
-exactly_is zero [] us h = ok_same {A = List (List ℕ)} [] us h
-exactly_is zero (w ∷ ws) us h = never_ok fault.Words us h
-exactly_is (suc n) [] us h = never_ok fault.Words us h
-exactly_is (suc n) (w ∷ ws) us h =
-    let (rest, e, g) = bind_ok (exactly n ws) (λ (vs : List (List ℕ)). Ok (w ∷ vs)) us h in
-    ap (λ (vs : List (List ℕ)). w ∷ vs) (exactly_is n ws rest e) ∙ ok_same (w ∷ rest) us g
+one_more : (w : List ℕ) (ws us : List (List ℕ)) (r : Result (List (List ℕ)) LineFault) → ((vs : List (List ℕ)) → r ≡ Ok vs → ws ≡ vs) → (r >>= (λ (vs : List (List ℕ)). Ok (w ∷ vs))) ≡ Ok us → w ∷ ws ≡ us
+one_more w ws us r same h =
+    let (rest, e, g) = bind_ok r (λ (vs : List (List ℕ)). Ok (w ∷ vs)) us h in
+    ap (λ (vs : List (List ℕ)). w ∷ vs) (same rest e) ∙ ok_same (w ∷ rest) us g
+
+between_is : (least most : ℕ) (ws us : List (List ℕ)) → between least most ws ≡ Ok us → ws ≡ us
+between_is zero most [] us h = ok_same {A = List (List ℕ)} [] us h
+between_is (suc least) most [] us h = never_ok fault.Words us h
+between_is zero zero (w ∷ ws) us h = never_ok fault.Words us h
+between_is zero (suc most) (w ∷ ws) us h = one_more w ws us (between zero most ws) (between_is zero most ws) h
+between_is (suc least) zero (w ∷ ws) us h = never_ok fault.Words us h
+between_is (suc least) (suc most) (w ∷ ws) us h = one_more w ws us (between least most ws) (between_is least most ws) h
 
 abbrev pub Spell : (ks : List Kind) → List (List ℕ) → Arguments ks → Type 0
 Spell ks ws a = (ws ≡ argument_texts ks a) × AreValues ks a
 
+-- the words of a first value and of the others
+both_spell : (k : Kind) (ks : List Kind) (v ws : List (List ℕ)) (x : Value k) (xs : Arguments ks) → (v ≡ value_texts k x) × IsValue k x → Spell ks ws xs → Spell (k ∷ ks) (v ++ ws) (x, xs)
+both_spell k ks v ws x xs first others =
+    (ap (λ (us : List (List ℕ)). us ++ ws) first.0 ∙ ap (λ (us : List (List ℕ)). value_texts k x ++ us) others.0, (first.1, others.1))
+
 values_are : (ks : List Kind) (ws : List (List ℕ)) (a : Arguments ks) → values_in ks ws ≡ Ok a → Spell ks ws a
 values_are [] [] a h = (refl, tt)
 values_are [] (w ∷ ws) a h = never_ok fault.Words a h
-values_are (k ∷ ks) [] a h = never_ok fault.Words a h
+values_are (k ∷ ks) [] a h =
+    let (x, e, h1) = bind_ok (ok_or (left_out k) fault.Words) (λ x. values_in ks [] >>= (λ xs. Ok (x, xs))) a h in
+    let (xs, g, h2) = bind_ok (values_in ks []) (λ xs. Ok (x, xs)) a h1 in
+    subst (λ (b : Arguments (k ∷ ks)). Spell (k ∷ ks) [] b) (ok_same {A = Arguments (k ∷ ks)} (x, xs) a h2)
+    (both_spell k ks [] [] x xs (left_is k x (was_some (left_out k) fault.Words x e)) (values_are ks [] xs g))
 values_are (k ∷ ks) (w ∷ ws) a h =
     let (x, e, h1) = bind_ok (value_in k w) (λ x. values_in ks ws >>= (λ xs. Ok (x, xs))) a h in
     let (xs, g, h2) = bind_ok (values_in ks ws) (λ xs. Ok (x, xs)) a h1 in
-    let first = value_is k w x e in
-    let others = values_are ks ws xs g in
     subst (λ (b : Arguments (k ∷ ks)). Spell (k ∷ ks) (w ∷ ws) b) (ok_same {A = Arguments (k ∷ ks)} (x, xs) a h2)
-    (ap (λ (v : List ℕ). v ∷ ws) first.0 ∙ ap (λ (vs : List (List ℕ)). value_text k x ∷ vs) others.0, (first.1, others.1))
+    (both_spell k ks (w ∷ []) ws x xs (value_is k w x e) (values_are ks ws xs g))
 
 pub arguments_are : (ks : List Kind) (ws : List (List ℕ)) (a : Arguments ks) → arguments_in ks ws ≡ Ok a → Spell ks ws a
 arguments_are ks ws a h =
-    let (us, e, g) = bind_ok (exactly (length ks) ws) (λ us. values_in ks us) a h in
+    let (us, e, g) = bind_ok (between (least_words ks) (length ks) ws) (λ us. values_in ks us) a h in
     let s = values_are ks us a g in
-    (exactly_is (length ks) ws us e ∙ s.0, s.1)
+    (between_is (least_words ks) (length ks) ws us e ∙ s.0, s.1)
 
 -- What is said, taken apart, is what said it.
 abbrev IsSaid : Command → List (List ℕ) → Line → Type 0
@@ -127,7 +140,7 @@ row c says text range same ws l h =
     subst (λ (m : Line). IsSaid c ws m) (ok_same (says a) l g) (ap (λ (vs : List (List ℕ)). joined (word_of c ∷ vs)) s.0 ∙ text a, range a s.1, same a)
 
 said_is : (c : Command) (ws : List (List ℕ)) (l : Line) → said_by c ws ≡ Ok l → IsSaid c ws l
-said_is command.Begin ws l h = row command.Begin (λ a. line.Event (event.Begin a.0 a.1.0 a.1.1.0)) (λ a. refl) (λ a v. v) (λ a. refl) ws l h
+said_is command.Begin ws l h = row command.Begin (λ a. line.Event (event.Begin a.0 a.1.0 a.1.1.0 a.1.1.1.0)) (λ a. refl) (λ a v. v) (λ a. refl) ws l h
 said_is command.Try ws l h = row command.Try (λ a. line.Event (event.Try a.0)) (λ a. refl) (λ a v. v) (λ a. refl) ws l h
 said_is command.Kept ws l h = row command.Kept (λ a. line.Event (event.Kept a.0)) (λ a. refl) (λ a v. v) (λ a. refl) ws l h
 said_is command.SayTo ws l h = row command.SayTo (λ a. line.Event (event.SayTo a.0 a.1.0)) (λ a. refl) (λ a v. v) (λ a. refl) ws l h
@@ -172,40 +185,128 @@ split_last : (w : List ℕ) → Plain w → slice_split is_space w ≡ w ∷ []
 split_last [] h = refl
 split_last (b ∷ bs) h = slice_split-cons_no is_space b bs h.0 ∙ ap (onto_first b) (split_last bs h.1)
 
-pub its_words : (w : List ℕ) (ks : List Kind) (a : Arguments ks) → Plain w → AreValues ks a → words (joined (w ∷ argument_texts ks a)) ≡ w ∷ argument_texts ks a
-its_words w [] a h v = split_last w h
-its_words w (k ∷ ks) a h v =
-    split_here w (joined (argument_texts (k ∷ ks) a)) h ∙ ap (λ (ws : List (List ℕ)). w ∷ ws) (its_words (value_text k a.0) ks a.1 (plain_value k a.0 v.0) v.1)
+-- no word has a space
+abbrev pub ArePlain : List (List ℕ) → Type 0
+ArePlain [] = Unit {0}
+ArePlain (w ∷ ws) = Plain w × ArePlain ws
 
-adds_up : (whole first rest next more : ℕ) → whole ≡ first + suc rest → rest ≤ next + more → next ≤ 32 → whole ≤ first + (33 + more)
-adds_up whole first rest next more e f g = omega arith
+pub its_words : (w : List ℕ) (ws : List (List ℕ)) → Plain w → ArePlain ws → words (joined (w ∷ ws)) ≡ w ∷ ws
+its_words w [] h hs = split_last w h
+its_words w (v ∷ vs) h hs = split_here w (joined (v ∷ vs)) h ∙ ap (λ (ws : List (List ℕ)). w ∷ ws) (its_words v vs hs.0 hs.1)
+
+-- how long words are, each with a space before it
+abbrev pub spaced : List (List ℕ) → ℕ
+spaced [] = 0
+spaced (w ∷ ws) = suc (length w + spaced ws)
+
+pub its_length : (w : List ℕ) (ws : List (List ℕ)) → length (joined (w ∷ ws)) ≡ length w + spaced ws
+its_length w [] = omega arith
+its_length w (v ∷ vs) =
+    let more : length (joined (v ∷ vs)) ≡ length v + spaced vs = its_length v vs in
+    let whole : length (w ++ 32 ∷ joined (v ∷ vs)) ≡ length w + suc (length (joined (v ∷ vs))) = length-append w (32 ∷ joined (v ∷ vs)) in
+    omega (arith, whole, more)
 
 -- how long the arguments and the spaces before them are at most
 abbrev pub room : List Kind → ℕ
 room [] = 0
-room (k ∷ ks) = 33 + room ks
+room (k ∷ ks) = suc (width k + room ks)
 
-pub its_length : (w : List ℕ) (ks : List Kind) (a : Arguments ks) → AreValues ks a → length (joined (w ∷ argument_texts ks a)) ≤ length w + room ks
-its_length w [] a v = omega arith
-its_length w (k ∷ ks) a v =
-    let rest = joined (value_text k a.0 ∷ argument_texts ks a.1) in
-    let more : length rest ≤ length (value_text k a.0) + room ks = its_length (value_text k a.0) ks a.1 v.1 in
-    let few : length (value_text k a.0) ≤ 32 = short_value k a.0 v.0 in
-    let whole : length (w ++ 32 ∷ rest) ≡ length w + suc (length rest) = length-append w (32 ∷ rest) in
-    adds_up (length (w ++ 32 ∷ rest)) (length w) (length rest) (length (value_text k a.0)) (room ks) whole more few
+-- Words that have no spaces, and are short.
+record AreGood (ws : List (List ℕ)) (most : ℕ) : Type 0 where
+  plain : ArePlain ws
+  short : spaced ws ≤ most
 
-as_many : (ks : List Kind) (a : Arguments ks) → exactly (length ks) (argument_texts ks a) ≡ Ok (argument_texts ks a)
-as_many [] a = refl
-as_many (k ∷ ks) a = bound (exactly (length ks) (argument_texts ks a.1)) (λ (us : List (List ℕ)). Ok (value_text k a.0 ∷ us)) (argument_texts ks a.1) (Ok (value_text k a.0 ∷ argument_texts ks a.1)) (as_many ks a.1) refl
+good_value : (k : Kind) (ks : List Kind) (x : Value k) (ws : List (List ℕ)) → IsSpelledBy k x → AreGood ws (room ks) → AreGood (value_texts k x ++ ws) (room (k ∷ ks))
+good_value k ks x ws (inl none) h =
+    subst (λ (vs : List (List ℕ)). AreGood (vs ++ ws) (room (k ∷ ks))) (sym none.0)
+    (record { plain = h.plain; short = omega (arith, h.short) })
+good_value k ks x ws (inr (w, one, good)) h =
+    subst (λ (vs : List (List ℕ)). AreGood (vs ++ ws) (room (k ∷ ks))) (sym one)
+    (record { plain = (good.plain, h.plain); short = omega (arith, h.short, good.short) })
 
-values_say : (ks : List Kind) (a : Arguments ks) → AreValues ks a → values_in ks (argument_texts ks a) ≡ Ok a
-values_say [] a v = refl
-values_say (k ∷ ks) a v =
-    bound (value_in k (value_text k a.0)) (λ x. values_in ks (argument_texts ks a.1) >>= (λ xs. Ok (x, xs))) a.0 (Ok a) (value_says k a.0 v.0)
-    (bound (values_in ks (argument_texts ks a.1)) (λ xs. Ok (a.0, xs)) a.1 (Ok a) (values_say ks a.1 v.1) refl)
+are_good : (ks : List Kind) (a : Arguments ks) → AreValues ks a → AreGood (argument_texts ks a) (room ks)
+are_good [] a v = record { plain = tt; short = omega arith }
+are_good (k ∷ ks) a v = good_value k ks a.0 (argument_texts ks a.1) (spelled_by k a.0 v.0) (are_good ks a.1 v.1)
 
-pub arguments_say : (ks : List Kind) (a : Arguments ks) → AreValues ks a → arguments_in ks (argument_texts ks a) ≡ Ok a
-arguments_say ks a v = bound (exactly (length ks) (argument_texts ks a)) (λ us. values_in ks us) (argument_texts ks a) (Ok a) (as_many ks a) (values_say ks a v)
+pub plain_arguments : (ks : List Kind) (a : Arguments ks) → AreValues ks a → ArePlain (argument_texts ks a)
+plain_arguments ks a v = (are_good ks a v).plain
+
+pub short_arguments : (w : List ℕ) (ks : List Kind) (a : Arguments ks) → AreValues ks a → length (joined (w ∷ argument_texts ks a)) ≤ length w + room ks
+short_arguments w ks a v =
+    let whole : length (joined (w ∷ argument_texts ks a)) ≡ length w + spaced (argument_texts ks a) = its_length w (argument_texts ks a) in
+    let short : spaced (argument_texts ks a) ≤ room ks = (are_good ks a v).short in
+    omega (arith, whole, short)
+
+-- what may be left out stands last
+abbrev pub lacks_last : List Kind → Bool
+lacks_last [] = true
+lacks_last (k ∷ []) = true
+lacks_last (k ∷ j ∷ ks) = not (is_some (left_out k)) && lacks_last (j ∷ ks)
+
+never_left : (k : Kind) (x : Value k) (rest : Bool) {P : Type 0} → (not (is_some (left_out k)) && rest) ≡ true → left_out k ≡ Some x → P
+never_left k x rest h e = absurd (let clash : false ≡ true = sym (ap (λ o. not (is_some o) && rest) e) ∙ h in cc)
+
+has_word : (b rest : Bool) → (not b && rest) ≡ true → (b ≡ false) × (rest ≡ true)
+has_word true rest h = absurd (let clash : false ≡ true = h in cc)
+has_word false rest h = (refl, h)
+
+-- there are as many words as there may be
+abbrev AsMany : List Kind → List (List ℕ) → Type 0
+AsMany ks ws = between (least_words ks) (length ks) ws ≡ Ok ws
+
+one_or_none : (b : Bool) (w : List ℕ) → between (cond b 0 1) 1 (w ∷ []) ≡ Ok (w ∷ [])
+one_or_none true w = refl
+one_or_none false w = refl
+
+last_counts : (k : Kind) (x : Value k) → IsSpelledBy k x → AsMany (k ∷ []) (value_texts k x ++ [])
+last_counts k x (inl none) =
+    subst (λ (vs : List (List ℕ)). AsMany (k ∷ []) (vs ++ [])) (sym none.0)
+    (ap (λ (b : Bool). between (cond b 0 1) 1 []) (ap is_some none.1))
+last_counts k x (inr (w, one, good)) = subst (λ (vs : List (List ℕ)). AsMany (k ∷ []) (vs ++ [])) (sym one) (one_or_none (is_some (left_out k)) w)
+
+first_counts : (k : Kind) (ks : List Kind) (x : Value k) (ws : List (List ℕ)) (rest : Bool) → (not (is_some (left_out k)) && rest) ≡ true → IsSpelledBy k x → AsMany ks ws → AsMany (k ∷ ks) (value_texts k x ++ ws)
+first_counts k ks x ws rest l (inl none) h = never_left k x rest l none.1
+first_counts k ks x ws rest l (inr (w, one, good)) h =
+    subst (λ (vs : List (List ℕ)). AsMany (k ∷ ks) (vs ++ ws)) (sym one)
+    (ap (λ (b : Bool). between (cond b (least_words ks) (suc (least_words ks))) (suc (length ks)) (w ∷ ws)) (has_word (is_some (left_out k)) rest l).0
+    ∙ bound (between (least_words ks) (length ks) ws) (λ (us : List (List ℕ)). Ok (w ∷ us)) ws (Ok (w ∷ ws)) h refl)
+
+as_many : (ks : List Kind) (a : Arguments ks) → lacks_last ks ≡ true → AreValues ks a → AsMany ks (argument_texts ks a)
+as_many [] a l v = refl
+as_many (k ∷ []) a l v = last_counts k a.0 (spelled_by k a.0 v.0)
+as_many (k ∷ j ∷ ks) a l v =
+    first_counts k (j ∷ ks) a.0 (argument_texts (j ∷ ks) a.1) (lacks_last (j ∷ ks)) l (spelled_by k a.0 v.0)
+    (as_many (j ∷ ks) a.1 (has_word (is_some (left_out k)) (lacks_last (j ∷ ks)) l).1 v.1)
+
+-- words that are read as the arguments
+abbrev Say : (ks : List Kind) → List (List ℕ) → Arguments ks → Type 0
+Say ks ws a = values_in ks ws ≡ Ok a
+
+word_says : (k : Kind) (ks : List Kind) (w : List ℕ) (ws : List (List ℕ)) (x : Value k) (xs : Arguments ks) → IsGoodWord k w x → Say ks ws xs → Say (k ∷ ks) (w ∷ ws) (x, xs)
+word_says k ks w ws x xs good h =
+    bound (value_in k w) (λ y. values_in ks ws >>= (λ ys. Ok (y, ys))) x (Ok (x, xs)) good.says
+    (bound (values_in ks ws) (λ ys. Ok (x, ys)) xs (Ok (x, xs)) h refl)
+
+last_says : (k : Kind) (x : Value k) → IsSpelledBy k x → Say (k ∷ []) (value_texts k x ++ []) (x, tt)
+last_says k x (inl none) =
+    subst (λ (vs : List (List ℕ)). Say (k ∷ []) (vs ++ []) (x, tt)) (sym none.0)
+    (ap (λ (o : Option (Value k)). ok_or o fault.Words >>= (λ y. Ok (y, tt))) none.1)
+last_says k x (inr (w, one, good)) = subst (λ (vs : List (List ℕ)). Say (k ∷ []) (vs ++ []) (x, tt)) (sym one) (word_says k [] w [] x tt good refl)
+
+first_says : (k : Kind) (ks : List Kind) (x : Value k) (xs : Arguments ks) (ws : List (List ℕ)) (rest : Bool) → (not (is_some (left_out k)) && rest) ≡ true → IsSpelledBy k x → Say ks ws xs → Say (k ∷ ks) (value_texts k x ++ ws) (x, xs)
+first_says k ks x xs ws rest l (inl none) h = never_left k x rest l none.1
+first_says k ks x xs ws rest l (inr (w, one, good)) h = subst (λ (vs : List (List ℕ)). Say (k ∷ ks) (vs ++ ws) (x, xs)) (sym one) (word_says k ks w ws x xs good h)
+
+values_say : (ks : List Kind) (a : Arguments ks) → lacks_last ks ≡ true → AreValues ks a → Say ks (argument_texts ks a) a
+values_say [] a l v = refl
+values_say (k ∷ []) a l v = last_says k a.0 (spelled_by k a.0 v.0)
+values_say (k ∷ j ∷ ks) a l v =
+    first_says k (j ∷ ks) a.0 a.1 (argument_texts (j ∷ ks) a.1) (lacks_last (j ∷ ks)) l (spelled_by k a.0 v.0)
+    (values_say (j ∷ ks) a.1 (has_word (is_some (left_out k)) (lacks_last (j ∷ ks)) l).1 v.1)
+
+pub arguments_say : (ks : List Kind) (a : Arguments ks) → lacks_last ks ≡ true → AreValues ks a → arguments_in ks (argument_texts ks a) ≡ Ok a
+arguments_say ks a l v =
+    bound (between (least_words ks) (length ks) (argument_texts ks a)) (λ us. values_in ks us) (argument_texts ks a) (Ok a) (as_many ks a l v) (values_say ks a l v)
 
 plain_word : (c : Command) → Plain (word_of c)
 plain_word command.Begin = (refl, (refl, (refl, (refl, (refl, tt)))))
@@ -239,6 +340,22 @@ few_words command.Inside = refl
 few_words command.Waiting = refl
 few_words command.Holding = refl
 
+the_last : (c : Command) → lacks_last (kinds_of c) ≡ true
+the_last command.Begin = refl
+the_last command.Try = refl
+the_last command.Kept = refl
+the_last command.SayTo = refl
+the_last command.Say = refl
+the_last command.Take = refl
+the_last command.Hear = refl
+the_last command.Enter = refl
+the_last command.Leave = refl
+the_last command.Fall = refl
+the_last command.Rise = refl
+the_last command.Inside = refl
+the_last command.Waiting = refl
+the_last command.Holding = refl
+
 pub if_short : {A : Type 0} (n : ℕ) (x y : A) → n ≤ 128 → cond (nat_lt MAX_LINE_LEN n) x y ≡ y
 if_short n x y h = let t : nat_lt MAX_LINE_LEN n ≡ false = grind (arith, nat_tests) in ap (λ (b : Bool). cond b x y) t
 
@@ -250,16 +367,16 @@ unfolding line_of
 back cs c says same a v there =
     let text = parts_text c a in
     let ws = argument_texts (kinds_of c) a in
-    let few : length text ≤ length (word_of c) + room (kinds_of c) = its_length (word_of c) (kinds_of c) a v in
+    let few : length text ≤ length (word_of c) + room (kinds_of c) = short_arguments (word_of c) (kinds_of c) a v in
     let most : length (word_of c) + room (kinds_of c) ≤ 128 = at_most (length (word_of c) + room (kinds_of c)) 128 (few_words c) in
     let short : length text ≤ 128 = no_longer (length text) (length (word_of c) + room (kinds_of c)) few most in
     if_short (length text) (Err fault.Words) (words_say cs (words text)) short
-    ∙ ap (words_say cs) (its_words (word_of c) (kinds_of c) a (plain_word c) v)
+    ∙ ap (words_say cs) (its_words (word_of c) ws (plain_word c) (plain_arguments (kinds_of c) a v))
     ∙ bound (named cs (word_of c)) (λ d. said_by d ws) c (Ok (says a)) (finds cs c there)
-    (same ws ∙ bound (arguments_in (kinds_of c) ws) (λ b. Ok (says b)) a (Ok (says a)) (arguments_say (kinds_of c) a v) refl)
+    (same ws ∙ bound (arguments_in (kinds_of c) ws) (λ b. Ok (says b)) a (Ok (says a)) (arguments_say (kinds_of c) a (the_last c) v) refl)
 
 what_is_written : (cs : List Command) (l : Line) → IsInRange l → IsAmong (command_of l) cs → line_of cs (text_of l) ≡ Ok l
-what_is_written cs (line.Event (event.Begin c m x)) v h = back cs command.Begin (λ a. line.Event (event.Begin a.0 a.1.0 a.1.1.0)) (λ ws. refl) (c, (m, (x, tt))) v h
+what_is_written cs (line.Event (event.Begin c m x place)) v h = back cs command.Begin (λ a. line.Event (event.Begin a.0 a.1.0 a.1.1.0 a.1.1.1.0)) (λ ws. refl) (c, (m, (x, (place, tt)))) v h
 what_is_written cs (line.Event (event.Try who)) v h = back cs command.Try (λ a. line.Event (event.Try a.0)) (λ ws. refl) (who, tt) v h
 what_is_written cs (line.Event (event.Kept who)) v h = back cs command.Kept (λ a. line.Event (event.Kept a.0)) (λ ws. refl) (who, tt) v h
 what_is_written cs (line.Event (event.SayTo c n)) v h = back cs command.SayTo (λ a. line.Event (event.SayTo a.0 a.1.0)) (λ ws. refl) (c, (n, tt)) v h

@@ -3,21 +3,20 @@ use Rattle.std.proofs.Common.{◌≡◌, ◌↔◌, ℕ, ◌≤◌, ◌+◌, Boo
 use Rattle.std.proofs.lemmas.Bool.Decides.{nat_tests}
 use Rattle.std.proofs.lemmas.List.Splits.{join_with_byte-slice_split}
 use Rattle.lock_messages.specs.declared.ids.TheConstants.{MAX_CLIENTS}
-use Rattle.lock_messages.specs.declared.tickets.Mode.{Mode}
 use Rattle.history_check.specs.declared.faults.LineFault.{LineFault}
 use Rattle.history_check.specs.declared.faults.LineFault.TheVariants as fault
 use Rattle.history_check.specs.declared.wishes.Wish.{Wish}
 use Rattle.history_check.specs.declared.words.TheConstants.{MAX_LINE_LEN}
-use Rattle.history_check.specs.Lines.{◌>>=◌, AClient, AMode, AName, Arguments, argument_texts, value_text, arguments_in, words, exactly, client_word, mode_word, name_word}
-use Rattle.history_check.specs.Wishes.{wish_kinds, wish_parts, wish_text, wish_among, wish_of, words_wish, client_among, IsWish}
-use Rattle.history_check.proofs.LineLaws.{bind_ok, bound, arguments_are, arguments_say, joined, its_words, its_length, if_short}
-use Rattle.history_check.proofs.WordFacts.{plain_value, short_value, value_is}
+use Rattle.history_check.specs.Lines.{◌>>=◌, AClient, Arguments, argument_texts, value_text, arguments_in, values_in, words, between, client_word}
+use Rattle.history_check.specs.Wishes.{use_kinds, wish_kinds, wish_parts, wished, wish_text, wish_among, wish_of, words_wish, client_among, IsWish}
+use Rattle.history_check.proofs.LineLaws.{bind_ok, bound, arguments_are, arguments_say, joined, its_words, plain_arguments, short_arguments, if_short}
+use Rattle.history_check.proofs.WordFacts.{short_client, plain_client, value_is}
 
-abbrev wished : Arguments wish_kinds → Wish
-wished a = record { client = a.0; mode = a.1.0; resource = a.1.1.0 }
+abbrev wish_with : Arguments wish_kinds → Wish
+wish_with a = wished a.0 a.1
 
 abbrev judged : List ℕ → Result Wish LineFault
-judged bytes = arguments_in wish_kinds (words bytes) >>= (λ a. Ok (wished a))
+judged bytes = arguments_in wish_kinds (words bytes) >>= (λ a. Ok (wish_with a))
 
 short_wish : (b : Bool) (r : Result Wish LineFault) (w : Wish) → cond b (Err fault.Words) r ≡ Ok w → r ≡ Ok w
 short_wish true r w h = let clash : Err fault.Words ≡ Ok w = h in absurd (cc)
@@ -38,23 +37,25 @@ no_more (Err e) is = refl
 among_all : (word : List ℕ) → client_among MAX_CLIENTS word ≡ client_word word
 among_all word = no_more (client_word word) (λ c h. fits c (value_is AClient word c h).1.1)
 
-three_values : (c : Result ℕ LineFault) (m : Result Mode LineFault) (x : Result (List ℕ) LineFault) →
-    (c >>= (λ client. m >>= (λ mode. x >>= (λ name. Ok (record { client = client; mode = mode; resource = name })))))
-    ≡ ((c >>= (λ v. (m >>= (λ u. (x >>= (λ t. Ok (t, tt))) >>= (λ s. Ok (u, s)))) >>= (λ s. Ok (v, s)))) >>= (λ a. Ok (wished a)))
-three_values (Err e) m x = refl
-three_values (Ok c) (Err e) x = refl
-three_values (Ok c) (Ok m) (Err e) = refl
-three_values (Ok c) (Ok m) (Ok x) = refl
+client_first : (c : Result ℕ LineFault) (r : Result (Arguments use_kinds) LineFault) →
+    (c >>= (λ client. r >>= (λ usage. Ok (wished client usage)))) ≡ ((c >>= (λ x. r >>= (λ xs. Ok (x, xs)))) >>= (λ a. Ok (wish_with a)))
+client_first (Err e) r = refl
+client_first (Ok c) (Err e) = refl
+client_first (Ok c) (Ok usage) = refl
+
+words_as_values : (ws : List (List ℕ)) → words_wish MAX_CLIENTS ws ≡ (values_in wish_kinds ws >>= (λ a. Ok (wish_with a)))
+words_as_values [] = refl
+words_as_values (c ∷ ws) =
+    ap (λ (r : Result ℕ LineFault). r >>= (λ client. values_in use_kinds ws >>= (λ usage. Ok (wished client usage)))) (among_all c)
+    ∙ client_first (client_word c) (values_in use_kinds ws)
+
+counted : (r : Result (List (List ℕ)) LineFault) → (r >>= (λ us. words_wish MAX_CLIENTS us)) ≡ ((r >>= (λ us. values_in wish_kinds us)) >>= (λ a. Ok (wish_with a)))
+counted (Ok ws) = words_as_values ws
+counted (Err e) = refl
 
 -- a wish among all clients that there can be is judged as the arguments of a line are
-as_arguments : (ws : List (List ℕ)) → (exactly 3 ws >>= (λ us. words_wish MAX_CLIENTS us)) ≡ (arguments_in wish_kinds ws >>= (λ a. Ok (wished a)))
-as_arguments [] = refl
-as_arguments (c ∷ []) = refl
-as_arguments (c ∷ m ∷ []) = refl
-as_arguments (c ∷ m ∷ x ∷ []) =
-    ap (λ (r : Result ℕ LineFault). r >>= (λ client. mode_word m >>= (λ mode. name_word x >>= (λ name. Ok (record { client = client; mode = mode; resource = name }))))) (among_all c)
-    ∙ three_values (client_word c) (mode_word m) (name_word x)
-as_arguments (c ∷ m ∷ x ∷ w ∷ ws) = refl
+as_arguments : (ws : List (List ℕ)) → (between 3 4 ws >>= (λ us. words_wish MAX_CLIENTS us)) ≡ (arguments_in wish_kinds ws >>= (λ a. Ok (wish_with a)))
+as_arguments ws = counted (between 3 4 ws)
 
 what_is_judged : (bytes : List ℕ) → wish_of bytes ≡ cond (nat_lt MAX_LINE_LEN (length bytes)) (Err fault.Words) (judged bytes)
 unfolding wish_among
@@ -62,22 +63,22 @@ what_is_judged bytes = ap (λ (r : Result Wish LineFault). cond (nat_lt MAX_LINE
 
 what_is_read : (bytes : List ℕ) (w : Wish) → wish_of bytes ≡ Ok w → Wishes bytes w
 what_is_read bytes w h =
-    let (a, ha, hw) = bind_ok (arguments_in wish_kinds (words bytes)) (λ a. Ok (wished a)) w (short_wish (nat_lt MAX_LINE_LEN (length bytes)) (judged bytes) w (sym (what_is_judged bytes) ∙ h)) in
+    let (a, ha, hw) = bind_ok (arguments_in wish_kinds (words bytes)) (λ a. Ok (wish_with a)) w (short_wish (nat_lt MAX_LINE_LEN (length bytes)) (judged bytes) w (sym (what_is_judged bytes) ∙ h)) in
     let s = arguments_are wish_kinds (words bytes) a ha in
-    subst (λ (v : Wish). Wishes bytes v) (let same : Ok (wished a) ≡ Ok w = hw in cc) (sym (join_with_byte-slice_split 32 bytes) ∙ ap joined s.0, s.1)
+    subst (λ (v : Wish). Wishes bytes v) (let same : Ok (wish_with a) ≡ Ok w = hw in cc) (sym (join_with_byte-slice_split 32 bytes) ∙ ap joined s.0, s.1)
 
 what_is_written : (w : Wish) → IsWish w → wish_of (wish_text w) ≡ Ok w
 what_is_written w v =
     let text = wish_text w in
-    let rest : Arguments (AMode ∷ AName ∷ []) = (w.mode, (w.resource, tt)) in
+    let rest : Arguments use_kinds = (w.mode, (w.resource, (w.place, tt))) in
     let first = value_text AClient w.client in
-    let few : length text ≤ length first + 66 = its_length first (AMode ∷ AName ∷ []) rest v.1 in
-    let some : length first ≤ 32 = short_value AClient w.client v.0 in
+    let few : length text ≤ length first + 51 = short_arguments first use_kinds rest v.1 in
+    let some : length first ≤ 8 = short_client w.client v.0 in
     let short : length text ≤ 128 = omega arith in
     what_is_judged text
     ∙ if_short (length text) (Err fault.Words) (judged text) short
-    ∙ ap (λ ws. arguments_in wish_kinds ws >>= (λ a. Ok (wished a))) (its_words first (AMode ∷ AName ∷ []) rest (plain_value AClient w.client v.0) v.1)
-    ∙ bound (arguments_in wish_kinds (argument_texts wish_kinds (wish_parts w))) (λ a. Ok (wished a)) (wish_parts w) (Ok w) (arguments_say wish_kinds (wish_parts w) v) refl
+    ∙ ap (λ ws. arguments_in wish_kinds ws >>= (λ a. Ok (wish_with a))) (its_words first (argument_texts use_kinds rest) (plain_client w.client v.0) (plain_arguments use_kinds rest v.1))
+    ∙ bound (arguments_in wish_kinds (argument_texts wish_kinds (wish_parts w))) (λ a. Ok (wish_with a)) (wish_parts w) (Ok w) (arguments_say wish_kinds (wish_parts w) refl v) refl
 
 pub wishes_once : (bytes : List ℕ) (w : Wish) → (wish_of bytes ≡ Ok w) ↔ ((bytes ≡ wish_text w) × IsWish w)
 wishes_once bytes w = (what_is_read bytes w, λ h. subst (λ (bs : List ℕ). wish_of bs ≡ Ok w) (sym h.0) (what_is_written w h.1))

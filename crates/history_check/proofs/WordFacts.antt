@@ -1,5 +1,5 @@
 -- Words and the values that they spell: each value in range has one word, which is read as it.
-use Rattle.std.proofs.Common.{◌≡◌, ◌↔◌, ℕ, ◌<◌, ◌≤◌, ◌^◌, Bool, true, false, cond, ◌&&◌, ◌==◌, nat_le, List, [], ◌∷◌, length, get_or, Option, Some, None, Result, Ok, Err, codes, refl, sym, ap, subst, ◌∙◌, arith, if◌then◌else◌}
+use Rattle.std.proofs.Common.{◌≡◌, ◌⊎◌, inl, inr, ◌↔◌, ℕ, ◌<◌, ◌≤◌, ◌^◌, Bool, true, false, cond, ◌&&◌, ◌==◌, nat_le, List, [], ◌∷◌, length, get_or, Option, Some, None, Result, Ok, Err, codes, refl, sym, ap, subst, ◌∙◌, arith, if◌then◌else◌}
 use Rattle.std.specs.List.{list_all}
 use Rattle.std.specs.Option.{ok_or}
 use Rattle.std.specs.Str.{bytes_eq}
@@ -14,14 +14,16 @@ use Rattle.lock_messages.specs.declared.ids.Actor.{Actor}
 use Rattle.lock_messages.specs.declared.ids.Actor.TheVariants as actor
 use Rattle.lock_messages.specs.declared.tickets.Mode.{Mode}
 use Rattle.lock_messages.specs.declared.tickets.Mode.TheVariants.{Read, Write}
+use Rattle.lock_messages.specs.Ids.{IsClient}
 use Rattle.lock_messages.specs.Names.{IsName, is_name_byte}
 use Rattle.lock_messages.specs.Texts.{actor_text, mode_text}
+use Rattle.vote_weights.specs.declared.lists.TheConstants.{MAX_BALLOTS}
 use Rattle.world_model.specs.declared.TheConstants.{MAX_MESSAGES}
 use Rattle.world_model.specs.declared.events.Age.{Age}
 use Rattle.world_model.specs.declared.events.Age.TheVariants.{Old, New}
 use Rattle.history_check.specs.declared.faults.LineFault.{LineFault}
 use Rattle.history_check.specs.declared.faults.LineFault.TheVariants as fault
-use Rattle.history_check.specs.Lines.{Kind, ANode, AClient, AnActor, ANumber, AName, AMode, AnAge, Value, is_space, spelled, lettered, either_of, node_word, client_word, actor_word, number_word, name_word, mode_word, age_word, age_text, value_in, value_text, IsValue, IsActor}
+use Rattle.history_check.specs.Lines.{Kind, ANode, AClient, AnActor, ANumber, AName, AMode, AnAge, APlace, Value, left_out, is_space, spelled, lettered, either_of, node_word, client_word, actor_word, number_word, name_word, mode_word, age_word, behind_first, place_word, age_text, value_in, value_text, value_texts, IsValue, IsActor, IsPlace}
 use Rattle.history_check.proofs.NumberFacts.{own, spelled_so}
 
 -- numbers
@@ -74,7 +76,7 @@ lettered_is letter most (b ∷ digits) n h =
     let (low, high, text) = spelled_is_text most digits n s in
     (ap (λ (k : ℕ). k ∷ digits) e ∙ ap (λ (ds : List ℕ). letter ∷ ds) (sym text), low, high)
 
-was_some : (o : Option ℕ) (e : LineFault) (n : ℕ) → ok_or o e ≡ Ok n → o ≡ Some n
+pub was_some : {A : Type 0} (o : Option A) (e : LineFault) (n : A) → ok_or o e ≡ Ok n → o ≡ Some n
 was_some None e n h = never_ok e n h
 was_some (Some m) e n h = cc
 
@@ -133,14 +135,47 @@ age_is w a h =
     pick {P = Spells AnAge w a} (bytes_eq w (codes "old")) Old a _ (λ t e. ((bytes_eq-Decides w (codes "old")).0 t ∙ ap age_text e, tt))
     (pick {P = Spells AnAge w a} (bytes_eq w (codes "new")) New a (Err fault.Word) (λ t e. ((bytes_eq-Decides w (codes "new")).0 t ∙ ap age_text e, tt)) (λ e. never_ok fault.Word a e)) h
 
-pub value_is : (k : Kind) (w : List ℕ) (x : Value k) → value_in k w ≡ Ok x → (w ≡ value_text k x) × IsValue k x
-value_is ANode w x h = node_is w x h
-value_is AClient w x h = client_is w x h
-value_is AnActor w x h = actor_at w (lettered 110 MAX_NODES w) (lettered 99 MAX_CLIENTS w) x refl refl h
-value_is ANumber w x h = number_is w x h
-value_is AName w x h = name_is w x h
-value_is AMode w x h = mode_is w x h
-value_is AnAge w x h = age_is w x h
+-- the word is the only one of the value
+abbrev pub IsItsWord : (k : Kind) → List ℕ → Value k → Type 0
+IsItsWord k w x = (w ∷ [] ≡ value_texts k x) × IsValue k x
+
+place_at : (w : List ℕ) (b : Bool) (q p : ℕ) → (q == 1) ≡ b → lettered 98 MAX_BALLOTS w ≡ Some q → cond b (Err fault.Number) (Ok q) ≡ Ok p → IsItsWord APlace w p
+place_at w true q p e f h = never_ok fault.Number p h
+place_at w false q p e f h =
+    let same : q ≡ p = (let s : Ok q ≡ Ok p = h in cc) in
+    let (text, low, high) = lettered_is 98 MAX_BALLOTS w q f in
+    subst (λ (n : ℕ). IsItsWord APlace w n) same
+    (ap (λ (v : List ℕ). v ∷ []) text ∙ sym (ap (λ (b : Bool). cond b [] (value_text APlace q ∷ [])) e), (low, high))
+
+place_is : (w : List ℕ) (o : Option ℕ) (p : ℕ) → lettered 98 MAX_BALLOTS w ≡ o → behind_first o ≡ Ok p → IsItsWord APlace w p
+place_is w None p f h = never_ok fault.Number p h
+place_is w (Some q) p f h = place_at w (q == 1) q p refl f h
+
+alone : (k : Kind) (w : List ℕ) (x : Value k) → value_text k x ∷ [] ≡ value_texts k x → Spells k w x → IsItsWord k w x
+alone k w x one h = (ap (λ (v : List ℕ). v ∷ []) h.0 ∙ one, h.1)
+
+pub value_is : (k : Kind) (w : List ℕ) (x : Value k) → value_in k w ≡ Ok x → IsItsWord k w x
+value_is ANode w x h = alone ANode w x refl (node_is w x h)
+value_is AClient w x h = alone AClient w x refl (client_is w x h)
+value_is AnActor w x h = alone AnActor w x refl (actor_at w (lettered 110 MAX_NODES w) (lettered 99 MAX_CLIENTS w) x refl refl h)
+value_is ANumber w x h = alone ANumber w x refl (number_is w x h)
+value_is AName w x h = alone AName w x refl (name_is w x h)
+value_is AMode w x h = alone AMode w x refl (mode_is w x h)
+value_is AnAge w x h = alone AnAge w x refl (age_is w x h)
+value_is APlace w x h = place_is w (lettered 98 MAX_BALLOTS w) x refl h
+
+-- a value whose word is left out
+pub left_is : (k : Kind) (x : Value k) → left_out k ≡ Some x → ([] ≡ value_texts k x) × IsValue k x
+left_is ANode x h = absurd (let clash : None ≡ Some x = h in cc)
+left_is AClient x h = absurd (let clash : None ≡ Some x = h in cc)
+left_is AnActor x h = absurd (let clash : None ≡ Some x = h in cc)
+left_is ANumber x h = absurd (let clash : None ≡ Some x = h in cc)
+left_is AName x h = absurd (let clash : None ≡ Some x = h in cc)
+left_is AMode x h = absurd (let clash : None ≡ Some x = h in cc)
+left_is AnAge x h = absurd (let clash : None ≡ Some x = h in cc)
+left_is APlace x h =
+    let same : 1 ≡ x = (let s : Some 1 ≡ Some x = h in cc) in
+    subst (λ (n : ℕ). ([] ≡ value_texts APlace n) × IsPlace n) same (refl, (omega arith, omega arith))
 
 -- from a value to its word
 actor_says : (who : Actor) → IsActor who → actor_word (actor_text who) ≡ Ok who
@@ -173,14 +208,8 @@ age_says : (a : Age) → age_word (age_text a) ≡ Ok a
 age_says Old = refl
 age_says New = refl
 
-pub value_says : (k : Kind) (x : Value k) → IsValue k x → value_in k (value_text k x) ≡ Ok x
-value_says ANode n h = ap (λ (o : Option ℕ). ok_or o fault.Actor) (text_is_spelled MAX_NODES n (omega arith) h.0 h.1)
-value_says AClient c h = ap (λ (o : Option ℕ). ok_or o fault.Actor) (text_is_spelled MAX_CLIENTS c (omega arith) h.0 h.1)
-value_says AnActor who h = actor_says who h
-value_says ANumber k h = ap (λ (o : Option ℕ). ok_or o fault.Number) (text_is_spelled MAX_MESSAGES k (omega arith) h.0 h.1)
-value_says AName x h = name_says x h
-value_says AMode m h = mode_says m
-value_says AnAge a h = age_says a
+place_says : (p : ℕ) → IsPlace p → (p == 1) ≡ false → place_word (value_text APlace p) ≡ Ok p
+place_says p h e = ap behind_first (text_is_spelled MAX_BALLOTS p (omega arith) h.0 h.1) ∙ ap (λ (b : Bool). cond b (Err fault.Number) (Ok p)) e
 
 -- Words have no spaces, and are short.
 abbrev pub Plain : List ℕ → Type 0
@@ -214,38 +243,96 @@ plain_age : (a : Age) → Plain (age_text a)
 plain_age Old = (refl, (refl, (refl, tt)))
 plain_age New = (refl, (refl, (refl, tt)))
 
-pub plain_value : (k : Kind) (x : Value k) → IsValue k x → Plain (value_text k x)
-plain_value ANode n h = (refl, plain_number n (omega (arith, h.1)))
-plain_value AClient c h = (refl, plain_number c (omega (arith, h.1)))
-plain_value AnActor who h = plain_actor who h
-plain_value ANumber k h = plain_number k (omega (arith, h.1))
-plain_value AName x h = plain_of is_name_byte refl x h.each
-plain_value AMode m h = plain_mode m
-plain_value AnAge a h = plain_age a
-
 short_number : (n : ℕ) → n ≤ 2000000 → length (decimal n) ≤ 7
 short_number n h = length-decimal-le 7 n (omega arith) (omega arith) (omega arith)
 
-short_behind : (b : ℕ) (bs : List ℕ) → length bs ≤ 7 → length (b ∷ bs) ≤ 32
+-- how long the word of such a value is at most
+abbrev pub width : Kind → ℕ
+width ANode = 8
+width AClient = 8
+width AnActor = 8
+width ANumber = 8
+width AName = 32
+width AMode = 8
+width AnAge = 8
+width APlace = 8
+
+short_behind : (b : ℕ) (bs : List ℕ) → length bs ≤ 7 → length (b ∷ bs) ≤ 8
 short_behind b bs h = omega arith
 
-short_actor : (who : Actor) → IsActor who → length (actor_text who) ≤ 32
+short_actor : (who : Actor) → IsActor who → length (actor_text who) ≤ 8
 short_actor (actor.Node n) h = short_behind 110 (decimal n) (short_number n (omega (arith, h.1)))
 short_actor (actor.Client c) h = short_behind 99 (decimal c) (short_number c (omega (arith, h.1)))
 
-short_mode : (m : Mode) → length (mode_text m) ≤ 32
-short_mode Read = at_most (length (mode_text Read)) 32 refl
-short_mode Write = at_most (length (mode_text Write)) 32 refl
+short_mode : (m : Mode) → length (mode_text m) ≤ 8
+short_mode Read = at_most (length (mode_text Read)) 8 refl
+short_mode Write = at_most (length (mode_text Write)) 8 refl
 
-short_age : (a : Age) → length (age_text a) ≤ 32
-short_age Old = at_most (length (age_text Old)) 32 refl
-short_age New = at_most (length (age_text New)) 32 refl
+short_age : (a : Age) → length (age_text a) ≤ 8
+short_age Old = at_most (length (age_text Old)) 8 refl
+short_age New = at_most (length (age_text New)) 8 refl
 
-pub short_value : (k : Kind) (x : Value k) → IsValue k x → length (value_text k x) ≤ 32
-short_value ANode n h = short_behind 110 (decimal n) (short_number n (omega (arith, h.1)))
-short_value AClient c h = short_behind 99 (decimal c) (short_number c (omega (arith, h.1)))
-short_value AnActor who h = short_actor who h
-short_value ANumber k h = let few : length (decimal k) ≤ 7 = short_number k (omega (arith, h.1)) in omega arith
-short_value AName x h = h.fits
-short_value AMode m h = short_mode m
-short_value AnAge a h = short_age a
+-- a word that has no space, is short, and is read as the value
+pub record IsGoodWord (k : Kind) (w : List ℕ) (x : Value k) : Type 0 where
+  pub says : value_in k w ≡ Ok x
+  pub plain : Plain w
+  pub short : length w ≤ width k
+
+-- a value has no word, and is what it is where that is left out; or one good word
+abbrev pub IsSpelledBy : (k : Kind) → Value k → Type 0
+IsSpelledBy k x = ((value_texts k x ≡ []) × (left_out k ≡ Some x)) ⊎ ((w : List ℕ) × (value_texts k x ≡ w ∷ []) × IsGoodWord k w x)
+
+number_word_is : (k : ℕ) → length (decimal k) ≤ 7 → length (decimal k) ≤ 8
+number_word_is k h = omega arith
+
+place_spelled : (p : ℕ) (b : Bool) → (p == 1) ≡ b → IsPlace p → IsSpelledBy APlace p
+place_spelled p true e h = inl (ap (λ (b : Bool). cond b [] (value_text APlace p ∷ [])) e, ap Some (sym (same_number p 1 e)))
+place_spelled p false e h =
+    inr (
+      value_text APlace p,
+      ap (λ (b : Bool). cond b [] (value_text APlace p ∷ [])) e,
+      record { says = place_says p h e; plain = (refl, plain_number p (omega (arith, h.1))); short = short_behind 98 (decimal p) (short_number p (omega (arith, h.1))) },
+    )
+
+pub plain_client : (c : ℕ) → IsClient c → Plain (value_text AClient c)
+plain_client c h = (refl, plain_number c (omega (arith, h.1)))
+
+pub short_client : (c : ℕ) → IsClient c → length (value_text AClient c) ≤ 8
+short_client c h = short_behind 99 (decimal c) (short_number c (omega (arith, h.1)))
+
+pub spelled_by : (k : Kind) (x : Value k) → IsValue k x → IsSpelledBy k x
+spelled_by ANode n h =
+    inr (
+      value_text ANode n,
+      refl,
+      record {
+        says = ap (λ (o : Option ℕ). ok_or o fault.Actor) (text_is_spelled MAX_NODES n (omega arith) h.0 h.1);
+        plain = (refl, plain_number n (omega (arith, h.1)));
+        short = short_behind 110 (decimal n) (short_number n (omega (arith, h.1)));
+      },
+    )
+spelled_by AClient c h =
+    inr (
+      value_text AClient c,
+      refl,
+      record {
+        says = ap (λ (o : Option ℕ). ok_or o fault.Actor) (text_is_spelled MAX_CLIENTS c (omega arith) h.0 h.1);
+        plain = plain_client c h;
+        short = short_client c h;
+      },
+    )
+spelled_by AnActor who h = inr (value_text AnActor who, refl, record { says = actor_says who h; plain = plain_actor who h; short = short_actor who h })
+spelled_by ANumber k h =
+    inr (
+      value_text ANumber k,
+      refl,
+      record {
+        says = ap (λ (o : Option ℕ). ok_or o fault.Number) (text_is_spelled MAX_MESSAGES k (omega arith) h.0 h.1);
+        plain = plain_number k (omega (arith, h.1));
+        short = number_word_is k (short_number k (omega (arith, h.1)));
+      },
+    )
+spelled_by AName x h = inr (value_text AName x, refl, record { says = name_says x h; plain = plain_of is_name_byte refl x h.each; short = h.fits })
+spelled_by AMode m h = inr (value_text AMode m, refl, record { says = mode_says m; plain = plain_mode m; short = short_mode m })
+spelled_by AnAge a h = inr (value_text AnAge a, refl, record { says = age_says a; plain = plain_age a; short = short_age a })
+spelled_by APlace p h = place_spelled p (p == 1) refl h

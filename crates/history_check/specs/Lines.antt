@@ -1,8 +1,8 @@
 -- The lines of scripts and journals: which line is which event or query, how each of these is
 -- written, and what is wrong with any other line.
-use Rattle.std.specs.Prelude.{ℕ, zero, suc, Bool, ◌&&◌, ◌==◌, ◌≤◌, nat_le, nat_lt, if◌then◌else◌, List, [], ◌∷◌, length, Option, Some, None, Result, Ok, Err, codes}
+use Rattle.std.specs.Prelude.{ℕ, zero, suc, Bool, ◌&&◌, ◌==◌, ◌≤◌, nat_le, nat_lt, if◌then◌else◌, List, [], ◌∷◌, ◌++◌, length, Option, Some, None, Result, Ok, Err, codes}
 use Rattle.std.specs.List.{slice_split, list_all, join_with_byte}
-use Rattle.std.specs.Option.{ok_or}
+use Rattle.std.specs.Option.{is_some, ok_or}
 use Rattle.std.specs.Fmt.{decimal}
 use Rattle.std.specs.Str.{bytes_eq}
 use Rattle.std.specs.Str.Parse.{digits_value}
@@ -15,6 +15,7 @@ use Rattle.lock_messages.specs.declared.tickets.Mode.TheVariants.{Read, Write}
 use Rattle.lock_messages.specs.Ids.{IsNode, IsClient}
 use Rattle.lock_messages.specs.Names.{IsName, is_name_byte}
 use Rattle.lock_messages.specs.Texts.{node_text, client_text, actor_text, mode_text}
+use Rattle.vote_weights.specs.declared.lists.TheConstants.{MAX_BALLOTS}
 use Rattle.world_model.specs.declared.TheConstants.{MAX_MESSAGES}
 use Rattle.world_model.specs.declared.events.Age.{Age}
 use Rattle.world_model.specs.declared.events.Age.TheVariants.{Old, New}
@@ -35,7 +36,8 @@ abbrev pub ◌>>=◌ : {A B : Type 0} → Result A LineFault → (A → Result B
 (Ok x) >>= f = f x
 (Err e) >>= f = Err e
 
--- What an argument is: a node, a client, either of these, a message's number, a resource's name, a mode, an age.
+-- What an argument is: a node, a client, either of these, a message's number, a resource's name, a mode, an
+-- age, the place of a ballot.
 pub data Kind : Type 0 where
   ANode : Kind
   AClient : Kind
@@ -44,10 +46,12 @@ pub data Kind : Type 0 where
   AName : Kind
   AMode : Kind
   AnAge : Kind
+  APlace : Kind
 
--- The grammar: the arguments of each command, in order. All else is said of this table.
+-- The grammar: the arguments of each command, in order. All else is said of this table. What may be left
+-- out stands last.
 abbrev pub kinds_of : Command → List Kind
-kinds_of command.Begin = AClient ∷ AMode ∷ AName ∷ []
+kinds_of command.Begin = AClient ∷ AMode ∷ AName ∷ APlace ∷ []
 kinds_of command.Try = AnActor ∷ []
 kinds_of command.Kept = AnActor ∷ []
 kinds_of command.SayTo = AClient ∷ ANode ∷ []
@@ -71,14 +75,26 @@ Value ANumber = ℕ
 Value AName = List ℕ
 Value AMode = Mode
 Value AnAge = Age
+Value APlace = ℕ
 
 abbrev pub Arguments : List Kind → Type 0
 Arguments [] = Unit {0}
 Arguments (k ∷ ks) = Value k × Arguments ks
 
+-- What an argument is whose word is left out: a place is 1 then, and each other kind has its word always.
+abbrev pub left_out : (k : Kind) → Option (Value k)
+left_out APlace = Some 1
+left_out ANode = None
+left_out AClient = None
+left_out AnActor = None
+left_out ANumber = None
+left_out AName = None
+left_out AMode = None
+left_out AnAge = None
+
 -- A line, taken apart: f is given its command and its arguments.
 abbrev pub with_parts : {R : Type 0} → ((c : Command) → Arguments (kinds_of c) → R) → Line → R
-with_parts f (line.Event (event.Begin c m x)) = f command.Begin (c, (m, (x, tt)))
+with_parts f (line.Event (event.Begin c m x place)) = f command.Begin (c, (m, (x, (place, tt))))
 with_parts f (line.Event (event.Try who)) = f command.Try (who, tt)
 with_parts f (line.Event (event.Kept who)) = f command.Kept (who, tt)
 with_parts f (line.Event (event.SayTo c n)) = f command.SayTo (c, (n, tt))
@@ -110,10 +126,22 @@ value_text ANumber k = decimal k
 value_text AName x = x
 value_text AMode m = mode_text m
 value_text AnAge age = age_text age
+value_text APlace place = codes "b" ++ decimal place
+
+-- The words that spell an argument: its one word, but none for place 1.
+abbrev pub value_texts : (k : Kind) → Value k → List (List ℕ)
+value_texts APlace place = if place == 1 then [] else value_text APlace place ∷ []
+value_texts ANode n = value_text ANode n ∷ []
+value_texts AClient c = value_text AClient c ∷ []
+value_texts AnActor who = value_text AnActor who ∷ []
+value_texts ANumber k = value_text ANumber k ∷ []
+value_texts AName x = value_text AName x ∷ []
+value_texts AMode m = value_text AMode m ∷ []
+value_texts AnAge age = value_text AnAge age ∷ []
 
 abbrev pub argument_texts : (ks : List Kind) → Arguments ks → List (List ℕ)
 argument_texts [] a = []
-argument_texts (k ∷ ks) a = value_text k a.0 ∷ argument_texts ks a.1
+argument_texts (k ∷ ks) a = value_texts k a.0 ++ argument_texts ks a.1
 
 -- The one text of an event or a query, without a line feed: its word and its arguments, with a space
 -- between any two.
@@ -123,12 +151,15 @@ parts_text c a = join_with_byte 32 (word_of c ∷ argument_texts (kinds_of c) a)
 abbrev pub text_of : Line → List ℕ
 text_of l = with_parts parts_text l
 
--- Which values a line may have: nodes, clients and names are as they are everywhere, and a message
--- has a number from 1 to MAX_MESSAGES.
+-- Which values a line may have: nodes, clients and names are as they are everywhere, a message has a
+-- number from 1 to MAX_MESSAGES, and a ballot a place from 1 to MAX_BALLOTS.
 
 abbrev pub IsActor : Actor → Type 0
 IsActor (actor.Node n) = IsNode n
 IsActor (actor.Client c) = IsClient c
+
+abbrev pub IsPlace : ℕ → Type 0
+IsPlace place = (1 ≤ place) × (place ≤ MAX_BALLOTS)
 
 abbrev pub IsValue : (k : Kind) → Value k → Type 0
 IsValue ANode n = IsNode n
@@ -138,6 +169,7 @@ IsValue ANumber k = (1 ≤ k) × (k ≤ MAX_MESSAGES)
 IsValue AName x = IsName x
 IsValue AMode m = Unit {0}
 IsValue AnAge age = Unit {0}
+IsValue APlace place = IsPlace place
 
 abbrev pub AreValues : (ks : List Kind) → Arguments ks → Type 0
 AreValues [] a = Unit {0}
@@ -204,6 +236,15 @@ mode_word word = if bytes_eq word (codes "read") then Ok Read else (if bytes_eq 
 abbrev pub age_word : List ℕ → Result Age LineFault
 age_word word = if bytes_eq word (codes "old") then Ok Old else (if bytes_eq word (codes "new") then Ok New else Err fault.Word)
 
+-- the place behind the first one
+abbrev pub behind_first : Option ℕ → Result ℕ LineFault
+behind_first None = Err fault.Number
+behind_first (Some place) = if place == 1 then Err fault.Number else Ok place
+
+-- `b` and a place from 2: the first one has no word
+abbrev pub place_word : List ℕ → Result ℕ LineFault
+place_word word = behind_first (lettered 98 MAX_BALLOTS word)
+
 -- the value of this kind that the word is, or what is wrong with it
 abbrev pub value_in : (k : Kind) → List ℕ → Result (Value k) LineFault
 value_in ANode word = node_word word
@@ -213,24 +254,33 @@ value_in ANumber word = number_word word
 value_in AName word = name_word word
 value_in AMode word = mode_word word
 value_in AnAge word = age_word word
+value_in APlace word = place_word word
 
--- the words, where there are so many and no others
-abbrev pub exactly : ℕ → List (List ℕ) → Result (List (List ℕ)) LineFault
-exactly zero [] = Ok []
-exactly zero (w ∷ ws) = Err fault.Words
-exactly (suc n) [] = Err fault.Words
-exactly (suc n) (w ∷ ws) = exactly n ws >>= (λ rest. Ok (w ∷ rest))
+-- the words, where there are at least and at most so many
+abbrev pub between : ℕ → ℕ → List (List ℕ) → Result (List (List ℕ)) LineFault
+between zero most [] = Ok []
+between (suc least) most [] = Err fault.Words
+between zero zero (w ∷ ws) = Err fault.Words
+between zero (suc most) (w ∷ ws) = between zero most ws >>= (λ rest. Ok (w ∷ rest))
+between (suc least) zero (w ∷ ws) = Err fault.Words
+between (suc least) (suc most) (w ∷ ws) = between least most ws >>= (λ rest. Ok (w ∷ rest))
 
--- the arguments that the words are, of which the first that is wrong is told
+-- how many words these arguments have at least
+abbrev pub least_words : List Kind → ℕ
+least_words [] = 0
+least_words (k ∷ ks) = if is_some (left_out k) then least_words ks else suc (least_words ks)
+
+-- the arguments that the words are, of which the first that is wrong is told; where no word is left, what
+-- may be left out is
 abbrev pub values_in : (ks : List Kind) → List (List ℕ) → Result (Arguments ks) LineFault
 values_in [] [] = Ok tt
 values_in [] (w ∷ ws) = Err fault.Words
-values_in (k ∷ ks) [] = Err fault.Words
+values_in (k ∷ ks) [] = ok_or (left_out k) fault.Words >>= (λ x. values_in ks [] >>= (λ xs. Ok (x, xs)))
 values_in (k ∷ ks) (w ∷ ws) = value_in k w >>= (λ x. values_in ks ws >>= (λ xs. Ok (x, xs)))
 
 -- first it is judged how many there are, and then each, from the left
 abbrev pub arguments_in : (ks : List Kind) → List (List ℕ) → Result (Arguments ks) LineFault
-arguments_in ks ws = exactly (length ks) ws >>= (λ us. values_in ks us)
+arguments_in ks ws = between (least_words ks) (length ks) ws >>= (λ us. values_in ks us)
 
 -- what a command says whose arguments say this
 abbrev pub given : (c : Command) → (Arguments (kinds_of c) → Line) → List (List ℕ) → Result Line LineFault
@@ -238,7 +288,7 @@ given c says ws = arguments_in (kinds_of c) ws >>= (λ a. Ok (says a))
 
 -- what the command says with the arguments that these words are
 abbrev pub said_by : Command → List (List ℕ) → Result Line LineFault
-said_by command.Begin ws = given command.Begin (λ a. line.Event (event.Begin a.0 a.1.0 a.1.1.0)) ws
+said_by command.Begin ws = given command.Begin (λ a. line.Event (event.Begin a.0 a.1.0 a.1.1.0 a.1.1.1.0)) ws
 said_by command.Try ws = given command.Try (λ a. line.Event (event.Try a.0)) ws
 said_by command.Kept ws = given command.Kept (λ a. line.Event (event.Kept a.0)) ws
 said_by command.SayTo ws = given command.SayTo (λ a. line.Event (event.SayTo a.0 a.1.0)) ws

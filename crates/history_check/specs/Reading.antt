@@ -1,5 +1,5 @@
 -- What the functions that read a line answer, piece by piece.
-use Rattle.std.specs.Prelude.{◌≡◌, ℕ, List, [], Option, Some, None, Result, Ok, Err}
+use Rattle.std.specs.Prelude.{◌≡◌, ℕ, List, [], ◌∷◌, Option, Some, None, Result, Ok, Err}
 use Rattle.std.specs.Borrow.{Bor}
 use Rattle.history_check.specs.declared.faults.LineFault.{LineFault}
 use Rattle.history_check.specs.Lines.{words}
@@ -13,3 +13,8 @@ Gives view (Err e) judged = judged ≡ Err e
 abbrev pub words_behind : Option (Bor (List ℕ)) → List (List ℕ)
 words_behind None = []
 words_behind (Some rest) = words rest.now
+
+-- the one word that is there, if one is
+abbrev pub word_there : Option (Bor (List ℕ)) → List (List ℕ)
+word_there None = []
+word_there (Some word) = word.now ∷ []

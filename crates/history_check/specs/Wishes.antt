@@ -6,20 +6,24 @@ use Rattle.history_check.specs.declared.faults.LineFault.{LineFault}
 use Rattle.history_check.specs.declared.faults.LineFault.TheVariants as fault
 use Rattle.history_check.specs.declared.wishes.Wish.{Wish}
 use Rattle.history_check.specs.declared.words.TheConstants.{MAX_LINE_LEN}
-use Rattle.history_check.specs.Lines.{◌>>=◌, Kind, AClient, AMode, AName, Arguments, AreValues, argument_texts, words, exactly, client_word, mode_word, name_word}
+use Rattle.history_check.specs.Lines.{◌>>=◌, Kind, AClient, AMode, AName, APlace, Arguments, AreValues, argument_texts, words, between, values_in, client_word}
+
+-- what a client is to use, and how: a mode, a resource's name and the place of a ballot
+abbrev pub use_kinds : List Kind
+use_kinds = AMode ∷ AName ∷ APlace ∷ []
 
 -- what a wish has, in order
 abbrev pub wish_kinds : List Kind
-wish_kinds = AClient ∷ AMode ∷ AName ∷ []
+wish_kinds = AClient ∷ use_kinds
 
 abbrev pub wish_parts : Wish → Arguments wish_kinds
-wish_parts w = (w.client, (w.mode, (w.resource, tt)))
+wish_parts w = (w.client, (w.mode, (w.resource, (w.place, tt))))
 
--- the one text of a wish: its parts, with a space between any two
+-- the one text of a wish: its parts, with a space between any two; place 1 has no word
 abbrev pub wish_text : Wish → List ℕ
 wish_text w = join_with_byte 32 (argument_texts wish_kinds (wish_parts w))
 
--- its client and its name are some that there may be
+-- its client, its name and its place are some that there may be
 abbrev pub IsWish : Wish → Type 0
 IsWish w = AreValues wish_kinds (wish_parts w)
 
@@ -27,15 +31,18 @@ IsWish w = AreValues wish_kinds (wish_parts w)
 abbrev pub client_among : ℕ → List ℕ → Result ℕ LineFault
 client_among clients word = client_word word >>= (λ c. if nat_le c clients then Ok c else Err fault.Actor)
 
+-- the wish of a client who is to use this
+abbrev pub wished : ℕ → Arguments use_kinds → Wish
+wished client usage = record { client = client; mode = usage.0; resource = usage.1.0; place = usage.1.1.0 }
+
 abbrev pub words_wish : ℕ → List (List ℕ) → Result Wish LineFault
-words_wish clients (c ∷ m ∷ x ∷ []) =
-    client_among clients c >>= (λ client. mode_word m >>= (λ mode. name_word x >>= (λ name. Ok (record { client = client; mode = mode; resource = name }))))
-words_wish clients _ = Err fault.Words
+words_wish clients [] = Err fault.Words
+words_wish clients (c ∷ ws) = client_among clients c >>= (λ client. values_in use_kinds ws >>= (λ usage. Ok (wished client usage)))
 
 -- What a text wishes where there are so many clients, or what is wrong with it. It is judged as the
 -- arguments of a line are, and a client behind the last one is judged where its word stands.
 unfoldable pub wish_among : ℕ → List ℕ → Result Wish LineFault
-wish_among clients bytes = if nat_lt MAX_LINE_LEN (length bytes) then Err fault.Words else exactly 3 (words bytes) >>= (λ ws. words_wish clients ws)
+wish_among clients bytes = if nat_lt MAX_LINE_LEN (length bytes) then Err fault.Words else between 3 4 (words bytes) >>= (λ ws. words_wish clients ws)
 
 -- what a text wishes among all clients that there can be
 abbrev pub wish_of : List ℕ → Result Wish LineFault

@@ -41,7 +41,8 @@ fn event_in(line: Line) -> Result<Event, LineFault>
 /// What is wrong with the line, as `read_line` judges it where the commands of events are read: a line
 /// over `MAX_LINE_LEN` bytes is `Words` (805); else the first that applies, where the first word names
 /// no event (`Word`, 801), words are missing or left over (`Words`, 805), and then from the left what is
-/// wrong with an argument (801 to 804). An empty line is `Word`.
+/// wrong with an argument (801 to 804). An empty line is `Word`. A `begin` has three or four arguments: the
+/// place of its ballot stands last, and is left out where it is 1.
 #[tactic(auto, unfolding(crate::specs::Events::event_of))]
 pub fn read_event(line: &[u8]) -> Result<Event, LineFault>
     ensures { result ≡ event_of line.now }

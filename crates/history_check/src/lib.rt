@@ -8,9 +8,11 @@
 //! `lines_are_spelled_once` says that the two are each other's inverse, so that each event and each
 //! query has one spelling, which is read as it. `read_event` and `write_event` are the same for the
 //! lines of a journal, which are events alone (`Events`); `read_wish` and `read_wish_among` read what a
-//! client is to do (`Wishes`).
+//! client is to do (`Wishes`). The place of a ballot is the one argument that may be left out: at place 1 it
+//! always is.
 //!
-//! It stands on `lock_messages`, on `world_model` for events, and on `thiserror`.
+//! It stands on `lock_messages`, on `vote_weights` for the places of ballots, on `world_model` for events,
+//! and on `thiserror`.
 #![tactic(auto)]
 
 mod commands;

@@ -3,14 +3,14 @@
 ghost use Rattle.std.specs.Prelude.{◌≡◌, ◌∷◌, [], ◌++◌, IfOk, OnOk, string_bytes};
 ghost use Rattle.history_check.specs.declared.commands.Command.TheVariants as command;
 ghost use Rattle.history_check.specs.declared.lines.Line.TheVariants as line;
-ghost use Rattle.history_check.specs.Lines.{AClient, AMode, AName, ANode, ANumber, AnActor, AnAge, arguments_in, said_by, line_of, text_of};
+ghost use Rattle.history_check.specs.Lines.{AClient, AMode, AName, ANode, ANumber, AnActor, AnAge, APlace, arguments_in, said_by, line_of, text_of};
 ghost use Rattle.history_check.specs.Reading.{Gives, words_behind};
 
 use crate::LineFault;
 use crate::commands::{Command, named};
 use crate::words::{
     MAX_LINE_LEN, actor_of, age_of, client_of, first_word, message_of, mode_of, name_of, node_of,
-    one, three, two,
+    one, place_of, three_or_four, two,
 };
 use lock_messages::{Actor, ClientId, Mode, NodeId, ResourceName};
 use std::alloc::{AllocError, Global};
@@ -95,12 +95,19 @@ fn actor_and_age(rest: Option<&[u8]>) -> Result<(Actor, Age), LineFault>
     Ok((actor_of(first)?, age_of(second)?))
 }
 
-/// A client, a mode and a name, and nothing more.
-fn client_mode_and_name(rest: Option<&[u8]>) -> Result<(ClientId, Mode, ResourceName), LineFault>
-    ensures { Gives (λ x. (x.0, (x.1, (x.2, tt)))) result (arguments_in (AClient ∷ AMode ∷ AName ∷ []) (words_behind rest.entry)) }
+/// A client, a mode and a name, and the place of a ballot: it has no word where it is 1.
+fn client_mode_name_and_place(
+    rest: Option<&[u8]>,
+) -> Result<(ClientId, Mode, ResourceName, u8), LineFault>
+    ensures { Gives (λ x. (x.0, (x.1, (x.2, (x.3, tt))))) result (arguments_in (AClient ∷ AMode ∷ AName ∷ APlace ∷ []) (words_behind rest.entry)) }
 {
-    let (first, second, third) = three(rest)?;
-    Ok((client_of(first)?, mode_of(second)?, name_of(third)?))
+    let (first, second, third, fourth) = three_or_four(rest)?;
+    Ok((
+        client_of(first)?,
+        mode_of(second)?,
+        name_of(third)?,
+        place_of(fourth)?,
+    ))
 }
 
 fn inside(rest: Option<&[u8]>) -> Result<Line, LineFault>
@@ -129,8 +136,8 @@ fn said_by(command: Command, rest: Option<&[u8]>) -> Result<Line, LineFault>
 {
     let event = match command {
         Command::Begin => {
-            let (client, mode, name) = client_mode_and_name(rest)?;
-            Event::Begin(client, mode, name)
+            let (client, mode, name, place) = client_mode_name_and_place(rest)?;
+            Event::Begin(client, mode, name, place)
         }
         Command::Try => Event::Try(one_actor(rest)?),
         Command::Kept => Event::Kept(one_actor(rest)?),
@@ -163,13 +170,18 @@ fn said_by(command: Command, rest: Option<&[u8]>) -> Result<Line, LineFault>
 
 /// What a line says to who reads these commands, given without its line feed.
 ///
+/// A `begin` names a client, a mode, a resource and by which ballot it is: `begin c2 read a` is by the one at
+/// place 1, `begin c2 read a b2` by the one at place 2, and so on to `b8`. That the first place has no word is
+/// our own rule: so each event has one spelling.
+///
 /// # Errors
 ///
 /// A line over `MAX_LINE_LEN` bytes is `Words` (805). Else its words stand between its spaces, and
 /// the first that applies is answered: the first word is none of the commands (`Word`, 801), words
 /// are missing or left over (`Words`, 805), and then from the left what is wrong with an argument:
 /// an actor (`Actor`, 802), a message's number (`Number`, 803), a resource's name (`Name`, 804), a
-/// mode or an age (`Word`, 801).
+/// mode or an age (`Word`, 801), the place of a ballot that is written and isn't from 2 to 8 (`Number`,
+/// 803).
 #[tactic(auto, unfolding(crate::specs::Lines::line_of))]
 pub fn read_line(commands: &[Command], line: &[u8]) -> Result<Line, LineFault>
     ensures { result ≡ line_of commands.now line.now }
@@ -186,7 +198,10 @@ pub(crate) fn push_event(text: &mut String, event: &Event) -> Result<(), AllocEr
     ensures { OnOk result (string_bytes text.new ≡ string_bytes text.old ++ text_of (line.Event event.now)) }
 {
     match *event {
-        Event::Begin(client, mode, name) => write!(text, "begin {client} {mode} {name}"),
+        Event::Begin(client, mode, name, 1) => write!(text, "begin {client} {mode} {name}"),
+        Event::Begin(client, mode, name, place) => {
+            write!(text, "begin {client} {mode} {name} b{place}")
+        }
         Event::Try(actor) => write!(text, "try {actor}"),
         Event::Kept(actor) => write!(text, "kept {actor}"),
         Event::SayTo(client, node) => write!(text, "sayto {client} {node}"),

@@ -4,28 +4,32 @@ ghost use Rattle.std.specs.Prelude.{◌≡◌};
 ghost use Rattle.history_check.specs.Wishes.{wish_of, client_among, wish_among};
 
 use crate::LineFault;
-use crate::words::{MAX_LINE_LEN, client_of, mode_of, name_of, three};
+use crate::words::{MAX_LINE_LEN, client_of, mode_of, name_of, place_of, three_or_four};
 use lock_messages::{ClientId, MAX_CLIENTS, Mode, ResourceName};
 
 /// The most wishes that settings have, and so those of one run and of each client in it. The number is this
 /// service's own choice: it follows from no other limit, and none follows from it.
 pub const MAX_WISHES: usize = 4_096;
 
-/// That a client is to use a resource once, in this mode.
+/// That a client is to use a resource once, in this mode and by the ballot at this place.
 #[derive(Clone, Copy, Debug, PartialEq, Eq, Hash)]
 pub struct Wish {
     pub client: ClientId,
     pub mode: Mode,
     pub resource: ResourceName,
+    /// Which places there are, from 1 on, the list of ballots says.
+    pub place: u8,
 }
 
-/// What a text wishes: `c1 read a`.
+/// What a text wishes: `c1 read a` by the ballot at place 1, `c1 read a b2` by the one at place 2, and so on
+/// to `b8`. Place 1 has no word, by our own rule, so that each wish has one text.
 ///
 /// # Errors
 ///
 /// A text over `MAX_LINE_LEN` bytes is `Words` (805). Else its words stand between its spaces, and the
-/// first that applies is answered: words are missing or left over (`Words`, 805), and then from the
-/// left the client (`Actor`, 802), the mode (`Word`, 801) or the name (`Name`, 804) is none.
+/// first that applies is answered: there are other than three or four words (`Words`, 805), and then from
+/// the left the client (`Actor`, 802), the mode (`Word`, 801) or the name (`Name`, 804) is none, or the
+/// fourth word is no place from 2 to 8 (`Number`, 803).
 pub fn read_wish(text: &[u8]) -> Result<Wish, LineFault>
     ensures { result ≡ wish_of text.now }
 {
@@ -48,7 +52,8 @@ fn client_among(clients: u16, word: &[u8]) -> Result<ClientId, LineFault>
 ///
 /// # Errors
 ///
-/// Those of `read_wish`, in the same order; a client behind the last one is `Actor` (802) too.
+/// Those of `read_wish`, in the same order; a client behind the last one is `Actor` (802) too. Whether a
+/// list has a ballot at the place is judged elsewhere.
 #[tactic(auto, unfolding(crate::specs::Wishes::wish_among))]
 pub fn read_wish_among(clients: u16, text: &[u8]) -> Result<Wish, LineFault>
     ensures { result ≡ wish_among clients text.now }
@@ -56,10 +61,11 @@ pub fn read_wish_among(clients: u16, text: &[u8]) -> Result<Wish, LineFault>
     if MAX_LINE_LEN < text.len() {
         return Err(LineFault::Words);
     }
-    let (first, second, third) = three(Some(text))?;
+    let (first, second, third, fourth) = three_or_four(Some(text))?;
     Ok(Wish {
         client: client_among(clients, first)?,
         mode: mode_of(second)?,
         resource: name_of(third)?,
+        place: place_of(fourth)?,
     })
 }

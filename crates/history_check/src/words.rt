@@ -3,12 +3,13 @@
 ghost use Rattle.std.specs.Prelude.{◌≡◌, [], ◌∷◌, ◌≤◌, ◌==◌, slice_index, IfSome};
 ghost use Rattle.std.specs.List.{position, list_all};
 ghost use Rattle.std.specs.Char.{is_ascii_digit};
-ghost use Rattle.history_check.specs.Lines.{is_space, words, spelled, lettered, node_word, client_word, actor_word, number_word, name_word, mode_word, age_word, exactly};
-ghost use Rattle.history_check.specs.Reading.{Gives, words_behind};
+ghost use Rattle.history_check.specs.Lines.{is_space, words, spelled, lettered, node_word, client_word, actor_word, number_word, name_word, mode_word, age_word, APlace, between, values_in};
+ghost use Rattle.history_check.specs.Reading.{Gives, words_behind, word_there};
 
 use crate::LineFault;
 use lock_messages::{Actor, ClientId, MAX_CLIENTS, MAX_NODES, Mode, NodeId, ResourceName};
 use std::str;
+use vote_weights::MAX_BALLOTS;
 use world_model::{Age, MAX_MESSAGES};
 
 /// The most bytes that a line has, without its line feed.
@@ -142,23 +143,49 @@ pub fn age_of(word: &[u8]) -> Result<Age, LineFault>
     Err(LineFault::Word)
 }
 
+/// The place of a ballot, by our own rule: 1 where its word is left out; else the word is `b` and the
+/// decimal text of a place from 2 to `MAX_BALLOTS`. So place 1 has no word, and each place one spelling.
+/// Any other word is `Number` (803).
+pub fn place_of(word: Option<&[u8]>) -> Result<u8, LineFault>
+    ensures { Gives (λ place. (place, tt)) result (values_in (APlace ∷ []) (word_there word.entry)) }
+{
+    let Some(word) = word else {
+        return Ok(1);
+    };
+    let Some(place) = lettered(word, b'b', MAX_BALLOTS as u32) else {
+        return Err(LineFault::Number);
+    };
+    if place == 1 {
+        return Err(LineFault::Number);
+    }
+    Ok(place as u8)
+}
+
+/// The word of a text that has no other.
+fn only_word(text: &[u8]) -> Result<&[u8], LineFault>
+    ensures one { Gives (λ w. w.now ∷ []) result (between 1 1 (words text.now)) }
+    ensures at_most_one { Gives (λ w. w.now ∷ []) result (between 0 1 (words text.now)) }
+{
+    let (word, rest) = first_word(text);
+    if rest.is_some() {
+        return Err(LineFault::Words);
+    }
+    Ok(word)
+}
+
 /// The one word that is left.
 pub fn one(rest: Option<&[u8]>) -> Result<&[u8], LineFault>
-    ensures { Gives (λ w. w.now ∷ []) result (exactly 1 (words_behind rest.entry)) }
+    ensures { Gives (λ w. w.now ∷ []) result (between 1 1 (words_behind rest.entry)) }
 {
     let Some(text) = rest else {
         return Err(LineFault::Words);
     };
-    let (a, rest) = first_word(text);
-    if rest.is_some() {
-        return Err(LineFault::Words);
-    }
-    Ok(a)
+    only_word(text)
 }
 
 /// The two words that are left.
 pub fn two(rest: Option<&[u8]>) -> Result<(&[u8], &[u8]), LineFault>
-    ensures { Gives (λ w. w.0.now ∷ w.1.now ∷ []) result (exactly 2 (words_behind rest.entry)) }
+    ensures { Gives (λ w. w.0.now ∷ w.1.now ∷ []) result (between 2 2 (words_behind rest.entry)) }
 {
     let Some(text) = rest else {
         return Err(LineFault::Words);
@@ -168,14 +195,48 @@ pub fn two(rest: Option<&[u8]>) -> Result<(&[u8], &[u8]), LineFault>
     Ok((a, b))
 }
 
-/// The three words that are left.
-pub fn three(rest: Option<&[u8]>) -> Result<(&[u8], &[u8], &[u8]), LineFault>
-    ensures { Gives (λ w. w.0.now ∷ w.1.now ∷ w.2.now ∷ []) result (exactly 3 (words_behind rest.entry)) }
+/// The one word that is left, if one is.
+fn at_most_one(rest: Option<&[u8]>) -> Result<Option<&[u8]>, LineFault>
+    ensures { Gives (λ w. word_there w) result (between 0 1 (words_behind rest.entry)) }
+{
+    let Some(text) = rest else {
+        return Ok(None);
+    };
+    Ok(Some(only_word(text)?))
+}
+
+/// The one or two words that are left.
+fn one_or_two(rest: Option<&[u8]>) -> Result<(&[u8], Option<&[u8]>), LineFault>
+    ensures { Gives (λ w. w.0.now ∷ word_there w.1) result (between 1 2 (words_behind rest.entry)) }
 {
     let Some(text) = rest else {
         return Err(LineFault::Words);
     };
     let (a, rest) = first_word(text);
-    let (b, c) = two(rest)?;
+    let b = at_most_one(rest)?;
+    Ok((a, b))
+}
+
+/// The two or three words that are left.
+fn two_or_three(rest: Option<&[u8]>) -> Result<(&[u8], &[u8], Option<&[u8]>), LineFault>
+    ensures { Gives (λ w. w.0.now ∷ w.1.now ∷ word_there w.2) result (between 2 3 (words_behind rest.entry)) }
+{
+    let Some(text) = rest else {
+        return Err(LineFault::Words);
+    };
+    let (a, rest) = first_word(text);
+    let (b, c) = one_or_two(rest)?;
     Ok((a, b, c))
+}
+
+/// The three or four words that are left.
+pub fn three_or_four(rest: Option<&[u8]>) -> Result<(&[u8], &[u8], &[u8], Option<&[u8]>), LineFault>
+    ensures { Gives (λ w. w.0.now ∷ w.1.now ∷ w.2.now ∷ word_there w.3) result (between 3 4 (words_behind rest.entry)) }
+{
+    let Some(text) = rest else {
+        return Err(LineFault::Words);
+    };
+    let (a, rest) = first_word(text);
+    let (b, c, d) = two_or_three(rest)?;
+    Ok((a, b, c, d))
 }

@@ -20,7 +20,7 @@ use Rattle.world_model.specs.declared.events.Event.{Event}
 use Rattle.world_model.specs.declared.events.Event.TheVariants as event
 use Rattle.history_check.specs.declared.commands.Command.TheVariants as command
 use Rattle.history_check.specs.Commands.{word_of}
-use Rattle.history_check.specs.Lines.{Kind, ANode, AClient, AnActor, ANumber, AName, AMode, AnAge, Value, Arguments, kinds_of, value_text, argument_texts, age_text, IsActor, IsValue, AreValues}
+use Rattle.history_check.specs.Lines.{Kind, ANode, AClient, AnActor, ANumber, AName, AMode, AnAge, APlace, Value, Arguments, kinds_of, value_text, value_texts, argument_texts, age_text, IsActor, IsValue, IsPlace, AreValues}
 use Rattle.history_check.specs.Events.{event_text, IsEventInRange}
 use Rattle.line_streams.specs.Streams.{is_line_feed, pieces, lines_in}
 use Rattle.journal_text.specs.Journals.{history_text}
@@ -68,14 +68,24 @@ plain_age : (a : Age) → Plain (age_text a)
 plain_age Old = (refl, (refl, (refl, tt)))
 plain_age New = (refl, (refl, (refl, tt)))
 
-plain_value : (k : Kind) (x : Value k) → IsValue k x → Plain (value_text k x)
-plain_value ANode n h = (refl, plain_number n (omega (arith, h.1)))
-plain_value AClient c h = (refl, plain_number c (omega (arith, h.1)))
-plain_value AnActor who h = plain_actor who h
-plain_value ANumber k h = plain_number k (omega (arith, h.1))
-plain_value AName x h = plain_of is_name_byte refl x h.each
-plain_value AMode m h = plain_mode m
-plain_value AnAge a h = plain_age a
+abbrev pub ArePlain : List (List ℕ) → Type 0
+ArePlain [] = Unit {0}
+ArePlain (w ∷ ws) = Plain w × ArePlain ws
+
+-- the word of a place, where it has one
+plain_place : (b : Bool) (place : ℕ) → IsPlace place → ArePlain (cond b [] (value_text APlace place ∷ []))
+plain_place true place h = tt
+plain_place false place h = ((refl, plain_number place (omega (arith, h.1))), tt)
+
+plain_value : (k : Kind) (x : Value k) → IsValue k x → ArePlain (value_texts k x)
+plain_value ANode n h = ((refl, plain_number n (omega (arith, h.1))), tt)
+plain_value AClient c h = ((refl, plain_number c (omega (arith, h.1))), tt)
+plain_value AnActor who h = (plain_actor who h, tt)
+plain_value ANumber k h = (plain_number k (omega (arith, h.1)), tt)
+plain_value AName x h = (plain_of is_name_byte refl x h.each, tt)
+plain_value AMode m h = (plain_mode m, tt)
+plain_value AnAge a h = (plain_age a, tt)
+plain_value APlace place h = plain_place (place == 1) place h
 
 plain_both : (xs ys : List ℕ) → Plain xs → Plain ys → Plain (xs ++ ys)
 plain_both [] ys p q = q
@@ -83,13 +93,23 @@ plain_both (x ∷ xs) ys p q = (p.0, plain_both xs ys p.1 q)
 
 -- events
 
+plain_words : (v ws : List (List ℕ)) → ArePlain v → ArePlain ws → ArePlain (v ++ ws)
+plain_words [] ws p q = q
+plain_words (w ∷ v) ws p q = (p.0, plain_words v ws p.1 q)
+
+plain_arguments : (ks : List Kind) (a : Arguments ks) → AreValues ks a → ArePlain (argument_texts ks a)
+plain_arguments [] a v = tt
+plain_arguments (k ∷ ks) a v = plain_words (value_texts k a.0) (argument_texts ks a.1) (plain_value k a.0 v.0) (plain_arguments ks a.1 v.1)
+
+plain_joined : (w : List ℕ) (ws : List (List ℕ)) → Plain w → ArePlain ws → Plain (join_with_byte 32 (w ∷ ws))
+plain_joined w [] h hs = h
+plain_joined w (v ∷ vs) h hs = plain_both w (32 ∷ join_with_byte 32 (v ∷ vs)) h (refl, plain_joined v vs hs.0 hs.1)
+
 plain_line : (w : List ℕ) (ks : List Kind) (a : Arguments ks) → Plain w → AreValues ks a → Plain (join_with_byte 32 (w ∷ argument_texts ks a))
-plain_line w [] a h v = h
-plain_line w (k ∷ ks) a h v =
-    plain_both w (32 ∷ join_with_byte 32 (argument_texts (k ∷ ks) a)) h (refl, plain_line (value_text k a.0) ks a.1 (plain_value k a.0 v.0) v.1)
+plain_line w ks a h v = plain_joined w (argument_texts ks a) h (plain_arguments ks a v)
 
 pub plain_event : (e : Event) → IsEventInRange e → Plain (event_text e)
-plain_event (event.Begin c m x) h = plain_line (word_of command.Begin) (kinds_of command.Begin) (c, (m, (x, tt))) (refl, (refl, (refl, (refl, (refl, tt))))) h
+plain_event (event.Begin c m x place) h = plain_line (word_of command.Begin) (kinds_of command.Begin) (c, (m, (x, (place, tt)))) (refl, (refl, (refl, (refl, (refl, tt))))) h
 plain_event (event.Try who) h = plain_line (word_of command.Try) (kinds_of command.Try) (who, tt) (refl, (refl, (refl, tt))) h
 plain_event (event.Kept who) h = plain_line (word_of command.Kept) (kinds_of command.Kept) (who, tt) (refl, (refl, (refl, (refl, tt)))) h
 plain_event (event.SayTo c n) h = plain_line (word_of command.SayTo) (kinds_of command.SayTo) (c, (n, tt)) (refl, (refl, (refl, (refl, (refl, tt))))) h

@@ -1,9 +1,10 @@
 -- The text of a journal, and what the events that stand in it name.
-use Rattle.std.specs.Prelude.{ℕ, List, [], ◌∷◌, ◌++◌, take, Option}
+use Rattle.std.specs.Prelude.{ℕ, ◌≤◌, List, [], ◌∷◌, ◌++◌, length, take, Option}
 use Rattle.std.specs.Io.KnownBytes.{Appends}
 use Rattle.std.specs.List.{flat_map, AllByRecursion}
 use Rattle.lock_messages.specs.Ids.{IsNode, IsClient}
 use Rattle.lock_messages.specs.Names.{IsName}
+use Rattle.vote_weights.specs.declared.lists.TheConstants.{MAX_BALLOTS}
 use Rattle.world_model.specs.declared.events.Effect.{Effect}
 use Rattle.world_model.specs.declared.events.Event.{Event}
 use Rattle.world_model.specs.declared.events.Event.TheVariants as event
@@ -25,9 +26,10 @@ history_text history = flat_map (λ p. event_line p.0) history
 abbrev pub AppendsLines : Option (List ℕ) → Option (List ℕ) → List (Event × Effect) → Type 0
 AppendsLines old new history = (count : ℕ) × Appends old new (history_text (take count history))
 
--- the nodes, the clients and the resource that an event names may be some
+-- The nodes, the clients and the resource that an event names may be some. (That the place of a ballot may
+-- be one is told by the world that took the event.)
 abbrev pub IsWellNamed : Event → Type 0
-IsWellNamed (event.Begin c m x) = IsClient c × IsName x
+IsWellNamed (event.Begin c m x place) = IsClient c × IsName x
 IsWellNamed (event.Try who) = IsActor who
 IsWellNamed (event.Kept who) = IsActor who
 IsWellNamed (event.SayTo c n) = IsClient c × IsNode n
@@ -42,8 +44,14 @@ IsWellNamed (event.Rise who age) = IsActor who
 abbrev pub AreWellNamed : List (Event × Effect) → Type 0
 AreWellNamed history = AllByRecursion (λ p. IsWellNamed p.0) history
 
--- A history that can be read back: it is a run from a sound world, and its events name what there may be.
+-- there are no more ballots than places that a line may have
+abbrev pub HasFewBallots : ExactWorld → Type 0
+HasFewBallots w = length w.ballots ≤ MAX_BALLOTS
+
+-- A history that can be read back: it is a run from a sound world of few ballots, and its events name what
+-- there may be.
 pub record IsRecorded (w : ExactWorld) (history : List (Event × Effect)) (v : ExactWorld) : Type 0 where
   pub opening : IsSound w
+  pub few_ballots : HasFewBallots w
   pub run : IsHistory w history v
   pub named : AreWellNamed history

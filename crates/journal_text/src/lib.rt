@@ -4,8 +4,8 @@
 //! of it. It gathers lines before it writes, and asks for memory for one line at a time. `Journals` in
 //! `specs/` has the words. That an audit finds such a text sound is said by `journal_laws`.
 //!
-//! It stands on `history_check` for the lines, `line_streams`, `lock_messages`, `world_model` and
-//! `thiserror`.
+//! It stands on `history_check` for the lines, `line_streams`, `lock_messages`, `vote_weights` for how many
+//! ballots there may be, `world_model` and `thiserror`.
 #![tactic(auto)]
 
 mod faults;

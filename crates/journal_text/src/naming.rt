@@ -25,7 +25,7 @@ pub fn tell_names(event: &Event)
     ensures { IsWellNamed event.now }
 {
     match event {
-        Event::Begin(client, _, name) => {
+        Event::Begin(client, _, name, _) => {
             let _number = client.get();
             let _bytes = name.bytes();
         }

@@ -99,7 +99,7 @@ pub fn write_history<W: Write>(
     writer: &mut W,
 ) -> Result<(), JournalFault>
     ensures text { Puts (W.contents writer.old) (W.contents writer.new) (history_text history.now) result }
-    // What the events name there may be, so each line spells its event.
+    // What the events name there may be. So each line spells its event, where its number or place is in range.
     ensures named { OnOk result (AreWellNamed history.now) }
 {
     let mut out = Gathered::new();

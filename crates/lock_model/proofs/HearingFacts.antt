@@ -1,5 +1,5 @@
 -- What a client hears, as a function, is what the relation allows.
-use Rattle.std.proofs.Common.{◌≡◌, ◌≢◌, ◌↔◌, ℕ, ◌==◌, Bool, true, false, ◌&&◌, cond, length, leb, refl, sym, ◌∙◌, ap, subst}
+use Rattle.std.proofs.Common.{◌≡◌, ◌≢◌, ◌↔◌, ℕ, ◌==◌, Bool, true, false, ◌&&◌, cond, leb, refl, sym, ◌∙◌, ap, subst}
 use Rattle.std.specs.Str.{bytes_eq}
 use Rattle.std.proofs.lemmas.Bool.{and_parts, and_from, leb-true, le-leb}
 use Rattle.std.proofs.lemmas.Bool.Decides.{Decides-eqb}
@@ -11,16 +11,16 @@ use Rattle.lock_messages.specs.declared.messages.Message.{Message}
 use Rattle.lock_messages.specs.declared.messages.Message.TheVariants as message
 use Rattle.lock_model.specs.declared.hearing.Heard.{Heard}
 use Rattle.lock_model.specs.declared.hearing.Heard.TheVariants.{Counted, Known, Busy, Done, NotMine}
-use Rattle.lock_model.specs.Ballots.{Ballot, HasNode}
+use Rattle.lock_model.specs.Ballots.{IsNodeOf}
 use Rattle.lock_model.specs.Hearing.{HearsOfTicket, HearsAtRest}
 use Rattle.lock_model.specs.ExactDecisions.{same_mode}
 use Rattle.lock_model.specs.ExactHearing.{is_node_of, same_ticket, heard_of_ticket, heard_at_rest}
 
-node-from : (b : Ballot) (n : ℕ) → HasNode b n → is_node_of (length b.votes) n ≡ true
-node-from b n h = and_from (leb 1 n) (leb n (length b.votes)) (le-leb 1 n h.0) (le-leb n (length b.votes) h.1)
+node-from : (nodes : ℕ) (n : ℕ) → IsNodeOf nodes n → is_node_of nodes n ≡ true
+node-from nodes n h = and_from (leb 1 n) (leb n nodes) (le-leb 1 n h.0) (le-leb n nodes h.1)
 
-node-to : (b : Ballot) (n : ℕ) → is_node_of (length b.votes) n ≡ true → HasNode b n
-node-to b n h = let p = and_parts (leb 1 n) (leb n (length b.votes)) h in (leb-true 1 n p.0, leb-true n (length b.votes) p.1)
+node-to : (nodes : ℕ) (n : ℕ) → is_node_of nodes n ≡ true → IsNodeOf nodes n
+node-to nodes n h = let p = and_parts (leb 1 n) (leb n nodes) h in (leb-true 1 n p.0, leb-true n nodes p.1)
 
 mode-to : (a b : Mode) → same_mode a b ≡ true → a ≡ b
 mode-to Read Read h = refl
@@ -50,122 +50,122 @@ ticket-self t =
 
 -- the answer is a Grant's, a Busy's or a Done's of the right node and ticket, or it is none of these
 
-grant-test : (b : Ballot) (n : ℕ) (t : Ticket) → HasNode b n → (is_node_of (length b.votes) n && same_ticket t t) ≡ true
-grant-test b n t h = and_from (is_node_of (length b.votes) n) (same_ticket t t) (node-from b n h) (ticket-self t)
+grant-test : (nodes : ℕ) (n : ℕ) (t : Ticket) → IsNodeOf nodes n → (is_node_of nodes n && same_ticket t t) ≡ true
+grant-test nodes n t h = and_from (is_node_of nodes n) (same_ticket t t) (node-from nodes n h) (ticket-self t)
 
 -- a Grant of another ticket, or from elsewhere
-grant-other : (b : Ballot) (n : ℕ) (t u : Ticket) → (is_node_of (length b.votes) n && same_ticket u t) ≡ false → (k : ℕ) → HasNode b k → (message.Grant n u ≢ message.Grant k t) × (message.Grant n u ≢ message.Busy k t)
-grant-other b n t u h k at = (to, λ e. cc)
+grant-other : (nodes : ℕ) (n : ℕ) (t u : Ticket) → (is_node_of nodes n && same_ticket u t) ≡ false → (k : ℕ) → IsNodeOf nodes k → (message.Grant n u ≢ message.Grant k t) × (message.Grant n u ≢ message.Busy k t)
+grant-other nodes n t u h k at = (to, λ e. cc)
   where
     to : message.Grant n u ≡ message.Grant k t → ⊥
     to e =
         let same_node : k ≡ n = cc in
         let same_one : t ≡ u = cc in
-        let agrees : (is_node_of (length b.votes) n && same_ticket u t) ≡ true = subst (λ v. (is_node_of (length b.votes) n && same_ticket v t) ≡ true) same_one (subst (λ v. (is_node_of (length b.votes) v && same_ticket t t) ≡ true) same_node (grant-test b k t at)) in
+        let agrees : (is_node_of nodes n && same_ticket u t) ≡ true = subst (λ v. (is_node_of nodes n && same_ticket v t) ≡ true) same_one (subst (λ v. (is_node_of nodes v && same_ticket t t) ≡ true) same_node (grant-test nodes k t at)) in
         let z : false ≡ true = sym h ∙ agrees in cc
 
-busy-other : (b : Ballot) (n : ℕ) (t u : Ticket) → (is_node_of (length b.votes) n && same_ticket u t) ≡ false → (k : ℕ) → HasNode b k → (message.Busy n u ≢ message.Grant k t) × (message.Busy n u ≢ message.Busy k t)
-busy-other b n t u h k at = (λ e. cc, to)
+busy-other : (nodes : ℕ) (n : ℕ) (t u : Ticket) → (is_node_of nodes n && same_ticket u t) ≡ false → (k : ℕ) → IsNodeOf nodes k → (message.Busy n u ≢ message.Grant k t) × (message.Busy n u ≢ message.Busy k t)
+busy-other nodes n t u h k at = (λ e. cc, to)
   where
     to : message.Busy n u ≡ message.Busy k t → ⊥
     to e =
         let same_node : k ≡ n = cc in
         let same_one : t ≡ u = cc in
-        let agrees : (is_node_of (length b.votes) n && same_ticket u t) ≡ true = subst (λ v. (is_node_of (length b.votes) n && same_ticket v t) ≡ true) same_one (subst (λ v. (is_node_of (length b.votes) v && same_ticket t t) ≡ true) same_node (grant-test b k t at)) in
+        let agrees : (is_node_of nodes n && same_ticket u t) ≡ true = subst (λ v. (is_node_of nodes n && same_ticket v t) ≡ true) same_one (subst (λ v. (is_node_of nodes v && same_ticket t t) ≡ true) same_node (grant-test nodes k t at)) in
         let z : false ≡ true = sym h ∙ agrees in cc
 
 -- the function's answer is allowed
-ticket-sound : (b : Ballot) (t : Ticket) (granted : ℕ → Bool) (m : Message) → HearsOfTicket b t granted m (heard_of_ticket (length b.votes) t granted m)
-ticket-sound b t granted (message.Request n u) = λ k at. (λ e. cc, λ e. cc)
-ticket-sound b t granted (message.Release n c a) = λ k at. (λ e. cc, λ e. cc)
-ticket-sound b t granted (message.Over n c a) = λ k at. (λ e. cc, λ e. cc)
-ticket-sound b t granted (message.Done n c a) = λ k at. (λ e. cc, λ e. cc)
-ticket-sound b t granted (message.Muddled n c a) = λ k at. (λ e. cc, λ e. cc)
-ticket-sound b t granted (message.Grant n u) = go (is_node_of (length b.votes) n && same_ticket u t) refl (granted n) refl
+ticket-sound : (nodes : ℕ) (t : Ticket) (granted : ℕ → Bool) (m : Message) → HearsOfTicket nodes t granted m (heard_of_ticket nodes t granted m)
+ticket-sound nodes t granted (message.Request n u) = λ k at. (λ e. cc, λ e. cc)
+ticket-sound nodes t granted (message.Release n c a) = λ k at. (λ e. cc, λ e. cc)
+ticket-sound nodes t granted (message.Over n c a) = λ k at. (λ e. cc, λ e. cc)
+ticket-sound nodes t granted (message.Done n c a) = λ k at. (λ e. cc, λ e. cc)
+ticket-sound nodes t granted (message.Muddled n c a) = λ k at. (λ e. cc, λ e. cc)
+ticket-sound nodes t granted (message.Grant n u) = go (is_node_of nodes n && same_ticket u t) refl (granted n) refl
   where
-    go : (v : Bool) → (is_node_of (length b.votes) n && same_ticket u t) ≡ v → (g : Bool) → granted n ≡ g → HearsOfTicket b t granted (message.Grant n u) (cond v (cond g Known Counted) NotMine)
-    go false h g k = grant-other b n t u h
-    go true h true k = let p = and_parts (is_node_of (length b.votes) n) (same_ticket u t) h in (n, node-to b n p.0, (k, ap (message.Grant n) (ticket-to u t p.1)))
-    go true h false k = let p = and_parts (is_node_of (length b.votes) n) (same_ticket u t) h in (n, node-to b n p.0, (k, ap (message.Grant n) (ticket-to u t p.1)))
-ticket-sound b t granted (message.Busy n u) = go (is_node_of (length b.votes) n && same_ticket u t) refl
+    go : (v : Bool) → (is_node_of nodes n && same_ticket u t) ≡ v → (g : Bool) → granted n ≡ g → HearsOfTicket nodes t granted (message.Grant n u) (cond v (cond g Known Counted) NotMine)
+    go false h g k = grant-other nodes n t u h
+    go true h true k = let p = and_parts (is_node_of nodes n) (same_ticket u t) h in (n, node-to nodes n p.0, (k, ap (message.Grant n) (ticket-to u t p.1)))
+    go true h false k = let p = and_parts (is_node_of nodes n) (same_ticket u t) h in (n, node-to nodes n p.0, (k, ap (message.Grant n) (ticket-to u t p.1)))
+ticket-sound nodes t granted (message.Busy n u) = go (is_node_of nodes n && same_ticket u t) refl
   where
-    go : (v : Bool) → (is_node_of (length b.votes) n && same_ticket u t) ≡ v → HearsOfTicket b t granted (message.Busy n u) (cond v Busy NotMine)
-    go false h = busy-other b n t u h
-    go true h = let p = and_parts (is_node_of (length b.votes) n) (same_ticket u t) h in (n, node-to b n p.0, ap (message.Busy n) (ticket-to u t p.1))
+    go : (v : Bool) → (is_node_of nodes n && same_ticket u t) ≡ v → HearsOfTicket nodes t granted (message.Busy n u) (cond v Busy NotMine)
+    go false h = busy-other nodes n t u h
+    go true h = let p = and_parts (is_node_of nodes n) (same_ticket u t) h in (n, node-to nodes n p.0, ap (message.Busy n) (ticket-to u t p.1))
 
 -- and no other answer is
-ticket-only : (b : Ballot) (t : Ticket) (granted : ℕ → Bool) (m : Message) (heard : Heard) → HearsOfTicket b t granted m heard → heard ≡ heard_of_ticket (length b.votes) t granted m
-ticket-only b t granted m Counted h =
-    sym (ap (heard_of_ticket (length b.votes) t granted) h.2.1 ∙ ap (λ v. cond v (cond (granted h.0) Known Counted) NotMine) (grant-test b h.0 t h.1) ∙ ap (λ g. cond g Known Counted) h.2.0)
-ticket-only b t granted m Known h =
-    sym (ap (heard_of_ticket (length b.votes) t granted) h.2.1 ∙ ap (λ v. cond v (cond (granted h.0) Known Counted) NotMine) (grant-test b h.0 t h.1) ∙ ap (λ g. cond g Known Counted) h.2.0)
-ticket-only b t granted m Busy h = sym (ap (heard_of_ticket (length b.votes) t granted) h.2 ∙ ap (λ v. cond v Busy NotMine) (grant-test b h.0 t h.1))
-ticket-only b t granted m Done h = absurd h
-ticket-only b t granted (message.Request n u) NotMine h = refl
-ticket-only b t granted (message.Release n c a) NotMine h = refl
-ticket-only b t granted (message.Over n c a) NotMine h = refl
-ticket-only b t granted (message.Done n c a) NotMine h = refl
-ticket-only b t granted (message.Muddled n c a) NotMine h = refl
-ticket-only b t granted (message.Grant n u) NotMine h = go (is_node_of (length b.votes) n && same_ticket u t) refl
+ticket-only : (nodes : ℕ) (t : Ticket) (granted : ℕ → Bool) (m : Message) (heard : Heard) → HearsOfTicket nodes t granted m heard → heard ≡ heard_of_ticket nodes t granted m
+ticket-only nodes t granted m Counted h =
+    sym (ap (heard_of_ticket nodes t granted) h.2.1 ∙ ap (λ v. cond v (cond (granted h.0) Known Counted) NotMine) (grant-test nodes h.0 t h.1) ∙ ap (λ g. cond g Known Counted) h.2.0)
+ticket-only nodes t granted m Known h =
+    sym (ap (heard_of_ticket nodes t granted) h.2.1 ∙ ap (λ v. cond v (cond (granted h.0) Known Counted) NotMine) (grant-test nodes h.0 t h.1) ∙ ap (λ g. cond g Known Counted) h.2.0)
+ticket-only nodes t granted m Busy h = sym (ap (heard_of_ticket nodes t granted) h.2 ∙ ap (λ v. cond v Busy NotMine) (grant-test nodes h.0 t h.1))
+ticket-only nodes t granted m Done h = absurd h
+ticket-only nodes t granted (message.Request n u) NotMine h = refl
+ticket-only nodes t granted (message.Release n c a) NotMine h = refl
+ticket-only nodes t granted (message.Over n c a) NotMine h = refl
+ticket-only nodes t granted (message.Done n c a) NotMine h = refl
+ticket-only nodes t granted (message.Muddled n c a) NotMine h = refl
+ticket-only nodes t granted (message.Grant n u) NotMine h = go (is_node_of nodes n && same_ticket u t) refl
   where
-    go : (v : Bool) → (is_node_of (length b.votes) n && same_ticket u t) ≡ v → NotMine ≡ cond v (cond (granted n) Known Counted) NotMine
+    go : (v : Bool) → (is_node_of nodes n && same_ticket u t) ≡ v → NotMine ≡ cond v (cond (granted n) Known Counted) NotMine
     go false k = refl
-    go true k = let p = and_parts (is_node_of (length b.votes) n) (same_ticket u t) k in absurd ((h n (node-to b n p.0)).0 (ap (message.Grant n) (ticket-to u t p.1)))
-ticket-only b t granted (message.Busy n u) NotMine h = go (is_node_of (length b.votes) n && same_ticket u t) refl
+    go true k = let p = and_parts (is_node_of nodes n) (same_ticket u t) k in absurd ((h n (node-to nodes n p.0)).0 (ap (message.Grant n) (ticket-to u t p.1)))
+ticket-only nodes t granted (message.Busy n u) NotMine h = go (is_node_of nodes n && same_ticket u t) refl
   where
-    go : (v : Bool) → (is_node_of (length b.votes) n && same_ticket u t) ≡ v → NotMine ≡ cond v Busy NotMine
+    go : (v : Bool) → (is_node_of nodes n && same_ticket u t) ≡ v → NotMine ≡ cond v Busy NotMine
     go false k = refl
-    go true k = let p = and_parts (is_node_of (length b.votes) n) (same_ticket u t) k in absurd ((h n (node-to b n p.0)).1 (ap (message.Busy n) (ticket-to u t p.1)))
+    go true k = let p = and_parts (is_node_of nodes n) (same_ticket u t) k in absurd ((h n (node-to nodes n p.0)).1 (ap (message.Busy n) (ticket-to u t p.1)))
 
-pub of-ticket : (b : Ballot) (t : Ticket) (granted : ℕ → Bool) (m : Message) (heard : Heard) → HearsOfTicket b t granted m heard ↔ (heard ≡ heard_of_ticket (length b.votes) t granted m)
-of-ticket b t granted m heard = (ticket-only b t granted m heard, λ e. subst (HearsOfTicket b t granted m) (sym e) (ticket-sound b t granted m))
+pub of-ticket : (nodes : ℕ) (t : Ticket) (granted : ℕ → Bool) (m : Message) (heard : Heard) → HearsOfTicket nodes t granted m heard ↔ (heard ≡ heard_of_ticket nodes t granted m)
+of-ticket nodes t granted m heard = (ticket-only nodes t granted m heard, λ e. subst (HearsOfTicket nodes t granted m) (sym e) (ticket-sound nodes t granted m))
 
-done-test : (b : Ballot) (n c a : ℕ) → HasNode b n → (is_node_of (length b.votes) n && ((c == c) && (a == a))) ≡ true
-done-test b n c a h = and_from (is_node_of (length b.votes) n) ((c == c) && (a == a)) (node-from b n h) (and_from (c == c) (a == a) ((Decides-eqb c c).1 refl) ((Decides-eqb a a).1 refl))
+done-test : (nodes : ℕ) (n c a : ℕ) → IsNodeOf nodes n → (is_node_of nodes n && ((c == c) && (a == a))) ≡ true
+done-test nodes n c a h = and_from (is_node_of nodes n) ((c == c) && (a == a)) (node-from nodes n h) (and_from (c == c) (a == a) ((Decides-eqb c c).1 refl) ((Decides-eqb a a).1 refl))
 
-done-to : (b : Ballot) (n c d a e : ℕ) → (is_node_of (length b.votes) n && ((d == c) && (e == a))) ≡ true → HasNode b n × (message.Done n d e ≡ message.Done n c a)
-done-to b n c d a e h =
-    let p = and_parts (is_node_of (length b.votes) n) ((d == c) && (e == a)) h in
+done-to : (nodes : ℕ) (n c d a e : ℕ) → (is_node_of nodes n && ((d == c) && (e == a))) ≡ true → IsNodeOf nodes n × (message.Done n d e ≡ message.Done n c a)
+done-to nodes n c d a e h =
+    let p = and_parts (is_node_of nodes n) ((d == c) && (e == a)) h in
     let q = and_parts (d == c) (e == a) p.1 in
-    (node-to b n p.0, ap (λ k. message.Done n k e) ((Decides-eqb d c).0 q.0) ∙ ap (message.Done n c) ((Decides-eqb e a).0 q.1))
+    (node-to nodes n p.0, ap (λ k. message.Done n k e) ((Decides-eqb d c).0 q.0) ∙ ap (message.Done n c) ((Decides-eqb e a).0 q.1))
 
-rest-sound : (b : Ballot) (c a : ℕ) (m : Message) → HearsAtRest b c a m (heard_at_rest (length b.votes) c a m)
-rest-sound b c a (message.Request n u) = λ k at e. cc
-rest-sound b c a (message.Release n d e) = λ k at q. cc
-rest-sound b c a (message.Grant n u) = λ k at e. cc
-rest-sound b c a (message.Busy n u) = λ k at e. cc
-rest-sound b c a (message.Over n d e) = λ k at q. cc
-rest-sound b c a (message.Muddled n d e) = λ k at q. cc
-rest-sound b c a (message.Done n d e) = go (is_node_of (length b.votes) n && ((d == c) && (e == a))) refl
+rest-sound : (nodes : ℕ) (c a : ℕ) (m : Message) → HearsAtRest nodes c a m (heard_at_rest nodes c a m)
+rest-sound nodes c a (message.Request n u) = λ k at e. cc
+rest-sound nodes c a (message.Release n d e) = λ k at q. cc
+rest-sound nodes c a (message.Grant n u) = λ k at e. cc
+rest-sound nodes c a (message.Busy n u) = λ k at e. cc
+rest-sound nodes c a (message.Over n d e) = λ k at q. cc
+rest-sound nodes c a (message.Muddled n d e) = λ k at q. cc
+rest-sound nodes c a (message.Done n d e) = go (is_node_of nodes n && ((d == c) && (e == a))) refl
   where
-    go : (v : Bool) → (is_node_of (length b.votes) n && ((d == c) && (e == a))) ≡ v → HearsAtRest b c a (message.Done n d e) (cond v Done NotMine)
-    go true h = let r = done-to b n c d a e h in (n, r.0, r.1)
+    go : (v : Bool) → (is_node_of nodes n && ((d == c) && (e == a))) ≡ v → HearsAtRest nodes c a (message.Done n d e) (cond v Done NotMine)
+    go true h = let r = done-to nodes n c d a e h in (n, r.0, r.1)
     go false h = λ k at q.
         let node : k ≡ n = cc in
         let client : c ≡ d = cc in
         let attempt : a ≡ e = cc in
-        let agrees : (is_node_of (length b.votes) n && ((d == c) && (e == a))) ≡ true =
-        subst (λ v. (is_node_of (length b.votes) n && ((d == c) && (v == a))) ≡ true) attempt
-        (subst (λ v. (is_node_of (length b.votes) n && ((v == c) && (a == a))) ≡ true) client
-        (subst (λ v. (is_node_of (length b.votes) v && ((c == c) && (a == a))) ≡ true) node (done-test b k c a at))) in
+        let agrees : (is_node_of nodes n && ((d == c) && (e == a))) ≡ true =
+        subst (λ v. (is_node_of nodes n && ((d == c) && (v == a))) ≡ true) attempt
+        (subst (λ v. (is_node_of nodes n && ((v == c) && (a == a))) ≡ true) client
+        (subst (λ v. (is_node_of nodes v && ((c == c) && (a == a))) ≡ true) node (done-test nodes k c a at))) in
         let z : false ≡ true = sym h ∙ agrees in cc
 
-rest-only : (b : Ballot) (c a : ℕ) (m : Message) (heard : Heard) → HearsAtRest b c a m heard → heard ≡ heard_at_rest (length b.votes) c a m
-rest-only b c a m Counted h = absurd h
-rest-only b c a m Known h = absurd h
-rest-only b c a m Busy h = absurd h
-rest-only b c a m Done h = sym (ap (heard_at_rest (length b.votes) c a) h.2 ∙ ap (λ v. cond v Done NotMine) (done-test b h.0 c a h.1))
-rest-only b c a (message.Request n u) NotMine h = refl
-rest-only b c a (message.Release n d e) NotMine h = refl
-rest-only b c a (message.Grant n u) NotMine h = refl
-rest-only b c a (message.Busy n u) NotMine h = refl
-rest-only b c a (message.Over n d e) NotMine h = refl
-rest-only b c a (message.Muddled n d e) NotMine h = refl
-rest-only b c a (message.Done n d e) NotMine h = go (is_node_of (length b.votes) n && ((d == c) && (e == a))) refl
+rest-only : (nodes : ℕ) (c a : ℕ) (m : Message) (heard : Heard) → HearsAtRest nodes c a m heard → heard ≡ heard_at_rest nodes c a m
+rest-only nodes c a m Counted h = absurd h
+rest-only nodes c a m Known h = absurd h
+rest-only nodes c a m Busy h = absurd h
+rest-only nodes c a m Done h = sym (ap (heard_at_rest nodes c a) h.2 ∙ ap (λ v. cond v Done NotMine) (done-test nodes h.0 c a h.1))
+rest-only nodes c a (message.Request n u) NotMine h = refl
+rest-only nodes c a (message.Release n d e) NotMine h = refl
+rest-only nodes c a (message.Grant n u) NotMine h = refl
+rest-only nodes c a (message.Busy n u) NotMine h = refl
+rest-only nodes c a (message.Over n d e) NotMine h = refl
+rest-only nodes c a (message.Muddled n d e) NotMine h = refl
+rest-only nodes c a (message.Done n d e) NotMine h = go (is_node_of nodes n && ((d == c) && (e == a))) refl
   where
-    go : (v : Bool) → (is_node_of (length b.votes) n && ((d == c) && (e == a))) ≡ v → NotMine ≡ cond v Done NotMine
+    go : (v : Bool) → (is_node_of nodes n && ((d == c) && (e == a))) ≡ v → NotMine ≡ cond v Done NotMine
     go false k = refl
-    go true k = let r = done-to b n c d a e k in absurd (h n r.0 r.1)
+    go true k = let r = done-to nodes n c d a e k in absurd (h n r.0 r.1)
 
-pub at-rest : (b : Ballot) (c a : ℕ) (m : Message) (heard : Heard) → HearsAtRest b c a m heard ↔ (heard ≡ heard_at_rest (length b.votes) c a m)
-at-rest b c a m heard = (rest-only b c a m heard, λ e. subst (HearsAtRest b c a m) (sym e) (rest-sound b c a m))
+pub at-rest : (nodes : ℕ) (c a : ℕ) (m : Message) (heard : Heard) → HearsAtRest nodes c a m heard ↔ (heard ≡ heard_at_rest nodes c a m)
+at-rest nodes c a m heard = (rest-only nodes c a m heard, λ e. subst (HearsAtRest nodes c a m) (sym e) (rest-sound nodes c a m))

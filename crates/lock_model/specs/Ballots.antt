@@ -1,6 +1,6 @@
 -- Weighted voting (Gifford 1979): each node has a number of votes, a read collects `read` of them
 -- and a write `write`, and the numbers are such that a write meets every read and every write.
-use Rattle.std.specs.Prelude.{◌≡◌, ℕ, ◌+◌, ◌-◌, ◌*◌, ◌<◌, ◌≤◌, max, Bool, true, List, [], ◌∷◌, length, All, AllPairs, if◌then◌else◌, slice_index, slice_index_or, sum, sum_by}
+use Rattle.std.specs.Prelude.{◌≡◌, ℕ, ◌+◌, ◌-◌, ◌*◌, ◌<◌, ◌≤◌, nat_le, max, ◌&&◌, Bool, true, List, [], ◌∷◌, length, All, AllPairs, if◌then◌else◌, slice_index, slice_index_or, sum, sum_by}
 use Rattle.std.specs.List.{range_with_len}
 use Rattle.lock_messages.specs.declared.tickets.Mode.{Mode}
 use Rattle.lock_messages.specs.declared.tickets.Mode.TheVariants.{Read, Write}
@@ -11,9 +11,13 @@ pub record Ballot : Type 0 where
   pub read : ℕ
   pub write : ℕ
 
--- n is a node of the ballot: nodes are numbered from 1
+-- n is one of so many nodes, which are numbered from 1
+abbrev pub IsNodeOf : ℕ → ℕ → Type 0
+IsNodeOf count n = (1 ≤ n) × (n ≤ count)
+
+-- n is a node of the ballot
 abbrev pub HasNode : Ballot → ℕ → Type 0
-HasNode b n = (1 ≤ n) × (n ≤ length b.votes)
+HasNode b n = IsNodeOf (length b.votes) n
 
 -- the nodes of the ballot, in order
 abbrev pub nodes : Ballot → List ℕ
@@ -81,6 +85,10 @@ pub record IsSharedUnderBoth (first second : Ballot) (left right : ℕ → Bool)
 abbrev pub HasPlace : List Ballot → ℕ → Type 0
 HasPlace ballots place = (1 ≤ place) × (place ≤ length ballots)
 
+-- the same as a test
+abbrev pub has_place : List Ballot → ℕ → Bool
+has_place ballots place = nat_le 1 place && nat_le place (length ballots)
+
 -- what stands for the ballot of a place that the list doesn't have
 abbrev pub no_ballot : Ballot
 no_ballot = record { votes = []; read = 0; write = 0 }
@@ -93,6 +101,10 @@ ballot_at ballots place = slice_index_or ballots (place - 1) no_ballot
 abbrev pub node_count : List Ballot → ℕ
 node_count [] = 0
 node_count (b ∷ ballots) = max (length b.votes) (node_count ballots)
+
+-- n is a node of one of the ballots, or of more
+abbrev pub HasAnyNode : List Ballot → ℕ → Type 0
+HasAnyNode ballots n = IsNodeOf (node_count ballots) n
 
 -- the ballots of the list cross: each of them does, and so do each two
 pub record AllCross (ballots : List Ballot) : Type 0 where

@@ -93,9 +93,9 @@ EndedStaysEnded = (s t : Station) (message : Message) (replies : List Message) �
 
 -- what a client hears is the one answer that the relation allows
 abbrev pub HearingOfTicketIsExact : Type 0
-HearingOfTicketIsExact = (b : Ballot) (t : Ticket) (granted : ℕ → Bool) (message : Message) (heard : Heard) →
-    HearsOfTicket b t granted message heard ↔ (heard ≡ heard_of_ticket (length b.votes) t granted message)
+HearingOfTicketIsExact = (nodes : ℕ) (t : Ticket) (granted : ℕ → Bool) (message : Message) (heard : Heard) →
+    HearsOfTicket nodes t granted message heard ↔ (heard ≡ heard_of_ticket nodes t granted message)
 
 abbrev pub HearingAtRestIsExact : Type 0
-HearingAtRestIsExact = (b : Ballot) (client attempt : ℕ) (message : Message) (heard : Heard) →
-    HearsAtRest b client attempt message heard ↔ (heard ≡ heard_at_rest (length b.votes) client attempt message)
+HearingAtRestIsExact = (nodes : ℕ) (client attempt : ℕ) (message : Message) (heard : Heard) →
+    HearsAtRest nodes client attempt message heard ↔ (heard ≡ heard_at_rest nodes client attempt message)

@@ -12,7 +12,7 @@ use Rattle.book_recorders.specs.Sharing.{log_of}
 use Rattle.node_loop.specs.Standing.{IsReady}
 use Rattle.loop_tests.specs.Fresh.{IsUnlogged, IsNewNode, empty_record}
 
-pub node_log : (b : Ballot) (n : ℕ) (k : BerthValue) (book : BookValue) → IsUnlogged b (actor.Node n) k book → n ≡ 1 → IsNewNode (log_of k)
+pub node_log : (b : List Ballot) (n : ℕ) (k : BerthValue) (book : BookValue) → IsUnlogged b (actor.Node n) k book → n ≡ 1 → IsNewNode (log_of k)
 node_log b n k book unlogged one =
     let at : IsUnlogged b (actor.Node 1) k book = subst (λ (m : ℕ). IsUnlogged b (actor.Node m) k book) one unlogged in
     record {

@@ -12,7 +12,7 @@ use Rattle.world_opening.specs.Openings.{AreAttempts, stations_in}
 use Rattle.world_machine.specs.Opened.{IsResumed}
 use Rattle.loop_tests.specs.Clients.{IsDown, HasKept}
 
-keeps-first : (b : Ballot) (stations : List ExactStation) (first second : List ℕ) (attempt : ℕ) (attempts : List ℕ) → AreAttempts (first ∷ second ∷ []) attempts → first ≡ client_record_of attempt →
+keeps-first : (b : List Ballot) (stations : List ExactStation) (first second : List ℕ) (attempt : ℕ) (attempts : List ℕ) → AreAttempts (first ∷ second ∷ []) attempts → first ≡ client_record_of attempt →
     IsDown attempt (part (resumed b stations attempts) (actor.Client 1))
 keeps-first b stations first second attempt [] each spelled = absurd (let none : 0 ≡ 2 = each.count_is in omega (arith, none))
 keeps-first b stations first second attempt (a ∷ rest) each spelled =
@@ -27,9 +27,9 @@ keeps-first b stations first second attempt (a ∷ rest) each spelled =
     }
 
 -- the first client has made the attempt of which the first record is
-pub resumed-keeps : (b : Ballot) (problems : List Problem) (nodes : List (List ℕ)) (first second : List ℕ) (attempt : ℕ) (w : ExactWorld) → IsResumed b problems nodes (first ∷ second ∷ []) w → first ≡ client_record_of attempt →
+pub resumed-keeps : (b : List Ballot) (problems : List Problem) (nodes : List (List ℕ)) (first second : List ℕ) (attempt : ℕ) (w : ExactWorld) → IsResumed b problems nodes (first ∷ second ∷ []) w → first ≡ client_record_of attempt →
     HasKept b attempt w
 resumed-keeps b problems nodes first second attempt w h spelled = record {
-  ballot = ap (λ (v : ExactWorld). v.ballot) h.world;
+  ballots = ap (λ (v : ExactWorld). v.ballots) h.world;
   down = rw h.world (keeps-first b (stations_in h.records) first second attempt h.attempts h.clients_keep spelled);
 }

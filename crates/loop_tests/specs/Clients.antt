@@ -1,5 +1,5 @@
 -- The own log of c1 in a world in which it has made attempts already.
-use Rattle.std.specs.Prelude.{◌≡◌, ℕ, ◌≤◌, []}
+use Rattle.std.specs.Prelude.{◌≡◌, ℕ, ◌≤◌, List, []}
 use Rattle.lock_messages.specs.declared.ids.Actor.TheVariants as actor
 use Rattle.lock_messages.specs.declared.ids.TheConstants.{MAX_ATTEMPT}
 use Rattle.lock_model.specs.Ballots.{Ballot}
@@ -16,14 +16,14 @@ pub record IsDown (attempt : ℕ) (p : Part) : Type 0 where
   pub spelled : client_record_of attempt ≡ client_record_of kept
   pub part : p ≡ ClientPart (down_client kept)
 
--- a world of this ballot in which c1 is down, and has made this attempt last
-pub record HasKept (b : Ballot) (attempt : ℕ) (w : ExactWorld) : Type 0 where
-  pub ballot : w.ballot ≡ b
+-- a world of these ballots in which c1 is down, and has made this attempt last
+pub record HasKept (b : List Ballot) (attempt : ℕ) (w : ExactWorld) : Type 0 where
+  pub ballots : w.ballots ≡ b
   pub down : IsDown attempt (part w (actor.Client 1))
 
 -- the log of c1, which has logged nothing, in such a world
-pub record IsClientOf (b : Ballot) (attempt : ℕ) (l : OwnLog) : Type 0 where
+pub record IsClientOf (b : List Ballot) (attempt : ℕ) (l : OwnLog) : Type 0 where
   pub actor : l.actor ≡ actor.Client 1
-  pub ballot : l.ballot ≡ b
+  pub ballots : l.ballots ≡ b
   pub events : l.events ≡ []
   pub down : IsDown attempt l.opening

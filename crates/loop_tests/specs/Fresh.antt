@@ -1,5 +1,5 @@
 -- Books over worlds in which nothing has happened, and the own logs of their actors.
-use Rattle.std.specs.Prelude.{◌≡◌, [], ◌∷◌}
+use Rattle.std.specs.Prelude.{◌≡◌, List, [], ◌∷◌}
 use Rattle.lock_messages.specs.declared.ids.Actor.{Actor}
 use Rattle.lock_messages.specs.declared.ids.Actor.TheVariants as actor
 use Rattle.lock_model.specs.declared.problems.Problem.TheVariants.{First}
@@ -12,23 +12,27 @@ use Rattle.history_book.specs.Books.{BookValue, BerthValue}
 use Rattle.event_recorders.specs.OwnLogs.{OwnLog}
 use Rattle.book_recorders.specs.Sharing.{log_of}
 
+-- one ballot, of two nodes with a vote each; one votes to read, and two to write
+abbrev pub two_nodes : List Ballot
+two_nodes = record { votes = 1 ∷ 1 ∷ []; read = 1; write = 2 } ∷ []
+
 -- a world of two nodes for problem 1 and of two clients, in which nothing has happened
-abbrev pub IsNew : Ballot → ExactWorld → Type 0
+abbrev pub IsNew : List Ballot → ExactWorld → Type 0
 IsNew b w = w ≡ opening b (First ∷ First ∷ []) 2
 
 -- a book over such a world, in which nothing is logged
-pub record IsNewBook (b : Ballot) (k : BookValue) : Type 0 where
+pub record IsNewBook (b : List Ballot) (k : BookValue) : Type 0 where
   pub opening : IsNew b k.opening
   pub history : k.history ≡ []
 
 -- the book's own berth of this actor, in whose log there is nothing
-pub record IsUnlogged (b : Ballot) (who : Actor) (k : BerthValue) (book : BookValue) : Type 0 where
+pub record IsUnlogged (b : List Ballot) (who : Actor) (k : BerthValue) (book : BookValue) : Type 0 where
   pub table : k.table ≡ book.table
-  pub log : log_of k ≡ record { actor = who; ballot = b; opening = part (opening b (First ∷ First ∷ []) 2) who; events = [] }
+  pub log : log_of k ≡ record { actor = who; ballots = b; opening = part (opening b (First ∷ First ∷ []) 2) who; events = [] }
 
--- the log of c1, which has logged nothing, and has made no attempt in a world of this ballot
-abbrev pub IsNewClient : Ballot → OwnLog → Type 0
-IsNewClient b l = l ≡ record { actor = actor.Client 1; ballot = b; opening = ClientPart (down_client 0); events = [] }
+-- the log of c1, which has logged nothing, and has made no attempt in a world of these ballots
+abbrev pub IsNewClient : List Ballot → OwnLog → Type 0
+IsNewClient b l = l ≡ record { actor = actor.Client 1; ballots = b; opening = ClientPart (down_client 0); events = [] }
 
 -- the record of a node for problem 1 that has kept nothing yet
 abbrev pub empty_record : NodeRecord

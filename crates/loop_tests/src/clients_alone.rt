@@ -1,6 +1,7 @@
 //! A client alone, over lists: what it asks for, what it drops, and how it ends where nobody answers.
 
 ghost use Rattle.std.specs.Prelude.{◌≡◌, ◌≤◌, length, All};
+ghost use Rattle.client_loop.specs.Visits.{ArePlaced};
 ghost use Rattle.book_recorders.specs.Alone.{IsAlone};
 ghost use Rattle.book_recorders.specs.Sharing.{log_of};
 ghost use Rattle.lock_messages.specs.declared.ids.TheConstants.{MAX_ATTEMPT};
@@ -12,7 +13,7 @@ use crate::gates::OpenGate;
 use crate::openings::{own_book, resumed};
 use crate::posts::{is_sent, posts};
 use crate::records::{Device, record_on};
-use crate::worlds::{ballot, client_id, node_id};
+use crate::worlds::{ballots, client_id, node_id};
 use book_recorders::{ListRecorder, Logs};
 use client_loop::run_client;
 use event_recorders::RunFault;
@@ -24,14 +25,14 @@ use stable_record::{Leaves, client_bytes};
 use std::alloc::Global;
 use std::sync::Wait;
 use test_outcomes::{Failure, Outcome, check_row};
-use vote_weights::Ballot;
+use vote_weights::BallotList;
 
 /// Runs c1, which has made this attempt last, in a book of its own over a list of posts, with a record on
 /// this device. Answers the book, the link, and what the loop answered.
 fn run<K: Logs + Drop, R: Wait>(
     rt: &R,
     alloc: Global,
-    ballot: Ballot,
+    ballots: BallotList,
     own: (K, Berth),
     attempt: u64,
     device: Device,
@@ -39,12 +40,13 @@ fn run<K: Logs + Drop, R: Wait>(
     posts: Vec<Post>,
 ) -> Result<(K, ListLink, Answer), Failure>
     requires alone { IsAlone (K.book own.0) own.1 }
-    requires log { IsClientOf ballot attempt (log_of own.1) }
+    requires log { IsClientOf ballots attempt (log_of own.1) }
     requires attempt { attempt ≤ MAX_ATTEMPT }
     requires wishes { All (λ wish. wish.client ≡ 1) wishes.now }
+    requires placed { ArePlaced ballots wishes.now }
     requires few { length wishes.now ≤ MAX_WISHES }
 {
-    let mut stable = record_on(alloc, device, &client_bytes(attempt))?;
+    let stable = record_on(alloc, device, &client_bytes(attempt))?;
     let client = client_id(1)?;
     let (book, berth) = own;
     let mut recorder = ListRecorder::over(book, berth);
@@ -53,9 +55,9 @@ fn run<K: Logs + Drop, R: Wait>(
         rt,
         alloc,
         client,
-        ballot,
+        ballots,
         wishes,
-        &mut *stable,
+        stable,
         &mut recorder,
         &mut link,
         &OpenGate,
@@ -82,14 +84,14 @@ fn end_of<R: Wait>(
 ) -> Result<Ended, Failure>
     requires { attempt ≤ MAX_ATTEMPT }
 {
-    let ballot = ballot()?;
-    let own = own_book(alloc, ballot, attempt)?;
+    let ballots = ballots()?;
+    let own = own_book(alloc, ballots, attempt)?;
     let wishes = wishes(alloc, texts)?;
     let (book, link, answer) = run::<Book, R>(
-        rt, alloc, ballot, own, attempt, device, &wishes, posts,
+        rt, alloc, ballots, own, attempt, device, &wishes, posts,
     )?;
     Ok(Ended {
-        journal: journal_of(alloc, &book, resumed(alloc, ballot, attempt)?)?,
+        journal: journal_of(alloc, &book, resumed(alloc, ballots, attempt)?)?,
         link,
         answer,
     })

@@ -1,6 +1,7 @@
 //! A client beside a node that answers: whole wishes, to their journals.
 
 ghost use Rattle.std.specs.Prelude.{◌≡◌, ◌≤◌, length, All};
+ghost use Rattle.client_loop.specs.Visits.{ArePlaced};
 ghost use Rattle.book_recorders.specs.Sharing.{log_of};
 ghost use Rattle.loop_tests.specs.Fresh.{IsNewClient};
 
@@ -10,7 +11,7 @@ use crate::gates::OpenGate;
 use crate::neighbours::{Coming, Neighbour};
 use crate::posts::{frame, posts};
 use crate::records::{Device, record_on};
-use crate::worlds::{ballot, client_id, node_id, opened, world};
+use crate::worlds::{ballots, client_id, node_id, opened, world};
 use book_recorders::{BookName, BookRecorder, Logs, Named};
 use client_loop::run_client;
 use event_recorders::{Gate, RunFault};
@@ -22,14 +23,14 @@ use std::alloc::Global;
 use std::marker::Brand;
 use std::sync::{Mutex, Wait};
 use test_outcomes::{Failure, Outcome, check_row};
-use vote_weights::Ballot;
+use vote_weights::BallotList;
 
 /// Runs c1, with a record on this device, beside the first of the nodes, in the book under this lock. This
 /// comes beside what the node answers; the second node is gone for who sends to another.
 fn run_over<B: BookName, K: Logs, R: Wait + Copy, G: Gate>(
     rt: R,
     alloc: Global,
-    ballot: Ballot,
+    ballots: BallotList,
     lock: &Mutex<Named<B, K>>,
     berths: (Berth, Berth),
     nodes: (NodeId, NodeId),
@@ -40,11 +41,12 @@ fn run_over<B: BookName, K: Logs, R: Wait + Copy, G: Gate>(
 ) -> Result<Answer, Failure>
     requires node { berths.0.table ≡ B.table }
     requires client { berths.1.table ≡ B.table }
-    requires log { IsNewClient ballot (log_of berths.1) }
+    requires log { IsNewClient ballots (log_of berths.1) }
     requires wishes { All (λ wish. wish.client ≡ 1) wishes.now }
+    requires placed { ArePlaced ballots wishes.now }
     requires few { length wishes.now ≤ MAX_WISHES }
 {
-    let mut stable = record_on(alloc, device, &client_bytes(0))?;
+    let stable = record_on(alloc, device, &client_bytes(0))?;
     let client = client_id(1)?;
     let (one, two) = berths;
     let beside = BookRecorder::of(rt, lock, one);
@@ -54,9 +56,9 @@ fn run_over<B: BookName, K: Logs, R: Wait + Copy, G: Gate>(
         &rt,
         alloc,
         client,
-        ballot,
+        ballots,
         wishes,
-        &mut *stable,
+        stable,
         &mut recorder,
         &mut link,
         gate,
@@ -67,7 +69,7 @@ fn run_over<B: BookName, K: Logs, R: Wait + Copy, G: Gate>(
 fn run<B: BookName, K: Logs + Drop, R: Wait + Copy, G: Gate>(
     rt: R,
     alloc: Global,
-    ballot: Ballot,
+    ballots: BallotList,
     book: K,
     berths: (Berth, Berth),
     nodes: (NodeId, NodeId),
@@ -79,13 +81,14 @@ fn run<B: BookName, K: Logs + Drop, R: Wait + Copy, G: Gate>(
     requires book { (K.book book).table ≡ B.table }
     requires node { berths.0.table ≡ B.table }
     requires client { berths.1.table ≡ B.table }
-    requires log { IsNewClient ballot (log_of berths.1) }
+    requires log { IsNewClient ballots (log_of berths.1) }
     requires wishes { All (λ wish. wish.client ≡ 1) wishes.now }
+    requires placed { ArePlaced ballots wishes.now }
     requires few { length wishes.now ≤ MAX_WISHES }
 {
     let lock = Mutex::new(Named::<B, K>::of(book));
     let answer = run_over(
-        rt, alloc, ballot, &lock, berths, nodes, device, wishes, coming, gate,
+        rt, alloc, ballots, &lock, berths, nodes, device, wishes, coming, gate,
     )?;
     Ok((lock.into_inner().into_book(), answer))
 }
@@ -102,16 +105,16 @@ pub(crate) fn end_of<R: Wait + Copy, G: Gate>(
     coming: Coming,
     gate: &G,
 ) -> Result<(Vec<u8>, Answer), Failure> {
-    let ballot = ballot()?;
+    let ballots = ballots()?;
     let node = node_id(numbers.0)?;
     let nodes = (node, node_id(numbers.1)?);
-    let (book, one, two) = opened(alloc, ballot, node)?;
+    let (book, one, two) = opened(alloc, ballots, node)?;
     let wishes = wishes(alloc, wished)?;
     let berths = (one, two);
     let (book, answer) = run::<Brand, Book, R, G>(
-        rt, alloc, ballot, book, berths, nodes, device, &wishes, coming, gate,
+        rt, alloc, ballots, book, berths, nodes, device, &wishes, coming, gate,
     )?;
-    let journal = journal_of(alloc, &book, world(alloc, ballot)?)?;
+    let journal = journal_of(alloc, &book, world(alloc, ballots)?)?;
     Ok((journal, answer))
 }
 

@@ -1,6 +1,7 @@
 //! A client beside a node whose vote another client holds.
 
 ghost use Rattle.std.specs.Prelude.{◌≡◌, ◌≤◌, length, All};
+ghost use Rattle.client_loop.specs.Visits.{ArePlaced};
 ghost use Rattle.book_recorders.specs.Sharing.{log_of};
 ghost use Rattle.loop_tests.specs.Fresh.{IsNewClient};
 
@@ -12,7 +13,7 @@ use crate::neighbours::{Coming, Neighbour};
 use crate::node_runs::event;
 use crate::posts::frame;
 use crate::records::{Device, record_on};
-use crate::worlds::{all_opened, ballot, client_id, node_id, world};
+use crate::worlds::{all_opened, ballots, client_id, node_id, world};
 use book_recorders::{BookName, BookRecorder, Logs, Named};
 use client_loop::run_client;
 use event_recorders::RunFault;
@@ -23,7 +24,7 @@ use std::alloc::Global;
 use std::marker::Brand;
 use std::sync::{Mutex, Wait};
 use test_outcomes::{Failure, Outcome, check_row};
-use vote_weights::Ballot;
+use vote_weights::BallotList;
 
 /// How c2 asks n1 as a writer: message 1.
 const ASKS: &str = "\
@@ -56,7 +57,7 @@ fn asks<B: BookName, K: Logs, R: Wait + Copy>(
 fn run_over<B: BookName, K: Logs, R: Wait + Copy>(
     rt: R,
     alloc: Global,
-    ballot: Ballot,
+    ballots: BallotList,
     lock: &Mutex<Named<B, K>>,
     berths: (Berth, Berth, Berth),
     wishes: &[Wish],
@@ -64,11 +65,12 @@ fn run_over<B: BookName, K: Logs, R: Wait + Copy>(
     requires node { berths.0.table ≡ B.table }
     requires one { berths.1.table ≡ B.table }
     requires two { berths.2.table ≡ B.table }
-    requires log { IsNewClient ballot (log_of berths.1) }
+    requires log { IsNewClient ballots (log_of berths.1) }
     requires wishes { All (λ wish. wish.client ≡ 1) wishes.now }
+    requires placed { ArePlaced ballots wishes.now }
     requires few { length wishes.now ≤ MAX_WISHES }
 {
-    let mut stable = record_on(alloc, Device::Memory, &client_bytes(0))?;
+    let stable = record_on(alloc, Device::Memory, &client_bytes(0))?;
     let client = client_id(1)?;
     let nodes = (node_id(1)?, node_id(2)?);
     let (node, one, two) = berths;
@@ -85,9 +87,9 @@ fn run_over<B: BookName, K: Logs, R: Wait + Copy>(
         &rt,
         alloc,
         client,
-        ballot,
+        ballots,
         wishes,
-        &mut *stable,
+        stable,
         &mut recorder,
         &mut link,
         &OpenGate,
@@ -98,7 +100,7 @@ fn run_over<B: BookName, K: Logs, R: Wait + Copy>(
 fn run<B: BookName, K: Logs + Drop, R: Wait + Copy>(
     rt: R,
     alloc: Global,
-    ballot: Ballot,
+    ballots: BallotList,
     book: K,
     berths: (Berth, Berth, Berth),
     wishes: &[Wish],
@@ -107,23 +109,24 @@ fn run<B: BookName, K: Logs + Drop, R: Wait + Copy>(
     requires node { berths.0.table ≡ B.table }
     requires one { berths.1.table ≡ B.table }
     requires two { berths.2.table ≡ B.table }
-    requires log { IsNewClient ballot (log_of berths.1) }
+    requires log { IsNewClient ballots (log_of berths.1) }
     requires wishes { All (λ wish. wish.client ≡ 1) wishes.now }
+    requires placed { ArePlaced ballots wishes.now }
     requires few { length wishes.now ≤ MAX_WISHES }
 {
     let lock = Mutex::new(Named::<B, K>::of(book));
-    let answer = run_over(rt, alloc, ballot, &lock, berths, wishes)?;
+    let answer = run_over(rt, alloc, ballots, &lock, berths, wishes)?;
     Ok((lock.into_inner().into_book(), answer))
 }
 
 /// The journal in which c1 wishes to write, and what the loop answered.
 fn end_of<R: Wait + Copy>(rt: R, alloc: Global) -> Result<(Vec<u8>, Answer), Failure> {
-    let ballot = ballot()?;
-    let (book, node, one, two) = all_opened(alloc, ballot, node_id(1)?)?;
+    let ballots = ballots()?;
+    let (book, node, one, two) = all_opened(alloc, ballots, node_id(1)?)?;
     let wishes = wishes(alloc, "c1 write a")?;
     let berths = (node, one, two);
-    let (book, answer) = run::<Brand, Book, R>(rt, alloc, ballot, book, berths, &wishes)?;
-    let journal = journal_of(alloc, &book, world(alloc, ballot)?)?;
+    let (book, answer) = run::<Brand, Book, R>(rt, alloc, ballots, book, berths, &wishes)?;
+    let journal = journal_of(alloc, &book, world(alloc, ballots)?)?;
     Ok((journal, answer))
 }
 

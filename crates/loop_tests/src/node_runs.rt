@@ -10,7 +10,7 @@ use crate::faults::of_book;
 use crate::gates::OpenGate;
 use crate::posts::{is_sent, is_sent_until, posts};
 use crate::records::{Device, record_on};
-use crate::worlds::{all_opened, ballot, client_id, node_id, policy, world};
+use crate::worlds::{all_opened, ballots, client_id, node_id, policy, world};
 use book_recorders::{BookName, BookRecorder, Logs, Named};
 use event_recorders::{Gate, RunFault};
 use history_book::{Berth, Book, BookFault};
@@ -106,7 +106,7 @@ fn run_over<B: BookName, K: Logs, R: Wait + Copy, G: Gate>(
     requires table { berth.table ≡ B.table }
     requires log { IsNewNode (log_of berth) }
 {
-    let mut stable = record_on(alloc, device, nothing_kept(alloc)?.as_slice())?;
+    let stable = record_on(alloc, device, nothing_kept(alloc)?.as_slice())?;
     let policy = policy(alloc)?;
     let node = node_id(1)?;
     let mut recorder = BookRecorder::of(rt, lock, berth);
@@ -115,7 +115,7 @@ fn run_over<B: BookName, K: Logs, R: Wait + Copy, G: Gate>(
         &rt,
         alloc,
         node,
-        &mut *stable,
+        stable,
         policy,
         &mut recorder,
         &mut link,
@@ -167,8 +167,8 @@ pub(crate) fn end_of<R: Wait + Copy, G: Gate>(
     texts: &str,
     gate: &G,
 ) -> Result<Ended, Failure> {
-    let ballot = ballot()?;
-    let (book, node, one, two) = all_opened(alloc, ballot, node_id(1)?)?;
+    let ballots = ballots()?;
+    let (book, node, one, two) = all_opened(alloc, ballots, node_id(1)?)?;
     let berths = (node, one, two);
     let posts = posts(alloc, texts)?;
     let (book, link, answer) = run::<Brand, Book, R, G>(
@@ -181,7 +181,7 @@ pub(crate) fn end_of<R: Wait + Copy, G: Gate>(
         posts,
         gate,
     )?;
-    let journal = journal_of(alloc, &book, world(alloc, ballot)?)?;
+    let journal = journal_of(alloc, &book, world(alloc, ballots)?)?;
     Ok(Ended {
         journal,
         link,

@@ -1,6 +1,7 @@
 // Worlds in which c1 has made attempts already, and books of c1's own over them.
 
 ghost use Rattle.std.specs.Prelude.{◌≡◌, ◌∷◌, [], ◌≤◌, IfOk};
+ghost use Rattle.loop_tests.specs.Fresh.{two_nodes};
 ghost use Rattle.lock_messages.specs.declared.ids.TheConstants.{MAX_ATTEMPT};
 ghost use Rattle.book_recorders.specs.Alone.{IsAlone};
 ghost use Rattle.book_recorders.specs.Sharing.{log_of};
@@ -15,7 +16,7 @@ use lock_messages::Actor;
 use stable_record::client_bytes;
 use std::alloc::Global;
 use test_outcomes::Failure;
-use vote_weights::Ballot;
+use vote_weights::BallotList;
 use world_machine::{OpeningFault, World};
 
 /// The record of a node for problem 1 that has kept nothing.
@@ -23,10 +24,10 @@ const NOTHING: [u8; 4] = [1, 1, 0, 0];
 
 /// A world of two nodes that have kept nothing, and of two clients: c1 has made this attempt last, c2
 /// none.
-pub(crate) fn resumed(alloc: Global, ballot: Ballot, attempt: u64) -> Result<World, Failure>
-    requires votes { ballot.votes ≡ 1 ∷ 1 ∷ [] }
+pub(crate) fn resumed(alloc: Global, ballots: BallotList, attempt: u64) -> Result<World, Failure>
+    requires votes { ballots ≡ two_nodes }
     requires attempt { attempt ≤ MAX_ATTEMPT }
-    ensures { IfOk result (λ w. HasKept ballot attempt w) }
+    ensures { IfOk result (λ w. HasKept ballots attempt w) }
 {
     let mut policies: Vec<Box<dyn Admission + Send>> = Vec::new(alloc);
     policies.push(policy(alloc)?)?;
@@ -39,7 +40,7 @@ pub(crate) fn resumed(alloc: Global, ballot: Ballot, attempt: u64) -> Result<Wor
         Vec::from_slice(alloc, &client_bytes(attempt))?,
         Vec::from_slice(alloc, &client_bytes(0))?,
     ];
-    match World::resume(alloc, ballot, 2, policies, &nodes, &clients) {
+    match World::resume(alloc, ballots, 2, policies, &nodes, &clients) {
         Ok(world) => Ok(world),
         Err((OpeningFault::Memory, _)) => Err(Failure::Memory),
         Err(_) => Err(Failure::Wrong(0)),
@@ -49,15 +50,15 @@ pub(crate) fn resumed(alloc: Global, ballot: Ballot, attempt: u64) -> Result<Wor
 /// A book of c1's own over such a world, and c1's berth.
 pub(crate) fn own_book(
     alloc: Global,
-    ballot: Ballot,
+    ballots: BallotList,
     attempt: u64,
 ) -> Result<(Book, Berth), Failure>
-    requires votes { ballot.votes ≡ 1 ∷ 1 ∷ [] }
+    requires votes { ballots ≡ two_nodes }
     requires attempt { attempt ≤ MAX_ATTEMPT }
     ensures alone { IfOk result (λ r. IsAlone r.0 r.1) }
-    ensures log { IfOk result (λ r. IsClientOf ballot attempt (log_of r.1)) }
+    ensures log { IfOk result (λ r. IsClientOf ballots attempt (log_of r.1)) }
 {
-    let world = resumed(alloc, ballot, attempt)?;
+    let world = resumed(alloc, ballots, attempt)?;
     match open_alone(alloc, world, Actor::Client(client_id(1)?)) {
         Ok(Some(opened)) => Ok(opened),
         Ok(None) => Err(Failure::Wrong(0)),

@@ -1,6 +1,7 @@
 //! A client whose gate and record count with its book, and a client whose book or list of messages is full.
 
 ghost use Rattle.std.specs.Prelude.{◌≡◌, ◌≤◌, length, All};
+ghost use Rattle.client_loop.specs.Visits.{ArePlaced};
 ghost use Rattle.book_recorders.specs.Alone.{IsAlone};
 ghost use Rattle.book_recorders.specs.Sharing.{log_of};
 ghost use Rattle.loop_tests.specs.Clients.{IsClientOf};
@@ -9,7 +10,7 @@ use crate::audits::{journal_of, lines_of};
 use crate::clients::{Answer, told, wishes};
 use crate::openings::{own_book, resumed};
 use crate::watches::{Counts, ENOUGH, Room, Watched, counted_record};
-use crate::worlds::{ballot, client_id};
+use crate::worlds::{ballots, client_id};
 use book_recorders::{ListRecorder, Logs};
 use client_loop::run_client;
 use event_recorders::RunFault;
@@ -20,25 +21,26 @@ use stable_record::client_bytes;
 use std::alloc::Global;
 use std::sync::{Arc, Wait};
 use test_outcomes::{Failure, Outcome, check_row};
-use vote_weights::Ballot;
+use vote_weights::BallotList;
 
 /// Runs c1 over a link that brings nothing, with so much room in a book of its own. Answers the book, how
 /// much was sent, and what the loop answered.
 fn run<K: Logs + Drop, R: Wait>(
     rt: &R,
     alloc: Global,
-    ballot: Ballot,
+    ballots: BallotList,
     own: (K, Berth),
     wishes: &[Wish],
     room: Room,
     counts: &Arc<Counts>,
 ) -> Result<(K, usize, Answer), Failure>
     requires alone { IsAlone (K.book own.0) own.1 }
-    requires log { IsClientOf ballot 0 (log_of own.1) }
+    requires log { IsClientOf ballots 0 (log_of own.1) }
     requires wishes { All (λ wish. wish.client ≡ 1) wishes.now }
+    requires placed { ArePlaced ballots wishes.now }
     requires few { length wishes.now ≤ MAX_WISHES }
 {
-    let mut stable = counted_record(alloc, &client_bytes(0), counts)?;
+    let stable = counted_record(alloc, &client_bytes(0), counts)?;
     let client = client_id(1)?;
     let counts: &Counts = counts;
     let (book, berth) = own;
@@ -53,9 +55,9 @@ fn run<K: Logs + Drop, R: Wait>(
         rt,
         alloc,
         client,
-        ballot,
+        ballots,
         wishes,
-        &mut *stable,
+        stable,
         &mut recorder,
         &mut link,
         counts,
@@ -72,11 +74,11 @@ fn end_of<R: Wait>(
     room: Room,
     counts: &Arc<Counts>,
 ) -> Result<(Vec<u8>, usize, Answer), Failure> {
-    let ballot = ballot()?;
-    let own = own_book(alloc, ballot, 0)?;
+    let ballots = ballots()?;
+    let own = own_book(alloc, ballots, 0)?;
     let wishes = wishes(alloc, "c1 read a")?;
-    let (book, sent, answer) = run::<Book, R>(rt, alloc, ballot, own, &wishes, room, counts)?;
-    let journal = journal_of(alloc, &book, resumed(alloc, ballot, 0)?)?;
+    let (book, sent, answer) = run::<Book, R>(rt, alloc, ballots, own, &wishes, room, counts)?;
+    let journal = journal_of(alloc, &book, resumed(alloc, ballots, 0)?)?;
     Ok((journal, sent, answer))
 }
 

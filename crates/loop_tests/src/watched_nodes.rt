@@ -8,7 +8,7 @@ use crate::audits::{journal_of, lines_of};
 use crate::node_runs::{Answer, nothing_kept, tells};
 use crate::posts::{is_sent, posts};
 use crate::watches::{Counts, ENOUGH, Room, Watched, counted_record};
-use crate::worlds::{all_opened, ballot, client_id, node_id, policy, world};
+use crate::worlds::{all_opened, ballots, client_id, node_id, policy, world};
 use book_recorders::{BookName, BookRecorder, Logs, Named};
 use event_recorders::RunFault;
 use history_book::{Berth, Book};
@@ -34,7 +34,7 @@ fn run_over<B: BookName, K: Logs, R: Wait + Copy>(
     requires table { berth.table ≡ B.table }
     requires log { IsNewNode (log_of berth) }
 {
-    let mut stable = counted_record(alloc, nothing_kept(alloc)?.as_slice(), counts)?;
+    let stable = counted_record(alloc, nothing_kept(alloc)?.as_slice(), counts)?;
     let policy = policy(alloc)?;
     let node = node_id(1)?;
     let counts: &Counts = counts;
@@ -49,7 +49,7 @@ fn run_over<B: BookName, K: Logs, R: Wait + Copy>(
         &rt,
         alloc,
         node,
-        &mut *stable,
+        stable,
         policy,
         &mut recorder,
         &mut link,
@@ -93,8 +93,8 @@ fn end_of<R: Wait + Copy>(
     room: Room,
     counts: &Arc<Counts>,
 ) -> Result<(Vec<u8>, ListLink, Answer), Failure> {
-    let ballot = ballot()?;
-    let (book, node, one, two) = all_opened(alloc, ballot, node_id(1)?)?;
+    let ballots = ballots()?;
+    let (book, node, one, two) = all_opened(alloc, ballots, node_id(1)?)?;
     let berths = (node, one, two);
     let posts = posts(alloc, texts)?;
     let (book, link, answer) = run::<Brand, Book, R>(
@@ -107,7 +107,7 @@ fn end_of<R: Wait + Copy>(
         room,
         counts,
     )?;
-    let journal = journal_of(alloc, &book, world(alloc, ballot)?)?;
+    let journal = journal_of(alloc, &book, world(alloc, ballots)?)?;
     Ok((journal, link, answer))
 }
 

@@ -1,7 +1,7 @@
 // Worlds in which all are down and nothing is kept, books over them, and a few values.
 
 ghost use Rattle.std.specs.Prelude.{◌≡◌, ◌∷◌, [], IfOk};
-ghost use Rattle.loop_tests.specs.Fresh.{IsNew, IsNewBook, IsUnlogged};
+ghost use Rattle.loop_tests.specs.Fresh.{IsNew, IsNewBook, IsUnlogged, two_nodes};
 
 use crate::faults::of_book;
 use admission_policy::{Admission, FirstProblem};
@@ -10,7 +10,7 @@ use lock_messages::{Actor, Attempt, ClientId, NodeId, ResourceName};
 use lock_model::Problem;
 use std::alloc::Global;
 use test_outcomes::Failure;
-use vote_weights::Ballot;
+use vote_weights::{Ballot, BallotList};
 use world_machine::World;
 
 pub(crate) fn node_id(number: u8) -> Result<NodeId, Failure>
@@ -41,49 +41,52 @@ pub(crate) fn policy(alloc: Global) -> Result<Box<dyn Admission + Send>, Failure
     Ok(policy)
 }
 
-/// Two nodes with a vote each, of which one reads and two write.
-pub(crate) fn ballot() -> Result<Ballot, Failure>
-    ensures { IfOk result (λ b. b.votes ≡ 1 ∷ 1 ∷ []) }
+/// The list of one ballot: two nodes with a vote each, of which one reads and two write.
+pub(crate) fn ballots() -> Result<BallotList, Failure>
+    ensures { IfOk result (λ b. b ≡ two_nodes) }
 {
-    match Ballot::of(&[1, 1], 1, 2) {
-        Ok(ballot) => Ok(ballot),
+    let Ok(ballot) = Ballot::of(&[1, 1], 1, 2) else {
+        return Err(Failure::Wrong(0));
+    };
+    match BallotList::of(&[ballot]) {
+        Ok(ballots) => Ok(ballots),
         Err(_) => Err(Failure::Wrong(0)),
     }
 }
 
-/// A world of that ballot and of two clients, in which nothing has happened.
-pub(crate) fn world(alloc: Global, ballot: Ballot) -> Result<World, Failure>
-    requires { ballot.votes ≡ 1 ∷ 1 ∷ [] }
-    ensures { IfOk result (λ w. IsNew ballot w) }
+/// A world of those ballots and of two clients, in which nothing has happened.
+pub(crate) fn world(alloc: Global, ballots: BallotList) -> Result<World, Failure>
+    requires { ballots ≡ two_nodes }
+    ensures { IfOk result (λ w. IsNew ballots w) }
 {
     let mut policies: Vec<Box<dyn Admission + Send>> = Vec::new(alloc);
     policies.push(policy(alloc)?)?;
     policies.push(policy(alloc)?)?;
-    match World::start(alloc, ballot, 2, policies) {
+    match World::start(alloc, ballots, 2, policies) {
         Ok(world) => Ok(world),
         Err(_) => Err(Failure::Memory),
     }
 }
 
 /// A book over such a world, in which nothing is logged.
-fn book(alloc: Global, ballot: Ballot) -> Result<Book, Failure>
-    requires { ballot.votes ≡ 1 ∷ 1 ∷ [] }
-    ensures { IfOk result (λ b. IsNewBook ballot b) }
+fn book(alloc: Global, ballots: BallotList) -> Result<Book, Failure>
+    requires { ballots ≡ two_nodes }
+    ensures { IfOk result (λ b. IsNewBook ballots b) }
 {
-    match Book::over(alloc, 1, world(alloc, ballot)?) {
+    match Book::over(alloc, 1, world(alloc, ballots)?) {
         Ok(book) => Ok(book),
         Err((_, fault)) => Err(of_book(fault)),
     }
 }
 
 /// The berth of an actor that was given none, in a book in which nothing is logged.
-fn berth_of(ballot: Ballot, book: &mut Book, actor: Actor) -> Result<Berth, Failure>
-    requires { IsNewBook ballot book.old }
-    ensures book { IsNewBook ballot book.new }
-    ensures berth { IfOk result (λ k. IsUnlogged ballot actor k book.new) }
+fn berth_of(ballots: BallotList, book: &mut Book, actor: Actor) -> Result<Berth, Failure>
+    requires { IsNewBook ballots book.old }
+    ensures book { IsNewBook ballots book.new }
+    ensures berth { IfOk result (λ k. IsUnlogged ballots actor k book.new) }
     ensures table { book.new.table ≡ book.old.table }
 {
-    let _ = ballot;
+    let _ = ballots;
     match book.berth(actor) {
         Ok(Some(berth)) => Ok(berth),
         Ok(None) => Err(Failure::Wrong(0)),
@@ -91,35 +94,35 @@ fn berth_of(ballot: Ballot, book: &mut Book, actor: Actor) -> Result<Berth, Fail
     }
 }
 
-/// A new book of that ballot, with the berths of a node and of c1.
+/// A new book of those ballots, with the berths of a node and of c1.
 pub(crate) fn opened(
     alloc: Global,
-    ballot: Ballot,
+    ballots: BallotList,
     node: NodeId,
 ) -> Result<(Book, Berth, Berth), Failure>
-    requires { ballot.votes ≡ 1 ∷ 1 ∷ [] }
-    ensures book { IfOk result (λ r. IsNewBook ballot r.0) }
-    ensures node { IfOk result (λ r. IsUnlogged ballot (Actor.Node node) r.1 r.0) }
-    ensures client { IfOk result (λ r. IsUnlogged ballot (Actor.Client 1) r.2 r.0) }
+    requires { ballots ≡ two_nodes }
+    ensures book { IfOk result (λ r. IsNewBook ballots r.0) }
+    ensures node { IfOk result (λ r. IsUnlogged ballots (Actor.Node node) r.1 r.0) }
+    ensures client { IfOk result (λ r. IsUnlogged ballots (Actor.Client 1) r.2 r.0) }
 {
-    let mut book = book(alloc, ballot)?;
-    let one = berth_of(ballot, &mut book, Actor::Node(node))?;
-    let two = berth_of(ballot, &mut book, Actor::Client(client_id(1)?))?;
+    let mut book = book(alloc, ballots)?;
+    let one = berth_of(ballots, &mut book, Actor::Node(node))?;
+    let two = berth_of(ballots, &mut book, Actor::Client(client_id(1)?))?;
     Ok((book, one, two))
 }
 
 /// The same, with the berth of c2 too.
 pub(crate) fn all_opened(
     alloc: Global,
-    ballot: Ballot,
+    ballots: BallotList,
     node: NodeId,
 ) -> Result<(Book, Berth, Berth, Berth), Failure>
-    requires { ballot.votes ≡ 1 ∷ 1 ∷ [] }
-    ensures node { IfOk result (λ r. IsUnlogged ballot (Actor.Node node) r.1 r.0) }
-    ensures one { IfOk result (λ r. IsUnlogged ballot (Actor.Client 1) r.2 r.0) }
-    ensures two { IfOk result (λ r. IsUnlogged ballot (Actor.Client 2) r.3 r.0) }
+    requires { ballots ≡ two_nodes }
+    ensures node { IfOk result (λ r. IsUnlogged ballots (Actor.Node node) r.1 r.0) }
+    ensures one { IfOk result (λ r. IsUnlogged ballots (Actor.Client 1) r.2 r.0) }
+    ensures two { IfOk result (λ r. IsUnlogged ballots (Actor.Client 2) r.3 r.0) }
 {
-    let (mut book, node, one) = opened(alloc, ballot, node)?;
-    let two = berth_of(ballot, &mut book, Actor::Client(client_id(2)?))?;
+    let (mut book, node, one) = opened(alloc, ballots, node)?;
+    let two = berth_of(ballots, &mut book, Actor::Client(client_id(2)?))?;
     Ok((book, node, one, two))
 }

@@ -11,7 +11,7 @@ use history_book::{Berth, Book, BookFault, JournalFault};
 use history_check::read_event;
 use lock_messages::Actor;
 use std::alloc::Global;
-use vote_weights::Ballot;
+use vote_weights::{Ballot, BallotList};
 use world_machine::World;
 use world_model::Event;
 
@@ -21,15 +21,18 @@ fn world(alloc: Global) -> Result<World, Failure> {
     let Ok(ballot) = Ballot::of(&[1, 1, 1], 2, 2) else {
         return Err(Failure::Wrong);
     };
+    let Ok(ballots) = BallotList::of(&[ballot]) else {
+        return Err(Failure::Wrong);
+    };
     let mut policies = Vec::new(alloc);
     for _ in 0..3 {
         let policy: Box<dyn Admission + Send> = Box::new(alloc, FirstProblem)?;
         policies.push(policy)?;
     }
-    if policies.len() != ballot.nodes() as usize {
+    if policies.len() != ballots.nodes() as usize {
         return Err(Failure::Wrong);
     }
-    match World::start(alloc, ballot, 4, policies) {
+    match World::start(alloc, ballots, 4, policies) {
         Ok(world) => Ok(world),
         Err(_) => Err(Failure::Memory),
     }

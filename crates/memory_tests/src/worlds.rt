@@ -7,7 +7,7 @@ use crate::failures::{
 use admission_policy::{Admission, Counted, FirstProblem};
 use lock_messages::{Actor, Message, Mode};
 use std::alloc::Global;
-use vote_weights::Ballot;
+use vote_weights::{Ballot, BallotList};
 use world_machine::{OpeningFault, World};
 use world_model::{Age, Effect, Event};
 
@@ -46,19 +46,22 @@ fn opened(
     }
 }
 
-fn ballot() -> Result<Ballot, Failure> {
-    match Ballot::of(&[1], 1, 1) {
-        Ok(ballot) => Ok(ballot),
+fn ballots() -> Result<BallotList, Failure> {
+    let Ok(ballot) = Ballot::of(&[1], 1, 1) else {
+        return Err(Failure::Wrong);
+    };
+    match BallotList::of(&[ballot]) {
+        Ok(ballots) => Ok(ballots),
         Err(_) => Err(Failure::Wrong),
     }
 }
 
 fn started(alloc: Global) -> Result<World, Failure> {
-    let (ballot, policies) = (ballot()?, policies(alloc)?);
-    if policies.len() != ballot.nodes() as usize {
+    let (ballots, policies) = (ballots()?, policies(alloc)?);
+    if policies.len() != ballots.nodes() as usize {
         return Err(Failure::Wrong);
     }
-    opened(World::start(alloc, ballot, 2, policies))
+    opened(World::start(alloc, ballots, 2, policies))
 }
 
 fn resumed_from(
@@ -66,11 +69,11 @@ fn resumed_from(
     nodes: &[Vec<u8>; 1],
     clients: &[Vec<u8>; 2],
 ) -> Result<World, Failure> {
-    let (ballot, policies) = (ballot()?, policies(alloc)?);
-    if policies.len() != ballot.nodes() as usize || ballot.nodes() != 1 {
+    let (ballots, policies) = (ballots()?, policies(alloc)?);
+    if policies.len() != ballots.nodes() as usize || ballots.nodes() != 1 {
         return Err(Failure::Wrong);
     }
-    opened(World::resume(alloc, ballot, 2, policies, nodes, clients))
+    opened(World::resume(alloc, ballots, 2, policies, nodes, clients))
 }
 
 /// A copy of a record.
@@ -111,7 +114,7 @@ fn up(alloc: Global) -> Result<World, Failure> {
 /// A world in which c1 asks with its first ticket.
 fn asking(alloc: Global) -> Result<World, Failure> {
     let who = Actor::Client(client(1)?);
-    let begin = Event::Begin(client(1)?, Mode::Read, resource()?);
+    let begin = Event::Begin(client(1)?, Mode::Read, resource()?, 1);
     let chose = Effect::Chose(first_attempt()?);
     let mut world = up(alloc)?;
     does(&mut world, &begin, chose)?;

@@ -38,7 +38,7 @@ risen_with l l' v before tried strings Old s again = (
     good = s.good;
     problem = s.problem;
     part = again.risen.part
-        ∙ ap (after_own l.ballot (event.Rise (actor.Node v.node) Old) effect.Up) (again.fallen.part ∙ ap (after_own l.ballot (event.Fall (actor.Node v.node)) effect.Down) s.part);
+        ∙ ap (after_own l.ballots (event.Rise (actor.Node v.node) Old) effect.Up) (again.fallen.part ∙ ap (after_own l.ballots (event.Fall (actor.Node v.node)) effect.Down) s.part);
   },
 )
 risen_with l l' v before tried strings New s again = (
@@ -47,7 +47,7 @@ risen_with l l' v before tried strings New s again = (
     good = s.decided;
     problem = refl;
     part = again.risen.part
-        ∙ ap (after_own l.ballot (event.Rise (actor.Node v.node) New) effect.Up) (again.fallen.part ∙ ap (after_own l.ballot (event.Fall (actor.Node v.node)) effect.Down) s.part);
+        ∙ ap (after_own l.ballots (event.Rise (actor.Node v.node) New) effect.Up) (again.fallen.part ∙ ap (after_own l.ballots (event.Fall (actor.Node v.node)) effect.Down) s.part);
   },
 )
 
@@ -70,14 +70,14 @@ stands_risen l n p found r r' v strings stuck law own up here is core =
 
 -- the part of a log that is unused is that of its opening
 unused_part : (l : OwnLog) (p : Part) → l.events ≡ [] → l.opening ≡ p → part_now l ≡ p
-unused_part l p none opening = ap (local_part l.ballot l.opening) none ∙ opening
+unused_part l p none opening = ap (local_part l.ballots l.opening) none ∙ opening
 
 first_up : (l l' : OwnLog) (n : ℕ) (kept : NodeRecord) (p : Problem) (strings : List (List ℕ)) → IsReady l n kept p strings →
     IsAdded l (event.Rise (actor.Node n) Old) effect.Up l' → IsUpWith p (part_now l') kept
 first_up l l' n kept p strings s added = record {
   good = s.good;
   problem = s.problem;
-  part = added.part ∙ ap (after_own l.ballot (event.Rise (actor.Node n) Old) effect.Up) (unused_part l (NodePart (down_node (station_in kept))) s.unused.events s.opening);
+  part = added.part ∙ ap (after_own l.ballots (event.Rise (actor.Node n) Old) effect.Up) (unused_part l (NodePart (down_node (station_in kept))) s.unused.events s.opening);
 }
 
 -- rising again: the core that restarts with what was found

@@ -1,3 +1,4 @@
 pub mod KeepFacts
 pub mod SendFacts
 pub mod SentFacts
+mod EndFacts

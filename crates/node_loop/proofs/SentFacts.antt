@@ -23,25 +23,25 @@ use Rattle.node_loop.specs.Replies.{sendings, sent_for, sent_by, sent_of, first_
 use Rattle.node_loop.proofs.SendFacts.{none_more}
 
 -- one event more sends what it sends from the part before it
-by_one_more : (b : Ballot) (p : Part) (own : List (Event × Effect)) (e : Event) (done : Effect) →
+by_one_more : (b : List Ballot) (p : Part) (own : List (Event × Effect)) (e : Event) (done : Effect) →
     sent_by b p (own ++ (e, done) ∷ []) ≡ sent_by b p own ++ sent_for b e done (local_part b p own)
 by_one_more b p [] e done = append-nil (sent_for b e done p)
 by_one_more b p (q ∷ own) e done =
     ap (λ xs. sent_for b q.0 q.1 p ++ xs) (by_one_more b (after_own b q.0 q.1 p) own e done)
     ∙ sym (append_assoc (sent_for b q.0 q.1 p) (sent_by b (after_own b q.0 q.1 p) own) (sent_for b e done (local_part b (after_own b q.0 q.1 p) own)))
 
-pub sent_more : (l l' : OwnLog) (e : Event) (done : Effect) → IsAdded l e done l' → sent_of l' ≡ sent_of l ++ sent_for l.ballot e done (part_now l)
-sent_more l l' e done added = ap sent_of added.log ∙ by_one_more l.ballot l.opening l.events e done
+pub sent_more : (l l' : OwnLog) (e : Event) (done : Effect) → IsAdded l e done l' → sent_of l' ≡ sent_of l ++ sent_for l.ballots e done (part_now l)
+sent_more l l' e done added = ap sent_of added.log ∙ by_one_more l.ballots l.opening l.events e done
 
 -- all events but Say and Fall send nothing
-silent : (l l' : OwnLog) (e : Event) (done : Effect) → IsAdded l e done l' → sent_for l.ballot e done (part_now l) ≡ [] → sent_of l' ≡ sent_of l
+silent : (l l' : OwnLog) (e : Event) (done : Effect) → IsAdded l e done l' → sent_for l.ballots e done (part_now l) ≡ [] → sent_of l' ≡ sent_of l
 silent l l' e done added nothing = sent_more l l' e done added ∙ ap (λ xs. sent_of l ++ xs) nothing ∙ append-nil (sent_of l)
 
 pub take_sends_nothing : (l l' : OwnLog) (n k : ℕ) (done : Effect) → IsAdded l (event.Take n k) done l' → sent_of l' ≡ sent_of l
 take_sends_nothing l l' n k done added = silent l l' (event.Take n k) done added refl
 
 pub first_rise_sends_nothing : (l l' : OwnLog) (who : Actor) (age : Age) → IsUnused l who → IsAdded l (event.Rise who age) effect.Up l' → sent_of l' ≡ []
-first_rise_sends_nothing l l' who age unused added = silent l l' (event.Rise who age) effect.Up added refl ∙ ap (sent_by l.ballot l.opening) unused.events
+first_rise_sends_nothing l l' who age unused added = silent l l' (event.Rise who age) effect.Up added refl ∙ ap (sent_by l.ballots l.opening) unused.events
 
 pub keeping_sends_nothing : (l l' : OwnLog) (who : Actor) → IsKept l who l' → sent_of l' ≡ sent_of l
 keeping_sends_nothing l l' who kept =
@@ -72,10 +72,10 @@ pub say_is_told : (l l' : OwnLog) (v : Voter) (n first count : ℕ) (done : Effe
     StandsBy (Stored (replies_in v.state)) l v (record_of v) strings stuck → n ≡ v.node → done ≡ effect.Said first count → IsAdded l (event.Say n) done l' → replies ≡ replies_in v.state →
     given' ≡ all_more given (sendings first replies) → SentFollows l l' given given'
 say_is_told l l' v n first count done strings stuck replies given given' s same kind added all sent before was =
-    let said : said_by l.ballot (event.Say n) (part_now l) ≡ replies = ap (said_by l.ballot (event.Say n)) s.part ∙ sym all in
+    let said : said_by l.ballots (event.Say n) (part_now l) ≡ replies = ap (said_by l.ballots (event.Say n)) s.part ∙ sym all in
     let so : sent_of l' ≡ sent_of l ++ sendings first replies =
     sent_more l l' (event.Say n) done added
-    ∙ ap (λ d. sent_of l ++ sendings (first_of d) (said_by l.ballot (event.Say n) (part_now l))) kind
+    ∙ ap (λ d. sent_of l ++ sendings (first_of d) (said_by l.ballots (event.Say n) (part_now l))) kind
     ∙ ap (λ ms. sent_of l ++ sendings first ms) said in
     sent ∙ ap (λ g. all_more g (sendings first replies)) was ∙ more_and_more before (sent_of l) (sendings first replies) ∙ ap (all_more before) (sym so)
 

@@ -51,11 +51,11 @@ first_of effect.Up = 0
 
 -- What a node sends for an event of its own: its replies, as it says them; and once it has fallen the
 -- nudge of its node, since its replies are lost.
-abbrev pub sent_for : Ballot → Event → Effect → Part → List Sending
+abbrev pub sent_for : List Ballot → Event → Effect → Part → List Sending
 sent_for b (event.Say n) done p = sendings (first_of done) (said_by b (event.Say n) p)
 sent_for b (event.Fall (actor.Node n)) done p = sending.Told (post.Nudge n) ∷ []
 sent_for b (event.Fall (actor.Client c)) done p = []
-sent_for b (event.Begin c m x) done p = []
+sent_for b (event.Begin c m x place) done p = []
 sent_for b (event.Try who) done p = []
 sent_for b (event.Kept who) done p = []
 sent_for b (event.SayTo c n) done p = []
@@ -66,13 +66,13 @@ sent_for b (event.Leave c) done p = []
 sent_for b (event.Rise who age) done p = []
 
 -- the same for a list of its events, from a part on
-abbrev pub sent_by : Ballot → Part → List (Event × Effect) → List Sending
+abbrev pub sent_by : List Ballot → Part → List (Event × Effect) → List Sending
 sent_by b p [] = []
 sent_by b p (q ∷ own) = sent_for b q.0 q.1 p ++ sent_by b (after_own b q.0 q.1 p) own
 
 -- what a node has sent, as its own log tells it
 abbrev pub sent_of : OwnLog → List Sending
-sent_of l = sent_by l.ballot l.opening l.events
+sent_of l = sent_by l.ballots l.opening l.events
 
 -- Where what was given to a link before is what one log tells, on top of what was there, what was given
 -- since is what the other log tells.

@@ -19,4 +19,4 @@ mod attending;
 mod replies;
 mod running;
 
-pub use running::run_node;
+pub use running::{run_node, run_node_over};

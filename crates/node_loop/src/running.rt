@@ -4,6 +4,7 @@ ghost use Rattle.std.specs.Prelude.{◌≡◌, [], IfOk, IfErr, OnOk};
 ghost use Rattle.stable_record.specs.declared.node_records.NodeRecord.{NodeRecord};
 ghost use Rattle.event_recorders.specs.OwnLogs.{part_now};
 ghost use Rattle.lossy_link.specs.Links.{all_more};
+ghost use Rattle.node_loop.specs.Endings.{EndsSomehow};
 ghost use Rattle.node_loop.specs.Replies.{sent_of, SentFollows};
 ghost use Rattle.node_loop.specs.Standing.{StandsIdle, IsReady, IsIdleNode, IsAtEnd, IsNodeFault};
 ghost use Rattle.actor_steps.specs.Steps.{HasFailed};
@@ -97,24 +98,11 @@ fn live<W: Wait, R: Recorder, L: Link, G: Gate>(
     serve(rt, alloc, &mut core, stable, recorder, link, gate)
 }
 
-/// Runs a node: it rises with what its record holds, takes the messages of its parcels one after the
-/// other, keeps what they change, and sends its replies, until nothing comes any more over its link.
+/// Runs a node as `run_node` does, over a record that is lent to it: so its contract also ties each fall, and
+/// each fault, to what that record answers afterwards.
 ///
-/// The caller owes a recorder whose own log is this node's and unused, with the node down and nothing tried
-/// in its opening; a record in which a restart finds just what the node has kept there, which is a node
-/// record that can be read again; and a policy of that record's problem.
-///
-/// A nudge, a node that is gone, and a frame that is no message for the node are dropped and log nothing;
-/// so is a parcel whose number was never sent, or sent to another actor (607, 608). The message that is
-/// taken is the one that the log has under the parcel's number, whatever the frame says. Where the record's
-/// device fails in a keep (301), the node falls, rises again with what its record is found to be, and tells
-/// every client to ask again, since its replies are lost.
-///
-/// The errors: three reopens of the record failed in a row (911), memory was refused (914), the book is
-/// full or another's (915), no change of the record can be numbered any more (916). Then every client is
-/// told that the node is gone, as far as there is memory for it. It waits where its link, its recorder or
-/// its gate does. The way of a turn, and what is dropped, are our own rules.
-pub fn run_node<W: Wait, R: Recorder, L: Link, G: Gate>(
+/// The caller owes what it owes `run_node`, and gets its errors.
+pub fn run_node_over<W: Wait, R: Recorder, L: Link, G: Gate>(
     rt: &W,
     alloc: Global,
     node: NodeId,
@@ -143,4 +131,48 @@ pub fn run_node<W: Wait, R: Recorder, L: Link, G: Gate>(
         let _ = link.tell_all(Post::Gone(node));
     }
     ended
+}
+
+/// Runs a node: it rises with what its record holds, takes the messages of its parcels one after the
+/// other, keeps what they change, and sends its replies, until nothing comes any more over its link.
+///
+/// The caller owes a recorder whose own log is this node's and unused, with the node down and nothing tried
+/// in its opening; a record in which a restart finds just what the node has kept there, which is a node
+/// record that can be read again; and a policy of that record's problem.
+///
+/// A nudge, a node that is gone, and a frame that is no message for the node are dropped and log nothing;
+/// so is a parcel whose number was never sent, or sent to another actor (607, 608). The message that is
+/// taken is the one that the log has under the parcel's number, whatever the frame says. Where the record's
+/// device fails in a keep (301), the node falls, rises again with what its record is found to be, and tells
+/// every client to ask again, since its replies are lost.
+///
+/// The errors: three reopens of the record failed in a row (911), memory was refused (914), the book is
+/// full or another's (915), no change of the record can be numbered any more (916). Then every client is
+/// told that the node is gone, as far as there is memory for it. It waits where its link, its recorder or
+/// its gate does. The way of a turn, and what is dropped, are our own rules.
+#[tactic(auto, using(crate::proofs::EndFacts::ends_somehow))]
+pub fn run_node<W: Wait, R: Recorder, L: Link, G: Gate>(
+    rt: &W,
+    alloc: Global,
+    node: NodeId,
+    stable: Box<dyn StableRecord + Send>,
+    policy: Box<dyn Admission + Send>,
+    recorder: &mut R,
+    link: &mut L,
+    gate: &G,
+) -> Result<(), RunFault>
+    requires { (kept : NodeRecord) × IsReady (R.own_log recorder.old) node kept (problem_of policy) (finds stable) }
+    // All that it took it has answered.
+    ensures idle { OnOk result (IsIdleNode (part_now (R.own_log recorder.new))) }
+    // What was sent is what its own log tells: its replies, and after each fall its nudge.
+    ensures sent { OnOk result (L.given link.new ≡ all_more (L.given link.old) (sent_of (R.own_log recorder.new))) }
+    // It ends without a fault only where nothing comes any more.
+    ensures closed { OnOk result (IsAtEnd (L.coming link.new)) }
+    // 911, 914, 915 or 916,
+    ensures faults { IfErr result IsNodeFault }
+    // each only where its log, and what its record then answers, tell the cause.
+    ensures ended { IfErr result (λ fault. EndsSomehow fault (R.own_log recorder.new)) }
+{
+    let mut stable = stable;
+    run_node_over(rt, alloc, node, &mut *stable, policy, recorder, link, gate)
 }

@@ -33,7 +33,7 @@ image_at : {A B : Type 0} (f : A → B) (xs : List A) (i : ℕ) (x : A) → slic
 image_at f xs i x at = slice_get-map f xs i ∙ ap (option_map f) at
 
 -- one node
-node_at : (w : ExactWorld) (votes : Ballot) (stations : List ExactStation) (attempts : List ℕ) → w ≡ resumed votes stations attempts → KeepsRecords w → (i : ℕ) (s : ExactStation) → slice_get stations i ≡ Some s →
+node_at : (w : ExactWorld) (votes : List Ballot) (stations : List ExactStation) (attempts : List ℕ) → w ≡ resumed votes stations attempts → KeepsRecords w → (i : ℕ) (s : ExactStation) → slice_get stations i ≡ Some s →
     IsNodeReady w (i + 0 + 1) s.problem (finds_station s)
 node_at w votes stations attempts is keeps i s at =
     let nodes : w.nodes ≡ map down_node stations = ap (λ (v : ExactWorld). v.nodes) is in
@@ -48,7 +48,7 @@ node_at w votes stations attempts is keeps i s at =
     }
 
 -- one client
-client_at : (w : ExactWorld) (votes : Ballot) (stations : List ExactStation) (attempts : List ℕ) → w ≡ resumed votes stations attempts → IsSound w → (i : ℕ) (a : ℕ) → slice_get attempts i ≡ Some a →
+client_at : (w : ExactWorld) (votes : List Ballot) (stations : List ExactStation) (attempts : List ℕ) → w ≡ resumed votes stations attempts → IsSound w → (i : ℕ) (a : ℕ) → slice_get attempts i ≡ Some a →
     IsClientReady w (i + 0 + 1) (finds_attempt a)
 client_at w votes stations attempts is sound i a at =
     let clients : w.clients ≡ map down_client attempts = ap (λ (v : ExactWorld). v.clients) is in
@@ -61,7 +61,7 @@ client_at w votes stations attempts is sound i a at =
     }
 
 -- each node is ready with what the first records find
-pub ready_nodes : (w : ExactWorld) (votes : Ballot) (stations : List ExactStation) (attempts : List ℕ) (problems : List Problem) (found : List (List (List ℕ))) → w ≡ resumed votes stations attempts → KeepsRecords w →
+pub ready_nodes : (w : ExactWorld) (votes : List Ballot) (stations : List ExactStation) (attempts : List ℕ) (problems : List Problem) (found : List (List (List ℕ))) → w ≡ resumed votes stations attempts → KeepsRecords w →
     problems ≡ map (λ s. s.problem) stations → found ≡ map finds_station stations → AreNodesReady 0 w problems found
 ready_nodes w votes stations attempts problems found is keeps by_problem by_station i p strings at_p at_s = go (slice_get stations i) refl
   where
@@ -81,7 +81,7 @@ ready_nodes w votes stations attempts problems found is keeps by_problem by_stat
         subst (λ q. IsNodeReady w (i + 0 + 1) q strings) same (subst (λ l. IsNodeReady w (i + 0 + 1) s.problem l) finds (node_at w votes stations attempts is keeps i s e))
 
 -- each client is ready with what the other records find
-pub ready_clients : (w : ExactWorld) (votes : Ballot) (stations : List ExactStation) (attempts : List ℕ) (found : List (List (List ℕ))) → w ≡ resumed votes stations attempts → IsSound w → found ≡ map finds_attempt attempts →
+pub ready_clients : (w : ExactWorld) (votes : List Ballot) (stations : List ExactStation) (attempts : List ℕ) (found : List (List (List ℕ))) → w ≡ resumed votes stations attempts → IsSound w → found ≡ map finds_attempt attempts →
     AreClientsReady 0 w found
 ready_clients w votes stations attempts found is sound by_attempt i strings at_s = go (slice_get attempts i) refl
   where
@@ -113,17 +113,17 @@ as_many_both f h k xs front back is =
     omega (arith, long, all, length-map front h, length-map back k)
 
 -- the nodes and the clients are as many as may be
-pub few_stations : (w : ExactWorld) (votes : Ballot) (stations : List ExactStation) (attempts : List ℕ) → w ≡ resumed votes stations attempts → KeepsRecords w → length stations ≤ MAX_NODES
+pub few_stations : (w : ExactWorld) (votes : List Ballot) (stations : List ExactStation) (attempts : List ℕ) → w ≡ resumed votes stations attempts → KeepsRecords w → length stations ≤ MAX_NODES
 few_stations w votes stations attempts is keeps = subst (λ n. n ≤ MAX_NODES) (ap (λ (v : ExactWorld). length v.nodes) is ∙ length-map stations down_node) keeps.few_nodes
 
-pub few_attempts : (w : ExactWorld) (votes : Ballot) (stations : List ExactStation) (attempts : List ℕ) → w ≡ resumed votes stations attempts → KeepsRecords w → length attempts ≤ MAX_CLIENTS
+pub few_attempts : (w : ExactWorld) (votes : List Ballot) (stations : List ExactStation) (attempts : List ℕ) → w ≡ resumed votes stations attempts → KeepsRecords w → length attempts ≤ MAX_CLIENTS
 few_attempts w votes stations attempts is keeps = subst (λ n. n ≤ MAX_CLIENTS) (ap (λ (v : ExactWorld). length v.clients) is ∙ length-map attempts down_client) keeps.few_clients
 
 -- how many nodes and clients the world has
-pub many_nodes : (w : ExactWorld) (votes : Ballot) (stations : List ExactStation) (attempts : List ℕ) → w ≡ resumed votes stations attempts → length w.nodes ≡ length stations
+pub many_nodes : (w : ExactWorld) (votes : List Ballot) (stations : List ExactStation) (attempts : List ℕ) → w ≡ resumed votes stations attempts → length w.nodes ≡ length stations
 many_nodes w votes stations attempts is = ap (λ (v : ExactWorld). length v.nodes) is ∙ length-map stations down_node
 
-pub many_clients : (w : ExactWorld) (votes : Ballot) (stations : List ExactStation) (attempts : List ℕ) → w ≡ resumed votes stations attempts → length w.clients ≡ length attempts
+pub many_clients : (w : ExactWorld) (votes : List Ballot) (stations : List ExactStation) (attempts : List ℕ) → w ≡ resumed votes stations attempts → length w.clients ≡ length attempts
 many_clients w votes stations attempts is = ap (λ (v : ExactWorld). length v.clients) is ∙ length-map attempts down_client
 
 -- the place behind the stations' records

@@ -1,11 +1,11 @@
 -- An actor's berth, with the actor's record, is what its thread needs.
 use Rattle.std.proofs.Common.{◌≡◌, ◌==◌, ℕ, ◌≤◌, List, sym, ap, ◌∙◌, subst, refl, length, get_or, All, le_trans, eqb-true, arith}
-use Rattle.std.proofs.lemmas.List.Elements.{filter_passes}
+use Rattle.std.proofs.lemmas.List.Elements.{filter_passes, All-filter}
 use Rattle.std.proofs.lemmas.List.Sums.{length-filter, count_by-le-length}
 use Rattle.lock_messages.specs.declared.ids.Actor.{Actor}
 use Rattle.lock_messages.specs.declared.ids.Actor.TheVariants as actor
 use Rattle.lock_model.specs.declared.problems.Problem.{Problem}
-use Rattle.lock_model.specs.Ballots.{Ballot}
+use Rattle.lock_model.specs.Ballots.{Ballot, HasPlace}
 use Rattle.history_check.specs.declared.wishes.Wish.{Wish}
 use Rattle.history_book.specs.Books.{BookValue, BerthValue, IsGiven}
 use Rattle.world_model.specs.Openings.{down_node, down_client}
@@ -15,6 +15,7 @@ use Rattle.event_recorders.specs.OwnLogs.{IsDownAtRest, FindsPart}
 use Rattle.book_recorders.specs.Sharing.{log_of}
 use Rattle.history_check.specs.declared.wishes.TheConstants.{MAX_WISHES}
 use Rattle.client_loop.specs.Standing.{KeepsAttempt}
+use Rattle.client_loop.specs.Visits.{ArePlaced}
 use Rattle.node_threads.specs.Actors.{IsNodeReady, IsClientReady}
 use Rattle.node_threads.specs.Tasks.{IsNodeTask, IsClientTask, own_wishes}
 
@@ -42,15 +43,19 @@ each_own c all i d within = eqb-true (get_or (own_wishes c all) i d).client c (f
 own_within : (c : ℕ) (all : List Wish) → length (own_wishes c all) ≤ length all
 own_within c all = omega (arith, length-filter (λ w. w.client == c) all, count_by-le-length (λ w. w.client == c) all)
 
-pub client_ready : (c : ℕ) (votes : Ballot) (wishes : List Wish) (strings : List (List ℕ)) (b b' : BookValue) (k : BerthValue) → IsClientReady b.opening c strings → IsGiven (actor.Client c) b k b' → b.opening.ballot ≡ votes
-    → (all : List Wish) → wishes ≡ own_wishes c all → length all ≤ MAX_WISHES → IsClientTask b.table c votes wishes k strings
-client_ready c votes wishes strings b b' k ready given ballot all own few =
+each_placed : (ballots : List Ballot) (c : ℕ) (all : List Wish) → ArePlaced ballots all → ArePlaced ballots (own_wishes c all)
+each_placed ballots c all placed = All-filter (λ w. w.client == c) (λ w. HasPlace ballots w.place) all placed
+
+pub client_ready : (c : ℕ) (ballots : List Ballot) (wishes : List Wish) (strings : List (List ℕ)) (b b' : BookValue) (k : BerthValue) → IsClientReady b.opening c strings → IsGiven (actor.Client c) b k b' → b.opening.ballots ≡ ballots
+    → (all : List Wish) → wishes ≡ own_wishes c all → length all ≤ MAX_WISHES → ArePlaced ballots all → IsClientTask b.table c ballots wishes k strings
+client_ready c ballots wishes strings b b' k ready given same all own few placed =
     let at : (log_of k).opening ≡ ClientPart (down_client ready.attempt) = opens (actor.Client c) b b' k given ∙ ready.part in record {
       table = given.table;
       unused = record { actor = given.actor; events = given.own; down = subst (IsDownAtRest (actor.Client c)) (sym at) (refl, refl) };
-      ballot = ap (λ w. w.ballot) given.opening ∙ ballot;
+      ballots = ap (λ w. w.ballots) given.opening ∙ same;
       found = subst (λ (q : Part). FindsPart q strings) (sym at) ready.finds;
       kept = subst KeepsAttempt (sym at) ready.range;
       own = subst (All (λ w. w.client ≡ c)) (sym own) (each_own c all);
       few = subst (λ ws. length ws ≤ MAX_WISHES) (sym own) (le_trans (own_within c all) few);
+      placed = subst (ArePlaced ballots) (sym own) (each_placed ballots c all placed);
     }

@@ -84,9 +84,9 @@ among_behind x (y ∷ xs) ys there = inr (among_behind x xs ys there)
 -- the berth's log is the actor's own of the history
 same_log : (k : BerthValue) (w : ExactWorld) (history : List (Event × Effect)) (who : Actor) → k.actor ≡ who → k.opening ≡ w → own_events k.actor history ≡ own_of k → log_of k ≡ log_in w history who
 same_log k w history who is opening own =
-    ap (λ (es : List (Event × Effect)). record { actor = k.actor; ballot = k.opening.ballot; opening = part k.opening k.actor; events = es }) (sym own)
-    ∙ ap (λ (o : ExactWorld). record { actor = k.actor; ballot = o.ballot; opening = part o k.actor; events = own_events k.actor history }) opening
-    ∙ ap (λ (a : Actor). record { actor = a; ballot = w.ballot; opening = part w a; events = own_events a history }) is
+    ap (λ (es : List (Event × Effect)). record { actor = k.actor; ballots = k.opening.ballots; opening = part k.opening k.actor; events = es }) (sym own)
+    ∙ ap (λ (o : ExactWorld). record { actor = k.actor; ballots = o.ballots; opening = part o k.actor; events = own_events k.actor history }) opening
+    ∙ ap (λ (a : Actor). record { actor = a; ballots = w.ballots; opening = part w a; events = own_events a history }) is
 
 -- the wishes of an end are the client's own
 abbrev HasOwn : List Wish → ℕ × List Wish × TableId → Type 0

@@ -15,12 +15,12 @@ finds_station s = station_bytes s ∷ []
 abbrev pub finds_attempt : ℕ → List (List ℕ)
 finds_attempt attempt = client_record_of attempt ∷ []
 
--- What may be handed in for a run. The world has this ballot; its actors are all down with nothing tried,
+-- What may be handed in for a run. The world has these ballots; its actors are all down with nothing tried,
 -- and have kept these stations and attempts; nothing is sent. There is one policy a node, of its station's
 -- problem, and one record an actor, nodes first, which finds just what its actor has kept.
-pub record MayRun (w : ExactWorld) (votes : Ballot) (problems : List Problem) (found : List (List (List ℕ))) : Type 0 where
+pub record MayRun (w : ExactWorld) (ballots : List Ballot) (problems : List Problem) (found : List (List (List ℕ))) : Type 0 where
   pub stations : List ExactStation
   pub attempts : List ℕ
-  pub world : w ≡ resumed votes stations attempts
+  pub world : w ≡ resumed ballots stations attempts
   pub policies : problems ≡ map (λ s. s.problem) stations
   pub records : found ≡ map finds_station stations ++ map finds_attempt attempts

@@ -12,6 +12,7 @@ use Rattle.book_recorders.specs.Sharing.{log_of}
 use Rattle.node_loop.specs.Standing.{IsReady}
 use Rattle.history_check.specs.declared.wishes.TheConstants.{MAX_WISHES}
 use Rattle.client_loop.specs.Standing.{KeepsAttempt}
+use Rattle.client_loop.specs.Visits.{ArePlaced}
 
 -- The node's berth is of the book of this table, and its policy and its record are those of what it has
 -- kept.
@@ -25,12 +26,13 @@ abbrev pub own_wishes : ℕ → List Wish → List Wish
 own_wishes c wishes = filter (λ w. w.client == c) wishes
 
 -- The client's berth is of the book of this table, its record finds the attempt that it has kept, and the
--- wishes are its own.
-pub record IsClientTask (book : TableId) (c : ℕ) (votes : Ballot) (wishes : List Wish) (k : BerthValue) (strings : List (List ℕ)) : Type 0 where
+-- wishes are its own, by places that the ballots have.
+pub record IsClientTask (book : TableId) (c : ℕ) (list : List Ballot) (wishes : List Wish) (k : BerthValue) (strings : List (List ℕ)) : Type 0 where
   pub table : k.table ≡ book
   pub unused : IsUnused (log_of k) (actor.Client c)
-  pub ballot : (log_of k).ballot ≡ votes
+  pub ballots : (log_of k).ballots ≡ list
   pub found : FindsPart (log_of k).opening strings
   pub kept : KeepsAttempt (log_of k).opening
   pub own : All (λ w. w.client ≡ c) wishes
   pub few : length wishes ≤ MAX_WISHES
+  pub placed : ArePlaced list wishes

@@ -16,7 +16,7 @@ use Rattle.node_threads.specs.Tasks.{own_wishes}
 
 -- an actor's own log of a history from this world
 abbrev pub log_in : ExactWorld → List (Event × Effect) → Actor → OwnLog
-log_in w history who = record { actor = who; ballot = w.ballot; opening = part w who; events = own_events who history }
+log_in w history who = record { actor = who; ballots = w.ballots; opening = part w who; events = own_events who history }
 
 -- By its own events in the history the client has begun nothing but its own wishes among these, and entered
 -- so many of them, each once and in order; all of them, unless it is among those that ended by a fault.

@@ -2,6 +2,7 @@
 
 ghost use Rattle.std.specs.Prelude.{◌≡◌, ◌≤◌, ◌+◌, length, map, All, IfOk, IfErr};
 ghost use Rattle.std.specs.List.{range_with_len};
+ghost use Rattle.client_loop.specs.Visits.{ArePlaced};
 ghost use Rattle.lock_messages.specs.declared.ids.TheConstants.{MAX_NODES, MAX_CLIENTS};
 ghost use Rattle.history_book.specs.Books.{IsGiven};
 ghost use Rattle.node_threads.specs.Actors.{IsNodeReady, IsClientReady, AreNodesReady, AreClientsReady};
@@ -17,7 +18,7 @@ use lossy_link::ChannelLink;
 use stable_record::StableRecord;
 use std::alloc::Global;
 use std::sync::Wait;
-use vote_weights::Ballot;
+use vote_weights::BallotList;
 
 /// The berth of an actor of the book's world that has none yet; of another one there is none.
 fn berth_of(book: &mut Book, actor: Actor) -> Result<Berth, RunFault>
@@ -77,15 +78,16 @@ fn client_task<R: Wait + Copy>(
     alloc: Global,
     book: &mut Book,
     client: ClientId,
-    ballot: Ballot,
+    ballots: BallotList,
     wishes: &[Wish],
     stable: Box<dyn StableRecord + Send>,
     link: ChannelLink<R>,
 ) -> Result<ClientTask<R>, RunFault>
     requires ready { IsClientReady book.old.opening client (finds stable) }
-    requires ballot { book.old.opening.ballot ≡ ballot }
+    requires ballots { book.old.opening.ballots ≡ ballots }
     requires few { length wishes.now ≤ MAX_WISHES }
-    ensures task { IfOk result (λ task. IsClientTask book.old.table task.client task.ballot task.wishes.items task.berth (finds task.stable)) }
+    requires placed { ArePlaced ballots wishes.now }
+    ensures task { IfOk result (λ task. IsClientTask book.old.table task.client task.ballots task.wishes.items task.berth (finds task.stable)) }
     ensures own { IfOk result (λ task. task.wishes.items ≡ own_wishes task.client wishes.now) }
     ensures client { IfOk result (λ task. task.client ≡ client) }
     ensures link { IfOk result (λ task. task.link ≡ link) }
@@ -97,7 +99,7 @@ fn client_task<R: Wait + Copy>(
     let berth = berth_of(book, Actor::Client(client))?;
     Ok(ClientTask {
         client,
-        ballot,
+        ballots,
         wishes,
         berth,
         stable,
@@ -147,7 +149,7 @@ pub(crate) fn node_tasks<R: Wait + Copy>(
 pub(crate) fn client_tasks<R: Wait + Copy>(
     alloc: Global,
     book: &mut Book,
-    ballot: Ballot,
+    ballots: BallotList,
     wishes: &[Wish],
     records: Vec<Box<dyn StableRecord + Send>>,
     links: Vec<ChannelLink<R>>,
@@ -155,9 +157,10 @@ pub(crate) fn client_tasks<R: Wait + Copy>(
     requires few { length records.items ≤ MAX_CLIENTS }
     requires links { length links.items ≡ length records.items }
     requires ready { AreClientsReady 0 book.old.opening (map (λ r. finds r) records.items) }
-    requires ballot { book.old.opening.ballot ≡ ballot }
+    requires ballots { book.old.opening.ballots ≡ ballots }
     requires few_wishes { length wishes.now ≤ MAX_WISHES }
-    ensures tasks { IfOk result (λ tasks. All (λ task. IsClientTask book.old.table task.client task.ballot task.wishes.items task.berth (finds task.stable)) tasks.items) }
+    requires placed { ArePlaced ballots wishes.now }
+    ensures tasks { IfOk result (λ tasks. All (λ task. IsClientTask book.old.table task.client task.ballots task.wishes.items task.berth (finds task.stable)) tasks.items) }
     ensures own { IfOk result (λ tasks. All (λ task. task.wishes.items ≡ own_wishes task.client wishes.now) tasks.items) }
     // There is a task for each client, and each has the link of its place.
     ensures all_clients { IfOk result (λ tasks. map (λ task. task.client) tasks.items ≡ range_with_len 1 (length records.items)) }
@@ -175,7 +178,7 @@ pub(crate) fn client_tasks<R: Wait + Copy>(
         };
         let stable = records.remove(0);
         let link = links.remove(0);
-        let task = client_task(alloc, book, client, ballot, wishes, stable, link)?;
+        let task = client_task(alloc, book, client, ballots, wishes, stable, link)?;
         let Ok(()) = tasks.push(task) else {
             return Err(RunFault::Memory);
         };

@@ -2,6 +2,7 @@
 
 ghost use Rattle.std.specs.Prelude.{◌≡◌, ◌≤◌, ◌+◌, ◌++◌, length, map, true, All, IfOk, IfErr};
 ghost use Rattle.std.specs.List.{range_with_len};
+ghost use Rattle.client_loop.specs.Visits.{ArePlaced};
 ghost use Rattle.history_book.specs.Books.{enters, Known};
 ghost use Rattle.lock_messages.specs.declared.ids.TheConstants.{MAX_NODES, MAX_CLIENTS};
 ghost use Rattle.lossy_link.specs.ChannelLinks.{link_at};
@@ -30,7 +31,7 @@ use std::alloc::Global;
 use std::marker::Brand;
 use std::sync::Wait;
 use std::thread::Threads;
-use vote_weights::Ballot;
+use vote_weights::BallotList;
 use world_machine::World;
 use world_model::{Effect, Event};
 
@@ -102,19 +103,20 @@ fn links_of<R: Wait + Copy>(
 fn tasks_of<R: Wait + Copy>(
     rt: R,
     alloc: Global,
-    ballot: Ballot,
+    ballots: BallotList,
     wishes: &[Wish],
     records: Vec<Box<dyn StableRecord + Send>>,
     policies: Vec<Box<dyn Admission + Send>>,
     weather: &Weather,
     book: &mut Book,
 ) -> Result<Tasks<R>, RunFault>
-    requires may { MayRun book.old.opening ballot (map (λ p. problem_of p) policies.items) (map (λ r. finds r) records.items) }
+    requires may { MayRun book.old.opening ballots (map (λ p. problem_of p) policies.items) (map (λ r. finds r) records.items) }
     requires keeps { KeepsRecords book.old.opening }
     requires sound { IsSound book.old.opening }
     requires few { length wishes.now ≤ MAX_WISHES }
+    requires placed { ArePlaced ballots wishes.now }
     ensures nodes { IfOk result (λ tasks. All (λ task. IsNodeTask book.new.table task.node task.berth (problem_of task.policy) (finds task.stable)) tasks.nodes.items) }
-    ensures clients { IfOk result (λ tasks. All (λ task. IsClientTask book.new.table task.client task.ballot task.wishes.items task.berth (finds task.stable)) tasks.clients.items) }
+    ensures clients { IfOk result (λ tasks. All (λ task. IsClientTask book.new.table task.client task.ballots task.wishes.items task.berth (finds task.stable)) tasks.clients.items) }
     ensures own { IfOk result (λ tasks. All (λ task. task.wishes.items ≡ own_wishes task.client wishes.now) tasks.clients.items) }
     // There is a task for each node and each client of the world, and each has the link of its place in this weather.
     ensures all_nodes { IfOk result (λ tasks. map (λ task. task.node) tasks.nodes.items ≡ range_with_len 1 (length book.old.opening.nodes)) }
@@ -137,7 +139,8 @@ fn tasks_of<R: Wait + Copy>(
     let Ok(nodes) = node_tasks(alloc, book, policies, records, node_links) else {
         return Err(RunFault::Memory);
     };
-    let Ok(clients) = client_tasks(alloc, book, ballot, wishes, client_records, client_links) else {
+    let Ok(clients) = client_tasks(alloc, book, ballots, wishes, client_records, client_links)
+    else {
         return Err(RunFault::Memory);
     };
     Ok(Tasks { nodes, clients })
@@ -164,22 +167,22 @@ fn tie_all(book: &mut Book, ends: Vec<ClientEnd>)
 /// thread holds no lock, and there is none round all of them. A thread that ends by a fault is told in
 /// `faults`, nodes first; the others go on.
 ///
-/// The caller owes the world's own ballot; a world whose actors are all down with nothing tried, and whose
+/// The caller owes the world's own ballots; a world whose actors are all down with nothing tried, and whose
 /// list of messages is empty; one record an actor, nodes first, each of which finds just what its actor has
 /// kept in the world; one policy a node, of its record's problem; and wishes of the world's clients, at most
-/// `MAX_WISHES`.
+/// `MAX_WISHES`, whose places the ballots have.
 ///
 /// The only error is that memory was refused or a thread couldn't be started (914). Then the threads that
 /// were started have ended, and what was handed in is dropped.
 ///
 /// It waits for all threads. They have ended once every client has; or, where clients wait for what can't
 /// come any more, once every thread that has not ended waits at its link and nothing lies in an inbox: then
-/// nodes end without a fault, and clients that wait for votes by 912. So a run ends wherever its records and its gate do.
-/// That is tested and not proved, since no contract sees an inbox.
+/// nodes end without a fault, and clients that wait for votes by 912. So a run ends wherever its records
+/// and its gate do. That is tested and not proved, since no contract sees an inbox.
 pub fn run_all<R: Threads + Wait + Copy + Send, G: Gate + Sync>(
     rt: R,
     alloc: Global,
-    ballot: Ballot,
+    ballots: BallotList,
     wishes: &[Wish],
     records: Vec<Box<dyn StableRecord + Send>>,
     world: World,
@@ -187,8 +190,9 @@ pub fn run_all<R: Threads + Wait + Copy + Send, G: Gate + Sync>(
     weather: Weather,
     gate: &G,
 ) -> Result<RunEnd, RunFault>
-    requires may { MayRun world ballot (map (λ p. problem_of p) policies.items) (map (λ r. finds r) records.items) }
+    requires may { MayRun world ballots (map (λ p. problem_of p) policies.items) (map (λ r. finds r) records.items) }
     requires few { length wishes.now ≤ MAX_WISHES }
+    requires placed { ArePlaced ballots wishes.now }
     requires theirs { All (λ wish. has_actor world (Actor.Client wish.client) ≡ true) wishes.now }
     // The book was opened with the world, and its history is a run from there.
     ensures opening { IfOk result (λ end. end.book.opening ≡ world) }
@@ -206,7 +210,7 @@ pub fn run_all<R: Threads + Wait + Copy + Send, G: Gate + Sync>(
         return Err(RunFault::Memory);
     };
     let Ok(tasks) = tasks_of(
-        rt, alloc, ballot, wishes, records, policies, &weather, &mut book,
+        rt, alloc, ballots, wishes, records, policies, &weather, &mut book,
     ) else {
         return Err(RunFault::Memory);
     };

@@ -17,7 +17,7 @@ use node_loop::run_node;
 use stable_record::StableRecord;
 use std::alloc::Global;
 use std::sync::{Mutex, Wait};
-use vote_weights::Ballot;
+use vote_weights::BallotList;
 
 /// What a node's thread is given.
 #[derive(Drop)]
@@ -33,7 +33,7 @@ pub(crate) struct NodeTask<R: Wait + Copy> {
 #[derive(Drop)]
 pub(crate) struct ClientTask<R: Wait + Copy> {
     pub(crate) client: ClientId,
-    pub(crate) ballot: Ballot,
+    pub(crate) ballots: BallotList,
     pub(crate) wishes: Vec<Wish>,
     pub(crate) berth: Berth,
     pub(crate) stable: Box<dyn StableRecord + Send>,
@@ -59,14 +59,13 @@ pub(crate) fn do_node<B: BookName, K: Logs, R: Wait + Copy, G: Gate>(
         policy,
         link,
     } = task;
-    let mut stable = stable;
     let mut link = link;
     let mut recorder = BookRecorder::of(rt, book, berth);
     match run_node(
         &rt,
         alloc,
         node,
-        &mut *stable,
+        stable,
         policy,
         &mut recorder,
         &mut link,
@@ -88,7 +87,7 @@ pub(crate) fn do_client<B: BookName, K: Logs, R: Wait + Copy, G: Gate>(
     book: &Mutex<Named<B, K>>,
     gate: &G,
 ) -> ClientEnd
-    requires { IsClientTask B.table task.client task.ballot task.wishes.items task.berth (finds task.stable) }
+    requires { IsClientTask B.table task.client task.ballots task.wishes.items task.berth (finds task.stable) }
     ensures client { result.client ≡ task.client }
     ensures wishes { result.wishes.items ≡ task.wishes.items }
     ensures table { result.berth.table ≡ task.berth.table }
@@ -96,22 +95,21 @@ pub(crate) fn do_client<B: BookName, K: Logs, R: Wait + Copy, G: Gate>(
 {
     let ClientTask {
         client,
-        ballot,
+        ballots,
         wishes,
         berth,
         stable,
         link,
     } = task;
-    let mut stable = stable;
     let mut link = link;
     let mut recorder = BookRecorder::of(rt, book, berth);
     let ended = run_client(
         &rt,
         alloc,
         client,
-        ballot,
+        ballots,
         wishes.as_slice(),
-        &mut *stable,
+        stable,
         &mut recorder,
         &mut link,
         gate,

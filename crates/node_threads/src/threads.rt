@@ -97,7 +97,7 @@ fn start_clients<
     book: &'s Mutex<Named<B, K>>,
     gate: &'s G,
 ) -> Result<Vec<PromisedHandle<ClientEnd, OfClient>>, RunFault>
-    requires { All (λ task. IsClientTask B.table task.client task.ballot task.wishes.items task.berth (finds task.stable)) clients.items }
+    requires { All (λ task. IsClientTask B.table task.client task.ballots task.wishes.items task.berth (finds task.stable)) clients.items }
     ensures named { IfOk result (λ threads. map (λ t. with_wishes t.promise.client t.promise.wishes.value.items t.promise.berth.value.table) threads.items ≡ map (λ t. with_wishes t.client t.wishes.items t.berth.table) clients.items) }
     ensures err { IfErr result (λ f. f ≡ RunFault.Memory) }
 {
@@ -113,7 +113,7 @@ fn start_clients<
         let Ok(handle) = scope.spawn_with(
             promise,
             move || -> ClientEnd
-                requires { IsClientTask B.table task.client task.ballot task.wishes.items task.berth (finds task.stable) }
+                requires { IsClientTask B.table task.client task.ballots task.wishes.items task.berth (finds task.stable) }
                 ensures client { result.client ≡ task.client }
                 ensures wishes { result.wishes.items ≡ task.wishes.items }
                 ensures table { result.berth.table ≡ task.berth.table }
@@ -173,7 +173,7 @@ pub(crate) fn run_threads<
     gate: &G,
 ) -> Result<Ends, RunFault>
     requires nodes { All (λ task. IsNodeTask B.table task.node task.berth (problem_of task.policy) (finds task.stable)) nodes.items }
-    requires clients { All (λ task. IsClientTask B.table task.client task.ballot task.wishes.items task.berth (finds task.stable)) clients.items }
+    requires clients { All (λ task. IsClientTask B.table task.client task.ballots task.wishes.items task.berth (finds task.stable)) clients.items }
     ensures nodes { IfOk result (λ ends. AreNodeEnds (map (λ t. t.node) nodes.items) ends.nodes.items) }
     ensures clients { IfOk result (λ ends. AreClientEnds (map (λ t. with_wishes t.client t.wishes.items t.berth.table) clients.items) ends.clients.items) }
     ensures err { IfErr result (λ f. f ≡ RunFault.Memory) }
@@ -184,7 +184,7 @@ pub(crate) fn run_threads<
         move |scope| -> Result<Ends, RunFault>
             requires cross { IsSend B.row × IsSend K.row × IsSend R.row × IsSync G.row }
             requires nodes { All (λ task. IsNodeTask B.table task.node task.berth (problem_of task.policy) (finds task.stable)) nodes.items }
-            requires clients { All (λ task. IsClientTask B.table task.client task.ballot task.wishes.items task.berth (finds task.stable)) clients.items }
+            requires clients { All (λ task. IsClientTask B.table task.client task.ballots task.wishes.items task.berth (finds task.stable)) clients.items }
             ensures nodes { IfOk result (λ ends. AreNodeEnds (map (λ t. t.node) nodes.items) ends.nodes.items) }
             ensures clients { IfOk result (λ ends. AreClientEnds (map (λ t. with_wishes t.client t.wishes.items t.berth.table) clients.items) ends.clients.items) }
             ensures err { IfErr result (λ f. f ≡ RunFault.Memory) }

@@ -4,6 +4,7 @@ use Rattle.std.proofs.Math.Seq.{get_or-append_seam, set-append_seam}
 use Rattle.std.proofs.lemmas.List.{append-nil, length-replicate, replicate-append-replicate}
 use Rattle.std.proofs.lemmas.Option.{slice_get-get_or}
 use Rattle.std.proofs.lemmas.Bool.Decides.{nat_tests}
+use Rattle.lock_model.specs.Ballots.{node_count}
 use Rattle.lock_messages.specs.declared.ids.Actor.TheVariants as actor
 use Rattle.world_model.specs.declared.events.Age.TheVariants as age
 use Rattle.world_model.specs.declared.events.Event.TheVariants as event
@@ -60,15 +61,15 @@ map_same : {A B : Type 0} (f : A → B) (n : ℕ) (x : A) → map f (replicate n
 map_same f zero x = refl
 map_same f (suc n) x = ap (λ ys. f x ∷ ys) (map_same f n x)
 
-pub node_rises : (s : Settings) (k : ℕ) → k < length s.ballot.votes → after (rising s k 0) (event.Rise (actor.Node (k + 1)) age.Old) ≡ rising s (k + 1) 0
+pub node_rises : (s : Settings) (k : ℕ) → k < node_count s.ballots → after (rising s k 0) (event.Rise (actor.Node (k + 1)) age.Old) ≡ rising s (k + 1) 0
 unfolding step
 node_rises s k h =
     let w = rising s k 0 in
-    let n = length s.ballot.votes in
+    let n = node_count s.ballots in
     let up = risen_node s.problem in
     let down = down_node (empty_station s.problem) in
     ap (λ o. world_after w (by_actor w (with_node_at w (k + 1)) o (λ v. node_rises_in age.Old v v.phase))) (next_is_down up down n k h)
-    ∙ ap (λ (nodes : List ExactNode). record { ballot = s.ballot; nodes = nodes; clients = w.clients; sent = [] }) (next_rises up down n k h)
+    ∙ ap (λ (nodes : List ExactNode). record { ballots = s.ballots; nodes = nodes; clients = w.clients; sent = [] }) (next_rises up down n k h)
 
 pub client_rises : (s : Settings) (n k : ℕ) → k < s.clients → after (rising s n k) (event.Rise (actor.Client (k + 1)) age.Old) ≡ rising s n (k + 1)
 unfolding step
@@ -77,18 +78,18 @@ client_rises s n k h =
     let up = risen_client in
     let down = down_client 0 in
     ap (λ o. world_after w (by_actor w (with_client_at w (k + 1)) o (λ v. client_rises_in age.Old v v.phase))) (next_is_down up down s.clients k h)
-    ∙ ap (λ (clients : List ExactClient). record { ballot = s.ballot; nodes = w.nodes; clients = clients; sent = [] }) (next_rises up down s.clients k h)
+    ∙ ap (λ (clients : List ExactClient). record { ballots = s.ballots; nodes = w.nodes; clients = clients; sent = [] }) (next_rises up down s.clients k h)
 
-pub begins_down : (s : Settings) → opening s.ballot (replicate (length s.ballot.votes) s.problem) s.clients ≡ rising s 0 0
+pub begins_down : (s : Settings) → opening s.ballots (replicate (node_count s.ballots) s.problem) s.clients ≡ rising s 0 0
 begins_down s =
-    let n = length s.ballot.votes in
+    let n = node_count s.ballots in
     let down = down_node (empty_station s.problem) in
     let nodes = ap (map down_node) (map_same empty_station n s.problem) ∙ map_same down_node n (empty_station s.problem) ∙ none_rose (risen_node s.problem) down n in
     let clients = map_same down_client s.clients 0 ∙ none_rose risen_client (down_client 0) s.clients in
-    λ i. record { ballot = s.ballot; nodes = nodes i; clients = clients i; sent = [] }
+    λ i. record { ballots = s.ballots; nodes = nodes i; clients = clients i; sent = [] }
 
-pub ends_risen : (s : Settings) → rising s (length s.ballot.votes) s.clients ≡ all_risen s
+pub ends_risen : (s : Settings) → rising s (node_count s.ballots) s.clients ≡ all_risen s
 ends_risen s =
-    let nodes = all_rose (risen_node s.problem) (down_node (empty_station s.problem)) (length s.ballot.votes) in
+    let nodes = all_rose (risen_node s.problem) (down_node (empty_station s.problem)) (node_count s.ballots) in
     let clients = all_rose risen_client (down_client 0) s.clients in
-    λ i. record { ballot = s.ballot; nodes = nodes i; clients = clients i; sent = [] }
+    λ i. record { ballots = s.ballots; nodes = nodes i; clients = clients i; sent = [] }

@@ -27,7 +27,7 @@ use Rattle.history_check.specs.declared.faults.LineFault.{LineFault}
 use Rattle.lossy_link.specs.declared.faults.WeatherFault.{WeatherFault}
 use Rattle.line_streams.specs.Streams.{pieces, lines_in, AppendsBeginning, Grows, LetsOut, with_gathered}
 use Rattle.operator_cli.specs.Outputs.{Output, output_of, opened, start_of, with_lines, head_of, lines_output, settings_output, command_output, verdict_output, verdict_status, refusal_output, refused_ballot_output, refused_output, KeepsLimit, IsLimited, IsLimitedIn, Writes, Serves}
-use Rattle.operator_cli.specs.Texts.{ballot_text}
+use Rattle.operator_cli.specs.Texts.{ballots_text}
 use Rattle.operator_cli.specs.PartOutputs.{FindsHead, Starts, RefusesStart, WritesLines, WritesBehind, WritesVerdict, Finishes}
 use Rattle.operator_cli.proofs.ScriptFacts.{appends_nothing}
 
@@ -190,7 +190,7 @@ verdict_behind s w (Some xs) old new r e p =
     subst (λ (v : ExactWorld). Writes (verdict_output (verdict_of v (lines_in (pieces xs)))) old new r × KeepsLimit (verdict_of v (lines_in (pieces xs))) r) e p
 
 -- the ballot is told, whatever the lines are
-pub ballot_behind : (s : Settings) (left old new : Option (List ℕ)) (r : Result ℕ ServeFault) → Writes (record { text = ballot_text s.ballot; status = 0 }) old new r → WritesBehind command.Ballot s left old new r
+pub ballot_behind : (s : Settings) (left old new : Option (List ℕ)) (r : Result ℕ ServeFault) → Writes (record { text = ballots_text s.ballots; status = 0 }) old new r → WritesBehind command.Ballot s left old new r
 ballot_behind s None old new r p = tt
 ballot_behind s (Some xs) old new r p = (p, tt)
 

@@ -1,5 +1,6 @@
 -- The worlds that a script and a journal begin with.
-use Rattle.std.specs.Prelude.{[], length, replicate, None}
+use Rattle.std.specs.Prelude.{[], replicate, None}
+use Rattle.lock_model.specs.Ballots.{node_count}
 use Rattle.lock_model.specs.declared.problems.Problem.{Problem}
 use Rattle.world_model.specs.declared.exact.ExactNode.{ExactNode}
 use Rattle.world_model.specs.declared.exact.ExactNodePhase.TheVariants as node
@@ -19,8 +20,8 @@ risen_client = record { kept = 0; tried = None; phase = client.Idle }
 -- Every node and every client of the settings rose, the nodes solve the settings' problem, and nothing
 -- was sent yet.
 abbrev pub all_risen : Settings → ExactWorld
-all_risen s = record { ballot = s.ballot; nodes = replicate (length s.ballot.votes) (risen_node s.problem); clients = replicate s.clients risen_client; sent = [] }
+all_risen s = record { ballots = s.ballots; nodes = replicate (node_count s.ballots) (risen_node s.problem); clients = replicate s.clients risen_client; sent = [] }
 
 -- Every node and every client of the settings is down, and nothing is kept.
 abbrev pub all_down : Settings → ExactWorld
-all_down s = opening s.ballot (replicate (length s.ballot.votes) s.problem) s.clients
+all_down s = opening s.ballots (replicate (node_count s.ballots) s.problem) s.clients

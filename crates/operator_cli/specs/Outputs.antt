@@ -34,7 +34,7 @@ use Rattle.operator_cli.specs.Lines.{line_of}
 use Rattle.operator_cli.specs.Openings.{all_risen, all_down}
 use Rattle.line_streams.specs.Streams.{pieces, lines_in, AppendsBeginning}
 use Rattle.operator_cli.specs.Settings.{Given, settings_of}
-use Rattle.operator_cli.specs.Texts.{effect_text, refused_text, answer_text, line_fault_text, settings_fault_text, ballot_text}
+use Rattle.operator_cli.specs.Texts.{effect_text, refused_text, answer_text, line_fault_text, settings_fault_text, ballots_text}
 
 -- What one event or query prints, whether it was refused, and the world after it.
 pub record Told : Type 0 where
@@ -155,7 +155,7 @@ verdict_output v = record { text = verdict_text v; status = verdict_status v }
 abbrev pub settings_output : Command → Settings → List (List ℕ) → Output
 settings_output command.Script s lines = lines_output (all_risen s) 1 lines
 settings_output command.Audit s lines = verdict_output (verdict_of (all_down s) lines)
-settings_output command.Ballot s lines = record { text = ballot_text s.ballot; status = 0 }
+settings_output command.Ballot s lines = record { text = ballots_text s.ballots; status = 0 }
 settings_output (command.Run journal) s lines = record { text = []; status = 0 }
 
 abbrev pub command_output : Command → Result (Given × List (List ℕ)) SettingsFault → Output

@@ -1,8 +1,9 @@
 -- Parts of an output: what the functions of a run owe one another. Who reads what `serve` promises has
 -- no need of them.
-use Rattle.std.specs.Prelude.{◌≡◌, ◌⊎◌, ℕ, ◌+◌, ◌<◌, ◌≤◌, ◌-◌, Vec, Bool, true, if◌then◌else◌, List, [], ◌++◌, length, replicate, Option, Some, None, Result, Ok, Err}
+use Rattle.std.specs.Prelude.{◌≡◌, ◌⊎◌, ℕ, ◌+◌, ◌<◌, ◌≤◌, ◌-◌, Vec, Bool, true, if◌then◌else◌, List, [], ◌++◌, replicate, Option, Some, None, Result, Ok, Err}
 use Rattle.std.specs.Global.{Global}
 use Rattle.std.specs.Io.KnownBytes.{Appends}
+use Rattle.lock_model.specs.Ballots.{node_count}
 use Rattle.lock_messages.specs.declared.tickets.Ticket.{Ticket}
 use Rattle.world_model.specs.declared.TheConstants.{MAX_MESSAGES}
 use Rattle.world_model.specs.declared.events.Effect.{Effect}
@@ -34,8 +35,8 @@ use Rattle.operator_cli.specs.Outputs.{Told, lines_output, settings_output, verd
 -- first, and the others are down.
 abbrev pub rising : Settings → ℕ → ℕ → ExactWorld
 rising s nodes clients = record {
-  ballot = s.ballot;
-  nodes = replicate nodes (risen_node s.problem) ++ replicate (length s.ballot.votes - nodes) (down_node (empty_station s.problem));
+  ballots = s.ballots;
+  nodes = replicate nodes (risen_node s.problem) ++ replicate (node_count s.ballots - nodes) (down_node (empty_station s.problem));
   clients = replicate clients risen_client ++ replicate (s.clients - clients) (down_client 0);
   sent = [];
 }

@@ -1,26 +1,29 @@
 -- Settings: the TOML document that an input begins with, and what it says.
-use Rattle.std.specs.Prelude.{◌≡◌, ℕ, suc, ◌+◌, ◌≤◌, length, ◌&&◌, ◌||◌, ◌==◌, Bool, true, false, nat_le, if◌then◌else◌, List, [], ◌∷◌, ℤ, pos, negsuc, Option, Some, None, option_map, option_and_then, is_some, Result, Ok, Err, codes}
+use Rattle.std.specs.Prelude.{◌≡◌, ℕ, suc, ◌+◌, ◌≤◌, length, ◌&&◌, ◌||◌, ◌==◌, Bool, true, false, nat_le, if◌then◌else◌, List, [], ◌∷◌, ◌++◌, ℤ, pos, negsuc, Option, Some, None, option_map, option_and_then, is_some, Result, Ok, Err, codes}
 use Rattle.std.specs.List.{list_any, All}
 use Rattle.std.specs.Option.{ok_or}
 use Rattle.std.specs.Str.{bytes_eq, is_utf8}
-use Rattle.toml.specs.Data.{Items, no_items, item, Data, Members, no_members, member, get_member, as_integer, as_str, as_array}
+use Rattle.toml.specs.Data.{Items, no_items, item, Data, Members, no_members, member, get_member, as_integer, as_str, as_array, as_table}
 use Rattle.toml.specs.Parse.{parse_document}
 use Rattle.lock_messages.specs.declared.ids.TheConstants.{MAX_CLIENTS}
 use Rattle.lock_model.specs.declared.problems.Problem.{Problem}
 use Rattle.lock_model.specs.declared.problems.Problem.TheVariants.{First, Second}
-use Rattle.lock_model.specs.Ballots.{Ballot}
+use Rattle.lock_model.specs.Ballots.{Ballot, HasPlace}
 use Rattle.vote_weights.specs.Ballots.{ballot_of}
 use Rattle.vote_weights.specs.Faults.{fault_of, ballot_unless}
+use Rattle.vote_weights.specs.ListFaults.{list_fault_of, list_unless}
 use Rattle.vote_weights.specs.declared.faults.BallotFault.{BallotFault}
 use Rattle.operator_cli.specs.declared.faults.SettingsFault.{SettingsFault}
 use Rattle.operator_cli.specs.declared.faults.SettingsFault.TheVariants as fault
 use Rattle.history_check.specs.declared.faults.LineFault.{LineFault}
+use Rattle.history_check.specs.declared.faults.LineFault.TheVariants as line_fault
 use Rattle.history_check.specs.declared.wishes.Wish.{Wish}
 use Rattle.history_check.specs.Wishes.{wish_among}
 use Rattle.lossy_link.specs.declared.faults.WeatherFault.TheVariants.{OverThousand}
 use Rattle.lossy_link.specs.Weathers.{Climate, climate_of, odds_of}
 use Rattle.operator_cli.specs.declared.orders.Command.{Command}
 use Rattle.operator_cli.specs.declared.orders.Command.TheVariants as command
+use Rattle.operator_cli.specs.declared.settings.Numbers.{Numbers}
 use Rattle.operator_cli.specs.declared.settings.RunValues.{RunValues}
 use Rattle.operator_cli.specs.declared.settings.Settings.{Settings}
 use Rattle.operator_cli.specs.declared.settings.Start.{Start}
@@ -47,19 +50,29 @@ abbrev pub Judges : {X Y : Type 0} → (X → Y) → Result X SettingsFault → 
 Judges view (Ok x) judged = judged ≡ Ok (view x)
 Judges view (Err e) judged = Refuses e judged
 
--- the keys that settings have: those that tell of the world, and those that tell of a run
+-- the keys that settings have: those that tell of a ballot, of the rest of the world, and of a run
+abbrev pub ballot_keys : List (List ℕ)
+ballot_keys = codes "votes" ∷ codes "read" ∷ codes "write" ∷ []
+
 abbrev pub world_keys : List (List ℕ)
-world_keys = codes "votes" ∷ codes "read" ∷ codes "write" ∷ codes "problem" ∷ codes "clients" ∷ []
+world_keys = codes "problem" ∷ codes "clients" ∷ codes "more" ∷ []
 
 abbrev pub run_keys : List (List ℕ)
 run_keys = codes "seed" ∷ codes "lose" ∷ codes "twice" ∷ codes "late" ∷ codes "wishes" ∷ []
 
+abbrev pub tells_ballot : List ℕ → Bool
+tells_ballot key = list_any (bytes_eq key) ballot_keys
+
 abbrev pub is_known : List ℕ → Bool
-is_known key = list_any (bytes_eq key) world_keys || list_any (bytes_eq key) run_keys
+is_known key = tells_ballot key || (list_any (bytes_eq key) world_keys || list_any (bytes_eq key) run_keys)
+
+-- each key of a table passes the test
+abbrev pub all_keys : (List ℕ → Bool) → Members → Bool
+all_keys test no_members = true
+all_keys test (member key value rest) = test key && all_keys test rest
 
 abbrev pub all_known : Members → Bool
-all_known no_members = true
-all_known (member key value rest) = is_known key && all_known rest
+all_known document = all_keys is_known document
 
 -- an integer from least to most
 abbrev pub within : ℕ → ℕ → ℤ → Option ℕ
@@ -119,18 +132,70 @@ problem_at c document = number_for c 1 1 2 (codes "problem") document >>= (λ nu
 abbrev pub clients_at : Command → Members → Result ℕ SettingsFault
 clients_at c document = number_for c MAX_CLIENTS 1 MAX_CLIENTS (codes "clients") document
 
-abbrev pub with_ballot : Problem → ℕ → Result Ballot BallotFault → Result Settings SettingsFault
-with_ballot problem clients (Ok b) = Ok (record { ballot = b; problem = problem; clients = clients })
-with_ballot problem clients (Err f) = Err (fault.Ballot f)
+-- The numbers of a ballot in a table: the votes of each node, and how many a read and a write need. They
+-- may be numbers that make no ballot.
+abbrev pub numbers_at : Members → Result Ballot SettingsFault
+numbers_at table =
+    votes_at table >>= (λ votes. number_at 0 65535 (codes "read") table >>= (λ read. number_at 0 65535 (codes "write") table >>= (λ write. Ok (ballot_of votes read write))))
 
--- What the values say of the world: the votes of each node, how many a read and a write need, the
--- problem that all nodes solve, 1 or 2, and how many clients there are. Each is needed, but that the
--- question for the ballot does without the last two.
+-- the same of a value that has to be a table with these three keys and no others
+abbrev pub numbers_of_table : Option Members → Result Ballot SettingsFault
+numbers_of_table None = Err fault.Value
+numbers_of_table (Some table) = if all_keys tells_ballot table then numbers_at table else Err fault.Value
+
+abbrev pub numbers_in : Data → Result Ballot SettingsFault
+numbers_in value = numbers_of_table (as_table value)
+
+abbrev pub all_numbers : Items → Result (List Ballot) SettingsFault
+all_numbers no_items = Ok []
+all_numbers (item value rest) = numbers_in value >>= (λ b. all_numbers rest >>= (λ bs. Ok (b ∷ bs)))
+
+-- the numbers of the other ballots, in order; there needn't be any
+abbrev pub numbers_of_items : Option Items → Result (List Ballot) SettingsFault
+numbers_of_items None = Err fault.Value
+numbers_of_items (Some items) = all_numbers items
+
+abbrev pub more_in : Option Data → Result (List Ballot) SettingsFault
+more_in None = Ok []
+more_in (Some value) = numbers_of_items (as_array value)
+
+abbrev pub more_at : Members → Result (List Ballot) SettingsFault
+more_at document = more_in (get_member (codes "more") document)
+
+-- the numbers of a ballot, as they are kept until they are judged
+abbrev pub numbers_of : Numbers → Ballot
+numbers_of n = ballot_of n.votes.items n.read n.write
+
+-- what numbers are, judged as a ballot: it, or what is wrong with it; and so each of a list, in order
+abbrev pub ballot_said : {A : Type 0} → Result A BallotFault → Result A SettingsFault
+ballot_said (Ok x) = Ok x
+ballot_said (Err f) = Err (fault.Ballot f)
+
+abbrev pub judged : Ballot → Result Ballot SettingsFault
+judged b = ballot_said (ballot_unless (fault_of b) b)
+
+abbrev pub all_judged : List Ballot → Result (List Ballot) SettingsFault
+all_judged [] = Ok []
+all_judged (b ∷ bs) = judged b >>= (λ x. all_judged bs >>= (λ xs. Ok (x ∷ xs)))
+
+-- what is answered of the rest of a list, with its front before it
+abbrev pub onto : {A : Type 0} → List A → Result (List A) SettingsFault → Result (List A) SettingsFault
+onto front (Ok rest) = Ok (front ++ rest)
+onto front (Err e) = Err e
+
+-- the ballots, judged as a list
+abbrev pub listed : List Ballot → Result (List Ballot) SettingsFault
+listed ballots = ballot_said (list_unless (list_fault_of ballots) ballots)
+
+-- What the values say of the world: the numbers of the first ballot, the problem that all nodes solve, 1 or
+-- 2, how many clients there are, and the numbers of more ballots. Each is needed but the last, and the
+-- question for the ballot does without the problem and the clients. First each value is judged by itself,
+-- then each ballot, and then the list of them.
 unfoldable pub world_of : Command → Members → Result Settings SettingsFault
 world_of c document =
-    votes_at document >>= (λ votes. number_at 0 65535 (codes "read") document >>= (λ read. number_at 0 65535 (codes "write") document >>= (λ write.
-    problem_at c document >>= (λ problem. clients_at c document >>= (λ clients.
-    let b = ballot_of votes read write in with_ballot problem clients (ballot_unless (fault_of b) b))))))
+    numbers_at document >>= (λ first. problem_at c document >>= (λ problem. clients_at c document >>= (λ clients. more_at document >>= (λ more.
+    judged first >>= (λ one. onto (one ∷ []) (all_judged more) >>= (λ all. listed all >>= (λ ballots.
+    Ok (record { ballots = ballots; problem = problem; clients = clients }))))))))
 
 -- the values at `wishes` are texts, and no more than there may be
 abbrev pub count : Items → ℕ
@@ -173,20 +238,24 @@ abbrev pub wish_said : Result Wish LineFault → Result Wish SettingsFault
 wish_said (Ok w) = Ok w
 wish_said (Err f) = Err (fault.Wish f)
 
-abbrev pub wish_from : ℕ → Option (List ℕ) → Result Wish SettingsFault
-wish_from clients None = Err fault.Value
-wish_from clients (Some text) = wish_said (wish_among clients text)
+-- the wish, where there are so many ballots that one stands at its place
+abbrev pub if_placed : ℕ → Wish → Result Wish SettingsFault
+if_placed count w = if nat_le w.place count then Ok w else Err (fault.Wish line_fault.Number)
 
-abbrev pub wishes_in : ℕ → Items → Result (List Wish) SettingsFault
-wishes_in clients no_items = Ok []
-wishes_in clients (item value rest) = wish_from clients (as_str value) >>= (λ w. wishes_in clients rest >>= (λ ws. Ok (w ∷ ws)))
+abbrev pub wish_from : ℕ → ℕ → Option (List ℕ) → Result Wish SettingsFault
+wish_from clients count None = Err fault.Value
+wish_from clients count (Some text) = wish_said (wish_among clients text) >>= (λ w. if_placed count w)
 
-abbrev pub wishes_of : ℕ → Option Items → Result (List Wish) SettingsFault
-wishes_of clients None = Ok []
-wishes_of clients (Some items) = wishes_in clients items
+abbrev pub wishes_in : ℕ → ℕ → Items → Result (List Wish) SettingsFault
+wishes_in clients count no_items = Ok []
+wishes_in clients count (item value rest) = wish_from clients count (as_str value) >>= (λ w. wishes_in clients count rest >>= (λ ws. Ok (w ∷ ws)))
 
-abbrev pub wishes_at : ℕ → Members → Result (List Wish) SettingsFault
-wishes_at clients document = wishes_of clients (option_and_then as_array (get_member (codes "wishes") document))
+abbrev pub wishes_of : ℕ → ℕ → Option Items → Result (List Wish) SettingsFault
+wishes_of clients count None = Ok []
+wishes_of clients count (Some items) = wishes_in clients count items
+
+abbrev pub wishes_at : ℕ → ℕ → Members → Result (List Wish) SettingsFault
+wishes_at clients count document = wishes_of clients count (option_and_then as_array (get_member (codes "wishes") document))
 
 -- What settings give: the world, the weather of each link of a run, and the wishes, in order.
 pub record Given : Type 0 where
@@ -197,16 +266,18 @@ pub record Given : Type 0 where
 abbrev pub given : Start → Given
 given s = record { settings = s.settings; weather = s.weather; wishes = s.wishes.items }
 
--- The wishes are of clients of which there are so many, and no more than there may be.
-pub record AreAmong (clients : ℕ) (wishes : List Wish) : Type 0 where
+-- The wishes are of clients of which there are so many, by places that the ballots have, and no more than
+-- there may be.
+pub record AreAmong (clients : ℕ) (ballots : List Ballot) (wishes : List Wish) : Type 0 where
   pub theirs : All (λ w. w.client ≤ clients) wishes
+  pub placed : All (λ w. HasPlace ballots w.place) wishes
   pub few : length wishes ≤ MAX_WISHES
 
--- What the values say. First each is judged by itself, then the ballot, then the weather, and then the
+-- What the values say. First each is judged by itself, then the ballots, then the weather, and then the
 -- wishes.
 unfoldable pub values_of : Command → Members → Result Given SettingsFault
 values_of c document =
-    run_values document >>= (λ run. world_of c document >>= (λ s. weather_of run >>= (λ w. wishes_at s.clients document >>= (λ ws.
+    run_values document >>= (λ run. world_of c document >>= (λ s. weather_of run >>= (λ w. wishes_at s.clients (length s.ballots) document >>= (λ ws.
     Ok (record { settings = s; weather = w; wishes = ws })))))
 
 abbrev pub document_settings : Command → Option Members → Result Given SettingsFault

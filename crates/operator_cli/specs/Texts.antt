@@ -85,3 +85,7 @@ settings_fault_text number = codes "settings fault " ++ decimal number ++ codes 
 -- `total 3 read 2 write 2`
 abbrev pub ballot_text : Ballot → List ℕ
 ballot_text b = codes "total " ++ decimal (total b) ++ codes " read " ++ decimal b.read ++ codes " write " ++ decimal b.write ++ codes "\n"
+
+-- a line for each ballot, in order
+abbrev pub ballots_text : List Ballot → List ℕ
+ballots_text ballots = flat_map ballot_text ballots

@@ -6,7 +6,7 @@
 //! query: who is inside a resource, and who waits for a node's vote or holds it. Every actor is up at
 //! first. `serve` takes the events one after another, prints what each did or why it was refused, and
 //! answers the status of the program. Of a journal the lines are events from a world in which all
-//! actors are down, and `serve` prints whether they are a run. Asked for the ballot, it prints that of
+//! actors are down, and `serve` prints whether they are a run. Asked for the ballots, it prints those of
 //! the settings alone.
 //!
 //! The crate promises that what `serve` writes for a command is, byte for byte, a stated function of the

@@ -1,6 +1,7 @@
 // How a script begins: every actor rises.
 
-ghost use Rattle.std.specs.Prelude.{◌≡◌, ◌+◌, ◌<◌, ◌≤◌, length, replicate, OnOk};
+ghost use Rattle.std.specs.Prelude.{◌≡◌, ◌+◌, ◌<◌, ◌≤◌, replicate, OnOk};
+ghost use Rattle.lock_model.specs.Ballots.{node_count};
 ghost use Rattle.lock_messages.specs.declared.ids.TheConstants.{MAX_NODES, MAX_CLIENTS};
 ghost use Rattle.lock_messages.specs.declared.ids.Actor.TheVariants as actor;
 ghost use Rattle.world_model.specs.declared.events.Age.TheVariants as age;
@@ -44,9 +45,9 @@ fn client_behind(count: u16) -> ClientId
 /// Raises every node, the first one first.
 fn raise_nodes(world: &mut World, settings: &Settings) -> Result<(), ServeFault>
     requires { world.old ≡ rising settings.now 0 0 }
-    ensures { OnOk result (world.new ≡ rising settings.now (length settings.now.ballot.votes) 0) }
+    ensures { OnOk result (world.new ≡ rising settings.now (node_count settings.now.ballots) 0) }
 {
-    for count in 0..settings.ballot.nodes() {
+    for count in 0..settings.ballots.nodes() {
         raise(world, Actor::Node(node_behind(count)))?;
     }
     Ok(())
@@ -55,8 +56,8 @@ fn raise_nodes(world: &mut World, settings: &Settings) -> Result<(), ServeFault>
 /// Raises every client, the first one first.
 fn raise_clients(world: &mut World, settings: &Settings) -> Result<(), ServeFault>
     requires in_range { settings.now.clients ≤ MAX_CLIENTS }
-    requires nodes { world.old ≡ rising settings.now (length settings.now.ballot.votes) 0 }
-    ensures { OnOk result (world.new ≡ rising settings.now (length settings.now.ballot.votes) settings.now.clients) }
+    requires nodes { world.old ≡ rising settings.now (node_count settings.now.ballots) 0 }
+    ensures { OnOk result (world.new ≡ rising settings.now (node_count settings.now.ballots) settings.now.clients) }
 {
     for count in 0..settings.clients {
         raise(world, Actor::Client(client_behind(count)))?;
@@ -68,7 +69,7 @@ fn raise_clients(world: &mut World, settings: &Settings) -> Result<(), ServeFaul
 /// of memory, at a node.
 pub(crate) fn raise_all(world: &mut World, settings: &Settings) -> Result<(), ServeFault>
     requires in_range { settings.now.clients ≤ MAX_CLIENTS }
-    requires opening { world.old ≡ opening settings.now.ballot (replicate (length settings.now.ballot.votes) settings.now.problem) settings.now.clients }
+    requires opening { world.old ≡ opening settings.now.ballots (replicate (node_count settings.now.ballots) settings.now.problem) settings.now.clients }
     ensures { OnOk result (world.new ≡ all_risen settings.now) }
 {
     raise_nodes(world, settings)?;

@@ -10,7 +10,7 @@ ghost use Rattle.operator_cli.specs.Faults.{settings_fault_number};
 ghost use Rattle.operator_cli.specs.Openings.{all_down};
 ghost use Rattle.operator_cli.specs.Outputs.{IsServed, Serves, Writes, refusal_output, refused_ballot_output, refused_output, verdict_status};
 ghost use Rattle.operator_cli.specs.PartOutputs.{WritesLines, Finishes, RefusesStart, WritesBehind, WritesVerdict};
-ghost use Rattle.operator_cli.specs.Texts.{settings_fault_text, refused_text, ballot_text};
+ghost use Rattle.operator_cli.specs.Texts.{settings_fault_text, refused_text, ballots_text};
 ghost use Rattle.operator_cli.specs.declared.faults.SettingsFault.TheVariants as settings;
 ghost use Rattle.operator_cli.specs.declared.orders.Command.TheVariants as command;
 
@@ -19,14 +19,14 @@ use crate::orders::chosen;
 use crate::raising::raise_all;
 use crate::script::tell_lines;
 use crate::settings::Settings;
-use crate::texts::push_ballot;
+use crate::texts::push_ballots;
 use crate::{Command, LineFault, Order, Policies, ServeFault, SettingsFault};
 use journal_audit::{Verdict, audit_lines};
 use line_streams::{Gathered, LineReader, MAX_READS, write_text};
 use lossy_link::WeatherFault;
 use std::alloc::Global;
 use std::io::{Read, Write};
-use vote_weights::{Ballot, BallotFault};
+use vote_weights::{BallotFault, BallotList};
 use world_machine::World;
 
 /// That numbers make no ballot, told as wrong settings.
@@ -222,8 +222,8 @@ pub fn world_down(
     requires second { map problem_of policies.second.items ≡ replicate MAX_NODES Second }
     ensures { IfOk result (λ w. w ≡ all_down settings.now) }
 {
-    let policies = chosen(policies, settings.problem, settings.ballot.nodes());
-    match World::start(alloc, settings.ballot, settings.clients, policies) {
+    let policies = chosen(policies, settings.problem, settings.ballots.nodes());
+    match World::start(alloc, settings.ballots, settings.clients, policies) {
         Ok(world) => Ok(world),
         Err(_) => Err(ServeFault::Memory),
     }
@@ -298,12 +298,16 @@ fn serve_audit<R: Read, W: Write>(
     judge(alloc, world, source, writer)
 }
 
-/// Prints what the ballot is.
-fn serve_ballot<W: Write>(alloc: Global, ballot: Ballot, writer: &mut W) -> Result<u8, ServeFault>
-    ensures { Writes (record { text = ballot_text ballot; status = 0 }) (W.contents writer.old) (W.contents writer.new) result }
+/// Prints what each ballot is.
+fn serve_ballots<W: Write>(
+    alloc: Global,
+    ballots: &BallotList,
+    writer: &mut W,
+) -> Result<u8, ServeFault>
+    ensures { Writes (record { text = ballots_text ballots.now; status = 0 }) (W.contents writer.old) (W.contents writer.new) result }
 {
     let mut text = String::new(alloc);
-    if push_ballot(&mut text, ballot).is_err() {
+    if push_ballots(&mut text, ballots).is_err() {
         return Err(ServeFault::Memory);
     }
     print(text.as_bytes(), 0, writer)
@@ -328,18 +332,18 @@ fn serve_behind<R: Read, W: Write>(
     match command {
         Command::Script => serve_script(alloc, settings, policies, source, writer),
         Command::Audit => serve_audit(alloc, settings, policies, source, writer),
-        Command::Ballot => serve_ballot(alloc, settings.ballot, writer),
+        Command::Ballot => serve_ballots(alloc, &settings.ballots, writer),
         Command::Run { .. } => unreachable!(),
     }
 }
 
 /// Does what the order says with the bytes of the reader, and answers the status of the program.
 ///
-/// The bytes begin with settings, a TOML document. Its keys `votes`, `read`, `write`, `problem` and
-/// `clients` tell of the world, and `ballot` needs the first three alone. `seed`, `lose`, `twice`, `late`
-/// and `wishes` tell of a run: every command reads and judges them, and none here uses them. The first
-/// line that is exactly `---` ends the settings. Refused ones print `settings fault N` and nothing else,
-/// and the status is 2.
+/// The bytes begin with settings, a TOML document. Its keys `votes`, `read`, `write`, `problem`,
+/// `clients` and `more` tell of the world, and `ballot` needs the first three alone; `more` has other
+/// ballots. `seed`, `lose`, `twice`, `late` and `wishes` tell of a run: every command reads and judges
+/// them, and none here uses them. The first line that is exactly `---` ends the settings. Refused ones
+/// print `settings fault N` and nothing else, and the status is 2.
 ///
 /// - `Script`: every node and then every client rises with nothing kept, which prints nothing. Each line
 ///   behind the settings is an event, which prints its effect, one line for each reply that a node says,
@@ -350,9 +354,9 @@ fn serve_behind<R: Read, W: Write>(
 /// - `Audit`: the lines behind the settings are a journal from the world in which all actors are down.
 ///   They are judged as they come, as `journal_audit::audit` does it, and the verdict's line is printed.
 ///   The status is 0 where the journal is sound, else 1.
-/// - `Ballot`: what stands behind the settings is ignored. It prints `total T read R write W`, and the
-///   status is 0; or `refused N` and 1 where the votes make no ballot (201 to 205), which is no fault of
-///   the settings here.
+/// - `Ballot`: what stands behind the settings is ignored. It prints `total T read R write W` for
+///   each ballot, in order, and the status is 0; or `refused N` and 1 where the votes make no ballot (201
+///   to 205) or the ballots no list (206 to 208), which is no fault of the settings here.
 ///
 /// Contracts speak of what the reader has left and of what the writer holds, where these are known.
 /// What is written is the command's output of the bytes that were left, or `settings fault 925` where

@@ -3,7 +3,7 @@
 ghost use Rattle.std.specs.Prelude.{◌≡◌, ◌+◌, ◌<◌, ◌≤◌, ◌++◌, OnOk, string_bytes};
 ghost use Rattle.std.specs.List.{flat_map};
 ghost use Rattle.operator_cli.specs.PartOutputs.{SaidFits};
-ghost use Rattle.operator_cli.specs.Texts.{sent_text, found_text, said_text, took_text, heard_text, effect_text, refused_text, member_text, other_text, members_text, answer_text, line_fault_text, ballot_text};
+ghost use Rattle.operator_cli.specs.Texts.{sent_text, found_text, said_text, took_text, heard_text, effect_text, refused_text, member_text, other_text, members_text, answer_text, line_fault_text, ballot_text, ballots_text};
 ghost use Rattle.world_model.specs.declared.TheConstants.{MAX_MESSAGES};
 ghost use Rattle.world_model.specs.ExactWorlds.{numbered};
 
@@ -11,7 +11,7 @@ use history_check::{Line, Query, write_line};
 use lock_messages::{Message, Ticket};
 use lock_model::Heard;
 use std::alloc::{AllocError, Global};
-use vote_weights::Ballot;
+use vote_weights::{Ballot, BallotList};
 use world_machine::World;
 use world_model::Effect;
 
@@ -142,9 +142,22 @@ pub fn push_line_fault(text: &mut String, line: u64, number: u16) -> Result<(), 
 }
 
 /// Adds what a ballot is.
-pub fn push_ballot(text: &mut String, ballot: Ballot) -> Result<(), AllocError>
+fn push_ballot(text: &mut String, ballot: Ballot) -> Result<(), AllocError>
     ensures { OnOk result (string_bytes text.new ≡ string_bytes text.old ++ ballot_text ballot) }
 {
     let (total, read, write) = (ballot.total(), ballot.read(), ballot.write());
     writeln!(text, "total {total} read {read} write {write}")
+}
+
+/// Adds what each of the ballots is, in order.
+pub fn push_ballots(text: &mut String, ballots: &BallotList) -> Result<(), AllocError>
+    ensures { OnOk result (string_bytes text.new ≡ string_bytes text.old ++ ballots_text ballots.now) }
+{
+    for place in 1..ballots.count() + 1 {
+        let Some(ballot) = ballots.ballot(place) else {
+            unreachable!()
+        };
+        push_ballot(text, ballot)?;
+    }
+    Ok(())
 }

@@ -8,7 +8,7 @@ use lock_messages::{ClientId, MAX_ATTEMPT, ResourceName};
 use std::alloc::Global;
 use std::fmt;
 use test_outcomes::{Outcome, check_answer};
-use vote_weights::Ballot;
+use vote_weights::{Ballot, BallotList};
 
 /// Adds what there is, or `nothing`.
 fn tell<T: fmt::Display + Drop>(shown: &mut String, found: Option<T>) -> Option<()> {
@@ -18,10 +18,13 @@ fn tell<T: fmt::Display + Drop>(shown: &mut String, found: Option<T>) -> Option<
     }
 }
 
-/// Begins an attempt, as `read a`, and adds its number or that of the fault.
+/// Begins an attempt, as `read a` by the ballot at place 1 or `read a 2` by that at place 2, and adds its
+/// number or that of the fault.
 fn begins(shown: &mut String, core: &mut ClientCore, wish: &str) -> Option<()> {
-    let (word, name) = wish.split_once(' ')?;
-    match core.begin(ResourceName::of(name.as_bytes())?, mode(word)?) {
+    let mut words = wish.split(' ');
+    let (mode, name) = (mode(words.next()?)?, words.next()?);
+    let place = words.next().unwrap_or("1").parse().ok()?;
+    match core.begin(ResourceName::of(name.as_bytes())?, mode, place) {
         Ok(attempt) => tell(shown, Some(attempt)),
         Err(fault) => tell(shown, Some(fault.number())),
     }
@@ -98,7 +101,8 @@ fn risen(attempt: u64) -> Option<ClientCore> {
     if attempt > MAX_ATTEMPT {
         return None;
     }
-    Some(ClientCore::rise(ClientId::of(1)?, attempt, ballot))
+    let ballots = BallotList::of(&[ballot]).ok()?;
+    Some(ClientCore::rise(ClientId::of(1)?, attempt, ballots))
 }
 
 /// Plays a script with client 1 after this attempt.
@@ -178,6 +182,7 @@ fn restarted_client(rt: HostRuntime) -> Outcome {
 
 const SPENT: &str = "\
 begin read a > 702
+begin read a 2 > 702
 phase > Idle
 attempt > 1000000000000";
 
@@ -209,7 +214,53 @@ may > true";
 /// Client 1 among three nodes, of which the first has two votes; a reader needs as many.
 fn weighted() -> Option<ClientCore> {
     let ballot = Ballot::of(&[2, 1, 1], 2, 3).ok()?;
-    Some(ClientCore::rise(ClientId::of(1)?, 0, ballot))
+    let ballots = BallotList::of(&[ballot]).ok()?;
+    Some(ClientCore::rise(ClientId::of(1)?, 0, ballots))
+}
+
+// By the first ballot the votes of nodes 1 and 2 are enough for a writer, by the second they aren't even for
+// a reader. The first has three nodes and the second four; a release goes to every node of the list.
+const BY_EITHER_BALLOT: &str = "\
+begin write a 0 > 703
+begin write a 3 > 703
+attempt > 0
+begin write a > 1
+kept > true
+hear grant n1 c1 1 write a > Counted
+may > false
+hear grant n2 c1 1 write a > Counted
+may > true
+enter > true
+begin write a 3 > 701
+leave > true
+say n3 > release n3 c1 1
+say n4 > release n4 c1 1
+say n5 > nothing
+begin read a 2 > 2
+kept > true
+say n4 > request n4 c1 2 read a
+hear grant n1 c1 2 read a > Counted
+hear grant n2 c1 2 read a > Counted
+may > false
+next > n3
+skip n3 > \nnext > n4
+hear grant n4 c1 2 read a > Counted
+may > true";
+
+/// Client 1 under two ballots, of three nodes and of four.
+fn with_two_ballots() -> Option<ClientCore> {
+    let first = Ballot::of(&[2, 1, 1], 2, 3).ok()?;
+    let second = Ballot::of(&[1, 1, 1, 1], 3, 4).ok()?;
+    let ballots = BallotList::of(&[first, second]).ok()?;
+    Some(ClientCore::rise(ClientId::of(1)?, 0, ballots))
+}
+
+#[test]
+fn attempts_by_either_ballot(rt: HostRuntime) -> Outcome {
+    let Some(mut core) = with_two_ballots() else {
+        return check_answer(None, 0);
+    };
+    plays(rt.alloc(), &mut core, BY_EITHER_BALLOT)
 }
 
 #[test]

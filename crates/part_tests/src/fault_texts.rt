@@ -29,12 +29,15 @@ const FRAMES: [FrameFault; 11] = [
     FrameFault::Memory,
 ];
 
-const BALLOTS: [BallotFault; 5] = [
+const BALLOTS: [BallotFault; 8] = [
     BallotFault::NoNode,
     BallotFault::TooManyNodes,
     BallotFault::OverTotal,
     BallotFault::ReadsMissWrites,
     BallotFault::WritesMiss,
+    BallotFault::BallotsMiss(1, 2),
+    BallotFault::NoBallot,
+    BallotFault::TooManyBallots,
 ];
 
 const RECORDS: [RecordFault; 19] = [
@@ -65,7 +68,11 @@ const VOTERS: [VoterFault; 3] = [
     VoterFault::Memory,
 ];
 
-const CLIENTS: [ClientFault; 2] = [ClientFault::NotIdle, ClientFault::AttemptsSpent];
+const CLIENTS: [ClientFault; 3] = [
+    ClientFault::NotIdle,
+    ClientFault::AttemptsSpent,
+    ClientFault::NoSuchPlace,
+];
 
 const TEXTS: &str = "\
 101 the frame ends within a field
@@ -84,6 +91,9 @@ const TEXTS: &str = "\
 203 a reader or a writer needs more votes than all nodes have
 204 a read and a write can have enough votes with none in common
 205 two writes can have enough votes with none in common
+206 the ballots at places 1 and 2 can each have enough votes with none at a common node
+207 the list has no ballot
+208 the list has more than 8 ballots
 301 the device failed
 302 the record is stuck until it is reopened
 303 the record is too long
@@ -111,6 +121,7 @@ const TEXTS: &str = "\
 622 the actor's record can't be read, or is of the other problem
 701 an attempt is under way
 702 no attempt is left
+703 there is no ballot at this place
 ";
 
 /// The rows of the faults of an opening, one of which names an actor.

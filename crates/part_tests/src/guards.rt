@@ -12,7 +12,7 @@ use std::mem;
 use std::sync::Arc;
 use std::sync::atomic::{AtomicUsize, Ordering};
 use test_outcomes::{Outcome, check_answer};
-use vote_weights::Ballot;
+use vote_weights::{Ballot, BallotList};
 
 const GRANTS: &str = "\
 grant n1 c1 1 read a
@@ -29,8 +29,9 @@ fn ticket() -> Option<Ticket> {
 /// A core that asks with that ticket, and has the votes of so many of three nodes; two are enough.
 fn core_with(votes: usize) -> Option<ClientCore> {
     let ballot = Ballot::of(&[1, 1, 1], 2, 2).ok()?;
-    let mut core = ClientCore::rise(ClientId::of(1)?, 0, ballot);
-    let Ok(_) = core.begin(ResourceName::of(b"a")?, Mode::Read) else {
+    let ballots = BallotList::of(&[ballot]).ok()?;
+    let mut core = ClientCore::rise(ClientId::of(1)?, 0, ballots);
+    let Ok(_) = core.begin(ResourceName::of(b"a")?, Mode::Read, 1) else {
         return None;
     };
     core.kept();

@@ -3,6 +3,7 @@
 use Rattle.std.proofs.Common.{◌≡◌, ℕ, zero, suc, ◌≤◌, true, nat_le, List, [], ◌∷◌, ◌++◌, length, get_or, map, replicate, All, refl, sym, ap, subst, ◌∙◌, arith}
 use Rattle.std.proofs.lemmas.List.{length-replicate}
 use Rattle.std.proofs.lemmas.Bool.Decides.{nat_tests}
+use Rattle.lock_model.specs.Ballots.{node_count}
 use Rattle.lock_messages.specs.declared.ids.Actor.TheVariants as actor
 use Rattle.lock_model.specs.declared.problems.Problem.{Problem}
 use Rattle.stable_record.specs.Records.{client_record_of}
@@ -36,10 +37,10 @@ nodes_are n p = sym (ap (map (λ (s : ExactStation). station_bytes s ∷ [])) (s
 clients_are : (k : ℕ) → replicate k empty_client ≡ map (λ a. client_record_of a ∷ []) (replicate k 0)
 clients_are k = sym (map_same (λ (a : ℕ). client_record_of a ∷ []) k 0)
 
-pub may_run : (s : Settings) (w : ExactWorld) (n : ℕ) (problems : List Problem) (found : List (List (List ℕ))) → w ≡ all_down s → n ≡ length s.ballot.votes
-    → problems ≡ replicate n s.problem → found ≡ replicate n (empty_node s.problem) ++ replicate s.clients empty_client → MayRun w s.ballot problems found
+pub may_run : (s : Settings) (w : ExactWorld) (n : ℕ) (problems : List Problem) (found : List (List (List ℕ))) → w ≡ all_down s → n ≡ node_count s.ballots
+    → problems ≡ replicate n s.problem → found ≡ replicate n (empty_node s.problem) ++ replicate s.clients empty_client → MayRun w s.ballots problems found
 may_run s w n problems found is_world count all_policies all_records =
-    let votes = length s.ballot.votes in
+    let votes = node_count s.ballots in
     let p = s.problem in record {
       stations = stations_of votes p;
       attempts = replicate s.clients 0;
@@ -56,7 +57,7 @@ client_count s = ap length (map_same down_client s.clients 0) ∙ length-replica
 there_is : (c n : ℕ) → c ≤ n → nat_le c n ≡ true
 there_is c n h = grind (arith, nat_tests)
 
-pub theirs : (s : Settings) (w : ExactWorld) (wishes : List Wish) → w ≡ all_down s → AreAmong s.clients wishes → All (λ wish. has_actor w (actor.Client wish.client) ≡ true) wishes
+pub theirs : (s : Settings) (w : ExactWorld) (wishes : List Wish) → w ≡ all_down s → AreAmong s.clients s.ballots wishes → All (λ wish. has_actor w (actor.Client wish.client) ≡ true) wishes
 theirs s w wishes is_world among = λ k d below.
     let count = ap (λ (v : ExactWorld). length v.clients) is_world ∙ client_count s in
     there_is (get_or wishes k d).client (length w.clients) (subst (λ n. (get_or wishes k d).client ≤ n) (sym count) (among.theirs k d below))

@@ -127,7 +127,7 @@ fn run<T: Threads + Wait + Copy + Send>(
 ) -> Result<RunEnd, ServeFault>
     requires some_client { 1 ≤ settings.now.clients }
     requires few_clients { settings.now.clients ≤ MAX_CLIENTS }
-    requires wishes { AreAmong settings.now.clients wishes.now }
+    requires wishes { AreAmong settings.now.clients settings.now.ballots wishes.now }
     requires world_first { map ⟦<Box<dyn Admission + Send> as Admission>⟧.problem_of for_world.first.items ≡ replicate MAX_NODES First }
     requires world_second { map ⟦<Box<dyn Admission + Send> as Admission>⟧.problem_of for_world.second.items ≡ replicate MAX_NODES Second }
     requires threads_first { map ⟦<Box<dyn Admission + Send> as Admission>⟧.problem_of for_threads.first.items ≡ replicate MAX_NODES First }
@@ -139,7 +139,7 @@ fn run<T: Threads + Wait + Copy + Send>(
     ensures end { IfOk result (λ end. IsEndOf settings.now wishes.now (record { history = end.book.history; world = end.book.world; faults = end.faults.items })) }
     ensures entered { IfOk result (λ end. end.entered ≡ enters end.book.history) }
 {
-    let nodes = settings.ballot.nodes();
+    let nodes = settings.ballots.nodes();
     let Ok(world) = world_down(alloc, settings, for_world) else {
         return Err(ServeFault::Memory);
     };
@@ -147,9 +147,9 @@ fn run<T: Threads + Wait + Copy + Send>(
         return Err(ServeFault::Memory);
     };
     let policies = chosen(for_threads, settings.problem, nodes);
-    let ballot = settings.ballot;
+    let ballots = settings.ballots;
     let Ok(end) = run_all(
-        rt, alloc, ballot, wishes, records, world, policies, weather, &OpenGate,
+        rt, alloc, ballots, wishes, records, world, policies, weather, &OpenGate,
     ) else {
         return Err(ServeFault::Memory);
     };

@@ -1,6 +1,7 @@
 // What a run is handed: policies, a world in which nothing has happened, records and wishes.
 
 ghost use Rattle.std.specs.Prelude.{◌≡◌, ◌≤◌, ◌++◌, length, map, replicate, IfOk};
+ghost use Rattle.lock_model.specs.Ballots.{node_count, HasPlace};
 ghost use Rattle.lock_messages.specs.declared.ids.TheConstants.{MAX_CLIENTS};
 ghost use Rattle.operator_cli.specs.Settings.{AreAmong};
 ghost use Rattle.run_service.specs.Empty.{empty_node, empty_client};
@@ -13,7 +14,7 @@ use lock_model::Problem;
 use stable_record::{StableRecord, client_bytes};
 use std::alloc::Global;
 use test_outcomes::Failure;
-use vote_weights::Ballot;
+use vote_weights::BallotList;
 use world_machine::World;
 
 /// The record of a node for problem 1 that has kept nothing.
@@ -39,12 +40,12 @@ pub(crate) fn policies(alloc: Global, count: u8) -> Result<Vec<Box<dyn Admission
 }
 
 /// A world of nodes for problem 1 in which nothing has happened.
-pub(crate) fn world(alloc: Global, ballot: Ballot, clients: u16) -> Result<World, Failure>
+pub(crate) fn world(alloc: Global, ballots: BallotList, clients: u16) -> Result<World, Failure>
     requires some { 1 ≤ clients }
     requires few { clients ≤ MAX_CLIENTS }
-    ensures { IfOk result (λ w. w ≡ opening ballot (replicate (length ballot.votes) Problem.First) clients) }
+    ensures { IfOk result (λ w. w ≡ opening ballots (replicate (node_count ballots) Problem.First) clients) }
 {
-    match World::start(alloc, ballot, clients, policies(alloc, ballot.nodes())?) {
+    match World::start(alloc, ballots, clients, policies(alloc, ballots.nodes())?) {
         Ok(world) => Ok(world),
         Err(_) => Err(Failure::Memory),
     }
@@ -94,23 +95,32 @@ pub(crate) fn records(
     Ok(records)
 }
 
-/// The wish of a text, of one of so many clients.
-fn wish(clients: u16, text: &[u8]) -> Result<Wish, Failure>
-    ensures { IfOk result (λ w. w.client ≤ clients) }
+/// The wish of a text, of one of so many clients and by one of the ballots.
+fn wish(clients: u16, ballots: &BallotList, text: &[u8]) -> Result<Wish, Failure>
+    ensures theirs { IfOk result (λ w. w.client ≤ clients) }
+    ensures placed { IfOk result (λ w. HasPlace ballots.now w.place) }
 {
-    match read_wish(text) {
-        Ok(wish) if wish.client.get() <= u32::from(clients) => Ok(wish),
-        _ => Err(Failure::Wrong(0)),
+    let Ok(wish) = read_wish(text) else {
+        return Err(Failure::Wrong(0));
+    };
+    if wish.client.get() > u32::from(clients) || ballots.ballot(wish.place).is_none() {
+        return Err(Failure::Wrong(0));
     }
+    Ok(wish)
 }
 
-/// The wishes of these texts, of so many clients.
-pub(crate) fn wishes(alloc: Global, clients: u16, texts: &[&[u8]]) -> Result<Vec<Wish>, Failure>
-    ensures { IfOk result (λ v. AreAmong clients v.items) }
+/// The wishes of these texts, of so many clients and by these ballots.
+pub(crate) fn wishes(
+    alloc: Global,
+    clients: u16,
+    ballots: &BallotList,
+    texts: &[&[u8]],
+) -> Result<Vec<Wish>, Failure>
+    ensures { IfOk result (λ v. AreAmong clients ballots.now v.items) }
 {
     let mut wishes = Vec::new(alloc);
     for text in texts {
-        wishes.push(wish(clients, text)?)?;
+        wishes.push(wish(clients, ballots, text)?)?;
     }
     if wishes.len() > MAX_WISHES {
         return Err(Failure::Wrong(0));

@@ -1,6 +1,7 @@
 // A run by a row: its setting, its wishes and its devices; and what is seen of its end.
 
 ghost use Rattle.std.specs.Prelude.{◌≡◌, ◌≤◌, length};
+ghost use Rattle.lock_model.specs.Ballots.{node_count};
 ghost use Rattle.lock_messages.specs.declared.ids.TheConstants.{MAX_CLIENTS};
 
 use crate::audits::journal_of;
@@ -14,7 +15,7 @@ use std::alloc::Global;
 use std::sync::Wait;
 use std::thread::Threads;
 use test_outcomes::Failure;
-use vote_weights::Ballot;
+use vote_weights::{Ballot, BallotList};
 
 /// What a run is given: its ballot, its clients, its wishes, the devices of its nodes and of its clients,
 /// and its weather by a seed and the odds of loss, repeats and delays.
@@ -39,30 +40,30 @@ pub(crate) struct Seen {
     pub(crate) journal: Vec<u8>,
 }
 
-/// Runs a row of this ballot, with the gate.
+/// Runs a row of these ballots, with the gate.
 fn end_of<R: Threads + Wait + Copy + Send, G: Gate + Sync>(
     rt: R,
     alloc: Global,
     row: &Row<'_>,
-    ballot: Ballot,
+    ballots: BallotList,
     gate: &G,
 ) -> Result<RunEnd, Failure>
     requires some { 1 ≤ row.now.clients }
     requires few { row.now.clients ≤ MAX_CLIENTS }
-    requires devices { length row.now.devices.now ≡ length ballot.votes }
+    requires devices { length row.now.devices.now ≡ node_count ballots }
 {
     let (seed, lose, twice, late) = row.weather;
     let Ok(weather) = Weather::of(seed, lose, twice, late) else {
         return Err(Failure::Wrong(0));
     };
-    let wishes = wishes(alloc, row.clients, row.wishes)?;
+    let wishes = wishes(alloc, row.clients, &ballots, row.wishes)?;
     let records = records(alloc, row.devices, row.of_clients, row.clients)?;
-    let policies = policies(alloc, ballot.nodes())?;
-    let world = world(alloc, ballot, row.clients)?;
+    let policies = policies(alloc, ballots.nodes())?;
+    let world = world(alloc, ballots, row.clients)?;
     match run_all(
         rt,
         alloc,
-        ballot,
+        ballots,
         wishes.as_slice(),
         records,
         world,
@@ -86,14 +87,17 @@ pub(crate) fn run_row<R: Threads + Wait + Copy + Send, G: Gate + Sync>(
     let Ok(ballot) = Ballot::of(row.votes, row.read, row.write) else {
         return Err(Failure::Wrong(0));
     };
+    let Ok(ballots) = BallotList::of(&[ballot]) else {
+        return Err(Failure::Wrong(0));
+    };
     if row.clients < 1
         || u32::from(row.clients) > MAX_CLIENTS
         || row.devices.len() != row.votes.len()
     {
         return Err(Failure::Wrong(0));
     }
-    let end = end_of(rt, alloc, row, ballot, gate)?;
-    let again = world(alloc, ballot, row.clients)?;
+    let end = end_of(rt, alloc, row, ballots, gate)?;
+    let again = world(alloc, ballots, row.clients)?;
     let journal = journal_of(alloc, &end.book, again)?;
     if end
         .faults

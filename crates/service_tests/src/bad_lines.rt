@@ -32,9 +32,10 @@ fn modes_and_ages(rt: HostRuntime) -> Outcome {
 #[test]
 fn numbers_of_words(rt: HostRuntime) -> Outcome {
     let lines = [
-        "begin  c1 read a",
+        "begin  c1 read a b2",
         "begin c1 read",
-        "begin c1 read a b",
+        "begin c1 read a b2 b2",
+        "begin c1 read a b2 ",
         "try",
         "kept c1 ",
         "sayto c1",
@@ -54,6 +55,7 @@ fn numbers_of_words(rt: HostRuntime) -> Outcome {
 #[test]
 fn actors(rt: HostRuntime) -> Outcome {
     let lines = [
+        "begin  c1 read a",
         "begin n1 read a",
         "begin c01 read a",
         "begin c0 reed A",
@@ -88,6 +90,12 @@ fn numbers(rt: HostRuntime) -> Outcome {
         "take n1 1x",
         "hear c1 ",
         "hear c1 99999999999999999999",
+        "begin c1 read a b",
+        "begin c1 read a b1",
+        "begin c1 read a b9",
+        "begin c1 read a b02",
+        "begin c1 read a B2",
+        "begin c1 read a ",
     ];
     each_is_bad(rt.alloc(), 803, &lines)
 }

@@ -40,7 +40,7 @@ fn heads_that_are_no_documents(rt: HostRuntime) -> Outcome {
 fn unknown_keys(rt: HostRuntime) -> Outcome {
     let heads = [
         "vote = 1\n---\n",
-        "[votes.x]\n[more]\n---\n",
+        "[votes.x]\n[others]\n---\n",
         "vote = 1\nread = 70000\n---\n",
         "vote = 1\nvotes = []\nread = 1\nwrite = 1\nproblem = 1\nclients = 1\n---\n",
     ];

@@ -6,7 +6,7 @@ use std::alloc::Global;
 use test_outcomes::{Failure, Outcome};
 
 /// Votes with what a read and a write need, what is printed of them, and the status.
-const BALLOTS: [(&str, &str, u8); 8] = [
+const BALLOTS: [(&str, &str, u8); 17] = [
     (
         "votes = [3, 1, 1, 0]\nread = 2\nwrite = 4\n",
         "total 5 read 2 write 4\n",
@@ -27,7 +27,69 @@ const BALLOTS: [(&str, &str, u8); 8] = [
         "settings fault 923\n",
         2,
     ),
+    // A list of ballots: a line for each, or why they make none.
+    (
+        "votes = [1, 1, 1]\nread = 2\nwrite = 2\nmore = [{ votes = [1, 1, 1], read = 1, write = 3 }]\n",
+        "refused 206\n",
+        1,
+    ),
+    (
+        "votes = [2, 1, 1]\nread = 2\nwrite = 3\nmore = [{ votes = [1, 1, 1], read = 2, write = 2 }]\n",
+        "refused 206\n",
+        1,
+    ),
+    (
+        "votes = [2, 1, 1]\nread = 2\nwrite = 3\nmore = [{ votes = [1, 1, 1], read = 2, write = 3 }]\n",
+        "total 4 read 2 write 3\ntotal 3 read 2 write 3\n",
+        0,
+    ),
+    (
+        "votes = [1]\nread = 1\nwrite = 1\nmore = []\n",
+        "total 1 read 1 write 1\n",
+        0,
+    ),
+    // The faults of the first ballot come before those of the others.
+    (
+        "votes = [1]\nread = 2\nwrite = 1\nmore = [{ votes = [], read = 1, write = 1 }]\n",
+        "refused 203\n",
+        1,
+    ),
+    (
+        "votes = [1]\nread = 1\nwrite = 1\nmore = [{ votes = [], read = 1, write = 1 }]\n",
+        "refused 201\n",
+        1,
+    ),
+    // A table of another key, a value that is no table, and a value that is no array.
+    (
+        "votes = [1]\nread = 1\nwrite = 1\nmore = [{ votes = [1], read = 1, write = 1, late = 0 }]\n",
+        "settings fault 922\n",
+        2,
+    ),
+    (
+        "votes = [1]\nread = 1\nwrite = 1\nmore = [1]\n",
+        "settings fault 922\n",
+        2,
+    ),
+    (
+        "votes = [1]\nread = 1\nwrite = 1\nmore = { votes = [1], read = 1, write = 1 }\n",
+        "settings fault 922\n",
+        2,
+    ),
 ];
+
+/// Nine ballots of one node.
+const NINE: &str = "votes = [1]\nread = 1\nwrite = 1\nmore = [\
+{ votes = [1], read = 1, write = 1 }, { votes = [1], read = 1, write = 1 }, \
+{ votes = [1], read = 1, write = 1 }, { votes = [1], read = 1, write = 1 }, \
+{ votes = [1], read = 1, write = 1 }, { votes = [1], read = 1, write = 1 }, \
+{ votes = [1], read = 1, write = 1 }, { votes = [1], read = 1, write = 1 }]\n";
+
+#[test]
+fn nine_ballots(rt: HostRuntime) -> Outcome {
+    let input = format!(in rt.alloc(); "{NINE}{BEHIND_VOTES}")?;
+    let told = "refused 208\n";
+    answers_row(rt.alloc(), 0, Command::Ballot, input.as_str(), told, 1)
+}
 
 /// What follows the settings is ignored.
 const BEHIND_VOTES: &str = "problem = 1\nclients = 1\n---\nno line of anything\n";

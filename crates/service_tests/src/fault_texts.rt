@@ -14,7 +14,7 @@ fn tells<F: Display + Drop>(alloc: Global, number: u16, fault: F, text: &str) ->
     check_row(told.as_str() == text, number as usize)
 }
 
-const EVENTS: [(StepFault, &str); 13] = [
+const EVENTS: [(StepFault, &str); 14] = [
     (
         StepFault::UnknownActor,
         "601 there is no such node or client",
@@ -43,6 +43,10 @@ const EVENTS: [(StepFault, &str); 13] = [
     (StepFault::NothingTried, "611 nothing is being kept"),
     (StepFault::SentListFull, "612 the list of messages is full"),
     (StepFault::Memory, "613 there was no memory"),
+    (
+        StepFault::NoSuchPlace,
+        "614 there is no ballot at this place",
+    ),
 ];
 
 #[test]
@@ -56,7 +60,10 @@ fn faults_of_events(rt: HostRuntime) -> Outcome {
 const LINES: [(LineFault, &str); 5] = [
     (LineFault::Word, "801 no event or query has this word"),
     (LineFault::Actor, "802 no node or client is spelled so"),
-    (LineFault::Number, "803 no message has this number"),
+    (
+        LineFault::Number,
+        "803 no message or ballot has this number",
+    ),
     (LineFault::Name, "804 no resource has this name"),
     (
         LineFault::Words,

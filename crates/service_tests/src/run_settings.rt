@@ -75,13 +75,22 @@ fn wrong_run_settings(rt: HostRuntime) -> Outcome {
 }
 
 /// The first fault of each: of the weather, and then of the first wish that is none.
-const FIRST_FAULTS: [(&str, u16); 15] = [
+const FIRST_FAULTS: [(&str, u16); 21] = [
     ("lose = 1000\ntwice = 1\n", 901),
     ("lose = 400\ntwice = 400\nlate = 201\n", 901),
     ("late = 1000\nlose = 1\nwishes = [\"c1 read\"]\n", 901),
     ("wishes = [\"\"]\n", 805),
     ("wishes = [\"c1 read\"]\n", 805),
-    ("wishes = [\"c0 reed A b\"]\n", 805),
+    ("wishes = [\"c0 reed A b c\"]\n", 805),
+    ("wishes = [\"c0 reed A b\"]\n", 802),
+    ("wishes = [\"c4 read A b\"]\n", 804),
+    ("wishes = [\"c4 read a b\"]\n", 803),
+    ("wishes = [\"c4 read a b1\"]\n", 803),
+    ("wishes = [\"c4 read a b2\"]\n", 803),
+    (
+        "wishes = [\"c4 read a b3\"]\nmore = [{ votes = [1, 1, 1], read = 2, write = 2 }]\n",
+        803,
+    ),
     ("wishes = [\"c0 read a\"]\n", 802),
     ("wishes = [\"n1 read a\"]\n", 802),
     ("wishes = [\"c5 read a\"]\n", 802),
@@ -134,7 +143,7 @@ fn most_wishes(rt: HostRuntime) -> Outcome {
 }
 
 /// What the ballot prints without a problem and clients, and for votes that make none.
-const BALLOTS: [(&str, &str, u8); 8] = [
+const BALLOTS: [(&str, &str, u8); 13] = [
     (
         "votes = [1]\nread = 1\nwrite = 1\n",
         "total 1 read 1 write 1\n",
@@ -173,6 +182,33 @@ const BALLOTS: [(&str, &str, u8); 8] = [
     (
         "votes = [1, 1]\nread = 1\nwrite = 1\nwishes = [0]\n",
         "settings fault 922\n",
+        2,
+    ),
+    // Others, as tables.
+    (
+        "votes = [2, 1, 1]\nread = 2\nwrite = 3\n[[more]]\nvotes = [1, 1, 1]\nread = 2\nwrite = 3\n",
+        "total 4 read 2 write 3\ntotal 3 read 2 write 3\n",
+        0,
+    ),
+    // Each value by itself, then the ballots, then the weather, then the wishes.
+    (
+        "votes = []\nread = 1\nwrite = 1\nmore = [{ votes = [1], read = 1 }]\n",
+        "settings fault 922\n",
+        2,
+    ),
+    (
+        "votes = [1, 1, 1]\nread = 2\nwrite = 2\nlose = 1000\nlate = 1\nmore = [{ votes = [1, 1, 1], read = 1, write = 3 }]\n",
+        "refused 206\n",
+        1,
+    ),
+    (
+        "votes = [1]\nread = 1\nwrite = 1\nwishes = [\"c1 read a b2\"]\nmore = [{ votes = [1], read = 1, write = 1 }]\n",
+        "total 1 read 1 write 1\ntotal 1 read 1 write 1\n",
+        0,
+    ),
+    (
+        "votes = [1]\nread = 1\nwrite = 1\nwishes = [\"c1 read a b3\"]\nmore = [{ votes = [1], read = 1, write = 1 }]\n",
+        "settings fault 803\n",
         2,
     ),
 ];

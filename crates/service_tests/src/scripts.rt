@@ -33,3 +33,30 @@ sent 6 done n1 c1 1\ndone\nnot mine\nknown\n";
 fn two_readers_inside(rt: HostRuntime) -> Outcome {
     plays(rt.alloc(), TWO_READERS.as_bytes(), TWO_READERS_OUT, 0)
 }
+
+const TWO_BALLOTS: &str = "\
+votes = [2, 1, 1]\nread = 2\nwrite = 3\nproblem = 1\nclients = 2\n\
+more = [{ votes = [1, 1, 1], read = 2, write = 3 }]\n---\n\
+begin c2 read a b3\nbegin c1 write a\ntry c1\nkept c1\n\
+sayto c1 n1\ntake n1 1\ntry n1\nkept n1\nsay n1\nhear c1 2\n\
+sayto c1 n2\ntake n2 3\ntry n2\nkept n2\nsay n2\nhear c1 4\nenter c1\n\
+begin c2 read a b2\ntry c2\nkept c2\n\
+sayto c2 n1\ntake n1 5\ntry n1\nkept n1\nsay n1\nhear c2 6\n\
+sayto c2 n2\ntake n2 7\ntry n2\nkept n2\nsay n2\nhear c2 8\n\
+sayto c2 n3\ntake n3 9\ntry n3\nkept n3\nsay n3\nhear c2 10\nenter c2\ninside a\n";
+
+const TWO_BALLOTS_OUT: &str = "\
+refused 614\nchose 1\ntried\nkept\n\
+sent 1 request n1 c1 1 write a\nchanged\ntried\nkept\nsent 2 grant n1 c1 1 write a\ncounted\n\
+sent 3 request n2 c1 1 write a\nchanged\ntried\nkept\nsent 4 grant n2 c1 1 write a\ncounted\ninside\n\
+chose 1\ntried\nkept\n\
+sent 5 request n1 c2 1 read a\nchanged\ntried\nkept\nsent 6 busy n1 c2 1 read a\nbusy\n\
+sent 7 request n2 c2 1 read a\nchanged\ntried\nkept\nsent 8 busy n2 c2 1 read a\nbusy\n\
+sent 9 request n3 c2 1 read a\nchanged\ntried\nkept\nsent 10 grant n3 c2 1 read a\ncounted\n\
+refused 609\ninside a: c1 write\n";
+
+/// The reader's ballot is another one than the writer's, and it lacks a vote of the writer's nodes.
+#[test]
+fn reader_by_another_ballot(rt: HostRuntime) -> Outcome {
+    plays(rt.alloc(), TWO_BALLOTS.as_bytes(), TWO_BALLOTS_OUT, 1)
+}

@@ -7,7 +7,7 @@ use history_check::read_event;
 use lock_messages::ResourceName;
 use std::alloc::Global;
 use test_outcomes::{Failure, Outcome, check, check_row};
-use vote_weights::Ballot;
+use vote_weights::{Ballot, BallotList};
 use world_machine::World;
 use world_model::{Effect, Event, MAX_MESSAGES, StepFault};
 
@@ -28,11 +28,14 @@ fn world(alloc: Global, votes: &[u8], read: u16, write: u16) -> Result<World, Fa
     let Ok(ballot) = Ballot::of(votes, read, write) else {
         return Err(Failure::Wrong(0));
     };
+    let Ok(ballots) = BallotList::of(&[ballot]) else {
+        return Err(Failure::Wrong(0));
+    };
     let mut policies: Vec<Box<dyn Admission + Send>> = Vec::new(alloc);
-    for _ in 0..ballot.nodes() {
+    for _ in 0..ballots.nodes() {
         policies.push(Box::new(alloc, FirstProblem)?)?;
     }
-    match World::start(alloc, ballot, 4, policies) {
+    match World::start(alloc, ballots, 4, policies) {
         Ok(world) => Ok(world),
         Err(_) => Err(Failure::Memory),
     }

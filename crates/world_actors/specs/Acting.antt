@@ -1,6 +1,6 @@
 -- One actor of the exact world as an actor of code is seen: its number, its part of the world, and what
 -- a call that refused its turn says.
-use Rattle.std.specs.Prelude.{◌≡◌, ℕ, ◌⊎◌, true, false, IsOk, Err}
+use Rattle.std.specs.Prelude.{◌≡◌, ℕ, List, ◌⊎◌, true, false, IsOk, Err}
 use Rattle.lock_messages.specs.declared.messages.Message.{Message}
 use Rattle.lock_messages.specs.Messages.{is_for_node}
 use Rattle.lock_model.specs.Ballots.{Ballot}
@@ -17,10 +17,10 @@ pub record ActingNode : Type 0 where
   pub number : ℕ
   pub part : ExactNode
 
--- a client by its number, under the ballot that it counts votes by
+-- a client by its number, under the ballots by which it may count votes
 pub record ActingClient : Type 0 where
   pub number : ℕ
-  pub ballot : Ballot
+  pub ballots : List Ballot
   pub part : ExactClient
 
 -- the actor's own part refuses the turn so; or memory was refused, and the turn is none that it refuses

@@ -13,12 +13,12 @@ use Rattle.world_actors.specs.Acting.{ActingClient}
 
 -- what a client has of its present attempt; the nodes that it skips are no matter of the exact world
 abbrev pub present_of : Present → ExactPresent
-present_of p = record { ticket = p.ticket; granted = p.granted }
+present_of p = record { ticket = p.ticket; place = p.place; granted = p.granted }
 
 -- what a client that is up is about
 abbrev pub phase_of : State → ExactClientPhase
 phase_of Idle = client.Idle
-phase_of (Chosen t) = client.Chosen t
+phase_of (Chosen t place) = client.Chosen t place
 phase_of (Asking p) = client.Asking (present_of p)
 phase_of (Inside p) = client.Inside (present_of p)
 
@@ -30,7 +30,7 @@ phase_if false core = client.Down
 abbrev pub acting_client : Client → ℕ → Option ℕ → Bool → ActingClient
 acting_client core kept tried up = record {
   number = core.client;
-  ballot = core.ballot;
+  ballots = core.ballots;
   part = record { kept = kept; tried = tried; phase = phase_if up core };
 }
 
@@ -38,7 +38,7 @@ acting_client core kept tried up = record {
 -- then it is what is tried, if anything is.
 abbrev pub IsInStep : State → ℕ → ℕ → Option ℕ → Type 0
 IsInStep Idle now kept tried = (now ≡ kept) × (tried ≡ None)
-IsInStep (Chosen t) now kept tried = (now ≡ kept + 1) × (t.attempt ≡ now) × IfSome tried (λ a. a ≡ now)
+IsInStep (Chosen t place) now kept tried = (now ≡ kept + 1) × (t.attempt ≡ now) × IfSome tried (λ a. a ≡ now)
 IsInStep (Asking p) now kept tried = (now ≡ kept) × (tried ≡ None)
 IsInStep (Inside p) now kept tried = (now ≡ kept) × (tried ≡ None)
 

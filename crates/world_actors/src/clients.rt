@@ -1,6 +1,7 @@
 // One client of the world.
 
-ghost use Rattle.std.specs.Prelude.{◌≡◌, ◌≤◌, ℕ, Err, length, false, IfOk, IfErr, OnOk, OnErr};
+ghost use Rattle.std.specs.Prelude.{◌≡◌, ◌≤◌, ℕ, Err, false, IfOk, IfErr, OnOk, OnErr};
+ghost use Rattle.lock_model.specs.Ballots.{node_count};
 ghost use Rattle.lock_model.specs.ExactHearing.{is_node_of};
 ghost use Rattle.world_model.specs.declared.events.Effect.TheVariants as effect;
 ghost use Rattle.world_model.specs.ExactClients.{begins_in, tries_attempt_in, keeps_attempt_in, tells, says_one, hears, heard_in, after_hearing, is_down, enters_in, leaves_in, client_falls_in, client_rises_in};
@@ -12,13 +13,13 @@ use client_core::{ClientCore, ClientFault, Phase};
 use lock_messages::{Attempt, ClientId, MAX_ATTEMPT, Message, Mode, NodeId, ResourceName, Ticket};
 use lock_model::Heard;
 use std::marker::Model;
-use vote_weights::Ballot;
+use vote_weights::BallotList;
 use world_model::{Age, StepFault};
 
 /// One client of the world: the attempt that it has kept (0 for none), the one that it tries to keep,
 /// and its core while it is up.
 ///
-/// Contracts see its number, its ballot and its part of the world. No call takes memory.
+/// Contracts see its number, its ballots and its part of the world. No call takes memory.
 #[derive(Debug, Drop)]
 pub struct WorldClient {
     core: ClientCore,
@@ -38,26 +39,26 @@ impl Model for WorldClient {
     ghost invariant = { λ k. IsActing k.core k.kept k.tried k.up };
 }
 
-/// Whether the node is one of the ballot's.
-fn is_node_of(ballot: &Ballot, node: NodeId) -> bool
-    ensures { result ≡ is_node_of (length ballot.now.votes) node }
+/// Whether the node is one of so many.
+fn is_node_of(nodes: u8, node: NodeId) -> bool
+    ensures { result ≡ is_node_of nodes node }
 {
     let number = node.get();
-    1 <= number && number <= ballot.nodes()
+    1 <= number && number <= nodes
 }
 
 impl WorldClient {
     /// The client with this number, down, with this attempt kept (0 for none) and nothing tried.
     ///
     /// The caller owes an attempt of at most `MAX_ATTEMPT`.
-    pub fn opened(client: ClientId, attempt: u64, ballot: Ballot) -> WorldClient
+    pub fn opened(client: ClientId, attempt: u64, ballots: BallotList) -> WorldClient
         requires { attempt ≤ MAX_ATTEMPT }
         ensures number { result.number ≡ client }
-        ensures ballot { result.ballot ≡ ballot }
+        ensures ballots { result.ballots ≡ ballots }
         ensures down { result.part ≡ down_client attempt }
     {
         WorldClient {
-            core: ClientCore::rise(client, attempt, ballot),
+            core: ClientCore::rise(client, attempt, ballots),
             kept: attempt,
             tried: None,
             up: false,
@@ -92,24 +93,30 @@ impl WorldClient {
         }
     }
 
-    /// Begins the next attempt, whose number it answers: the event `Begin`.
+    /// Begins the next attempt, by the ballot at this place, and answers its number: the event `Begin`.
     ///
-    /// Refused while the client is down (602), in another phase than at rest (604), and after the
-    /// greatest attempt (610).
-    pub fn begin(&mut self, mode: Mode, resource: ResourceName) -> Result<Attempt, StepFault>
-        ensures done { IfOk result (λ a. begins_in self.old.number mode resource self.old.part self.old.part.phase ≡ acts self.new.part (effect.Chose a)) }
-        ensures refused { IfErr result (λ f. begins_in self.old.number mode resource self.old.part self.old.part.phase ≡ Err f) }
+    /// Refused while the client is down (602), in another phase than at rest (604), after the greatest
+    /// attempt (610), and where the list doesn't have the place (614).
+    pub fn begin(
+        &mut self,
+        mode: Mode,
+        resource: ResourceName,
+        place: u8,
+    ) -> Result<Attempt, StepFault>
+        ensures done { IfOk result (λ a. begins_in self.old.ballots self.old.number mode resource place self.old.part self.old.part.phase ≡ acts self.new.part (effect.Chose a)) }
+        ensures refused { IfErr result (λ f. begins_in self.old.ballots self.old.number mode resource place self.old.part self.old.part.phase ≡ Err f) }
         ensures unchanged { OnErr result (self.new ≡ self.old) }
         ensures number { self.new.number ≡ self.old.number }
-        ensures ballot { self.new.ballot ≡ self.old.ballot }
+        ensures ballots { self.new.ballots ≡ self.old.ballots }
     {
         if !self.up {
             return Err(StepFault::Down);
         }
-        match self.core.begin(resource, mode) {
+        match self.core.begin(resource, mode, place) {
             Ok(attempt) => Ok(attempt),
             Err(ClientFault::NotIdle) => Err(StepFault::WrongPhase),
             Err(ClientFault::AttemptsSpent) => Err(StepFault::AttemptsSpent),
+            Err(ClientFault::NoSuchPlace) => Err(StepFault::NoSuchPlace),
         }
     }
 
@@ -122,7 +129,7 @@ impl WorldClient {
         ensures refused { IfErr result (λ f. tries_attempt_in self.old.part self.old.part.phase ≡ Err f) }
         ensures unchanged { OnErr result (self.new ≡ self.old) }
         ensures number { self.new.number ≡ self.old.number }
-        ensures ballot { self.new.ballot ≡ self.old.ballot }
+        ensures ballots { self.new.ballots ≡ self.old.ballots }
     {
         if !self.up {
             return Err(StepFault::Down);
@@ -145,7 +152,7 @@ impl WorldClient {
         ensures refused { IfErr result (λ f. keeps_attempt_in self.old.part self.old.part.phase ≡ Err f) }
         ensures unchanged { OnErr result (self.new ≡ self.old) }
         ensures number { self.new.number ≡ self.old.number }
-        ensures ballot { self.new.ballot ≡ self.old.ballot }
+        ensures ballots { self.new.ballots ≡ self.old.ballots }
     {
         if !self.up {
             return Err(StepFault::Down);
@@ -165,14 +172,13 @@ impl WorldClient {
     /// What the client has to say to a node, or why nothing: the own part of the event `SayTo`. It is
     /// the request of its ticket while it asks or is inside, the release of its attempt while it rests.
     ///
-    /// Refused for a node outside the ballot (601), while the client is down (602), before the number
+    /// Refused for a node that no ballot has (601), while the client is down (602), before the number
     /// that it chose is kept (605), and at rest before the first attempt (606).
     pub fn message_for(&self, node: NodeId) -> Result<Message, StepFault>
-        ensures said { IfOk result (λ m. tells self.now.ballot self.now.number node self.now.part ≡ says_one self.now.part m) }
-        ensures refused { IfErr result (λ f. tells self.now.ballot self.now.number node self.now.part ≡ Err f) }
+        ensures said { IfOk result (λ m. tells self.now.ballots self.now.number node self.now.part ≡ says_one self.now.part m) }
+        ensures refused { IfErr result (λ f. tells self.now.ballots self.now.number node self.now.part ≡ Err f) }
     {
-        let ballot = self.core.ballot();
-        if !is_node_of(&ballot, node) {
+        if !is_node_of(self.core.ballots().nodes(), node) {
             return Err(StepFault::UnknownActor);
         }
         if !self.up {
@@ -202,10 +208,10 @@ impl WorldClient {
     /// Hears a message, and answers what the client makes of it: the event `Hear`. A client that is
     /// down makes nothing of it; `may_hear` tells.
     pub fn hear(&mut self, message: &Message) -> Heard
-        ensures heard { result ≡ heard_in (length self.old.ballot.votes) self.old.number self.old.part.kept self.old.part.phase message.now }
-        ensures exact { self.new.part ≡ after_hearing (length self.old.ballot.votes) self.old.number self.old.part message.now }
+        ensures heard { result ≡ heard_in (node_count self.old.ballots) self.old.number self.old.part.kept self.old.part.phase message.now }
+        ensures exact { self.new.part ≡ after_hearing (node_count self.old.ballots) self.old.number self.old.part message.now }
         ensures number { self.new.number ≡ self.old.number }
-        ensures ballot { self.new.ballot ≡ self.old.ballot }
+        ensures ballots { self.new.ballots ≡ self.old.ballots }
     {
         if !self.up {
             return Heard::NotMine;
@@ -217,11 +223,11 @@ impl WorldClient {
     ///
     /// Refused while it is down (602), in another phase (604), and while its votes are too few (609).
     pub fn enter(&mut self) -> Result<(), StepFault>
-        ensures done { OnOk result (enters_in self.old.ballot self.old.part self.old.part.phase ≡ acts self.new.part effect.Inside) }
-        ensures refused { IfErr result (λ f. enters_in self.old.ballot self.old.part self.old.part.phase ≡ Err f) }
+        ensures done { OnOk result (enters_in self.old.ballots self.old.part self.old.part.phase ≡ acts self.new.part effect.Inside) }
+        ensures refused { IfErr result (λ f. enters_in self.old.ballots self.old.part self.old.part.phase ≡ Err f) }
         ensures unchanged { OnErr result (self.new ≡ self.old) }
         ensures number { self.new.number ≡ self.old.number }
-        ensures ballot { self.new.ballot ≡ self.old.ballot }
+        ensures ballots { self.new.ballots ≡ self.old.ballots }
     {
         if !self.up {
             return Err(StepFault::Down);
@@ -244,7 +250,7 @@ impl WorldClient {
         ensures refused { IfErr result (λ f. leaves_in self.old.part self.old.part.phase ≡ Err f) }
         ensures unchanged { OnErr result (self.new ≡ self.old) }
         ensures number { self.new.number ≡ self.old.number }
-        ensures ballot { self.new.ballot ≡ self.old.ballot }
+        ensures ballots { self.new.ballots ≡ self.old.ballots }
     {
         if !self.up {
             return Err(StepFault::Down);
@@ -266,7 +272,7 @@ impl WorldClient {
         ensures refused { IfErr result (λ f. client_falls_in self.old.part self.old.part.phase ≡ Err f) }
         ensures unchanged { OnErr result (self.new ≡ self.old) }
         ensures number { self.new.number ≡ self.old.number }
-        ensures ballot { self.new.ballot ≡ self.old.ballot }
+        ensures ballots { self.new.ballots ≡ self.old.ballots }
     {
         if !self.up {
             return Err(StepFault::Down);
@@ -284,7 +290,7 @@ impl WorldClient {
         ensures refused { IfErr result (λ f. client_rises_in age self.old.part self.old.part.phase ≡ Err f) }
         ensures unchanged { OnErr result (self.new ≡ self.old) }
         ensures number { self.new.number ≡ self.old.number }
-        ensures ballot { self.new.ballot ≡ self.old.ballot }
+        ensures ballots { self.new.ballots ≡ self.old.ballots }
     {
         if self.up {
             return Err(StepFault::Up);

@@ -7,7 +7,7 @@
 //! or hears, and sends what it says.
 //!
 //! The crate promises that each method is the actor's turn, as `world_model` has it: what it leaves and
-//! what it refuses (601 to 606, 609 to 611), with nothing changed by a refusal; want of memory (613)
+//! what it refuses (601 to 606, 609 to 611, 614), with nothing changed by a refusal; want of memory (613)
 //! comes after all of these, and only where a node's record is copied or a message is decided on. It
 //! stands on `lock_messages`, `lock_model`, `vote_weights`, `stable_record`, `admission_policy`,
 //! `voter_core`, `client_core` and `world_model`.

@@ -4,7 +4,7 @@ use Rattle.std.specs.Prelude.{slice_set}
 use Rattle.std.specs.Option.{option_map}
 use Rattle.std.proofs.lemmas.List.{map-set, length-append}
 use Rattle.lock_messages.specs.declared.messages.Message.{Message}
-use Rattle.lock_model.specs.Ballots.{Ballot}
+use Rattle.lock_model.specs.Ballots.{Ballot, node_count}
 use Rattle.world_actors.specs.Acting.{ActingNode, ActingClient}
 use Rattle.world_model.specs.declared.TheConstants.{MAX_MESSAGES}
 use Rattle.world_model.specs.declared.events.Effect.{Effect}
@@ -46,7 +46,7 @@ client-put w cs c u is = ap (λ xs. set xs (c - 1) u.part) is ∙ sym (map-set c
 pub node-unknown : (w : ExactWorld) (e : Event) (n : ℕ) (turn : ExactNode → Turns ExactNode) (ns : List ActingNode) → deed_of e ≡ NodeDoes n turn → w.nodes ≡ map node_part ns → numbered ns n ≡ None → step w e ≡ Err fault.UnknownActor
 node-unknown w e n turn ns d is none = step-no-node w e n turn d (ap (λ xs. numbered xs n) is ∙ numbered-map node_part ns n ∙ ap (option_map node_part) none)
 
-pub client-unknown : (w : ExactWorld) (e : Event) (c : ℕ) (turn : Ballot → ExactClient → Turns ExactClient) (cs : List ActingClient) → deed_of e ≡ ClientDoes c turn → w.clients ≡ map client_part cs → numbered cs c ≡ None → step w e ≡ Err fault.UnknownActor
+pub client-unknown : (w : ExactWorld) (e : Event) (c : ℕ) (turn : List Ballot → ExactClient → Turns ExactClient) (cs : List ActingClient) → deed_of e ≡ ClientDoes c turn → w.clients ≡ map client_part cs → numbered cs c ≡ None → step w e ≡ Err fault.UnknownActor
 client-unknown w e c turn cs d is none = step-no-client w e c turn d (ap (λ xs. numbered xs c) is ∙ numbered-map client_part cs c ∙ ap (option_map client_part) none)
 
 -- a turn of the node, or of the client, of this number
@@ -69,12 +69,12 @@ act-node w n act ns v u r is at h =
     node-does w (node_event n act) n (node_turn act v.part) (node_asks act) ns v u r is at (step-node w (node_event n act) n (λ x. node_turn act x) v.part (node-deed n act) (node-there w ns n v is at))
     (λ q. node-asks n act ∙ q) (node-acts act v.part) h
 
-pub act-client : (w : ExactWorld) (c : ℕ) (act : ClientAct) (cs : List ActingClient) (k u : ActingClient) (r : Result Effect StepFault) → w.clients ≡ map client_part cs → AreClients w.ballot cs → numbered cs c ≡ Some k →
-    Turned false client_part (client_turn act k.number k.ballot k.part) k r u → Does (client_event c act) (step w (client_event c act)) w r (with_clients w (map client_part (slice_set cs (c - 1) u)))
+pub act-client : (w : ExactWorld) (c : ℕ) (act : ClientAct) (cs : List ActingClient) (k u : ActingClient) (r : Result Effect StepFault) → w.clients ≡ map client_part cs → AreClients w.ballots cs → numbered cs c ≡ Some k →
+    Turned false client_part (client_turn act k.number k.ballots k.part) k r u → Does (client_event c act) (step w (client_event c act)) w r (with_clients w (map client_part (slice_set cs (c - 1) u)))
 act-client w c act cs k u r is order at h =
     let own = order c k at in
-    client-does w (client_event c act) c (client_turn act c w.ballot k.part) cs k u r is at (step-client w (client_event c act) c (λ b x. client_turn act c b x) k.part (client-deed c act) (client-there w cs c k is at))
-    (subst (λ b. Turned false client_part (client_turn act c b k.part) k r u) own.1 (subst (λ m. Turned false client_part (client_turn act m k.ballot k.part) k r u) own.0 h))
+    client-does w (client_event c act) c (client_turn act c w.ballots k.part) cs k u r is at (step-client w (client_event c act) c (λ b x. client_turn act c b x) k.part (client-deed c act) (client-there w cs c k is at))
+    (subst (λ b. Turned false client_part (client_turn act c b k.part) k r u) own.1 (subst (λ m. Turned false client_part (client_turn act m k.ballots k.part) k r u) own.0 h))
 
 pub take-node : (w : ExactWorld) (n number : ℕ) (ns : List ActingNode) (sent : List Message) (v u : ActingNode) (r : Result Effect StepFault) → w.nodes ≡ map node_part ns → w.sent ≡ sent → AreNodes ns → numbered ns n ≡ Some v →
     Turned true node_part (read_turn (numbered sent number) (takes_in v.number number v.part v.part.phase)) v r u → Does (event.Take n number) (step w (event.Take n number)) w r (with_nodes w (map node_part (slice_set ns (n - 1) u)))
@@ -86,16 +86,16 @@ take-node w n number ns sent v u r is all order at h =
     (λ q. refl) (λ q. take-acts n number v.part (numbered w.sent number))
     (subst (λ m. Turned true node_part (read_turn (numbered w.sent number) (takes_in m number v.part v.part.phase)) v r u) own (subst (λ l. Turned true node_part (read_turn (numbered l number) (takes_in v.number number v.part v.part.phase)) v r u) (sym all) h))
 
-pub hear-client : (w : ExactWorld) (c number : ℕ) (cs : List ActingClient) (sent : List Message) (k u : ActingClient) (r : Result Effect StepFault) → w.clients ≡ map client_part cs → w.sent ≡ sent → AreClients w.ballot cs → numbered cs c ≡ Some k →
-    Turned false client_part (read_turn (numbered sent number) (hears (length k.ballot.votes) k.number number k.part)) k r u → Does (event.Hear c number) (step w (event.Hear c number)) w r (with_clients w (map client_part (slice_set cs (c - 1) u)))
+pub hear-client : (w : ExactWorld) (c number : ℕ) (cs : List ActingClient) (sent : List Message) (k u : ActingClient) (r : Result Effect StepFault) → w.clients ≡ map client_part cs → w.sent ≡ sent → AreClients w.ballots cs → numbered cs c ≡ Some k →
+    Turned false client_part (read_turn (numbered sent number) (hears (node_count k.ballots) k.number number k.part)) k r u → Does (event.Hear c number) (step w (event.Hear c number)) w r (with_clients w (map client_part (slice_set cs (c - 1) u)))
 hear-client w c number cs sent k u r is all order at h =
     let own = order c k at in
-    let turn = read_turn (numbered w.sent number) (hears (length w.ballot.votes) c number k.part) in
+    let turn = read_turn (numbered w.sent number) (hears (node_count w.ballots) c number k.part) in
     client-does w (event.Hear c number) c turn cs k u r is at
-    (step-client w (event.Hear c number) c (λ b x. hears (length b.votes) c number x) k.part refl (client-there w cs c k is at) ∙ hear-once w (with_client_at w c) (length w.ballot.votes) c number k.part)
-    (subst (λ (b : Ballot). Turned false client_part (read_turn (numbered w.sent number) (hears (length b.votes) c number k.part)) k r u) own.1
-    (subst (λ m. Turned false client_part (read_turn (numbered w.sent number) (hears (length k.ballot.votes) m number k.part)) k r u) own.0
-    (subst (λ l. Turned false client_part (read_turn (numbered l number) (hears (length k.ballot.votes) k.number number k.part)) k r u) (sym all) h)))
+    (step-client w (event.Hear c number) c (λ b x. hears (node_count b) c number x) k.part refl (client-there w cs c k is at) ∙ hear-once w (with_client_at w c) (node_count w.ballots) c number k.part)
+    (subst (λ (b : List Ballot). Turned false client_part (read_turn (numbered w.sent number) (hears (node_count b) c number k.part)) k r u) own.1
+    (subst (λ m. Turned false client_part (read_turn (numbered w.sent number) (hears (node_count k.ballots) m number k.part)) k r u) own.0
+    (subst (λ l. Turned false client_part (read_turn (numbered l number) (hears (node_count k.ballots) k.number number k.part)) k r u) (sym all) h)))
 
 pub say-node : (w : ExactWorld) (n : ℕ) (ns : List ActingNode) (sent new : List Message) (v u : ActingNode) (r : Result Effect StepFault) → w.nodes ≡ map node_part ns → w.sent ≡ sent → numbered ns n ≡ Some v →
     Spoke node_part (says_in v.part v.part.phase) sent v r u new → Does (event.Say n) (step w (event.Say n)) w r (with_sent (with_nodes w (map node_part (slice_set ns (n - 1) u))) new)
@@ -104,26 +104,26 @@ say-node w n ns sent new v u r is all at h =
     (does-spoke w (event.Say n) (with_node_at w n) node_part (says_in v.part v.part.phase) sent v u r new (step-node w (event.Say n) n (λ x. says_in x x.phase) v.part refl (node-there w ns n v is at)) refl
     (node-speaks v.part) (ap (with_nodes w) (set-same w.nodes n v.part (node-there w ns n v is at))) (λ p. refl) all h)
 
-pub tell-client : (w : ExactWorld) (c n : ℕ) (cs : List ActingClient) (sent new : List Message) (k : ActingClient) (r : Result Effect StepFault) → w.clients ≡ map client_part cs → w.sent ≡ sent → AreClients w.ballot cs → numbered cs c ≡ Some k →
-    Spoke client_part (tells k.ballot k.number n k.part) sent k r k new → Does (event.SayTo c n) (step w (event.SayTo c n)) w r (with_sent w new)
+pub tell-client : (w : ExactWorld) (c n : ℕ) (cs : List ActingClient) (sent new : List Message) (k : ActingClient) (r : Result Effect StepFault) → w.clients ≡ map client_part cs → w.sent ≡ sent → AreClients w.ballots cs → numbered cs c ≡ Some k →
+    Spoke client_part (tells k.ballots k.number n k.part) sent k r k new → Does (event.SayTo c n) (step w (event.SayTo c n)) w r (with_sent w new)
 tell-client w c n cs sent new k r is all order at h =
     let own = order c k at in
     let there = client-there w cs c k is at in
     let same = ap (with_clients w) (set-same w.clients c k.part there) in
     subst (λ x. Does (event.SayTo c n) (step w (event.SayTo c n)) w r (with_sent x new)) same
-    (does-spoke w (event.SayTo c n) (with_client_at w c) client_part (tells w.ballot c n k.part) sent k k r new (step-client w (event.SayTo c n) c (λ b x. tells b c n x) k.part refl there) refl
-    (client-speaks w.ballot c n k.part) same (λ p. refl) all
-    (subst (λ b. Spoke client_part (tells b c n k.part) sent k r k new) own.1 (subst (λ m. Spoke client_part (tells k.ballot m n k.part) sent k r k new) own.0 h)))
+    (does-spoke w (event.SayTo c n) (with_client_at w c) client_part (tells w.ballots c n k.part) sent k k r new (step-client w (event.SayTo c n) c (λ b x. tells b c n x) k.part refl there) refl
+    (client-speaks w.ballots c n k.part) same (λ p. refl) all
+    (subst (λ b. Spoke client_part (tells b c n k.part) sent k r k new) own.1 (subst (λ m. Spoke client_part (tells k.ballots m n k.part) sent k r k new) own.0 h)))
 
 -- the actors stay in order
 
 pub nodes-stay : (ns : List ActingNode) (n : ℕ) (v u : ActingNode) → numbered ns n ≡ Some v → u.number ≡ v.number → AreNodes ns → AreNodes (slice_set ns (n - 1) u)
 nodes-stay ns n v u at same order = here-or-there (λ m x. x.number ≡ m) ns n v u at (same ∙ order n v at) order
 
-pub clients-stay : (b : Ballot) (cs : List ActingClient) (c : ℕ) (k u : ActingClient) → numbered cs c ≡ Some k → u.number ≡ k.number → u.ballot ≡ k.ballot → AreClients b cs → AreClients b (slice_set cs (c - 1) u)
+pub clients-stay : (b : List Ballot) (cs : List ActingClient) (c : ℕ) (k u : ActingClient) → numbered cs c ≡ Some k → u.number ≡ k.number → u.ballots ≡ k.ballots → AreClients b cs → AreClients b (slice_set cs (c - 1) u)
 clients-stay b cs c k u at same by order =
     let own = order c k at in
-    here-or-there (λ m x. (x.number ≡ m) × (x.ballot ≡ b)) cs c k u at (same ∙ own.0, by ∙ own.1) order
+    here-or-there (λ m x. (x.number ≡ m) × (x.ballots ≡ b)) cs c k u at (same ∙ own.0, by ∙ own.1) order
 
 -- the messages don't become too many
 pub spoke-room : {A P : Type 0} (part : A → P) (turn : Turns P) (sent : List Message) (v : A) (r : Result Effect StepFault) (u : A) (new : List Message) → length sent ≤ MAX_MESSAGES → Spoke part turn sent v r u new → length new ≤ MAX_MESSAGES

@@ -56,10 +56,10 @@ pub client-at : (w : ExactWorld) (cs : List ActingClient) (c : ℕ) (k : ActingC
 client-at w cs c k is at = ap (λ xs. numbered xs c) is ∙ numbered-map client_part cs c ∙ ap (option_map client_part) at
 
 -- the actors of a world, from the lists that it is seen by
-pub nodes-of : (w : ExactWorld) (b : Ballot) (ns : List ActingNode) (cs : List ActingClient) (sent : List Message) (seen : List ActingNode) → world_view b ns cs sent ≡ w → seen ≡ ns → w.nodes ≡ map node_part seen
+pub nodes-of : (w : ExactWorld) (b : List Ballot) (ns : List ActingNode) (cs : List ActingClient) (sent : List Message) (seen : List ActingNode) → world_view b ns cs sent ≡ w → seen ≡ ns → w.nodes ≡ map node_part seen
 nodes-of w b ns cs sent seen is same = ap (λ (v : ExactWorld). v.nodes) (sym is) ∙ ap (map node_part) (sym same)
 
-pub clients-of : (w : ExactWorld) (b : Ballot) (ns : List ActingNode) (cs : List ActingClient) (sent : List Message) (seen : List ActingClient) → world_view b ns cs sent ≡ w → seen ≡ cs → w.clients ≡ map client_part seen
+pub clients-of : (w : ExactWorld) (b : List Ballot) (ns : List ActingNode) (cs : List ActingClient) (sent : List Message) (seen : List ActingClient) → world_view b ns cs sent ≡ w → seen ≡ cs → w.clients ≡ map client_part seen
 clients-of w b ns cs sent seen is same = ap (λ (v : ExactWorld). v.clients) (sym is) ∙ ap (map client_part) (sym same)
 
 -- what is answered is such, where all that is there is
@@ -90,7 +90,7 @@ nobody-by phase m x none = (λ h. absurd (none h.0 h.1), λ h. absurd (let q : N
 phase-by : (p : ExactClientPhase) (m : Mode) (x : List ℕ) → InsideBy (client_phase_of p) (ticket_in p) m x
 phase-by client.Down m x = nobody-by ClientDown m x (λ a e. let q : ClientDown ≡ IsIn a = e in cc)
 phase-by client.Idle m x = nobody-by ClientIdle m x (λ a e. let q : ClientIdle ≡ IsIn a = e in cc)
-phase-by (client.Chosen u) m x = nobody-by (Chosen u) m x (λ a e. let q : Chosen u ≡ IsIn a = e in cc)
+phase-by (client.Chosen u place) m x = nobody-by (Chosen u place) m x (λ a e. let q : Chosen u place ≡ IsIn a = e in cc)
 phase-by (client.Asking p) m x = nobody-by (Asking (present_of p)) m x (λ a e. let q : Asking (present_of p) ≡ IsIn a = e in cc)
 phase-by (client.Inside p) m x = (
   λ h.
@@ -111,21 +111,21 @@ inside-by w c m x = go (numbered w.clients c)
     go (Some k) = phase-by k.phase m x
 
 -- the ticket of a client that is inside is its own
-own_ticket_in : (b : Ballot) (w : World) (c kept : ℕ) (p : ExactClientPhase) (t : Ticket) → IsSafeTicket b w c kept (client_phase_of p) → ticket_in p ≡ Some t → t.client ≡ c
+own_ticket_in : (b : List Ballot) (w : World) (c kept : ℕ) (p : ExactClientPhase) (t : Ticket) → IsSafeTicket b w c kept (client_phase_of p) → ticket_in p ≡ Some t → t.client ≡ c
 own_ticket_in b w c kept client.Down t safe is = absurd (let q : None ≡ Some t = is in cc)
 own_ticket_in b w c kept client.Idle t safe is = absurd (let q : None ≡ Some t = is in cc)
-own_ticket_in b w c kept (client.Chosen u) t safe is = absurd (let q : None ≡ Some t = is in cc)
+own_ticket_in b w c kept (client.Chosen u place) t safe is = absurd (let q : None ≡ Some t = is in cc)
 own_ticket_in b w c kept (client.Asking p) t safe is = absurd (let q : None ≡ Some t = is in cc)
 own_ticket_in b w c kept (client.Inside p) t safe is =
     let same : p.ticket ≡ t = cc in
     ap (λ (x : Ticket). x.client) (sym same) ∙ safe.0.client
 
-own_ticket_at : (b : Ballot) (w : World) (c : ℕ) (o : Option ExactClient) (t : Ticket) → IsSafeClient b w c (client_numbered o) → ticket_at o ≡ Some t → t.client ≡ c
+own_ticket_at : (b : List Ballot) (w : World) (c : ℕ) (o : Option ExactClient) (t : Ticket) → IsSafeClient b w c (client_numbered o) → ticket_at o ≡ Some t → t.client ≡ c
 own_ticket_at b w c None t safe is = absurd (let q : None ≡ Some t = is in cc)
 own_ticket_at b w c (Some k) t safe is = own_ticket_in b w c k.kept k.phase t safe.ticket is
 
 pub own_ticket : (w : ExactWorld) (c : ℕ) → IsSound w → IfSome (ticket_inside c w) (λ t. t.client ≡ c)
-own_ticket w c sound = go (ticket_inside c w) (λ t is. own_ticket_at w.ballot (forget w) c (numbered w.clients c) t (sound.safe.clients c) is)
+own_ticket w c sound = go (ticket_inside c w) (λ t is. own_ticket_at w.ballots (forget w) c (numbered w.clients c) t (sound.safe.clients c) is)
   where
     go : (o : Option Ticket) → ((t : Ticket) → o ≡ Some t → t.client ≡ c) → IfSome o (λ t. t.client ≡ c)
     go None own = tt

@@ -6,7 +6,7 @@ use Rattle.std.proofs.lemmas.List.{length-map, map-append, length-replicate, tak
 use Rattle.lock_messages.specs.declared.ids.TheConstants.{MAX_NODES, MAX_CLIENTS}
 use Rattle.lock_messages.specs.declared.messages.Message.{Message}
 use Rattle.lock_model.specs.declared.problems.Problem.{Problem}
-use Rattle.lock_model.specs.Ballots.{Ballot}
+use Rattle.lock_model.specs.Ballots.{Ballot, node_count}
 use Rattle.stable_record.specs.declared.node_records.NodeRecord.{NodeRecord}
 use Rattle.stable_record.specs.Records.{IsNodeRecord}
 use Rattle.world_actors.specs.Acting.{ActingNode, ActingClient}
@@ -45,8 +45,8 @@ each-more {A} P xs y old new n x h = go (get-last xs y (n - 1) x (sym (past-zero
 pub nodes-more : (vs : List ActingNode) (v : ActingNode) → AreNodes vs → v.number ≡ length vs + 1 → AreNodes (vs ++ v ∷ [])
 nodes-more vs v old is = each-more (λ n u. u.number ≡ n) vs v old is
 
-pub clients-more : (b : Ballot) (ks : List ActingClient) (k : ActingClient) → AreClients b ks → k.number ≡ length ks + 1 → k.ballot ≡ b → AreClients b (ks ++ k ∷ [])
-clients-more b ks k old is same = each-more (λ c u. (u.number ≡ c) × (u.ballot ≡ b)) ks k old (is, same)
+pub clients-more : (b : List Ballot) (ks : List ActingClient) (k : ActingClient) → AreClients b ks → k.number ≡ length ks + 1 → k.ballots ≡ b → AreClients b (ks ++ k ∷ [])
+clients-more b ks k old is same = each-more (λ c u. (u.number ≡ c) × (u.ballots ≡ b)) ks k old (is, same)
 
 -- one more of what was made of a list, one after the other
 pub map-more : {A B C : Type 0} (f : A → C) (g : B → C) (xs : List A) (ys : List B) (i : ℕ) (x : A) (d : B) → map f xs ≡ map g (take i ys) → i < length ys → f x ≡ g (get_or ys i d) → map f (xs ++ x ∷ []) ≡ map g (take (i + 1) ys)
@@ -117,12 +117,12 @@ kept-problems problems found records are long = same-each records problems (are.
     sym (numbered-next problems i) ∙ h.solves ∙ ap Some (sym h.reads.problem))
 
 -- a world can be opened from what was judged, by policies that solve the problems
-pub can-open : {X V : Type 0} (f : X → Problem) (h : V → List ℕ) (b : Ballot) (policies lent : List X) (problems : List Problem) (nodes clients : List V) (records : List NodeRecord) (attempts : List ℕ) → lent ≡ policies → problems ≡ map f lent →
-    length policies ≡ length b.votes → length nodes ≡ length b.votes → length b.votes ≤ MAX_NODES → length clients ≤ MAX_CLIENTS → AreRecords problems (map h nodes) records → AreAttempts (map h clients) attempts →
-    (length problems ≡ length b.votes → IsResumable b (stations_in records) attempts) → CanOpen b (map f policies) records attempts
+pub can-open : {X V : Type 0} (f : X → Problem) (h : V → List ℕ) (b : List Ballot) (policies lent : List X) (problems : List Problem) (nodes clients : List V) (records : List NodeRecord) (attempts : List ℕ) → lent ≡ policies → problems ≡ map f lent →
+    length policies ≡ node_count b → length nodes ≡ node_count b → node_count b ≤ MAX_NODES → length clients ≤ MAX_CLIENTS → AreRecords problems (map h nodes) records → AreAttempts (map h clients) attempts →
+    (length problems ≡ node_count b → IsResumable b (stations_in records) attempts) → CanOpen b (map f policies) records attempts
 can-open f h b policies lent problems nodes clients records attempts same told long nodes_long few_nodes few_clients are made fits =
     let solved : problems ≡ map f policies = told ∙ ap (map f) same in
-    let solved_long : length problems ≡ length b.votes = ap length solved ∙ length-map policies f ∙ long in
+    let solved_long : length problems ≡ node_count b = ap length solved ∙ length-map policies f ∙ long in
     let found_long : length (map h nodes) ≡ length problems = length-map nodes h ∙ nodes_long ∙ sym solved_long in
     record {
       good = kept-good problems (map h nodes) records are;
@@ -144,14 +144,14 @@ empty-problems (r ∷ rs) (p ∷ ps) same =
     cc
 
 -- and where nothing is kept
-pub can-open-empty : {X : Type 0} (f : X → Problem) (b : Ballot) (policies lent : List X) (n : ℕ) (records : List NodeRecord) (attempts : List ℕ) → lent ≡ policies → length policies ≡ length b.votes → length b.votes ≤ MAX_NODES → n ≤ MAX_CLIENTS →
+pub can-open-empty : {X : Type 0} (f : X → Problem) (b : List Ballot) (policies lent : List X) (n : ℕ) (records : List NodeRecord) (attempts : List ℕ) → lent ≡ policies → length policies ≡ node_count b → node_count b ≤ MAX_NODES → n ≤ MAX_CLIENTS →
     AllByRecursion IsNodeRecord records → stations_in records ≡ map empty_station (map f lent) → attempts ≡ replicate n 0 →
-    (length (map f policies) ≡ length b.votes → IsResumable b (map empty_station (map f policies)) (replicate n 0)) → CanOpen b (map f policies) records attempts
+    (length (map f policies) ≡ node_count b → IsResumable b (map empty_station (map f policies)) (replicate n 0)) → CanOpen b (map f policies) records attempts
 can-open-empty f b policies lent n records attempts same long few_nodes few_clients good made zeros fits =
     let problems : List Problem = map f policies in
     let stations : stations_in records ≡ map empty_station problems = made ∙ ap (λ ps. map empty_station (map f ps)) same in
     let solve : problems_in records ≡ problems = empty-problems records problems stations in
-    let solved_long : length problems ≡ length b.votes = length-map policies f ∙ long in
+    let solved_long : length problems ≡ node_count b = length-map policies f ∙ long in
     record {
       good = good;
       solve = solve;
@@ -162,11 +162,11 @@ can-open-empty f b policies lent n records attempts same long few_nodes few_clie
 
 -- the world that is opened
 
-pub opened-view : (b : Ballot) (vs : List ActingNode) (ks : List ActingClient) (sent : List Message) (stations : List ExactStation) (attempts : List ℕ) →
+pub opened-view : (b : List Ballot) (vs : List ActingNode) (ks : List ActingClient) (sent : List Message) (stations : List ExactStation) (attempts : List ℕ) →
     map node_part vs ≡ map down_node stations → map client_part ks ≡ map down_client attempts → sent ≡ [] → world_view b vs ks sent ≡ resumed b stations attempts
-opened-view b vs ks sent stations attempts nodes clients none = λ i. record { ballot = b; nodes = nodes i; clients = clients i; sent = none i }
+opened-view b vs ks sent stations attempts nodes clients none = λ i. record { ballots = b; nodes = nodes i; clients = clients i; sent = none i }
 
-pub opened-world : (b : Ballot) (vs : List ActingNode) (ks : List ActingClient) (sent : List Message) (stations : List ExactStation) (attempts : List ℕ) →
+pub opened-world : (b : List Ballot) (vs : List ActingNode) (ks : List ActingClient) (sent : List Message) (stations : List ExactStation) (attempts : List ℕ) →
     map node_part vs ≡ map down_node stations → map client_part ks ≡ map down_client attempts → sent ≡ [] → AreNodes vs → AreClients b ks → IsSound (resumed b stations attempts) → IsWorld b vs ks sent
 opened-world b vs ks sent stations attempts nodes clients none in_order with_ballot sound = record {
   order = record { nodes = in_order; clients = with_ballot; room = omega (arith, ap length none) };

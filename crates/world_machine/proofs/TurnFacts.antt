@@ -6,7 +6,7 @@ use Rattle.lock_messages.specs.declared.messages.Message.TheVariants as message
 use Rattle.lock_messages.specs.Messages.{is_for_node, is_for_client}
 use Rattle.lock_model.specs.ExactDecisions.{changes}
 use Rattle.lock_model.specs.ExactHearing.{is_node_of}
-use Rattle.lock_model.specs.Ballots.{Ballot}
+use Rattle.lock_model.specs.Ballots.{Ballot, node_count}
 use Rattle.world_model.specs.declared.TheConstants.{MAX_MESSAGES}
 use Rattle.world_model.specs.declared.events.Age.{Age}
 use Rattle.world_model.specs.declared.events.Age.TheVariants.{Old, New}
@@ -54,7 +54,7 @@ node-asks n node_act.Fall = refl
 node-asks n (node_act.Rise age) = refl
 
 pub client-deed : (c : ℕ) (act : ClientAct) → deed_of (client_event c act) ≡ ClientDoes c (λ b k. client_turn act c b k)
-client-deed c (client_act.Begin m x) = refl
+client-deed c (client_act.Begin m x place) = refl
 client-deed c client_act.Try = refl
 client-deed c client_act.Kept = refl
 client-deed c client_act.Enter = refl
@@ -73,14 +73,14 @@ pub step-no-node : (w : ExactWorld) (e : Event) (n : ℕ) (turn : ExactNode → 
 unfolding step
 step-no-node w e n turn d h = ap (done_by w) d ∙ ap (λ o. by_actor w (with_node_at w n) o turn) h
 
-pub step-client : (w : ExactWorld) (e : Event) (c : ℕ) (turn : Ballot → ExactClient → Turns ExactClient) (k : ExactClient) → deed_of e ≡ ClientDoes c turn → numbered w.clients c ≡ Some k →
-    step w e ≡ finishes w (with_client_at w c) (turn w.ballot k)
+pub step-client : (w : ExactWorld) (e : Event) (c : ℕ) (turn : List Ballot → ExactClient → Turns ExactClient) (k : ExactClient) → deed_of e ≡ ClientDoes c turn → numbered w.clients c ≡ Some k →
+    step w e ≡ finishes w (with_client_at w c) (turn w.ballots k)
 unfolding step
-step-client w e c turn k d h = ap (done_by w) d ∙ ap (λ o. by_actor w (with_client_at w c) o (turn w.ballot)) h
+step-client w e c turn k d h = ap (done_by w) d ∙ ap (λ o. by_actor w (with_client_at w c) o (turn w.ballots)) h
 
-pub step-no-client : (w : ExactWorld) (e : Event) (c : ℕ) (turn : Ballot → ExactClient → Turns ExactClient) → deed_of e ≡ ClientDoes c turn → numbered w.clients c ≡ None → step w e ≡ Err fault.UnknownActor
+pub step-no-client : (w : ExactWorld) (e : Event) (c : ℕ) (turn : List Ballot → ExactClient → Turns ExactClient) → deed_of e ≡ ClientDoes c turn → numbered w.clients c ≡ None → step w e ≡ Err fault.UnknownActor
 unfolding step
-step-no-client w e c turn d h = ap (done_by w) d ∙ ap (λ o. by_actor w (with_client_at w c) o (turn w.ballot)) h
+step-no-client w e c turn d h = ap (done_by w) d ∙ ap (λ o. by_actor w (with_client_at w c) o (turn w.ballots)) h
 
 -- turns of one kind
 
@@ -140,12 +140,12 @@ tells-speaks c n k client.Idle = go (k.kept == 0)
     go : (b : Bool) → OnlySpeaks (cond b (Err fault.NothingToSay) (says_one k (message.Release n c k.kept)))
     go true = λ ok. no ok
     go false = one-speaks k (message.Release n c k.kept)
-tells-speaks c n k (client.Chosen t) = λ ok. no ok
+tells-speaks c n k (client.Chosen t place) = λ ok. no ok
 tells-speaks c n k (client.Asking p) = one-speaks k (message.Request n p.ticket)
 tells-speaks c n k (client.Inside p) = one-speaks k (message.Request n p.ticket)
 
-pub client-speaks : (b : Ballot) (c n : ℕ) (k : ExactClient) → OnlySpeaks (tells b c n k)
-client-speaks b c n k = go (is_node_of (length b.votes) n)
+pub client-speaks : (b : List Ballot) (c n : ℕ) (k : ExactClient) → OnlySpeaks (tells b c n k)
+client-speaks b c n k = go (is_node_of (node_count b) n)
   where
     go : (is : Bool) → OnlySpeaks (cond is (tells_in c n k k.phase) (Err fault.UnknownActor))
     go true = tells-speaks c n k k.phase

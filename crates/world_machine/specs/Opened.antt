@@ -12,7 +12,7 @@ use Rattle.world_opening.specs.Openings.{AreRecords, AreAttempts, stations_in}
 
 -- The world in which each actor is down, with what its record spells: these are the records of nodes,
 -- which solve these problems, and of clients.
-pub record IsResumed (b : Ballot) (problems : List Problem) (nodes clients : List (List ℕ)) (w : ExactWorld) : Type 0 where
+pub record IsResumed (b : List Ballot) (problems : List Problem) (nodes clients : List (List ℕ)) (w : ExactWorld) : Type 0 where
   pub records : List NodeRecord
   pub attempts : List ℕ
   pub nodes_keep : AreRecords problems nodes records
@@ -25,7 +25,7 @@ problems_in records = map (λ r. r.policy) records
 
 -- A world can be opened from these records and attempts by policies that solve these problems: the
 -- records can be kept and read again, and are of these problems.
-pub record CanOpen (b : Ballot) (problems : List Problem) (records : List NodeRecord) (attempts : List ℕ) : Type 0 where
+pub record CanOpen (b : List Ballot) (problems : List Problem) (records : List NodeRecord) (attempts : List ℕ) : Type 0 where
   pub good : AllByRecursion IsNodeRecord records
   pub solve : problems_in records ≡ problems
   pub few_nodes : length records ≤ MAX_NODES

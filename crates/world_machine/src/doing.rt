@@ -2,6 +2,7 @@
 
 ghost use Rattle.std.specs.Prelude.{◌≡◌, ◌+◌, ◌++◌, ◌≤◌, ◌∷◌, [], length, true, false, OnOk, OnErr};
 ghost use Rattle.std.specs.Vec.{vec_len, vec_capacity};
+ghost use Rattle.lock_model.specs.Ballots.{node_count};
 ghost use Rattle.world_model.specs.declared.TheConstants.{MAX_MESSAGES};
 ghost use Rattle.world_model.specs.ExactNodes.{says_in, takes_in};
 ghost use Rattle.world_model.specs.ExactClients.{tells, hears};
@@ -41,12 +42,12 @@ pub(crate) fn node_acts(node: &mut WorldNode, act: NodeAct) -> Result<Effect, St
 
 /// What a client does by itself.
 pub(crate) fn client_acts(client: &mut WorldClient, act: ClientAct) -> Result<Effect, StepFault>
-    ensures turned { Turned false client_part (client_turn act client.old.number client.old.ballot client.old.part) client.old result client.new }
+    ensures turned { Turned false client_part (client_turn act client.old.number client.old.ballots client.old.part) client.old result client.new }
     ensures number { client.new.number ≡ client.old.number }
-    ensures ballot { client.new.ballot ≡ client.old.ballot }
+    ensures ballots { client.new.ballots ≡ client.old.ballots }
 {
     match act {
-        ClientAct::Begin(mode, resource) => match client.begin(mode, resource) {
+        ClientAct::Begin(mode, resource, place) => match client.begin(mode, resource, place) {
             Ok(attempt) => Ok(Effect::Chose(attempt)),
             Err(fault) => Err(fault),
         },
@@ -105,9 +106,9 @@ pub(crate) fn client_hears(
     number: u32,
     found: Option<Message>,
 ) -> Result<Effect, StepFault>
-    ensures turned { Turned false client_part (read_turn found (hears (length client.old.ballot.votes) client.old.number number client.old.part)) client.old result client.new }
+    ensures turned { Turned false client_part (read_turn found (hears (node_count client.old.ballots) client.old.number number client.old.part)) client.old result client.new }
     ensures number { client.new.number ≡ client.old.number }
-    ensures ballot { client.new.ballot ≡ client.old.ballot }
+    ensures ballots { client.new.ballots ≡ client.old.ballots }
 {
     let _number = number;
     if let Err(fault) = client.may_hear() {
@@ -179,7 +180,7 @@ pub(crate) fn client_tells(
     sent: &mut Vec<Message>,
 ) -> Result<Effect, StepFault>
     requires { length sent.old.items ≤ MAX_MESSAGES }
-    ensures { Spoke client_part (tells client.now.ballot client.now.number node client.now.part) sent.old.items client.now result client.now sent.new.items }
+    ensures { Spoke client_part (tells client.now.ballots client.now.number node client.now.part) sent.old.items client.now result client.now sent.new.items }
 {
     let message = match client.message_for(node) {
         Err(fault) => return Err(fault),

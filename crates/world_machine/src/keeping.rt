@@ -1,6 +1,6 @@
 // What each world keeps.
 
-ghost use Rattle.std.specs.Prelude.{◌≤◌, length, All};
+ghost use Rattle.std.specs.Prelude.{◌≤◌, length, All, List};
 ghost use Rattle.lock_messages.specs.declared.ids.TheConstants.{MAX_CLIENTS};
 ghost use Rattle.stable_record.specs.Records.{IsNodeRecord};
 ghost use Rattle.lock_model.specs.Ballots.{Ballot as BallotValue};
@@ -20,7 +20,7 @@ pub(crate) fn see_records(nodes: &[WorldNode])
 
 /// Asks the last client for its number: it is how many there are.
 pub(crate) fn see_last(clients: &[WorldClient])
-    ensures { (b : BallotValue) → AreClients b clients.now → length clients.now ≤ MAX_CLIENTS }
+    ensures { (b : List BallotValue) → AreClients b clients.now → length clients.now ≤ MAX_CLIENTS }
 {
     let count = clients.len();
     if count > 0 {

@@ -3,6 +3,7 @@
 ghost use Rattle.std.specs.Prelude.{◌≡◌, ◌∷◌, [], ◌+◌, ◌<◌, ◌≤◌, ◌++◌, length, map, replicate, IfOk, IfErr};
 ghost use Rattle.std.specs.List.{AllByRecursion};
 ghost use Rattle.std.specs.Vec.{vec_len, vec_capacity};
+ghost use Rattle.lock_model.specs.Ballots.{node_count};
 ghost use Rattle.lock_messages.specs.declared.ids.TheConstants.{MAX_NODES, MAX_CLIENTS, MAX_ATTEMPT};
 ghost use Rattle.stable_record.specs.Records.{IsNodeRecord};
 ghost use Rattle.world_model.specs.Forgetting.{forget, setting_of};
@@ -19,7 +20,7 @@ use lock_messages::NodeId;
 use lock_model::Problem;
 use stable_record::{Entries, NodeRecord};
 use std::alloc::{AllocError, Global};
-use vote_weights::Ballot;
+use vote_weights::BallotList;
 use world_actors::{WorldClient, WorldNode};
 use world_model::laws::openings_are_lawful;
 use world_opening::{Opening, OpeningFault, client_at, judge, node_at};
@@ -48,17 +49,17 @@ fn problems_of(
 /// Clients that are down and have kept these attempts.
 fn clients_of(
     alloc: Global,
-    ballot: Ballot,
+    ballots: BallotList,
     attempts: &[u64],
 ) -> Result<Vec<WorldClient>, AllocError>
     requires few { length attempts.now ≤ MAX_CLIENTS }
     requires in_range { AllByRecursion (λ a. a ≤ MAX_ATTEMPT) attempts.now }
     ensures parts { IfOk result (λ v. map client_part v.items ≡ map down_client attempts.now) }
-    ensures order { IfOk result (λ v. AreClients ballot v.items) }
+    ensures order { IfOk result (λ v. AreClients ballots v.items) }
 {
     let mut clients = Vec::with_capacity(alloc, attempts.len())?;
     for place in 0..attempts.len() {
-        let client = WorldClient::opened(client_at(place), attempts[place], ballot);
+        let client = WorldClient::opened(client_at(place), attempts[place], ballots);
         clients.push(client)?;
     }
     Ok(clients)
@@ -147,24 +148,24 @@ fn nothing_kept(
 /// The world in which each actor is down with what is kept; the policies back where memory was refused.
 fn opened(
     alloc: Global,
-    ballot: Ballot,
+    ballots: BallotList,
     policies: Vec<Box<dyn Admission + Send>>,
     kept: Opening,
 ) -> Result<World, Vec<Box<dyn Admission + Send>>>
-    requires { CanOpen ballot (map (λ p. problem_of p) policies.items) kept.records.items kept.attempts.items }
-    ensures world { IfOk result (λ w. w ≡ resumed ballot (stations_in kept.records.items) kept.attempts.items) }
+    requires { CanOpen ballots (map (λ p. problem_of p) policies.items) kept.records.items kept.attempts.items }
+    ensures world { IfOk result (λ w. w ≡ resumed ballots (stations_in kept.records.items) kept.attempts.items) }
     ensures lawful { IfOk result (λ w. IsLawfulOpening (setting_of w) (forget w)) }
     ensures back { IfErr result (λ back. back.items ≡ policies.items) }
 {
     openings_are_lawful();
     let Opening { records, attempts } = kept;
-    let Ok(clients) = clients_of(alloc, ballot, &attempts) else {
+    let Ok(clients) = clients_of(alloc, ballots, &attempts) else {
         return Err(policies);
     };
     match nodes_of(alloc, records, policies) {
         Ok(nodes) => Ok(World {
             alloc,
-            ballot,
+            ballots,
             nodes,
             clients,
             sent: Vec::new(alloc),
@@ -181,24 +182,24 @@ impl World {
     /// error is want of memory (613), and then the policies come back as they were.
     pub fn start(
         alloc: Global,
-        ballot: Ballot,
+        ballots: BallotList,
         clients: u16,
         policies: Vec<Box<dyn Admission + Send>>,
     ) -> Result<World, (OpeningFault, Vec<Box<dyn Admission + Send>>)>
         requires some_client { 1 ≤ clients }
         requires few_clients { clients ≤ MAX_CLIENTS }
-        requires policies { length policies.items ≡ length ballot.votes }
-        ensures world { IfOk result (λ w. w ≡ opening ballot (map (λ p. problem_of p) policies.items) clients) }
+        requires policies { length policies.items ≡ node_count ballots }
+        ensures world { IfOk result (λ w. w ≡ opening ballots (map (λ p. problem_of p) policies.items) clients) }
         ensures lawful { IfOk result (λ w. IsLawfulOpening (setting_of w) (forget w)) }
         ensures memory { IfErr result (λ refused. refused.0 ≡ fault.Memory) }
         ensures back { IfErr result (λ refused. refused.1.items ≡ policies.items) }
     {
         openings_are_lawful();
-        let _nodes = ballot.nodes();
+        let _nodes = ballots.nodes();
         let Ok(kept) = nothing_kept(alloc, &policies, clients) else {
             return Err((OpeningFault::Memory, policies));
         };
-        match opened(alloc, ballot, policies, kept) {
+        match opened(alloc, ballots, policies, kept) {
             Ok(world) => Ok(world),
             Err(policies) => Err((OpeningFault::Memory, policies)),
         }
@@ -217,7 +218,7 @@ impl World {
     /// come before both. With each the policies come back as they were.
     pub fn resume(
         alloc: Global,
-        ballot: Ballot,
+        ballots: BallotList,
         clients: u16,
         policies: Vec<Box<dyn Admission + Send>>,
         node_records: &[Vec<u8>],
@@ -225,16 +226,16 @@ impl World {
     ) -> Result<World, (OpeningFault, Vec<Box<dyn Admission + Send>>)>
         requires some_client { 1 ≤ clients }
         requires few_clients { clients ≤ MAX_CLIENTS }
-        requires policies { length policies.items ≡ length ballot.votes }
-        requires nodes { length node_records.now ≡ length ballot.votes }
+        requires policies { length policies.items ≡ node_count ballots }
+        requires nodes { length node_records.now ≡ node_count ballots }
         requires clients { length client_records.now ≡ clients }
-        ensures world { IfOk result (IsResumed ballot (map (λ p. problem_of p) policies.items) (map (λ v. v.items) node_records.now) (map (λ v. v.items) client_records.now)) }
+        ensures world { IfOk result (IsResumed ballots (map (λ p. problem_of p) policies.items) (map (λ v. v.items) node_records.now) (map (λ v. v.items) client_records.now)) }
         ensures lawful { IfOk result (λ w. IsLawfulOpening (setting_of w) (forget w)) }
         ensures refused { IfErr result (λ refused. IsRefusedOpening (map (λ p. problem_of p) policies.items) (map (λ v. v.items) node_records.now) (map (λ v. v.items) client_records.now) refused.0) }
         ensures back { IfErr result (λ refused. refused.1.items ≡ policies.items) }
     {
         openings_are_lawful();
-        let (_nodes, _clients) = (ballot.nodes(), clients);
+        let (_nodes, _clients) = (ballots.nodes(), clients);
         let Ok(problems) = problems_of(alloc, &policies) else {
             return Err((OpeningFault::Memory, policies));
         };
@@ -242,7 +243,7 @@ impl World {
             Ok(kept) => kept,
             Err(fault) => return Err((fault, policies)),
         };
-        match opened(alloc, ballot, policies, kept) {
+        match opened(alloc, ballots, policies, kept) {
             Ok(world) => Ok(world),
             Err(policies) => Err((OpeningFault::Memory, policies)),
         }

@@ -1,6 +1,6 @@
 // An event, done by its actor among the others.
 
-ghost use Rattle.std.specs.Prelude.{◌≡◌, ◌≤◌, length, map, slice_get};
+ghost use Rattle.std.specs.Prelude.{◌≡◌, ◌≤◌, length, map, slice_get, List};
 ghost use Rattle.lock_model.specs.Ballots.{Ballot as BallotValue};
 ghost use Rattle.world_model.specs.declared.TheConstants.{MAX_MESSAGES};
 ghost use Rattle.world_model.specs.declared.exact.ExactWorld.{ExactWorld};
@@ -12,7 +12,7 @@ ghost use Rattle.world_machine.specs.Machines.{node_part, client_part, world_vie
 use crate::doing::{client_acts, client_hears, client_tells, node_acts, node_says, node_takes};
 use crate::turns::{ClientAct, NodeAct, Turn, turn_of};
 use lock_messages::{ClientId, Message, NodeId};
-use vote_weights::Ballot;
+use vote_weights::BallotList;
 use world_actors::{WorldClient, WorldNode};
 use world_model::{Effect, Event, StepFault};
 
@@ -52,9 +52,9 @@ fn act_client(
     id: ClientId,
     act: ClientAct,
 ) -> Result<Effect, StepFault>
-    ensures does { (w : ExactWorld) → w.clients ≡ map client_part clients.old.items → AreClients w.ballot clients.old.items →
+    ensures does { (w : ExactWorld) → w.clients ≡ map client_part clients.old.items → AreClients w.ballots clients.old.items →
         Does (client_event id act) (step w (client_event id act)) w result (with_clients w (map client_part clients.new.items)) }
-    ensures order { (b : BallotValue) → AreClients b clients.old.items → AreClients b clients.new.items }
+    ensures order { (b : List BallotValue) → AreClients b clients.old.items → AreClients b clients.new.items }
 {
     let index = id.get() as usize - 1;
     if index >= clients.len() {
@@ -89,9 +89,9 @@ fn hear(
     id: ClientId,
     number: u32,
 ) -> Result<Effect, StepFault>
-    ensures does { (w : ExactWorld) → w.clients ≡ map client_part clients.old.items → w.sent ≡ sent.now → AreClients w.ballot clients.old.items →
+    ensures does { (w : ExactWorld) → w.clients ≡ map client_part clients.old.items → w.sent ≡ sent.now → AreClients w.ballots clients.old.items →
         Does (Event.Hear id number) (step w (Event.Hear id number)) w result (with_clients w (map client_part clients.new.items)) }
-    ensures order { (b : BallotValue) → AreClients b clients.old.items → AreClients b clients.new.items }
+    ensures order { (b : List BallotValue) → AreClients b clients.old.items → AreClients b clients.new.items }
 {
     let index = id.get() as usize - 1;
     if index >= clients.len() {
@@ -124,7 +124,7 @@ fn tell(
     node: NodeId,
 ) -> Result<Effect, StepFault>
     requires { length sent.old.items ≤ MAX_MESSAGES }
-    ensures does { (w : ExactWorld) → w.clients ≡ map client_part clients.now → w.sent ≡ sent.old.items → AreClients w.ballot clients.now →
+    ensures does { (w : ExactWorld) → w.clients ≡ map client_part clients.now → w.sent ≡ sent.old.items → AreClients w.ballots clients.now →
         Does (Event.SayTo id node) (step w (Event.SayTo id node)) w result (with_sent w sent.new.items) }
     ensures room { length sent.new.items ≤ MAX_MESSAGES }
 {
@@ -137,18 +137,18 @@ fn tell(
 
 /// An event, done by its actor.
 pub(crate) fn take_step(
-    ballot: &Ballot,
+    ballots: &BallotList,
     nodes: &mut Vec<WorldNode>,
     clients: &mut Vec<WorldClient>,
     sent: &mut Vec<Message>,
     event: &Event,
 ) -> Result<Effect, StepFault>
-    requires { IsInOrder ballot.now nodes.old.items clients.old.items sent.old.items }
-    ensures does { let w = world_view ballot.now nodes.old.items clients.old.items sent.old.items in
-        Does event.now (step w event.now) w result (world_view ballot.now nodes.new.items clients.new.items sent.new.items) }
-    ensures order { IsInOrder ballot.now nodes.new.items clients.new.items sent.new.items }
+    requires { IsInOrder ballots.now nodes.old.items clients.old.items sent.old.items }
+    ensures does { let w = world_view ballots.now nodes.old.items clients.old.items sent.old.items in
+        Does event.now (step w event.now) w result (world_view ballots.now nodes.new.items clients.new.items sent.new.items) }
+    ensures order { IsInOrder ballots.now nodes.new.items clients.new.items sent.new.items }
 {
-    let _ballot = ballot;
+    let _ballots = ballots;
     match turn_of(event) {
         Turn::Node(id, act) => act_node(nodes, id, act),
         Turn::Client(id, act) => act_client(clients, id, act),

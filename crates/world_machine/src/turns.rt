@@ -18,7 +18,7 @@ pub(crate) enum NodeAct {
 /// What a client does by itself.
 #[derive(Clone, Copy, Debug)]
 pub(crate) enum ClientAct {
-    Begin(Mode, ResourceName),
+    Begin(Mode, ResourceName, u8),
     Try,
     Kept,
     Enter,
@@ -80,7 +80,9 @@ pub(crate) fn turn_of(event: &Event) -> Turn
     ensures { event_of result ≡ event.now }
 {
     match *event {
-        Event::Begin(id, mode, resource) => Turn::Client(id, ClientAct::Begin(mode, resource)),
+        Event::Begin(id, mode, resource, place) => {
+            Turn::Client(id, ClientAct::Begin(mode, resource, place))
+        }
         Event::Try(who) => turn_of_try(who),
         Event::Kept(who) => turn_of_kept(who),
         Event::SayTo(id, node) => Turn::Tells(id, node),

@@ -1,9 +1,10 @@
 // The world: its actors and all messages ever sent.
 
-ghost use Rattle.std.specs.Prelude.{◌≡◌, ◌∷◌, [], take, IfOk, IfSome, OnOk, IsOkUnless};
+ghost use Rattle.std.specs.Prelude.{◌≡◌, ◌≤◌, ◌∷◌, [], length, take, IfOk, IfSome, OnOk, IsOkUnless};
 ghost use Rattle.lock_messages.specs.declared.tickets.Ticket.{Ticket as TicketValue};
 ghost use Rattle.lock_model.specs.Decisions.{Among};
 ghost use Rattle.lock_model.specs.Stations.{Cause};
+ghost use Rattle.vote_weights.specs.declared.lists.TheConstants.{MAX_BALLOTS};
 ghost use Rattle.world_model.specs.Exclusion.{IsExclusive};
 ghost use Rattle.world_model.specs.ExactWorlds.{numbered, step};
 ghost use Rattle.world_model.specs.Forgetting.{forget, setting_of, IsSound};
@@ -21,7 +22,7 @@ use lock_messages::{Actor, ClientId, Message, Mode, NodeId, ResourceName, Ticket
 use lock_model::Status;
 use std::alloc::Global;
 use std::marker::Model;
-use vote_weights::Ballot;
+use vote_weights::BallotList;
 use world_actors::{WorldClient, WorldNode};
 use world_model::laws::{exact_steps_are_allowed, lists_are_the_sets};
 use world_model::{Effect, Event, StepFault};
@@ -33,7 +34,7 @@ use world_model::{Effect, Event, StepFault};
 #[derive(Drop)]
 pub struct World {
     pub(crate) alloc: Global,
-    pub(crate) ballot: Ballot,
+    pub(crate) ballots: BallotList,
     pub(crate) nodes: Vec<WorldNode>,
     pub(crate) clients: Vec<WorldClient>,
     pub(crate) sent: Vec<Message>,
@@ -45,9 +46,9 @@ impl Model for World {
 
     ghost Value = { ExactWorld };
 
-    ghost view = { λ w. world_view w.ballot w.nodes.items w.clients.items w.sent.items };
+    ghost view = { λ w. world_view w.ballots w.nodes.items w.clients.items w.sent.items };
 
-    ghost invariant = { λ w. IsWorld w.ballot w.nodes.items w.clients.items w.sent.items };
+    ghost invariant = { λ w. IsWorld w.ballots w.nodes.items w.clients.items w.sent.items };
 }
 
 impl World {
@@ -70,7 +71,7 @@ impl World {
     {
         exact_steps_are_allowed();
         take_step(
-            &self.ballot,
+            &self.ballots,
             &mut self.nodes,
             &mut self.clients,
             &mut self.sent,
@@ -116,13 +117,16 @@ impl World {
     }
 
     /// Tells what holds of every world: it is sound, so a writer inside a resource is there alone, and in
-    /// every station of every node each reader that waits has a cause. It computes nothing.
+    /// every station of every node each reader that waits has a cause; and it has no more ballots than a
+    /// list may have. It computes nothing.
     pub fn soundness(&self)
         ensures sound { IsSound self.now }
         ensures exclusive { IsExclusive (forget self.now) }
+        ensures few_ballots { length self.now.ballots ≤ MAX_BALLOTS }
     {
         lists_are_the_sets();
         let _actors = self.nodes.len();
+        let _ballots = self.ballots.count();
     }
 
     /// Tells that each node has kept a record that can be read again, and that there are no more nodes and
@@ -130,7 +134,7 @@ impl World {
     pub fn keeping(&self)
         ensures { KeepsRecords self.now }
     {
-        let _nodes = self.ballot.nodes();
+        let _nodes = self.ballots.nodes();
         see_records(&self.nodes);
         see_last(&self.clients);
     }

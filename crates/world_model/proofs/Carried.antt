@@ -35,7 +35,7 @@ Newly w v t = IsPresent v t.client t × IsNewer w v t.client t
 one-present : (p : ClientPhase) (t u : Ticket) → IsPresentIn t p → IsPresentIn u p → t ≡ u
 one-present ClientDown t u h k = absurd h
 one-present ClientIdle t u h k = absurd h
-one-present (Chosen x) t u h k = absurd h
+one-present (Chosen x place) t u h k = absurd h
 one-present (Asking p) t u h k = sym h ∙ k
 one-present (IsIn p) t u h k = sym h ∙ k
 
@@ -107,22 +107,22 @@ node-still w v carries n none x safe = record {
   phase = safe.phase;
 }
 
-pub granted-still : (w v : World) → Carries w v → (c attempt : ℕ) (p : Present) → IsGranted w c attempt p → IsGranted v c attempt p
-granted-still w v carries c attempt p h = record { client = h.client; attempt_is = h.attempt_is; grants = λ n g. carries.grows (Grant n p.ticket) (h.grants n g) }
+pub granted-still : (b : List Ballot) (w v : World) → Carries w v → (c attempt : ℕ) (p : Present) → IsGranted b w c attempt p → IsGranted b v c attempt p
+granted-still b w v carries c attempt p h = record { placed = h.placed; client = h.client; attempt_is = h.attempt_is; grants = λ n g. carries.grows (Grant n p.ticket) (h.grants n g) }
 
-pub client-still : (b : Ballot) (w v : World) → Carries w v → (c : ℕ) (k : Client) → IsSafeClient b w c k → IsSafeClient b v c k
+pub client-still : (b : List Ballot) (w v : World) → Carries w v → (c : ℕ) (k : Client) → IsSafeClient b w c k → IsSafeClient b v c k
 client-still b w v carries c k safe = record { tried = safe.tried; ticket = ticket k.phase safe.ticket }
   where
     ticket : (p : ClientPhase) → IsSafeTicket b w c k.kept p → IsSafeTicket b v c k.kept p
     ticket ClientDown h = tt
     ticket ClientIdle h = tt
-    ticket (Chosen t) h = h
-    ticket (Asking p) h = granted-still w v carries c k.kept p h
-    ticket (IsIn p) h = (granted-still w v carries c k.kept p h.0, h.1)
+    ticket (Chosen t place) h = h
+    ticket (Asking p) h = granted-still b w v carries c k.kept p h
+    ticket (IsIn p) h = (granted-still b w v carries c k.kept p h.0, h.1)
 
 -- what is said of all messages
 
-pub all-safe : (s : Setting) (w v : World) → IsSafe s w → Carries w v → ((n : ℕ) → IsSafeNode v n (v.nodes n)) → ((c : ℕ) → IsSafeClient s.ballot v c (v.clients c)) → IsSafe s v
+pub all-safe : (s : Setting) (w v : World) → IsSafe s w → Carries w v → ((n : ℕ) → IsSafeNode v n (v.nodes n)) → ((c : ℕ) → IsSafeClient s.ballots v c (v.clients c)) → IsSafe s v
 all-safe s w v safe carries nodes clients = record {
   nodes = nodes;
   clients = clients;

@@ -7,7 +7,7 @@ use Rattle.lock_messages.specs.declared.tickets.Ticket.{Ticket}
 use Rattle.lock_messages.specs.declared.messages.Message.{Message}
 use Rattle.lock_messages.specs.declared.messages.Message.TheVariants.{Request, Release, Grant, Muddled}
 use Rattle.lock_model.specs.declared.hearing.Heard.TheVariants as heard
-use Rattle.lock_model.specs.Ballots.{Ballot, IsEnough, votes_at, votes_of, nodes}
+use Rattle.lock_model.specs.Ballots.{Ballot, IsEnough, ballot_at, node_count, votes_at, votes_of, nodes}
 use Rattle.lock_model.specs.Decisions.{Among}
 use Rattle.lock_model.specs.Hearing.{HearsOfTicket}
 use Rattle.world_model.specs.declared.events.Age.{Age}
@@ -24,16 +24,16 @@ abbrev SameOrNewer : World → World → ℕ → Ticket → Type 0
 SameOrNewer w v d t = IsPresent w d t ⊎ IsNewer w v d t
 
 -- how a client may go on in the world w
-pub record GoesSafely (b : Ballot) (w : World) (c : ℕ) (before after : Client) : Type 0 where
+pub record GoesSafely (b : List Ballot) (w : World) (c : ℕ) (before after : Client) : Type 0 where
   pub kept : before.kept ≤ after.kept
   pub present : (t : Ticket) → IsPresentIn t after.phase → IsSameOrNewer before after t
   pub safe : IsSafeClient b w c after
 
-silent-keeps : (s : Setting) (c : ℕ) (w : World) (before after : Client) (v : World) → IsSafe s w → OfClient s c w before after [] v → (IsSafeClient s.ballot w c before → GoesSafely s.ballot w c before after) → IsSafe s v
+silent-keeps : (s : Setting) (c : ℕ) (w : World) (before after : Client) (v : World) → IsSafe s w → OfClient s c w before after [] v → (IsSafeClient s.ballots w c before → GoesSafely s.ballots w c before after) → IsSafe s v
 silent-keeps s c w before after v safe of own = all-safe s w v safe carries nodes_safe (λ d. client_safe d (cases_eq d c))
   where
-    goes : GoesSafely s.ballot w c before after
-    goes = own (subst (IsSafeClient s.ballot w c) of.was (safe.clients c))
+    goes : GoesSafely s.ballots w c before after
+    goes = own (subst (IsSafeClient s.ballots w c) of.was (safe.clients c))
 
     old : (x : Message) → Among x v.sent → Among x w.sent
     old x h = go ((of.sends x).0 h)
@@ -70,31 +70,31 @@ silent-keeps s c w before after v safe of own = all-safe s w v safe carries node
     nodes_safe : (n : ℕ) → IsSafeNode v n (v.nodes n)
     nodes_safe n = subst (IsSafeNode v n) (sym (of.nodes n)) (node-still w v carries n (λ t h. old (Grant n t) h) (w.nodes n) (safe.nodes n))
 
-    client_safe : (d : ℕ) → (d ≡ c) ⊎ (d ≢ c) → IsSafeClient s.ballot v d (v.clients d)
-    client_safe d (inl e) = subst (λ x. IsSafeClient s.ballot v x (v.clients x)) (sym e) (subst (IsSafeClient s.ballot v c) (sym of.is) (client-still s.ballot w v carries c after goes.safe))
-    client_safe d (inr apart) = subst (IsSafeClient s.ballot v d) (sym (of.others d apart)) (client-still s.ballot w v carries d (w.clients d) (safe.clients d))
+    client_safe : (d : ℕ) → (d ≡ c) ⊎ (d ≢ c) → IsSafeClient s.ballots v d (v.clients d)
+    client_safe d (inl e) = subst (λ x. IsSafeClient s.ballots v x (v.clients x)) (sym e) (subst (IsSafeClient s.ballots v c) (sym of.is) (client-still s.ballots w v carries c after goes.safe))
+    client_safe d (inr apart) = subst (IsSafeClient s.ballots v d) (sym (of.others d apart)) (client-still s.ballots w v carries d (w.clients d) (safe.clients d))
 
 -- the events of a client; most leave the kept attempt as it is, and no ticket that was not there before
 
-begins-safe : (b : Ballot) (w : World) (c : ℕ) (m : Mode) (x : List ℕ) (before after : Client) → Begins c m x before after → IsSafeClient b w c before → GoesSafely b w c before after
-begins-safe b w c m x before after (begins kept tried below) safe = record {
+begins-safe : (b : List Ballot) (w : World) (c : ℕ) (m : Mode) (x : List ℕ) (place : ℕ) (before after : Client) → Begins b c m x place before after → IsSafeClient b w c before → GoesSafely b w c before after
+begins-safe b w c m x place before after (begins kept tried below placed) safe = record {
   kept = self-le kept;
   present = λ t p. absurd p;
-  safe = record { tried = safe.tried; ticket = (refl, refl) };
+  safe = record { tried = safe.tried; ticket = (refl, refl, placed) };
 }
 
-tries-safe : (b : Ballot) (w : World) (c : ℕ) (before after : Client) → TriesAttempt before after → IsSafeClient b w c before → GoesSafely b w c before after
-tries-safe b w c before after (tries_attempt kept t) safe = record {
+tries-safe : (b : List Ballot) (w : World) (c : ℕ) (before after : Client) → TriesAttempt before after → IsSafeClient b w c before → GoesSafely b w c before after
+tries-safe b w c before after (tries_attempt kept t place) safe = record {
   kept = self-le kept;
   present = λ u p. absurd p;
   safe = record { tried = safe.ticket.1; ticket = safe.ticket };
 }
 
-keeps-safe : (b : Ballot) (w : World) (c : ℕ) (before after : Client) → KeepsAttempt before after → IsSafeClient b w c before → GoesSafely b w c before after
-keeps-safe b w c before after (keeps_attempt kept a t) safe = record {
+keeps-safe : (b : List Ballot) (w : World) (c : ℕ) (before after : Client) → KeepsAttempt before after → IsSafeClient b w c before → GoesSafely b w c before after
+keeps-safe b w c before after (keeps_attempt kept a t place) safe = record {
   kept = omega (arith, safe.tried);
   present = λ u p. inr (newer u p);
-  safe = record { tried = tt; ticket = record { client = safe.ticket.0; attempt_is = safe.ticket.1 ∙ sym safe.tried; grants = λ n g. absurd (let q : false ≡ true = g in cc) } };
+  safe = record { tried = tt; ticket = record { placed = safe.ticket.2; client = safe.ticket.0; attempt_is = safe.ticket.1 ∙ sym safe.tried; grants = λ n g. absurd (let q : false ≡ true = g in cc) } };
 }
   where
     newer : (u : Ticket) → t ≡ u → (kept < u.attempt) × (u.attempt ≤ a)
@@ -104,9 +104,9 @@ keeps-safe b w c before after (keeps_attempt kept a t) safe = record {
         (omega (arith, attempt), omega (arith, attempt, tried))
 
 -- a vote that counts is one that was sent
-gained-granted : (b : Ballot) (w : World) (c attempt : ℕ) (m : Message) (p : Present) → Among m w.sent → HearsOfTicket b p.ticket p.granted m heard.Counted → IsGranted w c attempt p →
-    IsGranted w c attempt (gained m p)
-gained-granted b w c attempt m p sent hears h = record { client = h.client; attempt_is = h.attempt_is; grants = grants }
+gained-granted : (b : List Ballot) (w : World) (c attempt : ℕ) (m : Message) (p : Present) → Among m w.sent → HearsOfTicket (node_count b) p.ticket p.granted m heard.Counted → IsGranted b w c attempt p →
+    IsGranted b w c attempt (gained m p)
+gained-granted b w c attempt m p sent hears h = record { placed = h.placed; client = h.client; attempt_is = h.attempt_is; grants = grants }
   where
     n : ℕ
     n = hears.0
@@ -139,7 +139,7 @@ gained-enough b mode m p enough =
     sum_by-le-sum_by (λ n. cond (p.granted n) (votes_at b n) 0) (λ n. cond ((gained m p).granted n) (votes_at b n) 0) (nodes b) (λ n. no-fewer (p.granted n) ((gained m p).granted n) (votes_at b n) (gained-more m p n)) in
     omega (arith, enough, more)
 
-hears-safe : (b : Ballot) (w : World) (c : ℕ) (m : Message) (before after : Client) → Among m w.sent → Hears b c m before after → IsSafeClient b w c before → GoesSafely b w c before after
+hears-safe : (b : List Ballot) (w : World) (c : ℕ) (m : Message) (before after : Client) → Among m w.sent → Hears b c m before after → IsSafeClient b w c before → GoesSafely b w c before after
 hears-safe b w c m before after sent (counts kept tried p h) safe = record {
   kept = self-le kept;
   present = λ u h. inl h;
@@ -148,56 +148,56 @@ hears-safe b w c m before after sent (counts kept tried p h) safe = record {
 hears-safe b w c m before after sent (counts_inside kept tried p h) safe = record {
   kept = self-le kept;
   present = λ u h. inl h;
-  safe = record { tried = safe.tried; ticket = (gained-granted b w c kept m p sent h safe.ticket.0, gained-enough b p.ticket.mode m p safe.ticket.1) };
+  safe = record { tried = safe.tried; ticket = (gained-granted b w c kept m p sent h safe.ticket.0, gained-enough (ballot_at b p.place) p.ticket.mode m p safe.ticket.1) };
 }
 hears-safe b w c m before after sent (passes kept tried p h hears apart) safe = record { kept = self-le kept; present = λ u h. inl h; safe = safe }
 hears-safe b w c m before after sent (passes_inside kept tried p h hears apart) safe = record { kept = self-le kept; present = λ u h. inl h; safe = safe }
 hears-safe b w c m before after sent (passes_idle kept tried h hears) safe = record { kept = self-le kept; present = λ u p. inl p; safe = safe }
-hears-safe b w c m before after sent (passes_chosen kept tried t) safe = record { kept = self-le kept; present = λ u p. inl p; safe = safe }
+hears-safe b w c m before after sent (passes_chosen kept tried t place) safe = record { kept = self-le kept; present = λ u p. inl p; safe = safe }
 
-enters-safe : (b : Ballot) (w : World) (c : ℕ) (before after : Client) → Enters b before after → IsSafeClient b w c before → GoesSafely b w c before after
+enters-safe : (b : List Ballot) (w : World) (c : ℕ) (before after : Client) → Enters b before after → IsSafeClient b w c before → GoesSafely b w c before after
 enters-safe b w c before after (enters kept tried p enough) safe = record {
   kept = self-le kept;
   present = λ u h. inl h;
   safe = record { tried = safe.tried; ticket = (safe.ticket, enough) };
 }
 
-leaves-safe : (b : Ballot) (w : World) (c : ℕ) (before after : Client) → Leaves before after → IsSafeClient b w c before → GoesSafely b w c before after
+leaves-safe : (b : List Ballot) (w : World) (c : ℕ) (before after : Client) → Leaves before after → IsSafeClient b w c before → GoesSafely b w c before after
 leaves-safe b w c before after (gives_up kept tried p) safe = record { kept = self-le kept; present = λ u h. absurd h; safe = record { tried = safe.tried; ticket = tt } }
 leaves-safe b w c before after (leaves kept tried p) safe = record { kept = self-le kept; present = λ u h. absurd h; safe = record { tried = safe.tried; ticket = tt } }
 
-falls-safe : (b : Ballot) (w : World) (c : ℕ) (before after : Client) → ClientFalls before after → IsSafeClient b w c before → GoesSafely b w c before after
+falls-safe : (b : List Ballot) (w : World) (c : ℕ) (before after : Client) → ClientFalls before after → IsSafeClient b w c before → GoesSafely b w c before after
 falls-safe b w c before after (client_falls kept tried phase up) safe = record { kept = self-le kept; present = λ u p. absurd p; safe = record { tried = safe.tried; ticket = tt } }
 
-rises-safe : (b : Ballot) (w : World) (c : ℕ) (age : Age) (before after : Client) → ClientRises age before after → IsSafeClient b w c before → GoesSafely b w c before after
+rises-safe : (b : List Ballot) (w : World) (c : ℕ) (age : Age) (before after : Client) → ClientRises age before after → IsSafeClient b w c before → GoesSafely b w c before after
 rises-safe b w c Old before after (client_rises_old kept tried) safe = record { kept = self-le kept; present = λ u p. absurd p; safe = record { tried = tt; ticket = tt } }
 rises-safe b w c New before after (client_rises_new kept a) safe = record { kept = omega (arith, safe.tried); present = λ u p. absurd p; safe = record { tried = tt; ticket = tt } }
 
 -- the whole, by the relation
 
-by-client-keeps : (s : Setting) (c : ℕ) (R : Client → Client → Type 0) (w v : World) → IsSafe s w → ByClient s w v c R → ((before after : Client) → R before after → IsSafeClient s.ballot w c before → GoesSafely s.ballot w c before after) → IsSafe s v
+by-client-keeps : (s : Setting) (c : ℕ) (R : Client → Client → Type 0) (w v : World) → IsSafe s w → ByClient s w v c R → ((before after : Client) → R before after → IsSafeClient s.ballots w c before → GoesSafely s.ballots w c before after) → IsSafe s v
 by-client-keeps s c R w v safe h own = silent-keeps s c w h.0 h.1 v safe h.3 (own h.0 h.1 h.2)
 
-pub begins-keeps : (s : Setting) (c : ℕ) (m : Mode) (x : List ℕ) (w v : World) → IsSafe s w → ByClient s w v c (Begins c m x) → IsSafe s v
-begins-keeps s c m x w v safe h = by-client-keeps s c (Begins c m x) w v safe h (begins-safe s.ballot w c m x)
+pub begins-keeps : (s : Setting) (c : ℕ) (m : Mode) (x : List ℕ) (place : ℕ) (w v : World) → IsSafe s w → ByClient s w v c (Begins s.ballots c m x place) → IsSafe s v
+begins-keeps s c m x place w v safe h = by-client-keeps s c (Begins s.ballots c m x place) w v safe h (begins-safe s.ballots w c m x place)
 
 pub tries-keeps : (s : Setting) (c : ℕ) (w v : World) → IsSafe s w → ByClient s w v c TriesAttempt → IsSafe s v
-tries-keeps s c w v safe h = by-client-keeps s c TriesAttempt w v safe h (tries-safe s.ballot w c)
+tries-keeps s c w v safe h = by-client-keeps s c TriesAttempt w v safe h (tries-safe s.ballots w c)
 
 pub keeps-keeps : (s : Setting) (c : ℕ) (w v : World) → IsSafe s w → ByClient s w v c KeepsAttempt → IsSafe s v
-keeps-keeps s c w v safe h = by-client-keeps s c KeepsAttempt w v safe h (keeps-safe s.ballot w c)
+keeps-keeps s c w v safe h = by-client-keeps s c KeepsAttempt w v safe h (keeps-safe s.ballots w c)
 
-pub hears-keeps : (s : Setting) (c : ℕ) (m : Message) (w v : World) → IsSafe s w → Among m w.sent → ByClient s w v c (Hears s.ballot c m) → IsSafe s v
-hears-keeps s c m w v safe sent h = by-client-keeps s c (Hears s.ballot c m) w v safe h (λ before after r ok. hears-safe s.ballot w c m before after sent r ok)
+pub hears-keeps : (s : Setting) (c : ℕ) (m : Message) (w v : World) → IsSafe s w → Among m w.sent → ByClient s w v c (Hears s.ballots c m) → IsSafe s v
+hears-keeps s c m w v safe sent h = by-client-keeps s c (Hears s.ballots c m) w v safe h (λ before after r ok. hears-safe s.ballots w c m before after sent r ok)
 
-pub enters-keeps : (s : Setting) (c : ℕ) (w v : World) → IsSafe s w → ByClient s w v c (Enters s.ballot) → IsSafe s v
-enters-keeps s c w v safe h = by-client-keeps s c (Enters s.ballot) w v safe h (enters-safe s.ballot w c)
+pub enters-keeps : (s : Setting) (c : ℕ) (w v : World) → IsSafe s w → ByClient s w v c (Enters s.ballots) → IsSafe s v
+enters-keeps s c w v safe h = by-client-keeps s c (Enters s.ballots) w v safe h (enters-safe s.ballots w c)
 
 pub leaves-keeps : (s : Setting) (c : ℕ) (w v : World) → IsSafe s w → ByClient s w v c Leaves → IsSafe s v
-leaves-keeps s c w v safe h = by-client-keeps s c Leaves w v safe h (leaves-safe s.ballot w c)
+leaves-keeps s c w v safe h = by-client-keeps s c Leaves w v safe h (leaves-safe s.ballots w c)
 
 pub falls-keeps : (s : Setting) (c : ℕ) (w v : World) → IsSafe s w → ByClient s w v c ClientFalls → IsSafe s v
-falls-keeps s c w v safe h = by-client-keeps s c ClientFalls w v safe h (falls-safe s.ballot w c)
+falls-keeps s c w v safe h = by-client-keeps s c ClientFalls w v safe h (falls-safe s.ballots w c)
 
 pub rises-keeps : (s : Setting) (c : ℕ) (age : Age) (w v : World) → IsSafe s w → ByClient s w v c (ClientRises age) → IsSafe s v
-rises-keeps s c age w v safe h = by-client-keeps s c (ClientRises age) w v safe h (rises-safe s.ballot w c age)
+rises-keeps s c age w v safe h = by-client-keeps s c (ClientRises age) w v safe h (rises-safe s.ballots w c age)

@@ -69,8 +69,8 @@ one-keeps s c w before m v safe of may = all-safe s w v safe carries nodes clien
     nodes : (n : ℕ) → IsSafeNode v n (v.nodes n)
     nodes n = subst (IsSafeNode v n) (sym (of.nodes n)) (node-still w v carries n (λ t h. old (Grant n t) (may.grant n t) h) (w.nodes n) (safe.nodes n))
 
-    clients : (d : ℕ) → IsSafeClient s.ballot v d (v.clients d)
-    clients d = subst (IsSafeClient s.ballot v d) (sym (same d)) (client-still s.ballot w v carries d (w.clients d) (safe.clients d))
+    clients : (d : ℕ) → IsSafeClient s.ballots v d (v.clients d)
+    clients d = subst (IsSafeClient s.ballots v d) (sym (same d)) (client-still s.ballots w v carries d (w.clients d) (safe.clients d))
 
 -- a request of the present ticket, which is the client's own
 request-may : (w : World) (n : ℕ) (t : Ticket) → IsPresent w t.client t → MaySay w (Request n t)
@@ -98,13 +98,13 @@ pub tells-keeps : (s : Setting) (c n : ℕ) (w : World) (before : Client) (said 
 tells-keeps s c n w before said v safe (asks kept tried p) of =
     one-keeps s c w before (Request n p.ticket) v safe of (request-may w n p.ticket (subst (λ d. IsPresent w d p.ticket) (sym own.ticket.client) (subst (λ (k : Client). IsPresentIn p.ticket k.phase) (sym of.was) refl)))
   where
-    own : IsSafeClient s.ballot w c before
-    own = subst (IsSafeClient s.ballot w c) of.was (safe.clients c)
+    own : IsSafeClient s.ballots w c before
+    own = subst (IsSafeClient s.ballots w c) of.was (safe.clients c)
 tells-keeps s c n w before said v safe (asks_inside kept tried p) of =
     one-keeps s c w before (Request n p.ticket) v safe of (request-may w n p.ticket (subst (λ d. IsPresent w d p.ticket) (sym own.ticket.0.client) (subst (λ (k : Client). IsPresentIn p.ticket k.phase) (sym of.was) refl)))
   where
-    own : IsSafeClient s.ballot w c before
-    own = subst (IsSafeClient s.ballot w c) of.was (safe.clients c)
+    own : IsSafeClient s.ballots w c before
+    own = subst (IsSafeClient s.ballots w c) of.was (safe.clients c)
 tells-keeps s c n w before said v safe (releases kept tried some) of =
     one-keeps s c w before (Release n c kept) v safe of
     (release-may w n c kept (subst (λ (k : Client). kept ≤ k.kept) (sym of.was) (self-le kept)) (λ t p. subst (λ (k : Client). IsPresentIn t k.phase) of.was p))

@@ -7,7 +7,7 @@ use Rattle.lock_messages.specs.declared.tickets.Mode.{Mode}
 use Rattle.lock_messages.specs.declared.tickets.Ticket.{Ticket}
 use Rattle.lock_messages.specs.declared.messages.Message.{Message}
 use Rattle.lock_messages.specs.declared.messages.Message.TheVariants as message
-use Rattle.lock_model.specs.Ballots.{HasNode, needed, votes_of}
+use Rattle.lock_model.specs.Ballots.{HasAnyNode, HasPlace, has_place, ballot_at, node_count, needed, votes_of}
 use Rattle.lock_model.specs.ExactHearing.{is_node_of}
 use Rattle.vote_weights.specs.Sets.{has_node}
 use Rattle.world_model.specs.declared.events.Age.{Age}
@@ -24,7 +24,7 @@ use Rattle.world_model.specs.declared.exact.ExactClientPhase.TheVariants as exac
 use Rattle.world_model.specs.declared.exact.ExactWorld.{ExactWorld}
 use Rattle.world_model.specs.Worlds.{Client, ClientDown, ClientIdle, Chosen, Asking, IsIn, World, Setting, OfClient, ByClient, Happens, Begins, begins, TriesAttempt, tries_attempt, KeepsAttempt, keeps_attempt, Tells, asks, asks_inside, releases, Enters, enters, Leaves, gives_up, leaves, ClientFalls, client_falls, ClientRises, client_rises_old, client_rises_new}
 use Rattle.world_model.specs.Turns.{Turns, acts}
-use Rattle.world_model.specs.ExactClients.{client_in, next_ticket, begins_in, tries_attempt_with, tries_attempt_in, first_of, keeps_attempt_with, keeps_attempt_in, says_one, tells_in, tells, enters_in, leaves_in, client_falls_in, client_rises_with, client_rises_in}
+use Rattle.world_model.specs.ExactClients.{client_in, next_ticket, begins_by, begins_in, tries_attempt_with, tries_attempt_in, first_of, keeps_attempt_with, keeps_attempt_in, says_one, tells_in, tells, enters_in, leaves_in, client_falls_in, client_rises_with, client_rises_in}
 use Rattle.world_model.specs.Forgetting.{present_of, client_phase_of, client_of, IsSoundClient}
 use Rattle.world_model.specs.Laws.{IsNumbered}
 use Rattle.world_model.specs.Locality.{IsEffectOf, IsAsListed}
@@ -46,22 +46,29 @@ acting s e c R up k a done does sound kind numbers listed =
 
 -- Begin
 
-pub begins-told : (s : Setting) (c : ℕ) (m : Mode) (x : List ℕ) (k : ExactClient) → ClientTold s (event.Begin c m x) c k (begins_in c m x k k.phase)
-begins-told s c m x k = go k.phase
+pub begins-told : (s : Setting) (c : ℕ) (m : Mode) (x : List ℕ) (place : ℕ) (k : ExactClient) → ClientTold s (event.Begin c m x place) c k (begins_in s.ballots c m x place k k.phase)
+begins-told s c m x place k = go k.phase
   where
     next : ExactClient
-    next = client_in k (exact.Chosen (next_ticket c m x k.kept))
+    next = client_in k (exact.Chosen (next_ticket c m x k.kept) place)
 
-    more : nat_lt k.kept MAX_ATTEMPT ≡ true → ClientTold s (event.Begin c m x) c (client_in k exact.Idle) (acts next (effect.Chose (k.kept + 1)))
+    turn : Turns ExactClient
+    turn = acts next (effect.Chose (k.kept + 1))
+
+    placed : nat_lt k.kept MAX_ATTEMPT ≡ true → has_place s.ballots place ≡ true → ClientTold s (event.Begin c m x place) c (client_in k exact.Idle) turn
+    placed below there =
+        acting s (event.Begin c m x place) c (Begins s.ballots c m x place) (λ w v h. h) (client_in k exact.Idle) next (effect.Chose (k.kept + 1))
+        (begins k.kept k.tried (grind (arith, nat_tests)) (grind (arith, nat_tests))) (λ ok. record { kept = ok.kept; tried = ok.tried; chosen = grind (arith, nat_tests) }) (k.kept + 1, refl) (λ w. tt) (λ w. tt)
+
+    more : nat_lt k.kept MAX_ATTEMPT ≡ true → ClientTold s (event.Begin c m x place) c (client_in k exact.Idle) (begins_by s.ballots place turn)
     more below =
-        acting s (event.Begin c m x) c (Begins c m x) (λ w v h. h) (client_in k exact.Idle) next (effect.Chose (k.kept + 1))
-        (begins k.kept k.tried (grind (arith, nat_tests))) (λ ok. record { kept = ok.kept; tried = ok.tried; chosen = grind (arith, nat_tests) }) (k.kept + 1, refl) (λ w. tt) (λ w. tt)
+        told-if ExactClient (clients s c) s (event.Begin c m x place) (client_in k exact.Idle) (has_place s.ballots place) turn (Err fault.NoSuchPlace) (placed below) (λ _. refl)
 
-    go : (p : ExactClientPhase) → ClientTold s (event.Begin c m x) c (client_in k p) (begins_in c m x (client_in k p) p)
+    go : (p : ExactClientPhase) → ClientTold s (event.Begin c m x place) c (client_in k p) (begins_in s.ballots c m x place (client_in k p) p)
     go exact.Down = refl
     go exact.Idle =
-        told-if ExactClient (clients s c) s (event.Begin c m x) (client_in k exact.Idle) (nat_lt k.kept MAX_ATTEMPT) (acts next (effect.Chose (k.kept + 1))) (Err fault.AttemptsSpent) more (λ _. refl)
-    go (exact.Chosen t) = refl
+        told-if ExactClient (clients s c) s (event.Begin c m x place) (client_in k exact.Idle) (nat_lt k.kept MAX_ATTEMPT) (begins_by s.ballots place turn) (Err fault.AttemptsSpent) more (λ _. refl)
+    go (exact.Chosen t chosen) = refl
     go (exact.Asking p) = refl
     go (exact.Inside p) = refl
 
@@ -70,16 +77,16 @@ begins-told s c m x k = go k.phase
 pub tries-attempt-told : (s : Setting) (c : ℕ) (k : ExactClient) → ClientTold s (event.Try (actor.Client c)) c k (tries_attempt_in k k.phase)
 tries-attempt-told s c k = go k.phase
   where
-    chosen : (t : Ticket) (o : Option ℕ) → ClientTold s (event.Try (actor.Client c)) c (record { kept = k.kept; tried = o; phase = exact.Chosen t }) (tries_attempt_with (record { kept = k.kept; tried = o; phase = exact.Chosen t }) t o)
-    chosen t None =
-        acting s (event.Try (actor.Client c)) c TriesAttempt (λ w v h. h) (record { kept = k.kept; tried = None; phase = exact.Chosen t }) (record { kept = k.kept; tried = Some t.attempt; phase = exact.Chosen t }) effect.Tried
-        (tries_attempt k.kept t) (λ ok. record { kept = ok.kept; tried = ok.chosen; chosen = ok.chosen }) refl (λ w. tt) (λ w. tt)
-    chosen t (Some a) = refl
+    chosen : (t : Ticket) (place : ℕ) (o : Option ℕ) → ClientTold s (event.Try (actor.Client c)) c (record { kept = k.kept; tried = o; phase = exact.Chosen t place }) (tries_attempt_with (record { kept = k.kept; tried = o; phase = exact.Chosen t place }) t o)
+    chosen t place None =
+        acting s (event.Try (actor.Client c)) c TriesAttempt (λ w v h. h) (record { kept = k.kept; tried = None; phase = exact.Chosen t place }) (record { kept = k.kept; tried = Some t.attempt; phase = exact.Chosen t place }) effect.Tried
+        (tries_attempt k.kept t place) (λ ok. record { kept = ok.kept; tried = ok.chosen; chosen = ok.chosen }) refl (λ w. tt) (λ w. tt)
+    chosen t place (Some a) = refl
 
     go : (p : ExactClientPhase) → ClientTold s (event.Try (actor.Client c)) c (client_in k p) (tries_attempt_in (client_in k p) p)
     go exact.Down = refl
     go exact.Idle = refl
-    go (exact.Chosen t) = chosen t k.tried
+    go (exact.Chosen t place) = chosen t place k.tried
     go (exact.Asking p) = refl
     go (exact.Inside p) = refl
 
@@ -88,16 +95,16 @@ tries-attempt-told s c k = go k.phase
 pub keeps-attempt-told : (s : Setting) (c : ℕ) (k : ExactClient) → ClientTold s (event.Kept (actor.Client c)) c k (keeps_attempt_in k k.phase)
 keeps-attempt-told s c k = go k.phase
   where
-    chosen : (t : Ticket) (o : Option ℕ) → ClientTold s (event.Kept (actor.Client c)) c (record { kept = k.kept; tried = o; phase = exact.Chosen t }) (keeps_attempt_with t o)
-    chosen t None = refl
-    chosen t (Some a) =
-        acting s (event.Kept (actor.Client c)) c KeepsAttempt (λ w v h. h) (record { kept = k.kept; tried = Some a; phase = exact.Chosen t }) (record { kept = a; tried = None; phase = exact.Asking (first_of t) }) effect.Kept
-        (keeps_attempt k.kept a t) (λ ok. record { kept = ok.tried; tried = tt; chosen = tt }) refl (λ w. tt) (λ w. tt)
+    chosen : (t : Ticket) (place : ℕ) (o : Option ℕ) → ClientTold s (event.Kept (actor.Client c)) c (record { kept = k.kept; tried = o; phase = exact.Chosen t place }) (keeps_attempt_with t place o)
+    chosen t place None = refl
+    chosen t place (Some a) =
+        acting s (event.Kept (actor.Client c)) c KeepsAttempt (λ w v h. h) (record { kept = k.kept; tried = Some a; phase = exact.Chosen t place }) (record { kept = a; tried = None; phase = exact.Asking (first_of t place) }) effect.Kept
+        (keeps_attempt k.kept a t place) (λ ok. record { kept = ok.tried; tried = tt; chosen = tt }) refl (λ w. tt) (λ w. tt)
 
     go : (p : ExactClientPhase) → ClientTold s (event.Kept (actor.Client c)) c (client_in k p) (keeps_attempt_in (client_in k p) p)
     go exact.Down = refl
     go exact.Idle = refl
-    go (exact.Chosen t) = chosen t k.tried
+    go (exact.Chosen t place) = chosen t place k.tried
     go (exact.Asking p) = refl
     go (exact.Inside p) = refl
 
@@ -106,7 +113,7 @@ keeps-attempt-told s c k = go k.phase
 node-known : (nodes n : ℕ) → is_node_of nodes n ≡ true → (1 ≤ n) × (n ≤ nodes)
 node-known nodes n h = grind (arith, nat_tests)
 
-speaking : (s : Setting) (c n : ℕ) (k : ExactClient) (m : Message) → HasNode s.ballot n → Tells c n (client_of k) (m ∷ []) → ClientTold s (event.SayTo c n) c k (says_one k m)
+speaking : (s : Setting) (c n : ℕ) (k : ExactClient) (m : Message) → HasAnyNode s.ballots n → Tells c n (client_of k) (m ∷ []) → ClientTold s (event.SayTo c n) c k (says_one k m)
 speaking s c n k m known does =
     record {
       happens = λ ok w v of. (known, (client_of k, m ∷ [], does, of));
@@ -117,37 +124,37 @@ speaking s c n k m known does =
       full = refl;
     }
 
-pub tells-told : (s : Setting) (c n : ℕ) (k : ExactClient) → ClientTold s (event.SayTo c n) c k (tells s.ballot c n k)
+pub tells-told : (s : Setting) (c n : ℕ) (k : ExactClient) → ClientTold s (event.SayTo c n) c k (tells s.ballots c n k)
 tells-told s c n k =
-    told-if ExactClient (clients s c) s (event.SayTo c n) k (is_node_of (length s.ballot.votes) n) (tells_in c n k k.phase) (Err fault.UnknownActor)
-    (λ known. go (node-known (length s.ballot.votes) n known) k.phase) (λ _. refl)
+    told-if ExactClient (clients s c) s (event.SayTo c n) k (is_node_of (node_count s.ballots) n) (tells_in c n k k.phase) (Err fault.UnknownActor)
+    (λ known. go (node-known (node_count s.ballots) n known) k.phase) (λ _. refl)
   where
-    go : HasNode s.ballot n → (p : ExactClientPhase) → ClientTold s (event.SayTo c n) c (client_in k p) (tells_in c n (client_in k p) p)
+    go : HasAnyNode s.ballots n → (p : ExactClientPhase) → ClientTold s (event.SayTo c n) c (client_in k p) (tells_in c n (client_in k p) p)
     go known exact.Down = refl
     go known exact.Idle =
         told-if ExactClient (clients s c) s (event.SayTo c n) (client_in k exact.Idle) (k.kept == 0) (Err fault.NothingToSay) (says_one (client_in k exact.Idle) (message.Release n c k.kept))
         (λ _. refl) (λ some. speaking s c n (client_in k exact.Idle) (message.Release n c k.kept) known (releases k.kept k.tried (grind (arith, nat_tests))))
-    go known (exact.Chosen t) = refl
+    go known (exact.Chosen t place) = refl
     go known (exact.Asking p) = speaking s c n (client_in k (exact.Asking p)) (message.Request n p.ticket) known (asks k.kept k.tried (present_of p))
     go known (exact.Inside p) = speaking s c n (client_in k (exact.Inside p)) (message.Request n p.ticket) known (asks_inside k.kept k.tried (present_of p))
 
 -- Enter, and Leave
 
-pub enters-told : (s : Setting) (c : ℕ) (k : ExactClient) → ClientTold s (event.Enter c) c k (enters_in s.ballot k k.phase)
+pub enters-told : (s : Setting) (c : ℕ) (k : ExactClient) → ClientTold s (event.Enter c) c k (enters_in s.ballots k k.phase)
 enters-told s c k = go k.phase
   where
-    asking : (p : ExactPresent) → nat_le (needed s.ballot p.ticket.mode) (votes_of s.ballot (has_node p.granted)) ≡ true →
+    asking : (p : ExactPresent) → nat_le (needed (ballot_at s.ballots p.place) p.ticket.mode) (votes_of (ballot_at s.ballots p.place) (has_node p.granted)) ≡ true →
         ClientTold s (event.Enter c) c (client_in k (exact.Asking p)) (acts (client_in k (exact.Inside p)) effect.Inside)
     asking p enough =
-        acting s (event.Enter c) c (Enters s.ballot) (λ w v h. h) (client_in k (exact.Asking p)) (client_in k (exact.Inside p)) effect.Inside
+        acting s (event.Enter c) c (Enters s.ballots) (λ w v h. h) (client_in k (exact.Asking p)) (client_in k (exact.Inside p)) effect.Inside
         (enters k.kept k.tried (present_of p) (grind (arith, nat_tests))) (λ ok. record { kept = ok.kept; tried = ok.tried; chosen = tt }) refl (λ w. tt) (λ w. tt)
 
-    go : (p : ExactClientPhase) → ClientTold s (event.Enter c) c (client_in k p) (enters_in s.ballot (client_in k p) p)
+    go : (p : ExactClientPhase) → ClientTold s (event.Enter c) c (client_in k p) (enters_in s.ballots (client_in k p) p)
     go exact.Down = refl
     go exact.Idle = refl
-    go (exact.Chosen t) = refl
+    go (exact.Chosen t place) = refl
     go (exact.Asking p) =
-        told-if ExactClient (clients s c) s (event.Enter c) (client_in k (exact.Asking p)) (nat_le (needed s.ballot p.ticket.mode) (votes_of s.ballot (has_node p.granted)))
+        told-if ExactClient (clients s c) s (event.Enter c) (client_in k (exact.Asking p)) (nat_le (needed (ballot_at s.ballots p.place) p.ticket.mode) (votes_of (ballot_at s.ballots p.place) (has_node p.granted)))
         (acts (client_in k (exact.Inside p)) effect.Inside) (Err fault.NoQuorum) (asking p) (λ _. refl)
     go (exact.Inside p) = refl
 
@@ -161,7 +168,7 @@ leaves-told s c k = go k.phase
     go : (p : ExactClientPhase) → ClientTold s (event.Leave c) c (client_in k p) (leaves_in (client_in k p) p)
     go exact.Down = refl
     go exact.Idle = refl
-    go (exact.Chosen t) = refl
+    go (exact.Chosen t place) = refl
     go (exact.Asking p) = out (exact.Asking p) (gives_up k.kept k.tried (present_of p))
     go (exact.Inside p) = out (exact.Inside p) (leaves k.kept k.tried (present_of p))
 
@@ -178,7 +185,7 @@ client-falls-told s c k = go k.phase
     go : (p : ExactClientPhase) → ClientTold s (event.Fall (actor.Client c)) c (client_in k p) (client_falls_in (client_in k p) p)
     go exact.Down = refl
     go exact.Idle = up exact.Idle (λ e. let q : ClientIdle ≡ ClientDown = e in cc)
-    go (exact.Chosen t) = up (exact.Chosen t) (λ e. let q : Chosen t ≡ ClientDown = e in cc)
+    go (exact.Chosen t place) = up (exact.Chosen t place) (λ e. let q : Chosen t place ≡ ClientDown = e in cc)
     go (exact.Asking p) = up (exact.Asking p) (λ e. let q : Asking (present_of p) ≡ ClientDown = e in cc)
     go (exact.Inside p) = up (exact.Inside p) (λ e. let q : IsIn (present_of p) ≡ ClientDown = e in cc)
 
@@ -197,6 +204,6 @@ client-rises-told s c age k = go k.phase
     go : (p : ExactClientPhase) → ClientTold s (event.Rise (actor.Client c) age) c (client_in k p) (client_rises_in age (client_in k p) p)
     go exact.Down = down age k.tried
     go exact.Idle = refl
-    go (exact.Chosen t) = refl
+    go (exact.Chosen t place) = refl
     go (exact.Asking p) = refl
     go (exact.Inside p) = refl

@@ -18,10 +18,10 @@ pub record ModelLaws : Type 1 where
 
 abbrev pub DeedTold : Setting → Event → Deed → Type 0
 DeedTold s e (NodeDoes n turn) = (v : ExactNode) → NodeTold s e n v (turn v)
-DeedTold s e (ClientDoes c turn) = (k : ExactClient) → ClientTold s e c k (turn s.ballot k)
+DeedTold s e (ClientDoes c turn) = (k : ExactClient) → ClientTold s e c k (turn s.ballots k)
 
 pub deed-told : ModelLaws → (s : Setting) (e : Event) → DeedTold s e (deed_of e)
-deed-told laws s (event.Begin c m x) = begins-told s c m x
+deed-told laws s (event.Begin c m x place) = begins-told s c m x place
 deed-told laws s (event.Try (actor.Node n)) = tries-station-told s n
 deed-told laws s (event.Try (actor.Client c)) = tries-attempt-told s c
 deed-told laws s (event.Kept (actor.Node n)) = keeps-station-told s n

@@ -8,7 +8,7 @@ use Rattle.lock_messages.specs.declared.messages.Message.TheVariants as message
 use Rattle.lock_messages.specs.Messages.{is_for_client, named_node}
 use Rattle.lock_model.specs.declared.hearing.Heard.{Heard}
 use Rattle.lock_model.specs.declared.hearing.Heard.TheVariants as heard
-use Rattle.lock_model.specs.Ballots.{Ballot}
+use Rattle.lock_model.specs.Ballots.{Ballot, node_count}
 use Rattle.lock_model.specs.Hearing.{HearsOfTicket}
 use Rattle.lock_model.specs.ExactHearing.{heard_of_ticket, heard_at_rest, is_counted}
 use Rattle.lock_model.specs.Laws.{HearingOfTicketIsExact, HearingAtRestIsExact}
@@ -31,7 +31,7 @@ use Rattle.world_model.proofs.ClientTurns.{clients, ClientTold}
 grant-joins : (m : Message) (n : ℕ) (t : Ticket) (p : ExactPresent) → m ≡ message.Grant n t → present_of (with_vote (named_node m) p) ≡ gained m (present_of p)
 grant-joins m n t p e =
     subst (λ x. present_of (with_vote (named_node x) p) ≡ gained x (present_of p)) (sym e)
-    (λ i. record { ticket = p.ticket; granted = λ k. has_node-with_node p.granted n k i })
+    (λ i. record { ticket = p.ticket; place = p.place; granted = λ k. has_node-with_node p.granted n k i })
 
 -- the laws of hearing, as they are used here
 pub record HearingLaws : Type 1 where
@@ -39,13 +39,13 @@ pub record HearingLaws : Type 1 where
   pub at_rest : HearingAtRestIsExact
 
 -- with a ticket, asking or inside: into is the phase with what the client has of its attempt
-with-ticket : HearingLaws → (b : Ballot) (c : ℕ) (m : Message) (k : ExactClient) (into : ExactPresent → ExactClientPhase) (seen : Present → Client) → ((q : ExactPresent) → client_of (client_in k (into q)) ≡ seen (present_of q)) →
+with-ticket : HearingLaws → (b : List Ballot) (c : ℕ) (m : Message) (k : ExactClient) (into : ExactPresent → ExactClientPhase) (seen : Present → Client) → ((q : ExactPresent) → client_of (client_in k (into q)) ≡ seen (present_of q)) →
     (p : ExactPresent) →
-    (HearsOfTicket b p.ticket (has_node p.granted) m heard.Counted → Hears b c m (seen (present_of p)) (seen (gained m (present_of p)))) →
-    ((h : Heard) → HearsOfTicket b p.ticket (has_node p.granted) m h → h ≢ heard.Counted → Hears b c m (seen (present_of p)) (seen (present_of p))) →
+    (HearsOfTicket (node_count b) p.ticket (has_node p.granted) m heard.Counted → Hears b c m (seen (present_of p)) (seen (gained m (present_of p)))) →
+    ((h : Heard) → HearsOfTicket (node_count b) p.ticket (has_node p.granted) m h → h ≢ heard.Counted → Hears b c m (seen (present_of p)) (seen (present_of p))) →
     Hears b c m (client_of (client_in k (into p)))
-    (client_of (cond (is_counted (heard_of_ticket (length b.votes) p.ticket (has_node p.granted) m)) (client_in k (into (with_vote (named_node m) p))) (client_in k (into p))))
-with-ticket laws b c m k into seen are p counted passed = go (heard_of_ticket (length b.votes) p.ticket (has_node p.granted) m) refl
+    (client_of (cond (is_counted (heard_of_ticket (node_count b) p.ticket (has_node p.granted) m)) (client_in k (into (with_vote (named_node m) p))) (client_in k (into p))))
+with-ticket laws b c m k into seen are p counted passed = go (heard_of_ticket (node_count b) p.ticket (has_node p.granted) m) refl
   where
     before : ExactClient
     before = client_in k (into p)
@@ -53,13 +53,13 @@ with-ticket laws b c m k into seen are p counted passed = go (heard_of_ticket (l
     with : ExactClient
     with = client_in k (into (with_vote (named_node m) p))
 
-    from : (x : Heard) → heard_of_ticket (length b.votes) p.ticket (has_node p.granted) m ≡ x → HearsOfTicket b p.ticket (has_node p.granted) m x
-    from x e = (laws.of_ticket b p.ticket (has_node p.granted) m x).1 (sym e)
+    from : (x : Heard) → heard_of_ticket (node_count b) p.ticket (has_node p.granted) m ≡ x → HearsOfTicket (node_count b) p.ticket (has_node p.granted) m x
+    from x e = (laws.of_ticket (node_count b) p.ticket (has_node p.granted) m x).1 (sym e)
 
-    same : (x : Heard) → heard_of_ticket (length b.votes) p.ticket (has_node p.granted) m ≡ x → x ≢ heard.Counted → Hears b c m (client_of before) (client_of before)
+    same : (x : Heard) → heard_of_ticket (node_count b) p.ticket (has_node p.granted) m ≡ x → x ≢ heard.Counted → Hears b c m (client_of before) (client_of before)
     same x e apart = subst (λ d. Hears b c m d d) (sym (are p)) (passed x (from x e) apart)
 
-    go : (x : Heard) → heard_of_ticket (length b.votes) p.ticket (has_node p.granted) m ≡ x → Hears b c m (client_of before) (client_of (cond (is_counted x) with before))
+    go : (x : Heard) → heard_of_ticket (node_count b) p.ticket (has_node p.granted) m ≡ x → Hears b c m (client_of before) (client_of (cond (is_counted x) with before))
     go heard.Counted e =
         let h = from heard.Counted e in
         let after : seen (gained m (present_of p)) ≡ client_of with = ap seen (sym (grant-joins m h.0 p.ticket p h.2.1)) ∙ sym (are (with_vote (named_node m) p)) in
@@ -73,16 +73,16 @@ either-same : {A : Type 0} (b : Bool) (x : A) → cond b x x ≡ x
 either-same true x = refl
 either-same false x = refl
 
-hears-message : HearingLaws → (b : Ballot) (c : ℕ) (m : Message) (k : ExactClient) → is_down k.phase ≡ false → Hears b c m (client_of k) (client_of (after_hearing (length b.votes) c k m))
+hears-message : HearingLaws → (b : List Ballot) (c : ℕ) (m : Message) (k : ExactClient) → is_down k.phase ≡ false → Hears b c m (client_of k) (client_of (after_hearing (node_count b) c k m))
 hears-message laws b c m k up = go k.phase up
   where
-    go : (p : ExactClientPhase) → is_down p ≡ false → Hears b c m (client_of (client_in k p)) (client_of (after_hearing (length b.votes) c (client_in k p) m))
+    go : (p : ExactClientPhase) → is_down p ≡ false → Hears b c m (client_of (client_in k p)) (client_of (after_hearing (node_count b) c (client_in k p) m))
     go exact.Down e = absurd (let q : true ≡ false = e in cc)
     go exact.Idle e =
-        let x = heard_at_rest (length b.votes) c k.kept m in
+        let x = heard_at_rest (node_count b) c k.kept m in
         let idle = client_in k exact.Idle in
-        subst (λ (d : ExactClient). Hears b c m (client_of idle) (client_of d)) (sym (either-same (is_counted x) idle)) (passes_idle k.kept k.tried x ((laws.at_rest b c k.kept m x).1 refl))
-    go (exact.Chosen t) e = passes_chosen k.kept k.tried t
+        subst (λ (d : ExactClient). Hears b c m (client_of idle) (client_of d)) (sym (either-same (is_counted x) idle)) (passes_idle k.kept k.tried x ((laws.at_rest (node_count b) c k.kept m x).1 refl))
+    go (exact.Chosen t place) e = passes_chosen k.kept k.tried t place
     go (exact.Asking p) e =
         with-ticket laws b c m k exact.Asking (λ q. record { kept = k.kept; tried = k.tried; phase = Asking q }) (λ q. refl) p
         (counts k.kept k.tried (present_of p)) (passes k.kept k.tried (present_of p))
@@ -93,7 +93,7 @@ hears-message laws b c m k up = go k.phase up
 counts-sound : (n : ℕ) (p : ExactClientPhase) → IsSoundChoice p → IsSoundChoice (counts_in n p)
 counts-sound n exact.Down h = h
 counts-sound n exact.Idle h = h
-counts-sound n (exact.Chosen t) h = h
+counts-sound n (exact.Chosen t place) h = h
 counts-sound n (exact.Asking p) h = h
 counts-sound n (exact.Inside p) h = h
 
@@ -104,17 +104,17 @@ hears-sound nodes c k m ok = go (is_counted (heard_in nodes c k.kept k.phase m))
     go true = record { kept = ok.kept; tried = ok.tried; chosen = counts-sound (named_node m) k.phase ok.chosen }
     go false = ok
 
-pub hears-told : HearingLaws → (s : Setting) (c number : ℕ) (k : ExactClient) → ClientTold s (event.Hear c number) c k (hears (length s.ballot.votes) c number k)
+pub hears-told : HearingLaws → (s : Setting) (c number : ℕ) (k : ExactClient) → ClientTold s (event.Hear c number) c k (hears (node_count s.ballots) c number k)
 hears-told laws s c number k =
     told-if _ (clients s c) s (event.Hear c number) k (is_down k.phase) (Err fault.Down)
     (reads number (λ m. is_for_client m c) (after_hearing nodes c k) (λ m. effect.Heard m (heard_in nodes c k.kept k.phase m))) (λ _. refl) heard_it
   where
     nodes : ℕ
-    nodes = length s.ballot.votes
+    nodes = node_count s.ballots
 
     heard_it : is_down k.phase ≡ false → ClientTold s (event.Hear c number) c k (reads number (λ m. is_for_client m c) (after_hearing nodes c k) (λ m. effect.Heard m (heard_in nodes c k.kept k.phase m)))
     heard_it up = record {
-      happens = λ m mine ok w v there of. (m, there, mine, (client_of k, client_of (after_hearing nodes c k m), hears-message laws s.ballot c m k up, of));
+      happens = λ m mine ok w v there of. (m, there, mine, (client_of k, client_of (after_hearing nodes c k m), hears-message laws s.ballots c m k up, of));
       sound = λ m mine ok. hears-sound nodes c k m ok;
       kind = λ m mine. (m, heard_in nodes c k.kept k.phase m, mine, refl);
       numbers = λ w m. tt;

@@ -8,7 +8,7 @@ use Rattle.lock_messages.specs.declared.tickets.Mode.{Mode}
 use Rattle.lock_messages.specs.declared.tickets.Mode.TheVariants.{Write}
 use Rattle.lock_messages.specs.declared.tickets.Ticket.{Ticket}
 use Rattle.lock_model.specs.Decisions.{Among}
-use Rattle.lock_model.specs.Laws.{EnoughSetsShareANode}
+use Rattle.lock_model.specs.Laws.{EnoughSetsShareANodeOfBoth, AnyTwoCross}
 use Rattle.world_model.specs.declared.exact.ExactClient.{ExactClient}
 use Rattle.world_model.specs.declared.exact.ExactPresent.{ExactPresent}
 use Rattle.world_model.specs.declared.exact.ExactClientPhase.{ExactClientPhase}
@@ -76,7 +76,7 @@ has-ticket x k t m = go k.phase refl m
     go : (p : ExactClientPhase) → k.phase ≡ p → Among t (ticket_for x (ticket_in p)) → HasTicket x k t
     go client.Down is h = absurd h
     go client.Idle is h = absurd h
-    go (client.Chosen u) is h = absurd h
+    go (client.Chosen u place) is h = absurd h
     go (client.Asking p) is h = absurd h
     go (client.Inside p) is h = for p (bytes_eq p.ticket.resource x) is refl h
 
@@ -103,8 +103,8 @@ client-inside-world w x c k t is has = (
 
 own-client : (w : ExactWorld) → IsSound w → (x : List ℕ) (c : ℕ) (k : ExactClient) (t : Ticket) → numbered w.clients c ≡ Some k → HasTicket x k t → t.client ≡ c
 own-client w sound x c k t is has =
-    let safe = subst (λ (y : Client). IsSafeTicket w.ballot (forget w) c y.kept y.phase) (ap client_numbered is) (sound.safe.clients c).ticket in
-    ap (λ (u : Ticket). u.client) (sym has.ticket) ∙ (subst (λ p. IsSafeTicket w.ballot (forget w) c k.kept p) (ap client_phase_of has.phase) safe).0.client
+    let safe = subst (λ (y : Client). IsSafeTicket w.ballots (forget w) c y.kept y.phase) (ap client_numbered is) (sound.safe.clients c).ticket in
+    ap (λ (u : Ticket). u.client) (sym has.ticket) ∙ (subst (λ p. IsSafeTicket w.ballots (forget w) c k.kept p) (ap client_phase_of has.phase) safe).0.client
 
 pub inside-is-set : (w : ExactWorld) → IsSound w → (x : List ℕ) (c : ℕ) (m : Mode) → IsInside (forget w) c m x ↔ ((t : Ticket) × Among t (inside x w) × (t.client ≡ c) × (t.mode ≡ m))
 inside-is-set w sound x c m = (to, from)
@@ -129,8 +129,8 @@ inside-is-set w sound x c m = (to, from)
         let d : place.0 + 1 ≡ c = sym (own-client w sound x (place.0 + 1) part.0 h.0 is has) ∙ h.2 in
         subst (λ mode. IsInside (forget w) c mode x) h.3 (subst (λ e. IsInside (forget w) e h.0.mode x) d (client-inside-world w x (place.0 + 1) part.0 h.0 is has))
 
-pub writer-inside-only : EnoughSetsShareANode → (w : ExactWorld) → IsSound w → (x : List ℕ) (t : Ticket) → Among t (inside x w) → t.mode ≡ Write → inside x w ≡ t ∷ []
-writer-inside-only share w sound x t m writes = only-one (tickets x) w.clients place.0 part.0 t place.1 (is-listed x part.0 t has) others
+pub writer-inside-only : EnoughSetsShareANodeOfBoth → AnyTwoCross → (w : ExactWorld) → IsSound w → (x : List ℕ) (t : Ticket) → Among t (inside x w) → t.mode ≡ Write → inside x w ≡ t ∷ []
+writer-inside-only share two w sound x t m writes = only-one (tickets x) w.clients place.0 part.0 t place.1 (is-listed x part.0 t has) others
   where
     part : (k : ExactClient) × Among k w.clients × Among t (tickets x k)
     part = among-part (tickets x) w.clients t m
@@ -151,5 +151,5 @@ writer-inside-only share w sound x t m writes = only-one (tickets x) w.clients p
         go (inl e) = e
         go (inr h) =
             let there = client-inside-world w x (j + 1) k h.0 (got-numbered w.clients j k is) h.1 in
-            let same : j + 1 ≡ place.0 + 1 = (exclusive share (setting_of w) (forget w) sound.crosses sound.safe).alone (place.0 + 1) (j + 1) h.0.mode x here there in
+            let same : j + 1 ≡ place.0 + 1 = (exclusive share two (setting_of w) (forget w) sound.crosses sound.safe).alone (place.0 + 1) (j + 1) h.0.mode x here there in
             absurd (apart (omega (arith, same)))

@@ -29,34 +29,34 @@ history-setting laws (p ∷ history) w v h = history-setting laws history h.0 v 
 
 -- one event, and then the rest
 one-more : (w u : ExactWorld) (p : Event × Effect) (who : Actor) (own : List (Event × Effect)) → DeedDone w p.0 (deed_of p.0) p.1 u → (b : Bool) → is_own who p.0 ≡ b →
-    local_part w.ballot (part u who) own ≡ local_part w.ballot (part w who) (cond b (p ∷ own) own)
+    local_part w.ballots (part u who) own ≡ local_part w.ballots (part w who) (cond b (p ∷ own) own)
 one-more w u p who own done true e =
     let same : actor_of p.0 ≡ who = places-apart (actor_of p.0) who (eqb-true (place (actor_of p.0)) (place who) e) in
-    let is : part u who ≡ after_own w.ballot p.0 p.1 (part w who) = subst (λ a. part u a ≡ after_own w.ballot p.0 p.1 (part w a)) same done.own in
-    ap (λ x. local_part w.ballot x own) is
+    let is : part u who ≡ after_own w.ballots p.0 p.1 (part w who) = subst (λ a. part u a ≡ after_own w.ballots p.0 p.1 (part w a)) same done.own in
+    ap (λ x. local_part w.ballots x own) is
 one-more w u p who own done false e =
     let apart : who ≢ actor_of p.0 = λ q. let z : false ≡ true = sym e ∙ eq-eqb (place (actor_of p.0)) (place who) (ap place (sym q)) in cc in
-    ap (λ x. local_part w.ballot x own) (done.others who apart)
+    ap (λ x. local_part w.ballots x own) (done.others who apart)
 
-pub parts-local : ModelLaws → (history : List (Event × Effect)) (w v : ExactWorld) → IsHistory w history v → (who : Actor) → part v who ≡ local_part w.ballot (part w who) (own_events who history)
+pub parts-local : ModelLaws → (history : List (Event × Effect)) (w v : ExactWorld) → IsHistory w history v → (who : Actor) → part v who ≡ local_part w.ballots (part w who) (own_events who history)
 parts-local laws [] w v h who = ap (λ x. part x who) h
 parts-local laws (p ∷ history) w v h who =
     let u = h.0 in
     let done = step-done laws w p.0 _ h.1 in
-    let ballot : u.ballot ≡ w.ballot = ap (λ (s : Setting). s.ballot) done.setting in
+    let ballot : u.ballots ≡ w.ballots = ap (λ (s : Setting). s.ballots) done.setting in
     parts-local laws history u v h.2 who ∙ ap (λ b. local_part b (part u who) (own_events who history)) ballot ∙ one-more w u p who (own_events who history) done (is_own who p.0) refl
 
-local-refusal : ModelLaws → (w : ExactWorld) (e : Event) (o : Option StepFault) → own_refusal w.ballot e (part w (actor_of e)) ≡ o → IsLocalRefusal e o (refusal w e)
+local-refusal : ModelLaws → (w : ExactWorld) (e : Event) (o : Option StepFault) → own_refusal w.ballots e (part w (actor_of e)) ≡ o → IsLocalRefusal e o (refusal w e)
 local-refusal laws w e None h = list-second laws w e h
 local-refusal laws w e (Some f) h = own-first laws w e f h
 
 pub refusals-local : ModelLaws → (history : List (Event × Effect)) (w v : ExactWorld) → IsHistory w history v → (e : Event) →
-    IsLocalRefusal e (own_refusal w.ballot e (local_part w.ballot (part w (actor_of e)) (own_events (actor_of e) history))) (refusal v e)
+    IsLocalRefusal e (own_refusal w.ballots e (local_part w.ballots (part w (actor_of e)) (own_events (actor_of e) history))) (refusal v e)
 refusals-local laws history w v h e =
-    let ballot : v.ballot ≡ w.ballot = ap (λ (s : Setting). s.ballot) (history-setting laws history w v h) in
-    let own : own_refusal v.ballot e (part v (actor_of e)) ≡ own_refusal w.ballot e (local_part w.ballot (part w (actor_of e)) (own_events (actor_of e) history)) =
-    ap (λ b. own_refusal b e (part v (actor_of e))) ballot ∙ ap (own_refusal w.ballot e) (parts-local laws history w v h (actor_of e)) in
-    local-refusal laws v e (own_refusal w.ballot e (local_part w.ballot (part w (actor_of e)) (own_events (actor_of e) history))) own
+    let ballot : v.ballots ≡ w.ballots = ap (λ (s : Setting). s.ballots) (history-setting laws history w v h) in
+    let own : own_refusal v.ballots e (part v (actor_of e)) ≡ own_refusal w.ballots e (local_part w.ballots (part w (actor_of e)) (own_events (actor_of e) history)) =
+    ap (λ b. own_refusal b e (part v (actor_of e))) ballot ∙ ap (own_refusal w.ballots e) (parts-local laws history w v h (actor_of e)) in
+    local-refusal laws v e (own_refusal w.ballots e (local_part w.ballots (part w (actor_of e)) (own_events (actor_of e) history))) own
 
 pub histories-run : ModelLaws → (history : List (Event × Effect)) (w v : ExactWorld) → IsSound w → IsHistory w history v → IsRunOf w history v
 histories-run laws [] w v sound h = record { run = ap forget h; setting = ap setting_of h; sound = subst IsSound (sym h) sound }

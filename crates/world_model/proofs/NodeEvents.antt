@@ -18,10 +18,10 @@ use Rattle.world_model.proofs.DecisionSteps.{decided-safely}
 
 -- what is known of tickets in a safe world
 
-present-kept : (b : Ballot) (w : World) (c kept : ℕ) (p : ClientPhase) (u : Ticket) → IsSafeTicket b w c kept p → IsPresentIn u p → u.attempt ≡ kept
+present-kept : (b : List Ballot) (w : World) (c kept : ℕ) (p : ClientPhase) (u : Ticket) → IsSafeTicket b w c kept p → IsPresentIn u p → u.attempt ≡ kept
 present-kept b w c kept ClientDown u h p = absurd p
 present-kept b w c kept ClientIdle u h p = absurd p
-present-kept b w c kept (Chosen t) u h p = absurd p
+present-kept b w c kept (Chosen t place) u h p = absurd p
 present-kept b w c kept (Asking asked) u h p = ap (λ (x : Ticket). x.attempt) (sym p) ∙ h.attempt_is
 present-kept b w c kept (IsIn asked) u h p = ap (λ (x : Ticket). x.attempt) (sym p) ∙ h.0.attempt_is
 
@@ -29,7 +29,7 @@ pub asks-once : (s : Setting) (w : World) → IsSafe s w → AsksOnce w
 asks-once s w safe = record {
   one_ticket = safe.one_ticket;
   asked = safe.asked;
-  latest = λ t u h p. omega (arith, safe.asked t h, present-kept s.ballot w t.client (w.clients t.client).kept (w.clients t.client).phase u (safe.clients t.client).ticket p);
+  latest = λ t u h p. omega (arith, safe.asked t h, present-kept s.ballots w t.client (w.clients t.client).kept (w.clients t.client).phase u (safe.clients t.client).ticket p);
 }
 
 -- A node that says good replies, or nothing, carries the rest of the world over.
@@ -73,8 +73,8 @@ node-keeps s n w before after said v st safe of good own = all-safe s w v safe c
     nodes : (k : ℕ) → IsSafeNode v k (v.nodes k)
     nodes k = at k (cases_eq k n)
 
-    clients : (c : ℕ) → IsSafeClient s.ballot v c (v.clients c)
-    clients c = subst (IsSafeClient s.ballot v c) (sym (of.clients c)) (client-still s.ballot w v carries c (w.clients c) (safe.clients c))
+    clients : (c : ℕ) → IsSafeClient s.ballots v c (v.clients c)
+    clients c = subst (IsSafeClient s.ballots v c) (sym (of.clients c)) (client-still s.ballots w v carries c (w.clients c) (safe.clients c))
 
 nothing-said : (n : ℕ) (st : Station) → AreGoodReplies n st []
 nothing-said n st r m = absurd m

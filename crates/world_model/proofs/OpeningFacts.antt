@@ -13,7 +13,7 @@ use Rattle.lock_model.specs.declared.entries.Live.{Live}
 use Rattle.lock_model.specs.declared.entries.Status.TheVariants.{Waiting, Holding}
 use Rattle.lock_model.specs.declared.problems.Problem.{Problem}
 use Rattle.lock_model.specs.declared.problems.Problem.TheVariants.{First}
-use Rattle.lock_model.specs.Ballots.{Ballot, Crosses}
+use Rattle.lock_model.specs.Ballots.{Ballot, AllCross, node_count}
 use Rattle.lock_model.specs.Stations.{Free, Has, IsLawful, IsCaused, stranger}
 use Rattle.lock_model.specs.Decisions.{Among}
 use Rattle.lock_model.specs.ExactStations.{IsAboveFloor, entry_of, claim_of, standing_of, meaning}
@@ -47,7 +47,7 @@ none-in-range : (clients : ℕ) → AllByRecursion (λ a. a ≤ MAX_ATTEMPT) (re
 none-in-range zero = tt
 none-in-range (suc clients) = (zero-le, none-in-range clients)
 
-pub opening-resumable : (b : Ballot) (problems : List Problem) (clients : ℕ) → Crosses b → length problems ≡ length b.votes → IsResumable b (map empty_station problems) (replicate clients 0)
+pub opening-resumable : (b : List Ballot) (problems : List Problem) (clients : ℕ) → AllCross b → length problems ≡ node_count b → IsResumable b (map empty_station problems) (replicate clients 0)
 opening-resumable b problems clients crosses many = record {
   crosses = crosses;
   nodes = length-map problems empty_station ∙ many;
@@ -66,7 +66,7 @@ image-of {A} {B} f P xs all k y h = go (numbered xs k) refl (sym (numbered-map f
 
 -- what stands in a world that was resumed
 
-module _ (b : Ballot) (stations : List ExactStation) (attempts : List ℕ) where
+module _ (b : List Ballot) (stations : List ExactStation) (attempts : List ℕ) where
   node-is : (n : ℕ) → (forget (resumed b stations attempts)).nodes n ≡ node_numbered (option_map down_node (numbered stations n))
   node-is n = ap node_numbered (numbered-map down_node stations n)
 
@@ -127,7 +127,7 @@ station-is-within attempts s c sound test = go (entry_of s.entries c) refl
         subst (λ d. IsWithin (kept_attempt attempts d) (standing_of (Some e))) found.1
         (entry-is-within attempts e (each-among IsAboveFloor s.entries e sound.well_formed.attempts found.0) (all-at (entry_within attempts) s.entries e test found.0))
 
-pub resumed-lawful : (b : Ballot) (stations : List ExactStation) (attempts : List ℕ) → IsResumable b stations attempts →
+pub resumed-lawful : (b : List Ballot) (stations : List ExactStation) (attempts : List ℕ) → IsResumable b stations attempts →
     IsLawfulOpening (setting_of (resumed b stations attempts)) (forget (resumed b stations attempts))
 resumed-lawful b stations attempts ok = record {
   nodes_down = λ n. ap (λ (v : Node). v.phase) (node-is b stations attempts n) ∙ node-down b stations attempts (numbered stations n);
@@ -166,7 +166,7 @@ resumed-lawful b stations attempts ok = record {
 
 -- so it is sound
 
-pub resumed-sound : (b : Ballot) (stations : List ExactStation) (attempts : List ℕ) → IsResumable b stations attempts → IsSound (resumed b stations attempts)
+pub resumed-sound : (b : List Ballot) (stations : List ExactStation) (attempts : List ℕ) → IsResumable b stations attempts → IsSound (resumed b stations attempts)
 resumed-sound b stations attempts ok = record {
   crosses = ok.crosses;
   nodes = length-map stations down_node ∙ ok.nodes;
@@ -189,7 +189,7 @@ entry-test attempts e above within =
     let kept = kept_attempt attempts e.client in
     both-true (nat_le e.floor kept) (live_within kept e.live) (le-leb e.floor kept within.floor) (live-test kept e.floor e.live above within.live)
 
-pub only-within : (b : Ballot) (stations : List ExactStation) (attempts : List ℕ) → AllByRecursion IsSoundStation stations →
+pub only-within : (b : List Ballot) (stations : List ExactStation) (attempts : List ℕ) → AllByRecursion IsSoundStation stations →
     IsLawfulOpening (setting_of (resumed b stations attempts)) (forget (resumed b stations attempts)) → stations_within attempts stations ≡ true
 only-within b stations attempts sound lawful =
     all-from (λ (s : ExactStation). entries_within attempts s.entries) stations (λ s m. all-from (entry_within attempts) s.entries (λ e among. test s m e among))

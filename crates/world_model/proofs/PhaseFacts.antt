@@ -1,11 +1,11 @@
 -- Which exact phase stands for a phase, and what each relation needs of the actor before it.
-use Rattle.std.proofs.Common.{◌≡◌, ◌≢◌, ℕ, ◌<◌, Bool, List, Option, Some, None, refl, ap}
+use Rattle.std.proofs.Common.{◌≡◌, ◌≢◌, ℕ, ◌<◌, Bool, List, Option, Some, None, refl, ap, ◌∙◌}
 use Rattle.std.specs.Option.{option_map}
 use Rattle.lock_messages.specs.declared.ids.TheConstants.{MAX_ATTEMPT}
 use Rattle.lock_messages.specs.declared.tickets.Mode.{Mode}
 use Rattle.lock_messages.specs.declared.tickets.Ticket.{Ticket}
 use Rattle.lock_messages.specs.declared.messages.Message.{Message}
-use Rattle.lock_model.specs.Ballots.{Ballot, IsEnough}
+use Rattle.lock_model.specs.Ballots.{Ballot, HasPlace, IsEnough, ballot_at}
 use Rattle.lock_model.specs.Stations.{Station}
 use Rattle.vote_weights.specs.Sets.{has_node}
 use Rattle.world_model.specs.declared.events.Age.TheVariants.{Old, New}
@@ -23,23 +23,26 @@ use Rattle.world_model.specs.Forgetting.{station_of, node_phase_of, present_of, 
 pub client-idle : (p : ExactClientPhase) → client_phase_of p ≡ ClientIdle → p ≡ client.Idle
 client-idle client.Down e = absurd (let q : ClientDown ≡ ClientIdle = e in cc)
 client-idle client.Idle e = refl
-client-idle (client.Chosen t) e = absurd (let q : Chosen t ≡ ClientIdle = e in cc)
+client-idle (client.Chosen t place) e = absurd (let q : Chosen t place ≡ ClientIdle = e in cc)
 client-idle (client.Asking p) e = absurd (let q : Asking (present_of p) ≡ ClientIdle = e in cc)
 client-idle (client.Inside p) e = absurd (let q : IsIn (present_of p) ≡ ClientIdle = e in cc)
 
 pub client-down : (p : ExactClientPhase) → client_phase_of p ≡ ClientDown → p ≡ client.Down
 client-down client.Down e = refl
 client-down client.Idle e = absurd (let q : ClientIdle ≡ ClientDown = e in cc)
-client-down (client.Chosen t) e = absurd (let q : Chosen t ≡ ClientDown = e in cc)
+client-down (client.Chosen t place) e = absurd (let q : Chosen t place ≡ ClientDown = e in cc)
 client-down (client.Asking p) e = absurd (let q : Asking (present_of p) ≡ ClientDown = e in cc)
 client-down (client.Inside p) e = absurd (let q : IsIn (present_of p) ≡ ClientDown = e in cc)
 
-pub client-chosen : (p : ExactClientPhase) (t : Ticket) → client_phase_of p ≡ Chosen t → p ≡ client.Chosen t
-client-chosen client.Down t e = absurd (let q : ClientDown ≡ Chosen t = e in cc)
-client-chosen client.Idle t e = absurd (let q : ClientIdle ≡ Chosen t = e in cc)
-client-chosen (client.Chosen s) t e = let q : Chosen s ≡ Chosen t = e in let r : s ≡ t = cc in ap client.Chosen r
-client-chosen (client.Asking p) t e = absurd (let q : Asking (present_of p) ≡ Chosen t = e in cc)
-client-chosen (client.Inside p) t e = absurd (let q : IsIn (present_of p) ≡ Chosen t = e in cc)
+pub client-chosen : (p : ExactClientPhase) (t : Ticket) (place : ℕ) → client_phase_of p ≡ Chosen t place → p ≡ client.Chosen t place
+client-chosen client.Down t place e = absurd (let q : ClientDown ≡ Chosen t place = e in cc)
+client-chosen client.Idle t place e = absurd (let q : ClientIdle ≡ Chosen t place = e in cc)
+client-chosen (client.Chosen s at) t place e =
+    let q : Chosen s at ≡ Chosen t place = e in
+    let r : s ≡ t = cc in
+    let z : at ≡ place = cc in ap (λ u. client.Chosen u at) r ∙ ap (client.Chosen t) z
+client-chosen (client.Asking p) t place e = absurd (let q : Asking (present_of p) ≡ Chosen t place = e in cc)
+client-chosen (client.Inside p) t place e = absurd (let q : IsIn (present_of p) ≡ Chosen t place = e in cc)
 
 -- what is an exact phase, where it asks or is inside
 abbrev pub AskingAs : Present → ExactClientPhase → Type 0
@@ -48,7 +51,7 @@ AskingAs a phase = (p : ExactPresent) × (phase ≡ client.Asking p) × (present
 pub client-asking : (phase : ExactClientPhase) (a : Present) → client_phase_of phase ≡ Asking a → AskingAs a phase
 client-asking client.Down a e = absurd (let q : ClientDown ≡ Asking a = e in cc)
 client-asking client.Idle a e = absurd (let q : ClientIdle ≡ Asking a = e in cc)
-client-asking (client.Chosen t) a e = absurd (let q : Chosen t ≡ Asking a = e in cc)
+client-asking (client.Chosen t place) a e = absurd (let q : Chosen t place ≡ Asking a = e in cc)
 client-asking (client.Asking p) a e =
     let q : Asking (present_of p) ≡ Asking a = e in
     let same : present_of p ≡ a = cc in (p, refl, same)
@@ -60,7 +63,7 @@ InsideAs a phase = (p : ExactPresent) × (phase ≡ client.Inside p) × (present
 pub client-inside : (phase : ExactClientPhase) (a : Present) → client_phase_of phase ≡ IsIn a → InsideAs a phase
 client-inside client.Down a e = absurd (let q : ClientDown ≡ IsIn a = e in cc)
 client-inside client.Idle a e = absurd (let q : ClientIdle ≡ IsIn a = e in cc)
-client-inside (client.Chosen t) a e = absurd (let q : Chosen t ≡ IsIn a = e in cc)
+client-inside (client.Chosen t place) a e = absurd (let q : Chosen t place ≡ IsIn a = e in cc)
 client-inside (client.Asking p) a e = absurd (let q : Asking (present_of p) ≡ IsIn a = e in cc)
 client-inside (client.Inside p) a e =
     let q : IsIn (present_of p) ≡ IsIn a = e in
@@ -68,14 +71,14 @@ client-inside (client.Inside p) a e =
 
 -- what each relation needs of the actor before it
 
-pub begins-needs : {c : ℕ} {m : Mode} {x : List ℕ} {before after : Client} → Begins c m x before after → (before.phase ≡ ClientIdle) × (before.kept < MAX_ATTEMPT)
-begins-needs (begins kept tried below) = (refl, below)
+pub begins-needs : {b : List Ballot} {c : ℕ} {m : Mode} {x : List ℕ} {place : ℕ} {before after : Client} → Begins b c m x place before after → (before.phase ≡ ClientIdle) × (before.kept < MAX_ATTEMPT) × HasPlace b place
+begins-needs (begins kept tried below placed) = (refl, below, placed)
 
-pub tries-needs : {before after : Client} → TriesAttempt before after → (t : Ticket) × (before.phase ≡ Chosen t) × (before.tried ≡ None)
-tries-needs (tries_attempt kept t) = (t, refl, refl)
+pub tries-needs : {before after : Client} → TriesAttempt before after → (t : Ticket) × (place : ℕ) × (before.phase ≡ Chosen t place) × (before.tried ≡ None)
+tries-needs (tries_attempt kept t place) = (t, place, refl, refl)
 
-pub keeps-needs : {before after : Client} → KeepsAttempt before after → (t : Ticket) × (a : ℕ) × (before.phase ≡ Chosen t) × (before.tried ≡ Some a)
-keeps-needs (keeps_attempt kept a t) = (t, a, refl, refl)
+pub keeps-needs : {before after : Client} → KeepsAttempt before after → (t : Ticket) × (place : ℕ) × (a : ℕ) × (before.phase ≡ Chosen t place) × (before.tried ≡ Some a)
+keeps-needs (keeps_attempt kept a t place) = (t, place, a, refl, refl)
 
 -- a client may speak
 pub data MaySpeak (before : Client) : Type 0 where
@@ -88,15 +91,15 @@ tells-needs (asks kept tried p) = speaks_asking p refl
 tells-needs (asks_inside kept tried p) = speaks_inside p refl
 tells-needs (releases kept tried some) = speaks_idle refl some
 
-pub hears-needs : {b : Ballot} {c : ℕ} {m : Message} {before after : Client} → Hears b c m before after → before.phase ≢ ClientDown
+pub hears-needs : {b : List Ballot} {c : ℕ} {m : Message} {before after : Client} → Hears b c m before after → before.phase ≢ ClientDown
 hears-needs (counts kept tried p h) = λ e. let q : Asking p ≡ ClientDown = e in cc
 hears-needs (counts_inside kept tried p h) = λ e. let q : IsIn p ≡ ClientDown = e in cc
 hears-needs (passes kept tried p x h apart) = λ e. let q : Asking p ≡ ClientDown = e in cc
 hears-needs (passes_inside kept tried p x h apart) = λ e. let q : IsIn p ≡ ClientDown = e in cc
 hears-needs (passes_idle kept tried x h) = λ e. let q : ClientIdle ≡ ClientDown = e in cc
-hears-needs (passes_chosen kept tried t) = λ e. let q : Chosen t ≡ ClientDown = e in cc
+hears-needs (passes_chosen kept tried t place) = λ e. let q : Chosen t place ≡ ClientDown = e in cc
 
-pub enters-needs : {b : Ballot} {before after : Client} → Enters b before after → (p : Present) × (before.phase ≡ Asking p) × IsEnough b p.ticket.mode p.granted
+pub enters-needs : {b : List Ballot} {before after : Client} → Enters b before after → (p : Present) × (before.phase ≡ Asking p) × IsEnough (ballot_at b p.place) p.ticket.mode p.granted
 enters-needs (enters kept tried p enough) = (p, refl, enough)
 
 -- a client has something to leave

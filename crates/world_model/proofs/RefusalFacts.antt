@@ -50,27 +50,27 @@ list-of-turn A q st e w into before (Reads number is_mine after effect) told = g
 
 -- of a deed
 
-deed-own : (w : ExactWorld) (e : Event) (d : Deed) (f : StepFault) → DeedTold (setting_of w) e d → refused_in w.ballot d (part w (actor_in d)) ≡ Some f →
+deed-own : (w : ExactWorld) (e : Event) (d : Deed) (f : StepFault) → DeedTold (setting_of w) e d → refused_in w.ballots d (part w (actor_in d)) ≡ Some f →
     (refusal_of (done_by w d) ≡ Some f) × (is_own_fault f ≡ true)
 deed-own w e (NodeDoes n turn) f told h = go (numbered w.nodes n) h
   where
-    go : (o : Option ExactNode) → refused_in w.ballot (NodeDoes n turn) (node_part o) ≡ Some f → (refusal_of (by_actor w (with_node_at w n) o turn) ≡ Some f) × (is_own_fault f ≡ true)
+    go : (o : Option ExactNode) → refused_in w.ballots (NodeDoes n turn) (node_part o) ≡ Some f → (refusal_of (by_actor w (with_node_at w n) o turn) ≡ Some f) × (is_own_fault f ≡ true)
     go None z = (z, (let p : Some fault.UnknownActor ≡ Some f = z in let same : fault.UnknownActor ≡ f = cc in subst (λ x. is_own_fault x ≡ true) same refl))
     go (Some v) z = own-of-turn ExactNode (nodes (setting_of w) n) (setting_of w) e w (with_node_at w n) v (turn v) f (told v) z
 deed-own w e (ClientDoes c turn) f told h = go (numbered w.clients c) h
   where
-    go : (o : Option ExactClient) → refused_in w.ballot (ClientDoes c turn) (client_part o) ≡ Some f → (refusal_of (by_actor w (with_client_at w c) o (turn w.ballot)) ≡ Some f) × (is_own_fault f ≡ true)
+    go : (o : Option ExactClient) → refused_in w.ballots (ClientDoes c turn) (client_part o) ≡ Some f → (refusal_of (by_actor w (with_client_at w c) o (turn w.ballots)) ≡ Some f) × (is_own_fault f ≡ true)
     go None z = (z, (let p : Some fault.UnknownActor ≡ Some f = z in let same : fault.UnknownActor ≡ f = cc in subst (λ x. is_own_fault x ≡ true) same refl))
-    go (Some k) z = own-of-turn ExactClient (clients (setting_of w) c) (setting_of w) e w (with_client_at w c) k (turn w.ballot k) f (told k) z
+    go (Some k) z = own-of-turn ExactClient (clients (setting_of w) c) (setting_of w) e w (with_client_at w c) k (turn w.ballots k) f (told k) z
 
-deed-list : (w : ExactWorld) (e : Event) (d : Deed) → DeedTold (setting_of w) e d → refused_in w.ballot d (part w (actor_in d)) ≡ None → OnlyList e (refusal_of (done_by w d))
+deed-list : (w : ExactWorld) (e : Event) (d : Deed) → DeedTold (setting_of w) e d → refused_in w.ballots d (part w (actor_in d)) ≡ None → OnlyList e (refusal_of (done_by w d))
 deed-list w e (NodeDoes n turn) told h = go (numbered w.nodes n) h
   where
     turned : (v : ExactNode) (ts : Turns ExactNode) → Told ExactNode (nodes (setting_of w) n) (setting_of w) e v ts → refusal_of ts ≡ None → OnlyList e (refusal_of (finishes w (with_node_at w n) ts))
     turned v (Err f) t z = absurd (let p : Some f ≡ None = z in cc)
     turned v (Ok x) t z = list-of-turn ExactNode (nodes (setting_of w) n) (setting_of w) e w (with_node_at w n) v x t
 
-    go : (o : Option ExactNode) → refused_in w.ballot (NodeDoes n turn) (node_part o) ≡ None → OnlyList e (refusal_of (by_actor w (with_node_at w n) o turn))
+    go : (o : Option ExactNode) → refused_in w.ballots (NodeDoes n turn) (node_part o) ≡ None → OnlyList e (refusal_of (by_actor w (with_node_at w n) o turn))
     go None z = absurd (let p : Some fault.UnknownActor ≡ None = z in cc)
     go (Some v) z = turned v (turn v) (told v) z
 deed-list w e (ClientDoes c turn) told h = go (numbered w.clients c) h
@@ -79,17 +79,17 @@ deed-list w e (ClientDoes c turn) told h = go (numbered w.clients c) h
     turned k (Err f) t z = absurd (let p : Some f ≡ None = z in cc)
     turned k (Ok x) t z = list-of-turn ExactClient (clients (setting_of w) c) (setting_of w) e w (with_client_at w c) k x t
 
-    go : (o : Option ExactClient) → refused_in w.ballot (ClientDoes c turn) (client_part o) ≡ None → OnlyList e (refusal_of (by_actor w (with_client_at w c) o (turn w.ballot)))
+    go : (o : Option ExactClient) → refused_in w.ballots (ClientDoes c turn) (client_part o) ≡ None → OnlyList e (refusal_of (by_actor w (with_client_at w c) o (turn w.ballots)))
     go None z = absurd (let p : Some fault.UnknownActor ≡ None = z in cc)
-    go (Some k) z = turned k (turn w.ballot k) (told k) z
+    go (Some k) z = turned k (turn w.ballots k) (told k) z
 
 -- the whole
 
-pub own-first : ModelLaws → (w : ExactWorld) (e : Event) (f : StepFault) → own_refusal w.ballot e (part w (actor_of e)) ≡ Some f → (refusal w e ≡ Some f) × (is_own_fault f ≡ true)
+pub own-first : ModelLaws → (w : ExactWorld) (e : Event) (f : StepFault) → own_refusal w.ballots e (part w (actor_of e)) ≡ Some f → (refusal w e ≡ Some f) × (is_own_fault f ≡ true)
 unfolding step
 own-first laws w e f h = deed-own w e (deed_of e) f (deed-told laws (setting_of w) e) h
 
-pub list-second : ModelLaws → (w : ExactWorld) (e : Event) → own_refusal w.ballot e (part w (actor_of e)) ≡ None → OnlyList e (refusal w e)
+pub list-second : ModelLaws → (w : ExactWorld) (e : Event) → own_refusal w.ballots e (part w (actor_of e)) ≡ None → OnlyList e (refusal w e)
 unfolding step
 list-second laws w e h = deed-list w e (deed_of e) (deed-told laws (setting_of w) e) h
 
@@ -123,26 +123,26 @@ full-turns A q st e w into before (Err f) told h =
     absurd (let p : Some f ≡ Some fault.SentListFull = h in let same : f ≡ fault.SentListFull = cc in let z : false ≡ true = subst (λ x. is_own_fault x ≡ true) same told in cc)
 full-turns A q st e w into before (Ok t) told h = full-turn A w into t h
 
-deed-full : (w : ExactWorld) (e : Event) (d : Deed) → DeedTold (setting_of w) e d → refusal_of (done_by w d) ≡ Some fault.SentListFull → LacksRoom w (said_in w.ballot d (part w (actor_in d)))
+deed-full : (w : ExactWorld) (e : Event) (d : Deed) → DeedTold (setting_of w) e d → refusal_of (done_by w d) ≡ Some fault.SentListFull → LacksRoom w (said_in w.ballots d (part w (actor_in d)))
 deed-full w e (NodeDoes n turn) told h = go (numbered w.nodes n) h
   where
-    go : (o : Option ExactNode) → refusal_of (by_actor w (with_node_at w n) o turn) ≡ Some fault.SentListFull → LacksRoom w (said_in w.ballot (NodeDoes n turn) (node_part o))
+    go : (o : Option ExactNode) → refusal_of (by_actor w (with_node_at w n) o turn) ≡ Some fault.SentListFull → LacksRoom w (said_in w.ballots (NodeDoes n turn) (node_part o))
     go None z = absurd (let p : Some fault.UnknownActor ≡ Some fault.SentListFull = z in cc)
     go (Some v) z = full-turns ExactNode (nodes (setting_of w) n) (setting_of w) e w (with_node_at w n) v (turn v) (told v) z
 deed-full w e (ClientDoes c turn) told h = go (numbered w.clients c) h
   where
-    go : (o : Option ExactClient) → refusal_of (by_actor w (with_client_at w c) o (turn w.ballot)) ≡ Some fault.SentListFull → LacksRoom w (said_in w.ballot (ClientDoes c turn) (client_part o))
+    go : (o : Option ExactClient) → refusal_of (by_actor w (with_client_at w c) o (turn w.ballots)) ≡ Some fault.SentListFull → LacksRoom w (said_in w.ballots (ClientDoes c turn) (client_part o))
     go None z = absurd (let p : Some fault.UnknownActor ≡ Some fault.SentListFull = z in cc)
-    go (Some k) z = full-turns ExactClient (clients (setting_of w) c) (setting_of w) e w (with_client_at w c) k (turn w.ballot k) (told k) z
+    go (Some k) z = full-turns ExactClient (clients (setting_of w) c) (setting_of w) e w (with_client_at w c) k (turn w.ballots k) (told k) z
 
-pub full-without-room : ModelLaws → (w : ExactWorld) (e : Event) → refusal w e ≡ Some fault.SentListFull → LacksRoom w (said_by w.ballot e (part w (actor_of e)))
+pub full-without-room : ModelLaws → (w : ExactWorld) (e : Event) → refusal w e ≡ Some fault.SentListFull → LacksRoom w (said_by w.ballots e (part w (actor_of e)))
 unfolding step
 full-without-room laws w e h = deed-full w e (deed_of e) (deed-told laws (setting_of w) e) h
 
 -- want of memory is no refusal of a step
 
 list-has-memory : (e : Event) → IsListFault e fault.Memory → ⊥
-list-has-memory (event.Begin c m x) h = h
+list-has-memory (event.Begin c m x place) h = h
 list-has-memory (event.Try who) h = h
 list-has-memory (event.Kept who) h = h
 list-has-memory (event.SayTo c n) h = cc
@@ -157,7 +157,7 @@ list-has-memory (event.Fall who) h = h
 list-has-memory (event.Rise who age) h = h
 
 pub never-memory : ModelLaws → (w : ExactWorld) (e : Event) → refusal w e ≡ Some fault.Memory → ⊥
-never-memory laws w e h = go (own_refusal w.ballot e (part w (actor_of e))) refl
+never-memory laws w e h = go (own_refusal w.ballots e (part w (actor_of e))) refl
   where
     listed : OnlyList e (refusal w e) → ⊥
     listed (inl none) = let p : None ≡ Some fault.Memory = sym none ∙ h in cc
@@ -166,7 +166,7 @@ never-memory laws w e h = go (own_refusal w.ballot e (part w (actor_of e))) refl
         let same : some.0 ≡ fault.Memory = cc in
         list-has-memory e (subst (IsListFault e) same some.2)
 
-    go : (o : Option StepFault) → own_refusal w.ballot e (part w (actor_of e)) ≡ o → ⊥
+    go : (o : Option StepFault) → own_refusal w.ballots e (part w (actor_of e)) ≡ o → ⊥
     go None own = listed (list-second laws w e own)
     go (Some f) own =
         let first = own-first laws w e f own in

@@ -48,10 +48,10 @@ module _ (s : Setting) (w : World) (lawful : IsLawfulOpening s w) where
     phase = subst (IsSafePhase n (w.nodes n).kept (w.nodes n).tried) (sym (lawful.nodes_down n)) tt;
   }
 
-  opening-client : (c : ℕ) → IsSafeClient s.ballot w c (w.clients c)
+  opening-client : (c : ℕ) → IsSafeClient s.ballots w c (w.clients c)
   opening-client c = record {
     tried = subst (λ o. IfSome o (λ a. a ≡ (w.clients c).kept + 1)) (sym (lawful.no_attempt_tried c)) tt;
-    ticket = subst (IsSafeTicket s.ballot w c (w.clients c).kept) (sym (lawful.clients_down c)) tt;
+    ticket = subst (IsSafeTicket s.ballots w c (w.clients c).kept) (sym (lawful.clients_down c)) tt;
   }
 
 pub opening-safe : (s : Setting) (w : World) → IsLawfulOpening s w → IsSafe s w
@@ -67,7 +67,7 @@ opening-safe s w lawful = record {
 
 -- whatever happens keeps a safe world safe
 pub happens-safe : (s : Setting) (w : World) (e : Event) (v : World) → IsSafe s w → Happens s w e v → IsSafe s v
-happens-safe s w (event.Begin c m x) v safe h = clients.begins-keeps s c m x w v safe h
+happens-safe s w (event.Begin c m x place) v safe h = clients.begins-keeps s c m x place w v safe h
 happens-safe s w (event.Try (actor.Node n)) v safe h = nodes.tries-keeps s n w v safe h
 happens-safe s w (event.Try (actor.Client c)) v safe h = clients.tries-keeps s c w v safe h
 happens-safe s w (event.Kept (actor.Node n)) v safe h = nodes.keeps-keeps s n w v safe h

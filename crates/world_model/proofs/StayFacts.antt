@@ -4,7 +4,7 @@ use Rattle.lock_messages.specs.declared.ids.Actor.TheVariants as actor
 use Rattle.lock_messages.specs.declared.messages.Message.{Message}
 use Rattle.lock_messages.specs.declared.tickets.Ticket.{Ticket}
 use Rattle.lock_messages.specs.Messages.{is_for_client, named_node}
-use Rattle.lock_model.specs.Ballots.{Ballot}
+use Rattle.lock_model.specs.Ballots.{Ballot, node_count}
 use Rattle.lock_model.specs.ExactHearing.{is_node_of, is_counted}
 use Rattle.world_model.specs.declared.events.Effect.{Effect}
 use Rattle.world_model.specs.declared.events.Effect.TheVariants as effect
@@ -33,7 +33,7 @@ stays-by k t turn done same h = go k.phase h
     go : (p : ExactClientPhase) → ticket_in p ≡ Some t → ticket_in (after_turn k (turn p) done).phase ≡ Some t
     go client.Down q = absurd (let z : None ≡ Some t = q in cc)
     go client.Idle q = absurd (let z : None ≡ Some t = q in cc)
-    go (client.Chosen u) q = absurd (let z : None ≡ Some t = q in cc)
+    go (client.Chosen u place) q = absurd (let z : None ≡ Some t = q in cc)
     go (client.Asking p) q = absurd (let z : None ≡ Some t = q in cc)
     go (client.Inside p) q = ap (λ (x : ExactClient). ticket_in x.phase) (same p) ∙ h
 
@@ -46,7 +46,7 @@ tells-stays k t c n done h false = h
 counts-same : (n : ℕ) (p : ExactClientPhase) → ticket_in (counts_in n p) ≡ ticket_in p
 counts-same n client.Down = refl
 counts-same n client.Idle = refl
-counts-same n (client.Chosen t) = refl
+counts-same n (client.Chosen t place) = refl
 counts-same n (client.Asking p) = refl
 counts-same n (client.Inside p) = refl
 
@@ -59,37 +59,37 @@ reads-stays k t nodes c h None = h
 reads-stays k t nodes c h (Some m) = counted-stays k t (named_node m) h (is_counted (heard_in nodes c k.kept k.phase m))
 
 -- every event but a Leave and a Fall leaves a client inside, with its ticket
-client-stays : (b : Ballot) (e : Event) (done : Effect) (k : ExactClient) (t : Ticket) → leaves_or_falls e ≡ false → ticket_in k.phase ≡ Some t → inside_ticket (after_own b e done (ClientPart k)) ≡ Some t
-client-stays b (event.Begin c m x) done k t stays h = stays-by k t (begins_in c m x k) done (λ p. refl) h
+client-stays : (b : List Ballot) (e : Event) (done : Effect) (k : ExactClient) (t : Ticket) → leaves_or_falls e ≡ false → ticket_in k.phase ≡ Some t → inside_ticket (after_own b e done (ClientPart k)) ≡ Some t
+client-stays b (event.Begin c m x place) done k t stays h = stays-by k t (begins_in b c m x place k) done (λ p. refl) h
 client-stays b (event.Try (actor.Node n)) done k t stays h = h
 client-stays b (event.Try (actor.Client c)) done k t stays h = stays-by k t (tries_attempt_in k) done (λ p. refl) h
 client-stays b (event.Kept (actor.Node n)) done k t stays h = h
 client-stays b (event.Kept (actor.Client c)) done k t stays h = stays-by k t (keeps_attempt_in k) done (λ p. refl) h
-client-stays b (event.SayTo c n) done k t stays h = tells-stays k t c n done h (is_node_of (length b.votes) n)
+client-stays b (event.SayTo c n) done k t stays h = tells-stays k t c n done h (is_node_of (node_count b) n)
 client-stays b (event.Say n) done k t stays h = h
 client-stays b (event.Take n number) done k t stays h = h
 client-stays b (event.Hear c number) done k t stays h = hears-stays (is_down k.phase)
   where
-    hears-stays : (down : Bool) → ticket_in (after_turn k (cond down (Err fault.Down) (reads number (λ m. is_for_client m c) (after_hearing (length b.votes) c k) (λ m. effect.Heard m (heard_in (length b.votes) c k.kept k.phase m)))) done).phase ≡ Some t
+    hears-stays : (down : Bool) → ticket_in (after_turn k (cond down (Err fault.Down) (reads number (λ m. is_for_client m c) (after_hearing (node_count b) c k) (λ m. effect.Heard m (heard_in (node_count b) c k.kept k.phase m)))) done).phase ≡ Some t
     hears-stays true = h
-    hears-stays false = reads-stays k t (length b.votes) c h (message_of done)
+    hears-stays false = reads-stays k t (node_count b) c h (message_of done)
 client-stays b (event.Enter c) done k t stays h = stays-by k t (enters_in b k) done (λ p. refl) h
 client-stays b (event.Leave c) done k t stays h = absurd (let z : true ≡ false = stays in cc)
 client-stays b (event.Fall who) done k t stays h = absurd (let z : true ≡ false = stays in cc)
 client-stays b (event.Rise (actor.Node n) age) done k t stays h = h
 client-stays b (event.Rise (actor.Client c) age) done k t stays h = stays-by k t (client_rises_in age k) done (λ p. refl) h
 
-part-stays : (b : Ballot) (e : Event) (done : Effect) (p : Part) (t : Ticket) → leaves_or_falls e ≡ false → inside_ticket p ≡ Some t → inside_ticket (after_own b e done p) ≡ Some t
+part-stays : (b : List Ballot) (e : Event) (done : Effect) (p : Part) (t : Ticket) → leaves_or_falls e ≡ false → inside_ticket p ≡ Some t → inside_ticket (after_own b e done p) ≡ Some t
 part-stays b e done NoPart t stays h = absurd (let z : None ≡ Some t = h in cc)
 part-stays b e done (NodePart v) t stays h = absurd (let z : None ≡ Some t = h in cc)
 part-stays b e done (ClientPart k) t stays h = client-stays b e done k t stays h
 
-pub parts-stay : (b : Ballot) (p : Part) (t : Ticket) (own : List (Event × Effect)) → inside_ticket p ≡ Some t → HasNoEnd own → inside_ticket (local_part b p own) ≡ Some t
+pub parts-stay : (b : List Ballot) (p : Part) (t : Ticket) (own : List (Event × Effect)) → inside_ticket p ≡ Some t → HasNoEnd own → inside_ticket (local_part b p own) ≡ Some t
 parts-stay b p t [] h all = h
 parts-stay b p t (q ∷ own) h all = parts-stay b (after_own b q.0 q.1 p) t own (part-stays b q.0 q.1 p t all.0 h) all.1
 
 -- the part after a list of own events and then another
-pub local-append : (b : Ballot) (p : Part) (own more : List (Event × Effect)) → local_part b p (own ++ more) ≡ local_part b (local_part b p own) more
+pub local-append : (b : List Ballot) (p : Part) (own more : List (Event × Effect)) → local_part b p (own ++ more) ≡ local_part b (local_part b p own) more
 local-append b p [] more = refl
 local-append b p (q ∷ own) more = local-append b (after_own b q.0 q.1 p) own more
 
@@ -105,7 +105,7 @@ pub clients-stay : PartsAreLocal → (w v : ExactWorld) (history : List (Event �
 clients-stay law w v history c t run h all =
     sym (ticket-by-part v c)
     ∙ ap inside_ticket (law w v history run (actor.Client c))
-    ∙ parts-stay w.ballot (part w (actor.Client c)) t (own_events (actor.Client c) history) (ticket-by-part w c ∙ h) all
+    ∙ parts-stay w.ballots (part w (actor.Client c)) t (own_events (actor.Client c) history) (ticket-by-part w c ∙ h) all
 
 -- a Leave and a Fall end it
 leaves-none : (k : ExactClient) (done : Effect) → ticket_in (after_turn k (leaves_in k k.phase) done).phase ≡ None
@@ -114,7 +114,7 @@ leaves-none k done = go k.phase refl
     go : (p : ExactClientPhase) → k.phase ≡ p → ticket_in (after_turn k (leaves_in k p) done).phase ≡ None
     go client.Down e = ap ticket_in e
     go client.Idle e = ap ticket_in e
-    go (client.Chosen t) e = ap ticket_in e
+    go (client.Chosen t place) e = ap ticket_in e
     go (client.Asking p) e = refl
     go (client.Inside p) e = refl
 
@@ -124,15 +124,15 @@ falls-none k done = go k.phase refl
     go : (p : ExactClientPhase) → k.phase ≡ p → ticket_in (after_turn k (client_falls_in k p) done).phase ≡ None
     go client.Down e = ap ticket_in e
     go client.Idle e = refl
-    go (client.Chosen t) e = refl
+    go (client.Chosen t place) e = refl
     go (client.Asking p) e = refl
     go (client.Inside p) e = refl
 
-client-ends : (b : Ballot) (e : Event) (done : Effect) (k : ExactClient) (c : ℕ) → actor_of e ≡ actor.Client c → leaves_or_falls e ≡ true → inside_ticket (after_own b e done (ClientPart k)) ≡ None
+client-ends : (b : List Ballot) (e : Event) (done : Effect) (k : ExactClient) (c : ℕ) → actor_of e ≡ actor.Client c → leaves_or_falls e ≡ true → inside_ticket (after_own b e done (ClientPart k)) ≡ None
 client-ends b (event.Leave d) done k c is ends = leaves-none k done
 client-ends b (event.Fall (actor.Node n)) done k c is ends = absurd (let z : actor.Node n ≡ actor.Client c = is in cc)
 client-ends b (event.Fall (actor.Client d)) done k c is ends = falls-none k done
-client-ends b (event.Begin d m x) done k c is ends = absurd (let z : false ≡ true = ends in cc)
+client-ends b (event.Begin d m x place) done k c is ends = absurd (let z : false ≡ true = ends in cc)
 client-ends b (event.Try who) done k c is ends = absurd (let z : false ≡ true = ends in cc)
 client-ends b (event.Kept who) done k c is ends = absurd (let z : false ≡ true = ends in cc)
 client-ends b (event.SayTo d n) done k c is ends = absurd (let z : false ≡ true = ends in cc)
@@ -142,11 +142,11 @@ client-ends b (event.Hear d number) done k c is ends = absurd (let z : false ≡
 client-ends b (event.Enter d) done k c is ends = absurd (let z : false ≡ true = ends in cc)
 client-ends b (event.Rise who age) done k c is ends = absurd (let z : false ≡ true = ends in cc)
 
-node-none : (b : Ballot) (deed : Deed) (done : Effect) (v : ExactNode) → inside_ticket (after_in b deed done (NodePart v)) ≡ None
+node-none : (b : List Ballot) (deed : Deed) (done : Effect) (v : ExactNode) → inside_ticket (after_in b deed done (NodePart v)) ≡ None
 node-none b (NodeDoes n turn) done v = refl
 node-none b (ClientDoes c turn) done v = refl
 
-part-ends : (b : Ballot) (e : Event) (done : Effect) (p : Part) (c : ℕ) → actor_of e ≡ actor.Client c → leaves_or_falls e ≡ true → inside_ticket (after_own b e done p) ≡ None
+part-ends : (b : List Ballot) (e : Event) (done : Effect) (p : Part) (c : ℕ) → actor_of e ≡ actor.Client c → leaves_or_falls e ≡ true → inside_ticket (after_own b e done p) ≡ None
 part-ends b e done NoPart c is ends = refl
 part-ends b e done (NodePart v) c is ends = node-none b (deed_of e) done v
 part-ends b e done (ClientPart k) c is ends = client-ends b e done k c is ends
@@ -156,4 +156,4 @@ leaving-ends law w v e done c takes is ends =
     sym (ticket-by-part v c)
     ∙ ap (λ a. inside_ticket (part v a)) (sym is)
     ∙ ap inside_ticket (law w v e done takes).own
-    ∙ part-ends w.ballot e done (part w (actor_of e)) c is ends
+    ∙ part-ends w.ballots e done (part w (actor_of e)) c is ends

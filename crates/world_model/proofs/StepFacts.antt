@@ -36,9 +36,9 @@ pub record DeedDone (w : ExactWorld) (e : Event) (d : Deed) (done : Effect) (v :
   pub happens : IsSound w → Happens (setting_of w) (forget w) e (forget v)
   pub sound : IsSound w → IsSound v
   pub setting : setting_of v ≡ setting_of w
-  pub own : part v (actor_in d) ≡ after_in w.ballot d done (part w (actor_in d))
+  pub own : part v (actor_in d) ≡ after_in w.ballots d done (part w (actor_in d))
   pub others : (who : Actor) → who ≢ actor_in d → part v who ≡ part w who
-  pub sent : v.sent ≡ w.sent ++ said_in w.ballot d (part w (actor_in d))
+  pub sent : v.sent ≡ w.sent ++ said_in w.ballots d (part w (actor_in d))
   pub kind : IsEffectOf e done
   pub numbers : IsNumbered w done
   pub listed : IsAsListed w e done
@@ -71,7 +71,7 @@ of-client w c k after says was = record {
 }
 
 same-clients : (w : ExactWorld) (c : ℕ) (after : ExactClient) → setting_of (with_client_at w c after) ≡ setting_of w
-same-clients w c after = ap (λ n. record { ballot = w.ballot; clients = n }) (length-set w.clients (c - 1) after)
+same-clients w c after = ap (λ n. record { ballots = w.ballots; clients = n }) (length-set w.clients (c - 1) after)
 
 client-sound : (w : ExactWorld) (c : ℕ) (k after : ExactClient) (says : List Message) → numbered w.clients c ≡ Some k → (IsSoundClient k → IsSoundClient after) →
     (length w.sent ≤ MAX_MESSAGES → length (w.sent ++ says) ≤ MAX_MESSAGES) → IsSafe (setting_of w) (forget (sending says (with_client_at w c after))) → IsSound w → IsSound (sending says (with_client_at w c after))
@@ -88,15 +88,15 @@ client-others : (w : ExactWorld) (c : ℕ) (k after : ExactClient) (says : List 
 client-others w c k after says was (actor.Node n) apart = refl
 client-others w c k after says was (actor.Client d) apart = ap client_part (numbered-set-there w.clients c d after (numbered-one w.clients c k was).0 (λ e. apart (ap actor.Client e)))
 
-client-done : (w : ExactWorld) (e : Event) (c : ℕ) (turn : Ballot → ExactClient → Turns ExactClient) (k : ExactClient) (s : Stepped) → numbered w.clients c ≡ Some k →
-    TurnEnds ExactClient (clients (setting_of w) c) (setting_of w) e w (with_client_at w c) k (turn w.ballot k) s → DeedDone w e (ClientDoes c turn) s.effect s.world
+client-done : (w : ExactWorld) (e : Event) (c : ℕ) (turn : List Ballot → ExactClient → Turns ExactClient) (k : ExactClient) (s : Stepped) → numbered w.clients c ≡ Some k →
+    TurnEnds ExactClient (clients (setting_of w) c) (setting_of w) e w (with_client_at w c) k (turn w.ballots k) s → DeedDone w e (ClientDoes c turn) s.effect s.world
 client-done w e c turn k s was ends = subst (DeedDone w e (ClientDoes c turn) s.effect) (sym ends.world) (record {
   happens = happens;
   sound = λ ok. client-sound w c k ends.after ends.says was ends.sound ends.roomy (happens-safe (setting_of w) (forget w) e (forget v) ok.safe (happens ok)) ok;
   setting = same-clients w c ends.after;
-  own = ap client_part (numbered-set-here w.clients c k ends.after was) ∙ ap ClientPart (sym ends.own) ∙ ap (λ o. after_in w.ballot (ClientDoes c turn) s.effect (client_part o)) (sym was);
+  own = ap client_part (numbered-set-here w.clients c k ends.after was) ∙ ap ClientPart (sym ends.own) ∙ ap (λ o. after_in w.ballots (ClientDoes c turn) s.effect (client_part o)) (sym was);
   others = client-others w c k ends.after ends.says was;
-  sent = ap (λ (l : List Message). w.sent ++ l) (sym ends.said ∙ ap (λ o. said_in w.ballot (ClientDoes c turn) (client_part o)) (sym was));
+  sent = ap (λ (l : List Message). w.sent ++ l) (sym ends.said ∙ ap (λ o. said_in w.ballots (ClientDoes c turn) (client_part o)) (sym was));
   kind = ends.kind;
   numbers = ends.numbers;
   listed = ends.listed;
@@ -142,9 +142,9 @@ node-done w e n turn v s was ends = subst (DeedDone w e (NodeDoes n turn) s.effe
   happens = happens;
   sound = λ ok. node-sound w n v ends.after ends.says was ends.sound ends.roomy (happens-safe (setting_of w) (forget w) e (forget u) ok.safe (happens ok)) ok;
   setting = refl;
-  own = ap node_part (numbered-set-here w.nodes n v ends.after was) ∙ ap NodePart (sym ends.own) ∙ ap (λ o. after_in w.ballot (NodeDoes n turn) s.effect (node_part o)) (sym was);
+  own = ap node_part (numbered-set-here w.nodes n v ends.after was) ∙ ap NodePart (sym ends.own) ∙ ap (λ o. after_in w.ballots (NodeDoes n turn) s.effect (node_part o)) (sym was);
   others = node-others w n v ends.after ends.says was;
-  sent = ap (λ (l : List Message). w.sent ++ l) (sym ends.said ∙ ap (λ o. said_in w.ballot (NodeDoes n turn) (node_part o)) (sym was));
+  sent = ap (λ (l : List Message). w.sent ++ l) (sym ends.said ∙ ap (λ o. said_in w.ballots (NodeDoes n turn) (node_part o)) (sym was));
   kind = ends.kind;
   numbers = ends.numbers;
   listed = ends.listed;
@@ -172,15 +172,15 @@ deed-done w e (NodeDoes n turn) s told h = found (numbered w.nodes n) refl h
     found (Some v) was z = ended v was (turn v) refl (told v) z
 deed-done w e (ClientDoes c turn) s told h = found (numbered w.clients c) refl h
   where
-    ended : (k : ExactClient) → numbered w.clients c ≡ Some k → (ts : Turns ExactClient) → turn w.ballot k ≡ ts → Told ExactClient (clients (setting_of w) c) (setting_of w) e k ts → finishes w (with_client_at w c) ts ≡ Ok s → DeedDone w e (ClientDoes c turn) s.effect s.world
+    ended : (k : ExactClient) → numbered w.clients c ≡ Some k → (ts : Turns ExactClient) → turn w.ballots k ≡ ts → Told ExactClient (clients (setting_of w) c) (setting_of w) e k ts → finishes w (with_client_at w c) ts ≡ Ok s → DeedDone w e (ClientDoes c turn) s.effect s.world
     ended k was (Err f) does t z = absurd (let q : Err f ≡ Ok s = z in cc)
     ended k was (Ok x) does t z =
         client-done w e c turn k s was
         (subst (λ ts. TurnEnds ExactClient (clients (setting_of w) c) (setting_of w) e w (with_client_at w c) k ts s) (sym does) (turn-ends ExactClient (clients (setting_of w) c) (setting_of w) e w (with_client_at w c) k x s t z))
 
-    found : (o : Option ExactClient) → numbered w.clients c ≡ o → by_actor w (with_client_at w c) o (turn w.ballot) ≡ Ok s → DeedDone w e (ClientDoes c turn) s.effect s.world
+    found : (o : Option ExactClient) → numbered w.clients c ≡ o → by_actor w (with_client_at w c) o (turn w.ballots) ≡ Ok s → DeedDone w e (ClientDoes c turn) s.effect s.world
     found None was z = absurd (let q : Err fault.UnknownActor ≡ Ok s = z in cc)
-    found (Some k) was z = ended k was (turn w.ballot k) refl (told k) z
+    found (Some k) was z = ended k was (turn w.ballots k) refl (told k) z
 
 pub step-done : ModelLaws → (w : ExactWorld) (e : Event) (s : Stepped) → step w e ≡ Ok s → DeedDone w e (deed_of e) s.effect s.world
 unfolding step

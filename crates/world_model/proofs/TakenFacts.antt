@@ -6,7 +6,7 @@ use Rattle.lock_messages.specs.declared.ids.Actor.TheVariants as actor
 use Rattle.lock_messages.specs.declared.tickets.Mode.{Mode}
 use Rattle.lock_messages.specs.declared.messages.Message.{Message}
 use Rattle.lock_messages.specs.declared.messages.Message.TheVariants as message
-use Rattle.lock_model.specs.Ballots.{Ballot, HasNode, needed, votes_of}
+use Rattle.lock_model.specs.Ballots.{Ballot, HasAnyNode, has_place, ballot_at, node_count, needed, votes_of}
 use Rattle.lock_model.specs.ExactHearing.{is_node_of}
 use Rattle.vote_weights.specs.Sets.{has_node}
 use Rattle.world_model.specs.declared.events.Age.{Age}
@@ -24,7 +24,7 @@ use Rattle.world_model.specs.declared.exact.ExactWorld.{ExactWorld}
 use Rattle.world_model.specs.Worlds.{NodeDown, Node, Present, ClientDown, Client, World, OfNode, OfClient, ByNode, ByClient, Begins, TriesAttempt, TriesStation, KeepsAttempt, KeepsStation, Tells, Says, Enters, Leaves, NodeFalls, ClientFalls, NodeRises, ClientRises}
 use Rattle.world_model.specs.Turns.{Turn, Acts, Turns, acts}
 use Rattle.world_model.specs.ExactNodes.{tries_station_with, tries_station_in, keeps_station_with, keeps_station_in, says_in, node_falls_in, node_rises_with, node_rises_in}
-use Rattle.world_model.specs.ExactClients.{client_in, next_ticket, begins_in, tries_attempt_with, tries_attempt_in, first_of, keeps_attempt_with, keeps_attempt_in, says_one, tells_in, tells, is_down, enters_in, leaves_in, client_falls_in, client_rises_with, client_rises_in}
+use Rattle.world_model.specs.ExactClients.{client_in, next_ticket, begins_by, begins_in, tries_attempt_with, tries_attempt_in, first_of, keeps_attempt_with, keeps_attempt_in, says_one, tells_in, tells, is_down, enters_in, leaves_in, client_falls_in, client_rises_with, client_rises_in}
 use Rattle.world_model.specs.ExactWorlds.{numbered, NodeDoes, ClientDoes, refusal_of}
 use Rattle.world_model.specs.Forgetting.{node_of, node_phase_of, client_of, client_phase_of, node_numbered, client_numbered, forget, setting_of, IsSound}
 use Rattle.world_model.specs.Parts.{part, node_part, client_part, refused_in}
@@ -42,32 +42,36 @@ acts-may turns a done h = record { turn = Acts a done; does = h }
 
 -- the client's turns
 
-pub begins-may : (c : ℕ) (m : Mode) (x : List ℕ) (k : ExactClient) (after : Client) → Begins c m x (client_of k) after → MayTurn ExactClient (begins_in c m x k k.phase)
-begins-may c m x k after h =
+pub begins-may : (b : List Ballot) (c : ℕ) (m : Mode) (x : List ℕ) (place : ℕ) (k : ExactClient) (after : Client) → Begins b c m x place (client_of k) after → MayTurn ExactClient (begins_in b c m x place k k.phase)
+begins-may b c m x place k after h =
     let n = begins-needs h in
-    let next = client_in k (client.Chosen (next_ticket c m x k.kept)) in
-    acts-may (begins_in c m x k k.phase) next (effect.Chose (k.kept + 1))
-    (ap (begins_in c m x k) (client-idle k.phase n.0) ∙ ap (λ b. cond b (acts next (effect.Chose (k.kept + 1))) (Err fault.AttemptsSpent)) (lt-ltb k.kept MAX_ATTEMPT n.1))
+    let next = client_in k (client.Chosen (next_ticket c m x k.kept) place) in
+    let turn = acts next (effect.Chose (k.kept + 1)) in
+    let there : has_place b place ≡ true = both-true (nat_le 1 place) (nat_le place (length b)) (le-leb 1 place n.2.0) (le-leb place (length b) n.2.1) in
+    acts-may (begins_in b c m x place k k.phase) next (effect.Chose (k.kept + 1))
+    (ap (begins_in b c m x place k) (client-idle k.phase n.0)
+    ∙ ap (λ e. cond e (begins_by b place turn) (Err fault.AttemptsSpent)) (lt-ltb k.kept MAX_ATTEMPT n.1)
+    ∙ ap (λ e. cond e turn (Err fault.NoSuchPlace)) there)
 
 pub tries-attempt-may : (k : ExactClient) (after : Client) → TriesAttempt (client_of k) after → MayTurn ExactClient (tries_attempt_in k k.phase)
 tries-attempt-may k after h =
     let n = tries-needs h in
     acts-may (tries_attempt_in k k.phase) (record { kept = k.kept; tried = Some n.0.attempt; phase = k.phase }) effect.Tried
-    (ap (tries_attempt_in k) (client-chosen k.phase n.0 n.1) ∙ ap (tries_attempt_with k n.0) n.2)
+    (ap (tries_attempt_in k) (client-chosen k.phase n.0 n.1 n.2) ∙ ap (tries_attempt_with k n.0) n.3)
 
 pub keeps-attempt-may : (k : ExactClient) (after : Client) → KeepsAttempt (client_of k) after → MayTurn ExactClient (keeps_attempt_in k k.phase)
 keeps-attempt-may k after h =
     let n = keeps-needs h in
-    acts-may (keeps_attempt_in k k.phase) (record { kept = n.1; tried = None; phase = client.Asking (first_of n.0) }) effect.Kept
-    (ap (keeps_attempt_in k) (client-chosen k.phase n.0 n.2) ∙ ap (keeps_attempt_with n.0) n.3)
+    acts-may (keeps_attempt_in k k.phase) (record { kept = n.2; tried = None; phase = client.Asking (first_of n.0 n.1) }) effect.Kept
+    (ap (keeps_attempt_in k) (client-chosen k.phase n.0 n.1 n.3) ∙ ap (keeps_attempt_with n.0 n.1) n.4)
 
-pub tells-may : (b : Ballot) (c n : ℕ) (k : ExactClient) (said : List Message) → HasNode b n → Tells c n (client_of k) said → MayTurn ExactClient (tells b c n k)
+pub tells-may : (b : List Ballot) (c n : ℕ) (k : ExactClient) (said : List Message) → HasAnyNode b n → Tells c n (client_of k) said → MayTurn ExactClient (tells b c n k)
 tells-may b c n k said known h =
     let may = go (tells-needs h) in
     record { turn = may.turn; does = ap (λ t. cond t (tells_in c n k k.phase) (Err fault.UnknownActor)) is_known ∙ may.does }
   where
-    is_known : is_node_of (length b.votes) n ≡ true
-    is_known = both-true (nat_le 1 n) (nat_le n (length b.votes)) (le-leb 1 n known.0) (le-leb n (length b.votes) known.1)
+    is_known : is_node_of (node_count b) n ≡ true
+    is_known = both-true (nat_le 1 n) (nat_le n (node_count b)) (le-leb 1 n known.0) (le-leb n (node_count b) known.1)
 
     go : MaySpeak (client_of k) → MayTurn ExactClient (tells_in c n k k.phase)
     go (speaks_asking p e) = record { turn = _; does = ap (tells_in c n k) (client-asking k.phase p e).1 }
@@ -81,17 +85,17 @@ tells-may b c n k said known h =
 pub awake : (p : ExactClientPhase) → client_phase_of p ≢ ClientDown → is_down p ≡ false
 awake client.Down apart = absurd (apart refl)
 awake client.Idle apart = refl
-awake (client.Chosen t) apart = refl
+awake (client.Chosen t place) apart = refl
 awake (client.Asking p) apart = refl
 awake (client.Inside p) apart = refl
 
-pub enters-may : (b : Ballot) (k : ExactClient) (after : Client) → Enters b (client_of k) after → MayTurn ExactClient (enters_in b k k.phase)
+pub enters-may : (b : List Ballot) (k : ExactClient) (after : Client) → Enters b (client_of k) after → MayTurn ExactClient (enters_in b k k.phase)
 enters-may b k after h =
     let n = enters-needs h in
     let a = client-asking k.phase n.0 n.1 in
-    let enough : needed b a.0.ticket.mode ≤ votes_of b (has_node a.0.granted) = subst (λ (p : Present). needed b p.ticket.mode ≤ votes_of b p.granted) (sym a.2) n.2 in
+    let enough : needed (ballot_at b a.0.place) a.0.ticket.mode ≤ votes_of (ballot_at b a.0.place) (has_node a.0.granted) = subst (λ (p : Present). needed (ballot_at b p.place) p.ticket.mode ≤ votes_of (ballot_at b p.place) p.granted) (sym a.2) n.2 in
     acts-may (enters_in b k k.phase) (client_in k (client.Inside a.0)) effect.Inside
-    (ap (enters_in b k) a.1 ∙ ap (λ e. cond e (acts (client_in k (client.Inside a.0)) effect.Inside) (Err fault.NoQuorum)) (le-leb (needed b a.0.ticket.mode) (votes_of b (has_node a.0.granted)) enough))
+    (ap (enters_in b k) a.1 ∙ ap (λ e. cond e (acts (client_in k (client.Inside a.0)) effect.Inside) (Err fault.NoQuorum)) (le-leb (needed (ballot_at b a.0.place) a.0.ticket.mode) (votes_of (ballot_at b a.0.place) (has_node a.0.granted)) enough))
 
 pub leaves-may : (k : ExactClient) (after : Client) → Leaves (client_of k) after → MayTurn ExactClient (leaves_in k k.phase)
 leaves-may k after h = go (leaves-needs h)
@@ -106,7 +110,7 @@ client-falls-may k after h = go k.phase (client-falls-needs h)
     go : (p : ExactClientPhase) → client_phase_of p ≢ ClientDown → MayTurn ExactClient (client_falls_in k p)
     go client.Down apart = absurd (apart refl)
     go client.Idle apart = record { turn = _; does = refl }
-    go (client.Chosen t) apart = record { turn = _; does = refl }
+    go (client.Chosen t place) apart = record { turn = _; does = refl }
     go (client.Asking p) apart = record { turn = _; does = refl }
     go (client.Inside p) apart = record { turn = _; does = refl }
 
@@ -176,22 +180,22 @@ node-there w n before after said u sound h =
 
 -- and its own part refuses nothing
 
-pub client-free : (w : ExactWorld) (c : ℕ) (turn : Ballot → ExactClient → Turns ExactClient) (k : ExactClient) → numbered w.clients c ≡ Some k → MayTurn ExactClient (turn w.ballot k) →
-    refused_in w.ballot (ClientDoes c turn) (part w (actor.Client c)) ≡ None
-client-free w c turn k was may = ap (λ o. refused_in w.ballot (ClientDoes c turn) (client_part o)) was ∙ ap refusal_of may.does
+pub client-free : (w : ExactWorld) (c : ℕ) (turn : List Ballot → ExactClient → Turns ExactClient) (k : ExactClient) → numbered w.clients c ≡ Some k → MayTurn ExactClient (turn w.ballots k) →
+    refused_in w.ballots (ClientDoes c turn) (part w (actor.Client c)) ≡ None
+client-free w c turn k was may = ap (λ o. refused_in w.ballots (ClientDoes c turn) (client_part o)) was ∙ ap refusal_of may.does
 
 pub node-free : (w : ExactWorld) (n : ℕ) (turn : ExactNode → Turns ExactNode) (v : ExactNode) → numbered w.nodes n ≡ Some v → MayTurn ExactNode (turn v) →
-    refused_in w.ballot (NodeDoes n turn) (part w (actor.Node n)) ≡ None
-node-free w n turn v was may = ap (λ o. refused_in w.ballot (NodeDoes n turn) (node_part o)) was ∙ ap refusal_of may.does
+    refused_in w.ballots (NodeDoes n turn) (part w (actor.Node n)) ≡ None
+node-free w n turn v was may = ap (λ o. refused_in w.ballots (NodeDoes n turn) (node_part o)) was ∙ ap refusal_of may.does
 
-pub by-client-free : (R : Client → Client → Type 0) (w : ExactWorld) (c : ℕ) (turn : Ballot → ExactClient → Turns ExactClient) (u : World) → ByClient (setting_of w) (forget w) u c R →
-    ((k : ExactClient) (after : Client) → R (client_of k) after → MayTurn ExactClient (turn w.ballot k)) → refused_in w.ballot (ClientDoes c turn) (part w (actor.Client c)) ≡ None
+pub by-client-free : (R : Client → Client → Type 0) (w : ExactWorld) (c : ℕ) (turn : List Ballot → ExactClient → Turns ExactClient) (u : World) → ByClient (setting_of w) (forget w) u c R →
+    ((k : ExactClient) (after : Client) → R (client_of k) after → MayTurn ExactClient (turn w.ballots k)) → refused_in w.ballots (ClientDoes c turn) (part w (actor.Client c)) ≡ None
 by-client-free R w c turn u h may =
     let k = client-there w c h.0 h.1 [] u h.3 in
     client-free w c turn k.client k.was (may k.client h.1 (subst (λ b. R b h.1) (sym k.seen) h.2))
 
 pub by-node-free : (R : Node → Node → Type 0) (w : ExactWorld) (n : ℕ) (turn : ExactNode → Turns ExactNode) (u : World) → IsSound w → ByNode (setting_of w) (forget w) u n R →
-    ((v : ExactNode) (after : Node) → R (node_of v) after → MayTurn ExactNode (turn v)) → refused_in w.ballot (NodeDoes n turn) (part w (actor.Node n)) ≡ None
+    ((v : ExactNode) (after : Node) → R (node_of v) after → MayTurn ExactNode (turn v)) → refused_in w.ballots (NodeDoes n turn) (part w (actor.Node n)) ≡ None
 by-node-free R w n turn u sound h may =
     let v = node-there w n h.0 h.1 [] u sound h.3 in
     node-free w n turn v.node v.was (may v.node h.1 (subst (λ b. R b h.1) (sym v.seen) h.2))

@@ -1,5 +1,6 @@
 -- What may happen is taken, unless the list of messages is full.
 use Rattle.std.proofs.Common.{◌≡◌, ℕ, ◌⊎◌, Bool, true, false, cond, length, Option, Some, None, Ok, Err, sym, ◌∙◌, ap, subst, inl, inr}
+use Rattle.lock_model.specs.Ballots.{node_count}
 use Rattle.lock_messages.specs.declared.ids.Actor.TheVariants as actor
 use Rattle.lock_messages.specs.declared.messages.Message.{Message}
 use Rattle.lock_messages.specs.Messages.{is_for_node, is_for_client}
@@ -29,7 +30,7 @@ abbrev IsTaken : ExactWorld → Event → Type 0
 IsTaken w e = (refusal w e ≡ None) ⊎ (refusal w e ≡ Some fault.SentListFull)
 
 -- where the actor's own part refuses nothing, and the list at most for want of room
-unless-full : ModelLaws → (w : ExactWorld) (e : Event) → own_refusal w.ballot e (part w (actor_of e)) ≡ None → ((f : StepFault) → IsListFault e f → f ≡ fault.SentListFull) → IsTaken w e
+unless-full : ModelLaws → (w : ExactWorld) (e : Event) → own_refusal w.ballots e (part w (actor_of e)) ≡ None → ((f : StepFault) → IsListFault e f → f ≡ fault.SentListFull) → IsTaken w e
 unless-full laws w e own only = go (list-second laws w e own)
   where
     go : OnlyList e (refusal w e) → IsTaken w e
@@ -58,15 +59,15 @@ unfolding step
 hears-taken w c k u h named =
     let before = h.3 in
     let v = client-there w c before.0 before.1 _ u before.3 in
-    let nodes = length w.ballot.votes in
+    let nodes = node_count w.ballots in
     let up : is_down v.client.phase ≡ false = awake v.client.phase (λ e. hears-needs before.2 (sym (ap (λ (x : Client). x.phase) v.seen) ∙ e)) in
     ap (λ o. refusal_of (by_actor w (with_client_at w c) o (hears nodes c k))) v.was
     ∙ ap (λ b. refusal_of (finishes w (with_client_at w c) (cond b (Err fault.Down) (reads k (λ m. is_for_client m c) (after_hearing nodes c v.client) (λ m. effect.Heard m (heard_in nodes c v.client.kept v.client.phase m)))))) up
     ∙ read-free (with_client_at w c) (λ m. is_for_client m c) (after_hearing nodes c v.client) (λ m. effect.Heard m (heard_in nodes c v.client.kept v.client.phase m)) (numbered w.sent k) named.0 named.1 named.2
 
 pub step-taken : ModelLaws → (w : ExactWorld) (e : Event) (u : World) → IsSound w → Happens (setting_of w) (forget w) e u → NamesItsMessage w e → IsTaken w e
-step-taken laws w (event.Begin c m x) u sound h named =
-    unless-full laws w (event.Begin c m x) (by-client-free (Begins c m x) w c (λ b k. begins_in c m x k k.phase) u h (begins-may c m x)) (λ f z. absurd z)
+step-taken laws w (event.Begin c m x place) u sound h named =
+    unless-full laws w (event.Begin c m x place) (by-client-free (Begins w.ballots c m x place) w c (λ b k. begins_in b c m x place k k.phase) u h (begins-may w.ballots c m x place)) (λ f z. absurd z)
 step-taken laws w (event.Try (actor.Node n)) u sound h named =
     unless-full laws w (event.Try (actor.Node n)) (by-node-free TriesStation w n (λ v. tries_station_in v v.phase) u sound h tries-station-may) (λ f z. absurd z)
 step-taken laws w (event.Try (actor.Client c)) u sound h named =
@@ -79,14 +80,14 @@ step-taken laws w (event.SayTo c n) u sound h named =
     let says = h.1 in
     let k = client-there w c says.0 says.0 says.1 u says.3 in
     unless-full laws w (event.SayTo c n)
-    (client-free w c (λ b k. tells b c n k) k.client k.was (tells-may w.ballot c n k.client says.1 h.0 (subst (λ b. Tells c n b says.1) (sym k.seen) says.2))) (λ f z. z)
+    (client-free w c (λ b k. tells b c n k) k.client k.was (tells-may w.ballots c n k.client says.1 h.0 (subst (λ b. Tells c n b says.1) (sym k.seen) says.2))) (λ f z. z)
 step-taken laws w (event.Say n) u sound h named =
     let v = node-there w n h.0 h.1 h.2 u sound h.4 in
     unless-full laws w (event.Say n) (node-free w n (λ x. says_in x x.phase) v.node v.was (says-may v.node h.1 h.2 (subst (λ b. Says b h.1 h.2) (sym v.seen) h.3))) (λ f z. z)
 step-taken laws w (event.Take n k) u sound h named = inl (takes-taken w n k u sound h named)
 step-taken laws w (event.Hear c k) u sound h named = inl (hears-taken w c k u h named)
 step-taken laws w (event.Enter c) u sound h named =
-    unless-full laws w (event.Enter c) (by-client-free (Enters w.ballot) w c (λ b k. enters_in b k k.phase) u h (enters-may w.ballot)) (λ f z. absurd z)
+    unless-full laws w (event.Enter c) (by-client-free (Enters w.ballots) w c (λ b k. enters_in b k k.phase) u h (enters-may w.ballots)) (λ f z. absurd z)
 step-taken laws w (event.Leave c) u sound h named =
     unless-full laws w (event.Leave c) (by-client-free Leaves w c (λ b k. leaves_in k k.phase) u h leaves-may) (λ f z. absurd z)
 step-taken laws w (event.Fall (actor.Node n)) u sound h named =

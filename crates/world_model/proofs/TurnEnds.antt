@@ -32,7 +32,7 @@ pub record TurnEnds (A : Type 0) (q : Kind A) (st : Setting) (e : Event) (w : Ex
 
 -- nothing more is sent
 silently : (w : ExactWorld) → w ≡ sending [] w
-silently w = ap (λ (l : List Message). record { ballot = w.ballot; nodes = w.nodes; clients = w.clients; sent = l }) (sym (append-none w.sent))
+silently w = ap (λ (l : List Message). record { ballots = w.ballots; nodes = w.nodes; clients = w.clients; sent = l }) (sym (append-none w.sent))
 
 still : (w : ExactWorld) → length w.sent ≤ MAX_MESSAGES → length (w.sent ++ []) ≤ MAX_MESSAGES
 still w h = subst (λ (l : List Message). length l ≤ MAX_MESSAGES) (sym (append-none w.sent)) h

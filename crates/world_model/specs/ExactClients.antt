@@ -8,7 +8,7 @@ use Rattle.lock_messages.specs.declared.messages.Message.TheVariants as message
 use Rattle.lock_messages.specs.Messages.{is_for_client, named_node}
 use Rattle.lock_model.specs.declared.hearing.Heard.{Heard}
 use Rattle.lock_model.specs.declared.hearing.Heard.TheVariants as heard
-use Rattle.lock_model.specs.Ballots.{Ballot, needed, votes_of}
+use Rattle.lock_model.specs.Ballots.{Ballot, needed, votes_of, ballot_at, has_place, node_count}
 use Rattle.lock_model.specs.ExactHearing.{is_node_of, heard_of_ticket, heard_at_rest, is_counted}
 use Rattle.vote_weights.specs.Sets.{has_node, with_node}
 use Rattle.world_model.specs.declared.events.Age.{Age}
@@ -30,13 +30,19 @@ client_in k phase = record { kept = k.kept; tried = k.tried; phase = phase }
 abbrev pub next_ticket : ℕ → Mode → List ℕ → ℕ → Ticket
 next_ticket c m x kept = record { client = c; attempt = kept + 1; mode = m; resource = x }
 
-abbrev pub begins_in : ℕ → Mode → List ℕ → ExactClient → ExactClientPhase → Turns ExactClient
-begins_in c m x k Down = Err fault.Down
-begins_in c m x k Idle =
-    if nat_lt k.kept MAX_ATTEMPT then acts (client_in k (Chosen (next_ticket c m x k.kept))) (effect.Chose (k.kept + 1)) else Err fault.AttemptsSpent
-begins_in c m x k (Chosen t) = Err fault.WrongPhase
-begins_in c m x k (Asking p) = Err fault.WrongPhase
-begins_in c m x k (Inside p) = Err fault.WrongPhase
+-- by the ballot of a place, which has to be there
+abbrev pub begins_by : List Ballot → ℕ → Turns ExactClient → Turns ExactClient
+begins_by b place turn = if has_place b place then turn else Err fault.NoSuchPlace
+
+abbrev pub begins_in : List Ballot → ℕ → Mode → List ℕ → ℕ → ExactClient → ExactClientPhase → Turns ExactClient
+begins_in b c m x place k Down = Err fault.Down
+begins_in b c m x place k Idle =
+    if nat_lt k.kept MAX_ATTEMPT
+    then begins_by b place (acts (client_in k (Chosen (next_ticket c m x k.kept) place)) (effect.Chose (k.kept + 1)))
+    else Err fault.AttemptsSpent
+begins_in b c m x place k (Chosen t chosen) = Err fault.WrongPhase
+begins_in b c m x place k (Asking p) = Err fault.WrongPhase
+begins_in b c m x place k (Inside p) = Err fault.WrongPhase
 
 -- Try: a chosen attempt, with nothing tried, is tried
 
@@ -47,28 +53,28 @@ tries_attempt_with k t (Some a) = Err fault.WrongPhase
 abbrev pub tries_attempt_in : ExactClient → ExactClientPhase → Turns ExactClient
 tries_attempt_in k Down = Err fault.Down
 tries_attempt_in k Idle = Err fault.WrongPhase
-tries_attempt_in k (Chosen t) = tries_attempt_with k t k.tried
+tries_attempt_in k (Chosen t place) = tries_attempt_with k t k.tried
 tries_attempt_in k (Asking p) = Err fault.WrongPhase
 tries_attempt_in k (Inside p) = Err fault.WrongPhase
 
 -- Kept: the tried attempt is the kept one, and the client asks with its ticket
 
--- a ticket with which the client begins to ask, and no node has granted it
-abbrev pub first_of : Ticket → ExactPresent
-first_of t = record { ticket = t; granted = [] }
+-- a ticket and a place with which the client begins to ask, and no node has granted it
+abbrev pub first_of : Ticket → ℕ → ExactPresent
+first_of t place = record { ticket = t; place = place; granted = [] }
 
-abbrev pub keeps_attempt_with : Ticket → Option ℕ → Turns ExactClient
-keeps_attempt_with t None = Err fault.NothingTried
-keeps_attempt_with t (Some a) = acts (record { kept = a; tried = None; phase = Asking (first_of t) }) effect.Kept
+abbrev pub keeps_attempt_with : Ticket → ℕ → Option ℕ → Turns ExactClient
+keeps_attempt_with t place None = Err fault.NothingTried
+keeps_attempt_with t place (Some a) = acts (record { kept = a; tried = None; phase = Asking (first_of t place) }) effect.Kept
 
 abbrev pub keeps_attempt_in : ExactClient → ExactClientPhase → Turns ExactClient
 keeps_attempt_in k Down = Err fault.Down
 keeps_attempt_in k Idle = Err fault.WrongPhase
-keeps_attempt_in k (Chosen t) = keeps_attempt_with t k.tried
+keeps_attempt_in k (Chosen t place) = keeps_attempt_with t place k.tried
 keeps_attempt_in k (Asking p) = Err fault.WrongPhase
 keeps_attempt_in k (Inside p) = Err fault.WrongPhase
 
--- SayTo: to a node of the ballot, the request of the ticket or, at rest, the release of the attempt
+-- SayTo: to a node of one of the ballots, the request of the ticket or, at rest, the release of the attempt
 
 abbrev pub says_one : ExactClient → Message → Turns ExactClient
 says_one k m = speaks k (m ∷ []) (λ first. effect.Sent first m)
@@ -76,19 +82,19 @@ says_one k m = speaks k (m ∷ []) (λ first. effect.Sent first m)
 abbrev pub tells_in : ℕ → ℕ → ExactClient → ExactClientPhase → Turns ExactClient
 tells_in c n k Down = Err fault.Down
 tells_in c n k Idle = if k.kept == 0 then Err fault.NothingToSay else says_one k (message.Release n c k.kept)
-tells_in c n k (Chosen t) = Err fault.NotStored
+tells_in c n k (Chosen t place) = Err fault.NotStored
 tells_in c n k (Asking p) = says_one k (message.Request n p.ticket)
 tells_in c n k (Inside p) = says_one k (message.Request n p.ticket)
 
-abbrev pub tells : Ballot → ℕ → ℕ → ExactClient → Turns ExactClient
-tells b c n k = if is_node_of (length b.votes) n then tells_in c n k k.phase else Err fault.UnknownActor
+abbrev pub tells : List Ballot → ℕ → ℕ → ExactClient → Turns ExactClient
+tells b c n k = if is_node_of (node_count b) n then tells_in c n k k.phase else Err fault.UnknownActor
 
 -- Hear: a vote that counts is put into the set; nothing else changes the client
 
 abbrev pub heard_in : ℕ → ℕ → ℕ → ExactClientPhase → Message → Heard
 heard_in nodes c kept Down m = heard.NotMine
 heard_in nodes c kept Idle m = heard_at_rest nodes c kept m
-heard_in nodes c kept (Chosen t) m = heard.NotMine
+heard_in nodes c kept (Chosen t place) m = heard.NotMine
 heard_in nodes c kept (Asking p) m = heard_of_ticket nodes p.ticket (has_node p.granted) m
 heard_in nodes c kept (Inside p) m = heard_of_ticket nodes p.ticket (has_node p.granted) m
 
@@ -98,7 +104,7 @@ with_vote n p = record p { granted = with_node p.granted n }
 abbrev pub counts_in : ℕ → ExactClientPhase → ExactClientPhase
 counts_in n Down = Down
 counts_in n Idle = Idle
-counts_in n (Chosen t) = Chosen t
+counts_in n (Chosen t place) = Chosen t place
 counts_in n (Asking p) = Asking (with_vote n p)
 counts_in n (Inside p) = Inside (with_vote n p)
 
@@ -108,7 +114,7 @@ after_hearing nodes c k m = if is_counted (heard_in nodes c k.kept k.phase m) th
 abbrev pub is_down : ExactClientPhase → Bool
 is_down Down = true
 is_down Idle = false
-is_down (Chosen t) = false
+is_down (Chosen t place) = false
 is_down (Asking p) = false
 is_down (Inside p) = false
 
@@ -117,14 +123,14 @@ hears nodes c number k =
     if is_down k.phase then Err fault.Down
     else reads number (λ m. is_for_client m c) (after_hearing nodes c k) (λ m. effect.Heard m (heard_in nodes c k.kept k.phase m))
 
--- Enter: a client that asks, once its votes are enough
+-- Enter: a client that asks, once its votes are enough by the ballot of its attempt
 
-abbrev pub enters_in : Ballot → ExactClient → ExactClientPhase → Turns ExactClient
+abbrev pub enters_in : List Ballot → ExactClient → ExactClientPhase → Turns ExactClient
 enters_in b k Down = Err fault.Down
 enters_in b k Idle = Err fault.WrongPhase
-enters_in b k (Chosen t) = Err fault.WrongPhase
+enters_in b k (Chosen t place) = Err fault.WrongPhase
 enters_in b k (Asking p) =
-    if nat_le (needed b p.ticket.mode) (votes_of b (has_node p.granted)) then acts (client_in k (Inside p)) effect.Inside else Err fault.NoQuorum
+    if nat_le (needed (ballot_at b p.place) p.ticket.mode) (votes_of (ballot_at b p.place) (has_node p.granted)) then acts (client_in k (Inside p)) effect.Inside else Err fault.NoQuorum
 enters_in b k (Inside p) = Err fault.WrongPhase
 
 -- Leave: a client that asks or is inside
@@ -132,7 +138,7 @@ enters_in b k (Inside p) = Err fault.WrongPhase
 abbrev pub leaves_in : ExactClient → ExactClientPhase → Turns ExactClient
 leaves_in k Down = Err fault.Down
 leaves_in k Idle = Err fault.WrongPhase
-leaves_in k (Chosen t) = Err fault.WrongPhase
+leaves_in k (Chosen t place) = Err fault.WrongPhase
 leaves_in k (Asking p) = acts (client_in k Idle) effect.Outside
 leaves_in k (Inside p) = acts (client_in k Idle) effect.Outside
 
@@ -141,7 +147,7 @@ leaves_in k (Inside p) = acts (client_in k Idle) effect.Outside
 abbrev pub client_falls_in : ExactClient → ExactClientPhase → Turns ExactClient
 client_falls_in k Down = Err fault.Down
 client_falls_in k Idle = acts (client_in k Down) effect.Down
-client_falls_in k (Chosen t) = acts (client_in k Down) effect.Down
+client_falls_in k (Chosen t place) = acts (client_in k Down) effect.Down
 client_falls_in k (Asking p) = acts (client_in k Down) effect.Down
 client_falls_in k (Inside p) = acts (client_in k Down) effect.Down
 
@@ -155,6 +161,6 @@ client_rises_with New kept (Some a) = acts (record { kept = a; tried = None; pha
 abbrev pub client_rises_in : Age → ExactClient → ExactClientPhase → Turns ExactClient
 client_rises_in age k Down = client_rises_with age k.kept k.tried
 client_rises_in age k Idle = Err fault.Up
-client_rises_in age k (Chosen t) = Err fault.Up
+client_rises_in age k (Chosen t place) = Err fault.Up
 client_rises_in age k (Asking p) = Err fault.Up
 client_rises_in age k (Inside p) = Err fault.Up

@@ -3,7 +3,7 @@ use Rattle.std.specs.Prelude.{ℕ, ◌+◌, ◌-◌, ◌==◌, Bool, nat_le, Lis
 use Rattle.lock_messages.specs.declared.ids.Actor.{Actor}
 use Rattle.lock_messages.specs.declared.ids.Actor.TheVariants as actor
 use Rattle.lock_messages.specs.declared.messages.Message.{Message}
-use Rattle.lock_model.specs.Ballots.{Ballot}
+use Rattle.lock_model.specs.Ballots.{Ballot, node_count}
 use Rattle.world_model.specs.declared.TheConstants.{MAX_MESSAGES}
 use Rattle.world_model.specs.declared.events.Effect.{Effect}
 use Rattle.world_model.specs.declared.events.Event.{Event}
@@ -22,10 +22,10 @@ abbrev pub numbered : {A : Type 0} → List A → ℕ → Option A
 numbered xs k = if k == 0 then None else slice_get xs (k - 1)
 
 -- An event as a deed: whose it is, and what that actor's turn is. A client's turn may hang on the
--- ballot too.
+-- ballots too.
 pub data Deed : Type 0 where
   NodeDoes : (n : ℕ) (turn : ExactNode → Turns ExactNode) → Deed
-  ClientDoes : (c : ℕ) (turn : Ballot → ExactClient → Turns ExactClient) → Deed
+  ClientDoes : (c : ℕ) (turn : List Ballot → ExactClient → Turns ExactClient) → Deed
 
 -- what a node and a client do each in their own way
 abbrev pub either_does : Actor → (ExactNode → Turns ExactNode) → (ExactClient → Turns ExactClient) → Deed
@@ -33,13 +33,13 @@ either_does (actor.Node n) f g = NodeDoes n f
 either_does (actor.Client c) f g = ClientDoes c (λ b. g)
 
 abbrev pub deed_of : Event → Deed
-deed_of (event.Begin c m x) = ClientDoes c (λ b k. begins_in c m x k k.phase)
+deed_of (event.Begin c m x place) = ClientDoes c (λ b k. begins_in b c m x place k k.phase)
 deed_of (event.Try who) = either_does who (λ v. tries_station_in v v.phase) (λ k. tries_attempt_in k k.phase)
 deed_of (event.Kept who) = either_does who (λ v. keeps_station_in v v.phase) (λ k. keeps_attempt_in k k.phase)
 deed_of (event.SayTo c n) = ClientDoes c (λ b k. tells b c n k)
 deed_of (event.Say n) = NodeDoes n (λ v. says_in v v.phase)
 deed_of (event.Take n number) = NodeDoes n (λ v. takes_in n number v v.phase)
-deed_of (event.Hear c number) = ClientDoes c (λ b k. hears (length b.votes) c number k)
+deed_of (event.Hear c number) = ClientDoes c (λ b k. hears (node_count b) c number k)
 deed_of (event.Enter c) = ClientDoes c (λ b k. enters_in b k k.phase)
 deed_of (event.Leave c) = ClientDoes c (λ b k. leaves_in k k.phase)
 deed_of (event.Fall who) = either_does who (λ v. node_falls_in v v.phase) (λ k. client_falls_in k k.phase)
@@ -71,14 +71,14 @@ next_number w = length w.sent + 1
 
 -- the world with these messages sent too
 abbrev pub sending : List Message → ExactWorld → ExactWorld
-sending says w = record { ballot = w.ballot; nodes = w.nodes; clients = w.clients; sent = w.sent ++ says }
+sending says w = record { ballots = w.ballots; nodes = w.nodes; clients = w.clients; sent = w.sent ++ says }
 
 -- the world with this node, or this client, in the place of this number
 abbrev pub with_node_at : ExactWorld → ℕ → ExactNode → ExactWorld
-with_node_at w n v = record { ballot = w.ballot; nodes = slice_set w.nodes (n - 1) v; clients = w.clients; sent = w.sent }
+with_node_at w n v = record { ballots = w.ballots; nodes = slice_set w.nodes (n - 1) v; clients = w.clients; sent = w.sent }
 
 abbrev pub with_client_at : ExactWorld → ℕ → ExactClient → ExactWorld
-with_client_at w c k = record { ballot = w.ballot; nodes = w.nodes; clients = slice_set w.clients (c - 1) k; sent = w.sent }
+with_client_at w c k = record { ballots = w.ballots; nodes = w.nodes; clients = slice_set w.clients (c - 1) k; sent = w.sent }
 
 -- What comes of a turn, where `into` puts the actor back into the world: the list of messages refuses a
 -- number that it doesn't have, a message for another, and what it has no room for; nothing else.
@@ -111,7 +111,7 @@ client_steps w c turn = by_actor w (with_client_at w c) (numbered w.clients c) t
 
 abbrev pub done_by : ExactWorld → Deed → Steps
 done_by w (NodeDoes n turn) = node_steps w n turn
-done_by w (ClientDoes c turn) = client_steps w c (turn w.ballot)
+done_by w (ClientDoes c turn) = client_steps w c (turn w.ballots)
 
 -- the world after an event and what was done, or the lowest refusal that applies
 unfoldable pub step : ExactWorld → Event → Steps

@@ -19,8 +19,8 @@ use Rattle.world_model.specs.Openings.{empty_station, resumed, opening}
 use Rattle.world_model.specs.Views.{inside, holding}
 
 -- three nodes of one vote each; two votes read, and two write
-abbrev pub three_nodes : Ballot
-three_nodes = record { votes = 1 ∷ 1 ∷ 1 ∷ []; read = 2; write = 2 }
+abbrev pub three_nodes : List Ballot
+three_nodes = record { votes = 1 ∷ 1 ∷ 1 ∷ []; read = 2; write = 2 } ∷ []
 
 -- the ticket of client 1's first attempt: to read `a`
 abbrev pub first_ticket : Ticket
@@ -34,7 +34,7 @@ from_rest events =
 
 -- client 1 chooses to read `a`
 abbrev pub chooses : List Event
-chooses = Begin 1 Read (codes "a") ∷ Try (actor.Client 1) ∷ Kept (actor.Client 1) ∷ []
+chooses = Begin 1 Read (codes "a") 1 ∷ Try (actor.Client 1) ∷ Kept (actor.Client 1) ∷ []
 
 -- the client asks a node, by the message of this number
 abbrev pub asks : ℕ → ℕ → List Event
@@ -95,13 +95,19 @@ RefusedRises =
 abbrev pub RestartedClient : Type 0
 RestartedClient =
     let w = from_rest (two_grants ++ Enter 1 ∷ Fall (actor.Client 1) ∷ Rise (actor.Client 1) Old ∷ []) in
-    let v = after (after (after w (Begin 1 Write (codes "a"))) (Try (actor.Client 1))) (Kept (actor.Client 1)) in
-    (effect w (Begin 1 Write (codes "a")) ≡ Some (effect.Chose 2)) × (effect v (Hear 1 2) ≡ Some (effect.Heard (Grant 1 first_ticket) NotMine))
+    let v = after (after (after w (Begin 1 Write (codes "a") 1)) (Try (actor.Client 1))) (Kept (actor.Client 1)) in
+    (effect w (Begin 1 Write (codes "a") 1) ≡ Some (effect.Chose 2)) × (effect v (Hear 1 2) ≡ Some (effect.Heard (Grant 1 first_ticket) NotMine))
     × (refusal v (Enter 1) ≡ Some fault.NoQuorum) × (inside (codes "a") v ≡ [])
+
+-- an attempt by a place that the list doesn't have is refused, and the places are numbered from 1
+abbrev pub NoSuchPlace : Type 0
+NoSuchPlace =
+    let w = from_rest [] in
+    (refusal w (Begin 1 Read (codes "a") 2) ≡ Some fault.NoSuchPlace) × (refusal w (Begin 1 Read (codes "a") 0) ≡ Some fault.NoSuchPlace)
 
 -- a client whose attempts are spent begins no other, and none while it is down
 abbrev pub GreatestAttempt : Type 0
 GreatestAttempt =
     let w = resumed three_nodes (replicate 3 (empty_station First)) (MAX_ATTEMPT ∷ []) in
-    (refusal w (Begin 1 Read (codes "a")) ≡ Some fault.Down)
-    × (refusal (after w (Rise (actor.Client 1) Old)) (Begin 1 Read (codes "a")) ≡ Some fault.AttemptsSpent)
+    (refusal w (Begin 1 Read (codes "a") 1) ≡ Some fault.Down)
+    × (refusal (after w (Rise (actor.Client 1) Old)) (Begin 1 Read (codes "a") 1) ≡ Some fault.AttemptsSpent)

@@ -4,7 +4,7 @@ use Rattle.std.specs.Prelude.{◌≡◌, ℕ, List}
 use Rattle.lock_messages.specs.declared.tickets.Mode.{Mode}
 use Rattle.lock_messages.specs.declared.tickets.Mode.TheVariants.{Read, Write}
 use Rattle.lock_messages.specs.declared.messages.Message.TheVariants.{Muddled}
-use Rattle.lock_model.specs.Ballots.{Crosses}
+use Rattle.lock_model.specs.Ballots.{AllCross}
 use Rattle.lock_model.specs.Stations.{Station, Waits, IsLawful, Cause, IsCaused}
 use Rattle.lock_model.specs.Decisions.{Among}
 use Rattle.world_model.specs.declared.events.Event.{Event}
@@ -24,7 +24,7 @@ pub record IsExclusive (w : World) : Type 0 where
 -- The theorem. The events are any list that is a run: messages may be lost, taken again and in any order,
 -- and actors may fall and rise at any time.
 abbrev pub WritersAreAlone : Type 0
-WritersAreAlone = (s : Setting) (w v : World) (events : List Event) → Crosses s.ballot → IsLawfulOpening s w → Run s w events v → IsExclusive v
+WritersAreAlone = (s : Setting) (w v : World) (events : List Event) → AllCross s.ballots → IsLawfulOpening s w → Run s w events v → IsExclusive v
 
 -- every station stays lawful and caused
 pub record HasSoundStations (w : World) : Type 0 where

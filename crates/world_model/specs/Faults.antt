@@ -1,7 +1,7 @@
 -- The numbers of refusals.
 use Rattle.std.specs.Prelude.{ℕ}
 use Rattle.world_model.specs.declared.events.StepFault.{StepFault}
-use Rattle.world_model.specs.declared.events.StepFault.TheVariants.{UnknownActor, Down, Up, WrongPhase, NotStored, NothingToSay, NoSuchMessage, NotAddressed, NoQuorum, AttemptsSpent, NothingTried, SentListFull, Memory}
+use Rattle.world_model.specs.declared.events.StepFault.TheVariants.{UnknownActor, Down, Up, WrongPhase, NotStored, NothingToSay, NoSuchMessage, NotAddressed, NoQuorum, AttemptsSpent, NothingTried, SentListFull, Memory, NoSuchPlace}
 
 abbrev pub fault_number : StepFault → ℕ
 fault_number UnknownActor = 601
@@ -17,3 +17,4 @@ fault_number AttemptsSpent = 610
 fault_number NothingTried = 611
 fault_number SentListFull = 612
 fault_number Memory = 613
+fault_number NoSuchPlace = 614

@@ -4,7 +4,7 @@ use Rattle.std.specs.Prelude.{◌≡◌, ℕ, ◌≤◌, [], length, Option, Som
 use Rattle.std.specs.Option.{option_map}
 use Rattle.lock_messages.specs.declared.ids.TheConstants.{MAX_ATTEMPT}
 use Rattle.lock_model.specs.declared.problems.Problem.TheVariants.{First}
-use Rattle.lock_model.specs.Ballots.{Crosses}
+use Rattle.lock_model.specs.Ballots.{AllCross, node_count}
 use Rattle.lock_model.specs.Stations.{Station, IsLawful, IsCaused}
 use Rattle.lock_model.specs.ExactStations.{IsWellFormed, meaning}
 use Rattle.vote_weights.specs.Sets.{has_node}
@@ -37,12 +37,12 @@ node_of v = record { kept = station_of v.kept; tried = option_map station_of v.t
 
 -- the list of nodes that granted a ticket, as a set
 abbrev pub present_of : ExactPresent → Present
-present_of p = record { ticket = p.ticket; granted = has_node p.granted }
+present_of p = record { ticket = p.ticket; place = p.place; granted = has_node p.granted }
 
 abbrev pub client_phase_of : ExactClientPhase → ClientPhase
 client_phase_of client.Down = ClientDown
 client_phase_of client.Idle = ClientIdle
-client_phase_of (client.Chosen t) = Chosen t
+client_phase_of (client.Chosen t place) = Chosen t place
 client_phase_of (client.Asking p) = Asking (present_of p)
 client_phase_of (client.Inside p) = IsIn (present_of p)
 
@@ -63,7 +63,7 @@ forget w = record { nodes = λ n. node_numbered (numbered w.nodes n); clients = 
 
 -- who takes part
 abbrev pub setting_of : ExactWorld → Setting
-setting_of w = record { ballot = w.ballot; clients = length w.clients }
+setting_of w = record { ballots = w.ballots; clients = length w.clients }
 
 -- the entries are those of a lawful and caused station
 pub record IsSoundStation (s : ExactStation) : Type 0 where
@@ -88,7 +88,7 @@ pub record IsSoundNode (v : ExactNode) : Type 0 where
 abbrev pub IsSoundChoice : ExactClientPhase → Type 0
 IsSoundChoice client.Down = Unit {0}
 IsSoundChoice client.Idle = Unit {0}
-IsSoundChoice (client.Chosen t) = t.attempt ≤ MAX_ATTEMPT
+IsSoundChoice (client.Chosen t place) = t.attempt ≤ MAX_ATTEMPT
 IsSoundChoice (client.Asking p) = Unit {0}
 IsSoundChoice (client.Inside p) = Unit {0}
 
@@ -98,12 +98,12 @@ pub record IsSoundClient (k : ExactClient) : Type 0 where
   pub tried : IfSome k.tried (λ a. a ≤ MAX_ATTEMPT)
   pub chosen : IsSoundChoice k.phase
 
--- The ballot crosses, the nodes are as many as it has, each actor is sound, the list of messages is not
+-- The ballots cross, the nodes are as many as they have, each actor is sound, the list of messages is not
 -- over its greatest length, and what makes a writer alone holds. What opens a world has this, and each
 -- step keeps it.
 pub record IsSound (w : ExactWorld) : Type 0 where
-  pub crosses : Crosses w.ballot
-  pub nodes : length w.nodes ≡ length w.ballot.votes
+  pub crosses : AllCross w.ballots
+  pub nodes : length w.nodes ≡ node_count w.ballots
   pub each_node : (n : ℕ) (v : ExactNode) → numbered w.nodes n ≡ Some v → IsSoundNode v
   pub each_client : (c : ℕ) (k : ExactClient) → numbered w.clients c ≡ Some k → IsSoundClient k
   pub room : length w.sent ≤ MAX_MESSAGES

@@ -7,7 +7,7 @@ use Rattle.lock_messages.specs.declared.messages.Message.{Message}
 use Rattle.lock_messages.specs.declared.messages.Message.TheVariants.{Request, Release, Grant, Busy, Over, Done, Muddled}
 use Rattle.lock_model.specs.declared.entries.Status.{Status}
 use Rattle.lock_model.specs.declared.entries.Status.TheVariants.{Holding}
-use Rattle.lock_model.specs.Ballots.{Ballot, IsEnough}
+use Rattle.lock_model.specs.Ballots.{Ballot, HasPlace, IsEnough, ballot_at}
 use Rattle.lock_model.specs.Stations.{Has, Standing, Station, IsLawful, IsCaused}
 use Rattle.lock_model.specs.Decisions.{Among}
 use Rattle.world_model.specs.Worlds.{NodePhase, NodeDown, NodeIdle, Decided, Stored, Node, Present, ClientPhase, ClientDown, ClientIdle, Chosen, Asking, IsIn, Client, World, Setting, EachStation, IsWithin}
@@ -16,7 +16,7 @@ use Rattle.world_model.specs.Worlds.{NodePhase, NodeDown, NodeIdle, Decided, Sto
 abbrev pub IsPresentIn : Ticket → ClientPhase → Type 0
 IsPresentIn t ClientDown = ⊥
 IsPresentIn t ClientIdle = ⊥
-IsPresentIn t (Chosen u) = ⊥
+IsPresentIn t (Chosen u place) = ⊥
 IsPresentIn t (Asking p) = p.ticket ≡ t
 IsPresentIn t (IsIn p) = p.ticket ≡ t
 
@@ -74,21 +74,24 @@ pub record IsSafeNode (w : World) (n : ℕ) (v : Node) : Type 0 where
   pub stations : EachStation (IsSafeStation w n) v
   pub phase : IsSafePhase n v.kept v.tried v.phase
 
--- The ticket is the client's own and has this attempt; each node of the set sent a Grant of it.
-pub record IsGranted (w : World) (c attempt : ℕ) (p : Present) : Type 0 where
+-- The ticket is the client's own and has this attempt, by a ballot that is there; each node of the set sent
+-- a Grant of it.
+pub record IsGranted (b : List Ballot) (w : World) (c attempt : ℕ) (p : Present) : Type 0 where
+  pub placed : HasPlace b p.place
   pub client : p.ticket.client ≡ c
   pub attempt_is : p.ticket.attempt ≡ attempt
   pub grants : (n : ℕ) → p.granted n ≡ true → Among (Grant n p.ticket) w.sent
 
--- A chosen ticket is the next one, a present ticket the last one, and who is inside has enough votes.
-abbrev pub IsSafeTicket : Ballot → World → ℕ → ℕ → ClientPhase → Type 0
+-- A chosen ticket is the next one, by a ballot that is there; a present ticket is the last one, and who is
+-- inside has enough votes by its attempt's ballot.
+abbrev pub IsSafeTicket : List Ballot → World → ℕ → ℕ → ClientPhase → Type 0
 IsSafeTicket b w c kept ClientDown = Unit {0}
 IsSafeTicket b w c kept ClientIdle = Unit {0}
-IsSafeTicket b w c kept (Chosen t) = (t.client ≡ c) × (t.attempt ≡ kept + 1)
-IsSafeTicket b w c kept (Asking p) = IsGranted w c kept p
-IsSafeTicket b w c kept (IsIn p) = IsGranted w c kept p × IsEnough b p.ticket.mode p.granted
+IsSafeTicket b w c kept (Chosen t place) = (t.client ≡ c) × (t.attempt ≡ kept + 1) × HasPlace b place
+IsSafeTicket b w c kept (Asking p) = IsGranted b w c kept p
+IsSafeTicket b w c kept (IsIn p) = IsGranted b w c kept p × IsEnough (ballot_at b p.place) p.ticket.mode p.granted
 
-pub record IsSafeClient (b : Ballot) (w : World) (c : ℕ) (k : Client) : Type 0 where
+pub record IsSafeClient (b : List Ballot) (w : World) (c : ℕ) (k : Client) : Type 0 where
   pub tried : IfSome k.tried (λ a. a ≡ k.kept + 1)
   pub ticket : IsSafeTicket b w c k.kept k.phase
 
@@ -96,7 +99,7 @@ pub record IsSafeClient (b : Ballot) (w : World) (c : ℕ) (k : Client) : Type 0
 -- an attempt up to the kept one; a Release names an attempt that is over; no Muddled was ever sent.
 pub record IsSafe (s : Setting) (w : World) : Type 0 where
   pub nodes : (n : ℕ) → IsSafeNode w n (w.nodes n)
-  pub clients : (c : ℕ) → IsSafeClient s.ballot w c (w.clients c)
+  pub clients : (c : ℕ) → IsSafeClient s.ballots w c (w.clients c)
   pub one_ticket : (t u : Ticket) → WasAsked w t → WasAsked w u → t.client ≡ u.client → t.attempt ≡ u.attempt → t ≡ u
   pub asked : (t : Ticket) → WasAsked w t → t.attempt ≤ (w.clients t.client).kept
   pub released : (n c a : ℕ) → Among (Release n c a) w.sent → a ≤ (w.clients c).kept

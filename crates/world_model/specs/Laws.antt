@@ -8,7 +8,7 @@ use Rattle.lock_messages.specs.declared.tickets.Ticket.{Ticket}
 use Rattle.lock_messages.specs.declared.messages.Message.{Message}
 use Rattle.lock_messages.specs.Messages.{is_for_node, is_for_client}
 use Rattle.lock_model.specs.declared.problems.Problem.{Problem}
-use Rattle.lock_model.specs.Ballots.{Ballot, Crosses}
+use Rattle.lock_model.specs.Ballots.{Ballot, AllCross, node_count}
 use Rattle.lock_model.specs.Stations.{Holds, Waits, ticket_at}
 use Rattle.lock_model.specs.Decisions.{Among}
 use Rattle.lock_model.specs.ExactStations.{holds}
@@ -44,7 +44,7 @@ StepsKeepSound = (w v : ExactWorld) (e : Event) (done : Effect) → IsSound w �
 abbrev pub NamesItsMessage : ExactWorld → Event → Type 0
 NamesItsMessage w (event.Take n k) = (m : Message) × (numbered w.sent k ≡ Some m) × (is_for_node m n ≡ true)
 NamesItsMessage w (event.Hear c k) = (m : Message) × (numbered w.sent k ≡ Some m) × (is_for_client m c ≡ true)
-NamesItsMessage w (event.Begin c m x) = Unit {0}
+NamesItsMessage w (event.Begin c m x place) = Unit {0}
 NamesItsMessage w (event.Try who) = Unit {0}
 NamesItsMessage w (event.Kept who) = Unit {0}
 NamesItsMessage w (event.SayTo c n) = Unit {0}
@@ -70,20 +70,20 @@ ExactRunsAreRuns = (w : ExactWorld) (events : List Event) → IsSound w → IsAl
 
 -- A world that is resumed is sound, and a lawful opening.
 abbrev pub ResumedIsSound : Type 0
-ResumedIsSound = (b : Ballot) (stations : List ExactStation) (attempts : List ℕ) → IsResumable b stations attempts → IsSound (resumed b stations attempts)
+ResumedIsSound = (b : List Ballot) (stations : List ExactStation) (attempts : List ℕ) → IsResumable b stations attempts → IsSound (resumed b stations attempts)
 
 abbrev pub ResumedIsLawful : Type 0
-ResumedIsLawful = (b : Ballot) (stations : List ExactStation) (attempts : List ℕ) → IsResumable b stations attempts →
+ResumedIsLawful = (b : List Ballot) (stations : List ExactStation) (attempts : List ℕ) → IsResumable b stations attempts →
     IsLawfulOpening (setting_of (resumed b stations attempts)) (forget (resumed b stations attempts))
 
 -- And only such a world is a lawful opening.
 abbrev pub OnlyWithinIsLawful : Type 0
-OnlyWithinIsLawful = (b : Ballot) (stations : List ExactStation) (attempts : List ℕ) → AllByRecursion IsSoundStation stations →
+OnlyWithinIsLawful = (b : List Ballot) (stations : List ExactStation) (attempts : List ℕ) → AllByRecursion IsSoundStation stations →
     IsLawfulOpening (setting_of (resumed b stations attempts)) (forget (resumed b stations attempts)) → IsTrue (stations_within attempts stations)
 
--- A world in which nothing is kept can be opened under each ballot that crosses.
+-- A world in which nothing is kept can be opened under each list of ballots that cross.
 abbrev pub OpeningIsResumable : Type 0
-OpeningIsResumable = (b : Ballot) (problems : List Problem) (clients : ℕ) → Crosses b → length problems ≡ length b.votes →
+OpeningIsResumable = (b : List Ballot) (problems : List Problem) (clients : ℕ) → AllCross b → length problems ≡ node_count b →
     IsResumable b (map empty_station problems) (replicate clients 0)
 
 -- what was said has numbers that messages can have, from the next one on

@@ -28,28 +28,28 @@ PlacesAreApart = (a b : Actor) → place a ≡ place b → a ≡ b
 -- the list of messages by what was said.
 pub record ChangesOne (w : ExactWorld) (e : Event) (done : Effect) (v : ExactWorld) : Type 0 where
   pub setting : setting_of v ≡ setting_of w
-  pub own : part v (actor_of e) ≡ after_own w.ballot e done (part w (actor_of e))
+  pub own : part v (actor_of e) ≡ after_own w.ballots e done (part w (actor_of e))
   pub others : (who : Actor) → who ≢ actor_of e → part v who ≡ part w who
-  pub sent : v.sent ≡ w.sent ++ said_by w.ballot e (part w (actor_of e))
+  pub sent : v.sent ≡ w.sent ++ said_by w.ballots e (part w (actor_of e))
 
 abbrev pub StepsChangeOnePart : Type 0
 StepsChangeOnePart = (w v : ExactWorld) (e : Event) (done : Effect) → Takes w e done v → ChangesOne w e done v
 
 -- The refusal is cut in two. What the actor's own part refuses is refused so.
 abbrev pub OwnRefusalsComeFirst : Type 0
-OwnRefusalsComeFirst = (w : ExactWorld) (e : Event) (f : StepFault) → own_refusal w.ballot e (part w (actor_of e)) ≡ Some f →
+OwnRefusalsComeFirst = (w : ExactWorld) (e : Event) (f : StepFault) → own_refusal w.ballots e (part w (actor_of e)) ≡ Some f →
     (refusal w e ≡ Some f) × (is_own_fault f ≡ true)
 
 -- What it doesn't refuse only the list of messages can: a number that a Take or a Hear names, or the
 -- length of what a Say or a SayTo says.
 abbrev pub ListRefusalsComeSecond : Type 0
-ListRefusalsComeSecond = (w : ExactWorld) (e : Event) → own_refusal w.ballot e (part w (actor_of e)) ≡ None →
+ListRefusalsComeSecond = (w : ExactWorld) (e : Event) → own_refusal w.ballots e (part w (actor_of e)) ≡ None →
     (refusal w e ≡ None) ⊎ ((f : StepFault) × (refusal w e ≡ Some f) × IsListFault e f)
 
 -- The list of messages is full only where it can't hold what is said.
 abbrev pub FullOnlyWithoutRoom : Type 0
 FullOnlyWithoutRoom = (w : ExactWorld) (e : Event) → refusal w e ≡ Some fault.SentListFull →
-    MAX_MESSAGES < length w.sent + length (said_by w.ballot e (part w (actor_of e)))
+    MAX_MESSAGES < length w.sent + length (said_by w.ballots e (part w (actor_of e)))
 
 -- No step is refused for want of memory: that is the code's alone.
 abbrev pub MemoryIsNoRefusal : Type 0
@@ -57,7 +57,7 @@ MemoryIsNoRefusal = (w : ExactWorld) (e : Event) → refusal w e ≢ Some fault.
 
 -- of which kind the effect of each event is
 abbrev pub IsEffectOf : Event → Effect → Type 0
-IsEffectOf (event.Begin c m x) done = (a : ℕ) × (done ≡ effect.Chose a)
+IsEffectOf (event.Begin c m x place) done = (a : ℕ) × (done ≡ effect.Chose a)
 IsEffectOf (event.Try who) done = done ≡ effect.Tried
 IsEffectOf (event.Kept who) done = done ≡ effect.Kept
 IsEffectOf (event.SayTo c n) done = (k : ℕ) × (m : Message) × (done ≡ effect.Sent k m)
@@ -76,7 +76,7 @@ EffectsAreOfTheirEvents = (w v : ExactWorld) (e : Event) (done : Effect) → Tak
 abbrev pub IsAsListed : ExactWorld → Event → Effect → Type 0
 IsAsListed w (event.Take n k) done = message_of done ≡ numbered w.sent k
 IsAsListed w (event.Hear c k) done = message_of done ≡ numbered w.sent k
-IsAsListed w (event.Begin c m x) done = Unit {0}
+IsAsListed w (event.Begin c m x place) done = Unit {0}
 IsAsListed w (event.Try who) done = Unit {0}
 IsAsListed w (event.Kept who) done = Unit {0}
 IsAsListed w (event.SayTo c n) done = Unit {0}
@@ -99,7 +99,7 @@ abbrev pub own_events : Actor → List (Event × Effect) → List (Event × Effe
 own_events who history = filter (λ p. is_own who p.0) history
 
 -- an actor's part after a list of its own events with their effects
-abbrev pub local_part : Ballot → Part → List (Event × Effect) → Part
+abbrev pub local_part : List Ballot → Part → List (Event × Effect) → Part
 local_part b p [] = p
 local_part b p (q ∷ own) = local_part b (after_own b q.0 q.1 p) own
 
@@ -107,7 +107,7 @@ local_part b p (q ∷ own) = local_part b (after_own b q.0 q.1 p) own
 -- make of its part in the opening.
 abbrev pub PartsAreLocal : Type 0
 PartsAreLocal = (w v : ExactWorld) (history : List (Event × Effect)) → IsHistory w history v →
-    (who : Actor) → part v who ≡ local_part w.ballot (part w who) (own_events who history)
+    (who : Actor) → part v who ≡ local_part w.ballots (part w who) (own_events who history)
 
 -- what the actor's own part says of a refusal: it is this one, or at most one of the list of messages
 abbrev pub IsLocalRefusal : Event → Option StepFault → Option StepFault → Type 0
@@ -118,7 +118,7 @@ IsLocalRefusal e None refused = (refused ≡ None) ⊎ ((f : StepFault) × (refu
 -- refusals that the list of messages has.
 abbrev pub RefusalsAreLocal : Type 0
 RefusalsAreLocal = (w v : ExactWorld) (history : List (Event × Effect)) → IsHistory w history v →
-    (e : Event) → IsLocalRefusal e (own_refusal w.ballot e (local_part w.ballot (part w (actor_of e)) (own_events (actor_of e) history))) (refusal v e)
+    (e : Event) → IsLocalRefusal e (own_refusal w.ballots e (local_part w.ballots (part w (actor_of e)) (own_events (actor_of e) history))) (refusal v e)
 
 -- a history is a run of its events
 pub record IsRunOf (w : ExactWorld) (history : List (Event × Effect)) (v : ExactWorld) : Type 0 where

@@ -5,7 +5,7 @@ use Rattle.lock_messages.specs.declared.ids.TheConstants.{MAX_ATTEMPT}
 use Rattle.lock_model.specs.declared.entries.Entry.{Entry}
 use Rattle.lock_model.specs.declared.entries.Live.{Live}
 use Rattle.lock_model.specs.declared.problems.Problem.{Problem}
-use Rattle.lock_model.specs.Ballots.{Ballot, Crosses}
+use Rattle.lock_model.specs.Ballots.{Ballot, AllCross, node_count}
 use Rattle.world_model.specs.declared.exact.ExactStation.{ExactStation}
 use Rattle.world_model.specs.declared.exact.ExactNode.{ExactNode}
 use Rattle.world_model.specs.declared.exact.ExactNodePhase.TheVariants as node
@@ -23,15 +23,15 @@ abbrev pub down_client : ℕ → ExactClient
 down_client attempt = record { kept = attempt; tried = None; phase = client.Down }
 
 -- The world in which these stations and attempts are kept: all actors are down, nothing is sent.
-abbrev pub resumed : Ballot → List ExactStation → List ℕ → ExactWorld
-resumed b stations attempts = record { ballot = b; nodes = map down_node stations; clients = map down_client attempts; sent = [] }
+abbrev pub resumed : List Ballot → List ExactStation → List ℕ → ExactWorld
+resumed b stations attempts = record { ballots = b; nodes = map down_node stations; clients = map down_client attempts; sent = [] }
 
 -- a record in which nothing was ever written
 abbrev pub empty_station : Problem → ExactStation
 empty_station p = record { problem = p; entries = [] }
 
 -- The world in which nothing is kept: each node's problem is given, and the number of clients.
-abbrev pub opening : Ballot → List Problem → ℕ → ExactWorld
+abbrev pub opening : List Ballot → List Problem → ℕ → ExactWorld
 opening b problems clients = resumed b (map empty_station problems) (replicate clients 0)
 
 -- the attempt that a client has kept, 0 for one that isn't there
@@ -57,11 +57,11 @@ entries_within attempts entries = list_all (entry_within attempts) entries
 abbrev pub stations_within : List ℕ → List ExactStation → Bool
 stations_within attempts stations = list_all (λ s. entries_within attempts s.entries) stations
 
--- What a world can be resumed from: a ballot that crosses, a station for each of its nodes that is well
+-- What a world can be resumed from: ballots that cross, a station for each of their nodes that is well
 -- formed, lawful and caused, attempts in range, and no floor or live attempt above its client's attempt.
-pub record IsResumable (b : Ballot) (stations : List ExactStation) (attempts : List ℕ) : Type 0 where
-  pub crosses : Crosses b
-  pub nodes : length stations ≡ length b.votes
+pub record IsResumable (b : List Ballot) (stations : List ExactStation) (attempts : List ℕ) : Type 0 where
+  pub crosses : AllCross b
+  pub nodes : length stations ≡ node_count b
   pub sound : AllByRecursion IsSoundStation stations
   pub in_range : AllByRecursion (λ a. a ≤ MAX_ATTEMPT) attempts
   pub within : IsTrue (stations_within attempts stations)

@@ -45,7 +45,7 @@ part w (actor.Node n) = node_part (numbered w.nodes n)
 part w (actor.Client c) = client_part (numbered w.clients c)
 
 -- what the actor's own part refuses
-abbrev pub refused_in : Ballot → Deed → Part → Option StepFault
+abbrev pub refused_in : List Ballot → Deed → Part → Option StepFault
 refused_in b (NodeDoes n turn) NoPart = Some fault.UnknownActor
 refused_in b (NodeDoes n turn) (NodePart v) = refusal_of (turn v)
 refused_in b (NodeDoes n turn) (ClientPart k) = Some fault.UnknownActor
@@ -53,7 +53,7 @@ refused_in b (ClientDoes c turn) NoPart = Some fault.UnknownActor
 refused_in b (ClientDoes c turn) (NodePart v) = Some fault.UnknownActor
 refused_in b (ClientDoes c turn) (ClientPart k) = refusal_of (turn b k)
 
-abbrev pub own_refusal : Ballot → Event → Part → Option StepFault
+abbrev pub own_refusal : List Ballot → Event → Part → Option StepFault
 own_refusal b e p = refused_in b (deed_of e) p
 
 -- a refusal that an actor's own part may have; the others are the list's, and want of memory
@@ -71,6 +71,7 @@ is_own_fault fault.NothingToSay = true
 is_own_fault fault.NoQuorum = true
 is_own_fault fault.AttemptsSpent = true
 is_own_fault fault.NothingTried = true
+is_own_fault fault.NoSuchPlace = true
 
 -- the refusals that the list of messages may have for an event
 abbrev pub IsListFault : Event → StepFault → Type 0
@@ -78,7 +79,7 @@ IsListFault (event.Take n k) f = (f ≡ fault.NoSuchMessage) ⊎ (f ≡ fault.No
 IsListFault (event.Hear c k) f = (f ≡ fault.NoSuchMessage) ⊎ (f ≡ fault.NotAddressed)
 IsListFault (event.SayTo c n) f = f ≡ fault.SentListFull
 IsListFault (event.Say n) f = f ≡ fault.SentListFull
-IsListFault (event.Begin c m x) f = ⊥
+IsListFault (event.Begin c m x place) f = ⊥
 IsListFault (event.Try who) f = ⊥
 IsListFault (event.Kept who) f = ⊥
 IsListFault (event.Enter c) f = ⊥
@@ -111,7 +112,7 @@ after_turn before (Ok (Acts after effect)) done = after
 after_turn before (Ok (Speaks after says effect)) done = after
 after_turn before (Ok (Reads number is_mine after effect)) done = after_reading before after (message_of done)
 
-abbrev pub after_in : Ballot → Deed → Effect → Part → Part
+abbrev pub after_in : List Ballot → Deed → Effect → Part → Part
 after_in b deed done NoPart = NoPart
 after_in b (NodeDoes n turn) done (NodePart v) = NodePart (after_turn v (turn v) done)
 after_in b (NodeDoes n turn) done (ClientPart k) = ClientPart k
@@ -119,7 +120,7 @@ after_in b (ClientDoes c turn) done (NodePart v) = NodePart v
 after_in b (ClientDoes c turn) done (ClientPart k) = ClientPart (after_turn k (turn b k) done)
 
 -- an actor's part after an event of its own that had this effect
-abbrev pub after_own : Ballot → Event → Effect → Part → Part
+abbrev pub after_own : List Ballot → Event → Effect → Part → Part
 after_own b e done p = after_in b (deed_of e) done p
 
 -- what is said in a turn
@@ -129,12 +130,12 @@ turn_says (Ok (Acts after effect)) = []
 turn_says (Ok (Speaks after says effect)) = says
 turn_says (Ok (Reads number is_mine after effect)) = []
 
-abbrev pub said_in : Ballot → Deed → Part → List Message
+abbrev pub said_in : List Ballot → Deed → Part → List Message
 said_in b deed NoPart = []
 said_in b (NodeDoes n turn) (NodePart v) = turn_says (turn v)
 said_in b (NodeDoes n turn) (ClientPart k) = []
 said_in b (ClientDoes c turn) (NodePart v) = []
 said_in b (ClientDoes c turn) (ClientPart k) = turn_says (turn b k)
 
-abbrev pub said_by : Ballot → Event → Part → List Message
+abbrev pub said_by : List Ballot → Event → Part → List Message
 said_by b e p = said_in b (deed_of e) p

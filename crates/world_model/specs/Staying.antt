@@ -24,7 +24,7 @@ inside_ticket (ClientPart k) = ticket_in k.phase
 abbrev pub leaves_or_falls : Event → Bool
 leaves_or_falls (event.Leave c) = true
 leaves_or_falls (event.Fall who) = true
-leaves_or_falls (event.Begin c m x) = false
+leaves_or_falls (event.Begin c m x place) = false
 leaves_or_falls (event.Try who) = false
 leaves_or_falls (event.Kept who) = false
 leaves_or_falls (event.SayTo c n) = false
@@ -41,7 +41,7 @@ HasNoEnd own = AllByRecursion (λ p. leaves_or_falls p.0 ≡ false) own
 -- A client's part that is inside with a ticket is inside with the same ticket after any events of its own
 -- that have no Leave and no Fall.
 abbrev pub PartsStayInside : Type 0
-PartsStayInside = (b : Ballot) (p : Part) (t : Ticket) (own : List (Event × Effect)) → inside_ticket p ≡ Some t → HasNoEnd own →
+PartsStayInside = (b : List Ballot) (p : Part) (t : Ticket) (own : List (Event × Effect)) → inside_ticket p ≡ Some t → HasNoEnd own →
     inside_ticket (local_part b p own) ≡ Some t
 
 -- So a client inside a resource is inside it, with the same ticket, after every history in which it has no

@@ -17,7 +17,7 @@ use Rattle.world_model.specs.ExactWorlds.{numbered}
 abbrev pub ticket_in : ExactClientPhase → Option Ticket
 ticket_in client.Down = None
 ticket_in client.Idle = None
-ticket_in (client.Chosen t) = None
+ticket_in (client.Chosen t place) = None
 ticket_in (client.Asking p) = None
 ticket_in (client.Inside p) = Some p.ticket
 

@@ -9,7 +9,7 @@ use Rattle.lock_messages.specs.declared.messages.Message.TheVariants as message
 use Rattle.lock_messages.specs.Messages.{is_for_node, is_for_client}
 use Rattle.lock_model.specs.declared.hearing.Heard.{Heard}
 use Rattle.lock_model.specs.declared.hearing.Heard.TheVariants as heard
-use Rattle.lock_model.specs.Ballots.{Ballot, HasNode, IsEnough}
+use Rattle.lock_model.specs.Ballots.{Ballot, HasAnyNode, HasPlace, IsEnough, ballot_at, node_count}
 use Rattle.lock_model.specs.Stations.{Free, Standing, Station, IsLawful, IsCaused}
 use Rattle.lock_model.specs.Decisions.{Among, Decides}
 use Rattle.lock_model.specs.Hearing.{HearsOfTicket, HearsAtRest}
@@ -44,16 +44,18 @@ pub record EachStation (P : Station → Type 0) (v : Node) : Type 0 where
   pub tried : IfSome v.tried P
   pub decided : IfDecided v.phase P
 
--- what a client has of its present attempt: its ticket, and the set of nodes that granted it
+-- what a client has of its present attempt: its ticket, the place of the ballot by which its votes count,
+-- and the set of nodes that granted it
 pub record Present : Type 0 where
   pub ticket : Ticket
+  pub place : ℕ
   pub granted : ℕ → Bool
 
 -- what a client is about
 pub data ClientPhase : Type 0 where
   ClientDown : ClientPhase
   ClientIdle : ClientPhase
-  Chosen : (ticket : Ticket) → ClientPhase
+  Chosen : (ticket : Ticket) (place : ℕ) → ClientPhase
   Asking : (present : Present) → ClientPhase
   IsIn : (present : Present) → ClientPhase
 
@@ -69,9 +71,9 @@ pub record World : Type 0 where
   pub clients : ℕ → Client
   pub sent : List Message
 
--- who takes part: the nodes of a ballot, and clients numbered from 1
+-- who takes part: the nodes of a list of ballots, and clients numbered from 1
 pub record Setting : Type 0 where
-  pub ballot : Ballot
+  pub ballots : List Ballot
   pub clients : ℕ
 
 abbrev pub HasClient : Setting → ℕ → Type 0
@@ -83,7 +85,7 @@ Sends w said v = (m : Message) → Among m v.sent ↔ (Among m w.sent ⊎ Among 
 
 -- only this node changes, from before to after, and it says this
 pub record OfNode (s : Setting) (n : ℕ) (w : World) (before after : Node) (said : List Message) (v : World) : Type 0 where
-  pub known : HasNode s.ballot n
+  pub known : HasAnyNode s.ballots n
   pub was : w.nodes n ≡ before
   pub is : v.nodes n ≡ after
   pub others : (k : ℕ) → k ≢ n → v.nodes k ≡ w.nodes k
@@ -101,26 +103,26 @@ pub record OfClient (s : Setting) (c : ℕ) (w : World) (before after : Client) 
 
 -- What an actor does by itself, as a relation between it before and after, and what it says.
 
--- a client that rests begins its next attempt
-pub data Begins (c : ℕ) (m : Mode) (x : List ℕ) : Client → Client → Type 0 where
-  begins : (kept : ℕ) (tried : Option ℕ) → kept < MAX_ATTEMPT →
-      Begins c m x (record { kept = kept; tried = tried; phase = ClientIdle })
-      (record { kept = kept; tried = tried; phase = Chosen (record { client = c; attempt = kept + 1; mode = m; resource = x }) })
+-- a client that rests begins its next attempt, by a ballot that is there
+pub data Begins (b : List Ballot) (c : ℕ) (m : Mode) (x : List ℕ) (place : ℕ) : Client → Client → Type 0 where
+  begins : (kept : ℕ) (tried : Option ℕ) → kept < MAX_ATTEMPT → HasPlace b place →
+      Begins b c m x place (record { kept = kept; tried = tried; phase = ClientIdle })
+      (record { kept = kept; tried = tried; phase = Chosen (record { client = c; attempt = kept + 1; mode = m; resource = x }) place })
 
 -- with nothing tried, what was chosen or decided is tried
 pub data TriesAttempt : Client → Client → Type 0 where
-  tries_attempt : (kept : ℕ) (t : Ticket) → TriesAttempt (record { kept = kept; tried = None; phase = Chosen t }) (record { kept = kept; tried = Some t.attempt; phase = Chosen t })
+  tries_attempt : (kept : ℕ) (t : Ticket) (place : ℕ) → TriesAttempt (record { kept = kept; tried = None; phase = Chosen t place }) (record { kept = kept; tried = Some t.attempt; phase = Chosen t place })
 
 pub data TriesStation : Node → Node → Type 0 where
   tries_station : (kept s : Station) (replies : List Message) → TriesStation (record { kept = kept; tried = None; phase = Decided s replies }) (record { kept = kept; tried = Some s; phase = Decided s replies })
 
--- a ticket with which the client begins to ask, and no node has granted it
-abbrev pub first_of : Ticket → Present
-first_of t = record { ticket = t; granted = λ n. false }
+-- a ticket and a place with which the client begins to ask, and no node has granted it
+abbrev pub first_of : Ticket → ℕ → Present
+first_of t place = record { ticket = t; place = place; granted = λ n. false }
 
 -- what is tried becomes what is kept
 pub data KeepsAttempt : Client → Client → Type 0 where
-  keeps_attempt : (kept a : ℕ) (t : Ticket) → KeepsAttempt (record { kept = kept; tried = Some a; phase = Chosen t }) (record { kept = a; tried = None; phase = Asking (first_of t) })
+  keeps_attempt : (kept a : ℕ) (t : Ticket) (place : ℕ) → KeepsAttempt (record { kept = kept; tried = Some a; phase = Chosen t place }) (record { kept = a; tried = None; phase = Asking (first_of t place) })
 
 pub data KeepsStation : Node → Node → Type 0 where
   keeps_station : (kept tried s : Station) (replies : List Message) → KeepsStation (record { kept = kept; tried = Some tried; phase = Decided s replies }) (record { kept = tried; tried = None; phase = Stored replies })
@@ -157,23 +159,23 @@ abbrev pub gained : Message → Present → Present
 gained m p = record p { granted = λ k. grants_from m k || p.granted k }
 
 -- a client hears a message: a vote counts where it has the ticket, and nothing else changes it
-pub data Hears (b : Ballot) (c : ℕ) (m : Message) : Client → Client → Type 0 where
-  counts : (kept : ℕ) (tried : Option ℕ) (p : Present) → HearsOfTicket b p.ticket p.granted m heard.Counted →
+pub data Hears (b : List Ballot) (c : ℕ) (m : Message) : Client → Client → Type 0 where
+  counts : (kept : ℕ) (tried : Option ℕ) (p : Present) → HearsOfTicket (node_count b) p.ticket p.granted m heard.Counted →
       Hears b c m (record { kept = kept; tried = tried; phase = Asking p }) (record { kept = kept; tried = tried; phase = Asking (gained m p) })
-  counts_inside : (kept : ℕ) (tried : Option ℕ) (p : Present) → HearsOfTicket b p.ticket p.granted m heard.Counted →
+  counts_inside : (kept : ℕ) (tried : Option ℕ) (p : Present) → HearsOfTicket (node_count b) p.ticket p.granted m heard.Counted →
       Hears b c m (record { kept = kept; tried = tried; phase = IsIn p }) (record { kept = kept; tried = tried; phase = IsIn (gained m p) })
-  passes : (kept : ℕ) (tried : Option ℕ) (p : Present) (h : Heard) → HearsOfTicket b p.ticket p.granted m h → h ≢ heard.Counted →
+  passes : (kept : ℕ) (tried : Option ℕ) (p : Present) (h : Heard) → HearsOfTicket (node_count b) p.ticket p.granted m h → h ≢ heard.Counted →
       Hears b c m (record { kept = kept; tried = tried; phase = Asking p }) (record { kept = kept; tried = tried; phase = Asking p })
-  passes_inside : (kept : ℕ) (tried : Option ℕ) (p : Present) (h : Heard) → HearsOfTicket b p.ticket p.granted m h → h ≢ heard.Counted →
+  passes_inside : (kept : ℕ) (tried : Option ℕ) (p : Present) (h : Heard) → HearsOfTicket (node_count b) p.ticket p.granted m h → h ≢ heard.Counted →
       Hears b c m (record { kept = kept; tried = tried; phase = IsIn p }) (record { kept = kept; tried = tried; phase = IsIn p })
-  passes_idle : (kept : ℕ) (tried : Option ℕ) (h : Heard) → HearsAtRest b c kept m h →
+  passes_idle : (kept : ℕ) (tried : Option ℕ) (h : Heard) → HearsAtRest (node_count b) c kept m h →
       Hears b c m (record { kept = kept; tried = tried; phase = ClientIdle }) (record { kept = kept; tried = tried; phase = ClientIdle })
-  passes_chosen : (kept : ℕ) (tried : Option ℕ) (t : Ticket) →
-      Hears b c m (record { kept = kept; tried = tried; phase = Chosen t }) (record { kept = kept; tried = tried; phase = Chosen t })
+  passes_chosen : (kept : ℕ) (tried : Option ℕ) (t : Ticket) (place : ℕ) →
+      Hears b c m (record { kept = kept; tried = tried; phase = Chosen t place }) (record { kept = kept; tried = tried; phase = Chosen t place })
 
--- a client whose votes are enough enters
-pub data Enters (b : Ballot) : Client → Client → Type 0 where
-  enters : (kept : ℕ) (tried : Option ℕ) (p : Present) → IsEnough b p.ticket.mode p.granted →
+-- a client whose votes are enough by the ballot of its attempt enters
+pub data Enters (b : List Ballot) : Client → Client → Type 0 where
+  enters : (kept : ℕ) (tried : Option ℕ) (p : Present) → IsEnough (ballot_at b p.place) p.ticket.mode p.granted →
       Enters b (record { kept = kept; tried = tried; phase = Asking p }) (record { kept = kept; tried = tried; phase = IsIn p })
 
 -- a client that asks or is inside leaves
@@ -206,18 +208,18 @@ ByClient s w v c R = (before : Client) × (after : Client) × R before after × 
 
 -- From w, this event may lead to v.
 abbrev pub Happens : Setting → World → Event → World → Type 0
-Happens s w (event.Begin c m x) v = ByClient s w v c (Begins c m x)
+Happens s w (event.Begin c m x place) v = ByClient s w v c (Begins s.ballots c m x place)
 Happens s w (event.Try (actor.Node n)) v = ByNode s w v n TriesStation
 Happens s w (event.Try (actor.Client c)) v = ByClient s w v c TriesAttempt
 Happens s w (event.Kept (actor.Node n)) v = ByNode s w v n KeepsStation
 Happens s w (event.Kept (actor.Client c)) v = ByClient s w v c KeepsAttempt
-Happens s w (event.SayTo c n) v = HasNode s.ballot n × ((before : Client) × (said : List Message) × Tells c n before said × OfClient s c w before before said v)
+Happens s w (event.SayTo c n) v = HasAnyNode s.ballots n × ((before : Client) × (said : List Message) × Tells c n before said × OfClient s c w before before said v)
 Happens s w (event.Say n) v = (before : Node) × (after : Node) × (said : List Message) × Says before after said × OfNode s n w before after said v
 -- any message that was ever sent to the node
 Happens s w (event.Take n k) v = (m : Message) × Among m w.sent × (is_for_node m n ≡ true) × ByNode s w v n (Takes m)
 -- any message that was ever sent to the client
-Happens s w (event.Hear c k) v = (m : Message) × Among m w.sent × (is_for_client m c ≡ true) × ByClient s w v c (Hears s.ballot c m)
-Happens s w (event.Enter c) v = ByClient s w v c (Enters s.ballot)
+Happens s w (event.Hear c k) v = (m : Message) × Among m w.sent × (is_for_client m c ≡ true) × ByClient s w v c (Hears s.ballots c m)
+Happens s w (event.Enter c) v = ByClient s w v c (Enters s.ballots)
 Happens s w (event.Leave c) v = ByClient s w v c Leaves
 Happens s w (event.Fall (actor.Node n)) v = ByNode s w v n NodeFalls
 Happens s w (event.Fall (actor.Client c)) v = ByClient s w v c ClientFalls

@@ -19,8 +19,8 @@ pub enum Age {
 /// What may happen: one atomic action of one actor.
 #[derive(Clone, Copy, Debug, PartialEq, Eq, Hash)]
 pub enum Event {
-    /// The client begins its next attempt, in this mode, for this resource.
-    Begin(ClientId, Mode, ResourceName),
+    /// The client begins its next attempt, in this mode, for this resource, by the ballot at this place.
+    Begin(ClientId, Mode, ResourceName, u8),
     /// The actor starts to keep what it decided or chose.
     Try(Actor),
     /// The actor has kept it.
@@ -94,10 +94,12 @@ pub enum StepFault {
     SentListFull,
     #[error("there was no memory")]
     Memory,
+    #[error("there is no ballot at this place")]
+    NoSuchPlace,
 }
 
 impl StepFault {
-    /// The number by which programs print the fault: 601 to 613.
+    /// The number by which programs print the fault: 601 to 614.
     pub fn number(self) -> u16
         ensures { result ≡ fault_number self }
     {
@@ -115,6 +117,7 @@ impl StepFault {
             StepFault::NothingTried => 611,
             StepFault::SentListFull => 612,
             StepFault::Memory => 613,
+            StepFault::NoSuchPlace => 614,
         }
     }
 }

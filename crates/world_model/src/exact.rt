@@ -32,10 +32,12 @@ pub struct ExactNode {
     pub phase: ExactNodePhase,
 }
 
-/// What a client has of its present attempt: its ticket, and the nodes that granted it, in ascending order.
+/// What a client has of its present attempt: its ticket, the place of the ballot by which its votes count,
+/// and the nodes that granted it, in ascending order.
 #[derive(Debug, Drop)]
 pub struct ExactPresent {
     pub ticket: Ticket,
+    pub place: u8,
     pub granted: LinkedList<NodeId>,
 }
 
@@ -44,8 +46,8 @@ pub struct ExactPresent {
 pub enum ExactClientPhase {
     Down,
     Idle,
-    /// It has chosen its next attempt.
-    Chosen(Ticket),
+    /// It has chosen its next attempt, and the place of the ballot by which its votes will count.
+    Chosen(Ticket, u8),
     /// It asks nodes for their votes.
     Asking(ExactPresent),
     /// It is inside.
@@ -61,11 +63,11 @@ pub struct ExactClient {
     pub phase: ExactClientPhase,
 }
 
-/// A world: its ballot, its nodes and clients in the order of their numbers, and all messages ever
+/// A world: its ballots, its nodes and clients in the order of their numbers, and all messages ever
 /// sent, in the order in which they were.
 #[derive(Debug, Drop)]
 pub struct ExactWorld {
-    pub ballot: Ballot,
+    pub ballots: LinkedList<Ballot>,
     pub nodes: LinkedList<ExactNode>,
     pub clients: LinkedList<ExactClient>,
     pub sent: LinkedList<Message>,

@@ -1,7 +1,7 @@
 //! Laws of the definitions. Each function computes nothing: its contract is a theorem.
 
 ghost use Rattle.std.specs.Prelude.{◌≡◌};
-ghost use Rattle.world_model.specs.Examples.{FirstReader, OneGrantIsTooFew, SayBeforeKept, RestartWithOldRecord, RestartWithNewRecord, RefusedRises, RestartedClient, GreatestAttempt};
+ghost use Rattle.world_model.specs.Examples.{FirstReader, OneGrantIsTooFew, SayBeforeKept, RestartWithOldRecord, RestartWithNewRecord, RefusedRises, RestartedClient, NoSuchPlace, GreatestAttempt};
 ghost use Rattle.world_model.specs.Exclusion.{WritersAreAlone, StationsStaySound, NothingIsMuddled};
 ghost use Rattle.world_model.specs.Laws.{ExactStepsAreAllowed, StepsKeepSound, AllowedStepsAreTaken, ExactRunsAreRuns, ResumedIsSound, ResumedIsLawful, OnlyWithinIsLawful, OpeningIsResumable, SaidNumbersFit, SoundIsExclusive, InsideIsTheSet, WriterInsideIsOnly, WaitingIsTheSet, HoldingIsTheSet};
 ghost use Rattle.world_model.specs.Locality.{PlacesAreApart, StepsChangeOnePart, OwnRefusalsComeFirst, ListRefusalsComeSecond, FullOnlyWithoutRoom, MemoryIsNoRefusal, EffectsAreOfTheirEvents, MessagesAreAsListed, PartsAreLocal, RefusalsAreLocal, HistoriesAreRuns};
@@ -9,7 +9,7 @@ ghost use Rattle.world_model.specs.Staying.{PartsStayInside, ClientsStayInside, 
 
 use crate::MAX_MESSAGES;
 
-/// The exclusion theorem. After every run from a lawful opening, under a ballot that crosses, a
+/// The exclusion theorem. After every run from a lawful opening, under ballots that cross, a
 /// writer inside a resource is there alone, and in every station of every node each reader waits only
 /// where a writer holds that node's vote for the resource or, under problem 2, waits for it there.
 /// Every station stays lawful and caused, and no Muddled is ever sent.
@@ -18,7 +18,8 @@ pub fn writers_are_alone()
     ensures stations { StationsStaySound }
     ensures muddled { NothingIsMuddled }
 {
-    lock_model::laws::enough_sets_share_a_node();
+    lock_model::laws::enough_sets_share_a_node_of_both();
+    lock_model::laws::any_two_cross();
 }
 
 /// Each step of the exact world, its order and numbers forgotten, is one that may happen, and leaves
@@ -35,7 +36,7 @@ pub fn exact_steps_are_allowed()
     lock_model::laws::hearing_is_exact();
 }
 
-/// A world in which nothing is kept can be opened under each ballot, and one that is resumed from
+/// A world in which nothing is kept can be opened under each list of ballots, and one that is resumed from
 /// stations and attempts that fit is sound; it is a lawful opening exactly where they fit.
 pub fn openings_are_lawful()
     ensures empty { OpeningIsResumable }
@@ -53,7 +54,8 @@ pub fn lists_are_the_sets()
     ensures waiting { WaitingIsTheSet }
     ensures holding { HoldingIsTheSet }
 {
-    lock_model::laws::enough_sets_share_a_node();
+    lock_model::laws::enough_sets_share_a_node_of_both();
+    lock_model::laws::any_two_cross();
 }
 
 /// The messages that are said in a step have numbers that messages can have.
@@ -117,6 +119,7 @@ pub fn worked_examples()
     ensures restart_with_new_record { RestartWithNewRecord }
     ensures refused_rises { RefusedRises }
     ensures restarted_client { RestartedClient }
+    ensures no_such_place { NoSuchPlace }
     ensures greatest_attempt { GreatestAttempt }
 {}
 

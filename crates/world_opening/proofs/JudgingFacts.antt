@@ -8,7 +8,7 @@ use Rattle.std.proofs.Math.Seq.{drop-cons}
 use Rattle.std.proofs.lemmas.List.{length-append}
 use Rattle.std.proofs.lemmas.Option.{slice_get-map, slice_get_read, slice_get-get_or, slice_get_within, get_or_from_slice_get}
 use Rattle.lock_messages.specs.declared.ids.TheConstants.{MAX_ATTEMPT}
-use Rattle.lock_model.specs.Ballots.{Ballot, Crosses}
+use Rattle.lock_model.specs.Ballots.{Ballot, AllCross, node_count}
 use Rattle.lock_model.specs.declared.problems.Problem.{Problem}
 use Rattle.stable_record.specs.declared.node_records.NodeRecord.{NodeRecord}
 use Rattle.world_model.specs.ExactWorlds.{numbered}
@@ -108,7 +108,7 @@ all-mapped P f (x ∷ xs) h = (h.0, all-mapped P f xs h.1)
 
 -- records that fit
 pub fit_to_open : (problems : List Problem) (nodes clients : List (List ℕ)) (records : List NodeRecord) (attempts : List ℕ) → AreRecords problems nodes records → AreAttempts clients attempts →
-    list_all (λ r. entries_within attempts r.entries) records ≡ true → length nodes ≡ length problems → (b : Ballot) → Crosses b → length problems ≡ length b.votes → IsResumable b (stations_in records) attempts
+    list_all (λ r. entries_within attempts r.entries) records ≡ true → length nodes ≡ length problems → (b : List Ballot) → AllCross b → length problems ≡ node_count b → IsResumable b (stations_in records) attempts
 fit_to_open problems nodes clients records attempts are made within count b crosses votes = record {
   crosses = crosses;
   nodes = length-map records station_in ∙ are.count_is ∙ count ∙ votes;

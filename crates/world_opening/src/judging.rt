@@ -4,7 +4,7 @@ ghost use Rattle.std.specs.Prelude.{◌≡◌, ◌<◌, ◌≤◌, ◌+◌, ℕ,
 ghost use Rattle.std.specs.List.{list_all};
 ghost use Rattle.lock_messages.specs.declared.ids.TheConstants.{MAX_NODES, MAX_CLIENTS};
 ghost use Rattle.lock_model.specs.declared.problems.Problem.{Problem};
-ghost use Rattle.lock_model.specs.Ballots.{Ballot, Crosses};
+ghost use Rattle.lock_model.specs.Ballots.{Ballot, node_count, AllCross};
 ghost use Rattle.stable_record.specs.declared.node_records.NodeRecord.{NodeRecord};
 ghost use Rattle.world_model.specs.Openings.{kept_attempt, live_within, entry_within, entries_within};
 ghost use Rattle.world_model.specs.Openings.{IsResumable};
@@ -196,7 +196,7 @@ pub fn judge(
     ensures records { IfOk result (λ o. AreRecords problems.now (map (λ v. v.items) nodes.now) o.records.items) }
     ensures attempts { IfOk result (λ o. AreAttempts (map (λ v. v.items) clients.now) o.attempts.items) }
     // Under a ballot that crosses and has these nodes, a world can be opened from it.
-    ensures resumable { IfOk result (λ o. (b : Ballot) → Crosses b → length problems.now ≡ length b.votes → IsResumable b (stations_in o.records.items) o.attempts.items) }
+    ensures resumable { IfOk result (λ o. (b : List Ballot) → AllCross b → length problems.now ≡ node_count b → IsResumable b (stations_in o.records.items) o.attempts.items) }
     ensures refused { IfErr result (λ fault. IsRefusedOpening problems.now (map (λ v. v.items) nodes.now) (map (λ v. v.items) clients.now) fault) }
 {
     let records = match records_of(alloc, problems, nodes) {

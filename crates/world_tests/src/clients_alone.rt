@@ -4,14 +4,17 @@ use crate::values::{attempt, client, node, resource, ticket};
 use lock_messages::{Message, Mode};
 use lock_model::Heard;
 use test_outcomes::{Failure, Outcome, check};
-use vote_weights::Ballot;
+use vote_weights::{Ballot, BallotList};
 use world_actors::WorldClient;
 use world_model::{Age, StepFault};
 
 /// c1 under a ballot of one node, down, with nothing kept.
 fn empty() -> Result<WorldClient, Failure> {
-    match Ballot::of(&[1], 1, 1) {
-        Ok(ballot) => Ok(WorldClient::opened(client(1)?, 0, ballot)),
+    let Ok(ballot) = Ballot::of(&[1], 1, 1) else {
+        return Err(Failure::Wrong(0));
+    };
+    match BallotList::of(&[ballot]) {
+        Ok(ballots) => Ok(WorldClient::opened(client(1)?, 0, ballots)),
         Err(_) => Err(Failure::Wrong(0)),
     }
 }
@@ -21,7 +24,8 @@ fn trying() -> Result<WorldClient, Failure> {
     let (resource, first) = (resource()?, attempt(1)?);
     let mut one = empty()?;
     one.rise(Age::Old)?;
-    check(one.begin(Mode::Write, resource) == Ok(first))?;
+    check(one.begin(Mode::Write, resource, 2) == Err(StepFault::NoSuchPlace))?;
+    check(one.begin(Mode::Write, resource, 1) == Ok(first))?;
     check(one.message_for(node(1)?) == Err(StepFault::NotStored))?;
     one.start_keeping()?;
     Ok(one)
@@ -63,5 +67,5 @@ fn restarted_client(_rt: HostRuntime) -> Outcome {
     let mut one = trying()?;
     one.fall()?;
     one.rise(Age::New)?;
-    check(one.kept() == 1 && one.begin(Mode::Read, resource()?) == Ok(attempt(2)?))
+    check(one.kept() == 1 && one.begin(Mode::Read, resource()?, 1) == Ok(attempt(2)?))
 }

@@ -85,7 +85,7 @@ fn attempt_step(words: &mut Pcg32, round: u32) -> Result<Event, Failure> {
         Mode::Read
     };
     Ok(match round % 16 {
-        0 => Event::Begin(client, mode, name),
+        0 => Event::Begin(client, mode, name, 1 + (round / 16 % 2) as u8),
         1 => Event::Try(Actor::Client(client)),
         2 => Event::Kept(Actor::Client(client)),
         9..=11 => Event::Enter(client),

@@ -6,14 +6,17 @@ use admission_policy::Admission;
 use lock_messages::{Actor, ClientId, MAX_CLIENTS, Mode, NodeId, ResourceName};
 use std::alloc::Global;
 use test_outcomes::{Failure, Outcome, check, check_row};
-use vote_weights::Ballot;
+use vote_weights::{Ballot, BallotList};
 use world_machine::{OpeningFault, World};
 use world_model::{Age, Event, StepFault};
 
 /// Three nodes of one vote each.
-fn ballot() -> Result<Ballot, Failure> {
-    match Ballot::of(&[1, 1, 1], 2, 2) {
-        Ok(ballot) => Ok(ballot),
+fn ballots() -> Result<BallotList, Failure> {
+    let Ok(ballot) = Ballot::of(&[1, 1, 1], 2, 2) else {
+        return Err(Failure::Wrong(0));
+    };
+    match BallotList::of(&[ballot]) {
+        Ok(ballots) => Ok(ballots),
         Err(_) => Err(Failure::Wrong(0)),
     }
 }
@@ -41,9 +44,9 @@ fn opened(
 
 /// What comes of the records of these names.
 fn resumed(alloc: Global, nodes: &[Vec<u8>], clients: &[Vec<u8>]) -> Result<Opened, Failure> {
-    let ballot = ballot()?;
+    let ballots = ballots()?;
     let policies = policies(alloc)?;
-    let count = ballot.nodes() as usize;
+    let count = ballots.nodes() as usize;
     if nodes.len() != count || policies.len() != count {
         return Err(Failure::Wrong(0));
     }
@@ -51,7 +54,7 @@ fn resumed(alloc: Global, nodes: &[Vec<u8>], clients: &[Vec<u8>]) -> Result<Open
         return Err(Failure::Wrong(0));
     }
     let number = clients.len() as u16;
-    opened(World::resume(alloc, ballot, number, policies, nodes, clients))
+    opened(World::resume(alloc, ballots, number, policies, nodes, clients))
 }
 
 fn node(number: u8) -> Result<NodeId, Failure> {
@@ -218,7 +221,7 @@ fn greatest_attempt(rt: HostRuntime) -> Outcome {
     let Some(a) = ResourceName::of(b"a") else {
         return Err(Failure::Wrong(0));
     };
-    let begin = Event::Begin(c1, Mode::Read, a);
+    let begin = Event::Begin(c1, Mode::Read, a, 1);
     is_refused_as(&mut world, &begin, StepFault::Down)?;
     world.step(&Event::Rise(Actor::Client(c1), Age::Old))?;
     is_refused_as(&mut world, &begin, StepFault::AttemptsSpent)
@@ -226,12 +229,12 @@ fn greatest_attempt(rt: HostRuntime) -> Outcome {
 
 /// The world in which nothing is kept, with four clients.
 fn started(alloc: Global) -> Result<World, Failure> {
-    let ballot = ballot()?;
+    let ballots = ballots()?;
     let policies = policies(alloc)?;
-    if policies.len() != ballot.nodes() as usize {
+    if policies.len() != ballots.nodes() as usize {
         return Err(Failure::Wrong(0));
     }
-    match opened(World::start(alloc, ballot, 4, policies))? {
+    match opened(World::start(alloc, ballots, 4, policies))? {
         Ok(world) => Ok(world),
         Err(_) => Err(Failure::Wrong(0)),
     }

@@ -5,7 +5,7 @@ use admission_policy::{Admission, FirstProblem};
 use lock_messages::{Actor, Message, Mode, ResourceName};
 use std::alloc::Global;
 use test_outcomes::{Failure, Outcome, check};
-use vote_weights::Ballot;
+use vote_weights::{Ballot, BallotList};
 use world_machine::World;
 use world_model::{Age, Event};
 
@@ -25,13 +25,16 @@ fn world(alloc: Global) -> Result<World, Failure> {
     let Ok(ballot) = Ballot::of(&[1], 1, 1) else {
         return Err(Failure::Wrong(0));
     };
+    let Ok(ballots) = BallotList::of(&[ballot]) else {
+        return Err(Failure::Wrong(0));
+    };
     let policy: Box<dyn Admission + Send> = Box::new(alloc, FirstProblem)?;
     let mut policies = Vec::new(alloc);
     policies.push(policy)?;
-    if policies.len() != ballot.nodes() as usize {
+    if policies.len() != ballots.nodes() as usize {
         return Err(Failure::Wrong(0));
     }
-    match World::start(alloc, ballot, 3, policies) {
+    match World::start(alloc, ballots, 3, policies) {
         Ok(world) => Ok(world),
         Err(_) => Err(Failure::Memory),
     }
@@ -50,7 +53,7 @@ fn asks(world: &mut World, number: u32, mode: Mode, asking: u32, answer: u32) ->
     let (who, asked) = (Actor::Client(from), Actor::Node(to));
     let events = [
         Event::Rise(who, Age::Old),
-        Event::Begin(from, mode, resource()?),
+        Event::Begin(from, mode, resource()?, 1),
         Event::Try(who),
         Event::Kept(who),
         Event::SayTo(from, to),

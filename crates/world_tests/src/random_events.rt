@@ -8,7 +8,7 @@ use lock_model::Problem;
 use rand_pcg::Pcg32;
 use std::alloc::Global;
 use test_outcomes::{Failure, Outcome, check};
-use vote_weights::Ballot;
+use vote_weights::{Ballot, BallotList};
 use world_machine::World;
 use world_model::{Age, Effect, Event, StepFault};
 
@@ -16,7 +16,7 @@ use world_model::{Age, Effect, Event, StepFault};
 const SEED: u64 = 9;
 
 /// The events that are tried; more than 3,000 of them are taken.
-const TURNS: u32 = 9_000;
+const TURNS: u32 = 14_000;
 
 /// The plain policy of a problem.
 fn policy_of(alloc: Global, problem: Problem) -> Result<Box<dyn Admission + Send>, Failure> {
@@ -42,21 +42,28 @@ fn policies_of(alloc: Global, problem: Problem) -> Result<Vec<Box<dyn Admission 
     Ok(policies)
 }
 
-fn ballot() -> Result<Ballot, Failure> {
-    match Ballot::of(&[3, 1, 2, 0, 1], 3, 5) {
-        Ok(ballot) => Ok(ballot),
+/// Two ballots of unlike votes, each two of which cross.
+fn ballots() -> Result<BallotList, Failure> {
+    let Ok(first) = Ballot::of(&[3, 1, 2, 0, 1], 3, 5) else {
+        return Err(Failure::Wrong(0));
+    };
+    let Ok(second) = Ballot::of(&[2, 1, 2, 1, 1], 4, 6) else {
+        return Err(Failure::Wrong(0));
+    };
+    match BallotList::of(&[first, second]) {
+        Ok(ballots) => Ok(ballots),
         Err(_) => Err(Failure::Wrong(0)),
     }
 }
 
 /// A world of nodes with unlike votes, all down, nothing kept.
 fn new_world(alloc: Global, problem: Problem) -> Result<World, Failure> {
-    let ballot = ballot()?;
+    let ballots = ballots()?;
     let policies = policies_of(alloc, problem)?;
-    if policies.len() != ballot.nodes() as usize {
+    if policies.len() != ballots.nodes() as usize {
         return Err(Failure::Wrong(0));
     }
-    match World::start(alloc, ballot, CLIENTS, policies) {
+    match World::start(alloc, ballots, CLIENTS, policies) {
         Ok(world) => Ok(world),
         Err(_) => Err(Failure::Memory),
     }

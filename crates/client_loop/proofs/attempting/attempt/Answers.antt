@@ -1,8 +1,13 @@
 use Rattle.std.proofs.Common.{rules}
 use Rattle.actor_steps.proofs.EndFacts.{failures_on}
-use Rattle.client_loop.proofs.BeginFacts.{begins_on, begins_still}
+use Rattle.client_loop.specs.Visits.{use_of}
+use Rattle.client_loop.proofs.BeginFacts.{begins_on, begins_still, placed_on}
 use Rattle.client_loop.proofs.EndFacts.{failures_same}
 use Rattle.client_loop.proofs.attempting.attempt.Goals as goal
+
+pub begin-requires-clause-placed : goal.begin-requires-clause-placed
+begin-requires-clause-placed g c =
+    placed_on (use_of c.args.wish.now) c.args.wish.now.place (g.R.Recorder.own_log c.args.recorder.now) (g.R.Recorder.own_log c.loop.recorder) c.loop.invariant.begins c.requires.placed
 
 pub returns-in_err-keep_chosen-clause-begins : goal.returns-in_err-keep_chosen-clause-begins
 returns-in_err-keep_chosen-clause-begins g c = begins_still _ _ _ _ (begins_on _ _ _ _ c.loop.invariant.begins c.begin.ensures.begins) c.keep_chosen.ensures.visits

@@ -1,7 +1,7 @@
-use Rattle.std.proofs.Common.{rules, arith}
+use Rattle.std.proofs.Common.{rules, arith, ◌∙◌}
 use Rattle.std.proofs.lemmas.Grind.{common_steps}
 use Rattle.actor_steps.proofs.EndFacts.{failures_on}
-use Rattle.client_loop.proofs.BeginFacts.{wish_begun}
+use Rattle.client_loop.proofs.BeginFacts.{wish_begun, same_ballots, wish_placed}
 use Rattle.client_loop.proofs.SentFacts.{follows_on}
 use Rattle.client_loop.proofs.clients.fulfil_all.Goals as goal
 
@@ -14,8 +14,13 @@ loop-wish-preserved g c = record {
   count = search rules;
   sent = follows_on _ _ _ _ _ _ c.loop-wish.invariant.sent c.in_default.ensures.sent;
   falls = failures_on _ _ _ _ _ _ c.loop-wish.invariant.falls c.fulfil-fulfilled.ensures.falls;
+  ballots = same_ballots (g.R.Recorder.own_log c.loop-wish.recorder) (g.R.Recorder.own_log c.fulfil-fulfilled.new.recorder) c.fulfil-fulfilled.ensures.begins.ballots ∙ c.loop-wish.invariant.ballots;
   begun = wish_begun _ _ _ c.wish-item.result _ _ _ c.loop-wish-test.true c.wish-item.is c.fulfil-fulfilled.ensures.begins c.loop-wish.invariant.begun;
 }
 
 pub returns-in-Err-clause-begun : goal.returns-in-Err-clause-begun
 returns-in-Err-clause-begun g c = wish_begun _ _ _ c.wish-item.result _ _ _ c.loop-wish-test.true c.wish-item.is c.fulfil-fulfilled.ensures.begins c.loop-wish.invariant.begun
+
+pub fulfil-fulfilled-requires-clause-placed : goal.fulfil-fulfilled-requires-clause-placed
+fulfil-fulfilled-requires-clause-placed g c =
+    wish_placed (g.R.Recorder.own_log c.args.recorder.now).ballots (g.R.Recorder.own_log c.loop-wish.recorder).ballots _ _ c.wish-item.result _ c.loop-wish-test.true c.wish-item.is c.requires.placed c.loop-wish.invariant.ballots

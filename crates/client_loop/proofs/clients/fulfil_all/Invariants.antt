@@ -17,5 +17,6 @@ invariant-loop-wish g l = record {
   sent : SentFollows (g.R.Recorder.own_log l.fn.recorder) (g.R.Recorder.own_log l.recorder) (g.L.Link.given l.fn.link) (g.L.Link.given l.link);
   falls : FailuresFollow (falls_of (g.R.Recorder.own_log l.fn.recorder)) (falls_of (g.R.Recorder.own_log l.recorder)) ((goal.StableRecord-dyn g l.fn.stable.now).failures_of l.fn.stable.now.1)
       ((goal.StableRecord-dyn g l.stable.now).failures_of l.stable.now.1);
+  ballots : (g.R.Recorder.own_log l.recorder).ballots ≡ (g.R.Recorder.own_log l.fn.recorder).ballots;
   begun : HasBegun (g.R.Recorder.own_log l.fn.recorder).actor l.wishes (g.R.Recorder.own_log l.recorder);
 }

@@ -6,7 +6,7 @@ use Rattle.client_loop.proofs.clients.rise.Goals as goal
 pub returns-clause-stands : goal.returns-clause-stands
 returns-clause-stands g c =
     rw c.rise.ensures
-    (rises-first _ _ _ _ _ _ c.args.client c.args.ballot _ c.in-Ok.attempt c.requires.unused c.requires.ballot c.requires.kept c.in_ok-bytes.ensures.risen c.in_ok-bytes.ensures.found c.as_slice.ensures.value c.in-Ok.is c.read_client.ensures.only)
+    (rises-first _ _ _ _ _ _ c.args.client c.args.ballots _ c.in-Ok.attempt c.requires.unused c.requires.ballots c.requires.kept c.in_ok-bytes.ensures.risen c.in_ok-bytes.ensures.found c.as_slice.ensures.value c.in-Ok.is c.read_client.ensures.only)
 
 pub returns-clause-falls : goal.returns-clause-falls
 returns-clause-falls g c = let same = c.rise_first.ensures.falls in failures_stay _ _ _ _ (omega (arith, same)) c.rise_first.ensures.count

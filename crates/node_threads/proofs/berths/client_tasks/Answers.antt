@@ -10,6 +10,9 @@ unreachable-requires g c =
     let many : c.len-count.result ≡ length c.args.records.items = c.len-count.ensures ∙ c.args.records.ok.0 in
     c.in_default.ensures (omega arith, omega (arith, many, c.loop-place-test.true, c.requires.few))
 
+pub client_task-requires-clause-placed : goal.client_task-requires-clause-placed
+client_task-requires-clause-placed g c = c.requires.placed
+
 pub client_task-requires-clause-ready : goal.client_task-requires-clause-ready
 client_task-requires-clause-ready g c =
     let some : 0 < length c.loop-place.records.items = omega (arith, c.loop-place-test.true, c.loop-place.invariant.records) in
@@ -28,9 +31,9 @@ loop-place-preserved g c =
       records = one_fewer c.loop-place.records.items c.remove-stable.new.self.items c.loop-place.place c.len-count.result c.remove-stable.ensures.items some c.loop-place.invariant.records;
       links = one_fewer c.loop-place.links.items c.remove-link.new.self.items c.loop-place.place c.len-count.result c.remove-link.ensures.items
           (omega (arith, c.loop-place-test.true, c.loop-place.invariant.links)) c.loop-place.invariant.links;
-      tasks = all_and_one (λ t. IsClientTask c.args.book.now.table t.client t.ballot t.wishes.items t.berth ((goal.StableRecord-dyn g (t.stable.vtable, t.stable.value)).finds t.stable.value))
+      tasks = all_and_one (λ t. IsClientTask c.args.book.now.table t.client t.ballots t.wishes.items t.berth ((goal.StableRecord-dyn g (t.stable.vtable, t.stable.value)).finds t.stable.value))
           c.loop-place.tasks.items c.push.new.self.items c.in_ok-task.task c.loop-place.invariant.tasks
-          (subst (λ b. IsClientTask b c.in_ok-task.task.client c.in_ok-task.task.ballot c.in_ok-task.task.wishes.items c.in_ok-task.task.berth
+          (subst (λ b. IsClientTask b c.in_ok-task.task.client c.in_ok-task.task.ballots c.in_ok-task.task.wishes.items c.in_ok-task.task.berth
           ((goal.StableRecord-dyn g (c.in_ok-task.task.stable.vtable, c.in_ok-task.task.stable.value)).finds c.in_ok-task.task.stable.value)) c.loop-place.invariant.table c.in_ok-task.ensures.task) c.in-Ok.ensures.items;
       own = all_and_one (λ t. t.wishes.items ≡ own_wishes t.client c.args.wishes.now) c.loop-place.tasks.items c.push.new.self.items c.in_ok-task.task c.loop-place.invariant.own c.in_ok-task.ensures.own c.in-Ok.ensures.items;
       named = one_more_named (λ t. t.client) c.loop-place.tasks.items c.push.new.self.items c.in_ok-task.task c.loop-place.place c.loop-place.invariant.named c.in-Ok.ensures.items (c.in_ok-task.ensures.client ∙ c.in-Some.ensures.1);

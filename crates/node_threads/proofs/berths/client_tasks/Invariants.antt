@@ -10,7 +10,7 @@ invariant-loop-place g l = record {
   ready : AreClientsReady l.place l.book.opening (map (λ r. (goal.StableRecord-dyn g (r.vtable, r.value)).finds r.value) l.records.items);
   records : l.place + length l.records.items ≡ l.count;
   links : l.place + length l.links.items ≡ l.count;
-  tasks : All (λ t. IsClientTask l.fn.book.table t.client t.ballot t.wishes.items t.berth ((goal.StableRecord-dyn g (t.stable.vtable, t.stable.value)).finds t.stable.value)) l.tasks.items;
+  tasks : All (λ t. IsClientTask l.fn.book.table t.client t.ballots t.wishes.items t.berth ((goal.StableRecord-dyn g (t.stable.vtable, t.stable.value)).finds t.stable.value)) l.tasks.items;
   own : All (λ t. t.wishes.items ≡ own_wishes t.client l.wishes) l.tasks.items;
   named : map (λ t. t.client) l.tasks.items ≡ range_with_len 1 l.place;
   linked : map (λ t. t.link) l.tasks.items ++ l.links.items ≡ l.fn.links.items;

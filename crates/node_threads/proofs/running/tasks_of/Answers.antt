@@ -21,7 +21,7 @@ pub node_tasks-requires-clause-few : goal.node_tasks-requires-clause-few
 node_tasks-requires-clause-few g c =
     let may = c.requires.may in
     let count : length c.args.policies.items ≡ length may.stations = as_many (λ p. (goal.Admission-dyn g (p.vtable, p.value)).problem_of p.value) (λ s. s.problem) c.args.policies.items may.stations may.policies in
-    subst (λ n. n ≤ MAX_NODES) (sym count) (few_stations c.args.book.now.opening c.args.ballot may.stations may.attempts may.world c.requires.keeps)
+    subst (λ n. n ≤ MAX_NODES) (sym count) (few_stations c.args.book.now.opening c.args.ballots may.stations may.attempts may.world c.requires.keeps)
 
 pub node_tasks-requires-clause-ready : goal.node_tasks-requires-clause-ready
 node_tasks-requires-clause-ready g c =
@@ -31,7 +31,7 @@ node_tasks-requires-clause-ready g c =
     let found : map (λ r. (goal.StableRecord-dyn g (r.vtable, r.value)).finds r.value) c.split_off.new.self.items ≡ map finds_station may.stations =
     ap (map (λ r. (goal.StableRecord-dyn g (r.vtable, r.value)).finds r.value)) c.in-Ok-split_off.ensures.items
     ∙ front (λ r. (goal.StableRecord-dyn g (r.vtable, r.value)).finds r.value) c.args.records.items (map finds_station may.stations) (map finds_attempt may.attempts) c.len-count.result may.records place in
-    ready_nodes c.args.book.now.opening c.args.ballot may.stations may.attempts (map (λ p. (goal.Admission-dyn g (p.vtable, p.value)).problem_of p.value) c.args.policies.items)
+    ready_nodes c.args.book.now.opening c.args.ballots may.stations may.attempts (map (λ p. (goal.Admission-dyn g (p.vtable, p.value)).problem_of p.value) c.args.policies.items)
     (map (λ r. (goal.StableRecord-dyn g (r.vtable, r.value)).finds r.value) c.split_off.new.self.items) may.world c.requires.keeps may.policies found
 
 pub client_tasks-requires-clause-few : goal.client_tasks-requires-clause-few
@@ -43,7 +43,7 @@ client_tasks-requires-clause-few g c =
     ap (map (λ r. (goal.StableRecord-dyn g (r.vtable, r.value)).finds r.value)) c.in-Ok-split_off.ensures.tail
     ∙ back (λ r. (goal.StableRecord-dyn g (r.vtable, r.value)).finds r.value) c.args.records.items (map finds_station may.stations) (map finds_attempt may.attempts) c.len-count.result may.records place in
     subst (λ n. n ≤ MAX_CLIENTS) (sym (as_many (λ r. (goal.StableRecord-dyn g (r.vtable, r.value)).finds r.value) finds_attempt c.in-Ok-split_off.client_records.items may.attempts found))
-    (few_attempts c.args.book.now.opening c.args.ballot may.stations may.attempts may.world c.requires.keeps)
+    (few_attempts c.args.book.now.opening c.args.ballots may.stations may.attempts may.world c.requires.keeps)
 
 pub client_tasks-requires-clause-ready : goal.client_tasks-requires-clause-ready
 client_tasks-requires-clause-ready g c =
@@ -54,7 +54,7 @@ client_tasks-requires-clause-ready g c =
     ap (map (λ r. (goal.StableRecord-dyn g (r.vtable, r.value)).finds r.value)) c.in-Ok-split_off.ensures.tail
     ∙ back (λ r. (goal.StableRecord-dyn g (r.vtable, r.value)).finds r.value) c.args.records.items (map finds_station may.stations) (map finds_attempt may.attempts) c.len-count.result may.records place in
     subst (λ w. AreClientsReady 0 w (map (λ r. (goal.StableRecord-dyn g (r.vtable, r.value)).finds r.value) c.in-Ok-split_off.client_records.items)) (sym c.in-Ok-node_tasks.ensures.opening)
-    (ready_clients c.args.book.now.opening c.args.ballot may.stations may.attempts (map (λ r. (goal.StableRecord-dyn g (r.vtable, r.value)).finds r.value) c.in-Ok-split_off.client_records.items) may.world c.requires.sound found)
+    (ready_clients c.args.book.now.opening c.args.ballots may.stations may.attempts (map (λ r. (goal.StableRecord-dyn g (r.vtable, r.value)).finds r.value) c.in-Ok-split_off.client_records.items) may.world c.requires.sound found)
 
 pub returns-clause-nodes : goal.returns-clause-nodes
 returns-clause-nodes g c =
@@ -63,14 +63,14 @@ returns-clause-nodes g c =
 
 pub returns-clause-clients : goal.returns-clause-clients
 returns-clause-clients g c =
-    subst (λ b. All (λ t. IsClientTask b t.client t.ballot t.wishes.items t.berth ((goal.StableRecord-dyn g (t.stable.vtable, t.stable.value)).finds t.stable.value)) c.in-Ok-client_tasks.clients.items)
+    subst (λ b. All (λ t. IsClientTask b t.client t.ballots t.wishes.items t.berth ((goal.StableRecord-dyn g (t.stable.vtable, t.stable.value)).finds t.stable.value)) c.in-Ok-client_tasks.clients.items)
     (sym c.in-Ok-client_tasks.ensures.table) c.in-Ok-client_tasks.ensures.tasks
 
 pub returns-clause-all_nodes : goal.returns-clause-all_nodes
 returns-clause-all_nodes g c =
     let may = c.requires.may in
     let count : length c.args.policies.items ≡ length may.stations = as_many (λ p. (goal.Admission-dyn g (p.vtable, p.value)).problem_of p.value) (λ s. s.problem) c.args.policies.items may.stations may.policies in
-    c.in-Ok-node_tasks.ensures.all_nodes ∙ ap (range_with_len 1) (count ∙ sym (many_nodes c.args.book.now.opening c.args.ballot may.stations may.attempts may.world))
+    c.in-Ok-node_tasks.ensures.all_nodes ∙ ap (range_with_len 1) (count ∙ sym (many_nodes c.args.book.now.opening c.args.ballots may.stations may.attempts may.world))
 
 pub returns-clause-all_clients : goal.returns-clause-all_clients
 returns-clause-all_clients g c =
@@ -82,14 +82,14 @@ returns-clause-all_clients g c =
     ∙ back (λ r. (goal.StableRecord-dyn g (r.vtable, r.value)).finds r.value) c.args.records.items (map finds_station may.stations) (map finds_attempt may.attempts) c.len-count.result may.records place in
     let many : length c.in-Ok-split_off.client_records.items ≡ length may.attempts =
     as_many (λ r. (goal.StableRecord-dyn g (r.vtable, r.value)).finds r.value) finds_attempt c.in-Ok-split_off.client_records.items may.attempts found in
-    c.in-Ok-client_tasks.ensures.all_clients ∙ ap (range_with_len 1) (many ∙ sym (many_clients c.args.book.now.opening c.args.ballot may.stations may.attempts may.world))
+    c.in-Ok-client_tasks.ensures.all_clients ∙ ap (range_with_len 1) (many ∙ sym (many_clients c.args.book.now.opening c.args.ballots may.stations may.attempts may.world))
 
 pub returns-clause-links : goal.returns-clause-links
 returns-clause-links g c =
     let may = c.requires.may in
     let opening = c.args.book.now.opening in
-    let stations : length opening.nodes ≡ length may.stations = many_nodes opening c.args.ballot may.stations may.attempts may.world in
-    let attempts : length opening.clients ≡ length may.attempts = many_clients opening c.args.ballot may.stations may.attempts may.world in
+    let stations : length opening.nodes ≡ length may.stations = many_nodes opening c.args.ballots may.stations may.attempts may.world in
+    let attempts : length opening.clients ≡ length may.attempts = many_clients opening c.args.ballots may.stations may.attempts may.world in
     let policies : length c.args.policies.items ≡ length may.stations = as_many (λ p. (goal.Admission-dyn g (p.vtable, p.value)).problem_of p.value) (λ s. s.problem) c.args.policies.items may.stations may.policies in
     let records : length c.args.records.items ≡ length may.stations + length may.attempts =
     as_many_both (λ r. (goal.StableRecord-dyn g (r.vtable, r.value)).finds r.value) finds_station finds_attempt c.args.records.items may.stations may.attempts may.records in

@@ -1,4 +1,5 @@
-use Rattle.std.proofs.Common.{◌<◌, ◌+◌, length, ap, ◌∙◌, arith}
+use Rattle.std.proofs.Common.{◌<◌, ◌+◌, ap, ◌∙◌, arith}
+use Rattle.lock_model.specs.Ballots.{node_count}
 use Rattle.lock_messages.specs.declared.ids.Actor.TheVariants as actor
 use Rattle.world_model.specs.declared.events.Age.TheVariants as age
 use Rattle.world_model.specs.declared.events.Event.TheVariants as event
@@ -9,7 +10,7 @@ use Rattle.operator_cli.proofs.raising.raise_nodes.Goals as goal
 
 pub loop-count-preserved : goal.loop-count-preserved
 loop-count-preserved g c =
-    let left : c.loop-count.count < length c.args.settings.now.ballot.votes = omega (arith, c.nodes-count-end.ensures.nodes) in
+    let left : c.loop-count.count < node_count c.args.settings.now.ballots = omega (arith, c.nodes-count-end.ensures.nodes) in
     c.in_ok-raise.ensures ∙ ap (λ n. after c.loop-count.world (event.Rise (actor.Node n) age.Old)) c.node_behind.ensures
     ∙ ap (λ (w : ExactWorld). after w (event.Rise (actor.Node (c.loop-count.count + 1)) age.Old)) c.loop-count.invariant
     ∙ node_rises c.args.settings.now c.loop-count.count left

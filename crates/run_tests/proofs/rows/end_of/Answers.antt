@@ -9,11 +9,15 @@ use Rattle.run_tests.proofs.rows.end_of.Goals as goal
 
 pub run_all-requires-clause-may : goal.run_all-requires-clause-may
 run_all-requires-clause-may g c κs within =
-    let s : Settings = record { ballot = c.args.ballot; problem = First; clients = c.args.row.now.clients } in
+    let s : Settings = record { ballots = c.args.ballots; problem = First; clients = c.args.row.now.clients } in
     may_run s c.in_ok-world.world c.nodes.result _ _ c.in_ok-world.ensures c.nodes.ensures.nodes c.in_ok-policies.ensures
     (c.in_ok-records.ensures ∙ ap (λ n. replicate n (empty_node First) ++ replicate c.args.row.now.clients empty_client) (c.requires.devices ∙ sym c.nodes.ensures.nodes))
 
 pub run_all-requires-clause-theirs : goal.run_all-requires-clause-theirs
 run_all-requires-clause-theirs g c κs within =
-    let s : Settings = record { ballot = c.args.ballot; problem = First; clients = c.args.row.now.clients } in
-    theirs s c.in_ok-world.world c.as_slice.result.now c.in_ok-world.ensures (subst (λ (ws : List Wish). AreAmong c.args.row.now.clients ws) (sym c.as_slice.ensures.value) c.in_ok-wishes.ensures)
+    let s : Settings = record { ballots = c.args.ballots; problem = First; clients = c.args.row.now.clients } in
+    theirs s c.in_ok-world.world c.as_slice.result.now c.in_ok-world.ensures (subst (λ (ws : List Wish). AreAmong c.args.row.now.clients c.args.ballots ws) (sym c.as_slice.ensures.value) c.in_ok-wishes.ensures)
+
+pub run_all-requires-clause-placed : goal.run_all-requires-clause-placed
+run_all-requires-clause-placed g c κs within =
+    (subst (λ (ws : List Wish). AreAmong c.args.row.now.clients c.args.ballots ws) (sym c.as_slice.ensures.value) c.in_ok-wishes.ensures).placed

@@ -6,6 +6,6 @@ use Rattle.world_machine.proofs.opening.clients_of.Given as goal
 abbrev pub invariant-loop-place : goal.invariant-loop-place
 invariant-loop-place l = record {
   parts : map client_part l.clients.items ≡ map down_client (take l.place l.attempts);
-  order : AreClients l.ballot l.clients.items;
+  order : AreClients l.ballots l.clients.items;
   count : length l.clients.items ≡ l.place;
 }

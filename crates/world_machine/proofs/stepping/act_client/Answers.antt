@@ -33,4 +33,4 @@ returns-clause-order c b order =
     let k = c.get.result in
     let v = c.index_mut.result.now in
     let at : numbered cs k ≡ Some v = numbered-at cs k v (omega (arith, c.get.ensures.in_range)) (omega (arith, c.args.clients.now.ok.0)) c.index_mut.ensures.value in
-    clients-stay b cs k v c.client_acts.new.client at c.client_acts.ensures.number c.client_acts.ensures.ballot order
+    clients-stay b cs k v c.client_acts.new.client at c.client_acts.ensures.number c.client_acts.ensures.ballots order

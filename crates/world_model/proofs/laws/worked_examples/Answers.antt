@@ -26,6 +26,10 @@ pub returns-clause-refused_rises : goal.returns-clause-refused_rises
 unfolding step
 returns-clause-refused_rises c = (refl, refl)
 
+pub returns-clause-no_such_place : goal.returns-clause-no_such_place
+unfolding step
+returns-clause-no_such_place c = (refl, refl)
+
 pub returns-clause-restarted_client : goal.returns-clause-restarted_client
 unfolding step
 returns-clause-restarted_client c = (refl, refl, refl, refl)

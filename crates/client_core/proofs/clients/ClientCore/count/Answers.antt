@@ -7,5 +7,5 @@ invariant_of-self c =
     rw c.counts-self-inside.ensures.exact
     (record {
       numbered = c.self.invariant.numbered;
-      state = counts-lawful c.self.inside.client c.self.inside.ballot c.self.inside.attempt c.self.inside.state c.args.node node c.counts-self-inside.ensures.adds c.self.invariant.state;
+      state = counts-lawful c.self.inside.client c.self.inside.ballots c.self.inside.attempt c.self.inside.state c.args.node node c.counts-self-inside.ensures.adds c.self.invariant.state;
     })

@@ -7,5 +7,5 @@ invariant_of-self c =
     rw c.enters-self-inside.ensures
     (record {
       numbered = c.self.invariant.numbered;
-      state = enters-lawful c.self.inside.client c.self.inside.ballot c.self.inside.attempt c.self.inside.state c.self.invariant.state may;
+      state = enters-lawful c.self.inside.client c.self.inside.ballots c.self.inside.attempt c.self.inside.state c.self.invariant.state may;
     })

@@ -7,4 +7,4 @@ returns-in-Counted-clause-granted c = λ n.
     let hears = rw c.in-Counted.is at c.heard-heard.ensures.allowed in
     let adds = rw c.node_of.ensures at c.count.ensures.adds in
     rw (c.count.ensures.exact, c.node_of.ensures, c.in-Counted.is)
-    (granted-counts old.ballot old.client old.attempt old.state c.args.message.now _ n hears adds)
+    (granted-counts old.ballots old.client old.attempt old.state c.args.message.now _ n hears adds)

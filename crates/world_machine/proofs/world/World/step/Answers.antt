@@ -10,7 +10,7 @@ pub returns-clause-exact : goal.returns-clause-exact
 returns-clause-exact g c =
     let s = c.self.inside in
     let e = c.args.event.now in
-    subst (λ w. Does e (step w e) w c.take_step.result (world_view s.ballot c.take_step.new.nodes.items c.take_step.new.clients.items c.take_step.new.sent.items)) c.self.view_is c.take_step.ensures.does
+    subst (λ w. Does e (step w e) w c.take_step.result (world_view s.ballots c.take_step.new.nodes.items c.take_step.new.clients.items c.take_step.new.sent.items)) c.self.view_is c.take_step.ensures.does
 
 pub returns-clause-allowed : goal.returns-clause-allowed
 returns-clause-allowed g c =
@@ -26,6 +26,6 @@ invariant_of-self g c =
     let s = c.self.inside in
     record {
       order = c.take_step.ensures.order;
-      sound = does-sound c.exact_steps_are_allowed.ensures.sound c.args.event.now (world_view s.ballot s.nodes.items s.clients.items s.sent.items)
-          (world_view s.ballot c.take_step.new.nodes.items c.take_step.new.clients.items c.take_step.new.sent.items) c.take_step.result c.self.invariant.sound c.take_step.ensures.does;
+      sound = does-sound c.exact_steps_are_allowed.ensures.sound c.args.event.now (world_view s.ballots s.nodes.items s.clients.items s.sent.items)
+          (world_view s.ballots c.take_step.new.nodes.items c.take_step.new.clients.items c.take_step.new.sent.items) c.take_step.result c.self.invariant.sound c.take_step.ensures.does;
     }

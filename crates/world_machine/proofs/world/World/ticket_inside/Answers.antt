@@ -9,7 +9,7 @@ pub returns-clause-ticket : goal.returns-clause-ticket
 returns-clause-ticket g c =
     let s = c.self.inside in
     let w = c.args.self.now in
-    c.ticket_inside.ensures w (clients-of w s.ballot s.nodes.items s.clients.items s.sent.items c.deref.result.now c.self.view_is c.deref.ensures.value)
+    c.ticket_inside.ensures w (clients-of w s.ballots s.nodes.items s.clients.items s.sent.items c.deref.result.now c.self.view_is c.deref.ensures.value)
 
 pub returns-clause-set : goal.returns-clause-set
 returns-clause-set g c =

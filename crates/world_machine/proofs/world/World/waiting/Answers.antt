@@ -13,7 +13,7 @@ pub returns-clause-waiting : goal.returns-clause-waiting
 returns-clause-waiting g c =
     let s = c.self.inside in
     let w = c.args.self.now in
-    c.tickets_at.ensures w (nodes-of w s.ballot s.nodes.items s.clients.items s.sent.items c.deref.result.now c.self.view_is c.deref.ensures.value)
+    c.tickets_at.ensures w (nodes-of w s.ballots s.nodes.items s.clients.items s.sent.items c.deref.result.now c.self.view_is c.deref.ensures.value)
 
 -- the station that the node has kept is that of a sound world
 pub returns-clause-set : goal.returns-clause-set
