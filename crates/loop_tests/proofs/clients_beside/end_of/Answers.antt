@@ -8,4 +8,4 @@ use Rattle.loop_tests.proofs.clients_beside.end_of.Goals as goal
 pub run-requires-clause-placed : goal.run-requires-clause-placed
 run-requires-clause-placed g c =
     subst (λ (ws : List Wish). ArePlaced c.in_ok-ballots.ballots ws) (sym c.deref.ensures.value)
-      (subst (λ (b : List Ballot). ArePlaced b c.in_ok-wishes.wishes.items) (sym c.in_ok-ballots.ensures) c.in_ok-wishes.ensures.placed)
+    (subst (λ (b : List Ballot). ArePlaced b c.in_ok-wishes.wishes.items) (sym c.in_ok-ballots.ensures) c.in_ok-wishes.ensures.placed)
