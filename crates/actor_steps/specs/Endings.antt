@@ -22,6 +22,7 @@ is_fall (event.Take n k) = false
 is_fall (event.Hear c k) = false
 is_fall (event.Enter c) = false
 is_fall (event.Leave c) = false
+is_fall (event.Soften c) = false
 is_fall (event.Rise who age) = false
 
 -- how often the actor has fallen

@@ -5,7 +5,7 @@ use std::alloc::Global;
 use test_outcomes::{Failure, Outcome, check_row};
 
 /// The line of each event, and of the greatest numbers.
-const EVENTS: [&str; 20] = [
+const EVENTS: [&str; 22] = [
     "begin c1 read a",
     "begin c1024 write abcdefghijklmnopqrstuvwxyz-01234",
     "begin c1 read a b2",
@@ -21,6 +21,8 @@ const EVENTS: [&str; 20] = [
     "hear c2 17",
     "enter c1",
     "leave c1",
+    "soften c1",
+    "soften c1024",
     "fall n2",
     "fall c1",
     "rise n1 old",
@@ -47,7 +49,7 @@ fn events_there_and_back(rt: HostRuntime) -> Outcome {
 }
 
 /// Texts, each with the number of its fault; 0 where it is a wish.
-const WISHES: [(&str, u16); 16] = [
+const WISHES: [(&str, u16); 22] = [
     ("c1 read a", 0),
     ("c1024 write db-1", 0),
     ("", 805),
@@ -64,6 +66,12 @@ const WISHES: [(&str, u16); 16] = [
     ("c1 reed A", 801),
     ("c1 read A", 804),
     ("c1 read ", 804),
+    ("c1 soften a", 0),
+    ("c1024 soften db-1 b8", 0),
+    ("c1 softened a", 801),
+    ("c1 Soften A", 801),
+    ("c1 soften A", 804),
+    ("c1 soften", 805),
 ];
 
 fn fault_of(text: &str) -> u16 {

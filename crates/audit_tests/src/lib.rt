@@ -12,6 +12,8 @@ mod auditing;
 #[cfg(test)]
 mod journal_lines;
 #[cfg(test)]
+mod softenings;
+#[cfg(test)]
 mod streams;
 #[cfg(test)]
 mod verdicts;

@@ -6,7 +6,7 @@ use std::alloc::Global;
 use test_outcomes::{Failure, Outcome, check_row};
 
 /// A verdict, and behind its line feed the journal.
-const ROWS: [&[u8]; 18] = [
+const ROWS: [&[u8]; 26] = [
     b"sound 0\n",
     b"sound 2\nrise c1 old\nbegin c1 read a\n",
     b"unsound 3 refused 604\nrise c1 old\nbegin c1 read a\nenter c1\n",
@@ -25,6 +25,15 @@ const ROWS: [&[u8]; 18] = [
     b"sound 1\nrise c1 old",
     b"sound 2\nrise c1 old\nfall c1",
     b"unsound 2 refused 603\nrise c1 old\nrise c1 old\nfall c9\nx",
+    // A line that softens has two words, of which the second is a client; its mode is of wishes alone.
+    b"unsound 1 fault 805\nsoften\n",
+    b"unsound 1 fault 805\nsoften c1 a\n",
+    b"unsound 1 fault 802\nsoften n1\n",
+    b"unsound 1 fault 801\nsoftened c1\n",
+    b"unsound 2 fault 801\nrise c1 old\nbegin c1 soften a\n",
+    b"unsound 1 refused 601\nsoften c5\n",
+    b"unsound 1 refused 602\nsoften c1\n",
+    b"unsound 3 refused 604\nrise c1 old\nbegin c1 write a\nsoften c1\n",
     // Lines of 128 and of 129 bytes.
     b"unsound 1 fault 801\n\
         0123456789012345678901234567890123456789012345678901234567890123\

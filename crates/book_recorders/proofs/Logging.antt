@@ -58,6 +58,7 @@ list_fault (event.Try who) f of is = is
 list_fault (event.Kept who) f of is = is
 list_fault (event.Enter c) f of is = is
 list_fault (event.Leave c) f of is = is
+list_fault (event.Soften c) f of is = is
 list_fault (event.Fall who) f of is = is
 list_fault (event.Rise who age) f of is = is
 

@@ -20,7 +20,7 @@ fn some_resource(words: &mut Pcg32) -> Result<ResourceName, Failure> {
 }
 
 fn some_mode(words: &mut Pcg32) -> Mode {
-    if words.next_word() % 4 == 0 {
+    if words.next_word() % 2 == 0 {
         Mode::Write
     } else {
         Mode::Read
@@ -62,10 +62,11 @@ fn node_event(node: NodeId, turn: u32, message: u32) -> Event {
     }
 }
 
-/// A client begins an attempt and asks, or hears the message and enters.
+/// A client begins an attempt and asks, or hears the message and enters; one that is within softens.
 fn client_event(
     words: &mut Pcg32,
     client: ClientId,
+    within: bool,
     turn: u32,
     message: u32,
 ) -> Result<Event, Failure> {
@@ -75,17 +76,19 @@ fn client_event(
         1 => Event::Try(Actor::Client(client)),
         2 => Event::Kept(Actor::Client(client)),
         3 | 4 => Event::SayTo(client, node),
+        7 if within => Event::Soften(client),
         7 => Event::Enter(client),
         _ => Event::Hear(client, message),
     })
 }
 
-/// An actor falls or rises, or a client leaves.
+/// An actor falls or rises, or a client leaves or softens.
 fn rare_event(words: &mut Pcg32, who: Actor) -> Event {
     match (who, words.next_word() % 8) {
         (who, 0) => Event::Fall(who),
         (who, 1) => Event::Rise(who, Age::New),
         (Actor::Client(client), 2) => Event::Leave(client),
+        (Actor::Client(client), 3) => Event::Soften(client),
         (who, _) => Event::Rise(who, Age::Old),
     }
 }
@@ -105,6 +108,9 @@ pub(crate) fn event_of_turn(
     let message = some_message(words, world, *who, sent);
     match *who {
         Actor::Node(node) => Ok(node_event(node, turn, message)),
-        Actor::Client(client) => client_event(words, client, turn, message),
+        Actor::Client(client) => {
+            let within = world.ticket_inside(client).is_some();
+            client_event(words, client, within, turn, message)
+        }
     }
 }

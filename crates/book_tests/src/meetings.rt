@@ -2,10 +2,11 @@
 
 ghost use Rattle.std.specs.Prelude.{◌≡◌, ◌≢◌};
 
-use crate::logging::{berth_of, meets, opened, takes_all};
+use crate::logging::{berth_of, logs, meets, opened, takes_all};
 use crate::worlds::{client, node, one_node};
 use history_book::{Berth, Book, BookFault};
 use test_outcomes::{Outcome, check};
+use world_model::{Effect, StepFault};
 
 const FIRST_ASKS: &str = "rise c1 old\nbegin c1 read a\ntry c1\nkept c1\nsayto c1 n1";
 
@@ -13,8 +14,8 @@ const SECOND_ASKS: &str = "rise c2 old\nbegin c2 read a\ntry c2\nkept c2\nsayto 
 
 const SECOND_ASKS_FOR_ANOTHER: &str = "rise c2 old\nbegin c2 read b\ntry c2\nkept c2\nsayto c2 n1";
 
-/// n1 takes the requests, the messages 1 and 2, and grants them by the messages 3 and 4.
-const GRANTS: &str = "\
+/// n1 takes the requests, the messages 1 and 2, and answers them by the messages 3 and 4.
+const ANSWERS: &str = "\
 rise n1 old
 take n1 1
 try n1
@@ -43,7 +44,7 @@ fn enter_both(
 {
     takes_all(book, one, FIRST_ASKS)?;
     takes_all(book, two, second_asks)?;
-    takes_all(book, voter, GRANTS)?;
+    takes_all(book, voter, ANSWERS)?;
     takes_all(book, one, "hear c1 3\nenter c1")?;
     takes_all(book, two, "hear c2 4\nenter c2")
 }
@@ -100,6 +101,72 @@ fn readers_of_two_resources(rt: HostRuntime) -> Outcome {
     let alloc = rt.alloc();
     let mut book = opened(alloc, 7, one_node(alloc)?)?;
     reads_apart(&mut book)
+}
+
+const FIRST_WRITES: &str = "rise c1 old\nbegin c1 write a\ntry c1\nkept c1\nsayto c1 n1";
+
+/// n1 takes the softening, message 5, and grants the reader's request by message 7.
+const SOFTENS: &str = "take n1 5\ntry n1\nkept n1\nsay n1";
+
+/// c1 is inside as a writer, and c2 waits.
+fn first_writes(book: &mut Book, voter: &mut Berth, one: &mut Berth, two: &mut Berth) -> Outcome
+    requires voter { voter.old.number ≡ book.old.number → voter.old.table ≡ book.old.table }
+    requires one { one.old.number ≡ book.old.number → one.old.table ≡ book.old.table }
+    requires two { two.old.number ≡ book.old.number → two.old.table ≡ book.old.table }
+    ensures book { (book.new.number ≡ book.old.number) × (book.new.table ≡ book.old.table) }
+    ensures voter { (voter.new.number ≡ voter.old.number) × (voter.new.table ≡ voter.old.table) }
+    ensures one { (one.new.number ≡ one.old.number) × (one.new.table ≡ one.old.table) }
+    ensures two { (two.new.number ≡ two.old.number) × (two.new.table ≡ two.old.table) }
+{
+    takes_all(book, one, FIRST_WRITES)?;
+    takes_all(book, two, SECOND_ASKS)?;
+    takes_all(book, voter, ANSWERS)?;
+    takes_all(book, one, "hear c1 3\nenter c1")?;
+    takes_all(book, two, "hear c2 4")
+}
+
+/// What a client is answered that is in another phase.
+fn not_now() -> Result<Effect, BookFault> {
+    Err(BookFault::NotAStep(StepFault::WrongPhase))
+}
+
+/// c1, which is inside as a writer, softens; it isn't for c2 to log that, nor again for c1. Then c2 enters too.
+fn softens(book: &mut Book, voter: &mut Berth, one: &mut Berth, two: &mut Berth) -> Outcome
+    requires voter { voter.old.number ≡ book.old.number → voter.old.table ≡ book.old.table }
+    requires one { one.old.number ≡ book.old.number → one.old.table ≡ book.old.table }
+    requires two { two.old.number ≡ book.old.number → two.old.table ≡ book.old.table }
+    ensures book { (book.new.number ≡ book.old.number) × (book.new.table ≡ book.old.table) }
+    ensures one { (one.new.number ≡ one.old.number) × (one.new.table ≡ one.old.table) }
+    ensures two { (two.new.number ≡ two.old.number) × (two.new.table ≡ two.old.table) }
+{
+    logs(book, two, "soften c1", Err(BookFault::OtherActor))?;
+    logs(book, two, "soften c2", not_now())?;
+    logs(book, one, "soften c1", Ok(Effect::Softened))?;
+    logs(book, one, "soften c1", not_now())?;
+    takes_all(book, one, "sayto c1 n1")?;
+    takes_all(book, voter, SOFTENS)?;
+    takes_all(book, one, "hear c1 6")?;
+    takes_all(book, two, "hear c2 7\nenter c2")
+}
+
+/// Each has its berth, of an open book, and c1 meets c2 once it has softened.
+fn softens_beside(book: &mut Book) -> Outcome
+    requires { Unit {0} }
+{
+    let mut voter = berth_of(book, node(1)?)?;
+    let mut one = berth_of(book, client(1)?)?;
+    let mut two = berth_of(book, client(2)?)?;
+    first_writes(book, &mut voter, &mut one, &mut two)?;
+    check(meets(book, &mut one, &mut two) == Ok(false))?;
+    softens(book, &mut voter, &mut one, &mut two)?;
+    check(meets(book, &mut one, &mut two) == Ok(true) && book.entered() == 2)
+}
+
+#[test]
+fn softened_writer_meets_a_reader(rt: HostRuntime) -> Outcome {
+    let alloc = rt.alloc();
+    let mut book = opened(alloc, 7, one_node(alloc)?)?;
+    softens_beside(&mut book)
 }
 
 /// A client has one berth of a book, so only that of another book could stand for the client itself.

@@ -52,11 +52,13 @@ fn berths_of(alloc: Global, book: &mut Book) -> Result<Vec<Berth>, Failure>
     Ok(berths)
 }
 
-/// What a history has and what was refused: the messages sent, the entries, the refused events.
+/// What a history has and what was refused: the messages sent, the entries, the writers that softened, the
+/// refused events.
 #[derive(Clone, Copy)]
 struct Seen {
     sent: u32,
     entered: u32,
+    softened: u32,
     refused: u32,
 }
 
@@ -67,6 +69,7 @@ fn seen_with(seen: Seen, answer: &Result<Effect, BookFault>) -> Seen {
         Ok(Effect::Sent(number, _)) => seen.sent = *number,
         Ok(Effect::Said { count, .. }) => seen.sent = seen.sent.saturating_add(*count),
         Ok(Effect::Inside) => seen.entered = seen.entered.saturating_add(1),
+        Ok(Effect::Softened) => seen.softened = seen.softened.saturating_add(1),
         Ok(_) => {}
         Err(_) => seen.refused = seen.refused.saturating_add(1),
     }
@@ -109,6 +112,7 @@ fn run(book: &mut Book, berths: &mut Vec<Berth>, world: &mut World) -> Result<Se
     let mut seen = Seen {
         sent: 0,
         entered: 0,
+        softened: 0,
         refused: 0,
     };
     let mut place = 0;
@@ -137,7 +141,7 @@ fn random_history_is_sound(rt: HostRuntime) -> Outcome {
     let mut beside = three_nodes(alloc)?;
     let seen = run(&mut book, &mut berths, &mut beside)?;
     check(book.events() == EVENTS && book.entered() == seen.entered)?;
-    check(seen.refused >= 2_000 && seen.entered >= 5)?;
+    check(seen.refused >= 2_000 && seen.entered >= 5 && seen.softened >= 2)?;
     let journal = journal_of(&book, alloc)?;
     is_sound(alloc, three_nodes(alloc)?, journal.as_slice(), EVENTS)
 }

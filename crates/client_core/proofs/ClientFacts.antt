@@ -1,5 +1,5 @@
--- What entering and counting keep.
-use Rattle.std.proofs.Common.{◌≡◌, ℕ, ◌≤◌, ◌==◌, Bool, true, false, ◌||◌, List, refl, arith, if◌then◌else◌}
+-- What entering, softening and counting keep.
+use Rattle.std.proofs.Common.{◌≡◌, ℕ, ◌≤◌, ◌==◌, Bool, true, false, true≢false, ◌||◌, List, refl, sym, ◌∙◌, arith, if◌then◌else◌}
 use Rattle.std.proofs.lemmas.Bool.Decides.{nat_tests}
 use Rattle.std.proofs.lemmas.List.Sums.{sum_by-le-sum_by}
 use Rattle.lock_messages.specs.declared.messages.Message.{Message}
@@ -9,14 +9,14 @@ use Rattle.vote_weights.specs.Sets.{has_node, with_node}
 use Rattle.client_core.specs.declared.phases.State.{State}
 use Rattle.client_core.specs.declared.phases.State.TheVariants.{Idle, Chosen, Asking, Inside}
 use Rattle.client_core.specs.Clients.{IsLawfulState, AreNodes, granted_in}
-use Rattle.client_core.specs.Calls.{MayEnterIn, enters_in, counts_in, AddsNode, AddsVote, HearsIn}
+use Rattle.client_core.specs.Calls.{MayEnterIn, enters_in, MaySoftenIn, softens_in, counts_in, AddsNode, AddsVote, HearsIn}
 
 -- a client that enters with enough votes is lawfully inside
 pub enters-lawful : (client : ℕ) (b : List Ballot) (attempt : ℕ) (s : State) → IsLawfulState client b attempt s → MayEnterIn b s →
     IsLawfulState client b attempt (enters_in s)
 enters-lawful client b attempt Idle h may = absurd may
 enters-lawful client b attempt (Chosen t place) h may = absurd may
-enters-lawful client b attempt (Asking p) h may = record { own = h.own; placed = h.placed; nodes = h.nodes; enough = may }
+enters-lawful client b attempt (Asking p) h may = record { own = h.own; placed = h.placed; nodes = h.nodes; enough = may; softened = λ e. absurd (true≢false (sym e ∙ h.unsoftened)) }
 enters-lawful client b attempt (Inside p) h may = absurd may
 
 -- a node more
@@ -54,13 +54,23 @@ counts-lawful client b attempt (Asking p) n at adds h = record {
   own = h.own;
   placed = h.placed;
   nodes = add-nodes b p.granted (with_node p.granted n) n at h.nodes adds;
+  unsoftened = h.unsoftened;
 }
 counts-lawful client b attempt (Inside p) n at adds h = record {
   own = h.own;
   placed = h.placed;
   nodes = add-nodes b p.granted (with_node p.granted n) n at h.nodes adds;
   enough = add-enough (ballot_at b p.place) p.granted (with_node p.granted n) n _ adds h.enough;
+  softened = h.softened;
 }
+
+-- a client that softens is lawfully inside
+pub softens-lawful : (client : ℕ) (b : List Ballot) (attempt : ℕ) (s : State) → IsLawfulState client b attempt s → MaySoftenIn s →
+    IsLawfulState client b attempt (softens_in s)
+softens-lawful client b attempt Idle h may = absurd may
+softens-lawful client b attempt (Chosen t place) h may = absurd may
+softens-lawful client b attempt (Asking p) h may = absurd may
+softens-lawful client b attempt (Inside p) h may = record { own = h.own; placed = h.placed; nodes = h.nodes; enough = h.enough; softened = λ e. may.mode }
 
 -- where a vote is counted, the granted set has the node too
 pub granted-counts : (b : List Ballot) (client attempt : ℕ) (s : State) (m : Message) (n k : ℕ) → HearsIn b client attempt s m heard.Counted → AddsVote s n →

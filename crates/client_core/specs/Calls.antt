@@ -1,7 +1,8 @@
 -- What each call makes of a client, and what it answers.
-use Rattle.std.specs.Prelude.{◌≡◌, ℕ, ◌+◌, ◌==◌, Bool, true, false, ◌||◌, List, [], length, Option, Some, None, Result, Ok, Err, nat_lt, if◌then◌else◌, ◌⊎◌}
+use Rattle.std.specs.Prelude.{◌≡◌, ℕ, ◌+◌, ◌==◌, Bool, true, false, ◌||◌, List, [], Option, Some, None, Result, Ok, Err, nat_lt, if◌then◌else◌, ◌⊎◌}
 use Rattle.lock_messages.specs.declared.ids.TheConstants.{MAX_ATTEMPT}
 use Rattle.lock_messages.specs.declared.tickets.Mode.{Mode}
+use Rattle.lock_messages.specs.declared.tickets.Mode.TheVariants.{Write}
 use Rattle.lock_messages.specs.declared.tickets.Ticket.{Ticket}
 use Rattle.lock_messages.specs.declared.messages.Message.{Message}
 use Rattle.lock_messages.specs.declared.messages.Message.TheVariants as message
@@ -9,8 +10,8 @@ use Rattle.lock_messages.specs.Messages.{named_node}
 use Rattle.lock_model.specs.declared.hearing.Heard.{Heard}
 use Rattle.lock_model.specs.declared.hearing.Heard.TheVariants as heard
 use Rattle.lock_model.specs.Ballots.{Ballot, HasNode, HasAnyNode, has_place, ballot_at, node_count}
-use Rattle.lock_model.specs.Hearing.{HearsOfTicket, HearsAtRest}
-use Rattle.lock_model.specs.ExactHearing.{is_node_of, heard_of_ticket, heard_at_rest, is_counted}
+use Rattle.lock_model.specs.Hearing.{HearsOfTicket, HearsSoftened, HearsAtRest}
+use Rattle.lock_model.specs.ExactHearing.{is_node_of, heard_of_ticket, heard_softened, heard_at_rest, is_counted}
 use Rattle.vote_weights.specs.Sets.{has_node, with_node}
 use Rattle.client_core.specs.declared.faults.ClientFault.{ClientFault}
 use Rattle.client_core.specs.declared.faults.ClientFault.TheVariants.{NotIdle, AttemptsSpent, NoSuchPlace}
@@ -54,11 +55,11 @@ begin_answer_in (Inside p) ballots place attempt = Err NotIdle
 abbrev pub begin_answer : Client → ℕ → Result ℕ ClientFault
 begin_answer c place = begin_answer_in c.state c.ballots place c.attempt
 
--- `kept`, `enter` and `leave`
+-- `kept`, `enter`, `soften` and `leave`
 
 -- an attempt as it begins to ask: nothing is granted or skipped
 abbrev pub first_of : Ticket → ℕ → Present
-first_of t place = record { ticket = t; place = place; granted = []; skipped = [] }
+first_of t place = record { ticket = t; place = place; granted = []; skipped = []; softened = false }
 
 abbrev pub asks_in : State → State
 asks_in Idle = Idle
@@ -90,6 +91,35 @@ MayEnterIn ballots (Inside p) = ⊥
 abbrev pub MayEnter : Client → Type 0
 MayEnter c = MayEnterIn c.ballots c.state
 
+-- the attempt is a writer's: it was asked for by one, and isn't softened
+pub record IsWriters (p : Present) : Type 0 where
+  pub mode : p.ticket.mode ≡ Write
+  pub unsoftened : p.softened ≡ false
+
+-- a client that is inside as a writer may soften
+abbrev pub MaySoftenIn : State → Type 0
+MaySoftenIn Idle = ⊥
+MaySoftenIn (Chosen t place) = ⊥
+MaySoftenIn (Asking p) = ⊥
+MaySoftenIn (Inside p) = IsWriters p
+
+abbrev pub MaySoften : Client → Type 0
+MaySoften c = MaySoftenIn c.state
+
+-- the same attempt, softened
+abbrev pub soft : Present → Present
+soft p = record p { softened = true }
+
+abbrev pub softens_in : State → State
+softens_in Idle = Idle
+softens_in (Chosen t place) = Chosen t place
+softens_in (Asking p) = Asking p
+softens_in (Inside p) = Inside (soft p)
+
+-- A client that was inside as a writer is inside as a reader, with the same votes, which aren't counted anew.
+abbrev pub softened : Client → Client
+softened c = in_state c (softens_in c.state)
+
 -- a client that asks or is inside may leave
 abbrev pub MayLeave : Client → Type 0
 MayLeave c = (phase_of c ≡ phase.Asking) ⊎ (phase_of c ≡ phase.Inside)
@@ -104,11 +134,15 @@ left c = in_state c Idle
 abbrev pub release_of : ℕ → ℕ → ℕ → Option Message
 release_of n client attempt = if attempt == 0 then None else Some (message.Release n client attempt)
 
+-- inside, the request of the ticket or, once it is softened, that
+abbrev pub said_inside : ℕ → ℕ → Present → Message
+said_inside client n p = if p.softened then message.Soften n client p.ticket.attempt else message.Request n p.ticket
+
 abbrev pub message_in : ℕ → ℕ → ℕ → State → Option Message
 message_in n client attempt Idle = release_of n client attempt
 message_in n client attempt (Chosen t place) = None
 message_in n client attempt (Asking p) = Some (message.Request n p.ticket)
-message_in n client attempt (Inside p) = Some (message.Request n p.ticket)
+message_in n client attempt (Inside p) = Some (said_inside client n p)
 
 -- what the client has to say to the node
 abbrev pub message_for : Client → ℕ → Option Message
@@ -118,13 +152,21 @@ message_for c n = if is_node_of (node_count c.ballots) n then message_in n c.cli
 abbrev pub ReleasesAll : Client → ℕ → Type 0
 ReleasesAll c attempt = (n : ℕ) → HasAnyNode c.ballots n → message_for c n ≡ Some (message.Release n c.client attempt)
 
+-- each node of the list is told that the attempt is softened
+abbrev pub SoftensAll : Client → ℕ → Type 0
+SoftensAll c attempt = (n : ℕ) → HasAnyNode c.ballots n → message_for c n ≡ Some (message.Soften n c.client attempt)
+
 -- `hear`
+
+-- inside: once it has softened nothing counts
+abbrev pub heard_inside : ℕ → ℕ → Present → Message → Heard
+heard_inside nodes client p m = if p.softened then heard_softened nodes client p.ticket.attempt m else heard_of_ticket nodes p.ticket (has_node p.granted) m
 
 abbrev pub heard_in : ℕ → ℕ → ℕ → State → Message → Heard
 heard_in nodes client attempt Idle m = heard_at_rest nodes client attempt m
 heard_in nodes client attempt (Chosen t place) m = heard.NotMine
 heard_in nodes client attempt (Asking p) m = heard_of_ticket nodes p.ticket (has_node p.granted) m
-heard_in nodes client attempt (Inside p) m = heard_of_ticket nodes p.ticket (has_node p.granted) m
+heard_in nodes client attempt (Inside p) m = heard_inside nodes client p m
 
 -- what the client makes of the message
 abbrev pub heard_by : Client → Message → Heard
@@ -159,11 +201,18 @@ AddsVote (Inside p) n = AddsNode p.granted n (with_node p.granted n)
 abbrev pub after_hearing : Client → Message → Client
 after_hearing c m = if is_counted (heard_by c m) then counted c (named_node m) else c
 
+abbrev pub HearsInsideIf : Bool → ℕ → ℕ → Present → Message → Heard → Type 0
+HearsInsideIf true nodes client p m h = HearsSoftened nodes client p.ticket.attempt m h
+HearsInsideIf false nodes client p m h = HearsOfTicket nodes p.ticket (has_node p.granted) m h
+
+abbrev pub HearsInside : ℕ → ℕ → Present → Message → Heard → Type 0
+HearsInside nodes client p m h = HearsInsideIf p.softened nodes client p m h
+
 abbrev pub HearsIn : List Ballot → ℕ → ℕ → State → Message → Heard → Type 0
 HearsIn ballots client attempt Idle m h = HearsAtRest (node_count ballots) client attempt m h
 HearsIn ballots client attempt (Chosen t place) m h = h ≡ heard.NotMine
 HearsIn ballots client attempt (Asking p) m h = HearsOfTicket (node_count ballots) p.ticket (has_node p.granted) m h
-HearsIn ballots client attempt (Inside p) m h = HearsOfTicket (node_count ballots) p.ticket (has_node p.granted) m h
+HearsIn ballots client attempt (Inside p) m h = HearsInside (node_count ballots) client p m h
 
 -- the answer is the one that the message has for the client
 abbrev pub Hears : Client → Message → Heard → Type 0

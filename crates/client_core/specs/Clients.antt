@@ -1,6 +1,7 @@
 -- What a client is between two calls, in words that the calls share.
-use Rattle.std.specs.Prelude.{◌≡◌, ℕ, ◌≤◌, true, List, [], Option, Some, None}
+use Rattle.std.specs.Prelude.{◌≡◌, ℕ, ◌≤◌, true, false, List, [], Option, Some, None, if◌then◌else◌}
 use Rattle.lock_messages.specs.declared.ids.TheConstants.{MAX_ATTEMPT}
+use Rattle.lock_messages.specs.declared.tickets.Mode.TheVariants.{Read, Write}
 use Rattle.lock_messages.specs.declared.tickets.Ticket.{Ticket}
 use Rattle.lock_model.specs.Ballots.{Ballot, HasAnyNode, HasPlace, IsEnough, ballot_at}
 use Rattle.vote_weights.specs.Sets.{has_node}
@@ -12,8 +13,8 @@ use Rattle.client_core.specs.declared.phases.State.TheVariants.{Idle, Chosen, As
 
 -- Its number, the ballots of its list in order, the number of its latest attempt (0 for none), and what
 -- it does: nothing, or with a chosen ticket and place, or asking or being inside with what it has of its
--- present attempt: the ticket, the place of the ballot by which its votes count, and the nodes whose Grant
--- was counted and those that were skipped, each in ascending order.
+-- present attempt: the ticket that it asked with, the place of the ballot by which its votes count, the nodes
+-- whose Grant was counted and those that were skipped, each in ascending order, and whether it has softened.
 pub record Client : Type 0 where
   pub client : ℕ
   pub ballots : List Ballot
@@ -34,12 +35,20 @@ phase_in (Inside p) = phase.Inside
 abbrev pub phase_of : Client → Phase
 phase_of c = phase_in c.state
 
+-- the ticket as a reader's
+abbrev pub softened_ticket : Ticket → Ticket
+softened_ticket t = record { client = t.client; attempt = t.attempt; mode = Read; resource = t.resource }
+
+-- the ticket of a present attempt: the one that was asked with, and once it is softened that as a reader's
+abbrev pub present_ticket : Present → Ticket
+present_ticket p = if p.softened then softened_ticket p.ticket else p.ticket
+
 -- the present ticket
 abbrev pub ticket_in : State → Option Ticket
 ticket_in Idle = None
 ticket_in (Chosen t place) = Some t
-ticket_in (Asking p) = Some p.ticket
-ticket_in (Inside p) = Some p.ticket
+ticket_in (Asking p) = Some (present_ticket p)
+ticket_in (Inside p) = Some (present_ticket p)
 
 abbrev pub ticket_of : Client → Option Ticket
 ticket_of c = ticket_in c.state
@@ -74,7 +83,8 @@ pub record IsOwn (number latest : ℕ) (t : Ticket) : Type 0 where
 abbrev pub AreNodes : List Ballot → List ℕ → Type 0
 AreNodes ballots set = (n : ℕ) → has_node set n ≡ true → HasAnyNode ballots n
 
--- the nodes that granted the ticket have enough votes by the ballot of the attempt's place
+-- the nodes that granted the ticket have enough votes by the ballot of the attempt's place, for the mode that
+-- was asked for
 abbrev pub HasEnough : List Ballot → Present → Type 0
 HasEnough ballots p = IsEnough (ballot_at ballots p.place) p.ticket.mode (has_node p.granted)
 
@@ -83,18 +93,21 @@ pub record HasChosen (client : ℕ) (ballots : List Ballot) (attempt : ℕ) (t :
   pub own : IsOwn client attempt t
   pub placed : HasPlace ballots place
 
--- the client asks with this: the ticket is its own, the list has the place, and nodes of the list granted it
+-- the client asks with this: the ticket is its own, the list has the place, nodes of the list granted it, and
+-- it isn't softened
 pub record AsksWith (client : ℕ) (ballots : List Ballot) (attempt : ℕ) (p : Present) : Type 0 where
   pub own : IsOwn client attempt p.ticket
   pub placed : HasPlace ballots p.place
   pub nodes : AreNodes ballots p.granted
+  pub unsoftened : p.softened ≡ false
 
--- it is inside with this: the nodes that granted the ticket are enough
+-- it is inside with this: the nodes that granted the ticket are enough, and what is softened was a writer's
 pub record IsEntered (client : ℕ) (ballots : List Ballot) (attempt : ℕ) (p : Present) : Type 0 where
   pub own : IsOwn client attempt p.ticket
   pub placed : HasPlace ballots p.place
   pub nodes : AreNodes ballots p.granted
   pub enough : HasEnough ballots p
+  pub softened : p.softened ≡ true → p.ticket.mode ≡ Write
 
 -- what holds of each client's state
 abbrev pub IsLawfulState : ℕ → List Ballot → ℕ → State → Type 0

@@ -1,14 +1,15 @@
 // One client's attempts.
 
 ghost use Rattle.std.specs.Prelude.{◌≡◌, ◌≢◌, ℕ, ◌≤◌, ◌+◌, ◌==◌, ◌&&◌, ◌||◌, ◌↔◌, ◌⊎◌, IsTrue, IsNone, IfSome, IfOk, OnOk, OnErr};
+ghost use Rattle.std.specs.Option.{option_map};
 ghost use Rattle.lock_model.specs.ExactHearing.{is_counted};
 ghost use Rattle.lock_messages.specs.Messages.{named_node};
-ghost use Rattle.lock_model.specs.Ballots.{HasAnyNode, HasPlace};
+ghost use Rattle.lock_model.specs.Ballots.{HasAnyNode, HasPlace, node_count};
 ghost use Rattle.vote_weights.specs.Sets.{has_node};
-ghost use Rattle.client_core.specs.Clients.{phase_of, ticket_of, granted_of, skipped_of, IsLawfulClient};
-ghost use Rattle.client_core.specs.Calls.{at_rest, begun, begin_answer, asking, entered, MayEnter, MayLeave, left, release_of, message_for, ReleasesAll, heard_by, counted, AddsVote, after_hearing, Hears, IsOpen, skipping};
+ghost use Rattle.client_core.specs.Clients.{phase_of, ticket_of, softened_ticket, granted_of, skipped_of, IsLawfulClient};
+ghost use Rattle.client_core.specs.Calls.{at_rest, begun, begin_answer, asking, entered, MayEnter, MaySoften, softened, MayLeave, left, release_of, said_inside, message_for, ReleasesAll, SoftensAll, heard_inside, HearsInside, heard_by, counted, AddsVote, after_hearing, Hears, IsOpen, skipping};
 
-use crate::hearing::{heard_at_rest, heard_of_ticket, is_node_of, node_of};
+use crate::hearing::{heard_at_rest, heard_of_ticket, heard_softened, is_node_of, node_of};
 use crate::phases::{Present, State};
 use crate::{ClientFault, Phase};
 use lock_messages::{Attempt, ClientId, MAX_ATTEMPT, Message, Mode, NodeId, ResourceName, Ticket};
@@ -107,8 +108,8 @@ impl ClientCore {
         *attempt
     }
 
-    /// The present ticket: that of the latest attempt while it is chosen, asked with or inside.
-    /// `None` while the client is idle.
+    /// The present ticket: that of the latest attempt while it is chosen, asked with or inside. Once it
+    /// is softened its mode is `Read`. `None` while the client is idle.
     pub fn ticket(&self) -> Option<Ticket>
         ensures ticket { result ≡ ticket_of self.now }
         ensures own { IfSome result (λ t. t.client ≡ self.now.client) }
@@ -179,9 +180,21 @@ impl ClientCore {
         Some(Message::Release(node, self.client, attempt))
     }
 
+    /// What there is to say to the node while the client is inside.
+    fn said_inside(&self, node: NodeId, present: Present) -> Message
+        ensures { result ≡ said_inside self.now.client node present }
+    {
+        if present.softened {
+            Message::Soften(node, self.client, present.ticket.attempt)
+        } else {
+            Message::Request(node, present.ticket)
+        }
+    }
+
     /// What there is to say to the node: the request of the present ticket while the client asks or
-    /// is inside, the release of the latest attempt while it is idle, if there was one. `None` else,
-    /// and for a node that no ballot of the list has.
+    /// is inside, or that it has softened it once it has, asked or not; and the release of the latest
+    /// attempt while it is idle, if there was one. `None` else, and for a node that no ballot of the list
+    /// has.
     pub fn message_for(&self, node: NodeId) -> Option<Message>
         ensures { result ≡ message_for self.now node }
     {
@@ -191,9 +204,22 @@ impl ClientCore {
         match self.state {
             State::Idle => self.release(node),
             State::Chosen(..) => None,
-            State::Asking(present) | State::Inside(present) => {
-                Some(Message::Request(node, present.ticket))
-            }
+            State::Asking(present) => Some(Message::Request(node, present.ticket)),
+            State::Inside(present) => Some(self.said_inside(node, present)),
+        }
+    }
+
+    /// What the client makes of the message while it is inside.
+    fn heard_inside(&self, present: Present, message: &Message) -> Heard
+        ensures heard { result ≡ heard_inside (node_count self.now.ballots) self.now.client present message.now }
+        ensures allowed { HearsInside (node_count self.now.ballots) self.now.client present message.now result }
+    {
+        laws::hearing_is_exact();
+        let nodes = self.ballots.nodes();
+        if present.softened {
+            heard_softened(nodes, self.client, present.ticket.attempt, message)
+        } else {
+            heard_of_ticket(nodes, &present.ticket, present.granted, message)
         }
     }
 
@@ -207,9 +233,10 @@ impl ClientCore {
         match self.state {
             State::Idle => heard_at_rest(nodes, self.client, self.attempt, message),
             State::Chosen(..) => Heard::NotMine,
-            State::Asking(present) | State::Inside(present) => {
+            State::Asking(present) => {
                 heard_of_ticket(nodes, &present.ticket, present.granted, message)
             }
+            State::Inside(present) => self.heard_inside(present, message),
         }
     }
 
@@ -230,6 +257,10 @@ impl ClientCore {
     /// is the same from a node that was counted, `Busy` a Busy of the present ticket, `Done`, while
     /// the client is idle, a Done of its latest attempt, and `NotMine` everything else: what names
     /// another client, a node that no ballot of the list has, or another ticket or attempt.
+    ///
+    /// While the client is inside and has softened (our own rule), it is `Softened` for a Softened of
+    /// the present attempt, from a node of the list, and `NotMine` for everything else, as a late Grant
+    /// or Busy of the writer's ticket.
     pub fn hear(&mut self, message: &Message) -> Heard
         ensures heard { result ≡ heard_by self.old message.now }
         ensures allowed { Hears self.old message.now result }
@@ -270,6 +301,32 @@ impl ClientCore {
         ensures ticket { ticket_of self.new ≡ ticket_of self.old }
     {
         self.state = self.state.enters();
+    }
+
+    /// Whether the client may soften: it is inside with a writer's ticket.
+    pub fn may_soften(&self) -> bool
+        ensures { IsTrue result ↔ MaySoften self.now }
+    {
+        match self.state {
+            State::Inside(present) => present.is_writers(),
+            State::Idle | State::Chosen(..) | State::Asking(_) => false,
+        }
+    }
+
+    /// Softens: the client, inside as a writer, is a reader from now on, with the same votes and without
+    /// leaving. They are not counted anew, also where a reader needs more. `message_for` has then for each
+    /// node of the list that the attempt is softened (our own rule).
+    ///
+    /// The caller owes that it may; `may_soften` tells.
+    pub fn soften(&mut self)
+        requires { MaySoften self.old }
+        ensures exact { self.new ≡ softened self.old }
+        ensures inside { phase_of self.new ≡ Phase.Inside }
+        ensures ticket { ticket_of self.new ≡ option_map softened_ticket (ticket_of self.old) }
+        ensures same_votes { granted_of self.new ≡ granted_of self.old }
+        ensures tells { SoftensAll self.new self.old.attempt }
+    {
+        self.state = self.state.softens();
     }
 
     /// Leaves, or gives up asking: the client is idle and its attempt over. `message_for` has then

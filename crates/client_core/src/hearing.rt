@@ -2,10 +2,10 @@
 
 ghost use Rattle.std.specs.Prelude.{◌≡◌};
 ghost use Rattle.lock_messages.specs.Messages.{named_node};
-ghost use Rattle.lock_model.specs.ExactHearing.{is_node_of, same_ticket, heard_of_ticket, heard_at_rest};
+ghost use Rattle.lock_model.specs.ExactHearing.{is_node_of, same_ticket, heard_of_ticket, heard_softened, heard_at_rest};
 ghost use Rattle.vote_weights.specs.Sets.{has_node};
 
-use lock_messages::{ClientId, Message, NodeId, Ticket};
+use lock_messages::{Attempt, ClientId, Message, NodeId, Ticket};
 use lock_model::Heard;
 use vote_weights::NodeSet;
 
@@ -36,7 +36,9 @@ pub(crate) fn node_of(message: &Message) -> NodeId
         Message::Release(node, _, _)
         | Message::Over(node, _, _)
         | Message::Done(node, _, _)
-        | Message::Muddled(node, _, _) => node,
+        | Message::Muddled(node, _, _)
+        | Message::Soften(node, _, _)
+        | Message::Softened(node, _, _) => node,
     }
 }
 
@@ -70,7 +72,37 @@ pub(crate) fn heard_of_ticket(
         | Message::Release(..)
         | Message::Over(..)
         | Message::Done(..)
-        | Message::Muddled(..) => Heard::NotMine,
+        | Message::Muddled(..)
+        | Message::Soften(..)
+        | Message::Softened(..) => Heard::NotMine,
+    }
+}
+
+/// What a client makes of the message while it is inside, and has softened the attempt.
+pub(crate) fn heard_softened(
+    nodes: u8,
+    client: ClientId,
+    attempt: Attempt,
+    message: &Message,
+) -> Heard
+    ensures { result ≡ heard_softened nodes client attempt message.now }
+{
+    match message {
+        Message::Softened(node, to, of) => {
+            if is_node_of(nodes, *node) && *to == client && *of == attempt {
+                Heard::Softened
+            } else {
+                Heard::NotMine
+            }
+        }
+        Message::Request(..)
+        | Message::Release(..)
+        | Message::Grant(..)
+        | Message::Busy(..)
+        | Message::Over(..)
+        | Message::Done(..)
+        | Message::Muddled(..)
+        | Message::Soften(..) => Heard::NotMine,
     }
 }
 
@@ -91,6 +123,8 @@ pub(crate) fn heard_at_rest(nodes: u8, client: ClientId, attempt: u64, message: 
         | Message::Grant(..)
         | Message::Busy(..)
         | Message::Over(..)
-        | Message::Muddled(..) => Heard::NotMine,
+        | Message::Muddled(..)
+        | Message::Soften(..)
+        | Message::Softened(..) => Heard::NotMine,
     }
 }

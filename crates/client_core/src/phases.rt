@@ -2,7 +2,7 @@
 
 ghost use Rattle.std.specs.Prelude.{◌≡◌};
 
-use lock_messages::{NodeId, Ticket};
+use lock_messages::{Mode, NodeId, Ticket};
 use vote_weights::NodeSet;
 
 /// What a client does.
@@ -18,19 +18,23 @@ pub enum Phase {
     Inside,
 }
 
-/// What a client has of its present attempt: its ticket, the place of the ballot by which its votes
-/// count, the nodes whose Grant was counted, and those that were skipped.
+/// What a client has of its present attempt: the ticket that it asked with, the place of the ballot by
+/// which its votes count, the nodes whose Grant was counted, those that were skipped, and whether it has
+/// softened: then it is a reader, whatever that ticket says.
 #[derive(Clone, Copy, Debug, PartialEq, Eq, Hash)]
 pub(crate) struct Present {
     pub(crate) ticket: Ticket,
     pub(crate) place: u8,
     pub(crate) granted: NodeSet,
     pub(crate) skipped: NodeSet,
+    pub(crate) softened: bool,
 }
 
 impl Present {
     ghost use Rattle.vote_weights.specs.Sets.{with_node};
-    ghost use Rattle.client_core.specs.Calls.{first_of, with_vote, without, AddsNode};
+    ghost use Rattle.std.specs.Prelude.{◌↔◌, IsTrue};
+    ghost use Rattle.client_core.specs.Clients.{present_ticket};
+    ghost use Rattle.client_core.specs.Calls.{first_of, with_vote, without, soft, IsWriters, AddsNode};
 
     /// The attempt with this ticket and place, as it begins to ask: nothing is granted or skipped.
     fn first(ticket: Ticket, place: u8) -> Present
@@ -41,7 +45,29 @@ impl Present {
             place,
             granted: NodeSet::empty(),
             skipped: NodeSet::empty(),
+            softened: false,
         }
+    }
+
+    /// Its ticket: the one that it asked with, and once it has softened that as a reader's.
+    fn present_ticket(self) -> Ticket
+        ensures { result ≡ present_ticket self }
+    {
+        if self.softened {
+            Ticket {
+                mode: Mode::Read,
+                ..self.ticket
+            }
+        } else {
+            self.ticket
+        }
+    }
+
+    /// Whether its ticket is a writer's, so that it can be softened.
+    pub(crate) fn is_writers(self) -> bool
+        ensures { IsTrue result ↔ IsWriters self }
+    {
+        self.ticket.mode == Mode::Write && !self.softened
     }
 
     /// The same with the node's Grant counted.
@@ -64,6 +90,16 @@ impl Present {
             ..self
         }
     }
+
+    /// The same, softened.
+    fn soft(self) -> Present
+        ensures { result ≡ soft self }
+    {
+        Present {
+            softened: true,
+            ..self
+        }
+    }
 }
 
 /// What a client does, with what it has then.
@@ -78,7 +114,7 @@ pub(crate) enum State {
 
 impl State {
     ghost use Rattle.client_core.specs.Clients.{phase_in, ticket_in};
-    ghost use Rattle.client_core.specs.Calls.{asks_in, enters_in, counts_in, skips_in, AddsVote};
+    ghost use Rattle.client_core.specs.Calls.{asks_in, enters_in, softens_in, counts_in, skips_in, AddsVote};
 
     /// The phase.
     pub(crate) fn phase(self) -> Phase
@@ -99,7 +135,7 @@ impl State {
         match self {
             State::Idle => None,
             State::Chosen(ticket, _) => Some(ticket),
-            State::Asking(present) | State::Inside(present) => Some(present.ticket),
+            State::Asking(present) | State::Inside(present) => Some(present.present_ticket()),
         }
     }
 
@@ -120,6 +156,16 @@ impl State {
         match self {
             State::Asking(present) => State::Inside(present),
             State::Idle | State::Chosen(..) | State::Inside(_) => self,
+        }
+    }
+
+    /// While it is inside, its attempt is softened; any other state stays.
+    pub(crate) fn softens(self) -> State
+        ensures { result ≡ softens_in self }
+    {
+        match self {
+            State::Inside(present) => State::Inside(present.soft()),
+            State::Idle | State::Chosen(..) | State::Asking(_) => self,
         }
     }
 

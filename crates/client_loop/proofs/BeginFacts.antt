@@ -1,6 +1,5 @@
 -- What a client's log has begun.
-use Rattle.std.proofs.Common.{◌≡◌, ◌⊎◌, inl, inr, ℕ, zero, suc, ◌<◌, get_or, List, [], ◌∷◌, ◌++◌, length, map, refl, sym, ap, subst, ◌∙◌, arith}
-use Rattle.std.specs.List.{All}
+use Rattle.std.proofs.Common.{◌≡◌, inl, inr, ℕ, zero, suc, ◌<◌, get_or, List, [], ◌∷◌, length, map, refl, sym, ap, subst, ◌∙◌, arith}
 use Rattle.std.proofs.lemmas.List.Elements.{All-nil, All-push}
 use Rattle.lock_messages.specs.declared.ids.Actor.{Actor}
 use Rattle.lock_model.specs.Ballots.{Ballot, HasPlace}
@@ -58,6 +57,7 @@ ballots_after v (event.Say n) = refl
 ballots_after v (event.Take n k) = refl
 ballots_after v (event.Hear c k) = refl
 ballots_after v (event.Leave c) = refl
+ballots_after v (event.Soften c) = refl
 ballots_after v (event.Fall who) = refl
 ballots_after v (event.Rise who age) = refl
 
@@ -98,6 +98,7 @@ whose_after v (event.Say n) = refl
 whose_after v (event.Take n k) = refl
 whose_after v (event.Hear c k) = refl
 whose_after v (event.Leave c) = refl
+whose_after v (event.Soften c) = refl
 whose_after v (event.Fall who) = refl
 whose_after v (event.Rise who age) = refl
 

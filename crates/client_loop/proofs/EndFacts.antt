@@ -1,5 +1,5 @@
 -- One step after the other, to the fault by which a client ends.
-use Rattle.std.proofs.Common.{◌≡◌, ◌⊎◌, inl, inr, ℕ, ◌+◌, Bool, true, false, List, refl, sym, ap, subst, ◌∙◌, arith}
+use Rattle.std.proofs.Common.{◌≡◌, ◌⊎◌, inl, inr, ℕ, Bool, false, List, refl, sym, subst, arith}
 use Rattle.lock_messages.specs.declared.ids.Actor.{Actor}
 use Rattle.lock_messages.specs.declared.ids.TheConstants.{MAX_ATTEMPT}
 use Rattle.client_core.specs.declared.phases.Phase.TheVariants as phase
@@ -7,7 +7,7 @@ use Rattle.client_core.specs.declared.phases.State.{State}
 use Rattle.client_core.specs.declared.phases.State.TheVariants.{Idle, Chosen, Asking, Inside}
 use Rattle.client_core.specs.Clients.{Client, phase_in, phase_of}
 use Rattle.world_model.specs.declared.exact.ExactClientPhase.TheVariants as client
-use Rattle.world_model.specs.Parts.{Part, ClientPart}
+use Rattle.world_model.specs.Parts.{ClientPart}
 use Rattle.world_actors.specs.Clients.{phase_of as part_phase}
 use Rattle.event_recorders.specs.declared.faults.RunFault.{RunFault}
 use Rattle.event_recorders.specs.declared.faults.RunFault.TheVariants as fault

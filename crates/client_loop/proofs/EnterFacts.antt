@@ -1,12 +1,10 @@
 -- What entering makes of a client's part.
-use Rattle.std.proofs.Common.{◌≡◌, ℕ, List, None, sym, ap, ◌∙◌, subst}
+use Rattle.std.proofs.Common.{◌≡◌, ℕ, List, None, ap, ◌∙◌}
 use Rattle.lock_model.specs.Ballots.{Ballot}
 use Rattle.client_core.specs.Clients.{Client}
 use Rattle.client_core.specs.Calls.{MayEnter, entered}
 use Rattle.world_model.specs.declared.events.Effect.{Effect}
-use Rattle.world_model.specs.declared.events.Effect.TheVariants as effect
 use Rattle.world_model.specs.declared.events.Event.TheVariants as event
-use Rattle.world_model.specs.declared.exact.ExactClient.{ExactClient}
 use Rattle.world_model.specs.ExactWorlds.{refusal_of}
 use Rattle.world_model.specs.Parts.{Part, ClientPart, own_refusal, after_own, after_turn}
 use Rattle.world_actors.proofs.ClientFacts.{enough}

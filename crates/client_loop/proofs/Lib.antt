@@ -1,8 +1,10 @@
 pub mod Logs
 pub mod Attempts
 pub mod EnterFacts
+pub mod SoftFacts
 pub mod NodeFacts
 pub mod HearFacts
 pub mod SentFacts
 pub mod EndFacts
 pub mod BeginFacts
+pub mod SoftenedFacts

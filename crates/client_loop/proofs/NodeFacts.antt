@@ -1,5 +1,5 @@
 -- Sets of nodes that a client goes through, one node after the other.
-use Rattle.std.proofs.Common.{◌≡◌, ℕ, zero, suc, ◌+◌, ◌<◌, ◌≤◌, ◌==◌, Bool, true, false, ◌||◌, ◌&&◌, List, [], ◌∷◌, length, nat_lt, nat_le, refl, ap, sym, subst, arith, if◌then◌else◌, ◌∙◌}
+use Rattle.std.proofs.Common.{◌≡◌, ℕ, zero, suc, ◌+◌, ◌<◌, ◌≤◌, ◌==◌, Bool, true, false, ◌||◌, ◌&&◌, List, length, nat_lt, nat_le, refl, ap, sym, subst, arith, if◌then◌else◌, ◌∙◌}
 use Rattle.std.proofs.lemmas.Bool.Decides.{nat_tests}
 use Rattle.std.proofs.lemmas.List.Sums.{sum_by-cons}
 use Rattle.std.specs.List.{range_with_len, sum_by}
@@ -149,7 +149,7 @@ enough_alike b mode p q h enough = subst (λ (v : ℕ). needed b mode ≤ v) (vo
 
 -- a core that stays
 pub alike_none : (c : Client) → IsAlike c c
-alike_none c = record { client = refl; ballots = refl; part = refl; phase = refl }
+alike_none c = record { client = refl; ballots = refl; part = refl; phase = refl; ticket = refl }
 
 -- one core after the other
 pub alike_on : (a b c : Client) → IsAlike a b → IsAlike b c → IsAlike a c
@@ -158,6 +158,7 @@ alike_on a b c first second = record {
   ballots = second.ballots ∙ first.ballots;
   part = second.part ∙ first.part;
   phase = second.phase ∙ first.phase;
+  ticket = second.ticket ∙ first.ticket;
 }
 
 -- what is remembered, from node to node

@@ -1,5 +1,5 @@
 -- What a client's own log tells of what it sends.
-use Rattle.std.proofs.Common.{◌≡◌, ◌↔◌, ◌⊎◌, inl, inr, ℕ, Bool, true, false, List, [], ◌∷◌, ◌++◌, Option, None, Some, refl, sym, ap, ◌∙◌, append_assoc, append-nil, length, if◌then◌else◌, map, ◌==◌}
+use Rattle.std.proofs.Common.{◌≡◌, ◌↔◌, ◌⊎◌, inl, inr, ℕ, Bool, true, false, List, [], ◌∷◌, ◌++◌, Option, None, Some, refl, sym, ap, ◌∙◌, append_assoc, append-nil, if◌then◌else◌, map, ◌==◌}
 use Rattle.lock_messages.specs.declared.ids.Actor.{Actor}
 use Rattle.lock_messages.specs.declared.ids.Actor.TheVariants as actor
 use Rattle.lock_messages.specs.declared.messages.Message.{Message}
@@ -55,6 +55,9 @@ enter_sends_nothing l l' c done added = silent l l' (event.Enter c) done added r
 
 pub leave_sends_nothing : (l l' : OwnLog) (c : ℕ) (done : Effect) → IsAdded l (event.Leave c) done l' → sent_of l' ≡ sent_of l
 leave_sends_nothing l l' c done added = silent l l' (event.Leave c) done added refl
+
+pub soften_sends_nothing : (l l' : OwnLog) (c : ℕ) (done : Effect) → IsAdded l (event.Soften c) done l' → sent_of l' ≡ sent_of l
+soften_sends_nothing l l' c done added = silent l l' (event.Soften c) done added refl
 
 pub first_rise_sends_nothing : (l l' : OwnLog) (who : Actor) (age : Age) → IsUnused l who → IsAdded l (event.Rise who age) effect.Up l' → sent_of l' ≡ []
 first_rise_sends_nothing l l' who age unused added = silent l l' (event.Rise who age) effect.Up added refl ∙ ap (sent_by l.ballots l.opening) unused.events

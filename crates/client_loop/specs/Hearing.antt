@@ -45,6 +45,7 @@ granted_after heard.Counted n granted = with_node granted n
 granted_after heard.Known n granted = granted
 granted_after heard.Busy n granted = granted
 granted_after heard.Done n granted = granted
+granted_after heard.Softened n granted = granted
 granted_after heard.NotMine n granted = granted
 
 abbrev pub released_after : Heard → ℕ → List ℕ → List ℕ
@@ -52,6 +53,7 @@ released_after heard.Counted n released = released
 released_after heard.Known n released = released
 released_after heard.Busy n released = released
 released_after heard.Done n released = with_node released n
+released_after heard.Softened n released = released
 released_after heard.NotMine n released = released
 
 -- what was heard is remembered: a vote that was counted, and a release that was answered

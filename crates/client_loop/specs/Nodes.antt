@@ -1,6 +1,6 @@
 -- What a client knows of the nodes: who may still give its vote, who has to answer the release, and who is
 -- skipped.
-use Rattle.std.specs.Prelude.{◌≡◌, ℕ, Bool, true, false, not, ◌||◌, ◌&&◌, List, length}
+use Rattle.std.specs.Prelude.{◌≡◌, ℕ, Bool, true, false, not, ◌||◌, ◌&&◌, List}
 use Rattle.lock_messages.specs.declared.tickets.Mode.{Mode}
 use Rattle.lock_model.specs.Ballots.{Ballot, HasAnyNode, IsEnough, ballot_at, node_count}
 use Rattle.lock_model.specs.ExactHearing.{is_node_of}

@@ -1,9 +1,13 @@
 -- What a client sends.
-use Rattle.std.specs.Prelude.{◌≡◌, ℕ, List, [], ◌∷◌, ◌++◌, map, Option}
+use Rattle.std.specs.Prelude.{◌≡◌, ℕ, Bool, true, false, List, [], ◌∷◌, ◌++◌, map, filter, Option, None, Some}
+use Rattle.std.specs.List.{range_with_len}
 use Rattle.lock_messages.specs.declared.ids.Actor.TheVariants as actor
 use Rattle.lock_messages.specs.declared.messages.Message.{Message}
+use Rattle.lock_messages.specs.declared.messages.Message.TheVariants as message
 use Rattle.lock_messages.specs.Frames.{frame_of}
-use Rattle.lock_model.specs.Ballots.{Ballot}
+use Rattle.lock_model.specs.Ballots.{Ballot, node_count}
+use Rattle.vote_weights.specs.Sets.{has_node}
+use Rattle.client_core.specs.Clients.{Client}
 use Rattle.lossy_link.specs.declared.parcels.Sending.{Sending}
 use Rattle.lossy_link.specs.declared.parcels.Sending.TheVariants as sending
 use Rattle.lossy_link.specs.Links.{all_more}
@@ -31,6 +35,7 @@ number_of (effect.Took m changed) = 0
 number_of (effect.Heard m made) = 0
 number_of effect.Inside = 0
 number_of effect.Outside = 0
+number_of effect.Softened = 0
 number_of effect.Down = 0
 number_of effect.Up = 0
 
@@ -45,6 +50,7 @@ sent_for b (event.Take n k) done p = []
 sent_for b (event.Hear c k) done p = []
 sent_for b (event.Enter c) done p = []
 sent_for b (event.Leave c) done p = []
+sent_for b (event.Soften c) done p = []
 sent_for b (event.Fall who) done p = []
 sent_for b (event.Rise who age) done p = []
 
@@ -66,6 +72,44 @@ pub record SentFollows (l l' : OwnLog) (given given' : Option (List Sending)) : 
 -- sending.
 pub record SentUnlessMemory (f : RunFault) (l l' : OwnLog) (given given' : Option (List Sending)) : Type 0 where
   pub sent : (f ≡ fault.Memory → ⊥) → SentFollows l l' given given'
+
+-- what the one log tells beyond the other: that the message went to the node, once, or nothing where there is
+-- none
+abbrev pub Tells : Option Message → ℕ → OwnLog → OwnLog → Type 0
+Tells None n l l' = sent_of l' ≡ sent_of l
+Tells (Some m) n l l' = (number : ℕ) × (sent_of l' ≡ sent_of l ++ sending_to n number m ∷ [])
+
+-- to each of the nodes, one after the other, its message went, under some number
+abbrev pub AreToldEach : List ℕ → (ℕ → Message) → List Sending → Type 0
+AreToldEach [] message [] = Unit {0}
+AreToldEach [] message (s ∷ sent) = ⊥
+AreToldEach (n ∷ nodes) message [] = ⊥
+AreToldEach (n ∷ nodes) message (s ∷ sent) = ((number : ℕ) × (s ≡ sending_to n number (message n))) × AreToldEach nodes message sent
+
+-- what the one log tells beyond the other: that to each of these nodes its message went, once, and nothing
+-- else
+pub record TellsEach (nodes : List ℕ) (message : ℕ → Message) (l l' : OwnLog) : Type 0 where
+  pub more : List Sending
+  pub sent : sent_of l' ≡ sent_of l ++ more
+  pub each : AreToldEach nodes message more
+
+-- the nodes of the set among the first so many, in ascending order
+abbrev pub nodes_of : List ℕ → ℕ → List ℕ
+nodes_of set count = filter (λ n. has_node set n) (range_with_len 1 count)
+
+-- that an attempt is softened, as it is said to a node
+abbrev pub soften_of : ℕ → ℕ → ℕ → Message
+soften_of client attempt n = message.Soften n client attempt
+
+-- The Soften of the client's attempt went once to each node of the ballots that is in the set, and nothing
+-- else was sent since.
+abbrev pub TellsSoftened : Client → List ℕ → OwnLog → OwnLog → Type 0
+TellsSoftened c set l l' = TellsEach (nodes_of set (node_count c.ballots)) (soften_of c.client c.attempt) l l'
+
+-- the same where the client softens; else nothing was sent since
+abbrev pub TellsSoftenedIf : Bool → Client → List ℕ → OwnLog → OwnLog → Type 0
+TellsSoftenedIf true c set l l' = TellsSoftened c set l l'
+TellsSoftenedIf false c set l l' = sent_of l' ≡ sent_of l
 
 -- all that the log tells was sent, on top of what was sent before, unless it ended by want of memory
 pub record ToldUnlessMemory (f : RunFault) (l : OwnLog) (given given' : Option (List Sending)) : Type 0 where

@@ -4,7 +4,7 @@ use Rattle.lock_messages.specs.declared.ids.Actor.TheVariants as actor
 use Rattle.lock_messages.specs.declared.ids.TheConstants.{MAX_ATTEMPT}
 use Rattle.lock_messages.specs.declared.tickets.Ticket.{Ticket}
 use Rattle.client_core.specs.declared.phases.State.TheVariants.{Chosen}
-use Rattle.client_core.specs.Clients.{Client, phase_in}
+use Rattle.client_core.specs.Clients.{Client, phase_in, ticket_in}
 use Rattle.client_core.specs.Calls.{MayLeave, left}
 use Rattle.world_model.specs.declared.exact.ExactClient.{ExactClient}
 use Rattle.world_model.specs.declared.exact.ExactClientPhase.TheVariants as client
@@ -30,6 +30,7 @@ pub record IsAlike (before after : Client) : Type 0 where
   pub ballots : after.ballots ≡ before.ballots
   pub part : part_of after ≡ part_of before
   pub phase : phase_in after.state ≡ phase_in before.state
+  pub ticket : ticket_in after.state ≡ ticket_in before.state
 
 -- The core has left, and the log has the client asking or inside still, in the same attempt.
 pub record HasLeft (l : OwnLog) (finds : List (List ℕ)) (core : Client) : Type 0 where

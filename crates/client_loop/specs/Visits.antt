@@ -1,10 +1,11 @@
 -- What a client's own events say of its wishes.
-use Rattle.std.specs.Prelude.{◌≡◌, ℕ, ◌+◌, ◌≤◌, ◌⊎◌, List, [], ◌∷◌, ◌++◌, length, map, take, Option, Some, None, Result, Ok, Err}
+use Rattle.std.specs.Prelude.{◌≡◌, ℕ, ◌+◌, ◌-◌, ◌≤◌, ◌⊎◌, ◌&&◌, Bool, false, List, [], ◌∷◌, ◌++◌, length, map, filter, take, if◌then◌else◌, Option, Some, None, Result, Ok, Err}
 use Rattle.std.specs.List.{All}
 use Rattle.lock_messages.specs.declared.ids.Actor.{Actor}
 use Rattle.lock_messages.specs.declared.tickets.Mode.{Mode}
 use Rattle.lock_model.specs.Ballots.{Ballot, HasPlace}
 use Rattle.lock_model.specs.Decisions.{Among}
+use Rattle.lock_model.specs.ExactStations.{is_write}
 use Rattle.world_model.specs.declared.events.Effect.{Effect}
 use Rattle.world_model.specs.declared.events.Event.{Event}
 use Rattle.world_model.specs.declared.events.Event.TheVariants as event
@@ -19,17 +20,27 @@ pub record Use : Type 0 where
   pub place : ℕ
 
 -- whose events they are, and the ballots that there are; the use that was begun last, if one was; for each
--- Enter, in order, the use that was begun last before it; and the use of each Begin, in order
+-- Enter, in order, the use that was begun last before it, and for each Soften the same; and the use of each
+-- Begin, in order
 pub record Visits : Type 0 where
   pub whose : Actor
   pub ballots : List Ballot
   pub begun : Option Use
   pub entered : List (Option Use)
+  pub softened : List (Option Use)
   pub begins : List Use
 
 -- the visits with one Enter more
 abbrev pub visits_entering : Visits → Visits
 visits_entering v = record v { entered = v.entered ++ v.begun ∷ [] }
+
+-- the visits with one Soften more
+abbrev pub visits_softening : Visits → Visits
+visits_softening v = record v { softened = v.softened ++ v.begun ∷ [] }
+
+-- the visits with one Soften more where the wish softens
+abbrev pub visits_softening_if : Bool → Visits → Visits
+visits_softening_if soften v = if soften then visits_softening v else v
 
 -- the visits with one Begin more
 abbrev pub visits_beginning : Use → Visits → Visits
@@ -39,6 +50,7 @@ visits_beginning u v = record v { begun = Some u; begins = v.begins ++ u ∷ [] 
 abbrev pub visits_after : Visits → Event → Visits
 visits_after v (event.Begin c m x place) = visits_beginning (record { mode = m; resource = x; place = place }) v
 visits_after v (event.Enter c) = visits_entering v
+visits_after v (event.Soften c) = visits_softening v
 visits_after v (event.Try who) = v
 visits_after v (event.Kept who) = v
 visits_after v (event.SayTo c n) = v
@@ -55,7 +67,11 @@ visits_from v (p ∷ events) = visits_from (visits_after v p.0) events
 
 -- what the client's own events say
 abbrev pub visits_of : OwnLog → Visits
-visits_of l = visits_from (record { whose = l.actor; ballots = l.ballots; begun = None; entered = []; begins = [] }) l.events
+visits_of l = visits_from (record { whose = l.actor; ballots = l.ballots; begun = None; entered = []; softened = []; begins = [] }) l.events
+
+-- the wish softens: so it says, and it enters as a writer
+abbrev pub softens : Wish → Bool
+softens w = is_write w.mode && w.soften
 
 -- what a wish wishes
 abbrev pub use_of : Wish → Use
@@ -68,25 +84,41 @@ pub record HasEntered (wishes : List Wish) (n : ℕ) (l : OwnLog) : Type 0 where
   pub count : length (visits_of l).entered ≡ n
   pub each : (visits_of l).entered ≡ map (λ w. Some (use_of w)) (take n wishes)
 
--- how many entries were counted, and the use of each Enter of the log
+-- the uses of those of the wishes that soften, in order
+abbrev pub softening_uses : List Wish → List (Option Use)
+softening_uses wishes = map (λ w. Some (use_of w)) (filter (λ w. softens w) wishes)
+
+-- Just those of the first so many wishes that soften were softened, each once and in order, and nothing else
+-- was.
+abbrev pub HasSoftened : List Wish → ℕ → OwnLog → Type 0
+HasSoftened wishes n l = (visits_of l).softened ≡ softening_uses (take n wishes)
+
+-- What a run of the client that ended so has softened: just what its wishes say, but that a fault may come
+-- between the last Enter and its Soften.
+abbrev pub SoftensAsWished : List Wish → Result ℕ (ℕ × RunFault) → OwnLog → Type 0
+SoftensAsWished wishes (Ok n) l = HasSoftened wishes n l
+SoftensAsWished wishes (Err e) l = HasSoftened wishes e.0 l ⊎ HasSoftened wishes (e.0 - 1) l
+
+-- how many entries were counted, and the use of each Enter and of each Soften of the log
 pub record Tally : Type 0 where
   pub count : ℕ
   pub uses : List (Option Use)
+  pub softened : List (Option Use)
 
 abbrev pub tally : ℕ → OwnLog → Tally
-tally n l = record { count = n; uses = (visits_of l).entered }
+tally n l = record { count = n; uses = (visits_of l).entered; softened = (visits_of l).softened }
 
 -- nothing was entered, and nothing counted
 abbrev pub AddsNothing : Tally → Tally → Type 0
 AddsNothing before after = after ≡ before
 
--- this use was entered once, and counted
-abbrev pub AddsUse : Option Use → Tally → Tally → Type 0
-AddsUse u before after = after ≡ record { count = before.count + 1; uses = before.uses ++ u ∷ [] }
+-- this use was entered once, and counted, and softened if so
+abbrev pub AddsUse : Option Use → Bool → Tally → Tally → Type 0
+AddsUse u soften before after = after ≡ record { count = before.count + 1; uses = before.uses ++ u ∷ []; softened = if soften then before.softened ++ u ∷ [] else before.softened }
 
--- it was entered once or not at all
-abbrev pub AddsAtMost : Option Use → Tally → Tally → Type 0
-AddsAtMost u before after = AddsNothing before after ⊎ AddsUse u before after
+-- it was entered once or not at all, and softened only if so
+abbrev pub AddsAtMost : Option Use → Bool → Tally → Tally → Type 0
+AddsAtMost u soften before after = AddsNothing before after ⊎ (AddsUse u false before after ⊎ AddsUse u soften before after)
 
 -- the number of entries that a run of the client answers, in both cases
 abbrev pub entries_of : Result ℕ (ℕ × RunFault) → ℕ

@@ -6,7 +6,7 @@ ghost use Rattle.client_core.specs.Calls.{MayEnter};
 ghost use Rattle.client_loop.specs.Sendings.{SentFollows, SentUnlessMemory};
 ghost use Rattle.client_loop.specs.Standing.{Stands};
 ghost use Rattle.client_loop.specs.Visits.{visits_of};
-ghost use Rattle.client_core.specs.Clients.{phase_of};
+ghost use Rattle.client_core.specs.Clients.{phase_of, ticket_of};
 ghost use Rattle.client_loop.specs.Endings.{IsAskFault};
 ghost use Rattle.client_loop.specs.Nodes.{CanSuffice};
 ghost use Rattle.actor_steps.specs.Steps.{IsBookFault};
@@ -37,6 +37,7 @@ fn ask_on<R: Recorder, L: Link>(
     ensures stands { Stands (R.own_log recorder.new) (finds stable.now) progress.new.core }
     ensures visits { visits_of (R.own_log recorder.new) ≡ visits_of (R.own_log recorder.old) }
     ensures phase { phase_of progress.new.core ≡ phase_of progress.old.core }
+    ensures ticket { ticket_of progress.new.core ≡ ticket_of progress.old.core }
     ensures falls { falls_of (R.own_log recorder.new) ≡ falls_of (R.own_log recorder.old) }
     ensures faults { IfErr result IsBookFault }
 {
@@ -71,6 +72,7 @@ pub(crate) fn ask<W: Wait, R: Recorder, L: Link>(
     ensures stands { Stands (R.own_log recorder.new) (finds stable.now) progress.new.core }
     ensures visits { visits_of (R.own_log recorder.new) ≡ visits_of (R.own_log recorder.old) }
     ensures phase { phase_of progress.new.core ≡ phase_of progress.old.core }
+    ensures ticket { ticket_of progress.new.core ≡ ticket_of progress.old.core }
     ensures falls { falls_of (R.own_log recorder.new) ≡ falls_of (R.own_log recorder.old) }
     ensures faults { IfErr result IsAskFault }
     // 912: only where the nodes that granted and those that aren't gone are not enough.

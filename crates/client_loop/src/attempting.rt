@@ -1,8 +1,8 @@
 // Making an attempt: its number is chosen, and kept before it is used.
 
-ghost use Rattle.std.specs.Prelude.{◌≡◌, ◌+◌, OnOk, IfErr, true, false, Some, Ok};
+ghost use Rattle.std.specs.Prelude.{◌≡◌, ◌+◌, OnOk, IfErr, IfSome, true, false, Some, Ok};
 ghost use Rattle.lock_model.specs.Ballots.{HasPlace};
-ghost use Rattle.client_core.specs.Clients.{phase_of};
+ghost use Rattle.client_core.specs.Clients.{phase_of, ticket_of};
 ghost use Rattle.client_core.specs.declared.phases.Phase.TheVariants as phase;
 ghost use Rattle.client_loop.specs.Sendings.{sent_of};
 ghost use Rattle.client_loop.specs.Standing.{Stands, HasChosen, HasTried};
@@ -35,8 +35,10 @@ fn begin<R: Recorder>(
     requires placed { HasPlace (R.own_log recorder.old).ballots wish.now.place }
     ensures silent { sent_of (R.own_log recorder.new) ≡ sent_of (R.own_log recorder.old) }
     ensures chosen { OnOk result (HasChosen (R.own_log recorder.new) (finds stable.now) core.new) }
+    ensures asks { OnOk result (IfSome (ticket_of core.new) (λ t. t.mode ≡ wish.now.mode)) }
     ensures begun { OnOk result ((visits_of (R.own_log recorder.new)).begun ≡ Some (use_of wish.now)) }
     ensures entered { (visits_of (R.own_log recorder.new)).entered ≡ (visits_of (R.own_log recorder.old)).entered }
+    ensures softened { (visits_of (R.own_log recorder.new)).softened ≡ (visits_of (R.own_log recorder.old)).softened }
     ensures falls { falls_of (R.own_log recorder.new) ≡ falls_of (R.own_log recorder.old) }
     ensures ended { IfErr result (λ fault. ClientEndsFrom fault (falls_of (R.own_log recorder.old)) (R.own_log recorder.new) (stuck_of stable.now) (spent_of stable.now) (failures_of stable.now) (failures_of stable.now)) }
     ensures begins { BeginsOnly (use_of wish.now) (visits_of (R.own_log recorder.old)) (visits_of (R.own_log recorder.new)) }
@@ -103,6 +105,7 @@ fn keep_chosen<R: Recorder, G: Gate>(
     ensures silent { sent_of (R.own_log recorder.new) ≡ sent_of (R.own_log recorder.old) }
     ensures visits { visits_of (R.own_log recorder.new) ≡ visits_of (R.own_log recorder.old) }
     ensures asking { result ≡ Ok true → phase_of core.new ≡ phase.Asking }
+    ensures ticket { result ≡ Ok true → ticket_of core.new ≡ ticket_of core.old }
     ensures ended { IfErr result (λ fault. ClientEndsFrom fault (falls_of (R.own_log recorder.old)) (R.own_log recorder.new) (stuck_of stable.new) (spent_of stable.new) (failures_of stable.old) (failures_of stable.new)) }
     ensures falls { FailuresFollow (falls_of (R.own_log recorder.old)) (falls_of (R.own_log recorder.new)) (failures_of stable.old) (failures_of stable.new) }
 {
@@ -141,7 +144,9 @@ pub(crate) fn attempt<W: Wait, R: Recorder, G: Gate>(
     ensures silent { sent_of (R.own_log recorder.new) ≡ sent_of (R.own_log recorder.old) }
     ensures begun { OnOk result ((visits_of (R.own_log recorder.new)).begun ≡ Some (use_of wish.now)) }
     ensures entered { (visits_of (R.own_log recorder.new)).entered ≡ (visits_of (R.own_log recorder.old)).entered }
+    ensures softened { (visits_of (R.own_log recorder.new)).softened ≡ (visits_of (R.own_log recorder.old)).softened }
     ensures asking { OnOk result (phase_of progress.new.core ≡ phase.Asking) }
+    ensures asks { OnOk result (IfSome (ticket_of progress.new.core) (λ t. t.mode ≡ wish.now.mode)) }
     ensures ended { IfErr result (λ fault. ClientEndsFrom fault (falls_of (R.own_log recorder.old)) (R.own_log recorder.new) (stuck_of stable.new) (spent_of stable.new) (failures_of stable.old) (failures_of stable.new)) }
     ensures falls { FailuresFollow (falls_of (R.own_log recorder.old)) (falls_of (R.own_log recorder.new)) (failures_of stable.old) (failures_of stable.new) }
     ensures begins { BeginsOnly (use_of wish.now) (visits_of (R.own_log recorder.old)) (visits_of (R.own_log recorder.new)) }

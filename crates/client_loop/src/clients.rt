@@ -10,7 +10,7 @@ ghost use Rattle.client_loop.specs.Standing.{Stands, KeepsAttempt};
 ghost use Rattle.actor_steps.specs.Steps.{HasFailed};
 ghost use Rattle.actor_steps.specs.Endings.{falls_of, FailuresFollow};
 ghost use Rattle.client_loop.specs.Endings.{ClientEndsFrom, ClientEndsBy, ClientEndsSomehow};
-ghost use Rattle.client_loop.specs.Visits.{visits_of, HasEntered, HasBegun, ArePlaced, entries_of};
+ghost use Rattle.client_loop.specs.Visits.{visits_of, HasEntered, HasBegun, SoftensAsWished, ArePlaced, entries_of};
 
 use crate::progress::Progress;
 use crate::wishing::fulfil;
@@ -42,6 +42,7 @@ fn rise<R: Recorder>(
     ensures idle { IfOk result (λ core. phase_of core ≡ phase.Idle) }
     ensures silent { sent_of (R.own_log recorder.new) ≡ [] }
     ensures visits { (visits_of (R.own_log recorder.new)).entered ≡ [] }
+    ensures softened { (visits_of (R.own_log recorder.new)).softened ≡ [] }
     ensures begins { (visits_of (R.own_log recorder.new)).begins ≡ [] }
     ensures whose { (visits_of (R.own_log recorder.new)).whose ≡ (R.own_log recorder.old).actor }
     ensures ballots { (visits_of (R.own_log recorder.new)).ballots ≡ (R.own_log recorder.old).ballots }
@@ -73,10 +74,12 @@ fn fulfil_all<W: Wait, R: Recorder, L: Link, G: Gate>(
     requires few { length wishes.now ≤ MAX_WISHES }
     requires placed { ArePlaced (R.own_log recorder.old).ballots wishes.now }
     requires fresh { (visits_of (R.own_log recorder.old)).entered ≡ [] }
+    requires unsoftened { (visits_of (R.own_log recorder.old)).softened ≡ [] }
     requires first { HasBegun (R.own_log recorder.old).actor wishes.now (R.own_log recorder.old) }
     ensures sent { OnOk result (SentFollows (R.own_log recorder.old) (R.own_log recorder.new) (L.given link.old) (L.given link.new)) }
     ensures faulted { IfErr result (λ p. SentUnlessMemory p.1 (R.own_log recorder.old) (R.own_log recorder.new) (L.given link.old) (L.given link.new)) }
     ensures entered { HasEntered wishes.now (entries_of result) (R.own_log recorder.new) }
+    ensures softened { SoftensAsWished wishes.now result (R.own_log recorder.new) }
     ensures all { IfOk result (λ n. n ≡ length wishes.now) }
     ensures ended { IfErr result (λ p. ClientEndsFrom p.1 (falls_of (R.own_log recorder.old)) (R.own_log recorder.new) (stuck_of stable.new) (spent_of stable.new) (failures_of stable.old) (failures_of stable.new)) }
     ensures falls { FailuresFollow (falls_of (R.own_log recorder.old)) (falls_of (R.own_log recorder.new)) (failures_of stable.old) (failures_of stable.new) }
@@ -129,6 +132,7 @@ pub fn run_client_over<W: Wait, R: Recorder, L: Link, G: Gate>(
     ensures sent { OnOk result (L.given link.new ≡ all_more (L.given link.old) (sent_of (R.own_log recorder.new))) }
     ensures faulted { IfErr result (λ p. ToldUnlessMemory p.1 (R.own_log recorder.new) (L.given link.old) (L.given link.new)) }
     ensures entered { HasEntered wishes.now (entries_of result) (R.own_log recorder.new) }
+    ensures softened { SoftensAsWished wishes.now result (R.own_log recorder.new) }
     ensures all { IfOk result (λ n. n ≡ length wishes.now) }
     ensures ended { IfErr result (λ p. ClientEndsBy p.1 (R.own_log recorder.new) (stuck_of stable.new) (spent_of stable.new) (failures_of stable.old) (failures_of stable.new)) }
     ensures falls { HasFailed (falls_of (R.own_log recorder.new)) (failures_of stable.old) (failures_of stable.new) }
@@ -146,12 +150,14 @@ pub fn run_client_over<W: Wait, R: Recorder, L: Link, G: Gate>(
 ///
 /// For each wish it makes an attempt, whose number it keeps before it is used, asks the nodes one after
 /// another for their votes, is inside by a guard while the gate keeps it, leaves, and says its release to
-/// each node that it asked until each has answered or is gone. It logs each of these before it sends
-/// what it says. It drops a frame that is no message for it, a number under which no message was sent to
-/// it, and the nudge of a node to which it has sent nothing in the present wish; on every other nudge it
-/// sends again. A node that is gone is skipped, and a link over which nothing comes any more has lost
-/// every node. Where its record fails it falls, rises with what the record holds, and takes the wish up
-/// again.
+/// each node that it asked until each has answered or is gone. For a wish that softens it enters as a
+/// writer and, once the gate lets it go, softens its guard, says so once to each node whose vote was
+/// counted, and is inside as a reader while the gate keeps it again; then it leaves as for any. It logs
+/// each of these before it sends what it says. It drops a frame that is no message for it, a number under
+/// which no message was sent to it, and the nudge of a node to which it has sent nothing in the present
+/// wish; on every other nudge it sends again. A node that is gone is skipped, and a link over which
+/// nothing comes any more has lost every node. Where its record fails it falls, rises with what the
+/// record holds, and takes the wish up again.
 ///
 /// The caller owes wishes of this client, at most `MAX_WISHES`, whose places the list has; a recorder of
 /// this client, with these ballots, that has logged nothing, and whose opening has the client down, with
@@ -164,8 +170,8 @@ pub fn run_client_over<W: Wait, R: Recorder, L: Link, G: Gate>(
 /// granted and those that aren't gone are too few (912), or a wish had `MAX_NUDGES` nudges (913), and then
 /// the client has left where it asked, and has said its release once to each asked node that isn't gone;
 /// memory was refused (914); the book is full or another's (915); no change of the record can be numbered
-/// any more, or no attempt is left (916). Nothing is logged after that. It may wait at the link, the
-/// recorder and the gate.
+/// any more, or no attempt is left (916). Nothing is logged after that, also where the client is inside by
+/// its log: its guard leaves. It may wait at the link, the recorder and the gate.
 #[tactic(auto, using(crate::proofs::EndFacts::client_ends_somehow))]
 pub fn run_client<W: Wait, R: Recorder, L: Link, G: Gate>(
     rt: &W,
@@ -188,6 +194,7 @@ pub fn run_client<W: Wait, R: Recorder, L: Link, G: Gate>(
     ensures sent { OnOk result (L.given link.new ≡ all_more (L.given link.old) (sent_of (R.own_log recorder.new))) }
     ensures faulted { IfErr result (λ p. ToldUnlessMemory p.1 (R.own_log recorder.new) (L.given link.old) (L.given link.new)) }
     ensures entered { HasEntered wishes.now (entries_of result) (R.own_log recorder.new) }
+    ensures softened { SoftensAsWished wishes.now result (R.own_log recorder.new) }
     ensures all { IfOk result (λ n. n ≡ length wishes.now) }
     ensures ended { IfErr result (λ p. ClientEndsSomehow p.1 (R.own_log recorder.new)) }
     ensures begun { HasBegun (R.own_log recorder.old).actor wishes.now (R.own_log recorder.new) }

@@ -3,9 +3,11 @@
 //! `run_client` rises with what the client's record holds, and fulfils its wishes one after another over
 //! any `Recorder`, `Link` and `Gate`. The crate promises that it logs only what the client's own log
 //! allows, each while the record finds what the client has kept by then; that the gate is called inside
-//! with a live guard whose ticket the log has inside; that the client's Enters are those of its first
-//! wishes, in order; and that what it answers is their number, `Ok` only with every wish entered. It
-//! promises nothing of what a link brings, and not that it ends.
+//! with a live guard whose ticket the log has inside, a writer's before it softens and a reader's after
+//! that; that the client's Enters are those of its first wishes, in order, and its Softens those of the ones
+//! among them that soften, but for the last where a fault comes first; and that what it answers is the
+//! number of its Enters, `Ok` only with every wish entered. It promises nothing of what a link brings, and
+//! not that it ends.
 //!
 //! It stands on `client_core` for what a client decides, `entry_guard` for being inside, `actor_steps`
 //! for the steps that nodes and clients share, `event_recorders`, `lossy_link`, `stable_record`,
@@ -22,6 +24,7 @@ pub mod laws;
 mod posts;
 mod progress;
 mod releasing;
+mod softening;
 mod talking;
 mod wishing;
 

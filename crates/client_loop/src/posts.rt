@@ -1,7 +1,7 @@
 // What a client does on a post.
 
 ghost use Rattle.std.specs.Prelude.{◌≡◌, ◌↔◌, ◌≤◌, ◌+◌, ◌-◌, ◌^◌, min, if◌then◌else◌, true, OnOk, OnErr, IfErr, Err};
-ghost use Rattle.client_core.specs.Clients.{phase_of};
+ghost use Rattle.client_core.specs.Clients.{phase_of, ticket_of};
 ghost use Rattle.client_loop.specs.Hearing.{IsFrameFor, TakesParcel};
 ghost use Rattle.client_loop.specs.Sendings.{sent_of, SentFollows, SentUnlessMemory};
 ghost use Rattle.client_loop.specs.Standing.{Stands};
@@ -34,6 +34,7 @@ fn take_parcel<R: Recorder>(
     ensures silent { sent_of (R.own_log recorder.new) ≡ sent_of (R.own_log recorder.old) }
     ensures stands { Stands (R.own_log recorder.new) (finds stable.now) progress.new.core }
     ensures phase { phase_of progress.new.core ≡ phase_of progress.old.core }
+    ensures ticket { ticket_of progress.new.core ≡ ticket_of progress.old.core }
     ensures visits { visits_of (R.own_log recorder.new) ≡ visits_of (R.own_log recorder.old) }
     ensures falls { falls_of (R.own_log recorder.new) ≡ falls_of (R.own_log recorder.old) }
     ensures faults { IfErr result IsBookFault }
@@ -62,6 +63,7 @@ fn take_nudge<R: Recorder, L: Link>(
     ensures faulted { IfErr result (λ f. SentUnlessMemory f (R.own_log recorder.old) (R.own_log recorder.new) (L.given link.old) (L.given link.new)) }
     ensures stands { Stands (R.own_log recorder.new) (finds stable.now) progress.new.core }
     ensures phase { phase_of progress.new.core ≡ phase_of progress.old.core }
+    ensures ticket { ticket_of progress.new.core ≡ ticket_of progress.old.core }
     ensures visits { visits_of (R.own_log recorder.new) ≡ visits_of (R.own_log recorder.old) }
     ensures falls { falls_of (R.own_log recorder.new) ≡ falls_of (R.own_log recorder.old) }
     ensures faults { IfErr result IsPostFault }
@@ -97,6 +99,7 @@ pub(crate) fn take_post<R: Recorder, L: Link>(
     ensures faulted { IfErr result (λ f. SentUnlessMemory f (R.own_log recorder.old) (R.own_log recorder.new) (L.given link.old) (L.given link.new)) }
     ensures stands { Stands (R.own_log recorder.new) (finds stable.now) progress.new.core }
     ensures phase { phase_of progress.new.core ≡ phase_of progress.old.core }
+    ensures ticket { ticket_of progress.new.core ≡ ticket_of progress.old.core }
     ensures visits { visits_of (R.own_log recorder.new) ≡ visits_of (R.own_log recorder.old) }
     ensures falls { falls_of (R.own_log recorder.new) ≡ falls_of (R.own_log recorder.old) }
     ensures faults { IfErr result IsPostFault }

@@ -63,7 +63,7 @@ impl Progress {
         match heard {
             Heard::Counted => self.granted = self.granted.with(node),
             Heard::Done => self.released = self.released.with(node),
-            Heard::Known | Heard::Busy | Heard::NotMine => {}
+            Heard::Known | Heard::Busy | Heard::Softened | Heard::NotMine => {}
         }
     }
 

@@ -1,9 +1,11 @@
 // What a client says and hears.
 
 ghost use Rattle.std.specs.Prelude.{◌≡◌, ◌↔◌, ◌++◌, ◌∷◌, [], IsTrue, IfOk, IfSome, IfNone, OnOk, OnErr, IfErr};
+ghost use Rattle.std.specs.Option.{option_map};
 ghost use Rattle.lock_messages.specs.Messages.{named_node};
-ghost use Rattle.client_core.specs.Clients.{phase_of};
-ghost use Rattle.client_loop.specs.Sendings.{sent_of, sending_to, SentFollows, SentUnlessMemory};
+ghost use Rattle.client_core.specs.Clients.{phase_of, ticket_of};
+ghost use Rattle.client_core.specs.Calls.{message_for};
+ghost use Rattle.client_loop.specs.Sendings.{sent_of, sending_to, SentFollows, SentUnlessMemory, Tells};
 ghost use Rattle.client_loop.specs.Hearing.{IsFrameFor, Hears, HearsOf, HearsNothing};
 ghost use Rattle.client_loop.specs.Standing.{Stands};
 ghost use Rattle.client_loop.specs.Visits.{visits_of};
@@ -21,7 +23,8 @@ use std::alloc::Global;
 use world_model::{Effect, Event};
 
 /// Logs what the client has to say to the node, and answers it with its number; `None` where there is
-/// nothing: it says the request of its ticket while it asks, the release of its attempt while it rests.
+/// nothing: it says the request of its ticket while it asks, that it has softened while it is inside so, the
+/// release of its attempt while it rests.
 #[tactic(auto, using(crate::proofs::SentFacts::sayto_sends))]
 fn said<R: Recorder>(
     core: &ClientCore,
@@ -32,6 +35,7 @@ fn said<R: Recorder>(
     requires { Stands (R.own_log recorder.old) (finds stable.now) core.now }
     ensures said { IfOk result (λ o. IfSome o (λ p. sent_of (R.own_log recorder.new) ≡ sent_of (R.own_log recorder.old) ++ sending_to node p.0 p.1 ∷ [])) }
     ensures silent { IfOk result (λ o. IfNone o (R.own_log recorder.new ≡ R.own_log recorder.old)) }
+    ensures message { IfOk result (λ o. option_map (λ p. p.1) o ≡ message_for core.now node) }
     ensures refused { OnErr result (R.own_log recorder.new ≡ R.own_log recorder.old) }
     ensures stands { Stands (R.own_log recorder.new) (finds stable.now) core.now }
     ensures visits { visits_of (R.own_log recorder.new) ≡ visits_of (R.own_log recorder.old) }
@@ -59,6 +63,7 @@ pub(crate) fn tell<R: Recorder, L: Link>(
     link: &mut L,
 ) -> Result<(), RunFault>
     requires { Stands (R.own_log recorder.old) (finds stable.now) core.now }
+    ensures told { OnOk result (Tells (message_for core.now node) node (R.own_log recorder.old) (R.own_log recorder.new)) }
     ensures sent { OnOk result (SentFollows (R.own_log recorder.old) (R.own_log recorder.new) (L.given link.old) (L.given link.new)) }
     ensures faulted { IfErr result (λ f. SentUnlessMemory f (R.own_log recorder.old) (R.own_log recorder.new) (L.given link.old) (L.given link.new)) }
     ensures stands { Stands (R.own_log recorder.new) (finds stable.now) core.now }
@@ -90,7 +95,9 @@ fn node_of(message: &Message) -> NodeId
         Message::Release(node, _, _)
         | Message::Over(node, _, _)
         | Message::Done(node, _, _)
-        | Message::Muddled(node, _, _) => node,
+        | Message::Muddled(node, _, _)
+        | Message::Soften(node, _, _)
+        | Message::Softened(node, _, _) => node,
     }
 }
 
@@ -120,6 +127,7 @@ fn heard<R: Recorder>(
     ensures silent { sent_of (R.own_log recorder.new) ≡ sent_of (R.own_log recorder.old) }
     ensures stands { Stands (R.own_log recorder.new) (finds stable.now) core.new }
     ensures phase { phase_of core.new ≡ phase_of core.old }
+    ensures ticket { ticket_of core.new ≡ ticket_of core.old }
     ensures visits { visits_of (R.own_log recorder.new) ≡ visits_of (R.own_log recorder.old) }
     ensures falls { falls_of (R.own_log recorder.new) ≡ falls_of (R.own_log recorder.old) }
     ensures faults { IfErr result IsBookFault }
@@ -150,6 +158,7 @@ pub(crate) fn hear<R: Recorder>(
     ensures silent { sent_of (R.own_log recorder.new) ≡ sent_of (R.own_log recorder.old) }
     ensures stands { Stands (R.own_log recorder.new) (finds stable.now) core.new }
     ensures phase { phase_of core.new ≡ phase_of core.old }
+    ensures ticket { ticket_of core.new ≡ ticket_of core.old }
     ensures visits { visits_of (R.own_log recorder.new) ≡ visits_of (R.own_log recorder.old) }
     ensures falls { falls_of (R.own_log recorder.new) ≡ falls_of (R.own_log recorder.old) }
     ensures faults { IfErr result IsBookFault }

@@ -8,7 +8,7 @@ ghost use Rattle.client_loop.specs.Sendings.{SentFollows, SentUnlessMemory};
 ghost use Rattle.client_loop.specs.Standing.{Stands};
 ghost use Rattle.actor_steps.specs.Endings.{falls_of, FailuresFollow};
 ghost use Rattle.client_loop.specs.Endings.{ClientEndsFrom};
-ghost use Rattle.client_loop.specs.Visits.{visits_of, tally, AddsUse, AddsAtMost, BeginsOnly, use_of};
+ghost use Rattle.client_loop.specs.Visits.{visits_of, tally, AddsUse, AddsAtMost, BeginsOnly, softens, use_of};
 
 use crate::asking::ask;
 use crate::attempting::attempt;
@@ -47,8 +47,8 @@ pub(crate) fn fulfil<W: Wait, R: Recorder, L: Link, G: Gate>(
     ensures stands { OnOk result (Stands (R.own_log recorder.new) (finds stable.new) progress.new.core) }
     ensures free { OnOk result (stuck_of stable.new ≡ false) }
     ensures idle { OnOk result (phase_of progress.new.core ≡ phase.Idle) }
-    ensures entered { OnOk result (AddsUse (Some (use_of wish.now)) (tally entered.old (R.own_log recorder.old)) (tally entered.new (R.own_log recorder.new))) }
-    ensures counted { AddsAtMost (Some (use_of wish.now)) (tally entered.old (R.own_log recorder.old)) (tally entered.new (R.own_log recorder.new)) }
+    ensures entered { OnOk result (AddsUse (Some (use_of wish.now)) (softens wish.now) (tally entered.old (R.own_log recorder.old)) (tally entered.new (R.own_log recorder.new))) }
+    ensures counted { AddsAtMost (Some (use_of wish.now)) (softens wish.now) (tally entered.old (R.own_log recorder.old)) (tally entered.new (R.own_log recorder.new)) }
     ensures ended { IfErr result (λ fault. ClientEndsFrom fault (falls_of (R.own_log recorder.old)) (R.own_log recorder.new) (stuck_of stable.new) (spent_of stable.new) (failures_of stable.old) (failures_of stable.new)) }
     ensures falls { FailuresFollow (falls_of (R.own_log recorder.old)) (falls_of (R.own_log recorder.new)) (failures_of stable.old) (failures_of stable.new) }
     ensures begins { BeginsOnly (use_of wish.now) (visits_of (R.own_log recorder.old)) (visits_of (R.own_log recorder.new)) }
@@ -59,7 +59,7 @@ pub(crate) fn fulfil<W: Wait, R: Recorder, L: Link, G: Gate>(
     if let Err(fault) = ask(rt, alloc, wish, progress, stable, recorder, link) {
         return Err(end(alloc, fault, progress, stable, recorder, link));
     }
-    visit(&mut progress.core, entered, stable, recorder, gate)?;
+    visit(alloc, wish, progress, entered, stable, recorder, link, gate)?;
     if let Err(fault) = release(rt, alloc, progress, stable, recorder, link) {
         return Err(end(alloc, fault, progress, stable, recorder, link));
     }

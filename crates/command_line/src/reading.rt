@@ -50,18 +50,20 @@ has other ballots, up to seven, as `more = [{ votes = [1, 1, 1], read = 1, write
 ballot is at place 1, those of `more` at 2 and on, and each two have to cross. Five more are for
 `rwvote run`, and judged by every command: `seed`, the number of the weather; `lose`, `twice` and
 `late`, how many of a thousand parcels are lost, go twice and are late, 1000 together at most; and
-`wishes`, a list of at most 4096 texts as `c1 read a`, or `c1 read a b2` by the ballot at place 2.
+`wishes`, a list of at most 4096 texts as `c1 read a`, or `c1 read a b2` by the ballot at place 2; one
+as `c1 soften a` writes, and goes on as a reader before it leaves.
 
 The lines may also be typed one by one: each answer goes out before the next line is waited for, and
 `sent K` tells the number that the next `take` or `hear` names.
 
 All nodes and clients are up at first. (As a journal begins they are down: here the lines in which
 they first rise print `refused 603`.) Events: `begin cC read|write NAME`, `try nN|cC`, `kept nN|cC`,
-`sayto cC nN`, `say nN`, `take nN K`, `hear cC K`, `enter cC`, `leave cC`, `fall nN|cC`,
-`rise nN|cC old|new`. `nN` is node N, `cC` client C, `K` the number of a message, as `sent K` prints
-it, `NAME` 1 to 32 of a-z, 0-9 and -. A `begin` may end with `bP`, P from 2 to 8: the attempt's votes
-count by the ballot at place P then, else by the first. Queries: `inside NAME`, and of what node N
-has kept, `waiting nN NAME` and `holding nN NAME`.
+`sayto cC nN`, `say nN`, `take nN K`, `hear cC K`, `enter cC`, `leave cC`, `soften cC`,
+`fall nN|cC`, `rise nN|cC old|new`. `nN` is node N, `cC` client C, `K` the number of a message, as
+`sent K` prints it, `NAME` 1 to 32 of a-z, 0-9 and -. A `begin` may end with `bP`, P from 2 to 8: the
+attempt's votes count by the ballot at place P then, else by the first. `soften cC` makes a reader of
+a writer that is inside, and its next `sayto` says so. Queries: `inside NAME`, and of what node N has
+kept, `waiting nN NAME` and `holding nN NAME`.
 
 `refused N`: 601 no such node or client, 602 it is down, 603 it is up, 604 not in this phase, 605 not
 kept yet, 606 nothing to say, 607 no such message, 608 for another, 609 too few votes, 610 no
@@ -103,9 +105,9 @@ which all nodes and clients are down and nothing is kept. Of a journal that can'
 first line that is wrong: `unsound L refused N` where the event can't happen then, `unsound L fault N`
 where the line is no event. Lines count from 1 behind `---`, and the numbers are those of
 `rwvote script --help`; a blank line or a comment is `unsound L fault 801`. Nothing behind that line
-is read. The settings and the events are written as for `script`: further ballots stand in `more`, and
-a `begin` by one of them ends with its place, as `b2`; a query is no event. A script is no journal,
-since it begins with all of them up: `begin c1 read a` as the first line gives
+is read. The settings and the events are written as for `script`, a `soften c1` too: further ballots
+stand in `more`, and a `begin` by one of them ends with its place, as `b2`; a query is no event. A
+script is no journal, since it begins with all of them up: `begin c1 read a` as the first line gives
 `unsound 1 refused 602`.
 
 The status is 0 for a sound journal; 1 for another one, and where `fault N` stands on standard error:
@@ -156,8 +158,9 @@ events of all. With `--journal` it prints the settings, `---` and these events i
 `rwvote audit` finds sound: `rwvote run --journal | rwvote audit`.
 
 The settings are those of `script`. `wishes` says what clients are to do: each sees to its own, in
-order, and leaves a resource as soon as it is inside; one that ends with `b2` collects its votes by
-the second ballot, the first of `more`. `lose`, `twice`, `late` and `seed` make the weather in which
+order, and leaves a resource as soon as it is inside; one as `c1 soften a` is inside as a writer and
+then as a reader before it leaves; one that ends with `b2` collects its votes by the second ballot,
+the first of `more`. `lose`, `twice`, `late` and `seed` make the weather in which
 messages are lost, repeated and delayed. What threads come to may differ from run to run.
 
 A run ends once each client has ended. Where clients wait for what can't come any more, it ends once

@@ -2,7 +2,8 @@
 //!
 //! A `Door` is what can be entered and left; a `ClientCore` is one. `EntryGuard` enters a borrowed
 //! door, `OwnedEntry` one of its own, and each leaves when it is dropped, on every path out of its
-//! scope.
+//! scope. Either can be softened while its ticket is a writer's: the door is still inside then, as a
+//! reader's.
 //!
 //! The crate promises that a guard is made exactly where the door may enter, and that the door is
 //! outside after the guard was dropped. A client core is then idle after the same attempt, and has
@@ -11,8 +12,8 @@
 //! forgotten (`std::mem::forget`) leaves its door inside.
 //!
 //! What a door is, is in the ghost members of `Door`; for a client core these are the words of
-//! `client_core`, and `specs/Doors` says what leaving makes of it. The crate stands on `client_core`,
-//! `lock_messages`, `lock_model` and `vote_weights`.
+//! `client_core`, and `specs/Doors` says what softening and leaving make of it. The crate stands on
+//! `client_core`, `lock_messages`, `lock_model` and `vote_weights`.
 #![tactic(auto)]
 
 mod boxed;

@@ -1,12 +1,13 @@
 -- What an own log tells of its actor's part.
 use Rattle.std.proofs.Common.{◌≡◌, Bool, true, false, cond, List, [], ◌∷◌, ◌++◌, Option, Some, None, refl}
-use Rattle.std.specs.Prelude.{ℕ, ◌+◌, ◌==◌, nat_le, nat_lt, length, Err}
+use Rattle.std.specs.Prelude.{ℕ, ◌+◌, ◌==◌, ◌&&◌, not, nat_le, nat_lt, length, Err}
 use Rattle.lock_messages.specs.declared.ids.Actor.TheVariants as actor
 use Rattle.lock_messages.specs.declared.messages.Message.{Message}
 use Rattle.lock_messages.specs.declared.messages.Message.TheVariants as message
 use Rattle.lock_messages.specs.declared.ids.TheConstants.{MAX_ATTEMPT}
 use Rattle.lock_messages.specs.Messages.{is_for_client, named_node}
 use Rattle.lock_model.specs.ExactDecisions.{decision, changes}
+use Rattle.lock_model.specs.ExactStations.{is_write}
 use Rattle.lock_model.specs.ExactHearing.{is_node_of, is_counted}
 use Rattle.lock_messages.specs.declared.tickets.Mode.{Mode}
 use Rattle.lock_model.specs.Ballots.{Ballot, needed, votes_of, ballot_at, has_place, node_count}
@@ -22,7 +23,7 @@ use Rattle.world_model.specs.declared.exact.ExactNodePhase.{ExactNodePhase}
 use Rattle.world_model.specs.declared.exact.ExactNodePhase.TheVariants as node
 use Rattle.world_model.specs.declared.exact.ExactClientPhase.{ExactClientPhase}
 use Rattle.world_model.specs.declared.exact.ExactClientPhase.TheVariants as client
-use Rattle.world_model.specs.ExactClients.{client_in, next_ticket, begins_by, begins_in, says_one, tells_in, heard_in, counts_in, after_hearing, is_down, enters_in, leaves_in, client_falls_in}
+use Rattle.world_model.specs.ExactClients.{client_in, next_ticket, begins_by, begins_in, says_one, tells_in, heard_in, counts_in, after_hearing, is_down, enters_in, leaves_in, soft, softens_in, client_falls_in}
 use Rattle.world_model.specs.ExactNodes.{node_in, says_in, takes_in, decided_on, node_falls_in}
 use Rattle.world_model.specs.Turns.{Turns, acts, reads}
 use Rattle.world_model.specs.Locality.{local_part}
@@ -86,6 +87,7 @@ module _ (strings : List (List ℕ)) (v : ExactNode) (h : FindsPart (NodePart v)
   node-stays b (event.Hear c k) done still = h
   node-stays b (event.Enter c) done still = h
   node-stays b (event.Leave c) done still = h
+  node-stays b (event.Soften c) done still = h
   node-stays b (event.Fall (actor.Node n)) done still = node-falls v.phase done
   node-stays b (event.Fall (actor.Client c)) done still = h
   node-stays b (event.Rise who age) done still = absurd (cc still)
@@ -130,6 +132,14 @@ module _ (strings : List (List ℕ)) (k : ExactClient) (h : FindsPart (ClientPar
   leaves (client.Asking p) done = h
   leaves (client.Inside p) done = h
 
+  softens : (phase : ExactClientPhase) (done : Effect) → Client (softens_in k phase) done
+  softens client.Down done = h
+  softens client.Idle done = h
+  softens (client.Chosen t place) done = h
+  softens (client.Asking p) done = h
+  softens (client.Inside p) done =
+      either (λ t. Client t done) (is_write p.ticket.mode && not p.softened) (acts (client_in k (client.Inside (soft p))) effect.Softened) (Err fault.WrongPhase) h h
+
   client-falls : (phase : ExactClientPhase) (done : Effect) → Client (client_falls_in k phase) done
   client-falls client.Down done = h
   client-falls client.Idle done = h
@@ -149,6 +159,7 @@ module _ (strings : List (List ℕ)) (k : ExactClient) (h : FindsPart (ClientPar
       (heard (node_count b) c (message_of done))
   client-stays b (event.Enter c) done still = enters b k.phase done
   client-stays b (event.Leave c) done still = leaves k.phase done
+  client-stays b (event.Soften c) done still = softens k.phase done
   client-stays b (event.Fall (actor.Node n)) done still = h
   client-stays b (event.Fall (actor.Client c)) done still = client-falls k.phase done
   client-stays b (event.Rise who age) done still = absurd (cc still)

@@ -78,6 +78,7 @@ IsUnread (event.SayTo c n) f = ⊥
 IsUnread (event.Say n) f = ⊥
 IsUnread (event.Enter c) f = ⊥
 IsUnread (event.Leave c) f = ⊥
+IsUnread (event.Soften c) f = ⊥
 IsUnread (event.Fall who) f = ⊥
 IsUnread (event.Rise who age) f = ⊥
 
@@ -115,6 +116,7 @@ reads (event.SayTo c n) = false
 reads (event.Say n) = false
 reads (event.Enter c) = false
 reads (event.Leave c) = false
+reads (event.Soften c) = false
 reads (event.Fall who) = false
 reads (event.Rise who age) = false
 
@@ -130,4 +132,5 @@ changes_record (event.Take n k) = false
 changes_record (event.Hear c k) = false
 changes_record (event.Enter c) = false
 changes_record (event.Leave c) = false
+changes_record (event.Soften c) = false
 changes_record (event.Fall who) = false

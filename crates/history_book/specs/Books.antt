@@ -151,6 +151,7 @@ enters_by (event.Say n) = 0
 enters_by (event.Take n k) = 0
 enters_by (event.Hear c k) = 0
 enters_by (event.Leave c) = 0
+enters_by (event.Soften c) = 0
 enters_by (event.Fall who) = 0
 enters_by (event.Rise who age) = 0
 

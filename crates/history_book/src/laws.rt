@@ -7,7 +7,8 @@ use crate::MAX_EVENTS;
 use world_model::laws::{inside_until_leave_or_fall, locality};
 
 /// A client that is inside by its berth's own list is inside in the book, with the same ticket, however
-/// the book has gone on from what the berth has seen, until this client's own Leave or Fall. Of a berth
+/// the book has gone on from what the berth has seen, until this client's own Leave or Fall; its own
+/// Soften alone makes the ticket a reader's. Of a berth
 /// and its book as they stand the two agree: whatever others log, the client is inside in the book
 /// exactly where its own list says so.
 pub fn berths_stay_inside()

@@ -23,6 +23,7 @@ fn whose(event: Event) -> Actor
         Event::Hear(c, _) => Actor::Client(c),
         Event::Enter(c) => Actor::Client(c),
         Event::Leave(c) => Actor::Client(c),
+        Event::Soften(c) => Actor::Client(c),
         Event::Fall(who) => who,
         Event::Rise(who, _) => who,
     }
@@ -50,6 +51,7 @@ pub(crate) fn enters_by(event: &Event) -> u32
         | Event::Take(..)
         | Event::Hear(..)
         | Event::Leave(_)
+        | Event::Soften(_)
         | Event::Fall(_)
         | Event::Rise(..) => 0,
     }

@@ -21,8 +21,9 @@ among (event.Take n k) = inr (inr (inr (inr (inr (inl refl)))))
 among (event.Hear c k) = inr (inr (inr (inr (inr (inr (inl refl))))))
 among (event.Enter c) = inr (inr (inr (inr (inr (inr (inr (inl refl)))))))
 among (event.Leave c) = inr (inr (inr (inr (inr (inr (inr (inr (inl refl))))))))
-among (event.Fall who) = inr (inr (inr (inr (inr (inr (inr (inr (inr (inl refl)))))))))
-among (event.Rise who age) = inr (inr (inr (inr (inr (inr (inr (inr (inr (inr (inl refl))))))))))
+among (event.Soften c) = inr (inr (inr (inr (inr (inr (inr (inr (inr (inl refl)))))))))
+among (event.Fall who) = inr (inr (inr (inr (inr (inr (inr (inr (inr (inr (inl refl))))))))))
+among (event.Rise who age) = inr (inr (inr (inr (inr (inr (inr (inr (inr (inr (inr (inl refl)))))))))))
 
 is_its_line : (l : Line) (e : Event) → event_in l ≡ Ok e → l ≡ line.Event e
 is_its_line (line.Event d) e h = ap line.Event (ok_same d e h)

@@ -55,7 +55,7 @@ named_is (d ∷ ds) w c h = named_at (bytes_eq w (word_of d)) d ds w c refl (nam
 -- the commands have different words
 abbrev every : List Command
 every =
-    command.Begin ∷ command.Try ∷ command.Kept ∷ command.SayTo ∷ command.Say ∷ command.Take ∷ command.Hear ∷ command.Enter ∷ command.Leave ∷ command.Fall ∷ command.Rise ∷ command.Inside ∷ command.Waiting ∷ command.Holding
+    command.Begin ∷ command.Try ∷ command.Kept ∷ command.SayTo ∷ command.Say ∷ command.Take ∷ command.Hear ∷ command.Enter ∷ command.Leave ∷ command.Soften ∷ command.Fall ∷ command.Rise ∷ command.Inside ∷ command.Waiting ∷ command.Holding
     ∷ []
 
 its_word : (c : Command) → named every (word_of c) ≡ Ok c
@@ -68,6 +68,7 @@ its_word command.Take = refl
 its_word command.Hear = refl
 its_word command.Enter = refl
 its_word command.Leave = refl
+its_word command.Soften = refl
 its_word command.Fall = refl
 its_word command.Rise = refl
 its_word command.Inside = refl
@@ -149,6 +150,7 @@ said_is command.Take ws l h = row command.Take (λ a. line.Event (event.Take a.0
 said_is command.Hear ws l h = row command.Hear (λ a. line.Event (event.Hear a.0 a.1.0)) (λ a. refl) (λ a v. v) (λ a. refl) ws l h
 said_is command.Enter ws l h = row command.Enter (λ a. line.Event (event.Enter a.0)) (λ a. refl) (λ a v. v) (λ a. refl) ws l h
 said_is command.Leave ws l h = row command.Leave (λ a. line.Event (event.Leave a.0)) (λ a. refl) (λ a v. v) (λ a. refl) ws l h
+said_is command.Soften ws l h = row command.Soften (λ a. line.Event (event.Soften a.0)) (λ a. refl) (λ a v. v) (λ a. refl) ws l h
 said_is command.Fall ws l h = row command.Fall (λ a. line.Event (event.Fall a.0)) (λ a. refl) (λ a v. v) (λ a. refl) ws l h
 said_is command.Rise ws l h = row command.Rise (λ a. line.Event (event.Rise a.0 a.1.0)) (λ a. refl) (λ a v. v) (λ a. refl) ws l h
 said_is command.Inside ws l h = row command.Inside (λ a. line.Query (query.Inside a.0)) (λ a. refl) (λ a v. v) (λ a. refl) ws l h
@@ -318,6 +320,7 @@ plain_word command.Take = (refl, (refl, (refl, (refl, tt))))
 plain_word command.Hear = (refl, (refl, (refl, (refl, tt))))
 plain_word command.Enter = (refl, (refl, (refl, (refl, (refl, tt)))))
 plain_word command.Leave = (refl, (refl, (refl, (refl, (refl, tt)))))
+plain_word command.Soften = (refl, (refl, (refl, (refl, (refl, (refl, tt))))))
 plain_word command.Fall = (refl, (refl, (refl, (refl, tt))))
 plain_word command.Rise = (refl, (refl, (refl, (refl, tt))))
 plain_word command.Inside = (refl, (refl, (refl, (refl, (refl, (refl, tt))))))
@@ -334,6 +337,7 @@ few_words command.Take = refl
 few_words command.Hear = refl
 few_words command.Enter = refl
 few_words command.Leave = refl
+few_words command.Soften = refl
 few_words command.Fall = refl
 few_words command.Rise = refl
 few_words command.Inside = refl
@@ -350,6 +354,7 @@ the_last command.Take = refl
 the_last command.Hear = refl
 the_last command.Enter = refl
 the_last command.Leave = refl
+the_last command.Soften = refl
 the_last command.Fall = refl
 the_last command.Rise = refl
 the_last command.Inside = refl
@@ -385,6 +390,7 @@ what_is_written cs (line.Event (event.Take n k)) v h = back cs command.Take (λ 
 what_is_written cs (line.Event (event.Hear c k)) v h = back cs command.Hear (λ a. line.Event (event.Hear a.0 a.1.0)) (λ ws. refl) (c, (k, tt)) v h
 what_is_written cs (line.Event (event.Enter c)) v h = back cs command.Enter (λ a. line.Event (event.Enter a.0)) (λ ws. refl) (c, tt) v h
 what_is_written cs (line.Event (event.Leave c)) v h = back cs command.Leave (λ a. line.Event (event.Leave a.0)) (λ ws. refl) (c, tt) v h
+what_is_written cs (line.Event (event.Soften c)) v h = back cs command.Soften (λ a. line.Event (event.Soften a.0)) (λ ws. refl) (c, tt) v h
 what_is_written cs (line.Event (event.Fall who)) v h = back cs command.Fall (λ a. line.Event (event.Fall a.0)) (λ ws. refl) (who, tt) v h
 what_is_written cs (line.Event (event.Rise who age)) v h = back cs command.Rise (λ a. line.Event (event.Rise a.0 a.1.0)) (λ ws. refl) (who, (age, tt)) v h
 what_is_written cs (line.Query (query.Inside x)) v h = back cs command.Inside (λ a. line.Query (query.Inside a.0)) (λ ws. refl) (x, tt) v h

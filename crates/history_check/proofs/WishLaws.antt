@@ -70,7 +70,7 @@ what_is_read bytes w h =
 what_is_written : (w : Wish) → IsWish w → wish_of (wish_text w) ≡ Ok w
 what_is_written w v =
     let text = wish_text w in
-    let rest : Arguments use_kinds = (w.mode, (w.resource, (w.place, tt))) in
+    let rest : Arguments use_kinds = ((w.mode, w.soften), (w.resource, (w.place, tt))) in
     let first = value_text AClient w.client in
     let few : length text ≤ length first + 51 = short_arguments first use_kinds rest v.1 in
     let some : length first ≤ 8 = short_client w.client v.0 in

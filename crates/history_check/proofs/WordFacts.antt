@@ -23,7 +23,7 @@ use Rattle.world_model.specs.declared.events.Age.{Age}
 use Rattle.world_model.specs.declared.events.Age.TheVariants.{Old, New}
 use Rattle.history_check.specs.declared.faults.LineFault.{LineFault}
 use Rattle.history_check.specs.declared.faults.LineFault.TheVariants as fault
-use Rattle.history_check.specs.Lines.{Kind, ANode, AClient, AnActor, ANumber, AName, AMode, AnAge, APlace, Value, left_out, is_space, spelled, lettered, either_of, node_word, client_word, actor_word, number_word, name_word, mode_word, age_word, behind_first, place_word, age_text, value_in, value_text, value_texts, IsValue, IsActor, IsPlace}
+use Rattle.history_check.specs.Lines.{◌>>=◌, Kind, ANode, AClient, AnActor, ANumber, AName, AMode, AWishMode, AnAge, APlace, WishMode, Value, left_out, is_space, spelled, lettered, either_of, node_word, client_word, actor_word, number_word, name_word, mode_word, wish_mode_word, age_word, behind_first, place_word, age_text, wish_mode_text, value_in, value_text, value_texts, IsValue, IsActor, IsPlace, IsWishMode}
 use Rattle.history_check.proofs.NumberFacts.{own, spelled_so}
 
 -- numbers
@@ -130,6 +130,18 @@ mode_is w m h =
     pick {P = Spells AMode w m} (bytes_eq w (codes "read")) Read m _ (λ t e. ((bytes_eq-Decides w (codes "read")).0 t ∙ ap mode_text e, tt))
     (pick {P = Spells AMode w m} (bytes_eq w (codes "write")) Write m (Err fault.Word) (λ t e. ((bytes_eq-Decides w (codes "write")).0 t ∙ ap mode_text e, tt)) (λ e. never_ok fault.Word m e)) h
 
+not_softened : (w : List ℕ) (r : Result Mode LineFault) (x : WishMode) → mode_word w ≡ r → (r >>= (λ m. Ok (m, false))) ≡ Ok x → Spells AWishMode w x
+not_softened w (Ok m) x e h =
+    let same : (m, false) ≡ x = (let s : Ok (m, false) ≡ Ok x = h in cc) in
+    subst (λ (y : WishMode). Spells AWishMode w y) same ((mode_is w m e).0, λ s. absurd (let clash : false ≡ true = s in cc))
+not_softened w (Err e) x is h = never_ok e x h
+
+wish_mode_is : (w : List ℕ) (x : WishMode) → wish_mode_word w ≡ Ok x → Spells AWishMode w x
+wish_mode_is w x h =
+    pick {P = Spells AWishMode w x} (bytes_eq w (codes "soften")) (Write, true) x _
+    (λ t e. subst (λ (y : WishMode). Spells AWishMode w y) e ((bytes_eq-Decides w (codes "soften")).0 t, λ s. refl))
+    (λ e. not_softened w (mode_word w) x refl e) h
+
 age_is : (w : List ℕ) (a : Age) → age_word w ≡ Ok a → Spells AnAge w a
 age_is w a h =
     pick {P = Spells AnAge w a} (bytes_eq w (codes "old")) Old a _ (λ t e. ((bytes_eq-Decides w (codes "old")).0 t ∙ ap age_text e, tt))
@@ -161,6 +173,7 @@ value_is AnActor w x h = alone AnActor w x refl (actor_at w (lettered 110 MAX_NO
 value_is ANumber w x h = alone ANumber w x refl (number_is w x h)
 value_is AName w x h = alone AName w x refl (name_is w x h)
 value_is AMode w x h = alone AMode w x refl (mode_is w x h)
+value_is AWishMode w x h = alone AWishMode w x refl (wish_mode_is w x h)
 value_is AnAge w x h = alone AnAge w x refl (age_is w x h)
 value_is APlace w x h = place_is w (lettered 98 MAX_BALLOTS w) x refl h
 
@@ -172,6 +185,7 @@ left_is AnActor x h = absurd (let clash : None ≡ Some x = h in cc)
 left_is ANumber x h = absurd (let clash : None ≡ Some x = h in cc)
 left_is AName x h = absurd (let clash : None ≡ Some x = h in cc)
 left_is AMode x h = absurd (let clash : None ≡ Some x = h in cc)
+left_is AWishMode x h = absurd (let clash : None ≡ Some x = h in cc)
 left_is AnAge x h = absurd (let clash : None ≡ Some x = h in cc)
 left_is APlace x h =
     let same : 1 ≡ x = (let s : Some 1 ≡ Some x = h in cc) in
@@ -203,6 +217,12 @@ name_says x h =
 mode_says : (m : Mode) → mode_word (mode_text m) ≡ Ok m
 mode_says Read = refl
 mode_says Write = refl
+
+wish_mode_says : (x : WishMode) → IsWishMode x → wish_mode_word (wish_mode_text x) ≡ Ok x
+wish_mode_says (Read, false) h = refl
+wish_mode_says (Write, false) h = refl
+wish_mode_says (Write, true) h = refl
+wish_mode_says (Read, true) h = absurd (let clash : Read ≡ Write = h refl in cc)
 
 age_says : (a : Age) → age_word (age_text a) ≡ Ok a
 age_says Old = refl
@@ -239,6 +259,10 @@ plain_mode : (m : Mode) → Plain (mode_text m)
 plain_mode Read = (refl, (refl, (refl, (refl, tt))))
 plain_mode Write = (refl, (refl, (refl, (refl, (refl, tt)))))
 
+plain_wish_mode : (x : WishMode) → Plain (wish_mode_text x)
+plain_wish_mode (m, true) = (refl, (refl, (refl, (refl, (refl, (refl, tt))))))
+plain_wish_mode (m, false) = plain_mode m
+
 plain_age : (a : Age) → Plain (age_text a)
 plain_age Old = (refl, (refl, (refl, tt)))
 plain_age New = (refl, (refl, (refl, tt)))
@@ -254,6 +278,7 @@ width AnActor = 8
 width ANumber = 8
 width AName = 32
 width AMode = 8
+width AWishMode = 8
 width AnAge = 8
 width APlace = 8
 
@@ -267,6 +292,10 @@ short_actor (actor.Client c) h = short_behind 99 (decimal c) (short_number c (om
 short_mode : (m : Mode) → length (mode_text m) ≤ 8
 short_mode Read = at_most (length (mode_text Read)) 8 refl
 short_mode Write = at_most (length (mode_text Write)) 8 refl
+
+short_wish_mode : (x : WishMode) → length (wish_mode_text x) ≤ 8
+short_wish_mode (m, true) = at_most (length (codes "soften")) 8 refl
+short_wish_mode (m, false) = short_mode m
 
 short_age : (a : Age) → length (age_text a) ≤ 8
 short_age Old = at_most (length (age_text Old)) 8 refl
@@ -334,5 +363,6 @@ spelled_by ANumber k h =
     )
 spelled_by AName x h = inr (value_text AName x, refl, record { says = name_says x h; plain = plain_of is_name_byte refl x h.each; short = h.fits })
 spelled_by AMode m h = inr (value_text AMode m, refl, record { says = mode_says m; plain = plain_mode m; short = short_mode m })
+spelled_by AWishMode x h = inr (value_text AWishMode x, refl, record { says = wish_mode_says x h; plain = plain_wish_mode x; short = short_wish_mode x })
 spelled_by AnAge a h = inr (value_text AnAge a, refl, record { says = age_says a; plain = plain_age a; short = short_age a })
 spelled_by APlace p h = place_spelled p (p == 1) refl h

@@ -1,6 +1,6 @@
 -- The lines of scripts and journals: which line is which event or query, how each of these is
 -- written, and what is wrong with any other line.
-use Rattle.std.specs.Prelude.{ℕ, zero, suc, Bool, ◌&&◌, ◌==◌, ◌≤◌, nat_le, nat_lt, if◌then◌else◌, List, [], ◌∷◌, ◌++◌, length, Option, Some, None, Result, Ok, Err, codes}
+use Rattle.std.specs.Prelude.{◌≡◌, ℕ, zero, suc, Bool, true, false, ◌&&◌, ◌==◌, ◌≤◌, nat_le, nat_lt, if◌then◌else◌, List, [], ◌∷◌, ◌++◌, length, Option, Some, None, Result, Ok, Err, codes}
 use Rattle.std.specs.List.{slice_split, list_all, join_with_byte}
 use Rattle.std.specs.Option.{is_some, ok_or}
 use Rattle.std.specs.Fmt.{decimal}
@@ -36,8 +36,8 @@ abbrev pub ◌>>=◌ : {A B : Type 0} → Result A LineFault → (A → Result B
 (Ok x) >>= f = f x
 (Err e) >>= f = Err e
 
--- What an argument is: a node, a client, either of these, a message's number, a resource's name, a mode, an
--- age, the place of a ballot.
+-- What an argument is: a node, a client, either of these, a message's number, a resource's name, a mode, the
+-- mode of a wish, an age, the place of a ballot.
 pub data Kind : Type 0 where
   ANode : Kind
   AClient : Kind
@@ -45,6 +45,7 @@ pub data Kind : Type 0 where
   ANumber : Kind
   AName : Kind
   AMode : Kind
+  AWishMode : Kind
   AnAge : Kind
   APlace : Kind
 
@@ -60,11 +61,16 @@ kinds_of command.Take = ANode ∷ ANumber ∷ []
 kinds_of command.Hear = AClient ∷ ANumber ∷ []
 kinds_of command.Enter = AClient ∷ []
 kinds_of command.Leave = AClient ∷ []
+kinds_of command.Soften = AClient ∷ []
 kinds_of command.Fall = AnActor ∷ []
 kinds_of command.Rise = AnActor ∷ AnAge ∷ []
 kinds_of command.Inside = AName ∷ []
 kinds_of command.Waiting = ANode ∷ AName ∷ []
 kinds_of command.Holding = ANode ∷ AName ∷ []
+
+-- how a wish asks: in which mode, and whether it softens then
+abbrev pub WishMode : Type 0
+WishMode = Mode × Bool
 
 -- the values of a kind, and arguments of these kinds, in order
 abbrev pub Value : Kind → Type 0
@@ -74,6 +80,7 @@ Value AnActor = Actor
 Value ANumber = ℕ
 Value AName = List ℕ
 Value AMode = Mode
+Value AWishMode = WishMode
 Value AnAge = Age
 Value APlace = ℕ
 
@@ -90,6 +97,7 @@ left_out AnActor = None
 left_out ANumber = None
 left_out AName = None
 left_out AMode = None
+left_out AWishMode = None
 left_out AnAge = None
 
 -- A line, taken apart: f is given its command and its arguments.
@@ -103,6 +111,7 @@ with_parts f (line.Event (event.Take n k)) = f command.Take (n, (k, tt))
 with_parts f (line.Event (event.Hear c k)) = f command.Hear (c, (k, tt))
 with_parts f (line.Event (event.Enter c)) = f command.Enter (c, tt)
 with_parts f (line.Event (event.Leave c)) = f command.Leave (c, tt)
+with_parts f (line.Event (event.Soften c)) = f command.Soften (c, tt)
 with_parts f (line.Event (event.Fall who)) = f command.Fall (who, tt)
 with_parts f (line.Event (event.Rise who age)) = f command.Rise (who, (age, tt))
 with_parts f (line.Query (query.Inside x)) = f command.Inside (x, tt)
@@ -113,6 +122,10 @@ abbrev pub command_of : Line → Command
 command_of l = with_parts (λ c a. c) l
 
 -- Writing.
+
+-- a wish that softens has a word of its own
+abbrev pub wish_mode_text : WishMode → List ℕ
+wish_mode_text x = if x.1 then codes "soften" else mode_text x.0
 
 abbrev pub age_text : Age → List ℕ
 age_text Old = codes "old"
@@ -125,6 +138,7 @@ value_text AnActor who = actor_text who
 value_text ANumber k = decimal k
 value_text AName x = x
 value_text AMode m = mode_text m
+value_text AWishMode x = wish_mode_text x
 value_text AnAge age = age_text age
 value_text APlace place = codes "b" ++ decimal place
 
@@ -137,6 +151,7 @@ value_texts AnActor who = value_text AnActor who ∷ []
 value_texts ANumber k = value_text ANumber k ∷ []
 value_texts AName x = value_text AName x ∷ []
 value_texts AMode m = value_text AMode m ∷ []
+value_texts AWishMode x = value_text AWishMode x ∷ []
 value_texts AnAge age = value_text AnAge age ∷ []
 
 abbrev pub argument_texts : (ks : List Kind) → Arguments ks → List (List ℕ)
@@ -152,7 +167,7 @@ abbrev pub text_of : Line → List ℕ
 text_of l = with_parts parts_text l
 
 -- Which values a line may have: nodes, clients and names are as they are everywhere, a message has a
--- number from 1 to MAX_MESSAGES, and a ballot a place from 1 to MAX_BALLOTS.
+-- number from 1 to MAX_MESSAGES, a ballot a place from 1 to MAX_BALLOTS, and who softens asks as a writer.
 
 abbrev pub IsActor : Actor → Type 0
 IsActor (actor.Node n) = IsNode n
@@ -161,6 +176,9 @@ IsActor (actor.Client c) = IsClient c
 abbrev pub IsPlace : ℕ → Type 0
 IsPlace place = (1 ≤ place) × (place ≤ MAX_BALLOTS)
 
+abbrev pub IsWishMode : WishMode → Type 0
+IsWishMode x = x.1 ≡ true → x.0 ≡ Write
+
 abbrev pub IsValue : (k : Kind) → Value k → Type 0
 IsValue ANode n = IsNode n
 IsValue AClient c = IsClient c
@@ -168,6 +186,7 @@ IsValue AnActor who = IsActor who
 IsValue ANumber k = (1 ≤ k) × (k ≤ MAX_MESSAGES)
 IsValue AName x = IsName x
 IsValue AMode m = Unit {0}
+IsValue AWishMode x = IsWishMode x
 IsValue AnAge age = Unit {0}
 IsValue APlace place = IsPlace place
 
@@ -233,6 +252,10 @@ name_word word = if (nat_le 1 (length word) && nat_le (length word) MAX_NAME_LEN
 abbrev pub mode_word : List ℕ → Result Mode LineFault
 mode_word word = if bytes_eq word (codes "read") then Ok Read else (if bytes_eq word (codes "write") then Ok Write else Err fault.Word)
 
+-- `soften`, or the word of a mode
+abbrev pub wish_mode_word : List ℕ → Result WishMode LineFault
+wish_mode_word word = if bytes_eq word (codes "soften") then Ok (Write, true) else mode_word word >>= (λ m. Ok (m, false))
+
 abbrev pub age_word : List ℕ → Result Age LineFault
 age_word word = if bytes_eq word (codes "old") then Ok Old else (if bytes_eq word (codes "new") then Ok New else Err fault.Word)
 
@@ -253,6 +276,7 @@ value_in AnActor word = actor_word word
 value_in ANumber word = number_word word
 value_in AName word = name_word word
 value_in AMode word = mode_word word
+value_in AWishMode word = wish_mode_word word
 value_in AnAge word = age_word word
 value_in APlace word = place_word word
 
@@ -297,6 +321,7 @@ said_by command.Take ws = given command.Take (λ a. line.Event (event.Take a.0 a
 said_by command.Hear ws = given command.Hear (λ a. line.Event (event.Hear a.0 a.1.0)) ws
 said_by command.Enter ws = given command.Enter (λ a. line.Event (event.Enter a.0)) ws
 said_by command.Leave ws = given command.Leave (λ a. line.Event (event.Leave a.0)) ws
+said_by command.Soften ws = given command.Soften (λ a. line.Event (event.Soften a.0)) ws
 said_by command.Fall ws = given command.Fall (λ a. line.Event (event.Fall a.0)) ws
 said_by command.Rise ws = given command.Rise (λ a. line.Event (event.Rise a.0 a.1.0)) ws
 said_by command.Inside ws = given command.Inside (λ a. line.Query (query.Inside a.0)) ws

@@ -6,24 +6,24 @@ use Rattle.history_check.specs.declared.faults.LineFault.{LineFault}
 use Rattle.history_check.specs.declared.faults.LineFault.TheVariants as fault
 use Rattle.history_check.specs.declared.wishes.Wish.{Wish}
 use Rattle.history_check.specs.declared.words.TheConstants.{MAX_LINE_LEN}
-use Rattle.history_check.specs.Lines.{◌>>=◌, Kind, AClient, AMode, AName, APlace, Arguments, AreValues, argument_texts, words, between, values_in, client_word}
+use Rattle.history_check.specs.Lines.{◌>>=◌, Kind, AClient, AWishMode, AName, APlace, Arguments, AreValues, argument_texts, words, between, values_in, client_word}
 
--- what a client is to use, and how: a mode, a resource's name and the place of a ballot
+-- what a client is to use, and how: a mode and whether it softens, a resource's name and the place of a ballot
 abbrev pub use_kinds : List Kind
-use_kinds = AMode ∷ AName ∷ APlace ∷ []
+use_kinds = AWishMode ∷ AName ∷ APlace ∷ []
 
 -- what a wish has, in order
 abbrev pub wish_kinds : List Kind
 wish_kinds = AClient ∷ use_kinds
 
 abbrev pub wish_parts : Wish → Arguments wish_kinds
-wish_parts w = (w.client, (w.mode, (w.resource, (w.place, tt))))
+wish_parts w = (w.client, ((w.mode, w.soften), (w.resource, (w.place, tt))))
 
 -- the one text of a wish: its parts, with a space between any two; place 1 has no word
 abbrev pub wish_text : Wish → List ℕ
 wish_text w = join_with_byte 32 (argument_texts wish_kinds (wish_parts w))
 
--- its client, its name and its place are some that there may be
+-- its client, its name and its place are some that there may be, and where it softens it asks as a writer
 abbrev pub IsWish : Wish → Type 0
 IsWish w = AreValues wish_kinds (wish_parts w)
 
@@ -33,7 +33,7 @@ client_among clients word = client_word word >>= (λ c. if nat_le c clients then
 
 -- the wish of a client who is to use this
 abbrev pub wished : ℕ → Arguments use_kinds → Wish
-wished client usage = record { client = client; mode = usage.0; resource = usage.1.0; place = usage.1.1.0 }
+wished client usage = record { client = client; mode = usage.0.0; soften = usage.0.1; resource = usage.1.0; place = usage.1.1.0 }
 
 abbrev pub words_wish : ℕ → List (List ℕ) → Result Wish LineFault
 words_wish clients [] = Err fault.Words

@@ -10,7 +10,7 @@ use std::alloc::{AllocError, Global};
 use world_model::Event;
 
 /// The commands of events.
-const EVENTS: [Command; 11] = [
+const EVENTS: [Command; 12] = [
     Command::Begin,
     Command::Try,
     Command::Kept,
@@ -20,6 +20,7 @@ const EVENTS: [Command; 11] = [
     Command::Hear,
     Command::Enter,
     Command::Leave,
+    Command::Soften,
     Command::Fall,
     Command::Rise,
 ];

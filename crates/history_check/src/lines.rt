@@ -156,6 +156,7 @@ fn said_by(command: Command, rest: Option<&[u8]>) -> Result<Line, LineFault>
         }
         Command::Enter => Event::Enter(one_client(rest)?),
         Command::Leave => Event::Leave(one_client(rest)?),
+        Command::Soften => Event::Soften(one_client(rest)?),
         Command::Fall => Event::Fall(one_actor(rest)?),
         Command::Rise => {
             let (actor, age) = actor_and_age(rest)?;
@@ -210,6 +211,7 @@ pub(crate) fn push_event(text: &mut String, event: &Event) -> Result<(), AllocEr
         Event::Hear(client, number) => write!(text, "hear {client} {number}"),
         Event::Enter(client) => write!(text, "enter {client}"),
         Event::Leave(client) => write!(text, "leave {client}"),
+        Event::Soften(client) => write!(text, "soften {client}"),
         Event::Fall(actor) => write!(text, "fall {actor}"),
         Event::Rise(actor, Age::Old) => write!(text, "rise {actor} old"),
         Event::Rise(actor, Age::New) => write!(text, "rise {actor} new"),

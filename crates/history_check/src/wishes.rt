@@ -4,25 +4,30 @@ ghost use Rattle.std.specs.Prelude.{◌≡◌};
 ghost use Rattle.history_check.specs.Wishes.{wish_of, client_among, wish_among};
 
 use crate::LineFault;
-use crate::words::{MAX_LINE_LEN, client_of, mode_of, name_of, place_of, three_or_four};
+use crate::words::{MAX_LINE_LEN, client_of, name_of, place_of, three_or_four, wish_mode_of};
 use lock_messages::{ClientId, MAX_CLIENTS, Mode, ResourceName};
 
 /// The most wishes that settings have, and so those of one run and of each client in it. The number is this
 /// service's own choice: it follows from no other limit, and none follows from it.
 pub const MAX_WISHES: usize = 4_096;
 
-/// That a client is to use a resource once, in this mode and by the ballot at this place.
+/// That a client is to use a resource once, in this mode and by the ballot at this place. It may wish to
+/// begin as a writer and to go on as a reader.
 #[derive(Clone, Copy, Debug, PartialEq, Eq, Hash)]
 pub struct Wish {
     pub client: ClientId,
     pub mode: Mode,
+    /// Whether the client softens while it is inside. Then the mode is `Write`, with which it enters.
+    pub soften: bool,
     pub resource: ResourceName,
     /// Which places there are, from 1 on, the list of ballots says.
     pub place: u8,
 }
 
 /// What a text wishes: `c1 read a` by the ballot at place 1, `c1 read a b2` by the one at place 2, and so on
-/// to `b8`. Place 1 has no word, by our own rule, so that each wish has one text.
+/// to `b8`. Place 1 has no word, by our own rule, so that each wish has one text. The mode is `read`, `write`
+/// or `soften`: `c1 soften a` asks as a writer does, and softens once it is inside. That this is a mode is our
+/// own rule, and of wishes alone: in a line `soften` is none.
 ///
 /// # Errors
 ///
@@ -62,9 +67,12 @@ pub fn read_wish_among(clients: u16, text: &[u8]) -> Result<Wish, LineFault>
         return Err(LineFault::Words);
     }
     let (first, second, third, fourth) = three_or_four(Some(text))?;
+    let client = client_among(clients, first)?;
+    let (mode, soften) = wish_mode_of(second)?;
     Ok(Wish {
-        client: client_among(clients, first)?,
-        mode: mode_of(second)?,
+        client,
+        mode,
+        soften,
         resource: name_of(third)?,
         place: place_of(fourth)?,
     })

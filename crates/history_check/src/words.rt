@@ -3,7 +3,7 @@
 ghost use Rattle.std.specs.Prelude.{◌≡◌, [], ◌∷◌, ◌≤◌, ◌==◌, slice_index, IfSome};
 ghost use Rattle.std.specs.List.{position, list_all};
 ghost use Rattle.std.specs.Char.{is_ascii_digit};
-ghost use Rattle.history_check.specs.Lines.{is_space, words, spelled, lettered, node_word, client_word, actor_word, number_word, name_word, mode_word, age_word, APlace, between, values_in};
+ghost use Rattle.history_check.specs.Lines.{is_space, words, spelled, lettered, node_word, client_word, actor_word, number_word, name_word, mode_word, wish_mode_word, age_word, APlace, between, values_in};
 ghost use Rattle.history_check.specs.Reading.{Gives, words_behind, word_there};
 
 use crate::LineFault;
@@ -129,6 +129,16 @@ pub fn mode_of(word: &[u8]) -> Result<Mode, LineFault>
         return Ok(Mode::Write);
     }
     Err(LineFault::Word)
+}
+
+/// The mode of a wish and whether it softens: `soften` asks as a writer, and does.
+pub fn wish_mode_of(word: &[u8]) -> Result<(Mode, bool), LineFault>
+    ensures { result ≡ wish_mode_word word.now }
+{
+    if word == b"soften".as_slice() {
+        return Ok((Mode::Write, true));
+    }
+    Ok((mode_of(word)?, false))
 }
 
 pub fn age_of(word: &[u8]) -> Result<Age, LineFault>

@@ -20,7 +20,7 @@ use Rattle.world_model.specs.declared.events.Event.{Event}
 use Rattle.world_model.specs.declared.events.Event.TheVariants as event
 use Rattle.history_check.specs.declared.commands.Command.TheVariants as command
 use Rattle.history_check.specs.Commands.{word_of}
-use Rattle.history_check.specs.Lines.{Kind, ANode, AClient, AnActor, ANumber, AName, AMode, AnAge, APlace, Value, Arguments, kinds_of, value_text, value_texts, argument_texts, age_text, IsActor, IsValue, IsPlace, AreValues}
+use Rattle.history_check.specs.Lines.{Kind, ANode, AClient, AnActor, ANumber, AName, AMode, AWishMode, AnAge, APlace, WishMode, Value, Arguments, kinds_of, value_text, value_texts, argument_texts, wish_mode_text, age_text, IsActor, IsValue, IsPlace, AreValues}
 use Rattle.history_check.specs.Events.{event_text, IsEventInRange}
 use Rattle.line_streams.specs.Streams.{is_line_feed, pieces, lines_in}
 use Rattle.journal_text.specs.Journals.{history_text}
@@ -64,6 +64,10 @@ plain_mode : (m : Mode) → Plain (mode_text m)
 plain_mode Read = (refl, (refl, (refl, (refl, tt))))
 plain_mode Write = (refl, (refl, (refl, (refl, (refl, tt)))))
 
+plain_wish_mode : (x : WishMode) → Plain (wish_mode_text x)
+plain_wish_mode (m, true) = (refl, (refl, (refl, (refl, (refl, (refl, tt))))))
+plain_wish_mode (m, false) = plain_mode m
+
 plain_age : (a : Age) → Plain (age_text a)
 plain_age Old = (refl, (refl, (refl, tt)))
 plain_age New = (refl, (refl, (refl, tt)))
@@ -84,6 +88,7 @@ plain_value AnActor who h = (plain_actor who h, tt)
 plain_value ANumber k h = (plain_number k (omega (arith, h.1)), tt)
 plain_value AName x h = (plain_of is_name_byte refl x h.each, tt)
 plain_value AMode m h = (plain_mode m, tt)
+plain_value AWishMode x h = (plain_wish_mode x, tt)
 plain_value AnAge a h = (plain_age a, tt)
 plain_value APlace place h = plain_place (place == 1) place h
 
@@ -118,6 +123,7 @@ plain_event (event.Take n k) h = plain_line (word_of command.Take) (kinds_of com
 plain_event (event.Hear c k) h = plain_line (word_of command.Hear) (kinds_of command.Hear) (c, (k, tt)) (refl, (refl, (refl, (refl, tt)))) h
 plain_event (event.Enter c) h = plain_line (word_of command.Enter) (kinds_of command.Enter) (c, tt) (refl, (refl, (refl, (refl, (refl, tt))))) h
 plain_event (event.Leave c) h = plain_line (word_of command.Leave) (kinds_of command.Leave) (c, tt) (refl, (refl, (refl, (refl, (refl, tt))))) h
+plain_event (event.Soften c) h = plain_line (word_of command.Soften) (kinds_of command.Soften) (c, tt) (refl, (refl, (refl, (refl, (refl, (refl, tt)))))) h
 plain_event (event.Fall who) h = plain_line (word_of command.Fall) (kinds_of command.Fall) (who, tt) (refl, (refl, (refl, (refl, tt)))) h
 plain_event (event.Rise who age) h = plain_line (word_of command.Rise) (kinds_of command.Rise) (who, (age, tt)) (refl, (refl, (refl, (refl, tt)))) h
 

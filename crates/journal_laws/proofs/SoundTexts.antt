@@ -73,6 +73,7 @@ in_range laws w u (event.Hear c k) done sound few t h =
     (h, (number_in_range w k m done sound (ap message_of same) (laws.listed w u (event.Hear c k) done t), tt))
 in_range laws w u (event.Enter c) done sound few t h = (h, tt)
 in_range laws w u (event.Leave c) done sound few t h = (h, tt)
+in_range laws w u (event.Soften c) done sound few t h = (h, tt)
 in_range laws w u (event.Fall who) done sound few t h = (h, tt)
 in_range laws w u (event.Rise who age) done sound few t h = (h, (tt, tt))
 

@@ -38,6 +38,7 @@ IsWellNamed (event.Take n k) = IsNode n
 IsWellNamed (event.Hear c k) = IsClient c
 IsWellNamed (event.Enter c) = IsClient c
 IsWellNamed (event.Leave c) = IsClient c
+IsWellNamed (event.Soften c) = IsClient c
 IsWellNamed (event.Fall who) = IsActor who
 IsWellNamed (event.Rise who age) = IsActor who
 

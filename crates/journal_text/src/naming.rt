@@ -48,6 +48,9 @@ pub fn tell_names(event: &Event)
         Event::Leave(client) => {
             let _number = client.get();
         }
+        Event::Soften(client) => {
+            let _number = client.get();
+        }
         Event::Try(actor) => tell_actor(*actor),
         Event::Kept(actor) => tell_actor(*actor),
         Event::Fall(actor) => tell_actor(*actor),

@@ -2,11 +2,11 @@
 use Rattle.std.proofs.Common.{◌≡◌, ℕ, ◌≤◌, cond, eqb, inl, inr, List, [], ◌∷◌, ◌++◌, length, Result, Ok, Err, refl, sym, ap, subst, ◌∙◌, append_assoc, arith}
 use Rattle.std.specs.Prelude.{IfOk}
 use Rattle.std.specs.Int.{Width, w32, w64, to_be_bytes}
-use Rattle.std.proofs.lemmas.Bool.{eqb-true}
+use Rattle.std.proofs.lemmas.Bool.{eqb-true, eqb-false}
 use Rattle.std.proofs.lemmas.List.{append-nil, nil_from_length}
 use Rattle.lock_messages.specs.declared.ids.TheConstants.{MAX_NODES, MAX_CLIENTS, MAX_ATTEMPT}
 use Rattle.lock_messages.specs.declared.names.TheConstants.{MAX_NAME_LEN}
-use Rattle.lock_messages.specs.declared.kinds.TheConstants.{VERSION}
+use Rattle.lock_messages.specs.declared.kinds.TheConstants.{VERSION, SOFTENING_VERSION}
 use Rattle.lock_messages.specs.declared.tickets.Mode.{Mode}
 use Rattle.lock_messages.specs.declared.kinds.Kind.{Kind}
 use Rattle.lock_messages.specs.declared.kinds.Kind.TheVariants as kinds
@@ -14,15 +14,15 @@ use Rattle.lock_messages.specs.declared.faults.FrameFault.{FrameFault}
 use Rattle.lock_messages.specs.declared.faults.FrameFault.TheVariants as faults
 use Rattle.lock_messages.specs.declared.tickets.Ticket.{Ticket}
 use Rattle.lock_messages.specs.declared.messages.Message.{Message}
-use Rattle.lock_messages.specs.declared.messages.Message.TheVariants.{Request, Release, Grant, Busy, Over, Done, Muddled}
+use Rattle.lock_messages.specs.declared.messages.Message.TheVariants.{Request, Release, Grant, Busy, Over, Done, Muddled, Soften, Softened}
 use Rattle.lock_messages.specs.Names.{IsName}
 use Rattle.lock_messages.specs.Ids.{IsNode, IsClient, IsAttempt}
 use Rattle.lock_messages.specs.Messages.{IsTicket, IsMessage}
-use Rattle.lock_messages.specs.Frames.{kind_number, head, wish, with_ticket, frame_of}
+use Rattle.lock_messages.specs.Frames.{kind_number, version_of, head, wish, with_ticket, frame_of}
 use Rattle.lock_messages.specs.Fields.{◌>>=◌, byte_at, number_at, mode_number, mode_at, name_at, AreBytes, IsFieldWidth, FieldsAreExact}
-use Rattle.lock_messages.specs.Reading.{version_at, kind_at, node_at, client_at, attempt_at, length_at, ticket_at, body_at, message_at, reading}
+use Rattle.lock_messages.specs.Reading.{version_at, first_kind, softening_kind, kind_at, node_at, client_at, attempt_at, length_at, ticket_at, body_at, message_at, reading}
 use Rattle.lock_messages.specs.Laws.{OneSpelling}
-use Rattle.lock_messages.specs.FieldSteps.{bind_ok, bind_again, passed, chosen, done, ok_is, behind, Takes, takes, Takes-then}
+use Rattle.lock_messages.specs.FieldSteps.{bind_ok, bind_again, passed, chosen, done, ok_is, Takes, takes, Takes-then}
 use Rattle.lock_messages.proofs.FieldFacts.{fields_exact}
 
 law : FieldsAreExact FrameFault
@@ -66,30 +66,31 @@ name_takes size bytes x fits low high e =
 name_again : (name rest : List ℕ) → IsName name → name_at faults.Short faults.NameByte (length name) (name ++ rest) ≡ Ok (name, rest)
 name_again name rest h = (law.name faults.Short faults.NameByte (length name) (name ++ rest) name rest (omega (arith, h.not_empty)) h.fits).1 (refl, refl, h)
 
-one_kind : (b : ℕ) (k : Kind) (rest : List ℕ) (x : Kind × List ℕ) → AreBytes (b ∷ rest) → b ≡ kind_number k → done {A = Kind × List ℕ} FrameFault (k, rest) ≡ Ok x → Takes (b ∷ rest) (kind_number x.0 ∷ []) x.1
-one_kind b k rest x fits h e =
-    subst (λ (y : Kind × List ℕ). Takes (b ∷ rest) (kind_number y.0 ∷ []) y.1) (ok_is (k, rest) x e)
-    (record { parts = ap (λ (n : ℕ). n ∷ rest) h; rest_fits = behind (b ∷ []) rest fits })
+-- a kind's version and its number
+record IsSpelled (v b : ℕ) (k : Kind) : Type 0 where
+  pub version : v ≡ version_of k
+  pub number : b ≡ kind_number k
 
-kind_takes : (bytes : List ℕ) (x : Kind × List ℕ) → AreBytes bytes → kind_at bytes ≡ Ok x → Takes bytes (kind_number x.0 ∷ []) x.1
-kind_takes [] x fits e = absurd cc
-kind_takes (b ∷ rest) x fits e =
+one_kind : (version b : ℕ) (k x : Kind) → version ≡ version_of k → b ≡ kind_number k → done FrameFault k ≡ Ok x → IsSpelled version b x
+one_kind version b k x v h e = subst (IsSpelled version b) (ok_is k x e) (record { version = v; number = h })
+
+first_kind_spelled : (b : ℕ) (x : Kind) → first_kind b ≡ Ok x → IsSpelled VERSION b x
+first_kind_spelled b x e =
     elim (chosen (eqb b 1) _ _ _ e) [
-      | inl h1 ↦ one_kind b kinds.Request rest x fits (eqb-true _ _ h1.0) h1.1
+      | inl h1 ↦ one_kind VERSION b kinds.Request x refl (eqb-true _ _ h1.0) h1.1
       | inr n1 ↦ elim (chosen (eqb b 2) _ _ _ n1.1) [
-        | inl h2 ↦ one_kind b kinds.Release rest x fits (eqb-true _ _ h2.0) h2.1
+        | inl h2 ↦ one_kind VERSION b kinds.Release x refl (eqb-true _ _ h2.0) h2.1
         | inr n2 ↦ elim (chosen (eqb b 3) _ _ _ n2.1) [
-          | inl h3 ↦ one_kind b kinds.Grant rest x fits (eqb-true _ _ h3.0) h3.1
+          | inl h3 ↦ one_kind VERSION b kinds.Grant x refl (eqb-true _ _ h3.0) h3.1
           | inr n3 ↦ elim (chosen (eqb b 4) _ _ _ n3.1) [
-            | inl h4 ↦ one_kind b kinds.Busy rest x fits (eqb-true _ _ h4.0) h4.1
+            | inl h4 ↦ one_kind VERSION b kinds.Busy x refl (eqb-true _ _ h4.0) h4.1
             | inr n4 ↦ elim (chosen (eqb b 5) _ _ _ n4.1) [
-              | inl h5 ↦ one_kind b kinds.Over rest x fits (eqb-true _ _ h5.0) h5.1
+              | inl h5 ↦ one_kind VERSION b kinds.Over x refl (eqb-true _ _ h5.0) h5.1
               | inr n5 ↦ elim (chosen (eqb b 6) _ _ _ n5.1) [
-                | inl h6 ↦ one_kind b kinds.Done rest x fits (eqb-true _ _ h6.0) h6.1
-                | inr n6 ↦ elim (chosen (eqb b 7) _ _ _ n6.1) [
-                  | inl h7 ↦ one_kind b kinds.Muddled rest x fits (eqb-true _ _ h7.0) h7.1
-                  | inr n7 ↦ let bad : done FrameFault x ≡ Err faults.Kind = sym n7.1 in absurd cc
-                ]
+                | inl h6 ↦ one_kind VERSION b kinds.Done x refl (eqb-true _ _ h6.0) h6.1
+                | inr n6 ↦
+                    let h7 = passed (eqb b 7) faults.Kind kinds.Muddled x n6.1 in
+                    subst (IsSpelled VERSION b) h7.1 (record { version = refl; number = eqb-true _ _ h7.0 })
               ]
             ]
           ]
@@ -97,7 +98,46 @@ kind_takes (b ∷ rest) x fits e =
       ]
     ]
 
-kind_again : (k : Kind) (rest : List ℕ) → kind_at (kind_number k ∷ rest) ≡ Ok (k, rest)
+softening_kind_spelled : (b : ℕ) (x : Kind) → softening_kind b ≡ Ok x → IsSpelled SOFTENING_VERSION b x
+softening_kind_spelled b x e =
+    elim (chosen (eqb b 8) _ _ _ e) [
+      | inl h8 ↦ one_kind SOFTENING_VERSION b kinds.Soften x refl (eqb-true _ _ h8.0) h8.1
+      | inr n8 ↦
+          let h9 = passed (eqb b 9) faults.Kind kinds.Softened x n8.1 in
+          subst (IsSpelled SOFTENING_VERSION b) h9.1 (record { version = refl; number = eqb-true _ _ h9.0 })
+    ]
+
+kind_spelled : (version b : ℕ) (x : Kind) → VERSION ≤ version → version ≤ SOFTENING_VERSION
+    → cond (eqb version SOFTENING_VERSION) (softening_kind b) (first_kind b) ≡ Ok x → IsSpelled version b x
+kind_spelled version b x low high e =
+    elim (chosen (eqb version SOFTENING_VERSION) _ _ _ e) [
+      | inl h ↦ subst (λ (v : ℕ). IsSpelled v b x) (sym (eqb-true _ _ h.0)) (softening_kind_spelled b x h.1)
+      | inr h ↦
+          let is : version ≡ VERSION = omega (arith, low, high, eqb-false _ _ h.0) in
+          subst (λ (v : ℕ). IsSpelled v b x) (sym is) (first_kind_spelled b x h.1)
+    ]
+
+kind_takes : (version : ℕ) (bytes : List ℕ) (x : Kind × List ℕ) → AreBytes bytes → VERSION ≤ version → version ≤ SOFTENING_VERSION → kind_at version bytes ≡ Ok x
+    → Takes bytes (kind_number x.0 ∷ []) x.1 × (version ≡ version_of x.0)
+kind_takes version [] x fits low high e = absurd cc
+kind_takes version (b ∷ rest) x fits low high e =
+    let k = bind_ok (cond (eqb version SOFTENING_VERSION) (softening_kind b) (first_kind b)) (λ kind. Ok (kind, rest)) x e in
+    let is = kind_spelled version b k.0 low high k.1 in
+    let taken : Takes (b ∷ rest) (kind_number k.0 ∷ []) rest = takes (b ∷ rest) (kind_number k.0 ∷ []) rest fits (ap (λ (n : ℕ). n ∷ rest) is.number) in
+    subst (λ (y : Kind × List ℕ). Takes (b ∷ rest) (kind_number y.0 ∷ []) y.1 × (version ≡ version_of y.0)) (ok_is (k.0, rest) x k.2) (taken, is.version)
+
+version_again : (k : Kind) (rest : List ℕ) → version_at (version_of k ∷ rest) ≡ Ok (version_of k, rest)
+version_again kinds.Request rest = refl
+version_again kinds.Release rest = refl
+version_again kinds.Grant rest = refl
+version_again kinds.Busy rest = refl
+version_again kinds.Over rest = refl
+version_again kinds.Done rest = refl
+version_again kinds.Muddled rest = refl
+version_again kinds.Soften rest = refl
+version_again kinds.Softened rest = refl
+
+kind_again : (k : Kind) (rest : List ℕ) → kind_at (version_of k) (kind_number k ∷ rest) ≡ Ok (k, rest)
 kind_again kinds.Request rest = refl
 kind_again kinds.Release rest = refl
 kind_again kinds.Grant rest = refl
@@ -105,6 +145,8 @@ kind_again kinds.Busy rest = refl
 kind_again kinds.Over rest = refl
 kind_again kinds.Done rest = refl
 kind_again kinds.Muddled rest = refl
+kind_again kinds.Soften rest = refl
+kind_again kinds.Softened rest = refl
 
 -- ---- tickets
 
@@ -157,8 +199,8 @@ at_client k n bytes = client_at bytes >>= λ client. at_attempt k n client.0 cli
 abbrev at_node : Kind → List ℕ → Result (Message × List ℕ) FrameFault
 at_node k bytes = node_at bytes >>= λ node. at_client k node.0 node.1
 
-abbrev at_kind : List ℕ → Result (Message × List ℕ) FrameFault
-at_kind bytes = kind_at bytes >>= λ kind. at_node kind.0 kind.1
+abbrev at_kind : ℕ → List ℕ → Result (Message × List ℕ) FrameFault
+at_kind version bytes = kind_at version bytes >>= λ kind. at_node kind.0 kind.1
 
 -- ---- what is read is spelled so
 
@@ -199,12 +241,8 @@ body_takes kinds.Busy n c a bytes x fits hn hc ha e = ticket_body kinds.Busy Bus
 body_takes kinds.Over n c a bytes x fits hn hc ha e = plain_body kinds.Over (Over n c a) n c a bytes x fits (hn, hc, ha) refl (ok_is (Over n c a, bytes) x e)
 body_takes kinds.Done n c a bytes x fits hn hc ha e = plain_body kinds.Done (Done n c a) n c a bytes x fits (hn, hc, ha) refl (ok_is (Done n c a, bytes) x e)
 body_takes kinds.Muddled n c a bytes x fits hn hc ha e = plain_body kinds.Muddled (Muddled n c a) n c a bytes x fits (hn, hc, ha) refl (ok_is (Muddled n c a, bytes) x e)
-
-version_takes : (bytes : List ℕ) (x : ℕ × List ℕ) → AreBytes bytes → version_at bytes ≡ Ok x → Takes bytes (VERSION ∷ []) x.1
-version_takes bytes x fits e =
-    let t = byte_takes VERSION VERSION faults.Version bytes x fits e in
-    let is : x.0 ≡ VERSION = omega (arith, t.1, t.2) in
-    subst (λ (b : ℕ). Takes bytes (b ∷ []) x.1) is t.0
+body_takes kinds.Soften n c a bytes x fits hn hc ha e = plain_body kinds.Soften (Soften n c a) n c a bytes x fits (hn, hc, ha) refl (ok_is (Soften n c a, bytes) x e)
+body_takes kinds.Softened n c a bytes x fits hn hc ha e = plain_body kinds.Softened (Softened n c a) n c a bytes x fits (hn, hc, ha) refl (ok_is (Softened n c a, bytes) x e)
 
 -- the message that was taken, in its range
 record TakesMessage (bytes : List ℕ) (m : Message) (rest : List ℕ) : Type 0 where
@@ -212,31 +250,32 @@ record TakesMessage (bytes : List ℕ) (m : Message) (rest : List ℕ) : Type 0 
   pub fits : IsMessage m
 
 fields_take : (bytes r1 r2 r3 r4 r5 rest : List ℕ) (k : Kind) (n c a : ℕ) (m : Message)
-    → Takes bytes (VERSION ∷ []) r1 → Takes r1 (kind_number k ∷ []) r2 → Takes r2 (n ∷ []) r3 → Takes r3 (to_be_bytes w32 c) r4 → Takes r4 (to_be_bytes w64 a) r5
+    → Takes bytes (version_of k ∷ []) r1 → Takes r1 (kind_number k ∷ []) r2 → Takes r2 (n ∷ []) r3 → Takes r3 (to_be_bytes w32 c) r4 → Takes r4 (to_be_bytes w64 a) r5
     → TakesBody k n c a r5 m rest → TakesMessage bytes m rest
 fields_take bytes r1 r2 r3 r4 r5 rest k n c a m version kind node client attempt body =
     let from_attempt = Takes-then r4 (to_be_bytes w64 a) r5 body.text rest attempt body.taken in
     let from_client = Takes-then r3 (to_be_bytes w32 c) r4 (to_be_bytes w64 a ++ body.text) rest client from_attempt in
     let from_node = Takes-then r2 (n ∷ []) r3 (to_be_bytes w32 c ++ (to_be_bytes w64 a ++ body.text)) rest node from_client in
     let from_kind = Takes-then r1 (kind_number k ∷ []) r2 (n ∷ (to_be_bytes w32 c ++ (to_be_bytes w64 a ++ body.text))) rest kind from_node in
-    let whole : Takes bytes (head k n c a ++ body.text) rest = Takes-then bytes (VERSION ∷ []) r1 (kind_number k ∷ n ∷ (to_be_bytes w32 c ++ (to_be_bytes w64 a ++ body.text))) rest version from_kind in
+    let whole : Takes bytes (head k n c a ++ body.text) rest = Takes-then bytes (version_of k ∷ []) r1 (kind_number k ∷ n ∷ (to_be_bytes w32 c ++ (to_be_bytes w64 a ++ body.text))) rest version from_kind in
     record { taken = subst (λ (t : List ℕ). Takes bytes t rest) body.spelled whole; fits = body.fits }
 
 message_takes : (bytes : List ℕ) (x : Message × List ℕ) → AreBytes bytes → message_at bytes ≡ Ok x → TakesMessage bytes x.0 x.1
 unfolding message_at
 message_takes bytes x fits e =
-    let v = bind_ok (version_at bytes) (λ version. at_kind version.1) x e in
-    let k = bind_ok (kind_at v.0.1) (λ kind. at_node kind.0 kind.1) x v.2 in
+    let v = bind_ok (version_at bytes) (λ version. at_kind version.0 version.1) x e in
+    let k = bind_ok (kind_at v.0.0 v.0.1) (λ kind. at_node kind.0 kind.1) x v.2 in
     let n = bind_ok (node_at k.0.1) (λ node. at_client k.0.0 node.0 node.1) x k.2 in
     let c = bind_ok (client_at n.0.1) (λ client. at_attempt k.0.0 n.0.0 client.0 client.1) x n.2 in
     let a = bind_ok (attempt_at c.0.1) (λ attempt. body_at k.0.0 n.0.0 c.0.0 attempt.0 attempt.1) x c.2 in
-    let tv = version_takes bytes v.0 fits v.1 in
-    let tk = kind_takes v.0.1 k.0 tv.rest_fits k.1 in
-    let tn = byte_takes 1 MAX_NODES faults.Node k.0.1 n.0 tk.rest_fits n.1 in
+    let tv = byte_takes VERSION SOFTENING_VERSION faults.Version bytes v.0 fits v.1 in
+    let tk = kind_takes v.0.0 v.0.1 k.0 tv.0.rest_fits tv.1 tv.2 k.1 in
+    let of_kind : Takes bytes (version_of k.0.0 ∷ []) v.0.1 = subst (λ (version : ℕ). Takes bytes (version ∷ []) v.0.1) tk.1 tv.0 in
+    let tn = byte_takes 1 MAX_NODES faults.Node k.0.1 n.0 tk.0.rest_fits n.1 in
     let tc = number_takes w32 is32 MAX_CLIENTS faults.Client n.0.1 c.0 tn.0.rest_fits c.1 in
     let ta = number_takes w64 is64 MAX_ATTEMPT faults.Attempt c.0.1 a.0 tc.0.rest_fits a.1 in
     let tb = body_takes k.0.0 n.0.0 c.0.0 a.0.0 a.0.1 x ta.0.rest_fits (tn.1, tn.2) (tc.1, tc.2) (ta.1, ta.2) a.2 in
-    fields_take bytes v.0.1 k.0.1 n.0.1 c.0.1 a.0.1 x.1 k.0.0 n.0.0 c.0.0 a.0.0 x.0 tv tk tn.0 tc.0 ta.0 tb
+    fields_take bytes v.0.1 k.0.1 n.0.1 c.0.1 a.0.1 x.1 k.0.0 n.0.0 c.0.0 a.0.0 x.0 of_kind tk.0 tn.0 tc.0 ta.0 tb
 
 reading_takes : (bytes : List ℕ) (m : Message) → AreBytes bytes → reading bytes ≡ Ok m → IsMessage m × (bytes ≡ frame_of m)
 unfolding reading
@@ -261,8 +300,8 @@ head_again k n c a rest hn hc ha =
     let b3 = to_be_bytes w32 c ++ b4 in
     let b2 = n ∷ b3 in
     let b1 = kind_number k ∷ b2 in
-    bind_again (version_at (VERSION ∷ b1)) (λ version. at_kind version.1) (VERSION, b1) refl
-    ∙ bind_again (kind_at b1) (λ kind. at_node kind.0 kind.1) (k, b2) (kind_again k b2)
+    bind_again (version_at (version_of k ∷ b1)) (λ version. at_kind version.0 version.1) (version_of k, b1) (version_again k b1)
+    ∙ bind_again (kind_at (version_of k) b1) (λ kind. at_node kind.0 kind.1) (k, b2) (kind_again k b2)
     ∙ bind_again (node_at b2) (λ node. at_client k node.0 node.1) (n, b3) (byte_again 1 MAX_NODES faults.Node n b3 hn.0 hn.1)
     ∙ bind_again (client_at b3) (λ client. at_attempt k n client.0 client.1) (c, b4) (law.number_again w32 1 MAX_CLIENTS faults.Short faults.Client c b4 is32 (omega arith) hc.0 hc.1)
     ∙ bind_again (attempt_at b4) (λ attempt. body_at k n c attempt.0 attempt.1) (a, rest) (law.number_again w64 1 MAX_ATTEMPT faults.Short faults.Attempt a rest is64 (omega arith) ha.0 ha.1)
@@ -281,6 +320,8 @@ message_again (Busy n t) rest fits = ticket_frame_again kinds.Busy n t rest fits
 message_again (Over n c a) rest fits = head_again kinds.Over n c a rest fits.0 fits.1 fits.2
 message_again (Done n c a) rest fits = head_again kinds.Done n c a rest fits.0 fits.1 fits.2
 message_again (Muddled n c a) rest fits = head_again kinds.Muddled n c a rest fits.0 fits.1 fits.2
+message_again (Soften n c a) rest fits = head_again kinds.Soften n c a rest fits.0 fits.1 fits.2
+message_again (Softened n c a) rest fits = head_again kinds.Softened n c a rest fits.0 fits.1 fits.2
 
 pub reading_again : (m : Message) → IsMessage m → reading (frame_of m) ≡ Ok m
 unfolding reading

@@ -2,7 +2,7 @@
 use Rattle.std.specs.Prelude.{ℕ, ◌==◌, Bool, false}
 use Rattle.lock_messages.specs.declared.tickets.Ticket.{Ticket}
 use Rattle.lock_messages.specs.declared.messages.Message.{Message}
-use Rattle.lock_messages.specs.declared.messages.Message.TheVariants.{Request, Release, Grant, Busy, Over, Done, Muddled}
+use Rattle.lock_messages.specs.declared.messages.Message.TheVariants.{Request, Release, Grant, Busy, Over, Done, Muddled, Soften, Softened}
 use Rattle.lock_messages.specs.Ids.{IsNode, IsClient, IsAttempt}
 use Rattle.lock_messages.specs.Names.{IsName}
 
@@ -21,8 +21,10 @@ IsMessage (Busy n t) = IsNode n × IsTicket t
 IsMessage (Over n c a) = IsNode n × IsClient c × IsAttempt a
 IsMessage (Done n c a) = IsNode n × IsClient c × IsAttempt a
 IsMessage (Muddled n c a) = IsNode n × IsClient c × IsAttempt a
+IsMessage (Soften n c a) = IsNode n × IsClient c × IsAttempt a
+IsMessage (Softened n c a) = IsNode n × IsClient c × IsAttempt a
 
--- a request or a release, to the node that it names
+-- a request, a release or a softening, to the node that it names
 abbrev pub is_for_node : Message → ℕ → Bool
 is_for_node (Request n t) node = n == node
 is_for_node (Release n c a) node = n == node
@@ -31,6 +33,8 @@ is_for_node (Busy n t) node = false
 is_for_node (Over n c a) node = false
 is_for_node (Done n c a) node = false
 is_for_node (Muddled n c a) node = false
+is_for_node (Soften n c a) node = n == node
+is_for_node (Softened n c a) node = false
 
 -- any other message, to the client that it names
 abbrev pub is_for_client : Message → ℕ → Bool
@@ -41,6 +45,8 @@ is_for_client (Busy n t) client = t.client == client
 is_for_client (Over n c a) client = c == client
 is_for_client (Done n c a) client = c == client
 is_for_client (Muddled n c a) client = c == client
+is_for_client (Soften n c a) client = false
+is_for_client (Softened n c a) client = c == client
 
 -- the node that a message names
 abbrev pub named_node : Message → ℕ
@@ -51,3 +57,5 @@ named_node (Busy n t) = n
 named_node (Over n c a) = n
 named_node (Done n c a) = n
 named_node (Muddled n c a) = n
+named_node (Soften n c a) = n
+named_node (Softened n c a) = n

@@ -3,14 +3,14 @@ use Rattle.std.specs.Prelude.{ℕ, ◌==◌, if◌then◌else◌, List, [], ◌�
 use Rattle.std.specs.Int.{w32, w64}
 use Rattle.lock_messages.specs.declared.ids.TheConstants.{MAX_NODES, MAX_CLIENTS, MAX_ATTEMPT}
 use Rattle.lock_messages.specs.declared.names.TheConstants.{MAX_NAME_LEN}
-use Rattle.lock_messages.specs.declared.kinds.TheConstants.{VERSION}
+use Rattle.lock_messages.specs.declared.kinds.TheConstants.{VERSION, SOFTENING_VERSION}
 use Rattle.lock_messages.specs.declared.kinds.Kind.{Kind}
 use Rattle.lock_messages.specs.declared.kinds.Kind.TheVariants as kinds
 use Rattle.lock_messages.specs.declared.faults.FrameFault.{FrameFault}
 use Rattle.lock_messages.specs.declared.faults.FrameFault.TheVariants as faults
 use Rattle.lock_messages.specs.declared.tickets.Ticket.{Ticket}
 use Rattle.lock_messages.specs.declared.messages.Message.{Message}
-use Rattle.lock_messages.specs.declared.messages.Message.TheVariants.{Request, Release, Grant, Busy, Over, Done, Muddled}
+use Rattle.lock_messages.specs.declared.messages.Message.TheVariants.{Request, Release, Grant, Busy, Over, Done, Muddled, Soften, Softened}
 use Rattle.lock_messages.specs.Fields.{◌>>=◌, byte_at, number_at, mode_at, name_at}
 
 abbrev pub fault_number : FrameFault → ℕ
@@ -27,19 +27,31 @@ fault_number faults.Trailing = 110
 fault_number faults.Memory = 111
 
 abbrev pub version_at : List ℕ → Result (ℕ × List ℕ) FrameFault
-version_at bytes = byte_at VERSION VERSION faults.Short faults.Version bytes
+version_at bytes = byte_at VERSION SOFTENING_VERSION faults.Short faults.Version bytes
 
-abbrev pub kind_at : List ℕ → Result (Kind × List ℕ) FrameFault
-kind_at [] = Err faults.Short
-kind_at (b ∷ rest) =
-    if b == 1 then Ok (kinds.Request, rest)
-    else (if b == 2 then Ok (kinds.Release, rest)
-    else (if b == 3 then Ok (kinds.Grant, rest)
-    else (if b == 4 then Ok (kinds.Busy, rest)
-    else (if b == 5 then Ok (kinds.Over, rest)
-    else (if b == 6 then Ok (kinds.Done, rest)
-    else (if b == 7 then Ok (kinds.Muddled, rest)
+-- a kind of version 1
+abbrev pub first_kind : ℕ → Result Kind FrameFault
+first_kind b =
+    if b == 1 then Ok kinds.Request
+    else (if b == 2 then Ok kinds.Release
+    else (if b == 3 then Ok kinds.Grant
+    else (if b == 4 then Ok kinds.Busy
+    else (if b == 5 then Ok kinds.Over
+    else (if b == 6 then Ok kinds.Done
+    else (if b == 7 then Ok kinds.Muddled
     else Err faults.Kind))))))
+
+-- a kind of the version of softening
+abbrev pub softening_kind : ℕ → Result Kind FrameFault
+softening_kind b =
+    if b == 8 then Ok kinds.Soften
+    else (if b == 9 then Ok kinds.Softened
+    else Err faults.Kind)
+
+-- a kind of this version
+abbrev pub kind_at : ℕ → List ℕ → Result (Kind × List ℕ) FrameFault
+kind_at version [] = Err faults.Short
+kind_at version (b ∷ rest) = (if version == SOFTENING_VERSION then softening_kind b else first_kind b) >>= λ kind. Ok (kind, rest)
 
 abbrev pub node_at : List ℕ → Result (ℕ × List ℕ) FrameFault
 node_at bytes = byte_at 1 MAX_NODES faults.Short faults.Node bytes
@@ -69,11 +81,13 @@ body_at kinds.Busy n c a bytes = ticket_at c a bytes >>= λ t. Ok (Busy n t.0, t
 body_at kinds.Over n c a bytes = Ok (Over n c a, bytes)
 body_at kinds.Done n c a bytes = Ok (Done n c a, bytes)
 body_at kinds.Muddled n c a bytes = Ok (Muddled n c a, bytes)
+body_at kinds.Soften n c a bytes = Ok (Soften n c a, bytes)
+body_at kinds.Softened n c a bytes = Ok (Softened n c a, bytes)
 
 unfoldable pub message_at : List ℕ → Result (Message × List ℕ) FrameFault
 message_at bytes = do
   version ← version_at bytes
-  kind ← kind_at version.1
+  kind ← kind_at version.0 version.1
   node ← node_at kind.1
   client ← client_at node.1
   attempt ← attempt_at client.1

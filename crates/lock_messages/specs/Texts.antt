@@ -7,7 +7,7 @@ use Rattle.lock_messages.specs.declared.tickets.Mode.{Mode}
 use Rattle.lock_messages.specs.declared.tickets.Mode.TheVariants.{Read, Write}
 use Rattle.lock_messages.specs.declared.tickets.Ticket.{Ticket}
 use Rattle.lock_messages.specs.declared.messages.Message.{Message}
-use Rattle.lock_messages.specs.declared.messages.Message.TheVariants.{Request, Release, Grant, Busy, Over, Done, Muddled}
+use Rattle.lock_messages.specs.declared.messages.Message.TheVariants.{Request, Release, Grant, Busy, Over, Done, Muddled, Soften, Softened}
 
 abbrev pub node_text : ℕ → List ℕ
 node_text n = codes "n" ++ decimal n
@@ -43,3 +43,5 @@ message_text (Busy n t) = long_text (codes "busy") n t
 message_text (Over n c a) = short_text (codes "over") n c a
 message_text (Done n c a) = short_text (codes "done") n c a
 message_text (Muddled n c a) = short_text (codes "muddled") n c a
+message_text (Soften n c a) = short_text (codes "soften") n c a
+message_text (Softened n c a) = short_text (codes "softened") n c a

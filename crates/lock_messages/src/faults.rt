@@ -14,10 +14,10 @@ pub enum FrameFault {
     /// 101: a field isn't wholly there.
     #[error("the frame ends within a field")]
     Short,
-    /// 102: the version isn't 1.
+    /// 102: the version isn't 1 or 2.
     #[error("the frame is of another version")]
     Version,
-    /// 103: the kind isn't 1 to 7.
+    /// 103: the version has no such kind: version 1 has 1 to 7, version 2 has 8 and 9.
     #[error("no message has this kind")]
     Kind,
     /// 104: the node isn't 1 to `MAX_NODES`.

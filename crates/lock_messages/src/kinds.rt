@@ -1,10 +1,13 @@
 // The kinds of messages, as frames number them.
 
 ghost use Rattle.std.specs.Prelude.{◌≡◌};
-ghost use Rattle.lock_messages.specs.Frames.{kind_number};
+ghost use Rattle.lock_messages.specs.Frames.{kind_number, version_of};
 
-/// The layout of a frame that this crate writes and reads.
+/// The version of every frame but those of softening.
 pub(crate) const VERSION: u8 = 1;
+
+/// The version of the frames of softening, whose kinds version 1 doesn't have.
+pub(crate) const SOFTENING_VERSION: u8 = 2;
 
 /// What a message is, without what it says.
 #[derive(Clone, Copy)]
@@ -16,6 +19,8 @@ pub(crate) enum Kind {
     Over,
     Done,
     Muddled,
+    Soften,
+    Softened,
 }
 
 impl Kind {
@@ -30,6 +35,23 @@ impl Kind {
             Kind::Over => 5,
             Kind::Done => 6,
             Kind::Muddled => 7,
+            Kind::Soften => 8,
+            Kind::Softened => 9,
+        }
+    }
+
+    pub(crate) fn version(self) -> u8
+        ensures { result ≡ version_of self }
+    {
+        match self {
+            Kind::Request
+            | Kind::Release
+            | Kind::Grant
+            | Kind::Busy
+            | Kind::Over
+            | Kind::Done
+            | Kind::Muddled => VERSION,
+            Kind::Soften | Kind::Softened => SOFTENING_VERSION,
         }
     }
 }

@@ -10,7 +10,8 @@
 //!
 //! A message is carried as a frame: `encode` answers the one spelling of a message, and
 //! `decode` the message exactly where the whole input is its spelling, else the first fault from
-//! the front (`FrameFault`). `laws::one_spelling` says that no spelling begins another. Only
+//! the front (`FrameFault`). Frames have version 1, and those of `Soften` and `Softened` version 2;
+//! each version has its own kinds. `laws::one_spelling` says that no spelling begins another. Only
 //! `encode` takes memory. The crate stands on `std`, `bytes` and `thiserror`.
 #![tactic(auto)]
 

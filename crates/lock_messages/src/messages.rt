@@ -26,20 +26,27 @@ pub enum Message {
     Done(NodeId, ClientId, Attempt),
     /// To a client: the attempt has another mode or resource at the node.
     Muddled(NodeId, ClientId, Attempt),
+    /// To a node: the client, a writer by this attempt, is a reader from now on.
+    Soften(NodeId, ClientId, Attempt),
+    /// To a client: the node took that its attempt is softened.
+    Softened(NodeId, ClientId, Attempt),
 }
 
 impl Message {
-    /// Whether this is for that node: a `Request` or a `Release` that names it.
+    /// Whether this is for that node: a `Request`, a `Release` or a `Soften` that names it.
     pub fn is_for_node(&self, node: NodeId) -> bool
         ensures { result ≡ is_for_node self.now node }
     {
         match *self {
-            Message::Request(to, _) | Message::Release(to, _, _) => to == node,
+            Message::Request(to, _) | Message::Release(to, _, _) | Message::Soften(to, _, _) => {
+                to == node
+            }
             Message::Grant(..)
             | Message::Busy(..)
             | Message::Over(..)
             | Message::Done(..)
-            | Message::Muddled(..) => false,
+            | Message::Muddled(..)
+            | Message::Softened(..) => false,
         }
     }
 
@@ -49,10 +56,11 @@ impl Message {
     {
         match *self {
             Message::Grant(_, ticket) | Message::Busy(_, ticket) => ticket.client == client,
-            Message::Over(_, to, _) | Message::Done(_, to, _) | Message::Muddled(_, to, _) => {
-                to == client
-            }
-            Message::Request(..) | Message::Release(..) => false,
+            Message::Over(_, to, _)
+            | Message::Done(_, to, _)
+            | Message::Muddled(_, to, _)
+            | Message::Softened(_, to, _) => to == client,
+            Message::Request(..) | Message::Release(..) | Message::Soften(..) => false,
         }
     }
 }
@@ -75,6 +83,12 @@ impl fmt::Display for Message {
             Message::Done(node, client, attempt) => write!(f, "done {node} {client} {attempt}"),
             Message::Muddled(node, client, attempt) => {
                 write!(f, "muddled {node} {client} {attempt}")
+            }
+            Message::Soften(node, client, attempt) => {
+                write!(f, "soften {node} {client} {attempt}")
+            }
+            Message::Softened(node, client, attempt) => {
+                write!(f, "softened {node} {client} {attempt}")
             }
         }
     }

@@ -5,13 +5,38 @@ ghost use Rattle.lock_messages.specs.declared.messages.Message.{Message};
 ghost use Rattle.lock_messages.specs.Messages.{IsMessage};
 ghost use Rattle.lock_messages.specs.Frames.{frame_of};
 ghost use Rattle.lock_messages.specs.Fields.{Gives, mode_at, name_at};
-ghost use Rattle.lock_messages.specs.Reading.{version_at, kind_at, node_at, client_at, attempt_at, length_at, ticket_at, body_at, message_at, reading};
+ghost use Rattle.lock_messages.specs.Reading.{version_at, first_kind, softening_kind, kind_at, node_at, client_at, attempt_at, length_at, ticket_at, body_at, message_at, reading};
 
-use crate::kinds::{Kind, VERSION};
+use crate::kinds::{Kind, SOFTENING_VERSION, VERSION};
 use crate::names::has_name_bytes;
 use crate::{
     Attempt, ClientId, FrameFault, MAX_NAME_LEN, Message, Mode, NodeId, ResourceName, Ticket,
 };
+
+fn first_kind(byte: u8) -> Result<Kind, FrameFault>
+    ensures { result ≡ first_kind byte }
+{
+    match byte {
+        1 => Ok(Kind::Request),
+        2 => Ok(Kind::Release),
+        3 => Ok(Kind::Grant),
+        4 => Ok(Kind::Busy),
+        5 => Ok(Kind::Over),
+        6 => Ok(Kind::Done),
+        7 => Ok(Kind::Muddled),
+        _ => Err(FrameFault::Kind),
+    }
+}
+
+fn softening_kind(byte: u8) -> Result<Kind, FrameFault>
+    ensures { result ≡ softening_kind byte }
+{
+    match byte {
+        8 => Ok(Kind::Soften),
+        9 => Ok(Kind::Softened),
+        _ => Err(FrameFault::Kind),
+    }
+}
 
 /// The bytes that aren't read yet. Each method reads what these begin with; after a fault they are
 /// of no use.
@@ -27,31 +52,25 @@ impl Unread<'_> {
         let [byte, rest @ ..] = self.bytes else {
             return Err(FrameFault::Short);
         };
-        if *byte != VERSION {
+        if *byte != VERSION && *byte != SOFTENING_VERSION {
             return Err(FrameFault::Version);
         }
         self.bytes = rest;
         Ok(*byte)
     }
 
-    fn kind(&mut self) -> Result<Kind, FrameFault>
-        ensures { Gives result self.new.bytes.now (kind_at self.old.bytes.now) }
+    fn kind(&mut self, version: u8) -> Result<Kind, FrameFault>
+        ensures { Gives result self.new.bytes.now (kind_at version self.old.bytes.now) }
     {
         let [byte, rest @ ..] = self.bytes else {
             return Err(FrameFault::Short);
         };
-        let kind = match *byte {
-            1 => Kind::Request,
-            2 => Kind::Release,
-            3 => Kind::Grant,
-            4 => Kind::Busy,
-            5 => Kind::Over,
-            6 => Kind::Done,
-            7 => Kind::Muddled,
-            _ => return Err(FrameFault::Kind),
-        };
         self.bytes = rest;
-        Ok(kind)
+        if version == SOFTENING_VERSION {
+            softening_kind(*byte)
+        } else {
+            first_kind(*byte)
+        }
     }
 
     fn node(&mut self) -> Result<NodeId, FrameFault>
@@ -160,6 +179,8 @@ impl Unread<'_> {
             Kind::Over => Message::Over(node, client, attempt),
             Kind::Done => Message::Done(node, client, attempt),
             Kind::Muddled => Message::Muddled(node, client, attempt),
+            Kind::Soften => Message::Soften(node, client, attempt),
+            Kind::Softened => Message::Softened(node, client, attempt),
         };
         Ok(message)
     }
@@ -168,8 +189,8 @@ impl Unread<'_> {
     fn message(&mut self) -> Result<Message, FrameFault>
         ensures { Gives result self.new.bytes.now (message_at self.old.bytes.now) }
     {
-        self.version()?;
-        let kind = self.kind()?;
+        let version = self.version()?;
+        let kind = self.kind(version)?;
         let node = self.node()?;
         let client = self.client()?;
         let attempt = self.attempt()?;
@@ -193,7 +214,8 @@ fn whole(frame: &[u8]) -> Result<Message, FrameFault>
 ///
 /// Else the fault of the first field from the front that isn't wholly there (101) or whose value
 /// is wrong (102 to 109, a name byte by byte), and only behind a whole frame that bytes follow
-/// it (110). The layout and its faults are our own.
+/// it (110). A kind is judged by the version that stands before it: under version 1 any but 1 to
+/// 7, and under version 2 any but 8 and 9, is 103. The layout and its faults are our own.
 pub fn decode(frame: &[u8]) -> Result<Message, FrameFault>
     // What is read is spelled so.
     ensures found { IfOk result (λ m. IsMessage m × (frame.now ≡ frame_of m)) }

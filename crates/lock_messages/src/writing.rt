@@ -3,7 +3,7 @@
 ghost use Rattle.std.specs.Prelude.{◌≡◌, ◌++◌, length, OnOk, IfOk, IsOkUnless};
 ghost use Rattle.lock_messages.specs.Frames.{head, with_ticket, frame_of};
 
-use crate::kinds::{Kind, VERSION};
+use crate::kinds::Kind;
 use crate::{Attempt, ClientId, FrameFault, Message, Mode, NodeId, Ticket};
 use bytes::Bytes;
 use std::alloc::{AllocError, Global};
@@ -20,9 +20,12 @@ fn frame_len(message: &Message) -> usize
         Message::Request(_, ticket) | Message::Grant(_, ticket) | Message::Busy(_, ticket) => {
             NAME_AT + ticket.resource.bytes().len()
         }
-        Message::Release(..) | Message::Over(..) | Message::Done(..) | Message::Muddled(..) => {
-            HEAD_LEN
-        }
+        Message::Release(..)
+        | Message::Over(..)
+        | Message::Done(..)
+        | Message::Muddled(..)
+        | Message::Soften(..)
+        | Message::Softened(..) => HEAD_LEN,
     }
 }
 
@@ -35,7 +38,7 @@ fn put_head(
 ) -> Result<(), AllocError>
     ensures { OnOk result (out.new.items ≡ out.old.items ++ head kind node client attempt) }
 {
-    out.extend_from_slice(&[VERSION, kind.number(), node.get()])?;
+    out.extend_from_slice(&[kind.version(), kind.number(), node.get()])?;
     out.extend_from_slice(&client.get().to_be_bytes())?;
     out.extend_from_slice(&attempt.get().to_be_bytes())?;
     Ok(())
@@ -74,6 +77,12 @@ fn put_message(out: &mut Vec<u8>, message: &Message) -> Result<(), AllocError>
         Message::Done(node, client, attempt) => put_head(out, Kind::Done, node, client, attempt),
         Message::Muddled(node, client, attempt) => {
             put_head(out, Kind::Muddled, node, client, attempt)
+        }
+        Message::Soften(node, client, attempt) => {
+            put_head(out, Kind::Soften, node, client, attempt)
+        }
+        Message::Softened(node, client, attempt) => {
+            put_head(out, Kind::Softened, node, client, attempt)
         }
     }
 }

@@ -8,22 +8,25 @@ use Rattle.lock_messages.specs.declared.tickets.Mode.{Mode}
 use Rattle.lock_messages.specs.declared.tickets.Mode.TheVariants.{Read, Write}
 use Rattle.lock_messages.specs.declared.tickets.Ticket.{Ticket}
 use Rattle.lock_messages.specs.declared.messages.Message.{Message}
-use Rattle.lock_messages.specs.declared.messages.Message.TheVariants.{Request, Release, Grant, Busy, Over, Done, Muddled}
+use Rattle.lock_messages.specs.declared.messages.Message.TheVariants.{Request, Release, Grant, Busy, Over, Done, Muddled, Soften}
+use Rattle.lock_messages.specs.declared.messages.Message.TheVariants as message
 use Rattle.lock_messages.specs.Messages.{is_for_node}
 use Rattle.lock_model.specs.declared.entries.Entry.{Entry}
 use Rattle.lock_model.specs.declared.entries.Live.{Live}
 use Rattle.lock_model.specs.declared.entries.Status.{Status}
-use Rattle.lock_model.specs.declared.entries.Status.TheVariants.{Waiting, Holding}
+use Rattle.lock_model.specs.declared.entries.Status.TheVariants.{Waiting, Holding, Softened}
 use Rattle.lock_model.specs.declared.problems.Problem.{Problem}
-use Rattle.lock_model.specs.Stations.{Free, Has, Standing, Station, Holds, Waits, IsLawful, Cause, IsCaused, Puts, IsEnded, EndsAt, Ends, Becomes, Settles}
-use Rattle.lock_model.specs.Decisions.{AreReplies, IsNew, taken_up, IsAsked, over, muddled, held, waited, granted, queued, IsReleased, Decides}
-use Rattle.lock_model.specs.ExactStations.{is_holding, entry_of, standing_of, claim_of, meaning, IsAboveFloor, IsWellFormed, admits, settled}
-use Rattle.lock_model.specs.ExactDecisions.{Outcome, ended, grants, same_mode, live_reply, reply_of_live, reply_to_known, floor_in, live_in, new_entry, moved_last, takes_up, answered, decision}
+use Rattle.lock_model.specs.Stations.{Free, Has, Standing, Station, IsHolder, asked_mode, Holds, Waits, IsLawful, Cause, IsCaused, Puts, IsEnded, EndsAt, Ends, SoftensAt, holder, waiter, neither, Softens, Becomes, Settles}
+use Rattle.lock_model.specs.Decisions.{AreReplies, IsNew, taken_up, IsAsked, over, muddled, held, waited, granted, queued, IsReleased, IsSoftened, Decides}
+use Rattle.lock_model.specs.Decisions as Decision
+use Rattle.lock_model.specs.ExactStations.{entry_of, standing_of, claim_of, meaning, IsAboveFloor, IsReaderIfSoftened, IsWellFormed, admits, settled}
+use Rattle.lock_model.specs.ExactDecisions.{Outcome, ended, softened, grants, same_mode, reply_by_status, live_reply, reply_of_live, reply_to_known, floor_in, live_in, new_entry, moved_last, takes_up, answered, decision}
 use Rattle.lock_model.specs.Laws.{IsAllowed}
+use Rattle.lock_model.proofs.EntryFacts.{all-at}
 use Rattle.lock_model.proofs.StationFacts.{writer-causes}
 use Rattle.lock_model.proofs.SettlingFacts.{refused-cause, admitted-free, settled-settles}
-use Rattle.lock_model.proofs.EntryEdits.{ended-ends, ended-well, settled-well, moved-puts, moved-well}
-use Rattle.lock_model.proofs.GrantFacts.{settle-in-step, replies-are, only-reply, attempt-at}
+use Rattle.lock_model.proofs.EntryEdits.{ended-ends, ended-well, softened-softens, softened-well, settled-well, moved-puts, moved-well}
+use Rattle.lock_model.proofs.GrantFacts.{settle-in-step, replies-are, only-reply}
 
 -- ending attempts
 
@@ -42,11 +45,45 @@ ends-holds : (s t : Station) (c a : ℕ) → Ends s c a t → (d : ℕ) (m : Mod
 ends-holds s t c a e d m x h = go (ends-claim s t c a e d)
   where
     go : ((t.at d).claim ≡ (s.at d).claim) ⊎ ((t.at d).claim ≡ Free) → Holds s d m x
-    go (inl k) = sym k ∙ h
-    go (inr k) = absurd (let z : Free ≡ Has m x Holding = sym k ∙ h in cc)
+    go (inl k) = (h.0, h.1, sym k ∙ h.2)
+    go (inr k) = absurd (let z : Free ≡ Has m x h.0 = sym k ∙ h.2 in cc)
 
 pub ends-lawful : (s t : Station) (c a : ℕ) → Ends s c a t → IsLawful s → IsLawful t
 ends-lawful s t c a e l = record { alone = λ i j m x p q. l.alone i j m x (ends-holds s t c a e i Write x p) (ends-holds s t c a e j m x q) }
+
+-- softening an attempt
+
+-- who holds now held before, and a writer did as a writer
+softens-claim : (a : ℕ) (before after : Standing) → SoftensAt a before after → (m : Mode) (x : List ℕ) (v : Status) → IsHolder v → after.claim ≡ Has m x v →
+    (n : Mode) × (w : Status) × IsHolder w × (before.claim ≡ Has n x w) × (m ≡ Write → n ≡ Write)
+softens-claim a before after (holder y now claim) m x v i h =
+    let resource : y ≡ x = cc in
+    (Write, Holding, tt, claim ∙ ap (λ z. Has Write z Holding) resource, λ e. refl)
+softens-claim a before after (waiter y now claim) m x v i h = absurd (let z : Free ≡ Has m x v = h in cc)
+softens-claim a before after (neither other) m x v i h = (m, v, i, h, λ e. e)
+
+record Held (s : Station) (d : ℕ) (m : Mode) (x : List ℕ) : Type 0 where
+  pub mode : Mode
+  pub held : Holds s d mode x
+  pub as_writer : m ≡ Write → mode ≡ Write
+
+softens-holds : (s t : Station) (c a : ℕ) → Softens s c a t → (d : ℕ) (m : Mode) (x : List ℕ) → Holds t d m x → Held s d m x
+softens-holds s t c a e d m x h = go (cases_eq d c)
+  where
+    at_c : Holds t c m x → Held s c m x
+    at_c k =
+        let r = softens-claim a (s.at c) e.0 e.1 m x k.0 k.1 (sym (ap (λ (w : Standing). w.claim) e.2.here) ∙ k.2) in
+        record { mode = r.0; held = (r.1, r.2, r.3); as_writer = r.4 }
+
+    go : (d ≡ c) ⊎ (d ≢ c) → Held s d m x
+    go (inl same) = subst (λ n. Held s n m x) (sym same) (at_c (subst (λ n. Holds t n m x) same h))
+    go (inr apart) = record { mode = m; held = (h.0, h.1, sym (ap (λ (w : Standing). w.claim) (e.2.others d apart)) ∙ h.2); as_writer = λ w. w }
+
+pub softens-lawful : (s t : Station) (c a : ℕ) → Softens s c a t → IsLawful s → IsLawful t
+softens-lawful s t c a e l = record { alone = λ i j m x p q. go i j x (softens-holds s t c a e i Write x p) (softens-holds s t c a e j m x q) }
+  where
+    go : {m : Mode} (i j : ℕ) (x : List ℕ) → Held s i Write x → Held s j m x → j ≡ i
+    go i j x p q = l.alone i j q.mode x (subst (λ n. Holds s i n x) (p.as_writer refl) p.held) q.held
 
 -- a new ticket's client has no claim once the attempts before it are ended, and none once that has settled
 new-free : (s t : Station) (c a : ℕ) → IsNew (s.at c) a → Ends s c (a - 1) t → (t.at c).claim ≡ Free
@@ -75,7 +112,7 @@ record Joins (s : Station) (c : ℕ) (m : Mode) (x : List ℕ) (status : Status)
   pub problem : t.problem ≡ s.problem
   pub here : (t.at c).claim ≡ Has m x status
   pub others : (d : ℕ) → d ≢ c → (t.at d).claim ≡ (s.at d).claim
-  pub holding : status ≡ Holding → ¬ (Cause s m x)
+  pub holding : IsHolder status → ¬ (Cause s m x)
   pub waiting : status ≡ Waiting → Cause s m x
 
 -- who has a claim before keeps it
@@ -87,8 +124,8 @@ joins-kept s t c m x status j d n y w h = go (cases_eq d c)
     go (inr e) = j.others d e ∙ h
 
 joins-cause : (s t : Station) (c : ℕ) (m : Mode) (x : List ℕ) (status : Status) → Joins s c m x status t → (n : Mode) (y : List ℕ) → Cause s n y → Cause t n y
-joins-cause s t c m x status j Write y h = (h.0, h.1, joins-kept s t c m x status j h.0 h.1 y Holding h.2)
-joins-cause s t c m x status j Read y (inl h) = inl (h.0, joins-kept s t c m x status j h.0 Write y Holding h.1)
+joins-cause s t c m x status j Write y h = (h.0, h.1, (h.2.0, h.2.1, joins-kept s t c m x status j h.0 h.1 y h.2.0 h.2.2))
+joins-cause s t c m x status j Read y (inl h) = inl (h.0, (h.1.0, h.1.1, joins-kept s t c m x status j h.0 Write y h.1.0 h.1.2))
 joins-cause s t c m x status j Read y (inr h) = inr (j.problem ∙ h.0, (h.1.0, joins-kept s t c m x status j h.1.0 Write y Waiting h.1.1))
 
 joins-caused : (s t : Station) (c : ℕ) (m : Mode) (x : List ℕ) (status : Status) → Joins s c m x status t → IsCaused t
@@ -106,21 +143,24 @@ joins-caused s t c m x status j = record { cause = λ d n y w. go d n y w (cases
 joins-lawful : (s t : Station) (c : ℕ) (m : Mode) (x : List ℕ) (status : Status) → Joins s c m x status t → IsLawful t
 joins-lawful s t c m x status j = record { alone = λ a b n y p q. go a b n y p q (cases_eq a c) (cases_eq b c) }
   where
+    back : (d : ℕ) → d ≢ c → (n : Mode) (y : List ℕ) → Holds t d n y → Holds s d n y
+    back d apart n y h = (h.0, h.1, sym (j.others d apart) ∙ h.2)
+
     go : (a b : ℕ) (n : Mode) (y : List ℕ) → Holds t a Write y → Holds t b n y → (a ≡ c) ⊎ (a ≢ c) → (b ≡ c) ⊎ (b ≢ c) → b ≡ a
     go a b n y p q (inl e) (inl f) = f ∙ sym e
-    go a b n y p q (inr e) (inr f) = j.lawful.alone a b n y (sym (j.others a e) ∙ p) (sym (j.others b f) ∙ q)
+    go a b n y p q (inr e) (inr f) = j.lawful.alone a b n y (back a e Write y p) (back b f n y q)
     go a b n y p q (inl e) (inr f) =
-        let mine : Has m x status ≡ Has Write y Holding = sym j.here ∙ ap (λ k. (t.at k).claim) (sym e) ∙ p in
+        let mine : Has m x status ≡ Has Write y p.0 = sym j.here ∙ ap (λ k. (t.at k).claim) (sym e) ∙ p.2 in
         let mode : Write ≡ m = cc in
         let resource : y ≡ x = cc in
-        let holds : status ≡ Holding = cc in
-        let cause : Cause s Write y = (b, n, sym (j.others b f) ∙ q) in
-        absurd (j.holding holds (subst (λ w. Cause s w x) mode (subst (λ w. Cause s Write w) resource cause)))
+        let same : p.0 ≡ status = cc in
+        let cause : Cause s Write y = (b, n, back b f n y q) in
+        absurd (j.holding (subst IsHolder same p.1) (subst (λ w. Cause s w x) mode (subst (λ w. Cause s Write w) resource cause)))
     go a b n y p q (inr e) (inl f) =
-        let mine : Has m x status ≡ Has n y Holding = sym j.here ∙ ap (λ k. (t.at k).claim) (sym f) ∙ q in
+        let mine : Has m x status ≡ Has n y q.0 = sym j.here ∙ ap (λ k. (t.at k).claim) (sym f) ∙ q.2 in
         let resource : y ≡ x = cc in
-        let holds : status ≡ Holding = cc in
-        absurd (j.holding holds (subst (λ w. Cause s m w) resource (writer-causes s a m y (sym (j.others a e) ∙ p))))
+        let same : q.0 ≡ status = cc in
+        absurd (j.holding (subst IsHolder same q.1) (subst (λ w. Cause s m w) resource (writer-causes s a m y (back a e Write y p))))
 
 -- the exact decision on a ticket that is taken up
 
@@ -159,7 +199,7 @@ takes-up n p es t positive w l new = go (admits p t.mode t.resource after) refl
     puts : (b : Bool) → Puts (meaning p after) t.client (standing_of (Some (new_entry t b))) (meaning p (moved_last (new_entry t b) after))
     puts b = moved-puts p (new_entry t b) after settled_well.once
 
-    joins : (b : Bool) (status : Status) → standing_of (Some (new_entry t b)) ≡ taken_up t status → (status ≡ Holding → ¬ (Cause (meaning p after) t.mode t.resource)) → (status ≡ Waiting → Cause (meaning p after) t.mode t.resource) →
+    joins : (b : Bool) (status : Status) → standing_of (Some (new_entry t b)) ≡ taken_up t status → (IsHolder status → ¬ (Cause (meaning p after) t.mode t.resource)) → (status ≡ Waiting → Cause (meaning p after) t.mode t.resource) →
         Joins (meaning p after) t.client t.mode t.resource status (meaning p (moved_last (new_entry t b) after))
     joins b status s h k = record {
       lawful = settles.lawful;
@@ -186,7 +226,7 @@ takes-up n p es t positive w l new = go (admits p t.mode t.resource after) refl
         }
     go false h =
         let cause = refused-cause p after t.mode t.resource settled_well.once h in
-        let j = joins false Waiting refl (λ z. absurd (let q : Waiting ≡ Holding = z in cc)) (λ _. cause) in
+        let j = joins false Waiting refl (λ z. absurd z) (λ _. cause) in
         let outcome : (takes_up n p es t) ≡ record { entries = moved_last (new_entry t false) after; replies = Busy n t ∷ grants n before after } =
         ap (λ b. record { entries = moved_last (new_entry t b) after; replies = cond b (Grant n t) (Busy n t) ∷ grants n before after }) h in
         record {
@@ -200,7 +240,11 @@ takes-up-well : (n : ℕ) (p : Problem) (es : List Entry) (t : Ticket) → 1 ≤
 takes-up-well n p es t positive w =
     let before = ended t.client (t.attempt - 1) es in
     let after = settled p before in
-    moved-well (new_entry t (admits p t.mode t.resource after)) after (omega arith) (settled-well p before (ended-well t.client (t.attempt - 1) es w))
+    moved-well (new_entry t (admits p t.mode t.resource after)) after (omega arith) (not-softened (admits p t.mode t.resource after)) (settled-well p before (ended-well t.client (t.attempt - 1) es w))
+  where
+    not-softened : (b : Bool) → IsReaderIfSoftened (new_entry t b)
+    not-softened true s = absurd (let z : Holding ≡ Softened = s in cc)
+    not-softened false s = absurd (let z : Waiting ≡ Softened = s in cc)
 
 -- a request, by what the node knows of its client
 
@@ -225,7 +269,14 @@ live-above es c l a h = go (entry_of es c) refl h
   where
     go : (o : Option Entry) → entry_of es c ≡ o → live_in o ≡ Some l → l.attempt ≡ floor_in (entry_of es c) + 1
     go None k s = absurd (let z : None ≡ Some l = s in cc)
-    go (Some e) k s = subst (λ v. IfSome v (λ k. k.attempt ≡ e.floor + 1)) s (attempt-at es c e a k) ∙ ap (λ o. floor_in o + 1) (sym k)
+    go (Some e) k s = subst (λ v. IfSome v (λ k. k.attempt ≡ e.floor + 1)) s (all-at IsAboveFloor es c e a k) ∙ ap (λ o. floor_in o + 1) (sym k)
+
+live-reader : (es : List Entry) (c : ℕ) (l : Live) → AllByRecursion IsReaderIfSoftened es → live_in (entry_of es c) ≡ Some l → l.status ≡ Softened → l.mode ≡ Read
+live-reader es c l a h = go (entry_of es c) refl h
+  where
+    go : (o : Option Entry) → entry_of es c ≡ o → live_in o ≡ Some l → l.status ≡ Softened → l.mode ≡ Read
+    go None k s = absurd (let z : None ≡ Some l = s in cc)
+    go (Some e) k s = subst (λ v. IfSome v (λ k. k.status ≡ Softened → k.mode ≡ Read)) s (all-at IsReaderIfSoftened es c e a k)
 
 unchanged : (p : Problem) (es : List Entry) (n : ℕ) (t : Ticket) (first : Message) → IsWellFormed es → IsLawful (meaning p es) → IsCaused (meaning p es) →
     IsAsked n (meaning p es) t (meaning p es) (first ∷ []) → decision p es (Request n t) ≡ record { entries = es; replies = first ∷ [] } → IsAllowed p es (Request n t)
@@ -250,7 +301,7 @@ took-up p es n t w l positive new is =
 -- the attempt is the live one
 asked-live : (p : Problem) (es : List Entry) (n : ℕ) (t : Ticket) (k : Live) → IsWellFormed es → IsLawful (meaning p es) → IsCaused (meaning p es) →
     live_in (entry_of es t.client) ≡ Some k → k.attempt ≡ t.attempt → reply_to_known n t (entry_of es t.client) ≡ Some (live_reply n t k) → IsAllowed p es (Request n t)
-asked-live p es n t k w l c live same reply = go (cases_Bool (same_mode k.mode t.mode && bytes_eq k.resource t.resource))
+asked-live p es n t k w l c live same reply = go (cases_Bool (same_mode (asked_mode k.mode k.status) t.mode && bytes_eq k.resource t.resource))
   where
     s : Station
     s = meaning p es
@@ -264,27 +315,31 @@ asked-live p es n t k w l c live same reply = go (cases_Bool (same_mode k.mode t
     claim : (s.at t.client).claim ≡ Has k.mode k.resource k.status
     claim = (standing-in (entry_of es t.client)).1 ∙ ap claim_of live
 
-    by_status : (v : Status) → k.status ≡ v → k.mode ≡ t.mode → k.resource ≡ t.resource → (same_mode k.mode t.mode && bytes_eq k.resource t.resource) ≡ true → IsAllowed p es (Request n t)
-    by_status Holding v m x h = unchanged p es n t (Grant n t) w l c
-        (held floor (claim ∙ ap (λ q. Has q k.resource k.status) m ∙ ap (λ q. Has t.mode q k.status) x ∙ ap (Has t.mode t.resource) v) refl (only-reply (Grant n t)))
-        (is ∙ ap (λ b. record { entries = es; replies = cond b (cond (is_holding k.status) (Grant n t) (Busy n t)) (Muddled n t.client t.attempt) ∷ [] }) h
-        ∙ ap (λ q. record { entries = es; replies = cond (is_holding q) (Grant n t) (Busy n t) ∷ [] }) v)
-    by_status Waiting v m x h = unchanged p es n t (Busy n t) w l c
-        (waited floor (claim ∙ ap (λ q. Has q k.resource k.status) m ∙ ap (λ q. Has t.mode q k.status) x ∙ ap (Has t.mode t.resource) v) refl (only-reply (Busy n t)))
-        (is ∙ ap (λ b. record { entries = es; replies = cond b (cond (is_holding k.status) (Grant n t) (Busy n t)) (Muddled n t.client t.attempt) ∷ [] }) h
-        ∙ ap (λ q. record { entries = es; replies = cond (is_holding q) (Grant n t) (Busy n t) ∷ [] }) v)
+    claim_is : (m : Mode) (v : Status) → k.mode ≡ m → k.resource ≡ t.resource → k.status ≡ v → (s.at t.client).claim ≡ Has m t.resource v
+    claim_is m v e x h = claim ∙ ap (λ q. Has q k.resource k.status) e ∙ ap (λ q. Has m q k.status) x ∙ ap (Has m t.resource) h
 
-    differs : (same_mode k.mode t.mode ≡ false) ⊎ (bytes_eq k.resource t.resource ≡ false) → (k.mode ≢ t.mode) ⊎ (k.resource ≢ t.resource)
-    differs (inl h) = inl (same-mode-false k.mode t.mode h)
+    by_status : (v : Status) → k.status ≡ v → asked_mode k.mode v ≡ t.mode → k.resource ≡ t.resource →
+        decision p es (Request n t) ≡ record { entries = es; replies = reply_by_status n t v ∷ [] } → IsAllowed p es (Request n t)
+    by_status Holding v m x h = unchanged p es n t (Grant n t) w l c (held floor (claim_is t.mode Holding m x v) refl (only-reply (Grant n t))) h
+    by_status Waiting v m x h = unchanged p es n t (Busy n t) w l c (waited floor (claim_is t.mode Waiting m x v) refl (only-reply (Busy n t))) h
+    by_status Softened v m x h = unchanged p es n t (message.Softened n t.client t.attempt) w l c
+        (Decision.softened floor (sym m) (claim_is Read Softened (live-reader es t.client k w.softened live v) x v) refl (only-reply (message.Softened n t.client t.attempt))) h
+
+    differs : (same_mode (asked_mode k.mode k.status) t.mode ≡ false) ⊎ (bytes_eq k.resource t.resource ≡ false) → (asked_mode k.mode k.status ≢ t.mode) ⊎ (k.resource ≢ t.resource)
+    differs (inl h) = inl (same-mode-false (asked_mode k.mode k.status) t.mode h)
     differs (inr h) = inr (λ e. let z : false ≡ true = sym h ∙ (bytes_eq-Decides k.resource t.resource).1 e in cc)
 
-    go : ((same_mode k.mode t.mode && bytes_eq k.resource t.resource) ≡ true) ⊎ ((same_mode k.mode t.mode && bytes_eq k.resource t.resource) ≡ false) → IsAllowed p es (Request n t)
+    told : (b : Bool) → (same_mode (asked_mode k.mode k.status) t.mode && bytes_eq k.resource t.resource) ≡ b →
+        decision p es (Request n t) ≡ record { entries = es; replies = cond b (reply_by_status n t k.status) (Muddled n t.client t.attempt) ∷ [] }
+    told b h = is ∙ ap (λ v. record { entries = es; replies = cond v (reply_by_status n t k.status) (Muddled n t.client t.attempt) ∷ [] }) h
+
+    go : ((same_mode (asked_mode k.mode k.status) t.mode && bytes_eq k.resource t.resource) ≡ true) ⊎ ((same_mode (asked_mode k.mode k.status) t.mode && bytes_eq k.resource t.resource) ≡ false) → IsAllowed p es (Request n t)
     go (inl h) =
-        let parts = and_parts (same_mode k.mode t.mode) (bytes_eq k.resource t.resource) h in
-        by_status k.status refl (same-mode-true k.mode t.mode parts.0) ((bytes_eq-Decides k.resource t.resource).0 parts.1) h
+        let parts = and_parts (same_mode (asked_mode k.mode k.status) t.mode) (bytes_eq k.resource t.resource) h in
+        by_status k.status refl (same-mode-true (asked_mode k.mode k.status) t.mode parts.0) ((bytes_eq-Decides k.resource t.resource).0 parts.1) (told true h)
     go (inr h) = unchanged p es n t (Muddled n t.client t.attempt) w l c
-        (muddled k.mode k.resource k.status floor claim (differs (and_cases (same_mode k.mode t.mode) (bytes_eq k.resource t.resource) h)) refl (only-reply (Muddled n t.client t.attempt)))
-        (is ∙ ap (λ b. record { entries = es; replies = cond b (cond (is_holding k.status) (Grant n t) (Busy n t)) (Muddled n t.client t.attempt) ∷ [] }) h)
+        (muddled k.mode k.resource k.status floor claim (differs (and_cases (same_mode (asked_mode k.mode k.status) t.mode) (bytes_eq k.resource t.resource) h)) refl (only-reply (Muddled n t.client t.attempt)))
+        (told false h)
 
 -- the attempt is above the floor
 asked-above : (p : Problem) (es : List Entry) (n : ℕ) (t : Ticket) → IsWellFormed es → IsLawful (meaning p es) → IsCaused (meaning p es) →
@@ -344,6 +399,25 @@ released-allowed p es n c a w l =
       caused = settles.caused;
     }
 
+softened-allowed : (p : Problem) (es : List Entry) (n c a : ℕ) → IsWellFormed es → IsLawful (meaning p es) → IsAllowed p es (Soften n c a)
+softened-allowed p es n c a w l =
+    let before = softened c a es in
+    let softens = softened-softens p c a es w.attempts in
+    let well = softened-well c a es w in
+    let settles = settled-settles p before well.once (softens-lawful (meaning p es) (meaning p before) c a softens l) in
+    let settled_well = settled-well p before well in
+    record {
+      decides = record {
+        changed = meaning p before;
+        softens = softens;
+        settles = settles;
+        replies_are = replies-are n p before (settled p before) (message.Softened n c a) (settle-in-step p [] before) well.once settled_well.attempts settles;
+      };
+      well_formed = settled_well;
+      lawful = settles.lawful;
+      caused = settles.caused;
+    }
+
 none-for : {A : Type 0} → false ≡ true → A
 none-for h = absurd (let z : false ≡ true = h in cc)
 
@@ -356,6 +430,8 @@ decision-allowed p es (Busy k t) n for w l c = none-for for
 decision-allowed p es (Over k d a) n for w l c = none-for for
 decision-allowed p es (Done k d a) n for w l c = none-for for
 decision-allowed p es (Muddled k d a) n for w l c = none-for for
+decision-allowed p es (Soften k d a) n for w l c = softened-allowed p es k d a w l
+decision-allowed p es (message.Softened k d a) n for w l c = none-for for
 
 -- floors
 
@@ -394,6 +470,7 @@ asked-floor n s k t replies (over a e r) c = same-floor s t c e
 asked-floor n s k t replies (muddled m x v a b d e r) c = same-floor s t c e
 asked-floor n s k t replies (held a b e r) c = same-floor s t c e
 asked-floor n s k t replies (waited a b e r) c = same-floor s t c e
+asked-floor n s k t replies (Decision.softened a m b e r) c = same-floor s t c e
 asked-floor n s k t replies (granted new e f ends settles free puts r) c = taken-floor s e f t k Holding new ends settles puts c
 asked-floor n s k t replies (queued new e f ends settles cause puts r) c = taken-floor s e f t k Waiting new ends settles puts c
 
@@ -403,6 +480,24 @@ released-floor n s c a t replies r d =
     let h : (t.at d).floor ≡ ((r.ended).at d).floor = (r.settles).floors d in
     omega arith
 
+softens-floor : (a : ℕ) (before after : Standing) → SoftensAt a before after → after.floor ≡ before.floor
+softens-floor a before after (holder x now claim) = refl
+softens-floor a before after (waiter x now claim) = refl
+softens-floor a before after (neither other) = refl
+
+softened-floor : (n : ℕ) (s : Station) (c a : ℕ) (t : Station) (replies : List Message) → IsSoftened n s c a t replies → (d : ℕ) → (s.at d).floor ≤ (t.at d).floor
+softened-floor n s c a t replies r d =
+    let i : ((r.changed).at d).floor ≡ (s.at d).floor = go (cases_eq d c) in
+    let h : (t.at d).floor ≡ ((r.changed).at d).floor = (r.settles).floors d in
+    omega arith
+  where
+    at_c : ((r.changed).at c).floor ≡ (s.at c).floor
+    at_c = ap (λ (w : Standing). w.floor) r.softens.2.here ∙ softens-floor a (s.at c) r.softens.0 r.softens.1
+
+    go : (d ≡ c) ⊎ (d ≢ c) → ((r.changed).at d).floor ≡ (s.at d).floor
+    go (inl same) = subst (λ q. ((r.changed).at q).floor ≡ (s.at q).floor) (sym same) at_c
+    go (inr apart) = ap (λ (w : Standing). w.floor) (r.softens.2.others d apart)
+
 pub floors-never-fall : (s t : Station) (message : Message) (replies : List Message) → Decides s message t replies → (c : ℕ) → (s.at c).floor ≤ (t.at c).floor
 floors-never-fall s t (Request n k) replies d c = asked-floor n s k t replies d c
 floors-never-fall s t (Release n e a) replies d c = released-floor n s e a t replies d c
@@ -411,6 +506,8 @@ floors-never-fall s t (Busy n k) replies d c = absurd d
 floors-never-fall s t (Over n e a) replies d c = absurd d
 floors-never-fall s t (Done n e a) replies d c = absurd d
 floors-never-fall s t (Muddled n e a) replies d c = absurd d
+floors-never-fall s t (Soften n e a) replies d c = softened-floor n s e a t replies d c
+floors-never-fall s t (message.Softened n e a) replies d c = absurd d
 
 pub ended-stays : (s t : Station) (message : Message) (replies : List Message) → Decides s message t replies → (c a : ℕ) → IsEnded s c a → IsEnded t c a
 ended-stays s t message replies d c a h = omega (arith, floors-never-fall s t message replies d c)

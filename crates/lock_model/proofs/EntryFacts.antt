@@ -1,6 +1,6 @@
 -- Looking up entries: what a list of entries, each client once, says of its clients.
-use Rattle.std.proofs.Common.{◌≡◌, ◌≢◌, ℕ, ◌==◌, ◌⊎◌, Bool, true, false, ◌||◌, cond, List, [], ◌∷◌, ◌++◌, Option, Some, None, refl, sym, ◌∙◌, ap, inl, inr}
-use Rattle.std.specs.List.{list_any}
+use Rattle.std.proofs.Common.{◌≡◌, ◌≢◌, ℕ, ◌==◌, ◌⊎◌, Bool, true, false, ◌||◌, cond, List, [], ◌∷◌, ◌++◌, Option, Some, None, refl, sym, ◌∙◌, ap, subst, inl, inr}
+use Rattle.std.specs.List.{AllByRecursion, list_any}
 use Rattle.std.proofs.lemmas.Bool.{eqb-true, eq-eqb, cases_Bool, or_cases, or_parts, or_left, or_right}
 use Rattle.std.proofs.lemmas.Bool.Decides.{eqb_tells}
 use Rattle.lock_messages.specs.declared.tickets.Mode.{Mode}
@@ -121,6 +121,15 @@ entry_of-found (x ∷ es) c e h = go (cases_Bool (is_of c x)) (entry_of-found es
         let same : x ≡ e = let s : Some x ≡ Some e = sym (ap (λ b. cond b (Some x) (entry_of es c)) t) ∙ h in cc in
         (inl (sym same), ap (λ (y : Entry). y.client) (sym same) ∙ eqb-true x.client c t)
     go (inr f) ih = let r = ih (sym (ap (λ b. cond b (Some x) (entry_of es c)) f) ∙ h) in (inr r.0, r.1)
+
+-- and is as all are
+pub all-at : (P : Entry → Type 0) (es : List Entry) (c : ℕ) (e : Entry) → AllByRecursion P es → entry_of es c ≡ Some e → P e
+all-at P es c e a h = go es a (entry_of-found es c e h).0
+  where
+    go : (xs : List Entry) → AllByRecursion P xs → Among e xs → P e
+    go [] a m = absurd m
+    go (x ∷ xs) a (inl s) = subst P (sym s) a.0
+    go (x ∷ xs) a (inr m) = go xs a.1 m
 
 -- one of the list is found by its client
 pub entry_of-among : (es : List Entry) (e : Entry) → EachOnce es → Among e es → entry_of es e.client ≡ Some e

@@ -14,7 +14,7 @@ use Rattle.lock_messages.specs.declared.tickets.Mode.TheVariants.{Read, Write}
 use Rattle.lock_model.specs.declared.entries.Entry.{Entry}
 use Rattle.lock_model.specs.declared.entries.Live.{Live}
 use Rattle.lock_model.specs.declared.entries.Status.{Status}
-use Rattle.lock_model.specs.declared.entries.Status.TheVariants.{Waiting, Holding}
+use Rattle.lock_model.specs.declared.entries.Status.TheVariants.{Waiting, Holding, Softened}
 use Rattle.lock_model.specs.ExactDecisions.{same_mode, same_status, same_live, same_entry, same_entries}
 
 mode-decides : (a b : Mode) → Decides (sameb mode_type a b) (a ≡ b)
@@ -26,8 +26,13 @@ mode-decides Write Write = (λ h. refl, λ h. refl)
 status-decides : (a b : Status) → Decides (sameb status_type a b) (a ≡ b)
 status-decides Waiting Waiting = (λ h. refl, λ h. refl)
 status-decides Waiting Holding = (λ h. cc, λ h. cc)
+status-decides Waiting Softened = (λ h. cc, λ h. cc)
 status-decides Holding Waiting = (λ h. cc, λ h. cc)
 status-decides Holding Holding = (λ h. refl, λ h. refl)
+status-decides Holding Softened = (λ h. cc, λ h. cc)
+status-decides Softened Waiting = (λ h. cc, λ h. cc)
+status-decides Softened Holding = (λ h. cc, λ h. cc)
+status-decides Softened Softened = (λ h. refl, λ h. refl)
 
 abbrev pub live_test : Live → Live → Bool
 live_test x y = (x.attempt == y.attempt) && (sameb mode_type x.mode y.mode && (bytes_eq x.resource y.resource && sameb status_type x.status y.status))
@@ -89,8 +94,13 @@ mode-same Write Write = refl
 status-same : (a b : Status) → sameb status_type a b ≡ same_status a b
 status-same Waiting Waiting = refl
 status-same Waiting Holding = refl
+status-same Waiting Softened = refl
 status-same Holding Waiting = refl
 status-same Holding Holding = refl
+status-same Holding Softened = refl
+status-same Softened Waiting = refl
+status-same Softened Holding = refl
+status-same Softened Softened = refl
 
 live-same : (x y : Live) → live_test x y ≡ same_live x y
 live-same x y =

@@ -15,7 +15,7 @@ use Rattle.lock_model.specs.Stations.{Has, Station, Holds, Waits, Becomes, Settl
 use Rattle.lock_model.specs.Decisions.{Among, IsOnly, TellsGrant, AreReplies}
 use Rattle.lock_model.specs.ExactStations.{is_of, knows, entry_of, standing_of, claim_of, meaning, EachOnce, IsAboveFloor, is_waiting, is_holding, if_live, settled_entry, settle, waits_in, holds_in}
 use Rattle.lock_model.specs.ExactDecisions.{grant_of, told, grants}
-use Rattle.lock_model.proofs.EntryFacts.{any-none, entry_of-found, has-found, if_live-found}
+use Rattle.lock_model.proofs.EntryFacts.{any-none, entry_of-found, all-at, has-found, if_live-found}
 use Rattle.lock_model.proofs.StationFacts.{not-both}
 use Rattle.lock_model.proofs.SettlingFacts.{waiting-true, holding-true}
 
@@ -138,26 +138,19 @@ grants-complete n (e ∷ es) (f ∷ fs) r s h = go (grants-complete n es fs r s.
       told_so = h.told_so;
     }))
 
--- every entry that is found keeps its attempt above its floor
-pub attempt-at : (es : List Entry) (c : ℕ) (e : Entry) → AllByRecursion IsAboveFloor es → entry_of es c ≡ Some e → IsAboveFloor e
-attempt-at es c e a h = go es a (entry_of-found es c e h).0
-  where
-    go : (xs : List Entry) → AllByRecursion IsAboveFloor xs → Among e xs → IsAboveFloor e
-    go [] a m = absurd m
-    go (x ∷ xs) a (inl s) = subst IsAboveFloor (sym s) a.0
-    go (x ∷ xs) a (inr m) = go xs a.1 m
-
 -- who waited and holds became a holder
 new-becomes : (s t : Station) → Settles s t → (c : ℕ) (m w : Mode) (x y : List ℕ) → Waits s c w y → Holds t c m x → Becomes s t c m x
 new-becomes s t k c m w x y wait hold = go (k.claims c)
   where
     go : ((t.at c).claim ≡ (s.at c).claim) ⊎ ((v : Mode) × (z : List ℕ) × Becomes s t c v z) → Becomes s t c m x
-    go (inl e) = absurd (not-both (s.at c).claim w m y x wait (sym e ∙ hold))
+    go (inl e) = absurd (not-both s c w m y x wait (hold.0, hold.1, sym e ∙ hold.2))
     go (inr b) =
-        let same : Has b.0 b.1 Holding ≡ Has m x Holding = sym b.2.1 ∙ hold in
+        let same : Has b.0 b.1 Holding ≡ Has m x hold.0 = sym b.2.1 ∙ hold.2 in
         let mode : b.0 ≡ m = cc in
-        let resource : b.1 ≡ x = cc in
-        (b.2.0 ∙ ap (λ v. Has v b.1 Waiting) mode ∙ ap (λ z. Has m z Waiting) resource, hold)
+        let resource : b.1 ≡ x = cc in (
+          b.2.0 ∙ ap (λ v. Has v b.1 Waiting) mode ∙ ap (λ z. Has m z Waiting) resource,
+          b.2.1 ∙ ap (λ v. Has v b.1 Holding) mode ∙ ap (λ z. Has m z Holding) resource,
+        )
 
 live-claim : (o : Option Live) (l : Live) → o ≡ Some l → (s : Status) → l.status ≡ s → claim_of o ≡ Has l.mode l.resource s
 live-claim o l h s k = ap claim_of h ∙ ap (λ v. Has l.mode l.resource v) k
@@ -167,8 +160,9 @@ grant-told n p es fs r a k h =
     let w = if_live-found (λ l. is_waiting l.status) (h.before).live h.waited in
     let l = if_live-found (λ l. is_holding l.status) (h.after).live h.holds in
     let wait : Waits (meaning p es) h.client (w.0).mode (w.0).resource = ap (λ o. (standing_of o).claim) h.found_before ∙ live-claim (h.before).live w.0 w.1 Waiting (waiting-true (w.0).status w.2) in
-    let hold : Holds (meaning p fs) h.client (l.0).mode (l.0).resource = ap (λ o. (standing_of o).claim) h.found_after ∙ live-claim (h.after).live l.0 l.1 Holding (holding-true (l.0).status l.2) in
-    let attempt : (l.0).attempt ≡ (h.after).floor + 1 = above (h.after).live l.1 (attempt-at fs h.client h.after a h.found_after) in
+    let hold : Holds (meaning p fs) h.client (l.0).mode (l.0).resource =
+    ((l.0).status, holding-true (l.0).status l.2, ap (λ o. (standing_of o).claim) h.found_after ∙ live-claim (h.after).live l.0 l.1 (l.0).status refl) in
+    let attempt : (l.0).attempt ≡ (h.after).floor + 1 = above (h.after).live l.1 (all-at IsAboveFloor fs h.client h.after a h.found_after) in
     let client : (h.after).client ≡ h.client = (entry_of-found fs h.client h.after h.found_after).1 in
     let floor : (h.after).floor ≡ (standing_of (entry_of fs h.client)).floor = sym (ap (λ o. (standing_of o).floor) h.found_after) in
     let one : r ≡ Grant n (record { client = (h.after).client; attempt = (l.0).attempt; mode = (l.0).mode; resource = (l.0).resource }) = only (h.after).live l.1 h.told_so in (
@@ -194,7 +188,7 @@ pub told-grant : (n : ℕ) (p : Problem) (es fs : List Entry) (r : Message) → 
 told-grant n p es fs r a h =
     let w = has-found es h.0 h.1 h.2 Waiting h.3.0 in
     let l = has-found fs h.0 h.1 h.2 Holding h.3.1 in
-    let attempt : (l.live).attempt ≡ (l.entry).floor + 1 = subst (λ v. IfSome v (λ k. k.attempt ≡ (l.entry).floor + 1)) l.live_is (attempt-at fs h.0 l.entry a l.entry_is) in
+    let attempt : (l.live).attempt ≡ (l.entry).floor + 1 = subst (λ v. IfSome v (λ k. k.attempt ≡ (l.entry).floor + 1)) l.live_is (all-at IsAboveFloor fs h.0 l.entry a l.entry_is) in
     let client : (l.entry).client ≡ h.0 = (entry_of-found fs h.0 l.entry l.entry_is).1 in
     let floor : (standing_of (entry_of fs h.0)).floor ≡ (l.entry).floor = ap (λ o. (standing_of o).floor) l.entry_is in
     let same : r ≡ Grant n (record { client = (l.entry).client; attempt = (l.live).attempt; mode = (l.live).mode; resource = (l.live).resource }) =

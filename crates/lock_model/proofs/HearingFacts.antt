@@ -10,11 +10,11 @@ use Rattle.lock_messages.specs.declared.tickets.Ticket.{Ticket}
 use Rattle.lock_messages.specs.declared.messages.Message.{Message}
 use Rattle.lock_messages.specs.declared.messages.Message.TheVariants as message
 use Rattle.lock_model.specs.declared.hearing.Heard.{Heard}
-use Rattle.lock_model.specs.declared.hearing.Heard.TheVariants.{Counted, Known, Busy, Done, NotMine}
+use Rattle.lock_model.specs.declared.hearing.Heard.TheVariants.{Counted, Known, Busy, Done, Softened, NotMine}
 use Rattle.lock_model.specs.Ballots.{IsNodeOf}
-use Rattle.lock_model.specs.Hearing.{HearsOfTicket, HearsAtRest}
+use Rattle.lock_model.specs.Hearing.{HearsOfTicket, HearsSoftened, HearsAtRest}
 use Rattle.lock_model.specs.ExactDecisions.{same_mode}
-use Rattle.lock_model.specs.ExactHearing.{is_node_of, same_ticket, heard_of_ticket, heard_at_rest}
+use Rattle.lock_model.specs.ExactHearing.{is_node_of, same_ticket, heard_of_ticket, heard_softened, heard_at_rest}
 
 node-from : (nodes : ℕ) (n : ℕ) → IsNodeOf nodes n → is_node_of nodes n ≡ true
 node-from nodes n h = and_from (leb 1 n) (leb n nodes) (le-leb 1 n h.0) (le-leb n nodes h.1)
@@ -81,6 +81,8 @@ ticket-sound nodes t granted (message.Release n c a) = λ k at. (λ e. cc, λ e.
 ticket-sound nodes t granted (message.Over n c a) = λ k at. (λ e. cc, λ e. cc)
 ticket-sound nodes t granted (message.Done n c a) = λ k at. (λ e. cc, λ e. cc)
 ticket-sound nodes t granted (message.Muddled n c a) = λ k at. (λ e. cc, λ e. cc)
+ticket-sound nodes t granted (message.Soften n c a) = λ k at. (λ e. cc, λ e. cc)
+ticket-sound nodes t granted (message.Softened n c a) = λ k at. (λ e. cc, λ e. cc)
 ticket-sound nodes t granted (message.Grant n u) = go (is_node_of nodes n && same_ticket u t) refl (granted n) refl
   where
     go : (v : Bool) → (is_node_of nodes n && same_ticket u t) ≡ v → (g : Bool) → granted n ≡ g → HearsOfTicket nodes t granted (message.Grant n u) (cond v (cond g Known Counted) NotMine)
@@ -101,11 +103,14 @@ ticket-only nodes t granted m Known h =
     sym (ap (heard_of_ticket nodes t granted) h.2.1 ∙ ap (λ v. cond v (cond (granted h.0) Known Counted) NotMine) (grant-test nodes h.0 t h.1) ∙ ap (λ g. cond g Known Counted) h.2.0)
 ticket-only nodes t granted m Busy h = sym (ap (heard_of_ticket nodes t granted) h.2 ∙ ap (λ v. cond v Busy NotMine) (grant-test nodes h.0 t h.1))
 ticket-only nodes t granted m Done h = absurd h
+ticket-only nodes t granted m Softened h = absurd h
 ticket-only nodes t granted (message.Request n u) NotMine h = refl
 ticket-only nodes t granted (message.Release n c a) NotMine h = refl
 ticket-only nodes t granted (message.Over n c a) NotMine h = refl
 ticket-only nodes t granted (message.Done n c a) NotMine h = refl
 ticket-only nodes t granted (message.Muddled n c a) NotMine h = refl
+ticket-only nodes t granted (message.Soften n c a) NotMine h = refl
+ticket-only nodes t granted (message.Softened n c a) NotMine h = refl
 ticket-only nodes t granted (message.Grant n u) NotMine h = go (is_node_of nodes n && same_ticket u t) refl
   where
     go : (v : Bool) → (is_node_of nodes n && same_ticket u t) ≡ v → NotMine ≡ cond v (cond (granted n) Known Counted) NotMine
@@ -120,14 +125,75 @@ ticket-only nodes t granted (message.Busy n u) NotMine h = go (is_node_of nodes 
 pub of-ticket : (nodes : ℕ) (t : Ticket) (granted : ℕ → Bool) (m : Message) (heard : Heard) → HearsOfTicket nodes t granted m heard ↔ (heard ≡ heard_of_ticket nodes t granted m)
 of-ticket nodes t granted m heard = (ticket-only nodes t granted m heard, λ e. subst (HearsOfTicket nodes t granted m) (sym e) (ticket-sound nodes t granted m))
 
-done-test : (nodes : ℕ) (n c a : ℕ) → IsNodeOf nodes n → (is_node_of nodes n && ((c == c) && (a == a))) ≡ true
-done-test nodes n c a h = and_from (is_node_of nodes n) ((c == c) && (a == a)) (node-from nodes n h) (and_from (c == c) (a == a) ((Decides-eqb c c).1 refl) ((Decides-eqb a a).1 refl))
+-- from a node of the list, about this client and attempt
 
-done-to : (nodes : ℕ) (n c d a e : ℕ) → (is_node_of nodes n && ((d == c) && (e == a))) ≡ true → IsNodeOf nodes n × (message.Done n d e ≡ message.Done n c a)
-done-to nodes n c d a e h =
+about-test : (nodes : ℕ) (n c a : ℕ) → IsNodeOf nodes n → (is_node_of nodes n && ((c == c) && (a == a))) ≡ true
+about-test nodes n c a h = and_from (is_node_of nodes n) ((c == c) && (a == a)) (node-from nodes n h) (and_from (c == c) (a == a) ((Decides-eqb c c).1 refl) ((Decides-eqb a a).1 refl))
+
+record About (nodes n c d a e : ℕ) : Type 0 where
+  pub node : IsNodeOf nodes n
+  pub client : d ≡ c
+  pub attempt : e ≡ a
+
+about-to : (nodes : ℕ) (n c d a e : ℕ) → (is_node_of nodes n && ((d == c) && (e == a))) ≡ true → About nodes n c d a e
+about-to nodes n c d a e h =
     let p = and_parts (is_node_of nodes n) ((d == c) && (e == a)) h in
     let q = and_parts (d == c) (e == a) p.1 in
-    (node-to nodes n p.0, ap (λ k. message.Done n k e) ((Decides-eqb d c).0 q.0) ∙ ap (message.Done n c) ((Decides-eqb e a).0 q.1))
+    record { node = node-to nodes n p.0; client = (Decides-eqb d c).0 q.0; attempt = (Decides-eqb e a).0 q.1 }
+
+about-from : (nodes : ℕ) (n c d a e : ℕ) → About nodes n c d a e → (is_node_of nodes n && ((d == c) && (e == a))) ≡ true
+about-from nodes n c d a e h =
+    ap (λ v. is_node_of nodes n && ((v == c) && (e == a))) h.client ∙ ap (λ v. is_node_of nodes n && ((c == c) && (v == a))) h.attempt ∙ about-test nodes n c a h.node
+
+-- then a message made of these three is the one that is waited for
+said-to : (make : ℕ → ℕ → ℕ → Message) (nodes : ℕ) (n c d a e : ℕ) → About nodes n c d a e → make n d e ≡ make n c a
+said-to make nodes n c d a e h = ap (λ k. make n k e) h.client ∙ ap (make n c) h.attempt
+
+-- ---- once it has softened
+
+softened-sound : (nodes : ℕ) (c a : ℕ) (m : Message) → HearsSoftened nodes c a m (heard_softened nodes c a m)
+softened-sound nodes c a (message.Request n u) = λ k at e. cc
+softened-sound nodes c a (message.Release n d e) = λ k at q. cc
+softened-sound nodes c a (message.Grant n u) = λ k at e. cc
+softened-sound nodes c a (message.Busy n u) = λ k at e. cc
+softened-sound nodes c a (message.Over n d e) = λ k at q. cc
+softened-sound nodes c a (message.Done n d e) = λ k at q. cc
+softened-sound nodes c a (message.Muddled n d e) = λ k at q. cc
+softened-sound nodes c a (message.Soften n d e) = λ k at q. cc
+softened-sound nodes c a (message.Softened n d e) = go (is_node_of nodes n && ((d == c) && (e == a))) refl
+  where
+    go : (v : Bool) → (is_node_of nodes n && ((d == c) && (e == a))) ≡ v → HearsSoftened nodes c a (message.Softened n d e) (cond v Softened NotMine)
+    go true h = let r = about-to nodes n c d a e h in (n, r.node, said-to message.Softened nodes n c d a e r)
+    go false h = λ k at q.
+        let node : k ≡ n = cc in
+        let client : d ≡ c = cc in
+        let attempt : e ≡ a = cc in
+        let z : false ≡ true = sym h ∙ about-from nodes n c d a e (record { node = subst (IsNodeOf nodes) node at; client = client; attempt = attempt }) in cc
+
+softened-only : (nodes : ℕ) (c a : ℕ) (m : Message) (heard : Heard) → HearsSoftened nodes c a m heard → heard ≡ heard_softened nodes c a m
+softened-only nodes c a m Counted h = absurd h
+softened-only nodes c a m Known h = absurd h
+softened-only nodes c a m Busy h = absurd h
+softened-only nodes c a m Done h = absurd h
+softened-only nodes c a m Softened h = sym (ap (heard_softened nodes c a) h.2 ∙ ap (λ v. cond v Softened NotMine) (about-test nodes h.0 c a h.1))
+softened-only nodes c a (message.Request n u) NotMine h = refl
+softened-only nodes c a (message.Release n d e) NotMine h = refl
+softened-only nodes c a (message.Grant n u) NotMine h = refl
+softened-only nodes c a (message.Busy n u) NotMine h = refl
+softened-only nodes c a (message.Over n d e) NotMine h = refl
+softened-only nodes c a (message.Done n d e) NotMine h = refl
+softened-only nodes c a (message.Muddled n d e) NotMine h = refl
+softened-only nodes c a (message.Soften n d e) NotMine h = refl
+softened-only nodes c a (message.Softened n d e) NotMine h = go (is_node_of nodes n && ((d == c) && (e == a))) refl
+  where
+    go : (v : Bool) → (is_node_of nodes n && ((d == c) && (e == a))) ≡ v → NotMine ≡ cond v Softened NotMine
+    go false k = refl
+    go true k = let r = about-to nodes n c d a e k in absurd (h n r.node (said-to message.Softened nodes n c d a e r))
+
+pub once-softened : (nodes : ℕ) (c a : ℕ) (m : Message) (heard : Heard) → HearsSoftened nodes c a m heard ↔ (heard ≡ heard_softened nodes c a m)
+once-softened nodes c a m heard = (softened-only nodes c a m heard, λ e. subst (HearsSoftened nodes c a m) (sym e) (softened-sound nodes c a m))
+
+-- ---- at rest
 
 rest-sound : (nodes : ℕ) (c a : ℕ) (m : Message) → HearsAtRest nodes c a m (heard_at_rest nodes c a m)
 rest-sound nodes c a (message.Request n u) = λ k at e. cc
@@ -136,36 +202,37 @@ rest-sound nodes c a (message.Grant n u) = λ k at e. cc
 rest-sound nodes c a (message.Busy n u) = λ k at e. cc
 rest-sound nodes c a (message.Over n d e) = λ k at q. cc
 rest-sound nodes c a (message.Muddled n d e) = λ k at q. cc
+rest-sound nodes c a (message.Soften n d e) = λ k at q. cc
+rest-sound nodes c a (message.Softened n d e) = λ k at q. cc
 rest-sound nodes c a (message.Done n d e) = go (is_node_of nodes n && ((d == c) && (e == a))) refl
   where
     go : (v : Bool) → (is_node_of nodes n && ((d == c) && (e == a))) ≡ v → HearsAtRest nodes c a (message.Done n d e) (cond v Done NotMine)
-    go true h = let r = done-to nodes n c d a e h in (n, r.0, r.1)
+    go true h = let r = about-to nodes n c d a e h in (n, r.node, said-to message.Done nodes n c d a e r)
     go false h = λ k at q.
         let node : k ≡ n = cc in
-        let client : c ≡ d = cc in
-        let attempt : a ≡ e = cc in
-        let agrees : (is_node_of nodes n && ((d == c) && (e == a))) ≡ true =
-        subst (λ v. (is_node_of nodes n && ((d == c) && (v == a))) ≡ true) attempt
-        (subst (λ v. (is_node_of nodes n && ((v == c) && (a == a))) ≡ true) client
-        (subst (λ v. (is_node_of nodes v && ((c == c) && (a == a))) ≡ true) node (done-test nodes k c a at))) in
-        let z : false ≡ true = sym h ∙ agrees in cc
+        let client : d ≡ c = cc in
+        let attempt : e ≡ a = cc in
+        let z : false ≡ true = sym h ∙ about-from nodes n c d a e (record { node = subst (IsNodeOf nodes) node at; client = client; attempt = attempt }) in cc
 
 rest-only : (nodes : ℕ) (c a : ℕ) (m : Message) (heard : Heard) → HearsAtRest nodes c a m heard → heard ≡ heard_at_rest nodes c a m
 rest-only nodes c a m Counted h = absurd h
 rest-only nodes c a m Known h = absurd h
 rest-only nodes c a m Busy h = absurd h
-rest-only nodes c a m Done h = sym (ap (heard_at_rest nodes c a) h.2 ∙ ap (λ v. cond v Done NotMine) (done-test nodes h.0 c a h.1))
+rest-only nodes c a m Softened h = absurd h
+rest-only nodes c a m Done h = sym (ap (heard_at_rest nodes c a) h.2 ∙ ap (λ v. cond v Done NotMine) (about-test nodes h.0 c a h.1))
 rest-only nodes c a (message.Request n u) NotMine h = refl
 rest-only nodes c a (message.Release n d e) NotMine h = refl
 rest-only nodes c a (message.Grant n u) NotMine h = refl
 rest-only nodes c a (message.Busy n u) NotMine h = refl
 rest-only nodes c a (message.Over n d e) NotMine h = refl
 rest-only nodes c a (message.Muddled n d e) NotMine h = refl
+rest-only nodes c a (message.Soften n d e) NotMine h = refl
+rest-only nodes c a (message.Softened n d e) NotMine h = refl
 rest-only nodes c a (message.Done n d e) NotMine h = go (is_node_of nodes n && ((d == c) && (e == a))) refl
   where
     go : (v : Bool) → (is_node_of nodes n && ((d == c) && (e == a))) ≡ v → NotMine ≡ cond v Done NotMine
     go false k = refl
-    go true k = let r = done-to nodes n c d a e k in absurd (h n r.0 r.1)
+    go true k = let r = about-to nodes n c d a e k in absurd (h n r.node (said-to message.Done nodes n c d a e r))
 
 pub at-rest : (nodes : ℕ) (c a : ℕ) (m : Message) (heard : Heard) → HearsAtRest nodes c a m heard ↔ (heard ≡ heard_at_rest nodes c a m)
 at-rest nodes c a m heard = (rest-only nodes c a m heard, λ e. subst (HearsAtRest nodes c a m) (sym e) (rest-sound nodes c a m))

@@ -6,14 +6,15 @@ use Rattle.lock_messages.specs.declared.tickets.Mode.{Mode}
 use Rattle.lock_messages.specs.declared.tickets.Mode.TheVariants.{Write}
 use Rattle.lock_model.specs.declared.entries.Entry.{Entry}
 use Rattle.lock_model.specs.declared.entries.Live.{Live}
-use Rattle.lock_model.specs.declared.entries.Status.TheVariants.{Waiting, Holding}
+use Rattle.lock_model.specs.declared.entries.Status.{Status}
+use Rattle.lock_model.specs.declared.entries.Status.TheVariants.{Waiting}
 use Rattle.lock_model.specs.declared.problems.Problem.{Problem}
-use Rattle.lock_model.specs.Stations.{Holds, Waits, Cause, IsLawful, IsCaused}
+use Rattle.lock_model.specs.Stations.{IsHolder, Holds, Waits, Cause, IsLawful, IsCaused}
 use Rattle.lock_model.specs.Decisions.{Among}
 use Rattle.lock_model.specs.ExactStations.{is_of, meaning, EachOnce, is_write, is_waiting, is_holding, if_live, holds, admits}
 use Rattle.lock_model.specs.Judgement.{is_only_holder, leaves_alone, is_lawful, has_cause, is_caused}
 use Rattle.lock_model.proofs.EntryFacts.{entry_of-found, entry_of-among, Found, has-found, found-has}
-use Rattle.lock_model.proofs.SettlingFacts.{waiting-true, holding-true, write-true, holds-from, refused-cause, admitted-free}
+use Rattle.lock_model.proofs.SettlingFacts.{waiting-true, holding-true, holder-holding, write-true, holds-from, refused-cause, admitted-free}
 use Rattle.std.proofs.lemmas.Slice.Eq.{bytes_eq-Decides}
 use Rattle.std.specs.Str.{bytes_eq}
 
@@ -41,15 +42,15 @@ is-not false h = refl
 
 -- ---- lawful
 
-writer-alone : (p : Problem) (es : List Entry) → is_lawful es ≡ true → (c d : ℕ) (m : Mode) (x : List ℕ) → Found es c Write x Holding → Found es d m x Holding → d ≡ c
-writer-alone p es all c d m x f g =
+writer-alone : (p : Problem) (es : List Entry) → is_lawful es ≡ true → (c d : ℕ) (m : Mode) (x : List ℕ) (v w : Status) → IsHolder v → Found es c Write x v → IsHolder w → Found es d m x w → d ≡ c
+writer-alone p es all c d m x v w i f j g =
     let a = entry_of-found es c f.entry f.entry_is in
     let b = entry_of-found es d g.entry g.entry_is in
     let mine : leaves_alone es f.entry.client (Some f.live) ≡ true = ap (leaves_alone es f.entry.client) (sym f.live_is) ∙ all-of (λ e. leaves_alone es e.client e.live) es f.entry all a.0 in
-    let writes : (is_write f.live.mode && is_holding f.live.status) ≡ true = and_from (is_write f.live.mode) (is_holding f.live.status) (ap is_write f.mode_is) (ap is_holding f.status_is) in
+    let writes : (is_write f.live.mode && is_holding f.live.status) ≡ true = and_from (is_write f.live.mode) (is_holding f.live.status) (ap is_write f.mode_is) (holder-holding f.live.status (subst IsHolder (sym f.status_is) i)) in
     let only : is_only_holder es f.entry.client f.live.resource ≡ true = second-of (is_write f.live.mode && is_holding f.live.status) (is_only_holder es f.entry.client f.live.resource) (ap not writes) mine in
     let other : (is_of f.entry.client g.entry || not (if_live (holds f.live.resource) g.entry.live)) ≡ true = all-of (λ e. is_of f.entry.client e || not (if_live (holds f.live.resource) e.live)) es g.entry only b.0 in
-    let held : if_live (holds f.live.resource) g.entry.live ≡ true = ap (if_live (holds f.live.resource)) g.live_is ∙ holds-from f.live.resource g.live g.status_is (g.resource_is ∙ sym f.resource_is) in
+    let held : if_live (holds f.live.resource) g.entry.live ≡ true = ap (if_live (holds f.live.resource)) g.live_is ∙ holds-from f.live.resource g.live (subst IsHolder (sym g.status_is) j) (g.resource_is ∙ sym f.resource_is) in
     sym b.1 ∙ eqb-true g.entry.client f.entry.client (first-of (is_of f.entry.client g.entry) (if_live (holds f.live.resource) g.entry.live) held other) ∙ a.1
 
 lawful-from : (p : Problem) (es : List Entry) → EachOnce es → IsLawful (meaning p es) → is_lawful es ≡ true
@@ -65,9 +66,11 @@ lawful-from p es o l = all-from (λ e. leaves_alone es e.client e.live) es (λ e
         go (inl h) =
             let parts = and_parts (is_holding j.status) (bytes_eq j.resource k.resource) h in
             let wparts = and_parts (is_write k.mode) (is_holding k.status) w in
-            let mine : Holds (meaning p es) e.client Write k.resource = found-has es e.client Write k.resource Holding (record { entry = e; live = k; entry_is = entry_of-among es e o m; live_is = s; mode_is = write-true k.mode wparts.0; resource_is = refl; status_is = holding-true k.status wparts.1 }) in
-            let other : Holds (meaning p es) f.client j.mode k.resource = found-has es f.client j.mode k.resource Holding (record { entry = f; live = j; entry_is = entry_of-among es f o n; live_is = t; mode_is = refl; resource_is = (bytes_eq-Decides j.resource k.resource).0 parts.1; status_is = holding-true j.status parts.0 }) in
-            or_left (is_of e.client f) (not (holds k.resource j)) (eq-eqb f.client e.client (l.alone e.client f.client j.mode k.resource mine other))
+            let mine : Found es e.client Write k.resource k.status = record { entry = e; live = k; entry_is = entry_of-among es e o m; live_is = s; mode_is = write-true k.mode wparts.0; resource_is = refl; status_is = refl } in
+            let other : Found es f.client j.mode k.resource j.status = record { entry = f; live = j; entry_is = entry_of-among es f o n; live_is = t; mode_is = refl; resource_is = (bytes_eq-Decides j.resource k.resource).0 parts.1; status_is = refl } in
+            let holder : Holds (meaning p es) e.client Write k.resource = (k.status, holding-true k.status wparts.1, found-has es e.client Write k.resource k.status mine) in
+            let beside_it : Holds (meaning p es) f.client j.mode k.resource = (j.status, holding-true j.status parts.0, found-has es f.client j.mode k.resource j.status other) in
+            or_left (is_of e.client f) (not (holds k.resource j)) (eq-eqb f.client e.client (l.alone e.client f.client j.mode k.resource holder beside_it))
 
     at : (e : Entry) → Among e es → (o : Option Live) → e.live ≡ o → leaves_alone es e.client o ≡ true
     at e m None s = refl
@@ -80,7 +83,7 @@ lawful-from p es o l = all-from (λ e. leaves_alone es e.client e.live) es (λ e
 
 pub lawful-iff : (p : Problem) (es : List Entry) → EachOnce es → IsTrue (is_lawful es) ↔ IsLawful (meaning p es)
 lawful-iff p es o = (
-  λ h. record { alone = λ c d m x hc hd. writer-alone p es h c d m x (has-found es c Write x Holding hc) (has-found es d m x Holding hd) },
+  λ h. record { alone = λ c d m x hc hd. writer-alone p es h c d m x hc.0 hd.0 hc.1 (has-found es c Write x hc.0 hc.2) hd.1 (has-found es d m x hd.0 hd.2) },
   lawful-from p es o,
 )
 

@@ -2,7 +2,7 @@
 use Rattle.std.proofs.Common.{◌≡◌, ℕ, ◌⊎◌, Bool, true, false, not, ◌&&◌, cond, List, [], ◌∷◌, ◌++◌, Option, Some, None, refl, sym, ◌∙◌, ap, subst, inl, inr}
 use Rattle.std.specs.Option.{option_map}
 use Rattle.std.specs.Str.{bytes_eq}
-use Rattle.std.proofs.lemmas.Bool.{eq-eqb, and_parts, and_cases, and_from, not-false}
+use Rattle.std.proofs.lemmas.Bool.{eq-eqb, cases_Bool, and_parts, and_cases, and_from, not-false}
 use Rattle.std.proofs.lemmas.List.{append_assoc}
 use Rattle.std.proofs.lemmas.Slice.Eq.{bytes_eq-Decides}
 use Rattle.lock_messages.specs.declared.tickets.Mode.{Mode}
@@ -10,10 +10,10 @@ use Rattle.lock_messages.specs.declared.tickets.Mode.TheVariants.{Read, Write}
 use Rattle.lock_model.specs.declared.entries.Entry.{Entry}
 use Rattle.lock_model.specs.declared.entries.Live.{Live}
 use Rattle.lock_model.specs.declared.entries.Status.{Status}
-use Rattle.lock_model.specs.declared.entries.Status.TheVariants.{Waiting, Holding}
+use Rattle.lock_model.specs.declared.entries.Status.TheVariants.{Waiting, Holding, Softened}
 use Rattle.lock_model.specs.declared.problems.Problem.{Problem}
 use Rattle.lock_model.specs.declared.problems.Problem.TheVariants.{First, Second}
-use Rattle.lock_model.specs.Stations.{Free, Has, Standing, Holds, Waits, IsLawful, Cause, Settles}
+use Rattle.lock_model.specs.Stations.{Free, Has, Standing, IsHolder, Holds, Waits, IsLawful, Cause, IsCaused, Settles}
 use Rattle.lock_model.specs.ExactStations.{is_of, knows, entry_of, claim_of, standing_of, meaning, EachOnce, is_write, is_waiting, is_holding, any_live, holds, writer_holds, writer_waits, admits, promoted, settled_live, settled_entry, settle, settled}
 use Rattle.lock_model.proofs.EntryFacts.{Middle, once-middle, once-same, entry_of-here, entry_of-other, entry_of-found, has-found, found-has, any-of, any_live-found, any_live-of}
 use Rattle.lock_model.proofs.StationFacts as Station
@@ -24,17 +24,24 @@ use Rattle.lock_model.proofs.StationFacts.{Turn, stays, Processed, none-processe
 pub waiting-true : (s : Status) → is_waiting s ≡ true → s ≡ Waiting
 waiting-true Waiting h = refl
 waiting-true Holding h = cc
+waiting-true Softened h = cc
 
-pub holding-true : (s : Status) → is_holding s ≡ true → s ≡ Holding
+pub holding-true : (s : Status) → is_holding s ≡ true → IsHolder s
 holding-true Waiting h = cc
-holding-true Holding h = refl
+holding-true Holding h = tt
+holding-true Softened h = tt
+
+pub holder-holding : (s : Status) → IsHolder s → is_holding s ≡ true
+holder-holding Waiting h = absurd h
+holder-holding Holding h = refl
+holder-holding Softened h = refl
 
 pub write-true : (m : Mode) → is_write m ≡ true → m ≡ Write
 write-true Read h = cc
 write-true Write h = refl
 
-pub holds-from : (x : List ℕ) (l : Live) → l.status ≡ Holding → l.resource ≡ x → holds x l ≡ true
-holds-from x l s r = and_from (is_holding l.status) (bytes_eq l.resource x) (ap is_holding s) ((bytes_eq-Decides l.resource x).1 r)
+pub holds-from : (x : List ℕ) (l : Live) → IsHolder l.status → l.resource ≡ x → holds x l ≡ true
+holds-from x l s r = and_from (is_holding l.status) (bytes_eq l.resource x) (holder-holding l.status s) ((bytes_eq-Decides l.resource x).1 r)
 
 -- a client of the entries whose ticket is a holder, or a writer's
 record Passes (es : List Entry) (m : Mode) (x : List ℕ) (status : Status) : Type 0 where
@@ -49,16 +56,16 @@ any-holds : (p : Problem) (es : List Entry) (x : List ℕ) → EachOnce es → a
 any-holds p es x o h =
     let f = any_live-found (holds x) es o h in
     let t = and_parts (is_holding (f.1).status) (bytes_eq (f.1).resource x) f.4 in
-    let r = passes es f.0 f.1 (f.1).mode x Holding f.2 f.3 refl ((bytes_eq-Decides (f.1).resource x).0 t.1) (holding-true (f.1).status t.0) in
-    (r.client, (f.1).mode, r.has)
+    let r = passes es f.0 f.1 (f.1).mode x (f.1).status f.2 f.3 refl ((bytes_eq-Decides (f.1).resource x).0 t.1) refl in
+    (r.client, (f.1).mode, ((f.1).status, holding-true (f.1).status t.0, r.has))
 
 any-writer_holds : (p : Problem) (es : List Entry) (x : List ℕ) → EachOnce es → any_live (writer_holds x) es ≡ true → (d : ℕ) × Holds (meaning p es) d Write x
 any-writer_holds p es x o h =
     let f = any_live-found (writer_holds x) es o h in
     let w = and_parts (is_write (f.1).mode) (holds x f.1) f.4 in
     let t = and_parts (is_holding (f.1).status) (bytes_eq (f.1).resource x) w.1 in
-    let r = passes es f.0 f.1 Write x Holding f.2 f.3 (write-true (f.1).mode w.0) ((bytes_eq-Decides (f.1).resource x).0 t.1) (holding-true (f.1).status t.0) in
-    (r.client, r.has)
+    let r = passes es f.0 f.1 Write x (f.1).status f.2 f.3 (write-true (f.1).mode w.0) ((bytes_eq-Decides (f.1).resource x).0 t.1) refl in
+    (r.client, ((f.1).status, holding-true (f.1).status t.0, r.has))
 
 any-writer_waits : (p : Problem) (es : List Entry) (x : List ℕ) → EachOnce es → any_live (writer_waits x) es ≡ true → (d : ℕ) × Waits (meaning p es) d Write x
 any-writer_waits p es x o h =
@@ -70,14 +77,14 @@ any-writer_waits p es x o h =
 
 holds-any : (p : Problem) (es : List Entry) (x : List ℕ) (d : ℕ) (m : Mode) → Holds (meaning p es) d m x → any_live (holds x) es ≡ true
 holds-any p es x d m h =
-    let f = has-found es d m x Holding h in
-    any_live-of (holds x) es d f.entry f.live f.entry_is f.live_is (holds-from x f.live f.status_is f.resource_is)
+    let f = has-found es d m x h.0 h.2 in
+    any_live-of (holds x) es d f.entry f.live f.entry_is f.live_is (holds-from x f.live (subst IsHolder (sym f.status_is) h.1) f.resource_is)
 
 writer_holds-any : (p : Problem) (es : List Entry) (x : List ℕ) (d : ℕ) → Holds (meaning p es) d Write x → any_live (writer_holds x) es ≡ true
 writer_holds-any p es x d h =
-    let f = has-found es d Write x Holding h in
+    let f = has-found es d Write x h.0 h.2 in
     any_live-of (writer_holds x) es d f.entry f.live f.entry_is f.live_is
-    (and_from (is_write (f.live).mode) (holds x f.live) (ap is_write f.mode_is) (holds-from x f.live f.status_is f.resource_is))
+    (and_from (is_write (f.live).mode) (holds x f.live) (ap is_write f.mode_is) (holds-from x f.live (subst IsHolder (sym f.status_is) h.1) f.resource_is))
 
 writer_waits-any : (p : Problem) (es : List Entry) (x : List ℕ) (d : ℕ) → Waits (meaning p es) d Write x → any_live (writer_waits x) es ≡ true
 writer_waits-any p es x d h =
@@ -191,3 +198,43 @@ claim-known p es c m x w =
 pub settled-settles : (p : Problem) (es : List Entry) → EachOnce es → IsLawful (meaning p es) → Settles (meaning p es) (meaning p (settled p es))
 settled-settles p es o l =
     processed-settles (meaning p es) (meaning p (settled p es)) (λ c. knows c es) l (claim-known p es) (settle-processed p [] es o)
+
+-- from entries in which each that waits has a cause, settling changes nothing
+
+entry-still : (p : Problem) (front : List Entry) (e : Entry) (rest : List Entry) → EachOnce (front ++ e ∷ rest) → IsCaused (meaning p (front ++ e ∷ rest)) →
+    settled_entry p (front ++ e ∷ rest) e ≡ e
+entry-still p front e rest o c = go e.live refl
+  where
+    es : List Entry
+    es = front ++ e ∷ rest
+
+    refused : (l : Live) → e.live ≡ Some l → is_waiting l.status ≡ true → admits p l.mode l.resource es ≡ false
+    refused l k w =
+        let waits : Waits (meaning p es) e.client l.mode l.resource =
+        ap (λ o. (standing_of o).claim) (entry_of-here front e rest (once-middle front e rest o)) ∙ ap claim_of k ∙ ap (Has l.mode l.resource) (waiting-true l.status w) in
+        by (cases_Bool (admits p l.mode l.resource es)) (c.cause e.client l.mode l.resource waits)
+      where
+        by : (admits p l.mode l.resource es ≡ true) ⊎ (admits p l.mode l.resource es ≡ false) → Cause (meaning p es) l.mode l.resource → admits p l.mode l.resource es ≡ false
+        by (inr f) cause = f
+        by (inl t) cause = absurd (admitted-free p es l.mode l.resource t cause)
+
+    live : (l : Live) → e.live ≡ Some l → (w : Bool) → is_waiting l.status ≡ w → (is_waiting l.status && admits p l.mode l.resource es) ≡ false
+    live l k true h = ap (λ b. b && admits p l.mode l.resource es) h ∙ refused l k h
+    live l k false h = ap (λ b. b && admits p l.mode l.resource es) h
+
+    go : (k : Option Live) → e.live ≡ k → settled_entry p es e ≡ e
+    go None h = ap (λ k. record { client = e.client; floor = e.floor; live = option_map (settled_live p es) k }) h ∙ ap (λ k. record { client = e.client; floor = e.floor; live = k }) (sym h)
+    go (Some l) h =
+        ap (λ k. record { client = e.client; floor = e.floor; live = option_map (settled_live p es) k }) h
+        ∙ ap (λ b. record { client = e.client; floor = e.floor; live = Some (cond b (promoted l) l) }) (live l h (is_waiting l.status) refl)
+        ∙ ap (λ k. record { client = e.client; floor = e.floor; live = k }) (sym h)
+
+settle-still : (p : Problem) (front rest : List Entry) → EachOnce (front ++ rest) → IsCaused (meaning p (front ++ rest)) → settle p front rest ≡ rest
+settle-still p front [] o c = refl
+settle-still p front (e ∷ rest) o c =
+    let shape : front ++ e ∷ [] ++ rest ≡ front ++ e ∷ rest = append_assoc front (e ∷ []) rest in
+    ap (λ f. f ∷ settle p (front ++ f ∷ []) rest) (entry-still p front e rest o c)
+    ∙ ap (λ es. e ∷ es) (settle-still p (front ++ e ∷ []) rest (subst EachOnce (sym shape) o) (subst (λ es. IsCaused (meaning p es)) (sym shape) c))
+
+pub settled-still : (p : Problem) (es : List Entry) → EachOnce es → IsCaused (meaning p es) → settled p es ≡ es
+settled-still p es o c = settle-still p [] es o c

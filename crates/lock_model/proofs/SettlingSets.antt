@@ -6,7 +6,7 @@ use Rattle.std.proofs.lemmas.List.{append_assoc, append-nil, map-append}
 use Rattle.lock_model.specs.declared.entries.Entry.{Entry}
 use Rattle.lock_model.specs.declared.entries.Live.{Live}
 use Rattle.lock_model.specs.declared.entries.Status.{Status}
-use Rattle.lock_model.specs.declared.entries.Status.TheVariants.{Waiting, Holding}
+use Rattle.lock_model.specs.declared.entries.Status.TheVariants.{Waiting, Holding, Softened}
 use Rattle.lock_model.specs.declared.problems.Problem.{Problem}
 use Rattle.lock_model.specs.Decisions.{Among}
 use Rattle.lock_model.specs.ExactStations.{is_of, entry_of, EachOnce, is_waiting, is_holding, if_live, admits, promoted, settled_live, settled_entry, settle, settled, with_choice, with_holders, IsSettling, waits_in, holds_in, new_holders}
@@ -17,10 +17,12 @@ use Rattle.lock_model.proofs.EntryFacts.{once-middle, once-same, entry_of-here, 
 waiting_status : (s : Status) → is_waiting s ≡ true → s ≡ Waiting
 waiting_status Waiting h = refl
 waiting_status Holding h = cc
+waiting_status Softened h = cc
 
 holding-waits : (s : Status) → is_waiting s ≡ false → is_holding s ≡ true
 holding-waits Waiting h = cc
 holding-waits Holding h = refl
+holding-waits Softened h = refl
 
 -- where an entry's ticket waits, its choice is what is admitted
 record WaitsWith (e : Entry) (l : Live) : Type 0 where

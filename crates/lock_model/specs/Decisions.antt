@@ -2,12 +2,14 @@
 -- station after, and the replies as a set.
 use Rattle.std.specs.Prelude.{◌≡◌, ◌≢◌, ◌↔◌, ℕ, ◌+◌, ◌-◌, ◌<◌, ◌≤◌, ◌⊎◌, List, [], ◌∷◌}
 use Rattle.lock_messages.specs.declared.tickets.Mode.{Mode}
+use Rattle.lock_messages.specs.declared.tickets.Mode.TheVariants.{Read, Write}
 use Rattle.lock_messages.specs.declared.tickets.Ticket.{Ticket}
 use Rattle.lock_messages.specs.declared.messages.Message.{Message}
-use Rattle.lock_messages.specs.declared.messages.Message.TheVariants.{Request, Release, Grant, Busy, Over, Done, Muddled}
+use Rattle.lock_messages.specs.declared.messages.Message.TheVariants.{Request, Release, Grant, Busy, Over, Done, Muddled, Soften}
+use Rattle.lock_messages.specs.declared.messages.Message.TheVariants as message
 use Rattle.lock_model.specs.declared.entries.Status.{Status}
-use Rattle.lock_model.specs.declared.entries.Status.TheVariants.{Waiting, Holding}
-use Rattle.lock_model.specs.Stations.{Station, Standing, Free, Has, Cause, Puts, Ends, Settles, Becomes, ticket_at}
+use Rattle.lock_model.specs.declared.entries.Status.TheVariants.{Waiting, Holding, Softened}
+use Rattle.lock_model.specs.Stations.{Station, Standing, Free, Has, Cause, Puts, Ends, Softens, Settles, Becomes, asked_mode, ticket_at}
 
 -- x is one of the list
 abbrev pub Among : {A : Type 0} → A → List A → Type 0
@@ -40,9 +42,9 @@ taken_up t status = record { floor = t.attempt - 1; claim = Has t.mode t.resourc
 pub data IsAsked (n : ℕ) (s : Station) (t : Ticket) (after : Station) (replies : List Message) : Type 0 where
   -- the attempt is ended
   over : t.attempt ≤ (s.at t.client).floor → after ≡ s → IsOnly (Over n t.client t.attempt) replies → IsAsked n s t after replies
-  -- the attempt's claim is for another mode or resource
+  -- the attempt's claim was asked for in another mode or for another resource
   muddled : (m : Mode) (x : List ℕ) (status : Status) → t.attempt ≡ (s.at t.client).floor + 1 →
-      (s.at t.client).claim ≡ Has m x status → ((m ≢ t.mode) ⊎ (x ≢ t.resource)) → after ≡ s →
+      (s.at t.client).claim ≡ Has m x status → ((asked_mode m status ≢ t.mode) ⊎ (x ≢ t.resource)) → after ≡ s →
       IsOnly (Muddled n t.client t.attempt) replies → IsAsked n s t after replies
   -- the ticket holds already
   held : t.attempt ≡ (s.at t.client).floor + 1 → (s.at t.client).claim ≡ Has t.mode t.resource Holding → after ≡ s →
@@ -50,6 +52,9 @@ pub data IsAsked (n : ℕ) (s : Station) (t : Ticket) (after : Station) (replies
   -- the ticket waits already
   waited : t.attempt ≡ (s.at t.client).floor + 1 → (s.at t.client).claim ≡ Has t.mode t.resource Waiting → after ≡ s →
       IsOnly (Busy n t) replies → IsAsked n s t after replies
+  -- the ticket is softened already
+  softened : t.attempt ≡ (s.at t.client).floor + 1 → t.mode ≡ Write → (s.at t.client).claim ≡ Has Read t.resource Softened → after ≡ s →
+      IsOnly (message.Softened n t.client t.attempt) replies → IsAsked n s t after replies
   -- the ticket is new, and nothing stands in its way
   granted : IsNew (s.at t.client) t.attempt → (ended settled : Station) → Ends s t.client (t.attempt - 1) ended → Settles ended settled →
       ¬ (Cause settled t.mode t.resource) → Puts settled t.client (taken_up t Holding) after →
@@ -66,7 +71,14 @@ pub record IsReleased (n : ℕ) (s : Station) (c a : ℕ) (after : Station) (rep
   pub settles : Settles ended after
   pub replies_are : AreReplies n (Done n c a) ended after replies
 
--- a node may decide so on a message; on what is neither a request nor a release it decides nothing
+-- Node n, at s, is told that the client's attempt a is softened.
+pub record IsSoftened (n : ℕ) (s : Station) (c a : ℕ) (after : Station) (replies : List Message) : Type 0 where
+  pub changed : Station
+  pub softens : Softens s c a changed
+  pub settles : Settles changed after
+  pub replies_are : AreReplies n (message.Softened n c a) changed after replies
+
+-- a node may decide so on a message; on one that is for a client it decides nothing
 abbrev pub Decides : Station → Message → Station → List Message → Type 0
 Decides s (Request n t) after replies = IsAsked n s t after replies
 Decides s (Release n c a) after replies = IsReleased n s c a after replies
@@ -75,3 +87,5 @@ Decides s (Busy n t) after replies = ⊥
 Decides s (Over n c a) after replies = ⊥
 Decides s (Done n c a) after replies = ⊥
 Decides s (Muddled n c a) after replies = ⊥
+Decides s (Soften n c a) after replies = IsSoftened n s c a after replies
+Decides s (message.Softened n c a) after replies = ⊥

@@ -7,13 +7,16 @@ use Rattle.lock_messages.specs.declared.tickets.Mode.{Mode}
 use Rattle.lock_messages.specs.declared.tickets.Mode.TheVariants.{Read, Write}
 use Rattle.lock_messages.specs.declared.tickets.Ticket.{Ticket}
 use Rattle.lock_messages.specs.declared.messages.Message.{Message}
-use Rattle.lock_messages.specs.declared.messages.Message.TheVariants.{Request, Release, Grant, Busy, Over, Done, Muddled}
+use Rattle.lock_messages.specs.declared.messages.Message.TheVariants.{Request, Release, Grant, Busy, Over, Done, Muddled, Soften}
+use Rattle.lock_messages.specs.declared.messages.Message.TheVariants as message
 use Rattle.lock_model.specs.declared.entries.Entry.{Entry}
 use Rattle.lock_model.specs.declared.entries.Live.{Live}
 use Rattle.lock_model.specs.declared.entries.Status.{Status}
 use Rattle.lock_model.specs.declared.entries.Status.TheVariants.{Waiting, Holding}
+use Rattle.lock_model.specs.declared.entries.Status.TheVariants as status
 use Rattle.lock_model.specs.declared.problems.Problem.{Problem}
-use Rattle.lock_model.specs.ExactStations.{is_of, knows, entry_of, is_waiting, is_holding, if_live, admits, settled}
+use Rattle.lock_model.specs.Stations.{asked_mode}
+use Rattle.lock_model.specs.ExactStations.{is_of, knows, entry_of, is_write, is_waiting, is_holding, if_live, admits, settled}
 
 -- what a decision leaves, and what it says
 pub record Outcome : Type 0 where
@@ -57,11 +60,17 @@ same_mode Read Write = false
 same_mode Write Read = false
 same_mode Write Write = true
 
+-- the reply to a ticket that is the live one, by its status
+abbrev pub reply_by_status : ℕ → Ticket → Status → Message
+reply_by_status n t Waiting = Busy n t
+reply_by_status n t Holding = Grant n t
+reply_by_status n t status.Softened = message.Softened n t.client t.attempt
+
 -- the reply to a ticket whose attempt is the live one
 abbrev pub live_reply : ℕ → Ticket → Live → Message
 live_reply n t l =
-    if same_mode l.mode t.mode && bytes_eq l.resource t.resource
-    then (if is_holding l.status then Grant n t else Busy n t)
+    if same_mode (asked_mode l.mode l.status) t.mode && bytes_eq l.resource t.resource
+    then reply_by_status n t l.status
     else Muddled n t.client t.attempt
 
 -- the reply to a ticket whose attempt is the live one, if it is
@@ -113,7 +122,37 @@ releases n p entries c a =
     let after = settled p before in
     record { entries = after; replies = Done n c a ∷ grants n before after }
 
--- The decision on a message. What is neither a request nor a release changes nothing and has no reply.
+-- A writer's live ticket once it is softened, by its status: who holds is a reader that does, and of who
+-- waits nothing is left.
+abbrev pub softened_writer : Live → Status → Option Live
+softened_writer l Waiting = None
+softened_writer l Holding = Some (record l { mode = Read; status = status.Softened })
+softened_writer l status.Softened = Some l
+
+-- a live ticket once attempt a is softened
+abbrev pub softened_live : ℕ → Live → Option Live
+softened_live a l = if (l.attempt == a) && is_write l.mode then softened_writer l l.status else Some l
+
+abbrev pub softened_in : ℕ → Option Live → Option Live
+softened_in a None = None
+softened_in a (Some l) = softened_live a l
+
+-- an entry with its attempt a softened
+abbrev pub softened_entry : ℕ → Entry → Entry
+softened_entry a e = record { client = e.client; floor = e.floor; live = softened_in a e.live }
+
+-- the entries with the client's attempt a softened: each stays where it is, and none is added
+abbrev pub softened : ℕ → ℕ → List Entry → List Entry
+softened c a entries = map (λ e. if is_of c e then softened_entry a e else e) entries
+
+-- the client's attempt a is softened, and the others settle
+abbrev pub softens : ℕ → Problem → List Entry → ℕ → ℕ → Outcome
+softens n p entries c a =
+    let before = softened c a entries in
+    let after = settled p before in
+    record { entries = after; replies = message.Softened n c a ∷ grants n before after }
+
+-- The decision on a message. What is for a client changes nothing and has no reply.
 abbrev pub decision : Problem → List Entry → Message → Outcome
 decision p entries (Request n t) = answered n p entries t (reply_to_known n t (entry_of entries t.client))
 decision p entries (Release n c a) = releases n p entries c a
@@ -122,6 +161,8 @@ decision p entries (Busy n t) = record { entries = entries; replies = [] }
 decision p entries (Over n c a) = record { entries = entries; replies = [] }
 decision p entries (Done n c a) = record { entries = entries; replies = [] }
 decision p entries (Muddled n c a) = record { entries = entries; replies = [] }
+decision p entries (Soften n c a) = softens n p entries c a
+decision p entries (message.Softened n c a) = record { entries = entries; replies = [] }
 
 -- the decision changes the record: the entries, or their order
 abbrev pub Changes : Problem → List Entry → Message → Type 0
@@ -131,8 +172,13 @@ Changes p entries message = (decision p entries message).entries ≢ entries
 abbrev pub same_status : Status → Status → Bool
 same_status Waiting Waiting = true
 same_status Waiting Holding = false
+same_status Waiting status.Softened = false
 same_status Holding Waiting = false
 same_status Holding Holding = true
+same_status Holding status.Softened = false
+same_status status.Softened Waiting = false
+same_status status.Softened Holding = false
+same_status status.Softened status.Softened = true
 
 abbrev pub same_live : Live → Live → Bool
 same_live a b = (a.attempt == b.attempt) && (same_mode a.mode b.mode && (bytes_eq a.resource b.resource && same_status a.status b.status))

@@ -6,7 +6,7 @@ use Rattle.lock_messages.specs.declared.tickets.Ticket.{Ticket}
 use Rattle.lock_messages.specs.declared.messages.Message.{Message}
 use Rattle.lock_messages.specs.declared.messages.Message.TheVariants as message
 use Rattle.lock_model.specs.declared.hearing.Heard.{Heard}
-use Rattle.lock_model.specs.declared.hearing.Heard.TheVariants.{Counted, Known, Busy, Done, NotMine}
+use Rattle.lock_model.specs.declared.hearing.Heard.TheVariants.{Counted, Known, Busy, Done, Softened, NotMine}
 use Rattle.lock_model.specs.ExactDecisions.{same_mode}
 
 -- n is one of the nodes of a ballot that has so many
@@ -26,6 +26,20 @@ heard_of_ticket nodes t granted (message.Release n c a) = NotMine
 heard_of_ticket nodes t granted (message.Over n c a) = NotMine
 heard_of_ticket nodes t granted (message.Done n c a) = NotMine
 heard_of_ticket nodes t granted (message.Muddled n c a) = NotMine
+heard_of_ticket nodes t granted (message.Soften n c a) = NotMine
+heard_of_ticket nodes t granted (message.Softened n c a) = NotMine
+
+-- while client c is inside, and has softened this attempt
+abbrev pub heard_softened : ℕ → ℕ → ℕ → Message → Heard
+heard_softened nodes c attempt (message.Softened n d a) = if is_node_of nodes n && ((d == c) && (a == attempt)) then Softened else NotMine
+heard_softened nodes c attempt (message.Request n u) = NotMine
+heard_softened nodes c attempt (message.Release n d a) = NotMine
+heard_softened nodes c attempt (message.Grant n u) = NotMine
+heard_softened nodes c attempt (message.Busy n u) = NotMine
+heard_softened nodes c attempt (message.Over n d a) = NotMine
+heard_softened nodes c attempt (message.Done n d a) = NotMine
+heard_softened nodes c attempt (message.Muddled n d a) = NotMine
+heard_softened nodes c attempt (message.Soften n d a) = NotMine
 
 -- while client c rests, after this attempt (0 before the first)
 abbrev pub heard_at_rest : ℕ → ℕ → ℕ → Message → Heard
@@ -36,6 +50,8 @@ heard_at_rest nodes c attempt (message.Grant n u) = NotMine
 heard_at_rest nodes c attempt (message.Busy n u) = NotMine
 heard_at_rest nodes c attempt (message.Over n d a) = NotMine
 heard_at_rest nodes c attempt (message.Muddled n d a) = NotMine
+heard_at_rest nodes c attempt (message.Soften n d a) = NotMine
+heard_at_rest nodes c attempt (message.Softened n d a) = NotMine
 
 -- whether the answer is that a vote was counted
 abbrev pub is_counted : Heard → Bool
@@ -43,4 +59,5 @@ is_counted Counted = true
 is_counted Known = false
 is_counted Busy = false
 is_counted Done = false
+is_counted Softened = false
 is_counted NotMine = false

@@ -8,7 +8,7 @@ use Rattle.lock_messages.specs.declared.tickets.Mode.TheVariants.{Read, Write}
 use Rattle.lock_model.specs.declared.entries.Entry.{Entry}
 use Rattle.lock_model.specs.declared.entries.Live.{Live}
 use Rattle.lock_model.specs.declared.entries.Status.{Status}
-use Rattle.lock_model.specs.declared.entries.Status.TheVariants.{Waiting, Holding}
+use Rattle.lock_model.specs.declared.entries.Status.TheVariants.{Waiting, Holding, Softened}
 use Rattle.lock_model.specs.declared.problems.Problem.{Problem}
 use Rattle.lock_model.specs.declared.problems.Problem.TheVariants.{First, Second}
 use Rattle.lock_model.specs.Stations.{Claim, Free, Has, Standing, Station, stranger}
@@ -49,10 +49,15 @@ EachOnce (e ∷ es) = (knows e.client es ≡ false) × EachOnce es
 abbrev pub IsAboveFloor : Entry → Type 0
 IsAboveFloor e = IfSome e.live (λ l. l.attempt ≡ e.floor + 1)
 
+-- a softened ticket is a reader's
+abbrev pub IsReaderIfSoftened : Entry → Type 0
+IsReaderIfSoftened e = IfSome e.live (λ l. l.status ≡ Softened → l.mode ≡ Read)
+
 -- the entries are those of a station
 pub record IsWellFormed (entries : List Entry) : Type 0 where
   pub once : EachOnce entries
   pub attempts : AllByRecursion IsAboveFloor entries
+  pub softened : AllByRecursion IsReaderIfSoftened entries
 
 abbrev pub is_write : Mode → Bool
 is_write Read = false
@@ -61,10 +66,12 @@ is_write Write = true
 abbrev pub is_waiting : Status → Bool
 is_waiting Waiting = true
 is_waiting Holding = false
+is_waiting Softened = false
 
 abbrev pub is_holding : Status → Bool
 is_holding Waiting = false
 is_holding Holding = true
+is_holding Softened = true
 
 -- the entry has a live ticket that passes the test
 abbrev pub if_live : (Live → Bool) → Option Live → Bool

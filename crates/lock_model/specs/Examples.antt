@@ -4,10 +4,11 @@ use Rattle.lock_messages.specs.declared.tickets.Mode.{Mode}
 use Rattle.lock_messages.specs.declared.tickets.Mode.TheVariants.{Read, Write}
 use Rattle.lock_messages.specs.declared.tickets.Ticket.{Ticket}
 use Rattle.lock_messages.specs.declared.messages.Message.{Message}
-use Rattle.lock_messages.specs.declared.messages.Message.TheVariants.{Request, Release, Grant, Busy, Over, Done, Muddled}
+use Rattle.lock_messages.specs.declared.messages.Message.TheVariants.{Request, Release, Grant, Busy, Over, Done, Muddled, Soften}
+use Rattle.lock_messages.specs.declared.messages.Message.TheVariants as message
 use Rattle.lock_model.specs.declared.entries.Entry.{Entry}
 use Rattle.lock_model.specs.declared.entries.Status.{Status}
-use Rattle.lock_model.specs.declared.entries.Status.TheVariants.{Waiting, Holding}
+use Rattle.lock_model.specs.declared.entries.Status.TheVariants.{Waiting, Holding, Softened}
 use Rattle.lock_model.specs.declared.problems.Problem.{Problem}
 use Rattle.lock_model.specs.declared.problems.Problem.TheVariants.{First, Second}
 use Rattle.lock_model.specs.Ballots.{Ballot, votes_of, larger_votes}
@@ -79,6 +80,34 @@ abbrev pub NextAttempt : Type 0
 NextAttempt = Leads First (entry_with (asks 1 1 Write) 0 Holding ∷ entry_with (asks 2 1 Read) 0 Waiting ∷ []) (Request 1 (asks_for 1 2 Read (codes "b")))
     (entry_with (asks 2 1 Read) 0 Holding ∷ entry_with (asks_for 1 2 Read (codes "b")) 1 Holding ∷ [])
     (Grant 1 (asks_for 1 2 Read (codes "b")) ∷ Grant 1 (asks 2 1 Read) ∷ [])
+
+-- a writer that holds is softened: it holds as a reader, and the reader behind it holds as well
+abbrev pub SoftenedHolder : Type 0
+SoftenedHolder = Leads First (entry_with (asks 1 1 Write) 0 Holding ∷ entry_with (asks 2 1 Read) 0 Waiting ∷ []) (Soften 1 1 1)
+    (entry_with (asks 1 1 Read) 0 Softened ∷ entry_with (asks 2 1 Read) 0 Holding ∷ []) (message.Softened 1 1 1 ∷ Grant 1 (asks 2 1 Read) ∷ [])
+
+-- under problem 2 a writer that waits keeps that reader out
+abbrev pub with_both_waiting : Mode → Status → List Entry
+with_both_waiting m status = entry_with (asks 1 1 m) 0 status ∷ entry_with (asks 2 1 Read) 0 Waiting ∷ entry_with (asks 3 1 Write) 0 Waiting ∷ []
+
+abbrev pub SoftenedBeforeWriter : Type 0
+SoftenedBeforeWriter = Leads Second (with_both_waiting Write Holding) (Soften 1 1 1) (with_both_waiting Read Softened) (message.Softened 1 1 1 ∷ [])
+
+-- a writer that waits is taken away, with the floor as it was, and the reader behind it holds
+abbrev pub SoftenedWaiter : Type 0
+SoftenedWaiter = Leads Second (behind_writer Waiting) (Soften 1 2 1)
+    (entry_with (asks 1 1 Read) 0 Holding ∷ entry_without 2 0 ∷ entry_with (asks 3 1 Read) 0 Holding ∷ []) (message.Softened 1 2 1 ∷ Grant 1 (asks 3 1 Read) ∷ [])
+
+-- the softened attempt is asked for again as it was, and as a reader
+abbrev pub SoftenedRequest : Type 0
+SoftenedRequest = Leads First (entry_with (asks 1 1 Read) 0 Softened ∷ []) (Request 1 (asks 1 1 Write)) (entry_with (asks 1 1 Read) 0 Softened ∷ []) (message.Softened 1 1 1 ∷ [])
+
+abbrev pub MuddledSoftenedRequest : Type 0
+MuddledSoftenedRequest = Leads First (entry_with (asks 1 1 Read) 0 Softened ∷ []) (Request 1 (asks 1 1 Read)) (entry_with (asks 1 1 Read) 0 Softened ∷ []) (Muddled 1 1 1 ∷ [])
+
+-- a Soften of an unknown client adds no entry
+abbrev pub SoftenedStranger : Type 0
+SoftenedStranger = Leads First [] (Soften 1 3 5) [] (message.Softened 1 3 5 ∷ [])
 
 -- votes 3, 1, 1 and 0: nodes 2 and 4 have one together, nodes 1 and 2 have four, node 9 has none
 abbrev pub weighted : Ballot

@@ -5,7 +5,7 @@ use Rattle.lock_messages.specs.declared.tickets.Ticket.{Ticket}
 use Rattle.lock_messages.specs.declared.messages.Message.{Message}
 use Rattle.lock_messages.specs.declared.messages.Message.TheVariants as message
 use Rattle.lock_model.specs.declared.hearing.Heard.{Heard}
-use Rattle.lock_model.specs.declared.hearing.Heard.TheVariants.{Counted, Known, Busy, Done, NotMine}
+use Rattle.lock_model.specs.declared.hearing.Heard.TheVariants.{Counted, Known, Busy, Done, Softened, NotMine}
 use Rattle.lock_model.specs.Ballots.{IsNodeOf}
 
 -- from some one of the nodes that passes the test
@@ -22,14 +22,27 @@ HearsOfTicket nodes t granted m Known = FromNode nodes (λ n. (granted n ≡ tru
 -- a Busy of the ticket
 HearsOfTicket nodes t granted m Busy = FromNode nodes (λ n. m ≡ message.Busy n t)
 HearsOfTicket nodes t granted m Done = ⊥
+HearsOfTicket nodes t granted m Softened = ⊥
 -- everything else
 HearsOfTicket nodes t granted m NotMine = (n : ℕ) → IsNodeOf nodes n → (m ≢ message.Grant n t) × (m ≢ message.Busy n t)
+
+-- While a client is inside, and has softened this attempt. Nothing is counted any more.
+abbrev pub HearsSoftened : ℕ → ℕ → ℕ → Message → Heard → Type 0
+HearsSoftened nodes c attempt m Counted = ⊥
+HearsSoftened nodes c attempt m Known = ⊥
+HearsSoftened nodes c attempt m Busy = ⊥
+HearsSoftened nodes c attempt m Done = ⊥
+-- a Softened of the attempt
+HearsSoftened nodes c attempt m Softened = FromNode nodes (λ n. m ≡ message.Softened n c attempt)
+-- everything else
+HearsSoftened nodes c attempt m NotMine = (n : ℕ) → IsNodeOf nodes n → m ≢ message.Softened n c attempt
 
 -- While a client rests, after this attempt (0 before the first).
 abbrev pub HearsAtRest : ℕ → ℕ → ℕ → Message → Heard → Type 0
 HearsAtRest nodes c attempt m Counted = ⊥
 HearsAtRest nodes c attempt m Known = ⊥
 HearsAtRest nodes c attempt m Busy = ⊥
+HearsAtRest nodes c attempt m Softened = ⊥
 -- a Done of the attempt
 HearsAtRest nodes c attempt m Done = FromNode nodes (λ n. m ≡ message.Done n c attempt)
 -- everything else

@@ -1,6 +1,6 @@
 -- What follows from the definitions, as statements; each is proved as the contract of a function of
 -- `laws`.
-use Rattle.std.specs.Prelude.{◌≡◌, ◌↔◌, ℕ, ◌≤◌, Bool, true, false, IsTrue, List, length}
+use Rattle.std.specs.Prelude.{◌≡◌, ◌↔◌, ℕ, ◌≤◌, Bool, true, false, IsTrue, List}
 use Rattle.lock_messages.specs.declared.tickets.Mode.{Mode}
 use Rattle.lock_messages.specs.declared.tickets.Mode.TheVariants.{Write}
 use Rattle.lock_messages.specs.declared.tickets.Ticket.{Ticket}
@@ -10,10 +10,10 @@ use Rattle.lock_model.specs.declared.entries.Entry.{Entry}
 use Rattle.lock_model.specs.declared.hearing.Heard.{Heard}
 use Rattle.lock_model.specs.declared.problems.Problem.{Problem}
 use Rattle.lock_model.specs.Ballots.{Ballot, Crosses, IsEnough, IsShared, AreCrossing, IsSharedUnderBoth, HasPlace, ballot_at, AllCross}
-use Rattle.lock_model.specs.Stations.{Station, IsLawful, IsCaused, IsEnded}
+use Rattle.lock_model.specs.Stations.{Station, IsLawful, IsCaused, IsEnded, Settles}
 use Rattle.lock_model.specs.Decisions.{Decides}
-use Rattle.lock_model.specs.Hearing.{HearsOfTicket, HearsAtRest}
-use Rattle.lock_model.specs.ExactHearing.{heard_of_ticket, heard_at_rest}
+use Rattle.lock_model.specs.Hearing.{HearsOfTicket, HearsSoftened, HearsAtRest}
+use Rattle.lock_model.specs.ExactHearing.{heard_of_ticket, heard_softened, heard_at_rest}
 use Rattle.lock_model.specs.ExactStations.{EachOnce, IsWellFormed, meaning, IsSettling, with_holders, settled, new_holders}
 use Rattle.lock_model.specs.ExactDecisions.{decision, Changes, changes}
 use Rattle.lock_model.specs.Judgement.{is_lawful, is_caused}
@@ -60,6 +60,13 @@ abbrev pub SettlingIsUnique : Type 0
 SettlingIsUnique = (p : Problem) (entries : List Entry) (chosen others : ℕ → Bool) → EachOnce entries →
     IsSettling p entries chosen → IsSettling p entries others → (c : ℕ) → chosen c ≡ others c
 
+-- from a caused station settling changes nothing, and from its entries neither
+abbrev pub NothingToSettle : Type 0
+NothingToSettle = (s t : Station) → IsCaused s → Settles s t → (c : ℕ) → t.at c ≡ s.at c
+
+abbrev pub NoEntryToSettle : Type 0
+NoEntryToSettle = (p : Problem) (entries : List Entry) → EachOnce entries → IsCaused (meaning p entries) → settled p entries ≡ entries
+
 -- From a lawful and caused station, the exact decision on a message for the node is one that the
 -- node may take, and leaves the entries of a lawful and caused station.
 pub record IsAllowed (p : Problem) (entries : List Entry) (message : Message) : Type 0 where
@@ -95,6 +102,10 @@ EndedStaysEnded = (s t : Station) (message : Message) (replies : List Message) �
 abbrev pub HearingOfTicketIsExact : Type 0
 HearingOfTicketIsExact = (nodes : ℕ) (t : Ticket) (granted : ℕ → Bool) (message : Message) (heard : Heard) →
     HearsOfTicket nodes t granted message heard ↔ (heard ≡ heard_of_ticket nodes t granted message)
+
+abbrev pub HearingSoftenedIsExact : Type 0
+HearingSoftenedIsExact = (nodes : ℕ) (client attempt : ℕ) (message : Message) (heard : Heard) →
+    HearsSoftened nodes client attempt message heard ↔ (heard ≡ heard_softened nodes client attempt message)
 
 abbrev pub HearingAtRestIsExact : Type 0
 HearingAtRestIsExact = (nodes : ℕ) (client attempt : ℕ) (message : Message) (heard : Heard) →

@@ -9,11 +9,12 @@ use Rattle.lock_messages.specs.declared.tickets.Mode.{Mode}
 use Rattle.lock_messages.specs.declared.tickets.Mode.TheVariants.{Read, Write}
 use Rattle.lock_messages.specs.declared.tickets.Ticket.{Ticket}
 use Rattle.lock_model.specs.declared.entries.Status.{Status}
-use Rattle.lock_model.specs.declared.entries.Status.TheVariants.{Waiting, Holding}
+use Rattle.lock_model.specs.declared.entries.Status.TheVariants.{Waiting, Holding, Softened}
 use Rattle.lock_model.specs.declared.problems.Problem.{Problem}
 use Rattle.lock_model.specs.declared.problems.Problem.TheVariants.{Second}
 
--- a client's claim to a node's vote: none, or to this resource in this mode, which waits or holds
+-- A client's claim to a node's vote: none, or to this resource in this mode, which waits or holds. A
+-- softened one holds too: it was asked for by a writer, and is a reader's since.
 pub data Claim : Type 0 where
   Free : Claim
   Has : (mode : Mode) (resource : List ℕ) (status : Status) → Claim
@@ -33,9 +34,21 @@ pub record Station : Type 0 where
 abbrev pub stranger : Standing
 stranger = record { floor = 0; claim = Free }
 
+-- a claim of this status holds the vote
+abbrev pub IsHolder : Status → Type 0
+IsHolder Waiting = ⊥
+IsHolder Holding = Unit {0}
+IsHolder Softened = Unit {0}
+
+-- the mode in which a claim of this mode and status was asked for
+abbrev pub asked_mode : Mode → Status → Mode
+asked_mode m Waiting = m
+asked_mode m Holding = m
+asked_mode m Softened = Write
+
 -- the client is among the holders of the resource, in this mode
 abbrev pub Holds : Station → ℕ → Mode → List ℕ → Type 0
-Holds s c m x = (s.at c).claim ≡ Has m x Holding
+Holds s c m x = (status : Status) × IsHolder status × ((s.at c).claim ≡ Has m x status)
 
 -- the client is among the waiters for the resource, in this mode
 abbrev pub Waits : Station → ℕ → Mode → List ℕ → Type 0
@@ -78,9 +91,21 @@ EndsAt a before after = ((a ≤ before.floor) × (after ≡ before)) ⊎ ((befor
 abbrev pub Ends : Station → ℕ → ℕ → Station → Type 0
 Ends s c a t = (after : Standing) × EndsAt a (s.at c) after × Puts s c after t
 
+-- What softening an attempt makes of where its client stands. Where the attempt's claim is a writer's
+-- that holds, it holds as a reader's; where it is a writer's that waits, it goes, and the floor stays.
+-- Nothing else is softened.
+pub data SoftensAt (a : ℕ) (before : Standing) : Standing → Type 0 where
+  holder : (x : List ℕ) → a ≡ before.floor + 1 → before.claim ≡ Has Write x Holding → SoftensAt a before (record { floor = before.floor; claim = Has Read x Softened })
+  waiter : (x : List ℕ) → a ≡ before.floor + 1 → before.claim ≡ Has Write x Waiting → SoftensAt a before (record { floor = before.floor; claim = Free })
+  neither : (a ≡ before.floor + 1 → (x : List ℕ) → (before.claim ≢ Has Write x Holding) × (before.claim ≢ Has Write x Waiting)) → SoftensAt a before before
+
+-- t is s with the client's attempt a softened
+abbrev pub Softens : Station → ℕ → ℕ → Station → Type 0
+Softens s c a t = (after : Standing) × SoftensAt a (s.at c) after × Puts s c after t
+
 -- the client's ticket waited, and holds now
 abbrev pub Becomes : Station → Station → ℕ → Mode → List ℕ → Type 0
-Becomes s t c m x = Waits s c m x × Holds t c m x
+Becomes s t c m x = Waits s c m x × ((t.at c).claim ≡ Has m x Holding)
 
 -- s settles to t: some waiting tickets hold now, nothing else differs, the outcome is lawful and
 -- caused, and under problem 2 no reader passes a writer that still waits. Which tickets become

@@ -3,7 +3,7 @@
 ghost use Rattle.std.specs.Prelude.{◌≡◌, ◌≢◌, ◌+◌, ◌∷◌, [], ◌↔◌, IfOk, OnOk, IsTrue, map, filter, not, if◌then◌else◌, option_to_list};
 ghost use Rattle.std.specs.Option.{option_copied};
 ghost use Rattle.lock_model.specs.ExactStations.{is_of, knows, entry_of, settled, admits};
-ghost use Rattle.lock_model.specs.ExactDecisions.{ended_entry, ended, moved_last, same_mode, live_reply, reply_of_live, floor_in, live_in, reply_to_known, new_entry, grants, takes_up, releases, decision, Changes, same_entries, changes};
+ghost use Rattle.lock_model.specs.ExactDecisions.{ended_entry, ended, moved_last, same_mode, live_reply, softened_entry, softened, softens, reply_of_live, floor_in, live_in, reply_to_known, new_entry, grants, takes_up, releases, decision, Changes, same_entries, changes};
 
 use crate::settling::{admits, settle};
 use crate::{Entry, Live, Problem, Status};
@@ -94,19 +94,21 @@ fn same_mode(a: Mode, b: Mode) -> bool
 fn live_reply(node: NodeId, ticket: &Ticket, live: &Live) -> Message
     ensures { result ≡ live_reply node ticket.now live.now }
 {
-    if !same_mode(live.mode, ticket.mode) || live.resource != ticket.resource {
+    if !same_mode(live.asked_mode(), ticket.mode) || live.resource != ticket.resource {
         return Message::Muddled(node, ticket.client, ticket.attempt);
     }
     match live.status {
         Status::Waiting => Message::Busy(node, *ticket),
         Status::Holding => Message::Grant(node, *ticket),
+        Status::Softened => Message::Softened(node, ticket.client, ticket.attempt),
     }
 }
 
 /// A node's reply to a ticket that it has met before, by its client's entry; none for a new one.
 ///
-/// `Over` where the attempt has ended, `Muddled` where the live ticket of this attempt has another
-/// mode or resource, else `Grant` where it holds and `Busy` where it waits (our own rules).
+/// `Over` where the attempt has ended, `Muddled` where the live ticket of this attempt was asked for in
+/// another mode or for another resource, else `Grant` where it holds, `Busy` where it waits and
+/// `Softened` where it is softened (our own rules).
 pub fn reply_to_known(node: NodeId, ticket: &Ticket, found: Option<Entry>) -> Option<Message>
     ensures { result ≡ reply_to_known node ticket.now found }
 {
@@ -261,6 +263,38 @@ fn release(
     settle_behind(alloc, problem, node, ended, done)
 }
 
+/// The entries with an attempt of the client softened; each stays where it is.
+fn softened(
+    alloc: Global,
+    entries: &[Entry],
+    client: ClientId,
+    attempt: Attempt,
+) -> Result<Vec<Entry>, AllocError>
+    ensures { IfOk result (λ v. v.items ≡ softened client attempt entries.now) }
+{
+    entries
+        .iter()
+        .map(|entry| entry.softened_for(client, attempt))
+        .collect(alloc)
+}
+
+/// Takes a softening.
+fn soften(
+    alloc: Global,
+    problem: Problem,
+    node: NodeId,
+    entries: &[Entry],
+    client: ClientId,
+    attempt: Attempt,
+) -> Result<Outcome, AllocError>
+    ensures entries { IfOk result (λ o. o.entries.items ≡ (softens node problem entries.now client attempt).entries) }
+    ensures replies { IfOk result (λ o. o.replies.items ≡ (softens node problem entries.now client attempt).replies) }
+{
+    let softened = softened(alloc, entries, client, attempt)?;
+    let first = Message::Softened(node, client, attempt);
+    settle_behind(alloc, problem, node, softened, first)
+}
+
 fn answer(
     alloc: Global,
     problem: Problem,
@@ -275,11 +309,15 @@ fn answer(
         Message::Release(node, client, attempt) => {
             release(alloc, problem, *node, entries, *client, *attempt)
         }
+        Message::Soften(node, client, attempt) => {
+            soften(alloc, problem, *node, entries, *client, *attempt)
+        }
         Message::Grant(..)
         | Message::Busy(..)
         | Message::Over(..)
         | Message::Done(..)
-        | Message::Muddled(..) => unchanged(alloc, entries, None),
+        | Message::Muddled(..)
+        | Message::Softened(..) => unchanged(alloc, entries, None),
     }
 }
 
@@ -294,10 +332,10 @@ fn differ(before: &[Entry], after: &[Entry]) -> bool
 /// Decides on a message: the entries after it, and the replies.
 ///
 /// The entries are those of one node, in the order in which tickets arrived, each client once. A
-/// message that is neither a request nor a release changes nothing and has no reply. Settling goes
-/// over all entries; the time is the square of their number. The rules are those of problems 1 and
-/// 2 (Courtois, Heymans and Parnas 1971), applied by a node to its own vote; attempts, floors and
-/// the order of the entries are our own.
+/// message that is neither a request nor a release nor a softening changes nothing and has no reply.
+/// Settling goes over all entries; the time is the square of their number. The rules are those of
+/// problems 1 and 2 (Courtois, Heymans and Parnas 1971), applied by a node to its own vote; attempts,
+/// floors, softening and the order of the entries are our own.
 ///
 /// The only error is want of memory.
 pub fn decide(

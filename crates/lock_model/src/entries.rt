@@ -1,21 +1,24 @@
 // What a node keeps of each client.
 
 ghost use Rattle.std.specs.Prelude.{◌≡◌, if◌then◌else◌};
+ghost use Rattle.lock_model.specs.Stations.{asked_mode};
 ghost use Rattle.lock_model.specs.ExactStations.{is_of, is_waiting, is_holding, if_live, holds, writer_holds, writer_waits};
-ghost use Rattle.lock_model.specs.ExactDecisions.{ended_entry};
+ghost use Rattle.lock_model.specs.ExactDecisions.{ended_entry, softened_live, softened_entry};
 
 use lock_messages::{Attempt, ClientId, Mode, ResourceName};
 
-/// Whether a live ticket has the node's vote.
+/// Whether a live ticket has the node's vote, and whether as it was asked for.
 #[derive(Clone, Copy, Debug, PartialEq, Eq, Hash, PartialOrd, Ord)]
 pub enum Status {
     /// It waits for the vote.
     Waiting,
     /// It holds the vote.
     Holding,
+    /// It holds the vote as a reader, and was asked for by a writer.
+    Softened,
 }
 
-/// A client's live ticket at a node.
+/// A client's live ticket at a node. The mode of a softened one is `Read`.
 #[derive(Clone, Copy, Debug, PartialEq, Eq, Hash, PartialOrd, Ord)]
 pub struct Live {
     pub attempt: Attempt,
@@ -42,7 +45,7 @@ impl Live {
     {
         match self.status {
             Status::Waiting => true,
-            Status::Holding => false,
+            Status::Holding | Status::Softened => false,
         }
     }
 
@@ -52,7 +55,7 @@ impl Live {
     {
         match self.status {
             Status::Waiting => false,
-            Status::Holding => self.resource == *resource,
+            Status::Holding | Status::Softened => self.resource == *resource,
         }
     }
 
@@ -73,6 +76,35 @@ impl Live {
         match self.mode {
             Mode::Read => false,
             Mode::Write => self.waits() && self.resource == *resource,
+        }
+    }
+
+    /// The mode in which it was asked for: a softened ticket's was `Write`.
+    pub fn asked_mode(&self) -> Mode
+        ensures { result ≡ asked_mode self.now.mode self.now.status }
+    {
+        match self.status {
+            Status::Waiting | Status::Holding => self.mode,
+            Status::Softened => Mode::Write,
+        }
+    }
+
+    /// The ticket once its attempt is softened: a writer that holds is a reader that does, and of one
+    /// that waits nothing is left. Any other ticket stays as it is (our own rule).
+    pub fn softened(self, attempt: Attempt) -> Option<Live>
+        ensures { result ≡ softened_live attempt self }
+    {
+        if self.attempt != attempt || self.mode != Mode::Write {
+            return Some(self);
+        }
+        match self.status {
+            Status::Waiting => None,
+            Status::Holding => Some(Live {
+                mode: Mode::Read,
+                status: Status::Softened,
+                ..self
+            }),
+            Status::Softened => Some(self),
         }
     }
 }
@@ -108,6 +140,23 @@ impl Entry {
             self.ended(attempt)
         } else {
             *self
+        }
+    }
+
+    /// The entry with this attempt softened, if it is this client's.
+    pub(crate) fn softened_for(&self, client: ClientId, attempt: Attempt) -> Entry
+        ensures { result ≡ (if is_of client self.now then softened_entry attempt self.now else self.now) }
+    {
+        if !self.is_of(client) {
+            return *self;
+        }
+        Entry {
+            client: self.client,
+            floor: self.floor,
+            live: match self.live {
+                None => None,
+                Some(live) => live.softened(attempt),
+            },
         }
     }
 

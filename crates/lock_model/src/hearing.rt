@@ -11,6 +11,8 @@ pub enum Heard {
     Busy,
     /// The node took the release of the last attempt.
     Done,
+    /// The node took that the present attempt is softened.
+    Softened,
     /// Nothing of this.
     NotMine,
 }

@@ -1,7 +1,7 @@
 //! Laws of the definitions. Each function computes nothing: its contract is a theorem.
 
-ghost use Rattle.lock_model.specs.Examples.{FirstReader, RepeatedRequest, WriterBehindReader, ReleasedReader, LateRequest, ReleasedStranger, ReaderPasses, ReaderWaits, ReleaseSettles, MuddledRequest, NextAttempt, WeightedVotes, LargerVotes};
-ghost use Rattle.lock_model.specs.Laws.{EnoughSetsShareANode, EnoughSetsShareANodeOfBoth, CrossesWithItself, AnyTwoCross, LawfulIsSeen, CausedIsSeen, SettlingIsExact, SettlingIsUnique, ExactDecisionIsAllowed, ChangesAreSeen, StayingIsSeen, FloorsNeverFall, EndedStaysEnded, HearingOfTicketIsExact, HearingAtRestIsExact};
+ghost use Rattle.lock_model.specs.Examples.{FirstReader, RepeatedRequest, WriterBehindReader, ReleasedReader, LateRequest, ReleasedStranger, ReaderPasses, ReaderWaits, ReleaseSettles, MuddledRequest, NextAttempt, SoftenedHolder, SoftenedBeforeWriter, SoftenedWaiter, SoftenedRequest, MuddledSoftenedRequest, SoftenedStranger, WeightedVotes, LargerVotes};
+ghost use Rattle.lock_model.specs.Laws.{EnoughSetsShareANode, EnoughSetsShareANodeOfBoth, CrossesWithItself, AnyTwoCross, LawfulIsSeen, CausedIsSeen, SettlingIsExact, SettlingIsUnique, NothingToSettle, NoEntryToSettle, ExactDecisionIsAllowed, ChangesAreSeen, StayingIsSeen, FloorsNeverFall, EndedStaysEnded, HearingOfTicketIsExact, HearingSoftenedIsExact, HearingAtRestIsExact};
 
 /// Where a ballot crosses, two sets of nodes that are enough, one of them for a writer, share a
 /// node of the ballot that has votes.
@@ -35,6 +35,13 @@ pub fn one_settling()
     ensures unique { SettlingIsUnique }
 {}
 
+/// From a caused station settling changes nothing: so a message that ends and softens nothing leaves
+/// the station as it was.
+pub fn caused_is_settled()
+    ensures station { NothingToSettle }
+    ensures entries { NoEntryToSettle }
+{}
+
 /// From a lawful and caused station, under both problems, the exact decision is one that the node
 /// may take, and the station after it is lawful and caused.
 pub fn decision_is_allowed()
@@ -53,10 +60,11 @@ pub fn ended_stays_ended()
     ensures ended { EndedStaysEnded }
 {}
 
-/// What a client hears is the one answer that the relation allows, while it has a ticket and while
-/// it rests.
+/// What a client hears is the one answer that the relation allows, while it has a ticket, once it has
+/// softened it, and while it rests.
 pub fn hearing_is_exact()
     ensures of_ticket { HearingOfTicketIsExact }
+    ensures softened { HearingSoftenedIsExact }
     ensures at_rest { HearingAtRestIsExact }
 {}
 
@@ -73,6 +81,12 @@ pub fn worked_examples()
     ensures release_settles { ReleaseSettles }
     ensures muddled_request { MuddledRequest }
     ensures next_attempt { NextAttempt }
+    ensures softened_holder { SoftenedHolder }
+    ensures softened_before_writer { SoftenedBeforeWriter }
+    ensures softened_waiter { SoftenedWaiter }
+    ensures softened_request { SoftenedRequest }
+    ensures muddled_softened_request { MuddledSoftenedRequest }
+    ensures softened_stranger { SoftenedStranger }
     ensures weighted_votes { WeightedVotes }
     ensures larger_votes { LargerVotes }
 {}

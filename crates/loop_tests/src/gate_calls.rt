@@ -3,7 +3,7 @@
 use crate::audits::count_of;
 use crate::clients::told;
 use crate::clients_beside::end_of as client_end;
-use crate::gates::CountingGate;
+use crate::gates::{CountingGate, ModesGate};
 use crate::neighbours::Coming;
 use crate::node_runs::end_of as node_end;
 use crate::records::Device;
@@ -76,4 +76,15 @@ fn of_a_client_that_enters_once(rt: HostRuntime) -> Outcome {
     check_row(is_called(&gate, &journal, "try c1")?, 0)?;
     let too_few = Err((1, RunFault::TooFewNodes));
     check_row(told(answer)? == too_few && gate.calls() == (2, 0, 1), 1)
+}
+
+/// A client that wishes to read is inside once for each Enter, as a reader.
+#[test]
+fn of_a_reader(rt: HostRuntime) -> Outcome {
+    let gate = ModesGate::new();
+    let wishes = "c1 read a, c1 read b";
+    let coming = Coming::answers(rt.alloc());
+    let device = Device::Memory;
+    let (_, answer) = client_end(rt, rt.alloc(), (1, 2), device, wishes, coming, &gate)?;
+    check_row(told(answer)? == Ok(2) && gate.seen() == 11, 0)
 }

@@ -1,9 +1,9 @@
-// Gates: one that asks for nothing, and one that counts its calls.
+// Gates: one that asks for nothing, one that counts its calls, and one that remembers the modes it has seen.
 
 use client_core::ClientCore;
 use entry_guard::EntryGuard;
 use event_recorders::{Gate, Recorder};
-use lock_messages::Actor;
+use lock_messages::{Actor, Mode};
 use std::sync::atomic::AtomicU32;
 use std::sync::atomic::Ordering::SeqCst;
 
@@ -65,5 +65,42 @@ impl Gate for CountingGate {
         let _ = recorder;
         let _ = guard;
         self.inside.fetch_add(1, SeqCst);
+    }
+}
+
+/// A gate that remembers the modes of the tickets with which it is called inside, as digits: 1 for a reader's
+/// and 2 for a writer's.
+#[derive(Drop)]
+pub(crate) struct ModesGate {
+    seen: AtomicU32,
+}
+
+impl ModesGate {
+    pub(crate) fn new() -> ModesGate {
+        ModesGate {
+            seen: AtomicU32::new(0),
+        }
+    }
+
+    /// The digits of all calls, the first one's first.
+    pub(crate) fn seen(&self) -> u32 {
+        self.seen.load(SeqCst)
+    }
+}
+
+impl Gate for ModesGate {
+    fn before_keep(&self, actor: Actor) {
+        let _ = actor;
+    }
+
+    fn while_inside<R: Recorder>(&self, recorder: &R, guard: &EntryGuard<'_, ClientCore>) {
+        let _ = recorder;
+        let digit = match guard.ticket().mode {
+            Mode::Read => 1,
+            Mode::Write => 2,
+        };
+        let before = self.seen.load(SeqCst);
+        self.seen
+            .store(before.wrapping_mul(10).wrapping_add(digit), SeqCst);
     }
 }

@@ -39,6 +39,12 @@ mod posts;
 #[cfg(test)]
 mod records;
 #[cfg(test)]
+mod scripts;
+#[cfg(test)]
+mod softened_clients;
+#[cfg(test)]
+mod softened_nodes;
+#[cfg(test)]
 mod watched_clients;
 #[cfg(test)]
 mod watched_nodes;

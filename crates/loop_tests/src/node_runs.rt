@@ -53,7 +53,7 @@ pub(crate) fn event(line: &str) -> Result<Event, Failure> {
 }
 
 /// Logs the event of the one whose it is.
-fn log_either<B: BookName, K: Logs, R: Wait + Copy>(
+pub(crate) fn log_either<B: BookName, K: Logs, R: Wait + Copy>(
     one: &mut BookRecorder<'_, B, K, R>,
     two: &mut BookRecorder<'_, B, K, R>,
     event: &Event,

@@ -93,7 +93,7 @@ const DROPPED: [Row; 4] = [
         sent: "",
     },
     Row {
-        posts: "1 noise, nudge, gone, 1 grant, 1 stray",
+        posts: "1 noise, nudge, gone, 1 grant, 1 request n2",
         events: "rise n1 old\n",
         sent: "",
     },

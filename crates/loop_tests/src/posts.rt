@@ -2,40 +2,55 @@
 
 use crate::worlds::{attempt, client_id, node_id, resource};
 use bytes::Bytes;
-use lock_messages::{Actor, Message, Mode, Ticket, encode};
+use lock_messages::{Actor, Message, Mode, NodeId, Ticket, encode};
 use lossy_link::{Parcel, Post, Sending};
 use std::alloc::Global;
 use test_outcomes::Failure;
 
-/// The first ticket of a client, for `a`.
-fn ticket(client: u32, mode: Mode) -> Result<Ticket, Failure> {
+/// The ticket of a client for `a` in its attempt of this number.
+fn ticket(client: u32, number: u64, mode: Mode) -> Result<Ticket, Failure> {
     Ok(Ticket {
         client: client_id(client)?,
-        attempt: attempt(1)?,
+        attempt: attempt(number)?,
         mode,
         resource: resource(b"a")?,
     })
 }
 
-/// The message with n1 that a word names, about that ticket; a stray is for n2.
-fn about(word: &str, ticket: Ticket) -> Result<Message, Failure> {
-    let node = node_id(1)?;
+/// The message with the node that a word names, about that ticket.
+fn about(word: &str, node: NodeId, ticket: Ticket) -> Result<Message, Failure> {
     match word {
         "request" => Ok(Message::Request(node, ticket)),
-        "stray" => Ok(Message::Request(node_id(2)?, ticket)),
         "grant" => Ok(Message::Grant(node, ticket)),
         "busy" => Ok(Message::Busy(node, ticket)),
         "release" => Ok(Message::Release(node, ticket.client, ticket.attempt)),
         "done" => Ok(Message::Done(node, ticket.client, ticket.attempt)),
+        "soften" => Ok(Message::Soften(node, ticket.client, ticket.attempt)),
+        "softened" => Ok(Message::Softened(node, ticket.client, ticket.attempt)),
         _ => Err(Failure::Wrong(0)),
     }
 }
 
-/// The message of a text: `grant` is about c1's ticket to read, `grant c2` about c2's to write.
-fn message(text: &str) -> Result<Message, Failure> {
+/// The message with the node of a text: `grant` is about c1's ticket to read, `grant write` about c1's to
+/// write, `grant again` about c1's second to read, `grant c2` about c2's to write.
+fn message_with(text: &str, node: NodeId) -> Result<Message, Failure> {
+    if let Some(word) = text.strip_suffix(" write") {
+        return about(word, node, ticket(1, 1, Mode::Write)?);
+    }
+    if let Some(word) = text.strip_suffix(" again") {
+        return about(word, node, ticket(1, 2, Mode::Read)?);
+    }
     match text.strip_suffix(" c2") {
-        Some(word) => about(word, ticket(2, Mode::Write)?),
-        None => about(text, ticket(1, Mode::Read)?),
+        Some(word) => about(word, node, ticket(2, 1, Mode::Write)?),
+        None => about(text, node, ticket(1, 1, Mode::Read)?),
+    }
+}
+
+/// The message of a text: `grant` is with n1, `grant n2` with n2.
+fn message(text: &str) -> Result<Message, Failure> {
+    match text.strip_suffix(" n2") {
+        Some(text) => message_with(text, node_id(2)?),
+        None => message_with(text, node_id(1)?),
     }
 }
 
@@ -99,11 +114,16 @@ fn sending(alloc: Global, to: Actor, text: &str) -> Result<Sending, Failure> {
             let other = Actor::Client(client_id(2)?);
             Ok(Sending::Sent(other, parcel(alloc, text)?))
         }
+        None if text.ends_with(" n2") => {
+            let other = Actor::Node(node_id(2)?);
+            Ok(Sending::Sent(other, parcel(alloc, text)?))
+        }
         None => Ok(Sending::Sent(to, parcel(alloc, text)?)),
     }
 }
 
-/// What a row says was sent to the actor and told, as `2 grant, nudge`; what is about c2 goes to c2.
+/// What a row says was sent to the actor and told, as `2 grant, nudge`; what is about c2 goes to c2, and
+/// what is with n2 to n2.
 pub(crate) fn sendings(alloc: Global, to: Actor, row: &str) -> Result<Vec<Sending>, Failure> {
     let to = &to;
     let mut sendings = Vec::new(alloc);

@@ -8,6 +8,7 @@ use entry_guard::EntryGuard;
 use event_recorders::{Gate, Recorder};
 use history_book::BookFault;
 use lock_messages::Actor;
+use lock_model::Heard;
 use stable_record::{MAX_RECORD_LEN, RecordFault, StableRecord};
 use std::alloc::Global;
 use std::marker::Model;
@@ -17,25 +18,30 @@ use std::sync::atomic::Ordering::SeqCst;
 use test_outcomes::Failure;
 use world_model::{Effect, Event};
 
-/// How many Trys were logged, how often a record was kept, how often a gate was called before a keep, and
-/// how many of these calls came out of turn.
+/// How many Trys were logged, how often a record was kept, how often a gate was called before a keep, how
+/// many of these calls came out of turn, and how many messages were heard that were not the hearer's.
 #[derive(Drop)]
 pub(crate) struct Counts {
     tries: AtomicU32,
     keeps: AtomicU32,
     calls: AtomicU32,
     wrong: AtomicU32,
+    not_mine: AtomicU32,
 }
 
 impl Counts {
-    pub(crate) fn shared(alloc: Global) -> Result<Arc<Counts>, Failure> {
-        let counts = Counts {
+    pub(crate) fn new() -> Counts {
+        Counts {
             tries: AtomicU32::new(0),
             keeps: AtomicU32::new(0),
             calls: AtomicU32::new(0),
             wrong: AtomicU32::new(0),
-        };
-        Ok(Arc::new(alloc, counts)?)
+            not_mine: AtomicU32::new(0),
+        }
+    }
+
+    pub(crate) fn shared(alloc: Global) -> Result<Arc<Counts>, Failure> {
+        Ok(Arc::new(alloc, Counts::new())?)
     }
 
     /// The calls of the gate before a keep, those that came out of turn, and the keeps.
@@ -45,6 +51,21 @@ impl Counts {
             self.wrong.load(SeqCst),
             self.keeps.load(SeqCst),
         )
+    }
+
+    /// The messages that were heard and not the hearer's.
+    pub(crate) fn not_mine(&self) -> u32 {
+        self.not_mine.load(SeqCst)
+    }
+
+    /// Counts a message that was not the hearer's.
+    fn hear(&self, heard: Heard) {
+        match heard {
+            Heard::NotMine => {
+                self.not_mine.fetch_add(1, SeqCst);
+            }
+            Heard::Counted | Heard::Known | Heard::Busy | Heard::Done | Heard::Softened => {}
+        }
     }
 }
 
@@ -192,6 +213,10 @@ impl<'a, R: Recorder> Recorder for Watched<'a, R> {
         if matches!(event, Event::Try(_)) {
             self.counts.tries.fetch_add(1, SeqCst);
         }
-        self.inner.log(event, stable)
+        let done = self.inner.log(event, stable);
+        if let Ok(Effect::Heard(_, heard)) = &done {
+            self.counts.hear(*heard);
+        }
+        done
     }
 }

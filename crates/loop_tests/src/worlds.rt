@@ -118,6 +118,7 @@ pub(crate) fn all_opened(
     node: NodeId,
 ) -> Result<(Book, Berth, Berth, Berth), Failure>
     requires { ballots ≡ two_nodes }
+    ensures book { IfOk result (λ r. IsNewBook ballots r.0) }
     ensures node { IfOk result (λ r. IsUnlogged ballots (Actor.Node node) r.1 r.0) }
     ensures one { IfOk result (λ r. IsUnlogged ballots (Actor.Client 1) r.2 r.0) }
     ensures two { IfOk result (λ r. IsUnlogged ballots (Actor.Client 2) r.3 r.0) }
@@ -125,4 +126,20 @@ pub(crate) fn all_opened(
     let (mut book, node, one) = opened(alloc, ballots, node)?;
     let two = berth_of(ballots, &mut book, Actor::Client(client_id(2)?))?;
     Ok((book, node, one, two))
+}
+
+/// A new book of those ballots, with the berths of both nodes, of c1 and of c2.
+pub(crate) fn whole_opened(
+    alloc: Global,
+    ballots: BallotList,
+) -> Result<(Book, Berth, Berth, Berth, Berth), Failure>
+    requires { ballots ≡ two_nodes }
+    ensures first { IfOk result (λ r. IsUnlogged ballots (Actor.Node 1) r.1 r.0) }
+    ensures second { IfOk result (λ r. IsUnlogged ballots (Actor.Node 2) r.2 r.0) }
+    ensures one { IfOk result (λ r. IsUnlogged ballots (Actor.Client 1) r.3 r.0) }
+    ensures two { IfOk result (λ r. IsUnlogged ballots (Actor.Client 2) r.4 r.0) }
+{
+    let (mut book, first, one, two) = all_opened(alloc, ballots, node_id(1)?)?;
+    let second = berth_of(ballots, &mut book, Actor::Node(node_id(2)?))?;
+    Ok((book, first, second, one, two))
 }

@@ -33,3 +33,18 @@ fn decide_on_a_release(rt: HostRuntime) -> Outcome {
     let done = Message::Done(node(1)?, client(1)?, first_attempt()?);
     check(second.changed && says(&second, done))
 }
+
+#[test]
+fn decide_on_a_softening(rt: HostRuntime) -> Outcome {
+    let alloc = rt.alloc();
+    let write = request(1, Mode::Write)?;
+    let first = decide(alloc, Problem::First, &[], &write)?;
+    let read = request(2, Mode::Read)?;
+    let second = decide(alloc, Problem::First, &first.entries, &read)?;
+    let soften = Message::Soften(node(1)?, client(1)?, first_attempt()?);
+    let third = decide(alloc, Problem::First, &second.entries, &soften)?;
+    let softened = Message::Softened(node(1)?, client(1)?, first_attempt()?);
+    check(third.changed && third.replies.len() == 2 && says(&third, softened))?;
+    let again = decide(alloc, Problem::First, &third.entries, &write)?;
+    check(!again.changed && says(&again, softened))
+}

@@ -19,3 +19,11 @@ fn encode_an_attempt(rt: HostRuntime) -> Outcome {
     let release = Message::Release(node(1)?, client(2)?, first_attempt()?);
     encodes(rt.alloc(), &release)
 }
+
+#[test]
+fn encode_a_softening(rt: HostRuntime) -> Outcome {
+    let soften = Message::Soften(node(1)?, client(2)?, first_attempt()?);
+    encodes(rt.alloc(), &soften)?;
+    let softened = Message::Softened(node(1)?, client(2)?, first_attempt()?);
+    encodes(rt.alloc(), &softened)
+}

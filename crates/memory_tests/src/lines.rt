@@ -4,7 +4,7 @@ use crate::failures::{Failure, Outcome, check};
 use history_check::{Command, read_line, write_line};
 use std::alloc::Global;
 
-const COMMANDS: [Command; 14] = [
+const COMMANDS: [Command; 15] = [
     Command::Begin,
     Command::Try,
     Command::Kept,
@@ -14,6 +14,7 @@ const COMMANDS: [Command; 14] = [
     Command::Hear,
     Command::Enter,
     Command::Leave,
+    Command::Soften,
     Command::Fall,
     Command::Rise,
     Command::Inside,
@@ -22,7 +23,7 @@ const COMMANDS: [Command; 14] = [
 ];
 
 /// A line of each command, with the least and the greatest arguments.
-const LINES: [&str; 17] = [
+const LINES: [&str; 19] = [
     "begin c1024 write a-9",
     "begin c1 read a",
     "try n16",
@@ -34,6 +35,8 @@ const LINES: [&str; 17] = [
     "hear c1 1",
     "enter c1024",
     "leave c1",
+    "soften c1",
+    "soften c1024",
     "fall n1",
     "rise n16 old",
     "rise c1 new",

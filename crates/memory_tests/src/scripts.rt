@@ -27,6 +27,18 @@ const LONG_NAME_EXPECTED: &str = "\
 chose 1\ntried\nkept\nsent 1 request n1 c1 1 write abcdefghijklmnopqrstuvwxyz-01234\nchanged\n\
 tried\nkept\nholding n1 abcdefghijklmnopqrstuvwxyz-01234: c1 write\n";
 
+/// A writer that softens, and what the node answers.
+const SOFTENS: &str = "\
+votes = [1]\nread = 1\nwrite = 1\nproblem = 2\nclients = 1\n---\n\
+begin c1 write a\ntry c1\nkept c1\nsayto c1 n1\ntake n1 1\ntry n1\nkept n1\nsay n1\nhear c1 2\nenter c1\n\
+soften c1\nsayto c1 n1\ntake n1 3\ntry n1\nkept n1\nsay n1\nhear c1 4\nholding n1 a\nsoften c1\n";
+
+const SOFTENS_EXPECTED: &str = "\
+chose 1\ntried\nkept\nsent 1 request n1 c1 1 write a\nchanged\ntried\nkept\n\
+sent 2 grant n1 c1 1 write a\ncounted\ninside\n\
+softened\nsent 3 soften n1 c1 1\nchanged\ntried\nkept\nsent 4 softened n1 c1 1\nsoftened\n\
+holding n1 a: c1 read\nrefused 604\n";
+
 const BAD_SETTINGS: &str = "votes = [1, 1]\nread = 1\nwrite = 1\nproblem = 1\nclients = 2\n---\n";
 
 /// Serves a script.
@@ -77,6 +89,11 @@ fn serve_a_script(rt: HostRuntime) -> Outcome {
 #[test]
 fn serve_a_long_name(rt: HostRuntime) -> Outcome {
     serves(rt.alloc(), LONG_NAME, LONG_NAME_EXPECTED, 0)
+}
+
+#[test]
+fn serve_a_softening(rt: HostRuntime) -> Outcome {
+    serves(rt.alloc(), SOFTENS, SOFTENS_EXPECTED, 1)
 }
 
 #[test]

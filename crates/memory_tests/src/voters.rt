@@ -149,13 +149,16 @@ fn all_waiting(alloc: Global) -> Result<Vec<u8>, Failure> {
     Ok(bytes)
 }
 
-/// Whether the replies are a Done to c1 and then a Grant to each of c2 to c1024, in this order.
+/// Whether the replies are one that c1's message was taken, and then a Grant to each of c2 to c1024, in this
+/// order.
 fn are_to_all(replies: &[Message]) -> bool {
     let mut wanted = 0u32;
     for reply in replies {
         wanted = wanted.saturating_add(1);
         let right = match reply {
-            Message::Done(_, client, _) => wanted == 1 && client.get() == 1,
+            Message::Done(_, client, _) | Message::Softened(_, client, _) => {
+                wanted == 1 && client.get() == 1
+            }
             Message::Grant(_, ticket) => wanted > 1 && ticket.client.get() == wanted,
             _ => false,
         };
@@ -187,4 +190,56 @@ fn take_a_release_for_all(rt: HostRuntime) -> Outcome {
     check(changed && core.next_bytes(rt.alloc())?.len() == 24_569)?;
     let replies = spoken(core)?;
     check(are_to_all(&replies))
+}
+
+/// A softening that lets in as many.
+#[test]
+fn take_a_softening_for_all(rt: HostRuntime) -> Outcome {
+    let bytes = all_waiting(rt.alloc())?;
+    let message = Message::Soften(node(1)?, client(1)?, first_attempt()?);
+    let core = risen(rt.alloc(), &bytes)?;
+    let (core, changed) = takes(rt.alloc(), core, &bytes, &message)?;
+    check(changed && core.next_bytes(rt.alloc())?.len() == 24_580)?;
+    let replies = spoken(core)?;
+    check(are_to_all(&replies))
+}
+
+/// The record of problem 1 in which c1 holds `a` as a writer, and once it has softened.
+const WRITES: [u8; 28] = [
+    0x01, 0x01, 0x00, 0x01, //
+    0x00, 0x00, 0x00, 0x01, 0x00, 0x00, 0x00, 0x00, 0x00, 0x00, 0x00, 0x00, 0x02, 0x00, 0x00, 0x00,
+    0x00, 0x00, 0x00, 0x00, 0x01, 0x01, 0x01, 0x61,
+];
+
+const SOFTENED: [u8; 28] = [
+    0x01, 0x01, 0x00, 0x01, //
+    0x00, 0x00, 0x00, 0x01, 0x00, 0x00, 0x00, 0x00, 0x00, 0x00, 0x00, 0x00, 0x03, 0x00, 0x00, 0x00,
+    0x00, 0x00, 0x00, 0x00, 0x01, 0x00, 0x01, 0x61,
+];
+
+/// The writer becomes no new reader, so that the policy is told of nothing.
+#[test]
+fn take_a_softening(rt: HostRuntime) -> Outcome {
+    let message = Message::Soften(node(1)?, client(1)?, first_attempt()?);
+    let core = risen(rt.alloc(), &WRITES)?;
+    let (core, changed) = takes(rt.alloc(), core, &WRITES, &message)?;
+    check(changed && core.phase() == Phase::Decided && core.replies() == 1)?;
+    check(core.next_bytes(rt.alloc())?.as_slice() == SOFTENED.as_slice())?;
+    check(core.fall().tally() == (1, 0))
+}
+
+#[test]
+fn take_a_softening_again(rt: HostRuntime) -> Outcome {
+    let message = Message::Soften(node(1)?, client(1)?, first_attempt()?);
+    let core = risen(rt.alloc(), &SOFTENED)?;
+    let (core, changed) = takes(rt.alloc(), core, &SOFTENED, &message)?;
+    check(!changed && core.phase() == Phase::Stored && core.replies() == 1)
+}
+
+#[test]
+fn take_a_softening_of_a_stranger(rt: HostRuntime) -> Outcome {
+    let message = Message::Soften(node(1)?, client(2)?, first_attempt()?);
+    let core = risen(rt.alloc(), &WRITES)?;
+    let (core, changed) = takes(rt.alloc(), core, &WRITES, &message)?;
+    check(!changed && core.phase() == Phase::Stored && core.replies() == 1)
 }

@@ -189,6 +189,46 @@ fn who_is_inside(rt: HostRuntime) -> Outcome {
     check(inside.as_slice() == [ticket].as_slice())
 }
 
+/// A world in which c1 is inside as a writer, by the vote of n1.
+fn writing(alloc: Global) -> Result<World, Failure> {
+    let (from, to) = (client(1)?, node(1)?);
+    let (who, voter) = (Actor::Client(from), Actor::Node(to));
+    let mut world = up(alloc)?;
+    let events = [
+        Event::Begin(from, Mode::Write, resource()?, 1),
+        Event::Try(who),
+        Event::Kept(who),
+        Event::SayTo(from, to),
+        Event::Take(to, 1),
+        Event::Try(voter),
+        Event::Kept(voter),
+        Event::Say(to),
+        Event::Hear(from, 2),
+        Event::Enter(from),
+    ];
+    runs(&mut world, &events)?;
+    Ok(world)
+}
+
+#[test]
+fn soften_and_say(rt: HostRuntime) -> Outcome {
+    let (from, to) = (client(1)?, node(1)?);
+    let who = Actor::Node(to);
+    let soften = Message::Soften(to, from, first_attempt()?);
+    let softened = Message::Softened(to, from, first_attempt()?);
+    let said = Effect::Said { first: 4, count: 1 };
+    let mut world = writing(rt.alloc())?;
+    does(&mut world, &Event::Soften(from), Effect::Softened)?;
+    does(&mut world, &Event::SayTo(from, to), Effect::Sent(3, soften))?;
+    does(&mut world, &Event::Take(to, 3), Effect::Took(soften, true))?;
+    does(&mut world, &Event::Try(who), Effect::Tried)?;
+    does(&mut world, &Event::Kept(who), Effect::Kept)?;
+    does(&mut world, &Event::Say(to), said)?;
+    check(world.sent(4) == Some(softened))?;
+    let inside = world.inside(&resource()?)?;
+    check(inside.as_slice() == [ticket(1, Mode::Read)?].as_slice())
+}
+
 #[test]
 fn who_holds_and_who_waits(rt: HostRuntime) -> Outcome {
     let (at, resource) = (node(1)?, resource()?);

@@ -3,7 +3,8 @@ use Rattle.std.specs.Prelude.{◌≡◌, ℕ, ◌+◌, ◌%◌, ◌^◌, List, [
 use Rattle.lock_messages.specs.declared.ids.Actor.{Actor}
 use Rattle.lock_messages.specs.declared.ids.Actor.TheVariants as actor
 use Rattle.lock_messages.specs.declared.messages.Message.{Message}
-use Rattle.lock_messages.specs.declared.messages.Message.TheVariants.{Request, Release, Grant, Busy, Over, Done, Muddled}
+use Rattle.lock_messages.specs.declared.messages.Message.TheVariants.{Request, Release, Grant, Busy, Over, Done, Muddled, Soften}
+use Rattle.lock_messages.specs.declared.messages.Message.TheVariants as message
 use Rattle.lock_messages.specs.Frames.{frame_of}
 use Rattle.lock_model.specs.Ballots.{Ballot}
 use Rattle.lossy_link.specs.declared.parcels.Post.TheVariants as post
@@ -28,6 +29,8 @@ addressee (Busy n t) = actor.Client t.client
 addressee (Over n c a) = actor.Client c
 addressee (Done n c a) = actor.Client c
 addressee (Muddled n c a) = actor.Client c
+addressee (Soften n c a) = actor.Node n
+addressee (message.Softened n c a) = actor.Client c
 
 -- Each of the messages as its frame, to whom it goes, numbered from this number on. The numbers are of 32
 -- bits and go round; no list of messages reaches the greatest.
@@ -46,6 +49,7 @@ first_of (effect.Took m changed) = 0
 first_of (effect.Heard m made) = 0
 first_of effect.Inside = 0
 first_of effect.Outside = 0
+first_of effect.Softened = 0
 first_of effect.Down = 0
 first_of effect.Up = 0
 
@@ -63,6 +67,7 @@ sent_for b (event.Take n k) done p = []
 sent_for b (event.Hear c k) done p = []
 sent_for b (event.Enter c) done p = []
 sent_for b (event.Leave c) done p = []
+sent_for b (event.Soften c) done p = []
 sent_for b (event.Rise who age) done p = []
 
 -- the same for a list of its events, from a part on

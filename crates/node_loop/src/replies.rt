@@ -14,11 +14,14 @@ fn addressee(message: &Message) -> Actor
     ensures { result ≡ addressee message.now }
 {
     match *message {
-        Message::Request(node, _) | Message::Release(node, _, _) => Actor::Node(node),
+        Message::Request(node, _) | Message::Release(node, _, _) | Message::Soften(node, _, _) => {
+            Actor::Node(node)
+        }
         Message::Grant(_, ticket) | Message::Busy(_, ticket) => Actor::Client(ticket.client),
         Message::Over(_, client, _)
         | Message::Done(_, client, _)
-        | Message::Muddled(_, client, _) => Actor::Client(client),
+        | Message::Muddled(_, client, _)
+        | Message::Softened(_, client, _) => Actor::Client(client),
     }
 }
 

@@ -18,7 +18,7 @@ use Rattle.history_book.specs.Books.{BookValue, BerthValue, Known, own_of}
 use Rattle.event_recorders.specs.declared.faults.RunFault.{RunFault}
 use Rattle.event_recorders.specs.OwnLogs.{OwnLog}
 use Rattle.book_recorders.specs.Sharing.{log_of}
-use Rattle.client_loop.specs.Visits.{HasBegun, HasEntered}
+use Rattle.client_loop.specs.Visits.{HasBegun, HasEntered, HasSoftened}
 use Rattle.node_threads.specs.declared.ends.NodeEnd.{NodeEnd}
 use Rattle.node_threads.specs.declared.ends.ClientEnd.{ClientEnd}
 use Rattle.node_threads.specs.Ends.{IsClientEnd, AreClientEnds, with_wishes, client_in, node_fault, client_fault}
@@ -103,12 +103,15 @@ did w b wishes faults clients before e c opening told there num ends known own =
       begun = subst (λ (ws : List Wish). HasBegun (actor.Client c) ws (log_in w b.history (actor.Client c))) mine
           (subst (λ (l : OwnLog). HasBegun (actor.Client c) e.wishes.items l) log (subst (λ n. HasBegun (actor.Client n) e.wishes.items (log_of e.berth)) num ends.begun));
       entries = subst (λ (ws : List Wish). HasEntered ws e.entered (log_in w b.history (actor.Client c))) mine (subst (λ (l : OwnLog). HasEntered e.wishes.items e.entered l) log ends.entries);
-      all = λ none. so none e.fault refl ∙ ap length mine;
+      all = λ none. so none (e.entered ≡ length e.wishes.items) ends.all e.fault refl ∙ ap length mine;
+      softened = λ none. subst (λ (ws : List Wish). HasSoftened ws e.entered (log_in w b.history (actor.Client c))) mine
+          (subst (λ (l : OwnLog). HasSoftened e.wishes.items e.entered l) log (so none (HasSoftened e.wishes.items e.entered (log_of e.berth)) ends.softened e.fault refl));
     }
   where
-    so : ((f : RunFault) → Among (actor.Client c, f) faults → ⊥) → (o : Option RunFault) → e.fault ≡ o → e.entered ≡ length e.wishes.items
-    so none None is = subst (λ (o : Option RunFault). IfNone o (e.entered ≡ length e.wishes.items)) is ends.all
-    so none (Some f) is =
+    -- who isn't told ended without a fault
+    so : ((f : RunFault) → Among (actor.Client c, f) faults → ⊥) → (P : Type 0) → IfNone e.fault P → (o : Option RunFault) → e.fault ≡ o → P
+    so none P well None is = subst (λ (o : Option RunFault). IfNone o P) is well
+    so none P well (Some f) is =
         let among : Among (actor.Client e.client, f) faults = subst (λ (ps : List (Actor × RunFault)). Among (actor.Client e.client, f) ps) (sym told) (among_behind (actor.Client e.client, f) before (filter_map client_fault clients) (told_among e f clients there is)) in
         absurd (none f (subst (λ n. Among (actor.Client n, f) faults) num among))
 

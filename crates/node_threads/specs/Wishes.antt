@@ -11,7 +11,7 @@ use Rattle.world_model.specs.Parts.{part}
 use Rattle.history_check.specs.declared.wishes.Wish.{Wish}
 use Rattle.event_recorders.specs.declared.faults.RunFault.{RunFault}
 use Rattle.event_recorders.specs.OwnLogs.{OwnLog}
-use Rattle.client_loop.specs.Visits.{HasBegun, HasEntered}
+use Rattle.client_loop.specs.Visits.{HasBegun, HasEntered, HasSoftened}
 use Rattle.node_threads.specs.Tasks.{own_wishes}
 
 -- an actor's own log of a history from this world
@@ -19,12 +19,14 @@ abbrev pub log_in : ExactWorld → List (Event × Effect) → Actor → OwnLog
 log_in w history who = record { actor = who; ballots = w.ballots; opening = part w who; events = own_events who history }
 
 -- By its own events in the history the client has begun nothing but its own wishes among these, and entered
--- so many of them, each once and in order; all of them, unless it is among those that ended by a fault.
+-- so many of them, each once and in order. Unless it is among those that ended by a fault, it entered all of
+-- them, and softened just those that say so.
 pub record DidAsWished (w : ExactWorld) (history : List (Event × Effect)) (wishes : List Wish) (faults : List (Actor × RunFault)) (c : ℕ) : Type 0 where
   pub entered : ℕ
   pub begun : HasBegun (actor.Client c) (own_wishes c wishes) (log_in w history (actor.Client c))
   pub entries : HasEntered (own_wishes c wishes) entered (log_in w history (actor.Client c))
   pub all : ((f : RunFault) → Among (actor.Client c, f) faults → ⊥) → entered ≡ length (own_wishes c wishes)
+  pub softened : ((f : RunFault) → Among (actor.Client c, f) faults → ⊥) → HasSoftened (own_wishes c wishes) entered (log_in w history (actor.Client c))
 
 -- so did each client of the world
 abbrev pub AllDidAsWished : ExactWorld → List (Event × Effect) → List Wish → List (Actor × RunFault) → Type 0

@@ -16,5 +16,6 @@ fits w (effect.Took m changed) h = tt
 fits w (effect.Heard m heard) h = tt
 fits w effect.Inside h = tt
 fits w effect.Outside h = tt
+fits w effect.Softened h = tt
 fits w effect.Down h = tt
 fits w effect.Up h = tt

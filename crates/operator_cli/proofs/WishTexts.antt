@@ -10,7 +10,7 @@ use Rattle.history_check.specs.declared.faults.LineFault.{LineFault}
 use Rattle.history_check.specs.declared.faults.LineFault.TheVariants as fault
 use Rattle.history_check.specs.declared.wishes.Wish.{Wish}
 use Rattle.history_check.specs.declared.words.TheConstants.{MAX_LINE_LEN}
-use Rattle.history_check.specs.Lines.{◌>>=◌, AName, APlace, Arguments, IsPlace, between, words, spelled, lettered, client_word, mode_word, name_word, behind_first, place_word, values_in}
+use Rattle.history_check.specs.Lines.{◌>>=◌, AName, APlace, Arguments, IsPlace, between, words, spelled, lettered, client_word, wish_mode_word, name_word, behind_first, place_word, values_in}
 use Rattle.history_check.specs.Wishes.{use_kinds, wished, client_among, words_wish, wish_among}
 
 -- what is answered behind a part was answered by it
@@ -88,7 +88,7 @@ name_first (w ∷ ws) a h =
 use_within : (ws : List (List ℕ)) (a : Arguments use_kinds) → values_in use_kinds ws ≡ Ok a → IsPlace a.1.1.0
 use_within [] a h = no_fault fault.Words a h
 use_within (w ∷ ws) a h =
-    let (m, e, k) = behind (mode_word w) (λ x. values_in (AName ∷ APlace ∷ []) ws >>= (λ xs. Ok (x, xs))) a h in
+    let (m, e, k) = behind (wish_mode_word w) (λ x. values_in (AName ∷ APlace ∷ []) ws >>= (λ xs. Ok (x, xs))) a h in
     let (xs, f, l) = behind (values_in (AName ∷ APlace ∷ []) ws) (λ xs. Ok (m, xs)) a k in
     let whole : Arguments use_kinds = (m, xs) in
     let same : whole ≡ a = (let s : Ok whole ≡ Ok a = l in cc) in

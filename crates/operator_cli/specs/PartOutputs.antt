@@ -52,6 +52,7 @@ SaidFits (effect.Took m changed) = Unit {0}
 SaidFits (effect.Heard m heard) = Unit {0}
 SaidFits effect.Inside = Unit {0}
 SaidFits effect.Outside = Unit {0}
+SaidFits effect.Softened = Unit {0}
 SaidFits effect.Down = Unit {0}
 SaidFits effect.Up = Unit {0}
 

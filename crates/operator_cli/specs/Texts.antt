@@ -37,6 +37,7 @@ heard_text heard.Counted = codes "counted\n"
 heard_text heard.Known = codes "known\n"
 heard_text heard.Busy = codes "busy\n"
 heard_text heard.Done = codes "done\n"
+heard_text heard.Softened = codes "softened\n"
 heard_text heard.NotMine = codes "not mine\n"
 
 -- what an event prints, given the messages that were sent up to its end
@@ -50,6 +51,7 @@ effect_text sent (effect.Took m changed) = took_text changed
 effect_text sent (effect.Heard m heard) = heard_text heard
 effect_text sent effect.Inside = codes "inside\n"
 effect_text sent effect.Outside = codes "outside\n"
+effect_text sent effect.Softened = codes "softened\n"
 effect_text sent effect.Down = codes "down\n"
 effect_text sent effect.Up = codes "up\n"
 

@@ -7,7 +7,7 @@ use crate::LineFault;
 use history_check::{Command, Line};
 
 /// The commands that a script reads: all that there are.
-const COMMANDS: [Command; 14] = [
+const COMMANDS: [Command; 15] = [
     Command::Begin,
     Command::Try,
     Command::Kept,
@@ -17,6 +17,7 @@ const COMMANDS: [Command; 14] = [
     Command::Hear,
     Command::Enter,
     Command::Leave,
+    Command::Soften,
     Command::Fall,
     Command::Rise,
     Command::Inside,

@@ -53,6 +53,7 @@ fn heard_text(heard: Heard) -> &'static str
         Heard::Known => "known\n",
         Heard::Busy => "busy\n",
         Heard::Done => "done\n",
+        Heard::Softened => "softened\n",
         Heard::NotMine => "not mine\n",
     }
 }
@@ -77,6 +78,7 @@ pub(crate) fn push_effect(
         Effect::Heard(_, heard) => text.push_str(heard_text(heard)),
         Effect::Inside => text.push_str("inside\n"),
         Effect::Outside => text.push_str("outside\n"),
+        Effect::Softened => text.push_str("softened\n"),
         Effect::Down => text.push_str("down\n"),
         Effect::Up => text.push_str("up\n"),
     }

@@ -30,7 +30,7 @@ fn begins(shown: &mut String, core: &mut ClientCore, wish: &str) -> Option<()> {
     }
 }
 
-/// Whether a call that is owed a phase was made: `kept`, `enter` or `leave`.
+/// Whether a call that is owed a phase was made: `kept`, `enter`, `soften` or `leave`.
 fn moves(core: &mut ClientCore, call: &str) -> bool {
     if call == "kept" && core.phase() == Phase::Chosen {
         core.kept();
@@ -38,6 +38,10 @@ fn moves(core: &mut ClientCore, call: &str) -> bool {
     }
     if call == "enter" && core.may_enter() {
         core.enter();
+        return true;
+    }
+    if call == "soften" && core.may_soften() {
+        core.soften();
         return true;
     }
     if call == "leave" && core.phase() == Phase::Asking {
@@ -75,6 +79,7 @@ fn answers(shown: &mut String, core: &mut ClientCore, call: &str) -> Option<()> 
         "ticket" => tell(shown, core.ticket()),
         "next" => tell(shown, core.next_ask()),
         "may" => tell(shown, Some(core.may_enter())),
+        "may_soften" => tell(shown, Some(core.may_soften())),
         _ => changes(shown, core, call),
     }
 }
@@ -263,6 +268,109 @@ fn attempts_by_either_ballot(rt: HostRuntime) -> Outcome {
     plays(rt.alloc(), &mut core, BY_EITHER_BALLOT)
 }
 
+// A writer that is inside softens. From then on it says so to every node, asked or not, and hears no vote
+// more, late or new; once it has left it says the release.
+const SOFTENS: &str = "\
+may_soften > false
+begin write a > 1
+kept > true
+hear grant n1 c1 1 write a > Counted
+hear grant n2 c1 1 write a > Counted
+may_soften > false
+soften > false
+enter > true
+ticket > c1 1 write a
+say n3 > request n3 c1 1 write a
+hear softened n1 c1 1 > NotMine
+may_soften > true
+soften > true
+phase > Inside
+attempt > 1
+ticket > c1 1 read a
+may > false
+next > nothing
+say n1 > soften n1 c1 1
+say n3 > soften n3 c1 1
+say n4 > nothing
+hear softened n1 c1 1 > Softened
+hear softened n1 c1 1 > Softened
+hear softened n3 c1 1 > Softened
+hear softened n4 c1 1 > NotMine
+hear softened n1 c2 1 > NotMine
+hear softened n1 c1 2 > NotMine
+hear grant n3 c1 1 write a > NotMine
+hear grant n1 c1 1 write a > NotMine
+hear grant n3 c1 1 read a > NotMine
+hear busy n3 c1 1 write a > NotMine
+may_soften > false
+soften > false
+begin read b > 701
+ticket > c1 1 read a
+leave > true
+phase > Idle
+ticket > nothing
+may_soften > false
+say n1 > release n1 c1 1
+say n3 > release n3 c1 1
+hear softened n1 c1 1 > NotMine
+hear done n1 c1 1 > Done
+begin write a > 2
+ticket > c1 2 write a";
+
+// A reader has nothing to soften.
+const READS: &str = "\
+begin read a > 1
+kept > true
+hear grant n1 c1 1 read a > Counted
+hear grant n2 c1 1 read a > Counted
+enter > true
+may_soften > false
+soften > false
+say n1 > request n1 c1 1 read a
+hear softened n1 c1 1 > NotMine
+hear grant n3 c1 1 read a > Counted
+leave > true
+say n1 > release n1 c1 1";
+
+// The votes of n1 are enough for a writer and not for a reader. One that softens stays inside by them.
+const STAYS_BY_FEWER_VOTES: &str = "\
+begin write a > 1
+kept > true
+hear grant n1 c1 1 write a > Counted
+enter > true
+soften > true
+phase > Inside
+ticket > c1 1 read a
+may > false
+hear softened n1 c1 1 > Softened
+hear grant n2 c1 1 write a > NotMine
+phase > Inside
+leave > true
+begin read a > 2
+kept > true
+hear grant n1 c1 2 read a > Counted
+may > false
+hear grant n2 c1 2 read a > Counted
+may > true";
+
+/// Client 1 among three nodes, of which the first has three votes; a reader needs more of them than a
+/// writer.
+fn with_costly_reads() -> Option<ClientCore> {
+    let ballot = Ballot::of(&[3, 1, 1], 4, 3).ok()?;
+    let ballots = BallotList::of(&[ballot]).ok()?;
+    Some(ClientCore::rise(ClientId::of(1)?, 0, ballots))
+}
+
+#[test]
+fn softened_attempts(rt: HostRuntime) -> Outcome {
+    plays_after(rt.alloc(), 0, SOFTENS)?;
+    plays_after(rt.alloc(), 0, READS)?;
+    let Some(mut core) = with_costly_reads() else {
+        return check_answer(None, 0);
+    };
+    plays(rt.alloc(), &mut core, STAYS_BY_FEWER_VOTES)
+}
+
 #[test]
 fn attempts_to_their_end(rt: HostRuntime) -> Outcome {
     plays_after(rt.alloc(), 0, GIVES_UP)?;
@@ -274,13 +382,14 @@ fn attempts_to_their_end(rt: HostRuntime) -> Outcome {
     plays(rt.alloc(), &mut core, NEXT_NODE)
 }
 
-// To the inside, in attempt 2, with the votes of nodes 1 and 2.
+// To the inside as a writer, in attempt 2, with the votes of nodes 1 and 2; and softened there.
 const TO_THE_INSIDE: &str = "\
-begin read a > 2
+begin write a > 2
 kept > true
-hear grant n1 c1 2 read a > Counted
-hear grant n2 c1 2 read a > Counted
-enter > true";
+hear grant n1 c1 2 write a > Counted
+hear grant n2 c1 2 write a > Counted
+enter > true
+soften > true";
 
 /// Client 1 after attempt 1, and after so many rows to the inside.
 fn within(alloc: Global, rows: usize) -> Option<ClientCore> {
@@ -300,7 +409,8 @@ fn is_heard(alloc: Global, rows: usize, call: &str, want: &str) -> Option<bool> 
     Some(shown.as_str() == want && same == (want != "Counted"))
 }
 
-/// Whether a call has its answers in the phases Idle, Chosen, Asking and Inside.
+/// Whether a call has its answers in the phases Idle, Chosen, Asking and Inside, and inside once it is
+/// softened.
 pub(crate) fn in_each_phase(alloc: Global, row: &str) -> Option<bool> {
     let (call, wants) = row.split_once(" > ")?;
     let mut wants = wants.split(' ');
@@ -308,36 +418,47 @@ pub(crate) fn in_each_phase(alloc: Global, row: &str) -> Option<bool> {
     let chosen = is_heard(alloc, 1, call, wants.next()?)?;
     let asking = is_heard(alloc, 4, call, wants.next()?)?;
     let inside = is_heard(alloc, 5, call, wants.next()?)?;
-    Some(idle && chosen && asking && inside)
+    let softened = is_heard(alloc, 6, call, wants.next()?)?;
+    Some(idle && chosen && asking && inside && softened)
 }
 
 const VOTES: &str = "\
-hear grant n3 c1 2 read a > NotMine NotMine Counted Counted
-hear grant n1 c1 2 read a > NotMine NotMine Known Known
-hear grant n4 c1 2 read a > NotMine NotMine NotMine NotMine
-hear grant n3 c2 2 read a > NotMine NotMine NotMine NotMine
-hear grant n3 c1 1 read a > NotMine NotMine NotMine NotMine
-hear grant n3 c1 2 write a > NotMine NotMine NotMine NotMine
-hear grant n3 c1 2 read b > NotMine NotMine NotMine NotMine
-hear busy n1 c1 2 read a > NotMine NotMine Busy Busy
-hear busy n4 c1 2 read a > NotMine NotMine NotMine NotMine
-hear busy n1 c2 2 read a > NotMine NotMine NotMine NotMine
-hear busy n1 c1 1 read a > NotMine NotMine NotMine NotMine";
+hear grant n3 c1 2 write a > NotMine NotMine Counted Counted NotMine
+hear grant n1 c1 2 write a > NotMine NotMine Known Known NotMine
+hear grant n4 c1 2 write a > NotMine NotMine NotMine NotMine NotMine
+hear grant n3 c2 2 write a > NotMine NotMine NotMine NotMine NotMine
+hear grant n3 c1 1 write a > NotMine NotMine NotMine NotMine NotMine
+hear grant n3 c1 2 read a > NotMine NotMine NotMine NotMine NotMine
+hear grant n3 c1 2 write b > NotMine NotMine NotMine NotMine NotMine
+hear busy n1 c1 2 write a > NotMine NotMine Busy Busy NotMine
+hear busy n1 c1 2 read a > NotMine NotMine NotMine NotMine NotMine
+hear busy n4 c1 2 write a > NotMine NotMine NotMine NotMine NotMine
+hear busy n1 c2 2 write a > NotMine NotMine NotMine NotMine NotMine
+hear busy n1 c1 1 write a > NotMine NotMine NotMine NotMine NotMine";
 
 const OTHERS: &str = "\
-hear request n3 c1 2 read a > NotMine NotMine NotMine NotMine
-hear release n3 c1 2 > NotMine NotMine NotMine NotMine
-hear release n3 c1 1 > NotMine NotMine NotMine NotMine
-hear over n3 c1 2 > NotMine NotMine NotMine NotMine
-hear over n3 c1 1 > NotMine NotMine NotMine NotMine
-hear done n1 c1 1 > Done NotMine NotMine NotMine
-hear done n1 c1 2 > NotMine NotMine NotMine NotMine
-hear done n4 c1 1 > NotMine NotMine NotMine NotMine
-hear done n1 c2 1 > NotMine NotMine NotMine NotMine
-hear muddled n3 c1 2 > NotMine NotMine NotMine NotMine
-hear muddled n3 c1 1 > NotMine NotMine NotMine NotMine
-phase > Idle Chosen Asking Inside
-attempt > 1 2 2 2";
+hear request n3 c1 2 write a > NotMine NotMine NotMine NotMine NotMine
+hear release n3 c1 2 > NotMine NotMine NotMine NotMine NotMine
+hear release n3 c1 1 > NotMine NotMine NotMine NotMine NotMine
+hear over n3 c1 2 > NotMine NotMine NotMine NotMine NotMine
+hear over n3 c1 1 > NotMine NotMine NotMine NotMine NotMine
+hear done n1 c1 1 > Done NotMine NotMine NotMine NotMine
+hear done n1 c1 2 > NotMine NotMine NotMine NotMine NotMine
+hear done n4 c1 1 > NotMine NotMine NotMine NotMine NotMine
+hear done n1 c2 1 > NotMine NotMine NotMine NotMine NotMine
+hear muddled n3 c1 2 > NotMine NotMine NotMine NotMine NotMine
+hear muddled n3 c1 1 > NotMine NotMine NotMine NotMine NotMine
+hear soften n3 c1 2 > NotMine NotMine NotMine NotMine NotMine
+hear soften n3 c1 1 > NotMine NotMine NotMine NotMine NotMine
+hear softened n1 c1 2 > NotMine NotMine NotMine NotMine Softened
+hear softened n3 c1 2 > NotMine NotMine NotMine NotMine Softened
+hear softened n4 c1 2 > NotMine NotMine NotMine NotMine NotMine
+hear softened n1 c2 2 > NotMine NotMine NotMine NotMine NotMine
+hear softened n1 c1 1 > NotMine NotMine NotMine NotMine NotMine
+hear softened n1 c1 3 > NotMine NotMine NotMine NotMine NotMine
+phase > Idle Chosen Asking Inside Inside
+attempt > 1 2 2 2 2
+may_soften > false false false true false";
 
 /// Whether an attempt that is under way refuses another one (701), and stays as it is.
 pub(crate) fn refuses(alloc: Global, row: &str) -> Option<bool> {
@@ -348,5 +469,5 @@ pub(crate) fn refuses(alloc: Global, row: &str) -> Option<bool> {
 fn every_message_in_every_phase(rt: HostRuntime) -> Outcome {
     each(rt.alloc(), Table::Phases, VOTES)?;
     each(rt.alloc(), Table::Phases, OTHERS)?;
-    each(rt.alloc(), Table::RefusedBegins, "1\n4\n5")
+    each(rt.alloc(), Table::RefusedBegins, "1\n4\n5\n6")
 }

@@ -20,7 +20,7 @@ fn text(alloc: Global, replies: &[Message]) -> Option<String> {
 }
 
 /// The clients in the order of their entries, each with its floor and, of a live ticket, whether it
-/// holds.
+/// holds, and as what.
 fn shape(alloc: Global, entries: &[Entry]) -> Option<String> {
     let mut all = String::new(alloc);
     for entry in entries {
@@ -30,6 +30,7 @@ fn shape(alloc: Global, entries: &[Entry]) -> Option<String> {
             Some(live) => match live.status {
                 Status::Waiting => "waits",
                 Status::Holding => "holds",
+                Status::Softened => "softened",
             },
         };
         write!(all, ", {client} {floor} {live}").ok()?;
@@ -209,13 +210,207 @@ fn next_attempt_settles_the_last(rt: HostRuntime) -> Outcome {
     check_answer(leaves(rt.alloc(), Problem::First, NEXT_ATTEMPT, record), 3)
 }
 
+// A writer softens, and is told so again for a late copy of its request.
+const SOFTENED_WRITER: &str = "\
+request n1 c1 1 write a > grant n1 c1 1 write a
+request n1 c2 1 read a > busy n1 c2 1 read a
+soften n1 c1 1 > softened n1 c1 1, grant n1 c2 1 read a
+request n1 c1 1 write a > softened n1 c1 1
+soften n1 c1 1 > softened n1 c1 1";
+
+/// c1 has softened and holds `a` as a reader, and so does c2.
+const SOFTENED_RECORD: &str = "01 01 0002 \
+00000001 0000000000000000 03 0000000000000001 00 01 61 \
+00000002 0000000000000000 02 0000000000000001 00 01 61";
+
+// All readers who wait are let in, in their order, and who waits for another resource is not.
+const SOFTENING_FOR_ALL: &str = "\
+request n1 c4 1 write b > grant n1 c4 1 write b
+request n1 c1 3 write a > grant n1 c1 3 write a
+request n1 c3 1 read a > busy n1 c3 1 read a
+request n1 c5 1 read b > busy n1 c5 1 read b
+request n1 c2 1 read a > busy n1 c2 1 read a
+soften n1 c1 3 > softened n1 c1 3, grant n1 c3 1 read a, grant n1 c2 1 read a
+request n1 c6 1 read a > grant n1 c6 1 read a
+request n1 c7 1 write a > busy n1 c7 1 write a";
+
+#[test]
+fn softening_lets_readers_in(rt: HostRuntime) -> Outcome {
+    let all =
+        "c4 0 holds, c1 2 softened, c3 0 holds, c5 0 waits, c2 0 holds, c6 0 holds, c7 0 waits";
+    both_lead_to(rt.alloc(), SOFTENED_WRITER, "c1 0 softened, c2 0 holds")?;
+    both_lead_to(rt.alloc(), SOFTENING_FOR_ALL, all)?;
+    let (script, record) = (SOFTENED_WRITER, SOFTENED_RECORD);
+    check_answer(leaves(rt.alloc(), Problem::First, script, record), 3)
+}
+
+// The writer that waits stays out until all readers have left, the softened one among them.
+const SOFTENING_PASSES_A_WRITER: &str = "\
+request n1 c1 1 write a > grant n1 c1 1 write a
+request n1 c2 1 write a > busy n1 c2 1 write a
+request n1 c3 1 read a > busy n1 c3 1 read a
+soften n1 c1 1 > softened n1 c1 1, grant n1 c3 1 read a
+request n1 c2 1 write a > busy n1 c2 1 write a
+release n1 c3 1 > done n1 c3 1
+request n1 c2 1 write a > busy n1 c2 1 write a
+release n1 c1 1 > done n1 c1 1, grant n1 c2 1 write a";
+
+// Behind it a reader waits too.
+const SOFTENING_BEHIND_A_WRITER: &str = "\
+request n1 c1 1 write a > grant n1 c1 1 write a
+request n1 c2 1 write a > busy n1 c2 1 write a
+request n1 c3 1 read a > busy n1 c3 1 read a
+soften n1 c1 1 > softened n1 c1 1
+request n1 c2 1 write a > busy n1 c2 1 write a
+request n1 c3 1 read a > busy n1 c3 1 read a
+request n1 c4 1 read a > busy n1 c4 1 read a
+release n1 c1 1 > done n1 c1 1, grant n1 c2 1 write a";
+
+#[test]
+fn softening_before_a_writer(rt: HostRuntime) -> Outcome {
+    let passes = leads_to(
+        rt.alloc(),
+        Problem::First,
+        SOFTENING_PASSES_A_WRITER,
+        "c1 1 free, c2 0 holds, c3 1 free",
+    );
+    check_answer(passes, 1)?;
+    let waits = leads_to(
+        rt.alloc(),
+        Problem::Second,
+        SOFTENING_BEHIND_A_WRITER,
+        "c1 1 free, c2 0 holds, c3 0 waits, c4 0 waits",
+    );
+    check_answer(waits, 2)
+}
+
+// After the release nothing is left to be softened.
+const SOFTENING_AFTER_THE_RELEASE: &str = "\
+request n1 c1 1 write a > grant n1 c1 1 write a
+request n1 c2 1 write a > busy n1 c2 1 write a
+release n1 c1 1 > done n1 c1 1, grant n1 c2 1 write a
+request n1 c3 1 read a > busy n1 c3 1 read a
+soften n1 c1 1 > softened n1 c1 1";
+
+// Neither an attempt before it nor one behind it softens a writer.
+const SOFTENING_OF_ANOTHER_ATTEMPT: &str = "\
+request n1 c1 5 write a > grant n1 c1 5 write a
+request n1 c2 1 read a > busy n1 c2 1 read a
+soften n1 c1 4 > softened n1 c1 4
+soften n1 c1 6 > softened n1 c1 6
+soften n1 c3 5 > softened n1 c3 5
+request n1 c1 5 write a > grant n1 c1 5 write a
+request n1 c2 1 read a > busy n1 c2 1 read a";
+
+// Nor is a reader softened, whether it holds or waits.
+const SOFTENING_OF_READERS: &str = "\
+request n1 c1 1 read a > grant n1 c1 1 read a
+request n1 c2 1 write b > grant n1 c2 1 write b
+request n1 c3 1 read b > busy n1 c3 1 read b
+soften n1 c1 1 > softened n1 c1 1
+soften n1 c3 1 > softened n1 c3 1
+request n1 c1 1 read a > grant n1 c1 1 read a
+request n1 c3 1 read b > busy n1 c3 1 read b";
+
+const SOFTENING_OF_A_STRANGER: &str = "\
+soften n1 c1 1 > softened n1 c1 1
+soften n1 c1 1 > softened n1 c1 1";
+
+// A request that comes behind its softening is new, and its client a writer.
+const SOFTENING_BEFORE_THE_REQUEST: &str = "\
+soften n1 c1 1 > softened n1 c1 1
+request n1 c1 1 write a > grant n1 c1 1 write a
+request n1 c2 1 read a > busy n1 c2 1 read a";
+
+#[test]
+fn softening_that_changes_nothing(rt: HostRuntime) -> Outcome {
+    let alloc = rt.alloc();
+    let after = "c1 1 free, c2 0 holds, c3 0 waits";
+    both_lead_to(alloc, SOFTENING_AFTER_THE_RELEASE, after)?;
+    let same = "c1 4 holds, c2 0 waits";
+    both_lead_to(alloc, SOFTENING_OF_ANOTHER_ATTEMPT, same)?;
+    let readers = "c1 0 holds, c2 0 holds, c3 0 waits";
+    both_lead_to(alloc, SOFTENING_OF_READERS, readers)?;
+    let before = "c1 0 holds, c2 0 waits";
+    both_lead_to(alloc, SOFTENING_BEFORE_THE_REQUEST, before)?;
+    let script = SOFTENING_OF_A_STRANGER;
+    check_answer(leaves(alloc, Problem::First, script, "01 01 0000"), 3)?;
+    check_answer(leaves(alloc, Problem::Second, script, "01 02 0000"), 4)
+}
+
+// A writer that waits is taken away, and whoever waits behind it is let in. Its floor and its place stay;
+// a late copy of its request is new, and stands at the end.
+const SOFTENING_OF_A_WAITER: &str = "\
+request n1 c1 1 read a > grant n1 c1 1 read a
+request n1 c2 5 write a > busy n1 c2 5 write a
+request n1 c3 1 read a > busy n1 c3 1 read a
+soften n1 c2 5 > softened n1 c2 5, grant n1 c3 1 read a";
+
+// Behind a writer that holds nobody is let in, and a second softening finds nothing.
+const SOFTENING_BEHIND_A_HOLDER: &str = "\
+request n1 c1 1 write a > grant n1 c1 1 write a
+request n1 c2 5 write a > busy n1 c2 5 write a
+request n1 c3 1 read a > busy n1 c3 1 read a
+soften n1 c2 5 > softened n1 c2 5
+soften n1 c2 5 > softened n1 c2 5";
+
+const LATE_COPY: &str = "\
+request n1 c2 5 write a > busy n1 c2 5 write a
+request n1 c4 1 read a > busy n1 c4 1 read a
+soften n1 c2 5 > softened n1 c2 5, grant n1 c4 1 read a";
+
+#[test]
+fn softening_of_a_writer_that_waits(rt: HostRuntime) -> Outcome {
+    let alloc = rt.alloc();
+    let still = "c1 0 holds, c2 4 free, c3 0 waits";
+    both_lead_to(alloc, SOFTENING_BEHIND_A_HOLDER, still)?;
+    let one = SOFTENING_OF_A_WAITER;
+    let two = format!(in alloc; "{one}\n{LATE_COPY}").ok();
+    let gone = "c1 0 holds, c2 4 free, c3 0 holds";
+    check_answer(leads_to(alloc, Problem::Second, one, gone), 1)?;
+    let gone = "c1 0 holds, c3 0 holds, c2 4 free, c4 0 holds";
+    let again = match &two {
+        Some(two) => leads_to(alloc, Problem::Second, two.as_str(), gone),
+        None => None,
+    };
+    check_answer(again, 2)
+}
+
+// Of a softened attempt no request is new.
+const REQUESTS_OF_A_SOFTENED_ATTEMPT: &str = "\
+request n1 c1 1 write a > grant n1 c1 1 write a
+soften n1 c1 1 > softened n1 c1 1
+request n1 c1 1 write a > softened n1 c1 1
+request n1 c1 1 read a > muddled n1 c1 1
+request n1 c1 1 write b > muddled n1 c1 1
+request n1 c1 1 read b > muddled n1 c1 1
+request n1 c1 1 write a > softened n1 c1 1";
+
+// It ends with a later one, as any.
+const AFTER_A_SOFTENED_ATTEMPT: &str = "\
+request n1 c1 1 write a > grant n1 c1 1 write a
+soften n1 c1 1 > softened n1 c1 1
+request n1 c2 1 write a > busy n1 c2 1 write a
+request n1 c1 2 read b > grant n1 c1 2 read b, grant n1 c2 1 write a
+request n1 c1 1 write a > over n1 c1 1
+soften n1 c1 1 > softened n1 c1 1";
+
+#[test]
+fn requests_and_softening(rt: HostRuntime) -> Outcome {
+    let softened = "c1 0 softened";
+    both_lead_to(rt.alloc(), REQUESTS_OF_A_SOFTENED_ATTEMPT, softened)?;
+    let next = "c2 0 holds, c1 1 holds";
+    both_lead_to(rt.alloc(), AFTER_A_SOFTENED_ATTEMPT, next)
+}
+
 // What is for a client.
 const OTHER_MESSAGES: &str = "\
 grant n1 c1 1 read a
 busy n1 c1 1 read a
 over n1 c1 1
 done n1 c1 1
-muddled n1 c1 1";
+muddled n1 c1 1
+softened n1 c1 1";
 
 /// Whether a message changes nothing at a node where c1 reads `a`, and has no reply.
 pub(crate) fn changes_nothing(alloc: Global, row: &str) -> Option<bool> {
@@ -363,6 +558,36 @@ const AFTER_TWO_RESOURCES: &str = "\
 145 23 4 3 5
 23 145 3 5 4";
 
+// A softened holder is a reader to those who wait: under problem 1 the reader is let in by the softening,
+// under problem 2 it waits behind the writer.
+const READER_BESIDE_A_SOFTENED: &str = "\
+request n1 c1 1 write a > grant n1 c1 1 write a
+request n1 c2 1 write a > busy n1 c2 1 write a
+request n1 c3 1 read a > busy n1 c3 1 read a
+soften n1 c1 1 > softened n1 c1 1, grant n1 c3 1 read a";
+
+const WRITER_BEHIND_BOTH: &str = "\
+1 2 3
+1 32 2
+2 1 3
+2 3 1
+3 12 2
+3 2 1";
+
+const WRITER_BEHIND_A_SOFTENED: &str = "\
+request n1 c1 1 write a > grant n1 c1 1 write a
+request n1 c2 1 write a > busy n1 c2 1 write a
+request n1 c3 1 read a > busy n1 c3 1 read a
+soften n1 c1 1 > softened n1 c1 1";
+
+const READER_BEHIND_THE_WRITER: &str = "\
+12 23 3
+12 3 2
+23 1 3
+23 3 1
+3 12 2
+3 2 1";
+
 #[test]
 fn releases_in_every_order(rt: HostRuntime) -> Outcome {
     let alloc = rt.alloc();
@@ -370,5 +595,9 @@ fn releases_in_every_order(rt: HostRuntime) -> Outcome {
     settle(alloc, &BOTH, TWO_WRITERS, IN_ORDER)?;
     settle(alloc, &[Problem::First], READER_FIRST, IN_ORDER)?;
     settle(alloc, &[Problem::Second], READER_FIRST, WRITER_LET_IN)?;
-    settle(alloc, &BOTH, TWO_RESOURCES, AFTER_TWO_RESOURCES)
+    settle(alloc, &BOTH, TWO_RESOURCES, AFTER_TWO_RESOURCES)?;
+    let (first, second) = ([Problem::First], [Problem::Second]);
+    settle(alloc, &first, READER_BESIDE_A_SOFTENED, WRITER_BEHIND_BOTH)?;
+    let order = READER_BEHIND_THE_WRITER;
+    settle(alloc, &second, WRITER_BEHIND_A_SOFTENED, order)
 }

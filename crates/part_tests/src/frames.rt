@@ -4,7 +4,7 @@ use crate::rows::{bytes, message, number, spells};
 use crate::tables::{Table, each};
 use lock_messages::{decode, encode};
 use std::alloc::Global;
-use test_outcomes::Outcome;
+use test_outcomes::{Outcome, check_answer};
 
 /// The number of the fault that reading a frame finds; 0 where it finds none.
 fn fault_of(frame: &[u8]) -> u16 {
@@ -19,7 +19,9 @@ const FRAMES: &str = "\
 request n1 c1 1 read a=01 01 01 00000001 0000000000000001 00 01 61
 release n2 c1024 1000000000000=01 02 02 00000400 000000e8d4a51000
 grant n1 c1 1 write db-1=01 03 01 00000001 0000000000000001 01 04 64622d31
-done n1 c2 1=01 06 01 00000002 0000000000000001";
+done n1 c2 1=01 06 01 00000002 0000000000000001
+soften n1 c1 1=02 08 01 00000001 0000000000000001
+softened n2 c1024 1000000000000=02 09 02 00000400 000000e8d4a51000";
 
 /// Whether a message has the frame of its row, and is read from it.
 pub(crate) fn is_spelled(alloc: Global, row: &str) -> Option<bool> {
@@ -37,7 +39,8 @@ const REQUEST_FRAMES: &str = "\
 108 01 01 01 00000001 0000000000000001 00 00 61
 108 01 01 01 00000001 0000000000000001 00 21 61
 103 01 08 01 00000001 0000000000000001 00 01 61
-102 02 01 01 00000001 0000000000000001 00 01 61
+103 02 01 01 00000001 0000000000000001 00 01 61
+102 03 01 01 00000001 0000000000000001 00 01 61
 110 01 01 01 00000001 0000000000000001 00 01 61 00";
 
 /// Whether the bytes of a row have its fault.
@@ -50,6 +53,43 @@ pub(crate) fn is_faulty(alloc: Global, row: &str) -> Option<bool> {
 fn request_frame(rt: HostRuntime) -> Outcome {
     each(rt.alloc(), Table::Spelled, FRAMES)?;
     each(rt.alloc(), Table::Faulty, REQUEST_FRAMES)
+}
+
+// What is wrong with the frame of a softening: each version has its own kinds, and no ticket follows.
+const SOFTENING_FRAMES: &str = "\
+0 02 08 01 00000001 0000000000000001
+0 02 09 01 00000001 0000000000000001
+102 00 08 01 00000001 0000000000000001
+103 01 08 01 00000001 0000000000000001
+103 01 09 01 00000001 0000000000000001
+102 03 08 01 00000001 0000000000000001
+103 02 07 01 00000001 0000000000000001
+103 02 0a 01 00000001 0000000000000001
+103 02 02 00
+104 02 08 11 00000001 0000000000000001
+105 02 08 01 00000401 0000000000000001
+106 02 09 01 00000001 0000000000000000
+101 02
+101 02 08 01 00000001 000000000000
+110 02 08 01 00000001 0000000000000001 00";
+
+/// Whether a version has the kinds from the first to the last, and no other.
+fn has_just_kinds(version: u8, first: u8, last: u8) -> bool {
+    for kind in 0..=255u8 {
+        let frame = [version, kind, 1, 0, 0, 0, 1, 0, 0, 0, 0, 0, 0, 0, 1];
+        let is_kind = first <= kind && kind <= last;
+        if is_kind != (fault_of(&frame) != 103) {
+            return false;
+        }
+    }
+    true
+}
+
+#[test]
+fn softening_frame(rt: HostRuntime) -> Outcome {
+    each(rt.alloc(), Table::Faulty, SOFTENING_FRAMES)?;
+    check_answer(Some(has_just_kinds(1, 1, 7)), 101)?;
+    check_answer(Some(has_just_kinds(2, 8, 9)), 102)
 }
 
 /// Whether each beginning of the frame is short.
@@ -72,7 +112,9 @@ grant n3 c700 70000 read db-1
 busy n3 c700 70000 write db-1
 over n3 c700 70000
 done n3 c700 70000
-muddled n3 c700 70000";
+muddled n3 c700 70000
+soften n3 c700 70000
+softened n3 c700 70000";
 
 // The longest name, 32 letters.
 const LONGEST: &str = "\
@@ -99,9 +141,9 @@ fn frames_of_every_length(rt: HostRuntime) -> Outcome {
 }
 
 // The fields from the front: how many bytes each has, its least and its greatest number, and the
-// fault of any other. The last two are those of a ticket.
+// fault of any other. The kinds are those of version 1; the last two fields are those of a ticket.
 const FIELDS: [(usize, u64, u64, u16); 7] = [
-    (1, 1, 1, 102),
+    (1, 1, 2, 102),
     (1, 1, 7, 103),
     (1, 1, 16, 104),
     (4, 1, 1_024, 105),
@@ -109,6 +151,9 @@ const FIELDS: [(usize, u64, u64, u16); 7] = [
     (1, 0, 1, 107),
     (1, 1, 32, 108),
 ];
+
+// The kinds of version 2, which have no ticket.
+const SOFTENING_KINDS: (usize, u64, u64, u16) = (1, 8, 9, 103);
 
 /// The fault of a name of so many bytes, and of what follows it; 0 for none.
 fn name_fault(bytes: &[u8], length: usize) -> u16 {
@@ -128,16 +173,18 @@ fn by_the_table(frame: &[u8]) -> u16 {
     let mut rest = frame;
     let mut value = 0;
     let mut has_ticket = true;
-    for (place, (width, least, most, fault)) in FIELDS.iter().enumerate() {
+    for (place, row) in FIELDS.iter().enumerate() {
         if place == 5 && !has_ticket {
             return name_fault(rest, 0);
         }
-        let Some((field, behind)) = rest.split_at_checked(*width) else {
+        let is_second = place == 1 && value == 2;
+        let (width, least, most, fault) = if is_second { SOFTENING_KINDS } else { *row };
+        let Some((field, behind)) = rest.split_at_checked(width) else {
             return 101;
         };
         value = number(field);
-        if value < *least || *most < value {
-            return *fault;
+        if value < least || most < value {
+            return fault;
         }
         if place == 1 {
             has_ticket = value == 1 || value == 3 || value == 4;

@@ -1,4 +1,4 @@
-//! Guards of client cores, and of a door that counts how often it left.
+//! Guards of client cores, and of a door that counts how often it left and softened.
 
 ghost use Rattle.std.specs.Prelude.{◌≡◌, ◌↔◌, IsTrue, false};
 ghost use Rattle.client_core.specs.Calls.{MayEnter, entered, left, ReleasesAll};
@@ -41,13 +41,14 @@ fn core_with(votes: usize) -> Option<ClientCore> {
     Some(core)
 }
 
-/// A door that may enter or not, and counts how often it left.
+/// A door that may enter or not, and counts how often it left and how often it softened.
 #[derive(Drop)]
 struct Counter {
     held: Ticket,
     may: bool,
     within: bool,
     count: Arc<AtomicUsize>,
+    softens: Arc<AtomicUsize>,
 }
 
 impl Door for Counter {
@@ -60,6 +61,8 @@ impl Door for Counter {
     ghost can_enter = { λ d. IsTrue d.may };
 
     ghost enters = { λ d e. Unit {0} };
+
+    ghost softens = { λ d e. Unit {0} };
 
     ghost leaves = { λ d e. Unit {0} };
 
@@ -77,6 +80,15 @@ impl Door for Counter {
 
     fn enter(&mut self) {
         self.within = true;
+    }
+
+    fn may_soften(&self) -> bool {
+        self.within && self.held.mode == Mode::Write
+    }
+
+    fn soften(&mut self) {
+        self.held.mode = Mode::Read;
+        self.softens.fetch_add(1, Ordering::SeqCst);
     }
 
     fn leave(&mut self) {
@@ -209,19 +221,20 @@ fn is_handed_back(alloc: Global) -> Option<bool> {
 }
 
 /// A door that may enter.
-fn new_counter(count: Arc<AtomicUsize>) -> Option<Counter> {
+fn new_counter(alloc: Global, count: Arc<AtomicUsize>) -> Option<Counter> {
     Some(Counter {
         held: ticket()?,
         may: true,
         within: false,
         count,
+        softens: Arc::new(alloc, AtomicUsize::new(0)).ok()?,
     })
 }
 
 /// Whether the door leaves once on each path out of a guard's scope.
 fn leaves_once_on_each_path(alloc: Global) -> Option<bool> {
     let count = Arc::new(alloc, AtomicUsize::new(0)).ok()?;
-    let mut door = new_counter(count.clone().ok()?)?;
+    let mut door = new_counter(alloc, count.clone().ok()?)?;
     to_the_end(&mut door);
     let end = count.load(Ordering::SeqCst) == 1;
     let none = by_a_question_mark(&mut door, None).is_none();
@@ -237,7 +250,7 @@ fn leaves_once_on_each_path(alloc: Global) -> Option<bool> {
 /// Whether a door that may not enter never leaves, nor one whose guard is forgotten.
 fn stays(alloc: Global) -> Option<bool> {
     let count = Arc::new(alloc, AtomicUsize::new(0)).ok()?;
-    let mut door = new_counter(count.clone().ok()?)?;
+    let mut door = new_counter(alloc, count.clone().ok()?)?;
     door.may = false;
     to_the_end(&mut door);
     let refused = !can_be_entered(&mut door) && !door.within;
@@ -249,7 +262,7 @@ fn stays(alloc: Global) -> Option<bool> {
 /// Whether an owned door leaves once, where the entry is spent or dropped, and is dropped then.
 fn owned_door_leaves_once(alloc: Global, spent: bool) -> Option<bool> {
     let count = Arc::new(alloc, AtomicUsize::new(0)).ok()?;
-    let door = new_counter(count.clone().ok()?)?;
+    let door = new_counter(alloc, count.clone().ok()?)?;
     let door: Box<dyn Door + Send> = Box::new(alloc, door).ok()?;
     let Ok(entry) = OwnedEntry::enter(door) else {
         return Some(false);
@@ -270,4 +283,137 @@ fn leaves_once(rt: HostRuntime) -> Outcome {
     check_answer(stays(rt.alloc()), 2)?;
     check_answer(owned_door_leaves_once(rt.alloc(), true), 3)?;
     check_answer(owned_door_leaves_once(rt.alloc(), false), 4)
+}
+
+/// Client 1's ticket of attempt 1 as a writer of `a`, and as the reader that it is once it is softened.
+fn tickets() -> Option<(Ticket, Ticket)> {
+    match message("request n1 c1 1 write a")? {
+        Message::Request(_, writes) => Some((writes, ticket()?)),
+        _ => None,
+    }
+}
+
+/// A core that asks with the writer's ticket, and has enough votes.
+fn writing_core() -> Option<ClientCore> {
+    let ballot = Ballot::of(&[3, 1, 1], 4, 3).ok()?;
+    let ballots = BallotList::of(&[ballot]).ok()?;
+    let mut core = ClientCore::rise(ClientId::of(1)?, 0, ballots);
+    let Ok(_) = core.begin(ResourceName::of(b"a")?, Mode::Write, 1) else {
+        return None;
+    };
+    core.kept();
+    core.hear(&message("grant n1 c1 1 write a")?);
+    Some(core)
+}
+
+/// Softens a guard that has entered as a writer; whether its ticket is then this one.
+fn softens_guard<D: Door>(guard: &mut EntryGuard<'_, D>, reads: Ticket) -> bool {
+    if guard.ticket().mode == Mode::Read {
+        return false;
+    }
+    guard.soften();
+    guard.ticket() == reads
+}
+
+/// Whether a door that is entered softens once, and its guard has the tickets before and after it.
+fn softens_within<D: Door>(door: &mut D) -> Option<bool> {
+    let (writes, reads) = tickets()?;
+    let mut guard = EntryGuard::enter(door)?;
+    let before = guard.ticket() == writes;
+    Some(before && softens_guard(&mut guard, reads))
+}
+
+/// Whether a core softens by its guard, and is idle behind the guard's scope, with its release to say.
+fn is_softened() -> Option<bool> {
+    let mut core = writing_core()?;
+    let softens = softens_within(&mut core)?;
+    let left = core.phase() == Phase::Idle && core.ticket().is_none();
+    let release = core.message_for(node("n3")?);
+    Some(softens && left && release == message("release n3 c1 1"))
+}
+
+/// Whether a core whose guard is softened and forgotten is still inside, as a reader.
+fn stays_softened() -> Option<bool> {
+    let (_, reads) = tickets()?;
+    let mut core = writing_core()?;
+    let mut guard = EntryGuard::enter(&mut core)?;
+    let softens = softens_guard(&mut guard, reads);
+    mem::forget(guard);
+    let inside = core.phase() == Phase::Inside && core.ticket() == Some(reads);
+    let told = core.message_for(node("n3")?) == message("soften n3 c1 1");
+    Some(softens && inside && told && !core.may_soften() && !core.may_enter())
+}
+
+/// A door that may enter as a writer.
+fn writing_counter(alloc: Global, count: Arc<AtomicUsize>) -> Option<Counter> {
+    let (writes, _) = tickets()?;
+    let mut door = new_counter(alloc, count)?;
+    door.held = writes;
+    Some(door)
+}
+
+/// Whether a door softens once by its guard, and leaves once when that is dropped.
+fn softens_once(alloc: Global) -> Option<bool> {
+    let count = Arc::new(alloc, AtomicUsize::new(0)).ok()?;
+    let mut door = writing_counter(alloc, count.clone().ok()?)?;
+    let outside = !door.may_soften();
+    let softens = softens_within(&mut door)?;
+    let once = door.softens.load(Ordering::SeqCst) == 1;
+    let left = !door.within && count.load(Ordering::SeqCst) == 1;
+    Some(outside && softens && once && left)
+}
+
+/// Softens an owned entry that has entered as a writer; whether its ticket is then this one.
+fn softens_entry(entry: &mut OwnedEntry, reads: Ticket) -> bool {
+    if entry.ticket().mode == Mode::Read {
+        return false;
+    }
+    entry.soften();
+    entry.ticket() == reads
+}
+
+/// Whether an owned door softens once, and leaves once, where its entry is spent or dropped.
+fn owned_door_softens_once(alloc: Global, spent: bool) -> Option<bool> {
+    let (_, reads) = tickets()?;
+    let count = Arc::new(alloc, AtomicUsize::new(0)).ok()?;
+    let door = writing_counter(alloc, count.clone().ok()?)?;
+    let softened = door.softens.clone().ok()?;
+    let door: Box<dyn Door + Send> = Box::new(alloc, door).ok()?;
+    let Ok(mut entry) = OwnedEntry::enter(door) else {
+        return Some(false);
+    };
+    let softens = softens_entry(&mut entry, reads);
+    let stays = count.load(Ordering::SeqCst) == 0;
+    let outside = if spent {
+        let door = entry.leave();
+        !door.inside() && door.ticket() == Some(reads) && !door.may_soften()
+    } else {
+        drop(entry);
+        true
+    };
+    let once = softened.load(Ordering::SeqCst) == 1 && count.load(Ordering::SeqCst) == 1;
+    Some(softens && stays && outside && once)
+}
+
+/// Whether a core in a box softens by an owned entry, and comes back outside.
+fn owned_core_is_softened(alloc: Global) -> Option<bool> {
+    let (writes, reads) = tickets()?;
+    let door: Box<dyn Door + Send> = Box::new(alloc, writing_core()?).ok()?;
+    let Ok(mut entry) = OwnedEntry::enter(door) else {
+        return Some(false);
+    };
+    let before = entry.ticket() == writes;
+    let softens = softens_entry(&mut entry, reads);
+    let door = entry.leave();
+    Some(before && softens && !door.inside() && door.ticket().is_none())
+}
+
+#[test]
+fn softens(rt: HostRuntime) -> Outcome {
+    check_answer(is_softened(), 1)?;
+    check_answer(stays_softened(), 2)?;
+    check_answer(softens_once(rt.alloc()), 3)?;
+    check_answer(owned_door_softens_once(rt.alloc(), true), 4)?;
+    check_answer(owned_door_softens_once(rt.alloc(), false), 5)?;
+    check_answer(owned_core_is_softened(rt.alloc()), 6)
 }

@@ -1,6 +1,6 @@
 //! The tickets of a record by resource.
 
-use crate::nodes::WRITER_WAITS;
+use crate::nodes::{SOFTENED, WRITER_WAITS};
 use crate::rows::{bytes, client};
 use lock_messages::ResourceName;
 use stable_record::{Line, NodeRecord, ResourceIndex, read_node};
@@ -27,6 +27,11 @@ c";
 
 const LINES_OF_ONE: &str = "\
 a 1 false 1 c2 c3
+b";
+
+// One that is softened holds, and doesn't write.
+const LINES_OF_A_SOFTENED: &str = "\
+a 2 false 1 c3
 b";
 
 /// Whether those who wait are these.
@@ -79,5 +84,6 @@ fn indexes(alloc: Global, record: &str, rows: &str) -> Option<bool> {
 #[test]
 fn lines_of_resources(rt: HostRuntime) -> Outcome {
     check_answer(indexes(rt.alloc(), TWO_RESOURCES, LINES), 1)?;
-    check_answer(indexes(rt.alloc(), WRITER_WAITS, LINES_OF_ONE), 2)
+    check_answer(indexes(rt.alloc(), WRITER_WAITS, LINES_OF_ONE), 2)?;
+    check_answer(indexes(rt.alloc(), SOFTENED, LINES_OF_A_SOFTENED), 3)
 }

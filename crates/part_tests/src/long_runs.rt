@@ -46,27 +46,41 @@ fn release(client: u32, attempt: u64) -> Option<Message> {
     Some(Message::Release(NodeId::of(1)?, client, attempt))
 }
 
+fn soften(client: u32, attempt: u64) -> Option<Message> {
+    let (client, attempt) = (ClientId::of(client)?, Attempt::of(attempt)?);
+    Some(Message::Soften(NodeId::of(1)?, client, attempt))
+}
+
 /// Some message of 20 clients about 3 resources: of one of the next three attempts.
 fn some_message(words: &mut Pcg32, last: u64) -> Option<Message> {
     let client = number_up_to(words, 20);
     let attempt = last.saturating_add(number_up_to(words, 3) as u64);
-    if number_up_to(words, 3) == 1 {
-        return release(client, attempt);
+    match number_up_to(words, 4) {
+        1 => release(client, attempt),
+        2 => soften(client, attempt),
+        _ => {
+            let (mode, resource) = (number_up_to(words, 3), number_up_to(words, 3));
+            request(client, attempt, mode, resource)
+        }
     }
-    let (mode, resource) = (number_up_to(words, 3), number_up_to(words, 3));
-    request(client, attempt, mode, resource)
 }
 
-/// Whether the core and the plain decision agree on the same 2,000 messages.
+/// Whether the core and the plain decision agree on the same 2,000 messages, of which a few soften a
+/// ticket.
 fn agrees(alloc: Global, problem: Problem) -> Option<bool> {
     let mut core = new_core(alloc, problem)?;
     let mut words = Pcg32::new(SEED, 1);
     let mut entries: Vec<Entry> = Vec::new(alloc);
+    let mut softened = 0u32;
     for turn in 0..2_000u64 {
         let message = some_message(&mut words, turn / 100)?;
-        entries = same_step(alloc, problem, &mut core, &entries, &message)?.entries;
+        let decision = same_step(alloc, problem, &mut core, &entries, &message)?;
+        if decision.changed && matches!(message, Message::Soften(..)) {
+            softened = softened.saturating_add(1);
+        }
+        entries = decision.entries;
     }
-    Some(true)
+    Some(softened >= 20)
 }
 
 #[test]
@@ -158,7 +172,9 @@ fn record_of_waiters(alloc: Global) -> Option<Vec<u8>> {
 /// The client to which a reply is.
 fn is_to(reply: &Message, number: u32) -> bool {
     match reply {
-        Message::Done(_, client, _) => number == 1 && client.get() == 1,
+        Message::Done(_, client, _) | Message::Softened(_, client, _) => {
+            number == 1 && client.get() == 1
+        }
         Message::Grant(_, ticket) => number > 1 && ticket.client.get() == number,
         _ => false,
     }
@@ -204,25 +220,30 @@ fn are_to_all(replies: &[Message]) -> bool {
     replies.len() == 1_024
 }
 
-/// Whether c1's release is done, and lets all others in.
-fn lets_in(alloc: Global, core: &mut NodeCore, entries: &[Entry]) -> Option<bool> {
-    let message = release(1, 1)?;
-    let decision = same_step(alloc, Problem::First, core, entries, &message)?;
+/// Whether c1's message is answered, and lets all others in.
+fn lets_in(
+    alloc: Global,
+    core: &mut NodeCore,
+    entries: &[Entry],
+    message: &Message,
+) -> Option<bool> {
+    let decision = same_step(alloc, Problem::First, core, entries, message)?;
     Some(are_to_all(&decision.replies))
 }
 
-/// Whether c1's release lets in c2 to c1024, in this order.
-fn lets_all_in(alloc: Global) -> Option<bool> {
+/// Whether c1's message, by which it holds no longer or as a reader, lets in c2 to c1024, in this order.
+fn lets_all_in(alloc: Global, message: Option<Message>) -> Option<bool> {
     let policy = policy_of(alloc, Problem::First)?;
     let bytes = record_of_waiters(alloc)?;
     let mut core = risen(alloc, &bytes, policy)?;
     let entries = waiters(alloc)?;
-    lets_in(alloc, &mut core, &entries)
+    lets_in(alloc, &mut core, &entries, &message?)
 }
 
 #[test]
 fn many_entries(rt: HostRuntime) -> Outcome {
     check_answer(comes_and_goes(rt.alloc(), Problem::First), 1)?;
     check_answer(comes_and_goes(rt.alloc(), Problem::Second), 2)?;
-    check_answer(lets_all_in(rt.alloc()), 3)
+    check_answer(lets_all_in(rt.alloc(), release(1, 1)), 3)?;
+    check_answer(lets_all_in(rt.alloc(), soften(1, 1)), 4)
 }

@@ -25,6 +25,12 @@ pub(crate) const SETTLED: &str = "01 02 0003 \
 00000002 0000000000000001 00 \
 00000003 0000000000000000 02 0000000000000001 00 01 61";
 
+/// c1, which was a writer, is softened and holds `a` as a reader beside c2; c3 waits for it as a writer.
+pub(crate) const SOFTENED: &str = "01 01 0003 \
+00000001 0000000000000000 03 0000000000000001 00 01 61 \
+00000002 0000000000000000 02 0000000000000001 00 01 61 \
+00000003 0000000000000000 01 0000000000000001 01 01 61";
+
 /// The plain policy of a problem.
 pub(crate) fn policy_of(alloc: Global, problem: Problem) -> Option<Box<dyn Admission + Send>> {
     match problem {

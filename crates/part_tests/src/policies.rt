@@ -123,7 +123,8 @@ fn is_watched(alloc: Global, problem: u8, record: &[u8], calls: u64) -> Option<b
     Some(is_of(&core.fall(), problem, told))
 }
 
-// Of these a policy is told of each new reader alone: once of c1, c3 and c4.
+// Of these a policy is told of each new reader alone: once of c1, c3, c4, c6 and c7, and not of c5, which
+// becomes a reader by softening.
 const WATCHED: &str = "\
 request n1 c1 1 read a
 request n1 c1 1 read a
@@ -133,7 +134,14 @@ release n1 c2 1
 release n1 c2 1
 request n1 c3 1 read a
 request n1 c3 1 write a
-request n1 c4 1 read a";
+request n1 c4 1 read a
+soften n1 c4 1
+request n1 c5 1 write b
+request n1 c6 1 read b
+soften n1 c5 1
+soften n1 c5 1
+request n1 c5 1 write b
+request n1 c7 1 read b";
 
 /// Takes each message, and replies.
 fn runs(core: &mut NodeCore) -> Option<()> {
@@ -145,8 +153,8 @@ fn runs(core: &mut NodeCore) -> Option<()> {
     Some(())
 }
 
-/// Whether a policy was told so much in the run. Under problem 1 all three are admitted; under
-/// problem 2 c3 waits when it comes, and what lets it in later is not told.
+/// Whether a policy was told so much in the run. c6 waits when it comes, and what lets it in later is not
+/// told; under problem 2 c3 does so too. All others are admitted.
 fn is_told(alloc: Global, problem: u8, record: &[u8], tally: (u64, u64)) -> Option<bool> {
     let mut core = risen(alloc, record, counting(alloc, problem)?)?;
     runs(&mut core)?;
@@ -183,8 +191,8 @@ fn a_policy_watched_through_a_node(rt: HostRuntime) -> Outcome {
         check_answer(is_watched(alloc, 1, &FIRST, calls), calls as usize)?;
         check_answer(is_watched(alloc, 2, &SECOND, calls), calls as usize)?;
     }
-    check_answer(is_told(alloc, 1, &FIRST, (3, 0)), 11)?;
-    check_answer(is_told(alloc, 2, &SECOND, (2, 1)), 12)?;
+    check_answer(is_told(alloc, 1, &FIRST, (4, 1)), 11)?;
+    check_answer(is_told(alloc, 2, &SECOND, (3, 2)), 12)?;
     check_answer(comes_back(alloc, &[1, 2, 0], 501), 21)?;
     check_answer(comes_back(alloc, &FIRST, 502), 22)?;
     check_answer(stays(alloc), 23)

@@ -12,6 +12,13 @@ const RECORD: &str = "01 01 0003 \
 00000002 0000000000000000 01 0000000000000001 00 02 6162 \
 00000003 0000000000000001 00";
 
+// c1 is softened and holds `a` beside the reader c2, c3 waits for it as a writer and c4 as a reader behind.
+const SOFTENED_RECORD: &str = "01 02 0004 \
+00000001 0000000000000002 03 0000000000000003 00 01 61 \
+00000002 0000000000000000 02 0000000000000001 00 01 61 \
+00000003 0000000000000000 01 0000000000000001 01 01 61 \
+00000004 0000000000000000 01 0000000000000001 00 01 61";
+
 /// An entry: whose it is, its state, whether it writes, and what.
 #[derive(Clone, Copy)]
 struct Row<'a> {
@@ -19,6 +26,13 @@ struct Row<'a> {
     state: u64,
     writes: bool,
     name: &'a [u8],
+}
+
+impl Row<'_> {
+    /// Whether it holds, as it asked or softened.
+    fn holds(&self) -> bool {
+        self.state == 2 || self.state == 3
+    }
 }
 
 /// The number of so many bytes at the front, and what is behind it; or 311, or the fault of one that
@@ -39,13 +53,14 @@ fn field(
     Ok((value, rest))
 }
 
-/// The ticket of a row behind its state, whose attempt is one above the floor.
+/// The ticket of a row behind its state, whose attempt is one above the floor. A softened one reads.
 fn ticket<'a>(bytes: &'a [u8], row: &mut Row<'a>, floor: u64) -> Result<&'a [u8], u16> {
     let (attempt, rest) = field(bytes, 8, (1, 1_000_000_000_000), 314)?;
     if attempt != floor.saturating_add(1) {
         return Err(316);
     }
-    let (writes, rest) = field(rest, 1, (0, 1), 314)?;
+    let most = if row.state == 3 { 0 } else { 1 };
+    let (writes, rest) = field(rest, 1, (0, most), 314)?;
     let (size, rest) = field(rest, 1, (1, 32), 314)?;
     if !spells(rest, size as usize) {
         return Err(314);
@@ -67,7 +82,7 @@ fn entry<'a>(bytes: &'a [u8], rows: &[Row<'a>]) -> Result<(Row<'a>, &'a [u8]), u
         }
     }
     let (floor, rest) = field(rest, 8, (0, 1_000_000_000_000), 314)?;
-    let (state, rest) = field(rest, 1, (0, 2), 314)?;
+    let (state, rest) = field(rest, 1, (0, 3), 314)?;
     let mut row = Row {
         client,
         state,
@@ -86,8 +101,8 @@ fn judged(policy: u64, rows: &[Row], row: &Row) -> u16 {
     let (mut holds, mut writes, mut waits) = (false, false, false);
     for other in rows {
         if other.client != row.client && other.name == row.name {
-            holds |= other.state == 2;
-            writes |= other.state == 2 && other.writes;
+            holds |= other.holds();
+            writes |= other.holds() && other.writes;
             waits |= other.state == 1 && other.writes;
         }
     }
@@ -96,7 +111,7 @@ fn judged(policy: u64, rows: &[Row], row: &Row) -> u16 {
     } else {
         writes || (policy == 2 && waits)
     };
-    if row.state == 2 && row.writes && holds {
+    if row.holds() && row.writes && holds {
         317
     } else if row.state == 1 && !has_cause {
         318
@@ -171,5 +186,6 @@ pub(crate) fn all_agree(alloc: Global, row: &str) -> Option<bool> {
 
 #[test]
 fn changed_records_read_by_the_table(rt: HostRuntime) -> Outcome {
-    each(rt.alloc(), Table::ChangedRecords, RECORD)
+    each(rt.alloc(), Table::ChangedRecords, RECORD)?;
+    each(rt.alloc(), Table::ChangedRecords, SOFTENED_RECORD)
 }

@@ -1,6 +1,6 @@
 //! Node and client records against bytes that were written by hand, and entries.
 
-use crate::nodes::{SETTLED, WRITER_WAITS};
+use crate::nodes::{SETTLED, SOFTENED, WRITER_WAITS};
 use crate::rows::{bytes, message};
 use crate::tables::{Table, each};
 use lock_messages::{ClientId, Message, Mode, ResourceName};
@@ -31,6 +31,25 @@ const NODE_RECORDS: &str = "\
 318 01 01 0003 00000001 0000000000000000 02 0000000000000001 00 01 61 00000002 0000000000000000 01 0000000000000001 01 01 61 00000003 0000000000000000 01 0000000000000001 00 01 61
 318 01 01 0001 00000001 0000000000000000 01 0000000000000001 00 01 61";
 
+// Of softened holders: each is a reader, so that a writer does not hold beside it, one that waits for it
+// has a cause and a reader has none. That it writes is judged at its mode, behind its attempt.
+const SOFTENED_RECORDS: &str = "\
+0 01 01 0001 00000001 0000000000000000 03 0000000000000001 00 01 61
+0 01 02 0002 00000001 0000000000000000 03 0000000000000001 00 01 61 00000002 0000000000000000 03 0000000000000001 00 01 61
+0 01 01 0002 00000001 0000000000000004 03 0000000000000005 00 01 61 00000002 0000000000000000 01 0000000000000001 01 01 61
+0 01 01 0002 00000001 0000000000000000 03 0000000000000001 00 01 61 00000002 0000000000000000 02 0000000000000001 01 01 62
+314 01 01 0001 00000001 0000000000000000 03 0000000000000001 01 01 61
+314 01 01 0001 00000001 0000000000000000 03 0000000000000001 01
+314 01 01 0001 00000001 0000000000000000 03 0000000000000001 02 01 61
+314 01 01 0001 00000001 0000000000000000 04 0000000000000001 00 01 61
+316 01 01 0001 00000001 0000000000000000 03 0000000000000002 01 01 61
+311 01 01 0001 00000001 0000000000000000 03 0000000000000001
+312 02 01 0001 00000001 0000000000000000 03 0000000000000001 00 01 61
+317 01 01 0002 00000001 0000000000000000 03 0000000000000001 00 01 61 00000002 0000000000000000 02 0000000000000001 01 01 61
+318 01 01 0002 00000001 0000000000000000 03 0000000000000001 00 01 61 00000002 0000000000000000 01 0000000000000001 00 01 61
+318 01 02 0002 00000001 0000000000000000 03 0000000000000001 00 01 61 00000002 0000000000000000 01 0000000000000001 00 01 61
+319 01 01 0001 00000001 0000000000000000 03 0000000000000001 00 01 61 00";
+
 pub(crate) fn is_faulty(alloc: Global, row: &str) -> Option<bool> {
     let (want, spelled) = row.split_once(' ')?;
     Some(want.parse() == Ok(fault_of(alloc, &bytes(alloc, spelled)?)?))
@@ -42,6 +61,8 @@ const CHANGES: &str = "\
 2 05 314
 3 04 311
 3 02 319
+16 03 0
+16 04 314
 31 00 314
 31 01 315
 30 04 314
@@ -57,6 +78,8 @@ const CHANGES: &str = "\
 51 41 314
 51 62 318
 40 02 317
+64 03 0
+64 04 314
 73 01 0
 73 00 0";
 
@@ -89,8 +112,10 @@ pub(crate) fn begins_short(alloc: Global, record: &str) -> Option<bool> {
 #[test]
 fn node_record_faults(rt: HostRuntime) -> Outcome {
     each(rt.alloc(), Table::RecordFaults, NODE_RECORDS)?;
+    each(rt.alloc(), Table::RecordFaults, SOFTENED_RECORDS)?;
     each(rt.alloc(), Table::RecordFields, CHANGES)?;
-    each(rt.alloc(), Table::ShortRecords, WRITER_WAITS)
+    each(rt.alloc(), Table::ShortRecords, WRITER_WAITS)?;
+    each(rt.alloc(), Table::ShortRecords, SOFTENED)
 }
 
 /// Whether a record of so many entries is read, is lawful and caused, and is written again.
@@ -135,6 +160,7 @@ fn has_size(alloc: Global, clients: u16) -> Option<bool> {
 fn records_of_every_size(rt: HostRuntime) -> Outcome {
     each(rt.alloc(), Table::WrittenAgain, WRITER_WAITS)?;
     each(rt.alloc(), Table::WrittenAgain, SETTLED)?;
+    each(rt.alloc(), Table::WrittenAgain, SOFTENED)?;
     for clients in [0, 1, 2, 100, 1_024u16] {
         check_answer(has_size(rt.alloc(), clients), clients as usize)?;
     }

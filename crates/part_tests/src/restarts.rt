@@ -1,6 +1,8 @@
 //! A node that is put back at rest with its record.
 
-use crate::nodes::{FIRST, SETTLED, WRITER_WAITS, has_record, policy_of, risen, takes};
+use crate::nodes::{
+    FIRST, SETTLED, SOFTENED, WRITER_WAITS, has_record, keeps, policy_of, risen, speaks, takes,
+};
 use crate::rows::{bytes, message};
 use lock_model::Problem;
 use stable_record::RecordFault;
@@ -55,4 +57,73 @@ fn goes_on(alloc: Global) -> Option<bool> {
 #[test]
 fn restarted_node(rt: HostRuntime) -> Outcome {
     check_answer(goes_on(rt.alloc()), 0)
+}
+
+/// c1 holds `a` as a writer, c2 waits for it as a reader and c3 as a writer.
+const BEFORE_SOFTENING: &str = "01 01 0003 \
+00000001 0000000000000000 02 0000000000000001 01 01 61 \
+00000002 0000000000000000 01 0000000000000001 00 01 61 \
+00000003 0000000000000000 01 0000000000000001 01 01 61";
+
+/// The text of the replies that a kept message leads to, and whether it changes the record.
+fn answered(alloc: Global, core: &mut NodeCore, row: &str) -> Option<(String, bool)> {
+    let changed = takes(core, &message(row)?)?;
+    keeps(core);
+    let mut text = String::new(alloc);
+    for reply in speaks(core)? {
+        write!(text, "{reply};").ok()?;
+    }
+    Some((text, changed))
+}
+
+/// Whether a node takes a softening, and is then stopped before that is kept, with these bytes of its next
+/// record.
+fn decides_to_soften(alloc: Global, core: &mut NodeCore) -> Option<bool> {
+    let changed = takes(core, &message("soften n1 c1 1")?)?;
+    let decided = core.phase() == Phase::Decided && core.replies() == 2;
+    Some(changed && decided && has_record(alloc, core, SOFTENED)?)
+}
+
+/// Whether a node that comes back with its old record has a writer, whose request and softening it answers
+/// as if they came for the first time.
+fn comes_back_old(alloc: Global, core: &mut NodeCore) -> Option<bool> {
+    let decided = decides_to_soften(alloc, core)?;
+    core.restart(&bytes(alloc, BEFORE_SOFTENING)?).ok()?;
+    let old = core.phase() == Phase::Idle && has_record(alloc, core, BEFORE_SOFTENING)?;
+    let (grant, changed) = answered(alloc, core, "request n1 c1 1 write a")?;
+    Some(decided && old && !changed && grant.as_str() == "grant n1 c1 1 write a;")
+}
+
+/// Whether a node that comes back with its new record has a softened holder, whose request and softening
+/// it knows.
+fn comes_back_new(alloc: Global, core: &mut NodeCore) -> Option<bool> {
+    let decided = decides_to_soften(alloc, core)?;
+    core.restart(&bytes(alloc, SOFTENED)?).ok()?;
+    let new = core.phase() == Phase::Idle && has_record(alloc, core, SOFTENED)?;
+    let (again, changed) = answered(alloc, core, "request n1 c1 1 write a")?;
+    let told = !changed && again.as_str() == "softened n1 c1 1;";
+    let (again, changed) = answered(alloc, core, "soften n1 c1 1")?;
+    Some(decided && new && told && !changed && again.as_str() == "softened n1 c1 1;")
+}
+
+/// Whether the writer that waits is let in once the readers have left.
+fn lets_the_writer_in(alloc: Global, core: &mut NodeCore) -> Option<bool> {
+    let (done, _) = answered(alloc, core, "release n1 c2 1")?;
+    let stays = done.as_str() == "done n1 c2 1;";
+    let (done, _) = answered(alloc, core, "release n1 c1 1")?;
+    Some(stays && done.as_str() == "done n1 c1 1;grant n1 c3 1 write a;")
+}
+
+/// Whether a node comes back from a softening with each of its records.
+fn comes_back_softened(alloc: Global) -> Option<bool> {
+    let record = bytes(alloc, BEFORE_SOFTENING)?;
+    let mut core = risen(alloc, &record, policy_of(alloc, Problem::First)?)?;
+    let old = comes_back_old(alloc, &mut core)?;
+    let new = comes_back_new(alloc, &mut core)?;
+    Some(old && new && lets_the_writer_in(alloc, &mut core)?)
+}
+
+#[test]
+fn restarted_while_it_softens(rt: HostRuntime) -> Outcome {
+    check_answer(comes_back_softened(rt.alloc()), 0)
 }

@@ -37,6 +37,8 @@ fn without_ticket(kind: &str, node: NodeId, client: ClientId, attempt: Attempt) 
         "over" => Some(Message::Over(node, client, attempt)),
         "done" => Some(Message::Done(node, client, attempt)),
         "muddled" => Some(Message::Muddled(node, client, attempt)),
+        "soften" => Some(Message::Soften(node, client, attempt)),
+        "softened" => Some(Message::Softened(node, client, attempt)),
         _ => None,
     }
 }

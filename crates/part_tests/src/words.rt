@@ -16,6 +16,9 @@ busy n1 c1 1 read db-1
 over n1 c1 1000000000000
 done n1 c1 1000000000000
 muddled n1 c1 1000000000000
+soften n1 c1 1000000000000
+softened n1 c1 1000000000000
+softened n16 c1024 1
 done n16 c1024 1
 request n16 c4 7 write abcdefghijklmnopqrstuvwxyz-12345";
 
@@ -56,6 +59,10 @@ done n1 c0 1
 done n1 c1025 1
 done n1 c1 0
 done n1 c1 1000000000001
+soften n0 c1 1
+soften n1 c1 0
+softened n1 c1025 1
+softened n1 c1 1000000000001
 request n1 c1 1 read db_1
 request n1 c1 1 read dB-1
 request n1 c1 1 read abcdefghijklmnopqrstuvwxyz-123456";
@@ -104,18 +111,25 @@ fn names_compare_as_their_bytes(rt: HostRuntime) -> Outcome {
     each(rt.alloc(), Table::Names, NAMES)
 }
 
-// The first two are for the node, the others for the client.
+/// Whether a row has a message of a client to a node.
+fn is_to_node(row: &str) -> bool {
+    row.starts_with("request ") || row.starts_with("release ") || row.starts_with("soften ")
+}
+
+// The first three are for the node, the others for the client.
 const FOR_ONE: &str = "\
 request n1 c1 1 read a
 release n1 c1 1
+soften n1 c1 1
 grant n1 c1 1 read a
 busy n1 c1 1 read a
 over n1 c1 1
 done n1 c1 1
-muddled n1 c1 1";
+muddled n1 c1 1
+softened n1 c1 1";
 
 pub(crate) fn is_for_one(row: &str) -> Option<bool> {
-    let (message, to_node) = (message(row)?, row.starts_with("re"));
+    let (message, to_node) = (message(row)?, is_to_node(row));
     Some(
         message.is_for_node(NodeId::of(1)?) == to_node
             && message.is_for_client(ClientId::of(1)?) != to_node

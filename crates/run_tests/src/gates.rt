@@ -1,17 +1,17 @@
-// Gates: one that asks for nothing, and two at which actors wait for each other.
+// Gates: one that asks for nothing, and three at which actors wait for each other.
 
 use client_core::ClientCore;
 use entry_guard::EntryGuard;
 use event_recorders::{Gate, Recorder};
-use lock_messages::Actor;
+use lock_messages::{Actor, Mode};
 use std::rt::Clock;
 use std::sync::atomic::AtomicU32;
 use std::sync::atomic::Ordering::SeqCst;
 use std::thread;
 use std::time::Duration;
 
-/// How often one looks whether the other has come, a millisecond apart.
-const TURNS: u32 = 10_000;
+/// How often one looks whether the other has come, a millisecond apart, where it is sure to come.
+pub(crate) const TURNS: u32 = 10_000;
 
 /// A gate at which nothing waits, and inside which nothing is done.
 pub(crate) struct OpenGate;
@@ -27,9 +27,9 @@ impl Gate for OpenGate {
     }
 }
 
-/// Waits until so many have come; whether they have.
-fn have_come<C: Clock>(rt: &C, come: &AtomicU32, awaited: u32) -> bool {
-    for _ in 0..TURNS {
+/// Waits until so many have come, and looks so often; whether they have.
+fn have_come<C: Clock>(rt: &C, come: &AtomicU32, awaited: u32, turns: u32) -> bool {
+    for _ in 0..turns {
         if come.load(SeqCst) >= awaited {
             return true;
         }
@@ -70,7 +70,7 @@ impl<C: Clock + Copy> Gate for InsideTogether<C> {
         let _ = recorder;
         let _ = guard;
         self.inside.fetch_add(1, SeqCst);
-        if !have_come(&self.rt, &self.inside, 2) {
+        if !have_come(&self.rt, &self.inside, 2, TURNS) {
             self.alone.fetch_add(1, SeqCst);
         }
     }
@@ -107,7 +107,7 @@ impl<C: Clock + Copy> KeepTogether<C> {
         if own.fetch_add(1, SeqCst) != before {
             return;
         }
-        if !have_come(&self.rt, other, awaited) {
+        if !have_come(&self.rt, other, awaited, TURNS) {
             self.alone.fetch_add(1, SeqCst);
         }
     }
@@ -127,5 +127,75 @@ impl<C: Clock + Copy> Gate for KeepTogether<C> {
     fn while_inside<R: Recorder>(&self, recorder: &R, guard: &EntryGuard<'_, ClientCore>) {
         let _ = recorder;
         let _ = guard;
+    }
+}
+
+/// A gate at which c2 makes no attempt before c1 is inside as a writer, and that keeps c1, once it is inside as
+/// a reader, until c2 is inside too; for that it looks so often.
+#[derive(Drop)]
+pub(crate) struct SoftensTogether<C: Clock + Copy> {
+    rt: C,
+    turns: u32,
+    writing: AtomicU32,
+    softened: AtomicU32,
+    reading: AtomicU32,
+    alone: AtomicU32,
+}
+
+impl<C: Clock + Copy> SoftensTogether<C> {
+    pub(crate) fn of(rt: C, turns: u32) -> SoftensTogether<C> {
+        SoftensTogether {
+            rt,
+            turns,
+            writing: AtomicU32::new(0),
+            softened: AtomicU32::new(0),
+            reading: AtomicU32::new(0),
+            alone: AtomicU32::new(0),
+        }
+    }
+
+    /// How often c1 was inside as a writer, as a reader, and c2; and how often c1 waited in vain.
+    pub(crate) fn came(&self) -> (u32, u32, u32, u32) {
+        (
+            self.writing.load(SeqCst),
+            self.softened.load(SeqCst),
+            self.reading.load(SeqCst),
+            self.alone.load(SeqCst),
+        )
+    }
+
+    /// c1 is inside with a ticket of this mode.
+    fn keep_first(&self, mode: Mode) {
+        match mode {
+            Mode::Write => {
+                self.writing.fetch_add(1, SeqCst);
+            }
+            Mode::Read => {
+                self.softened.fetch_add(1, SeqCst);
+                if !have_come(&self.rt, &self.reading, 1, self.turns) {
+                    self.alone.fetch_add(1, SeqCst);
+                }
+            }
+        }
+    }
+}
+
+impl<C: Clock + Copy> Gate for SoftensTogether<C> {
+    fn before_keep(&self, actor: Actor) {
+        if let Actor::Client(client) = actor {
+            if client.get() == 2 {
+                have_come(&self.rt, &self.writing, 1, TURNS);
+            }
+        }
+    }
+
+    fn while_inside<R: Recorder>(&self, recorder: &R, guard: &EntryGuard<'_, ClientCore>) {
+        let _ = recorder;
+        let ticket = guard.ticket();
+        if ticket.client.get() == 1 {
+            self.keep_first(ticket.mode);
+        } else {
+            self.reading.fetch_add(1, SeqCst);
+        }
     }
 }

@@ -23,6 +23,8 @@ mod rows;
 #[cfg(test)]
 mod served;
 #[cfg(test)]
+mod softening;
+#[cfg(test)]
 mod storms;
 #[cfg(test)]
 mod supplies;

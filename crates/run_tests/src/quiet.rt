@@ -30,6 +30,18 @@ fn one_wish(rt: HostRuntime) -> Outcome {
     check_row(seen.entered == 1 && seen.events == 36, 2)
 }
 
+/// Beside what one wish logs, the Soften is logged, and said to two nodes: six events for each.
+#[test]
+fn one_wish_that_softens(rt: HostRuntime) -> Outcome {
+    let row = Row {
+        wishes: &[b"c1 soften a"],
+        ..SETTING
+    };
+    let seen = run_row(rt, rt.alloc(), &row, &OpenGate)?;
+    check_row(seen.faults.is_empty(), 1)?;
+    check_row(seen.entered == 1 && seen.events == 49, 2)
+}
+
 /// The longest name of a resource: no actor ends for want of memory.
 #[test]
 fn a_long_name(rt: HostRuntime) -> Outcome {

@@ -3,6 +3,7 @@
 use crate::devices::Device;
 use crate::gates::OpenGate;
 use crate::rows::{Row, run_row};
+use stable_record::Leaves;
 use std::alloc::Global;
 use std::sync::Wait;
 use std::thread::Threads;
@@ -11,14 +12,21 @@ use test_outcomes::{Failure, Outcome, check_row};
 /// Twenty wishes of each of eight clients on three resources.
 const WISHES: u32 = 160;
 
+/// The modes that take turns in a storm.
+type Modes = [&'static str; 3];
+
+const TWO_MODES: Modes = ["write", "read", "read"];
+
+const THREE_MODES: Modes = ["write", "soften", "read"];
+
 /// The text of a wish: clients, modes and names take turns.
-fn text(alloc: Global, place: u32) -> Result<Vec<u8>, Failure> {
+fn text(alloc: Global, place: u32, modes: &Modes) -> Result<Vec<u8>, Failure> {
     let client = place % 8 + 1;
     let round = place / 8;
-    let mode = if (round + client) % 3 == 0 {
-        "write"
-    } else {
-        "read"
+    let mode = match (round + client) % 3 {
+        0 => modes[0],
+        1 => modes[1],
+        _ => modes[2],
     };
     let name = match (round + client / 2) % 3 {
         0 => "a",
@@ -29,11 +37,25 @@ fn text(alloc: Global, place: u32) -> Result<Vec<u8>, Failure> {
     Ok(text.into_bytes())
 }
 
-fn storm<R: Threads + Wait + Copy + Send>(rt: R, alloc: Global, seed: u64) -> Outcome {
+/// So many wishes.
+fn texts(alloc: Global, count: u32, modes: &Modes) -> Result<Vec<Vec<u8>>, Failure> {
     let mut texts = Vec::new(alloc);
-    for place in 0..WISHES {
-        texts.push(text(alloc, place)?)?;
+    for place in 0..count {
+        texts.push(text(alloc, place, modes)?)?;
     }
+    Ok(texts)
+}
+
+/// Runs so many wishes with every record on this device. All are entered, and nobody ends by a fault.
+fn storm<R: Threads + Wait + Copy + Send>(
+    rt: R,
+    alloc: Global,
+    seed: u64,
+    count: u32,
+    modes: &Modes,
+    device: Device,
+) -> Outcome {
+    let texts = texts(alloc, count, modes)?;
     let mut wishes = Vec::new(alloc);
     for text in &texts {
         wishes.push(text.as_slice())?;
@@ -44,13 +66,13 @@ fn storm<R: Threads + Wait + Copy + Send>(rt: R, alloc: Global, seed: u64) -> Ou
         write: 2,
         clients: 8,
         wishes: wishes.as_slice(),
-        devices: &[Device::Memory; 3],
-        of_clients: Device::Memory,
+        devices: &[device; 3],
+        of_clients: device,
         weather: (seed, 200, 200, 200),
     };
     let seen = run_row(rt, alloc, &row, &OpenGate)?;
     check_row(
-        seen.faults.is_empty() && seen.entered == WISHES,
+        seen.faults.is_empty() && seen.entered == count,
         seed as usize,
     )
 }
@@ -58,7 +80,44 @@ fn storm<R: Threads + Wait + Copy + Send>(rt: R, alloc: Global, seed: u64) -> Ou
 #[test]
 fn a_storm_of_five_seeds(rt: HostRuntime) -> Outcome {
     for seed in 1..6u64 {
-        storm(rt, rt.alloc(), seed)?;
+        storm(rt, rt.alloc(), seed, WISHES, &TWO_MODES, Device::Memory)?;
     }
     Ok(())
+}
+
+#[test]
+fn writers_that_soften(rt: HostRuntime) -> Outcome {
+    for seed in 1..6u64 {
+        storm(rt, rt.alloc(), seed, WISHES, &THREE_MODES, Device::Memory)?;
+    }
+    Ok(())
+}
+
+/// Six wishes of each client.
+const FEW_WISHES: u32 = 48;
+
+/// Runs a storm with each record on a device that fails at every second keep, at every third, and so on.
+fn fails<R: Threads + Wait + Copy + Send>(rt: R, alloc: Global, leaves: Leaves) -> Outcome {
+    for every in 2..6u32 {
+        let device = Device::Faulty(every, leaves, 0);
+        storm(
+            rt,
+            alloc,
+            u64::from(every),
+            FEW_WISHES,
+            &THREE_MODES,
+            device,
+        )?;
+    }
+    Ok(())
+}
+
+#[test]
+fn records_that_fail_and_leave_the_old(rt: HostRuntime) -> Outcome {
+    fails(rt, rt.alloc(), Leaves::Old)
+}
+
+#[test]
+fn records_that_fail_and_leave_the_new(rt: HostRuntime) -> Outcome {
+    fails(rt, rt.alloc(), Leaves::New)
 }

@@ -12,6 +12,9 @@ fn first_words(rt: HostRuntime) -> Outcome {
         " begin c1 read a",
         "rhubarb",
         "begin\tc1 read a",
+        "softens c1",
+        "softened c1",
+        "Soften c1",
         "inside\r\n",
     ];
     each_is_bad(rt.alloc(), 801, &lines)
@@ -23,6 +26,8 @@ fn modes_and_ages(rt: HostRuntime) -> Outcome {
         "begin c1 reed A",
         "begin c1 Read a",
         "begin c1  a",
+        "begin c1 soften a",
+        "begin c1 soften A b1",
         "rise n1 New",
         "rise c1 ",
     ];
@@ -40,6 +45,9 @@ fn numbers_of_words(rt: HostRuntime) -> Outcome {
         "kept c1 ",
         "sayto c1",
         "enter",
+        "soften",
+        "soften c1 a",
+        "soften c1 ",
         "inside",
         "inside a b",
         "take n1",
@@ -70,6 +78,10 @@ fn actors(rt: HostRuntime) -> Outcome {
         "say n+1",
         "hear n1 1",
         "leave n1",
+        "soften c0",
+        "soften c1025",
+        "soften n1",
+        "soften a",
         "enter c1\r",
         "say n1x",
         "fall a",
@@ -119,7 +131,13 @@ fn names(rt: HostRuntime) -> Outcome {
 #[test]
 fn greatest_words(rt: HostRuntime) -> Outcome {
     let alloc = rt.alloc();
-    for line in ["begin c1024 read a", "take n16 1048576", "try c5", "say n4"] {
+    for line in [
+        "begin c1024 read a",
+        "take n16 1048576",
+        "try c5",
+        "say n4",
+        "soften c1024",
+    ] {
         plays_lines(alloc, line, "refused 601\n", 1)?;
     }
     let name = "inside a2345678901234567890123456789012";

@@ -153,7 +153,7 @@ fn settings_faults(rt: HostRuntime) -> Outcome {
 }
 
 /// Lines of journals, and what is found of them.
-const JOURNALS: [(&str, &str, u8); 10] = [
+const JOURNALS: [(&str, &str, u8); 15] = [
     ("", "sound 0\n", 0),
     ("rise c1 old\nbegin c1 read a\n", "sound 2\n", 0),
     (
@@ -168,12 +168,50 @@ const JOURNALS: [(&str, &str, u8); 10] = [
     ("begin c1 reed a\n", "unsound 1 fault 801\n", 1),
     ("rise c5 old\n", "unsound 1 refused 601\n", 1),
     ("begin c1 read a\n", "unsound 1 refused 602\n", 1),
+    ("soften c1 a\n", "unsound 1 fault 805\n", 1),
+    ("begin c1 soften a\n", "unsound 1 fault 801\n", 1),
+    ("soften c5\n", "unsound 1 refused 601\n", 1),
+    ("soften c1\n", "unsound 1 refused 602\n", 1),
+    ("rise c1 old\nsoften c1\n", "unsound 2 refused 604\n", 1),
 ];
 
 #[test]
 fn audits_of_journals(rt: HostRuntime) -> Outcome {
     for (row, (lines, expected, status)) in JOURNALS.iter().enumerate() {
         let input = format!(in rt.alloc(); "{SETTINGS}{lines}")?;
+        answers_row(
+            rt.alloc(),
+            row,
+            Command::Audit,
+            input.as_str(),
+            expected,
+            *status,
+        )?;
+    }
+    Ok(())
+}
+
+/// c1 writes `a` by n1 and n2, and softens; c2, who waited at n1, is let in there.
+const SOFTENS: &str = "\
+rise n1 old\nrise n2 old\nrise c1 old\nrise c2 old\n\
+begin c1 write a\ntry c1\nkept c1\nsayto c1 n1\ntake n1 1\ntry n1\nkept n1\nsay n1\nhear c1 2\n\
+sayto c1 n2\ntake n2 3\ntry n2\nkept n2\nsay n2\nhear c1 4\nenter c1\n\
+begin c2 read a\ntry c2\nkept c2\nsayto c2 n1\ntake n1 5\ntry n1\nkept n1\nsay n1\n\
+soften c1\nsayto c1 n1\ntake n1 7\ntry n1\nkept n1\nsay n1\n\
+take n1 1\nsay n1\nhear c1 8\nhear c1 2\nhear c2 9\n";
+
+/// What may follow, and what is found of it.
+const AFTER_SOFTENING: [(&str, &str, u8); 4] = [
+    ("", "sound 39\n", 0),
+    ("leave c1\nsayto c1 n3\n", "sound 41\n", 0),
+    ("soften c1\n", "unsound 40 refused 604\n", 1),
+    ("soften c2\n", "unsound 40 refused 604\n", 1),
+];
+
+#[test]
+fn audits_of_softening(rt: HostRuntime) -> Outcome {
+    for (row, (lines, expected, status)) in AFTER_SOFTENING.iter().enumerate() {
+        let input = format!(in rt.alloc(); "{SETTINGS}{SOFTENS}{lines}")?;
         answers_row(
             rt.alloc(),
             row,

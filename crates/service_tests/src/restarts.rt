@@ -45,6 +45,7 @@ rise n1 old > up
 rise n1 new > refused 603
 fall c1 > down
 begin c1 read a > refused 602
+soften c1 > refused 602
 sayto c1 n1 > refused 602
 rise c1 new > refused 611
 rise c1 old > up

@@ -16,12 +16,14 @@ const COMMANDS: [(Command, &str); 3] = [
 ];
 
 /// Good settings of a run.
-const TAKEN: [&str; 5] = [
+const TAKEN: [&str; 7] = [
     "seed = 9223372036854775807\nlose = 200\ntwice = 300\nlate = 500\n",
     "seed = 0\nlose = 0\ntwice = 0\nlate = 0\nwishes = []\n",
     "late = 1000\n",
     "wishes = [\"c1 read a\", \"c4 write b-2\", \"c1 read a\"]\n",
     "seed = 0x10\nwishes = ['c2 read a']\nlose = 1_000\n",
+    "wishes = [\"c1 soften a\"]\n",
+    "wishes = [\"c4 read b\", \"c4 soften b-2\", \"c1 soften a\", \"c1 write a\"]\n",
 ];
 
 fn takes_row(alloc: Global, row: usize, told: &str) -> Outcome {
@@ -75,7 +77,7 @@ fn wrong_run_settings(rt: HostRuntime) -> Outcome {
 }
 
 /// The first fault of each: of the weather, and then of the first wish that is none.
-const FIRST_FAULTS: [(&str, u16); 21] = [
+const FIRST_FAULTS: [(&str, u16); 30] = [
     ("lose = 1000\ntwice = 1\n", 901),
     ("lose = 400\ntwice = 400\nlate = 201\n", 901),
     ("late = 1000\nlose = 1\nwishes = [\"c1 read\"]\n", 901),
@@ -103,6 +105,16 @@ const FIRST_FAULTS: [(&str, u16); 21] = [
     ),
     ("wishes = [\"c1 read A\", \"c9 read a\"]\n", 804),
     ("wish = [\"c1 read\"]\nlose = 1001\n", 923),
+    // Of a wish that softens.
+    ("wishes = [\"c1 soften\"]\n", 805),
+    ("wishes = [\"c1 soften a b2 c\"]\n", 805),
+    ("wishes = [\"c5 soften a\"]\n", 802),
+    ("wishes = [\"c1 softened a\"]\n", 801),
+    ("wishes = [\"c1 softens a\"]\n", 801),
+    ("wishes = [\"c1 Soften a\"]\n", 801),
+    ("wishes = [\"c1 soften A b2\"]\n", 804),
+    ("wishes = [\"c1 soften a b1\"]\n", 803),
+    ("wishes = [\"c1 soften a b2\"]\n", 803),
 ];
 
 #[test]
@@ -143,7 +155,7 @@ fn most_wishes(rt: HostRuntime) -> Outcome {
 }
 
 /// What the ballot prints without a problem and clients, and for votes that make none.
-const BALLOTS: [(&str, &str, u8); 13] = [
+const BALLOTS: [(&str, &str, u8); 15] = [
     (
         "votes = [1]\nread = 1\nwrite = 1\n",
         "total 1 read 1 write 1\n",
@@ -208,6 +220,16 @@ const BALLOTS: [(&str, &str, u8); 13] = [
     ),
     (
         "votes = [1]\nread = 1\nwrite = 1\nwishes = [\"c1 read a b3\"]\nmore = [{ votes = [1], read = 1, write = 1 }]\n",
+        "settings fault 803\n",
+        2,
+    ),
+    (
+        "votes = [1]\nread = 1\nwrite = 1\nwishes = [\"c1 soften a b2\"]\nmore = [{ votes = [1], read = 1, write = 1 }]\n",
+        "total 1 read 1 write 1\ntotal 1 read 1 write 1\n",
+        0,
+    ),
+    (
+        "votes = [1]\nread = 1\nwrite = 1\nwishes = [\"c1 soften a b3\"]\nmore = [{ votes = [1], read = 1, write = 1 }]\n",
         "settings fault 803\n",
         2,
     ),

@@ -34,6 +34,35 @@ fn two_readers_inside(rt: HostRuntime) -> Outcome {
     plays(rt.alloc(), TWO_READERS.as_bytes(), TWO_READERS_OUT, 0)
 }
 
+const SOFTENS: &str = "\
+votes = [1, 1, 1]\nread = 2\nwrite = 2\nproblem = 1\nclients = 2\n---\n\
+begin c1 write a\ntry c1\nkept c1\n\
+sayto c1 n1\ntake n1 1\ntry n1\nkept n1\nsay n1\nhear c1 2\n\
+sayto c1 n2\ntake n2 3\ntry n2\nkept n2\nsay n2\nhear c1 4\nenter c1\n\
+begin c2 read a\ntry c2\nkept c2\nsayto c2 n1\ntake n1 5\ntry n1\nkept n1\nsay n1\n\
+soften c1\ninside a\nsayto c1 n1\ntake n1 7\ntry n1\nkept n1\nsay n1\nholding n1 a\n\
+take n1 1\nsay n1\nhear c1 8\nhear c1 2\n";
+
+const SOFTENS_OUT: &str = "\
+chose 1\ntried\nkept\n\
+sent 1 request n1 c1 1 write a\nchanged\ntried\nkept\nsent 2 grant n1 c1 1 write a\ncounted\n\
+sent 3 request n2 c1 1 write a\nchanged\ntried\nkept\nsent 4 grant n2 c1 1 write a\ncounted\ninside\n\
+chose 1\ntried\nkept\nsent 5 request n1 c2 1 read a\nchanged\ntried\nkept\n\
+sent 6 busy n1 c2 1 read a\n\
+softened\ninside a: c1 read\nsent 7 soften n1 c1 1\nchanged\ntried\nkept\n\
+sent 8 softened n1 c1 1\nsent 9 grant n1 c2 1 read a\nholding n1 a: c1 read, c2 read\n\
+same\nsent 10 softened n1 c1 1\nsoftened\nnot mine\n";
+
+/// A writer inside becomes a reader, and can do so once.
+#[test]
+fn softening(rt: HostRuntime) -> Outcome {
+    let alloc = rt.alloc();
+    plays(alloc, SOFTENS.as_bytes(), SOFTENS_OUT, 0)?;
+    let script = format!(in alloc; "{SOFTENS}soften c1\n")?;
+    let expected = format!(in alloc; "{SOFTENS_OUT}refused 604\n")?;
+    plays(alloc, script.as_bytes(), expected.as_str(), 1)
+}
+
 const TWO_BALLOTS: &str = "\
 votes = [2, 1, 1]\nread = 2\nwrite = 3\nproblem = 1\nclients = 2\n\
 more = [{ votes = [1, 1, 1], read = 2, write = 3 }]\n---\n\

@@ -71,6 +71,7 @@ fn text(alloc: Global, did: &Result<Effect, StepFault>) -> Result<String, Failur
         Ok(Effect::Kept) => text.push_str("kept")?,
         Ok(Effect::Inside) => text.push_str("inside")?,
         Ok(Effect::Outside) => text.push_str("outside")?,
+        Ok(Effect::Softened) => text.push_str("softened")?,
         Ok(Effect::Down) => text.push_str("down")?,
         Ok(Effect::Up) => text.push_str("up")?,
     }
@@ -236,6 +237,7 @@ take n4 1 > refused 601
 hear c5 1 > refused 601
 enter c5 > refused 601
 leave c5 > refused 601
+soften c5 > refused 601
 fall c5 > refused 601
 fall n4 > refused 601
 rise c5 old > refused 601
@@ -256,7 +258,8 @@ say n1 > refused 606
 take n1 1 > refused 607
 hear c1 1 > refused 607
 enter c1 > refused 604
-leave c1 > refused 604";
+leave c1 > refused 604
+soften c1 > refused 604";
 
 #[test]
 fn refused_at_rest(rt: HostRuntime) -> Outcome {
@@ -269,6 +272,7 @@ begin c1 read a > refused 604
 sayto c1 n1 > refused 605
 kept c1 > refused 611
 leave c1 > refused 604
+soften c1 > refused 604
 try c1 > tried
 try c1 > refused 604
 kept c1 > kept
@@ -276,11 +280,138 @@ sayto c1 n2 > sent 1 request n2 c1 1 read a
 take n1 1 > refused 608
 hear c1 1 > refused 608
 enter c1 > refused 609
-leave c1 > outside";
+soften c1 > refused 604
+leave c1 > outside
+soften c1 > refused 604";
 
 #[test]
 fn refused_clients(rt: HostRuntime) -> Outcome {
     plays(rt.alloc(), OF_A_CLIENT)
+}
+
+const WRITES: &str = "\
+begin c1 write a > chose 1
+try c1 > tried
+kept c1 > kept
+sayto c1 n1 > sent 1 request n1 c1 1 write a
+take n1 1 > changed by request n1 c1 1 write a
+try n1 > tried
+kept n1 > kept
+say n1 > said 2 1
+hear c1 2 > Counted grant n1 c1 1 write a
+sayto c1 n2 > sent 3 request n2 c1 1 write a
+take n2 3 > changed by request n2 c1 1 write a
+try n2 > tried
+kept n2 > kept
+say n2 > said 4 1
+hear c1 4 > Counted grant n2 c1 1 write a
+enter c1 > inside";
+
+const A_READER_WAITS: &str = "\
+begin c2 read a > chose 1
+try c2 > tried
+kept c2 > kept
+sayto c2 n1 > sent 5 request n1 c2 1 read a
+take n1 5 > changed by request n1 c2 1 read a
+try n1 > tried
+kept n1 > kept
+say n1 > said 6 1
+hear c2 6 > Busy busy n1 c2 1 read a";
+
+const SOFTENS: &str = "\
+soften c1 > softened
+soften c1 > refused 604
+sayto c1 n1 > sent 7 soften n1 c1 1
+take n1 7 > changed by soften n1 c1 1
+try n1 > tried
+kept n1 > kept
+say n1 > said 8 2
+hear c1 8 > Softened softened n1 c1 1
+hear c2 9 > Counted grant n1 c2 1 read a";
+
+// n2 was told nothing, and n3 had no request: it keeps nothing of the softening.
+const THE_READER_ENTERS: &str = "\
+sayto c1 n3 > sent 10 soften n3 c1 1
+take n3 10 > same after soften n3 c1 1
+say n3 > said 11 1
+hear c1 11 > Softened softened n3 c1 1
+sayto c2 n3 > sent 12 request n3 c2 1 read a
+take n3 12 > changed by request n3 c2 1 read a
+try n3 > tried
+kept n3 > kept
+say n3 > said 13 1
+hear c2 13 > Counted grant n3 c2 1 read a
+enter c2 > inside
+soften c2 > refused 604";
+
+// c1 says its release to the node that never had its request, as to the others.
+const LEAVES_SOFTENED: &str = "\
+leave c1 > outside
+soften c1 > refused 604
+hear c1 8 > NotMine softened n1 c1 1
+sayto c1 n2 > sent 14 release n2 c1 1
+sayto c1 n3 > sent 15 release n3 c1 1
+take n3 15 > changed by release n3 c1 1";
+
+#[test]
+fn softened_writer(rt: HostRuntime) -> Outcome {
+    let alloc = rt.alloc();
+    let mut world = three_nodes(alloc)?;
+    play(alloc, &mut world, WRITES)?;
+    play(alloc, &mut world, A_READER_WAITS)?;
+    are_inside(alloc, &world, "c1 1 write a;")?;
+    play(alloc, &mut world, SOFTENS)?;
+    are_inside(alloc, &world, "c1 1 read a;")?;
+    is_sent(alloc, &world, 8, "softened n1 c1 1")?;
+    is_sent(alloc, &world, 9, "grant n1 c2 1 read a")?;
+    play(alloc, &mut world, THE_READER_ENTERS)?;
+    are_inside(alloc, &world, "c1 1 read a;c2 1 read a;")?;
+    play(alloc, &mut world, LEAVES_SOFTENED)?;
+    are_inside(alloc, &world, "c2 1 read a;")
+}
+
+// A writer that waits stays out until the reader has left that was a writer.
+const A_WRITER_WAITS: &str = "\
+begin c2 write a > chose 1
+try c2 > tried
+kept c2 > kept
+sayto c2 n1 > sent 5 request n1 c2 1 write a
+take n1 5 > changed by request n1 c2 1 write a
+try n1 > tried
+kept n1 > kept
+say n1 > said 6 1
+soften c1 > softened
+sayto c1 n1 > sent 7 soften n1 c1 1
+take n1 7 > changed by soften n1 c1 1
+try n1 > tried
+kept n1 > kept
+say n1 > said 8 1
+sayto c2 n3 > sent 9 request n3 c2 1 write a
+take n3 9 > changed by request n3 c2 1 write a
+try n3 > tried
+kept n3 > kept
+say n3 > said 10 1
+hear c2 10 > Counted grant n3 c2 1 write a
+enter c2 > refused 609
+take n1 5 > same after request n1 c2 1 write a
+say n1 > said 11 1
+hear c2 11 > Busy busy n1 c2 1 write a
+leave c1 > outside
+sayto c1 n1 > sent 12 release n1 c1 1
+take n1 12 > changed by release n1 c1 1
+try n1 > tried
+kept n1 > kept
+say n1 > said 13 2
+hear c2 14 > Counted grant n1 c2 1 write a
+enter c2 > inside";
+
+#[test]
+fn writer_behind_a_softened(rt: HostRuntime) -> Outcome {
+    let alloc = rt.alloc();
+    let mut world = three_nodes(alloc)?;
+    play(alloc, &mut world, WRITES)?;
+    play(alloc, &mut world, A_WRITER_WAITS)?;
+    are_inside(alloc, &world, "c2 1 write a;")
 }
 
 // While the node is busy and no such message was sent, the lower refusal is answered.

@@ -6,7 +6,7 @@ use Rattle.std.specs.Map.{lookup}
 use Rattle.std.specs.Option.{option_map}
 use Rattle.std.specs.Ordering.{nat_cmp}
 use Rattle.std.specs.Str.{bytes_eq}
-use Rattle.std.proofs.lemmas.Bool.{cases_Bool, eqb-true, eq-eqb}
+use Rattle.std.proofs.lemmas.Bool.{cases_Bool, and_parts, eqb-true, eq-eqb}
 use Rattle.std.proofs.lemmas.List.{append-nil, append_assoc, length-append, take-append-le, take_all}
 use Rattle.std.proofs.lemmas.List.Elements.{filter-append}
 use Rattle.std.proofs.lemmas.Slice.Eq.{bytes_eq-Decides}
@@ -16,13 +16,13 @@ use Rattle.lock_messages.specs.declared.tickets.Mode.TheVariants.{Read, Write}
 use Rattle.lock_model.specs.declared.entries.Entry.{Entry}
 use Rattle.lock_model.specs.declared.entries.Live.{Live}
 use Rattle.lock_model.specs.declared.entries.Status.{Status}
-use Rattle.lock_model.specs.declared.entries.Status.TheVariants.{Waiting, Holding}
-use Rattle.lock_model.specs.ExactStations.{is_of, knows, entry_of, EachOnce, is_waiting, is_holding, if_live, any_live, holds, writer_holds, writer_waits, promoted}
+use Rattle.lock_model.specs.declared.entries.Status.TheVariants.{Waiting, Holding, Softened}
+use Rattle.lock_model.specs.ExactStations.{is_of, knows, entry_of, EachOnce, is_waiting, is_holding, is_write, if_live, any_live, holds, writer_holds, writer_waits, promoted}
 use Rattle.lock_model.specs.ExactDecisions.{moved_last}
 use Rattle.stable_record.specs.EntryLists.{replaced}
-use Rattle.stable_record.specs.Lines.{Tickets, is_for, waits_for, count_live, clients_of, tickets_for, line_of, line_in, Indexes, or_none, with_ticket, Joins}
-use Rattle.stable_record.specs.Indexing.{announced_ticket, announced_entry, with_announced, IndexesWith, IsEntryAmong, HasNoTicket, without_live, with_holding, without_ticket, with_holder, with_promoted, without_last, with_confirmed, is_no_tickets, unless_empty, Puts, AreCounted}
-use Rattle.stable_record.proofs.LineFacts.{line-in-updated, any-snoc, or-no, count-few, tickets-none, line-other, line-here, indexes-joined, or-none-read}
+use Rattle.stable_record.specs.Lines.{Tickets, is_for, waits_for, count_live, clients_of, tickets_for, line_of, line_in, Indexes, or_none, one_if, with_ticket, Joins}
+use Rattle.stable_record.specs.Indexing.{announced_ticket, announced_entry, with_announced, IndexesWith, IsEntryAmong, HasNoTicket, without_live, with_holding, softened_holder, with_softened, without_ticket, with_holder, with_promoted, with_softened_holder, without_last, with_confirmed, is_no_tickets, unless_empty, Puts, AreCounted}
+use Rattle.stable_record.proofs.LineFacts.{line-in-updated, and-yes, any-snoc, or-no, count-few, tickets-none, line-other, line-here, indexes-joined, or-none-read}
 use Rattle.stable_record.proofs.MapFacts.{others, others-unknown}
 use Rattle.stable_record.proofs.EditFacts.{Stands, stands, replaced-there, any-within, line-without, tickets-ended, tickets-held}
 
@@ -100,6 +100,8 @@ one-of : (s : Status) (k : Bool) → k ≡ ((is_holding s && k) || (is_waiting s
 one-of Waiting k = refl
 one-of Holding true = refl
 one-of Holding false = refl
+one-of Softened true = refl
+one-of Softened false = refl
 
 one-is : (x : List ℕ) (o : Option Live) → if_live (is_for x) o ≡ (if_live (holds x) o || if_live (waits_for x) o)
 one-is x None = refl
@@ -163,21 +165,32 @@ ended-there old new front rest e f l is gone none h puts =
     ∙ empty-line x (front ++ rest) ∙ sym (line-without x front rest f (idle x)))
     (λ y k. line-without y front rest e (ap (if_live (is_for y)) is ∙ k) ∙ sym (line-without y front rest f (idle y)))
 
-holding-is : (s : Status) → is_waiting s ≡ false → Holding ≡ s
+holding-is : (s : Status) → is_waiting s ≡ false → is_holding s ≡ true
 holding-is Waiting h = absurd cc
 holding-is Holding h = refl
+holding-is Softened h = refl
 
-promoted-is : (l : Live) → is_waiting l.status ≡ false → promoted l ≡ l
-promoted-is l h = let p = holding-is l.status h in λ i. record { attempt = l.attempt; mode = l.mode; resource = l.resource; status = p i }
+-- a ticket of the same client for the same resource comes in the place of another
+turned-there : (change : Tickets → Tickets) (old new : List (List ℕ × Tickets)) (front rest : List Entry) (e f : Entry) (l m : Live) → e.live ≡ Some l → f.live ≡ Some m → m.resource ≡ l.resource →
+    change (tickets_for l.resource (front ++ e ∷ rest)) ≡ tickets_for l.resource (front ++ f ∷ rest) →
+    Indexes old (front ++ e ∷ rest) → Puts l.resource (option_map change (line_in old l.resource)) old new → Indexes new (front ++ f ∷ rest)
+turned-there change old new front rest e f l m is becomes same made h puts =
+    indexes-put x (option_map change (line_in old x)) old new (front ++ e ∷ rest) (front ++ f ∷ rest) puts h
+    (ap (option_map change) (h x ∙ line-within x front rest e (ap (if_live (is_for x)) is ∙ self-eq x))
+    ∙ ap (λ t. Some t) made
+    ∙ sym (line-within x front rest f (turned x ∙ self-eq x)))
+    (λ y k. line-without y front rest e (ap (if_live (is_for y)) is ∙ k) ∙ sym (line-without y front rest f (turned y ∙ k)))
+  where
+    x : List ℕ
+    x = l.resource
+
+    turned : (y : List ℕ) → if_live (is_for y) f.live ≡ bytes_eq x y
+    turned y = ap (if_live (is_for y)) becomes ∙ ap (λ z. bytes_eq z y) same
 
 held-there : (old new : List (List ℕ × Tickets)) (front rest : List Entry) (e : Entry) (l : Live) → e.live ≡ Some l → knows e.client front ≡ false →
     Indexes old (front ++ e ∷ rest) → Puts l.resource (option_map (with_promoted e.client l) (line_in old l.resource)) old new → Indexes new (front ++ with_holding e ∷ rest)
 held-there old new front rest e l is none h puts =
-    indexes-put x (option_map (with_promoted e.client l) (line_in old x)) old new (front ++ e ∷ rest) (front ++ f ∷ rest) puts h
-    (ap (option_map (with_promoted e.client l)) (h x ∙ line-within x front rest e own)
-    ∙ ap (λ t. Some t) (go (cases_Bool (is_waiting l.status)))
-    ∙ sym (line-within x front rest f (ap (if_live (is_for x)) becomes ∙ self-eq x)))
-    (λ y k. line-without y front rest e (ap (if_live (is_for y)) is ∙ k) ∙ sym (line-without y front rest f (ap (if_live (is_for y)) becomes ∙ k)))
+    turned-there (with_promoted e.client l) old new front rest e f l (promoted l) is becomes refl (go (cases_Bool (is_waiting l.status))) h puts
   where
     x : List ℕ
     x = l.resource
@@ -185,25 +198,70 @@ held-there old new front rest e l is none h puts =
     f : Entry
     f = with_holding e
 
-    own : if_live (is_for x) e.live ≡ true
-    own = ap (if_live (is_for x)) is ∙ self-eq x
-
     becomes : f.live ≡ Some (promoted l)
     becomes = ap (option_map promoted) is
 
     all : Tickets
     all = tickets_for x (front ++ e ∷ rest)
 
+    holds_now : with_holder l.mode (tickets_for x (front ++ rest)) ≡ tickets_for x (front ++ f ∷ rest)
+    holds_now = tickets-held x front rest f (promoted l) becomes (self-eq x) refl refl
+
     go : (is_waiting l.status ≡ true) ⊎ (is_waiting l.status ≡ false) → with_promoted e.client l all ≡ tickets_for x (front ++ f ∷ rest)
     go (inl w) =
         ap (λ b. cond b (with_holder l.mode (without_ticket e.client l all)) all) w
-        ∙ ap (with_holder l.mode) (tickets-ended x front rest e l is (self-eq x) none)
-        ∙ tickets-held x front rest f (promoted l) becomes (self-eq x) refl refl
+        ∙ ap (with_holder l.mode) (tickets-ended x front rest e l is (self-eq x) none) ∙ holds_now
     go (inr w) =
-        let live : e.live ≡ f.live = is ∙ ap (λ m. Some m) (sym (promoted-is l w)) ∙ sym becomes in
-        let same : e ≡ f = λ i. record { client = e.client; floor = e.floor; live = live i } in
         ap (λ b. cond b (with_holder l.mode (without_ticket e.client l all)) all) w
-        ∙ ap (λ (d : Entry). tickets_for x (front ++ d ∷ rest)) same
+        ∙ sym (tickets-held x front rest e l is (self-eq x) (holding-is l.status w) w) ∙ holds_now
+
+-- ---- a ticket is softened
+
+not-waiting : (s : Status) → is_holding s ≡ true → is_waiting s ≡ false
+not-waiting Waiting h = absurd cc
+not-waiting Holding h = refl
+not-waiting Softened h = refl
+
+-- a writer among the holders is a reader
+writer-softened : (l : Live) (t : Tickets) → is_write l.mode ≡ true → is_holding l.status ≡ true → with_softened_holder l (with_holder l.mode t) ≡ with_holder Read t
+writer-softened l t write holding =
+    let one : one_if (is_write l.mode) ≡ 1 = ap one_if write in
+    let gone : one_if (is_write l.mode && is_holding l.status) ≡ 1 = ap one_if (and-yes (is_write l.mode) (is_holding l.status) holding ∙ write) in
+    let q : (t.writing_holders + one_if (is_write l.mode)) - one_if (is_write l.mode && is_holding l.status) ≡ t.writing_holders + 0 = omega (arith, one, gone) in
+    λ i. record { holders = t.holders + 1; writing_holders = q i; waiting_writers = t.waiting_writers; waiting = t.waiting }
+
+softened-there : (old new : List (List ℕ × Tickets)) (front rest : List Entry) (e : Entry) (l : Live) → e.live ≡ Some l →
+    Indexes old (front ++ e ∷ rest) → Puts l.resource (option_map (with_softened_holder l) (line_in old l.resource)) old new → Indexes new (front ++ with_softened e ∷ rest)
+softened-there old new front rest e l is h puts = go (cases_Bool (is_write l.mode && is_holding l.status))
+  where
+    x : List ℕ
+    x = l.resource
+
+    f : Entry
+    f = with_softened e
+
+    all : Tickets
+    all = tickets_for x (front ++ e ∷ rest)
+
+    reader : Live
+    reader = record { attempt = l.attempt; mode = Read; resource = l.resource; status = Softened }
+
+    go : ((is_write l.mode && is_holding l.status) ≡ true) ⊎ ((is_write l.mode && is_holding l.status) ≡ false) → Indexes new (front ++ f ∷ rest)
+    go (inl k) =
+        let both = and_parts (is_write l.mode) (is_holding l.status) k in
+        let becomes : f.live ≡ Some reader = ap (option_map softened_holder) is ∙ ap (λ b. Some (cond b reader l)) k in
+        turned-there (with_softened_holder l) old new front rest e f l reader is becomes refl
+        (ap (with_softened_holder l) (sym (tickets-held x front rest e l is (self-eq x) both.1 (not-waiting l.status both.1)))
+        ∙ writer-softened l (tickets_for x (front ++ rest)) both.0 both.1
+        ∙ tickets-held x front rest f reader becomes (self-eq x) refl refl) h puts
+    go (inr k) =
+        let becomes : f.live ≡ Some l = ap (option_map softened_holder) is ∙ ap (λ b. Some (cond b reader l)) k in
+        let live = is ∙ sym becomes in
+        let same : e ≡ f = λ i. record { client = e.client; floor = e.floor; live = live i } in
+        let nothing : one_if (is_write l.mode && is_holding l.status) ≡ 0 = ap one_if k in
+        let q : all.writing_holders - one_if (is_write l.mode && is_holding l.status) ≡ all.writing_holders = omega (arith, nothing) in
+        let kept : with_softened_holder l all ≡ all = λ i. record { holders = all.holders; writing_holders = q i; waiting_writers = all.waiting_writers; waiting = all.waiting } in
+        turned-there (with_softened_holder l) old new front rest e f l l is becomes refl (kept ∙ ap (λ (d : Entry). tickets_for x (front ++ d ∷ rest)) same) h puts
 
 -- ---- the same among entries of a node, with or without a client that is announced
 
@@ -239,6 +297,16 @@ indexes-held a old new e l es is among h puts =
     subst (Indexes new) (sym (ap (with_announced a) after ∙ within a s.front s.back f))
     (held-there old new s.front (s.back ++ tail_of a) e l is s.before was puts)
 
+pub indexes-softened : (a : Option (ℕ × List ℕ)) (old new : List (List ℕ × Tickets)) (e : Entry) (l : Live) (es : List Entry) → e.live ≡ Some l → IsEntryAmong e es → IndexesWith a old es →
+    Puts l.resource (option_map (with_softened_holder l) (line_in old l.resource)) old new → IndexesWith a new (replaced (with_softened e) es)
+indexes-softened a old new e l es is among h puts =
+    let s = stands e es among.once among.found in
+    let f = with_softened e in
+    let after : replaced f es ≡ s.front ++ f ∷ s.back = ap (replaced f) s.is ∙ replaced-there f s.front s.back e (eq-eqb e.client e.client refl) s.before s.after in
+    let was : Indexes old (s.front ++ e ∷ (s.back ++ tail_of a)) = subst (Indexes old) (ap (with_announced a) s.is ∙ within a s.front s.back e) h in
+    subst (Indexes new) (sym (ap (with_announced a) after ∙ within a s.front s.back f))
+    (softened-there old new s.front (s.back ++ tail_of a) e l is was puts)
+
 -- an entry without a live ticket may change its floor
 idle-there : (a : Option (ℕ × List ℕ)) (lines : List (List ℕ × Tickets)) (e f : Entry) (es : List Entry) → e.live ≡ None → f.live ≡ None → is_of f.client e ≡ true →
     (s : Stands e es) → knows f.client s.front ≡ false → knows f.client s.back ≡ false → IndexesWith a lines es → IndexesWith a lines (replaced f es)
@@ -260,6 +328,12 @@ pub indexes-idle-held : (a : Option (ℕ × List ℕ)) (lines : List (List ℕ �
 indexes-idle-held a lines e es is among h =
     let s = stands e es among.once among.found in
     idle-there a lines e (with_holding e) es is (ap (option_map promoted) is) (eq-eqb e.client e.client refl) s s.before s.after h
+
+pub indexes-idle-softened : (a : Option (ℕ × List ℕ)) (lines : List (List ℕ × Tickets)) (e : Entry) (es : List Entry) → e.live ≡ None → IsEntryAmong e es → IndexesWith a lines es →
+    IndexesWith a lines (replaced (with_softened e) es)
+indexes-idle-softened a lines e es is among h =
+    let s = stands e es among.once among.found in
+    idle-there a lines e (with_softened e) es is (ap (option_map softened_holder) is) (eq-eqb e.client e.client refl) s s.before s.after h
 
 pub some-same : (a b : Live) → Some a ≡ Some b → a ≡ b
 some-same a b h = cc
@@ -324,6 +398,16 @@ last-confirmed c a Read x y Holding t =
     let s = take-last t.waiting c ∙ sym (append-nil t.waiting) in
     λ i. record { holders = p i; writing_holders = q i; waiting_writers = t.waiting_writers + 0; waiting = s i }
 last-confirmed c a Write x y Holding t =
+    let p : (t.holders + 0) + 1 ≡ t.holders + 1 = omega arith in
+    let q : (t.writing_holders + 0) + 1 ≡ t.writing_holders + 1 = omega arith in
+    let s = take-last t.waiting c ∙ sym (append-nil t.waiting) in
+    λ i. record { holders = p i; writing_holders = q i; waiting_writers = t.waiting_writers + 0; waiting = s i }
+last-confirmed c a Read x y Softened t =
+    let p : (t.holders + 0) + 1 ≡ t.holders + 1 = omega arith in
+    let q : (t.writing_holders + 0) + 0 ≡ t.writing_holders + 0 = omega arith in
+    let s = take-last t.waiting c ∙ sym (append-nil t.waiting) in
+    λ i. record { holders = p i; writing_holders = q i; waiting_writers = t.waiting_writers + 0; waiting = s i }
+last-confirmed c a Write x y Softened t =
     let p : (t.holders + 0) + 1 ≡ t.holders + 1 = omega arith in
     let q : (t.writing_holders + 0) + 1 ≡ t.writing_holders + 1 = omega arith in
     let s = take-last t.waiting c ∙ sym (append-nil t.waiting) in

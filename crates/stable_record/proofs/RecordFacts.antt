@@ -11,7 +11,7 @@ use Rattle.std.proofs.lemmas.List.Concat.{flat_map-cons}
 use Rattle.lock_messages.specs.declared.ids.TheConstants.{MAX_CLIENTS}
 use Rattle.lock_model.specs.declared.entries.Entry.{Entry}
 use Rattle.lock_model.specs.declared.problems.Problem.{Problem}
-use Rattle.lock_model.specs.ExactStations.{is_of, knows, EachOnce, IsAboveFloor, IsWellFormed}
+use Rattle.lock_model.specs.ExactStations.{is_of, knows, EachOnce, IsAboveFloor, IsReaderIfSoftened, IsWellFormed}
 use Rattle.stable_record.specs.declared.faults.RecordFault.{RecordFault}
 use Rattle.stable_record.specs.declared.faults.RecordFault.TheVariants as faults
 use Rattle.stable_record.specs.declared.formats.TheConstants.{VERSION}
@@ -60,6 +60,7 @@ record TakesEntries (n : ℕ) (seen : List Entry) (bytes : List ℕ) (all : List
   pub length_is : length more ≡ n
   pub fits : AllByRecursion IsEntry more
   pub above : AllByRecursion IsAboveFloor more
+  pub softened : AllByRecursion IsReaderIfSoftened more
   pub once : EachOnce seen → EachOnce all
 
 record TakesRecord (bytes : List ℕ) (r : NodeRecord) (rest : List ℕ) : Type 0 where
@@ -83,7 +84,7 @@ module _ (law : FieldsAreExact RecordFault) where
   unfolding entries_at
   entries_take zero seen bytes x fits e =
       subst (λ (y : List Entry × List ℕ). TakesEntries 0 seen bytes y.0 y.1) (ok_is (seen, bytes) x e)
-      (record { more = []; all_is = sym (append-nil seen); taken = record { parts = refl; rest_fits = fits }; length_is = refl; fits = tt; above = tt; once = λ o. o })
+      (record { more = []; all_is = sym (append-nil seen); taken = record { parts = refl; rest_fits = fits }; length_is = refl; fits = tt; above = tt; softened = tt; once = λ o. o })
   entries_take (suc n) seen bytes x fits e =
       let a = bind_ok (entry_at seen bytes) (λ first. entries_at n (seen ++ first.0 ∷ []) first.1) x e in
       let first = entry_takes law seen bytes a.0 fits a.1 in
@@ -96,20 +97,21 @@ module _ (law : FieldsAreExact RecordFault) where
         length_is = ap suc others.length_is;
         fits = (first.fits, others.fits);
         above = (first.above, others.above);
+        softened = (first.softened, others.softened);
         once = λ o. others.once (once-push seen a.0.0 o first.new);
       }
 
-  entries_again : (es seen : List Entry) (rest : List ℕ) → AllByRecursion IsEntry es → AllByRecursion IsAboveFloor es → EachOnce (seen ++ es)
+  entries_again : (es seen : List Entry) (rest : List ℕ) → AllByRecursion IsEntry es → AllByRecursion IsAboveFloor es → AllByRecursion IsReaderIfSoftened es → EachOnce (seen ++ es)
       → entries_at (length es) seen (flat_map entry_bytes es ++ rest) ≡ Ok (seen ++ es, rest)
   unfolding entries_at
-  entries_again [] seen rest fits above o = ap (λ (l : List Entry). read (l, rest)) (sym (append-nil seen))
-  entries_again (e ∷ es) seen rest fits above o =
+  entries_again [] seen rest fits above reads o = ap (λ (l : List Entry). read (l, rest)) (sym (append-nil seen))
+  entries_again (e ∷ es) seen rest fits above reads o =
       let regrouped : flat_map entry_bytes (e ∷ es) ++ rest ≡ entry_bytes e ++ (flat_map entry_bytes es ++ rest) = ap (λ (t : List ℕ). t ++ rest) (flat_map-cons entry_bytes e es) ∙ append_assoc (entry_bytes e) (flat_map entry_bytes es) rest in
       let shape : (seen ++ e ∷ []) ++ es ≡ seen ++ e ∷ es = append_assoc seen (e ∷ []) es in
       ap (entries_at (suc (length es)) seen) regrouped
       ∙ bind_again (entry_at seen (entry_bytes e ++ (flat_map entry_bytes es ++ rest))) (λ first. entries_at (length es) (seen ++ first.0 ∷ []) first.1) (e, flat_map entry_bytes es ++ rest)
-      (entry_again law seen e (flat_map entry_bytes es ++ rest) fits.0 above.0 (once-new seen e es o))
-      ∙ entries_again es (seen ++ e ∷ []) rest fits.1 above.1 (subst EachOnce (sym shape) o)
+      (entry_again law seen e (flat_map entry_bytes es ++ rest) fits.0 above.0 reads.0 (once-new seen e es o))
+      ∙ entries_again es (seen ++ e ∷ []) rest fits.1 above.1 reads.1 (subst EachOnce (sym shape) o)
       ∙ ap (λ (l : List Entry). read (l, rest)) shape
 
   head_takes : (bytes : List ℕ) (x : (Problem × ℕ) × List ℕ) → AreBytes bytes → head_at bytes ≡ Ok x → Takes bytes (head_bytes x.0.0 x.0.1) x.1 × (x.0.1 ≤ MAX_CLIENTS)
@@ -155,7 +157,7 @@ module _ (law : FieldsAreExact RecordFault) where
         taken = whole;
         few = omega (arith, th.1, len);
         entries = subst (AllByRecursion IsEntry) all tb.fits;
-        well_formed = record { once = tb.once tt; attempts = subst (AllByRecursion IsAboveFloor) all tb.above };
+        well_formed = record { once = tb.once tt; attempts = subst (AllByRecursion IsAboveFloor) all tb.above; softened = subst (AllByRecursion IsReaderIfSoftened) all tb.softened };
       })
 
   record_again : (r : NodeRecord) (rest : List ℕ) → IsNodeRecord r → record_at (node_record_of r ++ rest) ≡ Ok (r, rest)
@@ -166,7 +168,7 @@ module _ (law : FieldsAreExact RecordFault) where
       ∙ bind_again (head_at (head_bytes r.policy (length r.entries) ++ body)) (λ head. entries_at head.0.1 [] head.1 >>= λ entries. Ok (record { policy = head.0.0; entries = entries.0 }, entries.1)) ((r.policy, length r.entries), body)
       (head_again r.policy (length r.entries) body fits.few)
       ∙ bind_again (entries_at (length r.entries) [] body) (λ entries. Ok (record { policy = r.policy; entries = entries.0 }, entries.1)) (r.entries, rest)
-      (entries_again r.entries [] rest fits.entries fits.well_formed.attempts fits.well_formed.once)
+      (entries_again r.entries [] rest fits.entries fits.well_formed.attempts fits.well_formed.softened fits.well_formed.once)
 
   reading_takes : LawfulIsSeen → CausedIsSeen → (bytes : List ℕ) (r : NodeRecord) → AreBytes bytes → reading bytes ≡ Ok r → IsNodeRecord r × (bytes ≡ node_record_of r)
   unfolding reading

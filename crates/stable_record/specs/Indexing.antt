@@ -7,7 +7,7 @@ use Rattle.lock_messages.specs.declared.tickets.Mode.{Mode}
 use Rattle.lock_messages.specs.declared.tickets.Mode.TheVariants.{Read}
 use Rattle.lock_model.specs.declared.entries.Entry.{Entry}
 use Rattle.lock_model.specs.declared.entries.Live.{Live}
-use Rattle.lock_model.specs.declared.entries.Status.TheVariants.{Waiting}
+use Rattle.lock_model.specs.declared.entries.Status.TheVariants.{Waiting, Softened}
 use Rattle.lock_model.specs.ExactStations.{entry_of, EachOnce, promoted, is_waiting, is_holding, is_write}
 use Rattle.stable_record.specs.Lines.{Tickets, Indexes, line_in, one_if}
 
@@ -49,6 +49,14 @@ without_live floor e = record { client = e.client; floor = floor; live = None }
 abbrev pub with_holding : Entry → Entry
 with_holding e = record { client = e.client; floor = e.floor; live = option_map promoted e.live }
 
+-- a writer's ticket that holds is a softened reader's; any other stays as it is
+abbrev pub softened_holder : Live → Live
+softened_holder l = if is_write l.mode && is_holding l.status then record l { mode = Read; status = Softened } else l
+
+-- the entry with its live ticket softened, if that is a writer's that holds
+abbrev pub with_softened : Entry → Entry
+with_softened e = record { client = e.client; floor = e.floor; live = option_map softened_holder e.live }
+
 -- ---- what private functions owe one another
 
 -- without the first of these numbers that is c
@@ -77,6 +85,15 @@ with_holder m t = record {
 -- a client's ticket holds, if it waited
 abbrev pub with_promoted : ℕ → Live → Tickets → Tickets
 with_promoted c l t = if is_waiting l.status then with_holder l.mode (without_ticket c l t) else t
+
+-- a writer's ticket that holds is a reader's that does
+abbrev pub with_softened_holder : Live → Tickets → Tickets
+with_softened_holder l t = record {
+  holders = t.holders;
+  writing_holders = t.writing_holders - one_if (is_write l.mode && is_holding l.status);
+  waiting_writers = t.waiting_writers;
+  waiting = t.waiting;
+}
 
 -- the last that waits goes
 abbrev pub without_last : Tickets → Tickets

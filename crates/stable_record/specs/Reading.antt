@@ -1,16 +1,17 @@
 -- Reading records from the front: the record, or the first fault that is met.
-use Rattle.std.specs.Prelude.{◌≡◌, ◌⊎◌, ℕ, zero, suc, ◌+◌, ◌≤◌, ◌==◌, if◌then◌else◌, List, [], ◌∷◌, ◌++◌, length, Option, Some, None, Result, Ok, Err, IsOk}
+use Rattle.std.specs.Prelude.{◌≡◌, ◌⊎◌, Bool, true, not, ℕ, zero, suc, ◌+◌, ◌≤◌, ◌==◌, if◌then◌else◌, List, [], ◌∷◌, ◌++◌, length, Option, Some, None, Result, Ok, Err, IsOk}
 use Rattle.std.specs.Int.{w16, w32, w64}
 use Rattle.lock_messages.specs.declared.ids.TheConstants.{MAX_CLIENTS, MAX_ATTEMPT}
 use Rattle.lock_messages.specs.declared.names.TheConstants.{MAX_NAME_LEN}
+use Rattle.lock_messages.specs.declared.tickets.Mode.{Mode}
 use Rattle.lock_messages.specs.Fields.{◌>>=◌, byte_at, number_at, mode_at, name_at}
 use Rattle.lock_model.specs.declared.entries.Entry.{Entry}
 use Rattle.lock_model.specs.declared.entries.Live.{Live}
 use Rattle.lock_model.specs.declared.entries.Status.{Status}
-use Rattle.lock_model.specs.declared.entries.Status.TheVariants.{Waiting, Holding}
+use Rattle.lock_model.specs.declared.entries.Status.TheVariants.{Waiting, Holding, Softened}
 use Rattle.lock_model.specs.declared.problems.Problem.{Problem}
 use Rattle.lock_model.specs.declared.problems.Problem.TheVariants.{First, Second}
-use Rattle.lock_model.specs.ExactStations.{knows}
+use Rattle.lock_model.specs.ExactStations.{knows, is_write}
 use Rattle.stable_record.specs.declared.faults.RecordFault.{RecordFault}
 use Rattle.stable_record.specs.declared.faults.RecordFault.TheVariants as faults
 use Rattle.stable_record.specs.declared.formats.TheConstants.{VERSION}
@@ -55,19 +56,31 @@ client_at seen bytes = number_at w32 1 MAX_CLIENTS faults.Short faults.EntryFiel
 abbrev pub floor_at : List ℕ → Result (ℕ × List ℕ) RecordFault
 floor_at bytes = number_at w64 0 MAX_ATTEMPT faults.Short faults.EntryField bytes
 
--- no live ticket, or one that waits or holds
+-- no live ticket, or one that waits, holds or is softened
 abbrev pub state_at : List ℕ → Result (Option Status × List ℕ) RecordFault
 state_at [] = Err faults.Short
 state_at (b ∷ rest) =
     if b == 0 then Ok (None, rest)
     else (if b == 1 then Ok (Some Waiting, rest)
     else (if b == 2 then Ok (Some Holding, rest)
-    else Err faults.EntryField))
+    else (if b == 3 then Ok (Some Softened, rest)
+    else Err faults.EntryField)))
 
 -- the attempt one above the floor
 abbrev pub attempt_at : ℕ → List ℕ → Result (ℕ × List ℕ) RecordFault
 attempt_at floor bytes = number_at w64 1 MAX_ATTEMPT faults.Short faults.EntryField bytes >>= λ a.
     if a.0 == floor + 1 then Ok a else Err faults.AttemptNotNext
+
+-- a ticket of this status may have this mode: a softened one is a reader's
+abbrev pub goes_with : Status → Mode → Bool
+goes_with Waiting m = true
+goes_with Holding m = true
+goes_with Softened m = not (is_write m)
+
+-- the mode of a ticket of this status
+abbrev pub ticket_mode_at : Status → List ℕ → Result (Mode × List ℕ) RecordFault
+ticket_mode_at status bytes = mode_at faults.Short faults.EntryField bytes >>= λ m.
+    if goes_with status m.0 then Ok m else Err faults.EntryField
 
 abbrev pub length_at : List ℕ → Result (ℕ × List ℕ) RecordFault
 length_at bytes = byte_at 1 MAX_NAME_LEN faults.Short faults.EntryField bytes
@@ -76,7 +89,7 @@ length_at bytes = byte_at 1 MAX_NAME_LEN faults.Short faults.EntryField bytes
 unfoldable pub ticket_at : ℕ → Status → List ℕ → Result (Live × List ℕ) RecordFault
 ticket_at floor status bytes = do
   attempt ← attempt_at floor bytes
-  mode ← mode_at faults.Short faults.EntryField attempt.1
+  mode ← ticket_mode_at status attempt.1
   size ← length_at mode.1
   name ← name_at faults.Short faults.EntryField size.0 size.1
   Ok (record { attempt = attempt.0; mode = mode.0; resource = name.0; status = status }, name.1)

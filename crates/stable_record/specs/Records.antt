@@ -9,7 +9,7 @@ use Rattle.lock_messages.specs.Names.{IsName}
 use Rattle.lock_model.specs.declared.entries.Entry.{Entry}
 use Rattle.lock_model.specs.declared.entries.Live.{Live}
 use Rattle.lock_model.specs.declared.entries.Status.{Status}
-use Rattle.lock_model.specs.declared.entries.Status.TheVariants.{Waiting, Holding}
+use Rattle.lock_model.specs.declared.entries.Status.TheVariants.{Waiting, Holding, Softened}
 use Rattle.lock_model.specs.declared.problems.Problem.{Problem}
 use Rattle.lock_model.specs.declared.problems.Problem.TheVariants.{First, Second}
 use Rattle.lock_model.specs.Stations.{IsLawful, IsCaused}
@@ -24,6 +24,7 @@ policy_number Second = 2
 abbrev pub status_number : Status → ℕ
 status_number Waiting = 1
 status_number Holding = 2
+status_number Softened = 3
 
 -- a ticket's attempt, mode and name, behind the byte that says that there is one
 abbrev pub ticket_bytes : Live → List ℕ

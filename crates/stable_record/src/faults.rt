@@ -33,7 +33,8 @@ pub enum RecordFault {
     /// 313: the policy isn't 1 or 2.
     #[error("no policy has this number")]
     Policy,
-    /// 314: the number of entries, or a field of an entry, is out of its range.
+    /// 314: the number of entries, or a field of an entry, is out of its range. A softened ticket's mode
+    /// is `Read`.
     #[error("an entry is out of range")]
     EntryField,
     /// 315: an earlier entry is of the same client.

@@ -7,8 +7,9 @@
 //! spelling begins another. `client_bytes`, `read_client`, `lawful` and `caused` take no memory.
 //!
 //! `ResourceIndex` has the tickets of a record by resource: who holds each, and who waits for it. It
-//! can be kept beside entries that change: it is told of each ticket that ends, becomes a holder or
-//! comes new, and asks for memory before any of these. `IndexedRecord` is a record with its index.
+//! can be kept beside entries that change: it is told of each ticket that ends, is softened, becomes a
+//! holder or comes new, and asks for memory before any of these. `IndexedRecord` is a record with its
+//! index.
 //!
 //! `StableRecord` says what it means to keep a record: which byte strings, one or two, a restart now
 //! may find, whether the record is stuck, and how often its device has failed. Code above is generic

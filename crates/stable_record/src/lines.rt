@@ -2,9 +2,10 @@
 
 ghost use Rattle.std.specs.Prelude.{◌≡◌, ◌==◌, ℕ, List, OnOk, OnErr, nat_lt};
 ghost use Rattle.std.specs.List.{position};
-ghost use Rattle.stable_record.specs.Indexing.{AreCounted, announced_ticket, is_no_tickets, with_confirmed, with_holder, with_promoted, without_first, without_last, without_ticket};
+ghost use Rattle.stable_record.specs.Indexing.{AreCounted, announced_ticket, is_no_tickets, with_confirmed, with_holder, with_promoted, with_softened_holder, without_first, without_last, without_ticket};
 ghost use Rattle.stable_record.specs.Lines.{no_tickets, with_ticket, AreFew};
 
+use crate::kept::is_writing;
 use crate::{Live, Status};
 use lock_messages::{ClientId, Mode};
 use std::alloc::{AllocError, Global};
@@ -64,8 +65,8 @@ impl Line {
         ensures refused { OnErr result (self.new ≡ self.old) }
     {
         match (live.status, live.mode) {
-            (Status::Holding, Mode::Read) => self.held += 1,
-            (Status::Holding, Mode::Write) => {
+            (Status::Holding | Status::Softened, Mode::Read) => self.held += 1,
+            (Status::Holding | Status::Softened, Mode::Write) => {
                 self.held += 1;
                 self.held_to_write += 1;
             }
@@ -100,8 +101,10 @@ impl Line {
         ensures { self.new ≡ without_ticket client live.now self.old }
     {
         match (live.status, live.mode) {
-            (Status::Holding, Mode::Read) => self.held = self.held.saturating_sub(1),
-            (Status::Holding, Mode::Write) => {
+            (Status::Holding | Status::Softened, Mode::Read) => {
+                self.held = self.held.saturating_sub(1);
+            }
+            (Status::Holding | Status::Softened, Mode::Write) => {
                 self.held = self.held.saturating_sub(1);
                 self.held_to_write = self.held_to_write.saturating_sub(1);
             }
@@ -129,11 +132,20 @@ impl Line {
         ensures { AreCounted self.old → self.new ≡ with_promoted client live.now self.old }
     {
         match live.status {
-            Status::Holding => {}
+            Status::Holding | Status::Softened => {}
             Status::Waiting => {
                 self.end(client, live);
                 self.hold(live.mode);
             }
+        }
+    }
+
+    /// Makes a ticket a reader's, if it is a writer's that holds. A count that is 0 stays.
+    pub(crate) fn soften(&mut self, live: &Live)
+        ensures { self.new ≡ with_softened_holder live.now self.old }
+    {
+        if is_writing(live) {
+            self.held_to_write = self.held_to_write.saturating_sub(1);
         }
     }
 
@@ -142,7 +154,7 @@ impl Line {
         ensures { AreCounted self.old → self.new ≡ with_confirmed live.now self.old }
     {
         match (live.status, live.mode) {
-            (Status::Holding, mode) => {
+            (Status::Holding | Status::Softened, mode) => {
                 self.withdraw();
                 self.hold(mode);
             }

@@ -6,7 +6,7 @@ ghost use Rattle.lock_messages.specs.Fields.{Gives, number_at, mode_at, name_at}
 ghost use Rattle.lock_model.specs.declared.entries.Entry.{Entry};
 ghost use Rattle.stable_record.specs.declared.node_records.NodeRecord.{NodeRecord};
 ghost use Rattle.stable_record.specs.Records.{IsNodeRecord, node_record_of};
-ghost use Rattle.stable_record.specs.Reading.{GivesOr, LeavesOr, IsOrRefused, AreGood, IsGoodSoFar, version_at, policy_at, count_at, client_at, floor_at, state_at, attempt_at, length_at, ticket_at, live_at, entry_at, entries_at, head_at, record_at, judged, reading};
+ghost use Rattle.stable_record.specs.Reading.{GivesOr, LeavesOr, IsOrRefused, AreGood, IsGoodSoFar, version_at, policy_at, count_at, client_at, floor_at, state_at, attempt_at, goes_with, ticket_mode_at, length_at, ticket_at, live_at, entry_at, entries_at, head_at, record_at, judged, reading};
 
 use crate::formats::VERSION;
 use crate::{Entries, Entry, Live, NodeRecord, RecordFault, ResourceIndex, Status};
@@ -15,6 +15,16 @@ use lock_messages::{
 };
 use lock_model::Problem;
 use std::alloc::Global;
+
+/// Whether a ticket of this status may have this mode: a softened one is a reader's.
+fn goes_with(status: Status, mode: Mode) -> bool
+    ensures { result ≡ goes_with status mode }
+{
+    match status {
+        Status::Waiting | Status::Holding => true,
+        Status::Softened => mode != Mode::Write,
+    }
+}
 
 /// The bytes that aren't read yet. Each method reads what these begin with; after a fault they are
 /// of no use.
@@ -110,6 +120,7 @@ impl Unread<'_> {
             0 => Ok(None),
             1 => Ok(Some(Status::Waiting)),
             2 => Ok(Some(Status::Holding)),
+            3 => Ok(Some(Status::Softened)),
             _ => Err(RecordFault::EntryField),
         }
     }
@@ -149,6 +160,16 @@ impl Unread<'_> {
         }
     }
 
+    fn ticket_mode(&mut self, status: Status) -> Result<Mode, RecordFault>
+        ensures { Gives result self.new.bytes.now (ticket_mode_at status self.old.bytes.now) }
+    {
+        let mode = self.mode()?;
+        if !goes_with(status, mode) {
+            return Err(RecordFault::EntryField);
+        }
+        Ok(mode)
+    }
+
     fn name_len(&mut self) -> Result<usize, RecordFault>
         ensures { Gives result self.new.bytes.now (length_at self.old.bytes.now) }
     {
@@ -185,7 +206,7 @@ impl Unread<'_> {
         ensures { Gives result self.new.bytes.now (ticket_at floor status self.old.bytes.now) }
     {
         let attempt = self.attempt(floor)?;
-        let mode = self.mode()?;
+        let mode = self.ticket_mode(status)?;
         let size = self.name_len()?;
         let resource = self.name(size)?;
         Ok(Live {
@@ -303,12 +324,13 @@ fn whole(alloc: Global, bytes: &[u8]) -> Result<NodeRecord, RecordFault>
 /// The node record that the bytes spell, all of the bytes.
 ///
 /// Else the fault of the first field from the front that isn't wholly there (311) or whose value is
-/// wrong: the version (312), the policy (313), the number of entries and an entry's fields (314), a
-/// client that an earlier entry has (315, at the client's field), an attempt that isn't one above
-/// the floor (316, behind the attempt's own range). Behind the last entry it is bytes that follow
-/// (319), a writer that holds beside another holder (317), a ticket that waits without a cause
-/// (318). Memory refused (320) is answered only where nothing before the refused growth was at
-/// fault; the last growth is that of the index by which 317 and 318 are judged. The layout and its faults are our own.
+/// wrong: the version (312), the policy (313), the number of entries and an entry's fields (314; the
+/// mode of a softened ticket is `Read`, and judged at the mode), a client that an earlier entry has
+/// (315, at the client's field), an attempt that isn't one above the floor (316, behind the attempt's
+/// own range). Behind the last entry it is bytes that follow (319), a writer that holds beside another
+/// holder (317), a ticket that waits without a cause (318). Memory refused (320) is answered only where
+/// nothing before the refused growth was at fault; the last growth is that of the index by which 317
+/// and 318 are judged. The layout and its faults are our own.
 pub fn read_node(alloc: Global, bytes: &[u8]) -> Result<NodeRecord, RecordFault>
     // What is read is spelled so, and is lawful and caused.
     ensures found { IfOk result (λ r. IsNodeRecord r × (bytes.now ≡ node_record_of r)) }

@@ -7,7 +7,7 @@ ghost use Rattle.lock_model.specs.declared.entries.Entry.{Entry};
 ghost use Rattle.lock_model.specs.declared.entries.Live.{Live};
 ghost use Rattle.lock_model.specs.ExactDecisions.{moved_last};
 ghost use Rattle.stable_record.specs.EntryLists.{replaced};
-ghost use Rattle.stable_record.specs.Indexing.{AreCounted, announced_ticket, HasNoTicket, IndexesWith, IsEntryAmong, Puts, unless_empty, with_confirmed, with_holding, with_promoted, without_last, without_live, without_ticket};
+ghost use Rattle.stable_record.specs.Indexing.{AreCounted, announced_ticket, HasNoTicket, IndexesWith, IsEntryAmong, Puts, unless_empty, with_confirmed, with_holding, with_promoted, with_softened, with_softened_holder, without_last, without_live, without_ticket};
 ghost use Rattle.stable_record.specs.Lines.{line_in, or_none, Joins, Indexes, AreFew};
 
 use crate::lines::Line;
@@ -132,6 +132,15 @@ fn promote(lines: &mut Lines, client: ClientId, live: &Live)
     }
 }
 
+/// Makes a ticket a reader's, if it is a writer's that holds.
+fn soften(lines: &mut Lines, live: &Live)
+    ensures { Puts live.now.resource (option_map (with_softened_holder live.now) (line_in lines.old.entries live.now.resource)) lines.old.entries lines.new.entries }
+{
+    if let Some(line) = lines.get_mut(&live.resource) {
+        line.soften(live);
+    }
+}
+
 /// Puts in the ticket of the client that was announced last for its resource.
 fn confirm(lines: &mut Lines, live: &Live)
     ensures { AreCounted (or_none (line_in lines.old.entries live.now.resource)) → Puts live.now.resource (option_map (with_confirmed live.now) (line_in lines.old.entries live.now.resource)) lines.old.entries lines.new.entries }
@@ -233,6 +242,17 @@ impl ResourceIndex {
         if let Some(live) = &entry.live {
             end(&mut self.map, entry.client, live);
             drop_empty(&mut self.map, &live.resource);
+        }
+    }
+
+    /// Softens the live ticket of a client, if it is a writer's that holds: from now on it is a reader's
+    /// that does. Any other ticket stays as it is. `entry` is the client's entry before. It takes no
+    /// memory. That a writer can become a reader without leaving is our own.
+    pub fn soften(&mut self, entry: &Entry)
+        ensures { (a : Option (ℕ × List ℕ)) (entries : List Entry) → IsEntryAmong entry.now entries → IndexesWith a self.old entries → IndexesWith a self.new (replaced (with_softened entry.now) entries) }
+    {
+        if let Some(live) = &entry.live {
+            soften(&mut self.map, live);
         }
     }
 

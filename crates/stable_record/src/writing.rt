@@ -16,6 +16,7 @@ fn status_number(status: Status) -> u8
     match status {
         Status::Waiting => 1,
         Status::Holding => 2,
+        Status::Softened => 3,
     }
 }
 
@@ -85,8 +86,8 @@ fn put_record(out: &mut Vec<u8>, node: &NodeRecord) -> Result<(), AllocError>
 }
 
 /// The spelling of a node's record. `read_node` answers it again where floors are at most
-/// `MAX_ATTEMPT`, live attempts are one above the floor, and the record is lawful and caused. The
-/// only fault is that memory was refused (320).
+/// `MAX_ATTEMPT`, live attempts are one above the floor, softened tickets are readers', and the record
+/// is lawful and caused. The only fault is that memory was refused (320).
 pub fn node_bytes(alloc: Global, node: &NodeRecord) -> Result<Vec<u8>, RecordFault>
     ensures spelled { IfOk result (λ bytes. bytes.items ≡ node_record_of node.now) }
     ensures memory { IsOkUnless result RecordFault.NoMemory }

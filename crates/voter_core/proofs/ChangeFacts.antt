@@ -11,7 +11,7 @@ use Rattle.lock_messages.specs.declared.tickets.Ticket.{Ticket}
 use Rattle.lock_model.specs.declared.entries.Entry.{Entry}
 use Rattle.lock_model.specs.declared.entries.Live.{Live}
 use Rattle.lock_model.specs.declared.entries.Status.{Status}
-use Rattle.lock_model.specs.declared.entries.Status.TheVariants.{Waiting, Holding}
+use Rattle.lock_model.specs.declared.entries.Status.TheVariants.{Waiting, Holding, Softened}
 use Rattle.lock_model.specs.declared.problems.Problem.{Problem}
 use Rattle.lock_model.specs.ExactStations.{is_of, knows, entry_of, EachOnce, is_waiting, is_holding, if_live, admits, promoted, settled_live, settled_entry, settle, settled}
 use Rattle.lock_model.specs.ExactDecisions.{ended, moved_last, grant_of, told, grants, live_reply, reply_of_live, reply_to_known, new_entry, answered, takes_up, decision, changes}
@@ -60,6 +60,7 @@ quiet n p es client floor (Some l) h = go l.status refl (admits p l.mode l.resou
 
     go : (s : Status) → l.status ≡ s → (b : Bool) → admits p l.mode l.resource es ≡ b → told n before (settled_entry p es before) ≡ [] → settled_entry p es before ≡ before
     go Holding is b adm silent = ap (λ s. holding (cond (is_waiting s && admits p l.mode l.resource es) (promoted l) l)) is
+    go Softened is b adm silent = ap (λ s. holding (cond (is_waiting s && admits p l.mode l.resource es) (promoted l) l)) is
     go Waiting is false adm silent =
         ap (λ s. holding (cond (is_waiting s && admits p l.mode l.resource es) (promoted l) l)) is
         ∙ ap (λ b. holding (cond b (promoted l) l)) adm
@@ -82,6 +83,7 @@ settle-quiet n p front (e ∷ es) h =
 not-both : (s : Status) → (is_waiting s && is_holding s) ≡ false
 not-both Waiting = refl
 not-both Holding = refl
+not-both Softened = refl
 
 told-same : (n client floor : ℕ) (live : Option Live) → told n (record { client = client; floor = floor; live = live }) (record { client = client; floor = floor; live = live }) ≡ []
 told-same n client floor None = refl

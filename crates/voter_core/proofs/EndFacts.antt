@@ -34,54 +34,60 @@ known-entry c (d ∷ es) e h = go (λ k. known-entry c es e k) (is_of c d) refl
         let m = more (sym (ap (λ b. cond b (Some d) (entry_of es c)) is) ∙ h) in
         (or-right (is_of c d) (knows c es) m.0, m.1)
 
--- the client's entry, ended where it stands
-abbrev pub ends_in : ℕ → ℕ → List Entry → List Entry
-ends_in c a es = map (λ e. cond (is_of c e) (ended_entry a e) e) es
+-- the client's entry, altered where it stands
+abbrev pub altered : ℕ → (Entry → Entry) → List Entry → List Entry
+altered c f es = map (λ e. cond (is_of c e) (f e) e) es
 
-pub ends-unknown : (c a : ℕ) (es : List Entry) → knows c es ≡ false → ends_in c a es ≡ es
-ends-unknown c a [] h = refl
-ends-unknown c a (e ∷ es) h =
+pub altered-unknown : (c : ℕ) (f : Entry → Entry) (es : List Entry) → knows c es ≡ false → altered c f es ≡ es
+altered-unknown c f [] h = refl
+altered-unknown c f (e ∷ es) h =
     let k = or-none (is_of c e) (knows c es) h in
-    ap (λ b. cond b (ended_entry a e) e ∷ ends_in c a es) k.0 ∙ ap (λ (l : List Entry). e ∷ l) (ends-unknown c a es k.1)
+    ap (λ b. cond b (f e) e ∷ altered c f es) k.0 ∙ ap (λ (l : List Entry). e ∷ l) (altered-unknown c f es k.1)
 
--- where the entry becomes f, the entries have f in its place
-ends-replaces : (c a : ℕ) (es : List Entry) (e f : Entry) → EachOnce es → entry_of es c ≡ Some e → ended_entry a e ≡ f → f.client ≡ c → ends_in c a es ≡ replaced f es
-ends-replaces c a [] e f once h is client = refl
-ends-replaces c a (d ∷ es) e f once h is client = go (λ k. ends-replaces c a es e f once.1 k is client) (is_of c d) refl
+-- where the entry becomes g, the entries have g in its place
+pub altered-replaces : (c : ℕ) (f : Entry → Entry) (es : List Entry) (e g : Entry) → EachOnce es → entry_of es c ≡ Some e → f e ≡ g → g.client ≡ c → altered c f es ≡ replaced g es
+altered-replaces c f [] e g once h is client = refl
+altered-replaces c f (d ∷ es) e g once h is client = go (λ k. altered-replaces c f es e g once.1 k is client) (is_of c d) refl
   where
-    turned : is_of f.client d ≡ is_of c d
+    turned : is_of g.client d ≡ is_of c d
     turned = ap (λ k. d.client == k) client
 
-    go : (entry_of es c ≡ Some e → ends_in c a es ≡ replaced f es) → (b : Bool) → is_of c d ≡ b → ends_in c a (d ∷ es) ≡ replaced f (d ∷ es)
+    go : (entry_of es c ≡ Some e → altered c f es ≡ replaced g es) → (b : Bool) → is_of c d ≡ b → altered c f (d ∷ es) ≡ replaced g (d ∷ es)
     go more true here =
         let z : Some d ≡ Some e = sym (ap (λ b. cond b (Some d) (entry_of es c)) here) ∙ h in
         let same : d ≡ e = cc in
         let none : knows c es ≡ false = ap (λ k. knows k es) (sym (eqb-true d.client c here)) ∙ once.0 in
-        ap (λ b. cond b (ended_entry a d) d ∷ ends_in c a es) here ∙ ap (λ x. ended_entry a x ∷ ends_in c a es) same ∙ ap (λ x. x ∷ ends_in c a es) is
-        ∙ ap (λ (l : List Entry). f ∷ l) (ends-unknown c a es none ∙ sym (replaced-unknown f es (ap (λ k. knows k es) client ∙ none)))
-        ∙ sym (ap (λ b. cond b f d ∷ replaced f es) (turned ∙ here))
+        ap (λ b. cond b (f d) d ∷ altered c f es) here ∙ ap (λ x. f x ∷ altered c f es) same ∙ ap (λ x. x ∷ altered c f es) is
+        ∙ ap (λ (l : List Entry). g ∷ l) (altered-unknown c f es none ∙ sym (replaced-unknown g es (ap (λ k. knows k es) client ∙ none)))
+        ∙ sym (ap (λ b. cond b g d ∷ replaced g es) (turned ∙ here))
     go more false here =
-        ap (λ b. cond b (ended_entry a d) d ∷ ends_in c a es) here
+        ap (λ b. cond b (f d) d ∷ altered c f es) here
         ∙ ap (λ (l : List Entry). d ∷ l) (more (sym (ap (λ b. cond b (Some d) (entry_of es c)) here) ∙ h))
-        ∙ sym (ap (λ b. cond b f d ∷ replaced f es) (turned ∙ here))
+        ∙ sym (ap (λ b. cond b g d ∷ replaced g es) (turned ∙ here))
+
+-- where the entry stays nothing is altered
+pub altered-same : (c : ℕ) (f : Entry → Entry) (es : List Entry) (e : Entry) → EachOnce es → entry_of es c ≡ Some e → f e ≡ e → altered c f es ≡ es
+altered-same c f [] e once h is = refl
+altered-same c f (d ∷ es) e once h is = go (λ k. altered-same c f es e once.1 k is) (is_of c d) refl
+  where
+    go : (entry_of es c ≡ Some e → altered c f es ≡ es) → (b : Bool) → is_of c d ≡ b → altered c f (d ∷ es) ≡ d ∷ es
+    go more true here =
+        let z : Some d ≡ Some e = sym (ap (λ b. cond b (Some d) (entry_of es c)) here) ∙ h in
+        let same : d ≡ e = cc in
+        let none : knows c es ≡ false = ap (λ k. knows k es) (sym (eqb-true d.client c here)) ∙ once.0 in
+        ap (λ b. cond b (f d) d ∷ altered c f es) here ∙ ap (λ x. f x ∷ altered c f es) same ∙ ap (λ x. x ∷ altered c f es) (is ∙ sym same)
+        ∙ ap (λ (l : List Entry). d ∷ l) (altered-unknown c f es none)
+    go more false here =
+        ap (λ b. cond b (f d) d ∷ altered c f es) here
+        ∙ ap (λ (l : List Entry). d ∷ l) (more (sym (ap (λ b. cond b (Some d) (entry_of es c)) here) ∙ h))
+
+-- the client's entry, ended where it stands
+abbrev pub ends_in : ℕ → ℕ → List Entry → List Entry
+ends_in c a es = altered c (ended_entry a) es
 
 -- where the floor is high enough nothing ends
 pub ends-nothing : (c a : ℕ) (es : List Entry) (e : Entry) → EachOnce es → entry_of es c ≡ Some e → nat_lt e.floor a ≡ false → ends_in c a es ≡ es
-ends-nothing c a [] e once h low = refl
-ends-nothing c a (d ∷ es) e once h low = go (λ k. ends-nothing c a es e once.1 k low) (is_of c d) refl
-  where
-    go : (entry_of es c ≡ Some e → ends_in c a es ≡ es) → (b : Bool) → is_of c d ≡ b → ends_in c a (d ∷ es) ≡ d ∷ es
-    go more true here =
-        let z : Some d ≡ Some e = sym (ap (λ b. cond b (Some d) (entry_of es c)) here) ∙ h in
-        let same : d ≡ e = cc in
-        let none : knows c es ≡ false = ap (λ k. knows k es) (sym (eqb-true d.client c here)) ∙ once.0 in
-        ap (λ b. cond b (ended_entry a d) d ∷ ends_in c a es) here
-        ∙ ap (λ (x : Entry). cond (nat_lt x.floor a) (record { client = d.client; floor = a; live = None }) d ∷ ends_in c a es) same
-        ∙ ap (λ b. cond b (record { client = d.client; floor = a; live = None }) d ∷ ends_in c a es) low
-        ∙ ap (λ (l : List Entry). d ∷ l) (ends-unknown c a es none)
-    go more false here =
-        ap (λ b. cond b (ended_entry a d) d ∷ ends_in c a es) here
-        ∙ ap (λ (l : List Entry). d ∷ l) (more (sym (ap (λ b. cond b (Some d) (entry_of es c)) here) ∙ h))
+ends-nothing c a es e once h low = altered-same c (ended_entry a) es e once h (ap (λ b. cond b (record { client = e.client; floor = a; live = None }) e) low)
 
 abbrev pub fresh : ℕ → ℕ → Entry
 fresh c a = record { client = c; floor = a; live = None }
@@ -119,7 +125,7 @@ pub replaced-ends : (c a : ℕ) (es : List Entry) (e : Entry) → EachOnce es �
 replaced-ends c a es e once h low =
     let known = known-entry c es e (sym h) in
     let is : ended_entry a e ≡ fresh c a = ap (λ b. cond b (record { client = e.client; floor = a; live = None }) e) ((Decides-ltb e.floor a).1 low) ∙ ap (λ k. fresh k a) known.1 in
-    sym (ended-known c a es known.0 ∙ ends-replaces c a es e (fresh c a) once (sym h) is refl)
+    sym (ended-known c a es known.0 ∙ altered-replaces c (ended_entry a) es e (fresh c a) once (sym h) is refl)
 
 -- with nothing to end, ended entries are the same
 pub ended-same : (c a : ℕ) (es : List Entry) → EachOnce es → ends_something a (entry_of es c) ≡ false → ended c a es ≡ es

@@ -12,7 +12,7 @@ use Rattle.lock_messages.specs.declared.tickets.Mode.TheVariants.{Read, Write}
 use Rattle.lock_model.specs.declared.entries.Entry.{Entry}
 use Rattle.lock_model.specs.declared.entries.Live.{Live}
 use Rattle.lock_model.specs.declared.entries.Status.{Status}
-use Rattle.lock_model.specs.declared.entries.Status.TheVariants.{Waiting, Holding}
+use Rattle.lock_model.specs.declared.entries.Status.TheVariants.{Waiting, Holding, Softened}
 use Rattle.lock_model.specs.declared.problems.Problem.{Problem}
 use Rattle.lock_model.specs.ExactStations.{is_of, knows, entry_of, EachOnce, is_waiting, is_holding, is_write, if_live, any_live, holds, writer_holds, writer_waits, admits_reader, admits, promoted, settled_live, settled_entry, settle, settled}
 use Rattle.lock_model.specs.ExactDecisions.{ended_entry, ended, grant_of, told, grants}
@@ -22,7 +22,7 @@ use Rattle.voter_core.specs.Freed.{freed, is_freed, OthersStay, waiting_for}
 use Rattle.voter_core.specs.Voters.{admitted_now}
 use Rattle.voter_core.proofs.CountFacts.{count-first, count-few}
 use Rattle.voter_core.proofs.EntryFacts.{set-same}
-use Rattle.voter_core.proofs.EndFacts.{ends_in, fresh, ends-unknown, ends-nothing, ended-known, ended-unknown, unknown-entry, known-entry}
+use Rattle.voter_core.proofs.EndFacts.{altered, altered-unknown, fresh, ends-nothing, ended-known, ended-unknown, unknown-entry, known-entry}
 
 -- ---- tests that pass no ticket for the freed resource
 
@@ -102,6 +102,7 @@ idle-settled p es h = sym (settle-none p [] es (all-idle p es es h))
 not-both : (s : Status) → (is_waiting s && is_holding s) ≡ false
 not-both Waiting = refl
 not-both Holding = refl
+not-both Softened = refl
 
 pub told-nothing : (n client floor : ℕ) (live : Option Live) → told n (record { client = client; floor = floor; live = live }) (record { client = client; floor = floor; live = live }) ≡ []
 told-nothing n client floor None = refl
@@ -171,18 +172,24 @@ others-settled p x es i e others at = go (if_live (is_for x) e.live) refl
         any-set test es i e (settled_entry p es e) at (passes-none (Some x) test none (settled_entry p es e).live after ∙ sym (passes-none (Some x) test none e.live is)) in
         all-set es i (settled_entry p es e) (stays-beyond p (Some x) es new same) (λ k. let clash : true ≡ false = sym after ∙ k in cc) others
 
--- ---- attempts end, and at most one ticket with them
+-- ---- attempts end, or one is softened, and at most one ticket with them
 
--- an entry that stays, or loses a ticket for the freed resource
-abbrev StaysOrSheds : Option (List ℕ) → Entry → Entry → Type 0
-StaysOrSheds o e f = (f ≡ e) ⊎ ((f.live ≡ None) × (if_live (λ l. not (is_freed o l)) e.live ≡ false))
+-- one ticket for the freed resource ends or is softened: it waits no more
+pub record Sheds (o : Option (List ℕ)) (e f : Entry) : Type 0 where
+  pub new : if_live (λ l. not (is_freed o l)) f.live ≡ false
+  pub old : if_live (λ l. not (is_freed o l)) e.live ≡ false
+  pub still : if_live (λ l. is_waiting l.status) f.live ≡ false
 
--- entries of which each stays or does so, and perhaps new ones without tickets
-abbrev Sheds : Option (List ℕ) → List Entry → List Entry → Type 0
-Sheds o [] [] = Unit {0}
-Sheds o [] (f ∷ fs) = (f.live ≡ None) × Sheds o [] fs
-Sheds o (e ∷ es) [] = ⊥
-Sheds o (e ∷ es) (f ∷ fs) = StaysOrSheds o e f × Sheds o es fs
+-- an entry that stays, or whose ticket does so
+abbrev pub StaysOrSheds : Option (List ℕ) → Entry → Entry → Type 0
+StaysOrSheds o e f = (f ≡ e) ⊎ Sheds o e f
+
+-- entries of which each stays or sheds, and perhaps new ones without tickets
+abbrev pub AllShed : Option (List ℕ) → List Entry → List Entry → Type 0
+AllShed o [] [] = Unit {0}
+AllShed o [] (f ∷ fs) = (f.live ≡ None) × AllShed o [] fs
+AllShed o (e ∷ es) [] = ⊥
+AllShed o (e ∷ es) (f ∷ fs) = StaysOrSheds o e f × AllShed o es fs
 
 within : (o : Option (List ℕ)) (test : Live → Bool) → PassesNone o test → (live : Option Live) → if_live (λ l. not (is_freed o l)) live ≡ false → if_live test live ≡ false
 within o test h None k = refl
@@ -192,7 +199,7 @@ within o test h (Some l) k = h l (go (is_freed o l) k)
     go true q = refl
     go false q = cc
 
-sheds-same : (o : Option (List ℕ)) (es fs : List Entry) → Sheds o es fs → SameBeyond o es fs
+sheds-same : (o : Option (List ℕ)) (es fs : List Entry) → AllShed o es fs → SameBeyond o es fs
 sheds-same o [] [] h test none = refl
 sheds-same o [] (f ∷ fs) h test none = ap (λ l. if_live test l || any_live test fs) h.0 ∙ sheds-same o [] fs h.1 test none
 sheds-same o (e ∷ es) [] h test none = absurd h
@@ -200,66 +207,66 @@ sheds-same o (e ∷ es) (f ∷ fs) h test none = ap (λ b. b || any_live test fs
   where
     go : StaysOrSheds o e f → if_live test f.live ≡ if_live test e.live
     go (inl is) = ap (λ (x : Entry). if_live test x.live) is
-    go (inr k) = ap (if_live test) k.0 ∙ sym (within o test none e.live k.1)
+    go (inr k) = within o test none f.live k.new ∙ sym (within o test none e.live k.old)
 
-idle-none : (p : Problem) (es : List Entry) (client floor : ℕ) (live : Option Live) → live ≡ None → settled_entry p es (record { client = client; floor = floor; live = live }) ≡ record { client = client; floor = floor; live = live }
-idle-none p es client floor None h = refl
-idle-none p es client floor (Some l) h = cc
+idle-still : (p : Problem) (es : List Entry) (client floor : ℕ) (live : Option Live) → if_live (λ l. is_waiting l.status) live ≡ false →
+    settled_entry p es (record { client = client; floor = floor; live = live }) ≡ record { client = client; floor = floor; live = live }
+idle-still p es client floor None h = refl
+idle-still p es client floor (Some l) h = ap (λ b. record { client = client; floor = floor; live = Some (cond (b && admits p l.mode l.resource es) (promoted l) l) }) h
 
-sheds-all : (p : Problem) (o : Option (List ℕ)) (old new : List Entry) → SameBeyond o old new → (es fs : List Entry) → Sheds o es fs →
+sheds-all : (p : Problem) (o : Option (List ℕ)) (old new : List Entry) → SameBeyond o old new → (es fs : List Entry) → AllShed o es fs →
     AllByRecursion (λ e. if_live (is_freed o) e.live ≡ false → settled_entry p old e ≡ e) es → AllByRecursion (λ e. if_live (is_freed o) e.live ≡ false → settled_entry p new e ≡ e) fs
 sheds-all p o old new same [] [] h all = tt
-sheds-all p o old new same [] (f ∷ fs) h all = (λ k. idle-none p new f.client f.floor f.live h.0, sheds-all p o old new same [] fs h.1 tt)
+sheds-all p o old new same [] (f ∷ fs) h all = (λ _. idle-still p new f.client f.floor f.live (ap (if_live (λ l. is_waiting l.status)) h.0), sheds-all p o old new same [] fs h.1 tt)
 sheds-all p o old new same (e ∷ es) [] h all = absurd h
 sheds-all p o old new same (e ∷ es) (f ∷ fs) h all = (go h.0, sheds-all p o old new same es fs h.1 all.1)
   where
     go : StaysOrSheds o e f → if_live (is_freed o) f.live ≡ false → settled_entry p new f ≡ f
     go (inl is) = subst (λ (x : Entry). if_live (is_freed o) x.live ≡ false → settled_entry p new x ≡ x) (sym is) (stays-beyond p o old new same e all.0)
-    go (inr k) = λ _. idle-none p new f.client f.floor f.live k.0
+    go (inr k) = λ _. idle-still p new f.client f.floor f.live k.still
 
-sheds-none : (o : Option (List ℕ)) (es : List Entry) → Sheds o es es
+pub sheds-none : (o : Option (List ℕ)) (es : List Entry) → AllShed o es es
 sheds-none o [] = tt
 sheds-none o (e ∷ es) = (inl refl, sheds-none o es)
 
-sheds-last : (o : Option (List ℕ)) (es : List Entry) (f : Entry) → f.live ≡ None → Sheds o es (es ++ f ∷ [])
+sheds-last : (o : Option (List ℕ)) (es : List Entry) (f : Entry) → f.live ≡ None → AllShed o es (es ++ f ∷ [])
 sheds-last o [] f h = (h, tt)
 sheds-last o (e ∷ es) f h = (inl refl, sheds-last o es f h)
+
+-- where a client's entry is altered, and stays or sheds, all do
+pub sheds-altered : (o : Option (List ℕ)) (c : ℕ) (f : Entry → Entry) (es : List Entry) (e : Entry) → EachOnce es → entry_of es c ≡ Some e → StaysOrSheds o e (f e) → AllShed o es (altered c f es)
+sheds-altered o c f [] e once h is = tt
+sheds-altered o c f (d ∷ es) e once h is = go (λ k. sheds-altered o c f es e once.1 k is) (is_of c d) refl
+  where
+    go : (entry_of es c ≡ Some e → AllShed o es (altered c f es)) → (b : Bool) → is_of c d ≡ b → AllShed o (d ∷ es) (altered c f (d ∷ es))
+    go more true here =
+        let z : Some d ≡ Some e = sym (ap (λ b. cond b (Some d) (entry_of es c)) here) ∙ h in
+        let same : e ≡ d = cc in
+        let none : knows c es ≡ false = ap (λ k. knows k es) (sym (eqb-true d.client c here)) ∙ once.0 in
+        let own : StaysOrSheds o d (f d) = subst (λ x. StaysOrSheds o x (f x)) same is in
+        (subst (StaysOrSheds o d) (sym (ap (λ b. cond b (f d) d) here)) own, subst (AllShed o es) (sym (altered-unknown c f es none)) (sheds-none o es))
+    go more false here =
+        (inl (ap (λ b. cond b (f d) d) here), more (sym (ap (λ b. cond b (Some d) (entry_of es c)) here) ∙ h))
 
 own-freed : (live : Option Live) → if_live (λ l. not (is_freed (option_map (λ m. m.resource) live) l)) live ≡ false
 own-freed None = refl
 own-freed (Some l) = ap not ((bytes_eq-Decides l.resource l.resource).1 refl)
 
-sheds-ends : (c a : ℕ) (es : List Entry) (e : Entry) → EachOnce es → entry_of es c ≡ Some e → nat_lt e.floor a ≡ true → Sheds (option_map (λ l. l.resource) e.live) es (ends_in c a es)
-sheds-ends c a [] e once h low = tt
-sheds-ends c a (d ∷ es) e once h low = go (λ k. sheds-ends c a es e once.1 k low) (is_of c d) refl
-  where
-    o : Option (List ℕ)
-    o = option_map (λ l. l.resource) e.live
-
-    go : (entry_of es c ≡ Some e → Sheds (option_map (λ l. l.resource) e.live) es (ends_in c a es)) → (b : Bool) → is_of c d ≡ b → Sheds (option_map (λ l. l.resource) e.live) (d ∷ es) (ends_in c a (d ∷ es))
-    go more true here =
-        let z : Some d ≡ Some e = sym (ap (λ b. cond b (Some d) (entry_of es c)) here) ∙ h in
-        let same : d ≡ e = cc in
-        let none : knows c es ≡ false = ap (λ k. knows k es) (sym (eqb-true d.client c here)) ∙ once.0 in
-        let lower : nat_lt d.floor a ≡ true = ap (λ (x : Entry). nat_lt x.floor a) same ∙ low in
-        let lost : (cond (is_of c d) (ended_entry a d) d).live ≡ None =
-        ap (λ (b : Bool). (cond b (ended_entry a d) d).live) here ∙ ap (λ (b : Bool). (cond b (record { client = d.client; floor = a; live = None }) d).live) lower in
-        let own : if_live (λ l. not (is_freed (option_map (λ m. m.resource) e.live) l)) d.live ≡ false = ap (λ (x : Entry). if_live (λ l. not (is_freed (option_map (λ m. m.resource) e.live) l)) x.live) same ∙ own-freed e.live in
-        (inr (lost, own), subst (Sheds (option_map (λ l. l.resource) e.live) es) (sym (ends-unknown c a es none)) (sheds-none (option_map (λ l. l.resource) e.live) es))
-    go more false here =
-        (inl (ap (λ b. cond b (ended_entry a d) d) here), more (sym (ap (λ b. cond b (Some d) (entry_of es c)) here) ∙ h))
-
-sheds-ended : (c a : ℕ) (es : List Entry) → EachOnce es → Sheds (freed a (entry_of es c)) es (ended c a es)
+-- ending sheds the ticket that ends
+sheds-ended : (c a : ℕ) (es : List Entry) → EachOnce es → AllShed (freed a (entry_of es c)) es (ended c a es)
 sheds-ended c a es once = go (entry_of es c) refl
   where
-    by : (e : Entry) → entry_of es c ≡ Some e → (b : Bool) → nat_lt e.floor a ≡ b → Sheds (cond b (option_map (λ l. l.resource) e.live) None) es (ended c a es)
+    by : (e : Entry) → entry_of es c ≡ Some e → (b : Bool) → nat_lt e.floor a ≡ b → AllShed (cond b (option_map (λ l. l.resource) e.live) None) es (ended c a es)
     by e is true low =
-        subst (Sheds (option_map (λ l. l.resource) e.live) es) (sym (ended-known c a es (known-entry c es e is).0)) (sheds-ends c a es e once is low)
+        let o = option_map (λ l. l.resource) e.live in
+        let gone : ended_entry a e ≡ record { client = e.client; floor = a; live = None } = ap (λ b. cond b (record { client = e.client; floor = a; live = None }) e) low in
+        let sheds : StaysOrSheds o e (ended_entry a e) = subst (StaysOrSheds o e) (sym gone) (inr (record { new = refl; old = own-freed e.live; still = refl })) in
+        subst (AllShed o es) (sym (ended-known c a es (known-entry c es e is).0)) (sheds-altered o c (ended_entry a) es e once is sheds)
     by e is false low =
-        subst (Sheds None es) (sym (ended-known c a es (known-entry c es e is).0 ∙ ends-nothing c a es e once is low)) (sheds-none None es)
+        subst (AllShed None es) (sym (ended-known c a es (known-entry c es e is).0 ∙ ends-nothing c a es e once is low)) (sheds-none None es)
 
-    go : (o : Option Entry) → entry_of es c ≡ o → Sheds (freed a o) es (ended c a es)
-    go None is = subst (Sheds None es) (sym (ended-unknown c a es (unknown-entry c es is))) (sheds-last None es (fresh c a) refl)
+    go : (o : Option Entry) → entry_of es c ≡ o → AllShed (freed a o) es (ended c a es)
+    go None is = subst (AllShed None es) (sym (ended-unknown c a es (unknown-entry c es is))) (sheds-last None es (fresh c a) refl)
     go (Some e) is = by e is (nat_lt e.floor a) refl
 
 -- where each ticket that waits has a cause, none settles
@@ -279,20 +286,22 @@ caused-all p o whole (e ∷ es) h =
     let k = and_parts (has_cause p whole e.live) (list_all (λ (d : Entry). has_cause p whole d.live) es) h in
     (λ _. idle-cause p whole e.client e.floor e.live k.0, caused-all p o whole es k.1)
 
--- so once a client's attempts have ended, no ticket but those for the freed resource would settle
-pub freed-others : (p : Problem) (c a : ℕ) (es : List Entry) → EachOnce es → is_caused p es ≡ true → OthersStay p (freed a (entry_of es c)) (ended c a es)
-freed-others p c a es once caused =
-    let o = freed a (entry_of es c) in
-    let sheds = sheds-ended c a es once in
-    sheds-all p o es (ended c a es) (sheds-same o es (ended c a es) sheds) es (ended c a es) sheds (caused-all p o es es caused)
+-- so no ticket but those for the freed resource would settle
+pub sheds-others : (p : Problem) (o : Option (List ℕ)) (es fs : List Entry) → AllShed o es fs → is_caused p es ≡ true → OthersStay p o fs
+sheds-others p o es fs sheds caused = sheds-all p o es fs (sheds-same o es fs sheds) es fs sheds (caused-all p o es es caused)
+
+-- where each ticket that waits has a cause, settling changes nothing
+pub caused-settled : (p : Problem) (es : List Entry) → is_caused p es ≡ true → es ≡ settled p es
+caused-settled p es caused = idle-settled p es (caused-all p None es es caused)
 
 pub none-freed : (o : Option (List ℕ)) → ((x : List ℕ) → o ≡ Some x → ⊥) → o ≡ None
 none-freed None h = refl
 none-freed (Some x) h = absurd (h x refl)
 
+-- it is so once a client's attempts have ended
 pub others-freed : (p : Problem) (c a : ℕ) (es : List Entry) (o : Option (List ℕ)) (new : List Entry) → EachOnce es → is_caused p es ≡ true → o ≡ freed a (entry_of es c) → new ≡ ended c a es → OthersStay p o new
 others-freed p c a es o new once caused is made =
-    subst (λ l. OthersStay p o l) (sym made) (subst (λ f. OthersStay p f (ended c a es)) (sym is) (freed-others p c a es once caused))
+    subst (λ l. OthersStay p o l) (sym made) (subst (λ f. OthersStay p f (ended c a es)) (sym is) (sheds-others p (freed a (entry_of es c)) es (ended c a es) (sheds-ended c a es once) caused))
 
 -- ---- who is told a Grant waits for the freed resource
 
@@ -306,31 +315,35 @@ waits-admitted p es x (Some l) m is h = go (is_waiting l.status) refl
         let clash : Some m ≡ None = is ∙ ap (λ b. cond (b && admits p l.mode l.resource es) (Some (promoted l)) None) w in
         cc
 
-fewer : (o : Option (List ℕ)) (test : Live → Bool) (es fs : List Entry) → Sheds o es fs → count_live test fs ≤ count_live test es
-fewer o test [] [] h = omega arith
-fewer o test [] (f ∷ fs) h =
-    let none : count_live test (f ∷ fs) ≡ one_if false + count_live test fs = count-first test f fs ∙ ap (λ l. one_if (if_live test l) + count_live test fs) h.0 in
-    let rest : count_live test fs ≤ count_live test [] = fewer o test [] fs h.1 in
+waits-still : (x : List ℕ) (live : Option Live) → if_live (λ l. is_waiting l.status) live ≡ false → if_live (waits_for x) live ≡ false
+waits-still x None h = refl
+waits-still x (Some l) h = ap (λ b. b && bytes_eq l.resource x) h
+
+fewer : (o : Option (List ℕ)) (x : List ℕ) (es fs : List Entry) → AllShed o es fs → count_live (waits_for x) fs ≤ count_live (waits_for x) es
+fewer o x [] [] h = omega arith
+fewer o x [] (f ∷ fs) h =
+    let none : count_live (waits_for x) (f ∷ fs) ≡ one_if false + count_live (waits_for x) fs = count-first (waits_for x) f fs ∙ ap (λ l. one_if (if_live (waits_for x) l) + count_live (waits_for x) fs) h.0 in
+    let rest : count_live (waits_for x) fs ≤ count_live (waits_for x) [] = fewer o x [] fs h.1 in
     omega (arith, none, rest)
-fewer o test (e ∷ es) [] h = absurd h
-fewer o test (e ∷ es) (f ∷ fs) h = go (fewer o test es fs h.1) h.0
+fewer o x (e ∷ es) [] h = absurd h
+fewer o x (e ∷ es) (f ∷ fs) h = go (fewer o x es fs h.1) h.0
   where
     some : (b : Bool) → 0 ≤ one_if b
     some b = omega arith
 
-    go : count_live test fs ≤ count_live test es → StaysOrSheds o e f → count_live test (f ∷ fs) ≤ count_live test (e ∷ es)
+    go : count_live (waits_for x) fs ≤ count_live (waits_for x) es → StaysOrSheds o e f → count_live (waits_for x) (f ∷ fs) ≤ count_live (waits_for x) (e ∷ es)
     go rest (inl is) =
-        let new : count_live test (f ∷ fs) ≡ one_if (if_live test e.live) + count_live test fs = count-first test f fs ∙ ap (λ (x : Entry). one_if (if_live test x.live) + count_live test fs) is in
-        let old : count_live test (e ∷ es) ≡ one_if (if_live test e.live) + count_live test es = count-first test e es in
+        let new : count_live (waits_for x) (f ∷ fs) ≡ one_if (if_live (waits_for x) e.live) + count_live (waits_for x) fs = count-first (waits_for x) f fs ∙ ap (λ (d : Entry). one_if (if_live (waits_for x) d.live) + count_live (waits_for x) fs) is in
+        let old : count_live (waits_for x) (e ∷ es) ≡ one_if (if_live (waits_for x) e.live) + count_live (waits_for x) es = count-first (waits_for x) e es in
         omega (arith, new, old, rest)
     go rest (inr k) =
-        let new : count_live test (f ∷ fs) ≡ one_if false + count_live test fs = count-first test f fs ∙ ap (λ l. one_if (if_live test l) + count_live test fs) k.0 in
-        let old : count_live test (e ∷ es) ≡ one_if (if_live test e.live) + count_live test es = count-first test e es in
-        omega (arith, new, old, rest, some (if_live test e.live))
+        let new : count_live (waits_for x) (f ∷ fs) ≡ one_if false + count_live (waits_for x) fs = count-first (waits_for x) f fs ∙ ap (λ b. one_if b + count_live (waits_for x) fs) (waits-still x f.live k.still) in
+        let old : count_live (waits_for x) (e ∷ es) ≡ one_if (if_live (waits_for x) e.live) + count_live (waits_for x) es = count-first (waits_for x) e es in
+        omega (arith, new, old, rest, some (if_live (waits_for x) e.live))
 
-fewer-waiting : (o : Option (List ℕ)) (es fs : List Entry) → Sheds o es fs → waiting_for o fs ≤ waiting_for o es
+pub fewer-waiting : (o : Option (List ℕ)) (es fs : List Entry) → AllShed o es fs → waiting_for o fs ≤ waiting_for o es
 fewer-waiting None es fs h = omega arith
-fewer-waiting (Some x) es fs h = fewer (Some x) (waits_for x) es fs h
+fewer-waiting (Some x) es fs h = fewer (Some x) x es fs h
 
 -- once the attempts have ended no more wait for the freed resource than before
 pub waiting-ended : (c a : ℕ) (es : List Entry) (o : Option (List ℕ)) (new : List Entry) → EachOnce es → o ≡ freed a (entry_of es c) → new ≡ ended c a es → waiting_for o new ≤ waiting_for (freed a (entry_of es c)) es

@@ -4,5 +4,6 @@ pub mod EndFacts
 pub mod ChangeFacts
 pub mod RangeFacts
 pub mod FreedFacts
+pub mod SoftenFacts
 pub mod QueueFacts
 pub mod TakingFacts

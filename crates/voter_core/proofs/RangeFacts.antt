@@ -3,16 +3,18 @@ use Rattle.std.proofs.Common.{◌≡◌, ◌⊎◌, inl, inr, ℕ, ◌+◌, ◌-
 use Rattle.std.specs.List.{AllByRecursion}
 use Rattle.lock_messages.specs.declared.ids.TheConstants.{MAX_ATTEMPT}
 use Rattle.lock_messages.specs.declared.messages.Message.{Message}
-use Rattle.lock_messages.specs.declared.messages.Message.TheVariants.{Request, Release, Grant, Busy, Over, Done, Muddled}
+use Rattle.lock_messages.specs.declared.messages.Message.TheVariants.{Request, Release, Grant, Busy, Over, Done, Muddled, Soften}
+use Rattle.lock_messages.specs.declared.messages.Message.TheVariants as message
 use Rattle.lock_messages.specs.declared.tickets.Ticket.{Ticket}
 use Rattle.lock_messages.specs.Ids.{IsClient, IsAttempt}
 use Rattle.lock_messages.specs.Messages.{IsTicket, IsMessage}
 use Rattle.lock_model.specs.declared.entries.Entry.{Entry}
 use Rattle.lock_model.specs.declared.entries.Live.{Live}
-use Rattle.lock_model.specs.declared.entries.Status.TheVariants.{Waiting, Holding}
+use Rattle.lock_model.specs.declared.entries.Status.{Status}
+use Rattle.lock_model.specs.declared.entries.Status.TheVariants.{Waiting, Holding, Softened}
 use Rattle.lock_model.specs.declared.problems.Problem.{Problem}
-use Rattle.lock_model.specs.ExactStations.{is_of, knows, entry_of, is_waiting, admits, promoted, settled_live, settled_entry, settle, settled}
-use Rattle.lock_model.specs.ExactDecisions.{ended_entry, ended, moved_last, reply_to_known, new_entry, answered, takes_up, releases, decision}
+use Rattle.lock_model.specs.ExactStations.{is_of, knows, entry_of, is_waiting, is_write, admits, promoted, settled_live, settled_entry, settle, settled}
+use Rattle.lock_model.specs.ExactDecisions.{ended_entry, ended, moved_last, reply_to_known, new_entry, answered, takes_up, releases, softened_writer, softened_entry, softened, decision}
 use Rattle.stable_record.specs.Records.{IsTicketOf, IsEntry}
 
 abbrev pub InRange : List Entry → Type 0
@@ -62,6 +64,24 @@ range-settle p front [] h = tt
 range-settle p front (e ∷ es) h =
     (range-entry p (front ++ e ∷ es) e.client e.floor e.live h.0, range-settle p (front ++ settled_entry p (front ++ e ∷ es) e ∷ []) es h.1)
 
+range-softened-entry : (a client floor : ℕ) (live : Option Live) → IsEntry (record { client = client; floor = floor; live = live }) → IsEntry (softened_entry a (record { client = client; floor = floor; live = live }))
+range-softened-entry a client floor None h = h
+range-softened-entry a client floor (Some l) h = go ((l.attempt == a) && is_write l.mode) l.status
+  where
+    go : (b : Bool) (s : Status) → IsEntry (record { client = client; floor = floor; live = cond b (softened_writer l s) (Some l) })
+    go true Waiting = record { client = h.client; floor = h.floor; live = tt }
+    go true Holding = record { client = h.client; floor = h.floor; live = record { attempt = h.live.attempt; resource = h.live.resource } }
+    go true Softened = h
+    go false s = h
+
+range-softened : (c a : ℕ) (es : List Entry) → InRange es → InRange (softened c a es)
+range-softened c a [] h = tt
+range-softened c a (e ∷ es) h = (go (is_of c e), range-softened c a es h.1)
+  where
+    go : (b : Bool) → IsEntry (cond b (softened_entry a e) e)
+    go true = range-softened-entry a e.client e.floor e.live h.0
+    go false = h.0
+
 range-new : (t : Ticket) (admitted : Bool) → IsTicket t → IsEntry (new_entry t admitted)
 range-new t admitted h = record { client = h.client; floor = let top = h.attempt.1 in omega (arith, top); live = record { attempt = h.attempt; resource = h.resource } }
 
@@ -85,3 +105,5 @@ range-decision p es (Busy n t) h k = k
 range-decision p es (Over n c a) h k = k
 range-decision p es (Done n c a) h k = k
 range-decision p es (Muddled n c a) h k = k
+range-decision p es (Soften n c a) h k = range-settle p [] (softened c a es) (range-softened c a es k)
+range-decision p es (message.Softened n c a) h k = k

@@ -1,7 +1,7 @@
 -- One node: its station as it keeps it, and what it is about.
 use Rattle.std.specs.Prelude.{◌≡◌, ◌≢◌, ℕ, ◌-◌, Bool, true, false, ◌&&◌, List, [], Option, Some, None, Err, nat_lt, if◌then◌else◌}
 use Rattle.lock_messages.specs.declared.messages.Message.{Message}
-use Rattle.lock_messages.specs.declared.messages.Message.TheVariants.{Request, Release, Grant, Busy, Over, Done, Muddled}
+use Rattle.lock_messages.specs.declared.messages.Message.TheVariants.{Request, Release, Grant, Busy, Over, Done, Muddled, Soften, Softened}
 use Rattle.lock_messages.specs.declared.tickets.Mode.{Mode}
 use Rattle.lock_messages.specs.declared.tickets.Mode.TheVariants.{Read, Write}
 use Rattle.lock_messages.specs.declared.tickets.Ticket.{Ticket}
@@ -141,3 +141,5 @@ note_of p entries (Busy n t) = None
 note_of p entries (Over n c a) = None
 note_of p entries (Done n c a) = None
 note_of p entries (Muddled n c a) = None
+note_of p entries (Soften n c a) = None
+note_of p entries (Softened n c a) = None

@@ -1,6 +1,6 @@
 // A node's decision on a message, made in its entries.
 
-ghost use Rattle.std.specs.Prelude.{◌≡◌, ◌≢◌, ◌≤◌, ◌<◌, ◌+◌, ◌-◌, ◌↔◌, ℕ, List, [], length, Bool, true, false, Option, Some, None, nat_lt, is_ok, IfSome, IfOk, OnOk, OnErr, IsTrue, slice_set, if◌then◌else◌};
+ghost use Rattle.std.specs.Prelude.{◌≡◌, ◌≢◌, ◌≤◌, ◌<◌, ◌+◌, ◌-◌, ◌↔◌, ℕ, List, [], length, Bool, true, false, Option, Some, None, nat_lt, is_ok, is_some, IfSome, IfOk, OnOk, OnErr, IsTrue, slice_set, if◌then◌else◌};
 ghost use Rattle.std.specs.List.{AllByRecursion};
 ghost use Rattle.std.specs.Option.{option_map_or};
 ghost use Rattle.std.specs.Str.{bytes_eq};
@@ -13,36 +13,38 @@ ghost use Rattle.lock_model.specs.declared.entries.Live.{Live};
 ghost use Rattle.lock_model.specs.Laws.{IsAllowed};
 ghost use Rattle.stable_record.specs.Records.{IsNodeRecord};
 ghost use Rattle.lock_model.specs.ExactStations.{EachOnce, IsAboveFloor, entry_of, knows};
-ghost use Rattle.lock_model.specs.ExactDecisions.{ended, moved_last, reply_to_known, takes_up, releases, decision, Changes, changes};
+ghost use Rattle.lock_model.specs.ExactDecisions.{ended, live_in, moved_last, reply_to_known, takes_up, releases, softened, softened_entry, softens, decision, Changes, changes};
 ghost use Rattle.lock_model.specs.Judgement.{is_caused};
 ghost use Rattle.stable_record.specs.EntryLists.{replaced};
 ghost use Rattle.stable_record.specs.Indexing.{IndexesWith, IsEntryAmong, without_live};
 ghost use Rattle.stable_record.specs.Lines.{Indexes};
-ghost use Rattle.voter_core.specs.Freed.{freed, freed_by, waiting_for};
+ghost use Rattle.voter_core.specs.Freed.{freed, freed_by, freed_by_softening, is_as_asked, is_softened_by, waiting_for};
 ghost use Rattle.voter_core.specs.Voters.{ends_something, is_admitted, note_for, note_of};
 
 use crate::consulting::note;
 use crate::settling::{admits, settle};
 use admission_policy::Admission;
-use lock_messages::{Attempt, ClientId, Message, NodeId, ResourceName, Ticket};
+use lock_messages::{Attempt, ClientId, Message, Mode, NodeId, ResourceName, Ticket};
 use lock_model::laws::{changes_are_seen, decision_is_allowed, judgement_is_exact};
-use lock_model::{Entry, Problem, new_entry, reply_to_known};
+use lock_model::{Entry, Live, Problem, Status, new_entry, reply_to_known};
 use stable_record::laws::{entries_are_few, strangers_leave_the_index};
 use stable_record::{Entries, NodeRecord, ResourceIndex};
 use std::alloc::{AllocError, Global};
 
-/// The resource of the ticket that ends where the message is taken, if one does.
+/// The resource of the ticket that ends or is softened where the message is taken, if one does.
 pub(crate) fn freed_by(entries: &Entries, message: &Message) -> Option<ResourceName>
     ensures { result ≡ freed_by entries.now message.now }
 {
     match message {
         Message::Request(_, ticket) => freed(entries, ticket.client, ticket.attempt.get() - 1),
         Message::Release(_, client, attempt) => freed(entries, *client, attempt.get()),
+        Message::Soften(_, client, attempt) => freed_by_softening(entries, *client, *attempt),
         Message::Grant(..)
         | Message::Busy(..)
         | Message::Over(..)
         | Message::Done(..)
-        | Message::Muddled(..) => None,
+        | Message::Muddled(..)
+        | Message::Softened(..) => None,
     }
 }
 
@@ -156,6 +158,93 @@ fn freed(entries: &Entries, client: ClientId, attempt: u64) -> Option<ResourceNa
     }
 }
 
+/// Whether a ticket of this status waits or holds as it was asked for.
+fn is_as_asked(status: Status) -> bool
+    ensures { result ≡ is_as_asked status }
+{
+    match status {
+        Status::Waiting | Status::Holding => true,
+        Status::Softened => false,
+    }
+}
+
+/// Whether softening this attempt changes the ticket: it is a writer's of the attempt, as it was asked
+/// for.
+fn is_softened_by(live: &Live, attempt: Attempt) -> bool
+    ensures { result ≡ is_softened_by attempt live.now }
+{
+    if live.attempt != attempt {
+        return false;
+    }
+    match live.mode {
+        Mode::Read => false,
+        Mode::Write => is_as_asked(live.status),
+    }
+}
+
+/// The resource of the ticket that is softened with this attempt of the client, if one is.
+fn freed_by_softening(entries: &Entries, client: ClientId, attempt: Attempt) -> Option<ResourceName>
+    ensures { result ≡ freed_by_softening attempt (live_in (entry_of entries.now client)) }
+{
+    let Entry { live, .. } = entries.entry_of(client)?;
+    let live = live?;
+    if is_softened_by(&live, attempt) {
+        Some(live.resource)
+    } else {
+        None
+    }
+}
+
+/// Softens the ticket of a client that has this entry, in the entries and in their index: where it
+/// holds it is a reader's from now on, and where it waits it goes. The floor stays.
+fn soften_known(
+    entries: &mut Entries,
+    index: &mut ResourceIndex,
+    entry: &Entry,
+    live: &Live,
+    attempt: Attempt,
+)
+    requires among { IsEntryAmong entry.now entries.old }
+    requires live { entry.now.live ≡ Some live.now }
+    requires softened { is_softened_by attempt live.now ≡ true }
+    ensures entries { entries.new ≡ replaced (softened_entry attempt entry.now) entries.old }
+    ensures indexed { (a : Option (ℕ × List ℕ)) → IndexesWith a index.old entries.old → IndexesWith a index.new entries.new }
+{
+    let softened = live.softened(attempt);
+    match softened {
+        None => index.end(entry),
+        Some(_) => index.soften(entry),
+    }
+    entries.replace(Entry {
+        client: entry.client,
+        floor: entry.floor,
+        live: softened,
+    });
+}
+
+/// Softens the client's ticket of this attempt, and answers the resource of it. It takes no memory,
+/// and where no ticket is softened nothing changes.
+fn soften_ticket(
+    entries: &mut Entries,
+    index: &mut ResourceIndex,
+    client: ClientId,
+    attempt: Attempt,
+) -> Option<ResourceName>
+    ensures softened { entries.new ≡ softened client attempt entries.old }
+    ensures freed { result ≡ freed_by_softening attempt (live_in (entry_of entries.old client)) }
+    ensures indexed { (a : Option (ℕ × List ℕ)) → IndexesWith a index.old entries.old → IndexesWith a index.new entries.new }
+    ensures once { EachOnce entries.old }
+{
+    let _len = entries.len();
+    let entry = entries.entry_of(client)?;
+    let live = entry.live?;
+    if !is_softened_by(&live, attempt) {
+        return None;
+    }
+    soften_known(entries, index, &entry, &live, attempt);
+    Some(live.resource)
+}
+
 /// Whether there are more replies than the sender's.
 fn tells_grants(replies: &[Message]) -> bool
     ensures { result ≡ nat_lt 1 (length replies.now) }
@@ -193,6 +282,37 @@ fn release(
         policy, problem, node, entries, index, freed, waiting, replies,
     );
     Ok(ended || tells_grants(replies))
+}
+
+/// Takes a softening: the client's ticket of this attempt is softened, and the others settle. It
+/// answers whether the entries changed.
+fn soften(
+    policy: &(dyn Admission + Send),
+    problem: Problem,
+    node: NodeId,
+    entries: &mut Entries,
+    index: &mut ResourceIndex,
+    client: ClientId,
+    attempt: Attempt,
+    replies: &mut Vec<Message>,
+) -> bool
+    requires none { (replies.old.items ≡ []) × (vec_len replies.old ≡ 0) }
+    requires room { waiting_for (freed_by_softening attempt (live_in (entry_of entries.old client))) entries.old + 1 ≤ vec_capacity replies.old }
+    requires caused { is_caused problem entries.old ≡ true }
+    requires indexed { Indexes index.old entries.old }
+    ensures entries { entries.new ≡ (softens node problem entries.old client attempt).entries }
+    ensures replies { replies.new.items ≡ (softens node problem entries.old client attempt).replies }
+    ensures changed { IsTrue result ↔ ((softens node problem entries.old client attempt).entries ≢ entries.old) }
+    ensures indexed { Indexes index.new entries.new }
+{
+    let freed = soften_ticket(entries, index, client, attempt);
+    let softened = freed.is_some();
+    replies.push_reserved(Message::Softened(node, client, attempt));
+    let waiting = waiting_for(index, &freed);
+    settle(
+        policy, problem, node, entries, index, freed, waiting, replies,
+    );
+    softened
 }
 
 /// Says in the first reply that the ticket holds, where it is admitted.
@@ -360,11 +480,15 @@ pub(crate) fn decide(
                 policy, problem, *node, entries, index, *client, *attempt, replies,
             )
         }
+        Message::Soften(node, client, attempt) => Ok(soften(
+            policy, problem, *node, entries, index, *client, *attempt, replies,
+        )),
         Message::Grant(..)
         | Message::Busy(..)
         | Message::Over(..)
         | Message::Done(..)
-        | Message::Muddled(..) => Ok(false),
+        | Message::Muddled(..)
+        | Message::Softened(..) => Ok(false),
     }
 }
 
@@ -391,7 +515,9 @@ fn is_message(message: &Message)
         Message::Release(node, client, attempt)
         | Message::Over(node, client, attempt)
         | Message::Done(node, client, attempt)
-        | Message::Muddled(node, client, attempt) => {
+        | Message::Muddled(node, client, attempt)
+        | Message::Soften(node, client, attempt)
+        | Message::Softened(node, client, attempt) => {
             node.get();
             client.get();
             attempt.get();

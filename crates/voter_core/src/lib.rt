@@ -2,8 +2,8 @@
 //!
 //! A `NodeCore` has a node's number, its station (a problem and the entries in the order in which
 //! tickets arrived), a policy, and what it is about: nothing, a decision that has to be kept, or
-//! replies that may be said. It rises from its record, takes a message, gives the bytes of its record
-//! to be kept and, once they are, the replies.
+//! replies that may be said. It rises from its record, takes a message (a request, a release or a
+//! softening), gives the bytes of its record to be kept and, once they are, the replies.
 //!
 //! The crate promises that `take` is the exact decision of `lock_model`, so that it is one that a node
 //! may take, and that every station is lawful and caused: no writer that holds is beside another

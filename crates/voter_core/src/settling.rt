@@ -148,8 +148,8 @@ fn settle_resource(
     }
 }
 
-/// Settles the entries where a ticket for this resource ended, for which so many wait, and adds the
-/// Grants of those that became holders. Who waits for another resource has a cause still.
+/// Settles the entries where a ticket for this resource ended or was softened, for which so many wait,
+/// and adds the Grants of those that became holders. Who waits for another resource has a cause still.
 pub(crate) fn settle(
     policy: &(dyn Admission + Send),
     problem: Problem,

@@ -190,14 +190,19 @@ impl NodeCore {
     /// Takes a message, and answers whether it changes the node's record. If it does, the record has
     /// to be kept before the node replies (Decided); else the replies may be said at once (Stored).
     ///
+    /// A `Request` asks for the node's vote. A `Release` ends its client's attempts up to the one that
+    /// it names. A `Soften` is of one attempt: a writer's ticket that holds by it is a reader's from now
+    /// on, and one that waits goes, while the floor stays; any other stays as it is, and an unknown
+    /// client gets no entry.
+    ///
     /// The caller owes that the node is idle (`phase`) and that the message is for it
     /// (`Message::is_for_node`, of `node`). The rules are those of problems 1 and 2 (Courtois, Heymans and
-    /// Parnas 1971), for the node's own vote; attempts, floors and the order of entries are our own.
-    /// The policy is told once of each new reader's ticket, and of nothing else. The only error is
-    /// want of memory (503), and then nothing has changed. Where a ticket ends, those that wait for its
-    /// resource are asked one after the other, each by look-ups; no others are, and the replies take
-    /// room for these alone. Only a new ticket's entry costs more, where entries stand behind it: they
-    /// move up by one place each.
+    /// Parnas 1971), for the node's own vote; attempts, floors, softening and the order of entries are
+    /// our own. The policy is told once of each new reader's ticket, and of nothing else. The only error
+    /// is want of memory (503), and then nothing has changed. Where a ticket ends or is softened, those
+    /// that wait for its resource are asked one after the other, each by look-ups; no others are, and the
+    /// replies take room for these alone. Only a new ticket's entry costs more, where entries stand behind
+    /// it: they move up by one place each.
     pub fn take(&mut self, message: &Message) -> Result<bool, VoterFault>
         requires idle { phase_in self.old.state ≡ Phase.Idle }
         requires for_node { is_for_node message.now self.old.node ≡ true }

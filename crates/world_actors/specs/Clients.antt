@@ -13,7 +13,7 @@ use Rattle.world_actors.specs.Acting.{ActingClient}
 
 -- what a client has of its present attempt; the nodes that it skips are no matter of the exact world
 abbrev pub present_of : Present → ExactPresent
-present_of p = record { ticket = p.ticket; place = p.place; granted = p.granted }
+present_of p = record { ticket = p.ticket; place = p.place; granted = p.granted; softened = p.softened }
 
 -- what a client that is up is about
 abbrev pub phase_of : State → ExactClientPhase

@@ -4,7 +4,7 @@ ghost use Rattle.std.specs.Prelude.{◌≡◌, ◌≤◌, ℕ, Err, false, IfOk,
 ghost use Rattle.lock_model.specs.Ballots.{node_count};
 ghost use Rattle.lock_model.specs.ExactHearing.{is_node_of};
 ghost use Rattle.world_model.specs.declared.events.Effect.TheVariants as effect;
-ghost use Rattle.world_model.specs.ExactClients.{begins_in, tries_attempt_in, keeps_attempt_in, tells, says_one, hears, heard_in, after_hearing, is_down, enters_in, leaves_in, client_falls_in, client_rises_in};
+ghost use Rattle.world_model.specs.ExactClients.{begins_in, tries_attempt_in, keeps_attempt_in, tells, says_one, hears, heard_in, after_hearing, is_down, enters_in, leaves_in, softens_in, client_falls_in, client_rises_in};
 ghost use Rattle.world_model.specs.Openings.{down_client};
 ghost use Rattle.world_model.specs.Turns.{acts};
 ghost use Rattle.world_model.specs.Views.{ticket_in};
@@ -170,7 +170,8 @@ impl WorldClient {
     }
 
     /// What the client has to say to a node, or why nothing: the own part of the event `SayTo`. It is
-    /// the request of its ticket while it asks or is inside, the release of its attempt while it rests.
+    /// the request of its ticket while it asks or is inside, that it has softened once it has, the
+    /// release of its attempt while it rests.
     ///
     /// Refused for a node that no ballot has (601), while the client is down (602), before the number
     /// that it chose is kept (605), and at rest before the first attempt (606).
@@ -262,6 +263,26 @@ impl WorldClient {
                 Ok(())
             }
         }
+    }
+
+    /// The client, inside as a writer, is a reader from now on: the event `Soften`.
+    ///
+    /// Refused while it is down (602), and unless it is inside as a writer (604).
+    pub fn soften(&mut self) -> Result<(), StepFault>
+        ensures done { OnOk result (softens_in self.old.part self.old.part.phase ≡ acts self.new.part effect.Softened) }
+        ensures refused { IfErr result (λ f. softens_in self.old.part self.old.part.phase ≡ Err f) }
+        ensures unchanged { OnErr result (self.new ≡ self.old) }
+        ensures number { self.new.number ≡ self.old.number }
+        ensures ballots { self.new.ballots ≡ self.old.ballots }
+    {
+        if !self.up {
+            return Err(StepFault::Down);
+        }
+        if !self.core.may_soften() {
+            return Err(StepFault::WrongPhase);
+        }
+        self.core.soften();
+        Ok(())
     }
 
     /// The client falls: what it has kept and what it tries to keep remain.

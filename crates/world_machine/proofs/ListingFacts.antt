@@ -1,5 +1,5 @@
 -- Tickets listed one entry after the other, and what is asked of an actor.
-use Rattle.std.proofs.Common.{◌≡◌, ◌↔◌, ℕ, ◌+◌, ◌<◌, Bool, List, [], ◌∷◌, ◌++◌, length, take, get_or, map, suc, Option, Some, None, Result, Ok, Err, refl, sym, ◌∙◌, ap, subst, arith}
+use Rattle.std.proofs.Common.{◌≡◌, ◌↔◌, ℕ, ◌+◌, ◌<◌, Bool, true, false, cond, List, [], ◌∷◌, ◌++◌, length, take, get_or, map, suc, Option, Some, None, Result, Ok, Err, refl, sym, ◌∙◌, ap, subst, arith}
 use Rattle.std.specs.Prelude.{slice_get, IfOk, IfSome}
 use Rattle.std.specs.List.{flat_map}
 use Rattle.std.specs.Option.{option_map}
@@ -26,8 +26,8 @@ use Rattle.world_model.specs.ExactWorlds.{numbered}
 use Rattle.world_model.specs.Exclusion.{IsExclusive}
 use Rattle.world_model.specs.Forgetting.{station_of, present_of, client_phase_of, node_numbered, client_numbered, forget, IsSound}
 use Rattle.world_model.specs.Invariants.{IsSafeTicket, IsSafeClient}
-use Rattle.world_model.specs.Views.{ticket_in, ticket_at, ticket_inside}
-use Rattle.world_model.specs.Worlds.{World, Present, ClientPhase, ClientDown, ClientIdle, Chosen, Asking, IsIn}
+use Rattle.world_model.specs.Views.{softened_ticket, present_ticket, ticket_in, ticket_at, ticket_inside}
+use Rattle.world_model.specs.Worlds.{World, Present, ClientPhase, ClientDown, ClientIdle, Chosen, Asking, IsIn, present_mode}
 use Rattle.world_machine.specs.Listing.{Tells, IsInsideBy, AreWaiting}
 use Rattle.world_machine.specs.Machines.{node_part, client_part, world_view}
 use Rattle.world_model.specs.Numbered.{numbered-map}
@@ -78,11 +78,25 @@ listed-such f P w n l each = go (numbered w.nodes n) refl
         let q : Some (f v) ≡ Some l = h in
         let same : f v ≡ l = cc in subst (P (station_of v.kept)) same (each v is)
 
+-- the ticket that is shown of an attempt, softened or not
+
+mode-shown : (soft : Bool) (t : Ticket) → (cond soft (softened_ticket t) t).mode ≡ cond soft Read t.mode
+mode-shown true t = refl
+mode-shown false t = refl
+
+resource-shown : (soft : Bool) (t : Ticket) → (cond soft (softened_ticket t) t).resource ≡ t.resource
+resource-shown true t = refl
+resource-shown false t = refl
+
+client-shown : (soft : Bool) (t : Ticket) → (cond soft (softened_ticket t) t).client ≡ t.client
+client-shown true t = refl
+client-shown false t = refl
+
 -- a client is inside by the ticket of its phase
 
 abbrev InsideBy : ClientPhase → Option Ticket → Mode → List ℕ → Type 0
 InsideBy phase found m x =
-    ((p : Present) × (phase ≡ IsIn p) × (p.ticket.mode ≡ m) × (p.ticket.resource ≡ x)) ↔ ((t : Ticket) × (found ≡ Some t) × (t.mode ≡ m) × (t.resource ≡ x))
+    ((p : Present) × (phase ≡ IsIn p) × (present_mode p ≡ m) × (p.ticket.resource ≡ x)) ↔ ((t : Ticket) × (found ≡ Some t) × (t.mode ≡ m) × (t.resource ≡ x))
 
 nobody-by : (phase : ClientPhase) (m : Mode) (x : List ℕ) → ((p : Present) → phase ≡ IsIn p → ⊥) → InsideBy phase None m x
 nobody-by phase m x none = (λ h. absurd (none h.0 h.1), λ h. absurd (let q : None ≡ Some h.0 = h.1 in cc))
@@ -96,11 +110,11 @@ phase-by (client.Inside p) m x = (
   λ h.
       let q : IsIn (present_of p) ≡ IsIn h.0 = h.1 in
       let same : present_of p ≡ h.0 = cc in
-      (p.ticket, refl, ap (λ (a : Present). a.ticket.mode) same ∙ h.2, ap (λ (a : Present). a.ticket.resource) same ∙ h.3),
+      (present_ticket p, refl, mode-shown p.softened p.ticket ∙ ap present_mode same ∙ h.2, resource-shown p.softened p.ticket ∙ ap (λ (a : Present). a.ticket.resource) same ∙ h.3),
   λ h.
-      let q : Some p.ticket ≡ Some h.0 = h.1 in
-      let same : p.ticket ≡ h.0 = cc in
-      (present_of p, refl, ap (λ (t : Ticket). t.mode) same ∙ h.2, ap (λ (t : Ticket). t.resource) same ∙ h.3),
+      let q : Some (present_ticket p) ≡ Some h.0 = h.1 in
+      let same : present_ticket p ≡ h.0 = cc in
+      (present_of p, refl, sym (mode-shown p.softened p.ticket) ∙ ap (λ (t : Ticket). t.mode) same ∙ h.2, sym (resource-shown p.softened p.ticket) ∙ ap (λ (t : Ticket). t.resource) same ∙ h.3),
 )
 
 pub inside-by : (w : ExactWorld) (c : ℕ) → IsInsideBy (forget w) c (ticket_inside c w)
@@ -117,8 +131,9 @@ own_ticket_in b w c kept client.Idle t safe is = absurd (let q : None ≡ Some t
 own_ticket_in b w c kept (client.Chosen u place) t safe is = absurd (let q : None ≡ Some t = is in cc)
 own_ticket_in b w c kept (client.Asking p) t safe is = absurd (let q : None ≡ Some t = is in cc)
 own_ticket_in b w c kept (client.Inside p) t safe is =
-    let same : p.ticket ≡ t = cc in
-    ap (λ (x : Ticket). x.client) (sym same) ∙ safe.0.client
+    let q : Some (present_ticket p) ≡ Some t = is in
+    let same : present_ticket p ≡ t = cc in
+    ap (λ (x : Ticket). x.client) (sym same) ∙ client-shown p.softened p.ticket ∙ safe.0.client
 
 own_ticket_at : (b : List Ballot) (w : World) (c : ℕ) (o : Option ExactClient) (t : Ticket) → IsSafeClient b w c (client_numbered o) → ticket_at o ≡ Some t → t.client ≡ c
 own_ticket_at b w c None t safe is = absurd (let q : None ≡ Some t = is in cc)

@@ -24,7 +24,7 @@ use Rattle.world_model.specs.declared.exact.ExactClientPhase.{ExactClientPhase}
 use Rattle.world_model.specs.declared.exact.ExactClientPhase.TheVariants as client
 use Rattle.world_model.specs.declared.exact.ExactWorld.{ExactWorld}
 use Rattle.world_model.specs.ExactNodes.{tries_station_in, tries_station_with, node_rises_in, node_rises_with, says_in, takes_in, node_in, decided_on}
-use Rattle.world_model.specs.ExactClients.{tells, tells_in, says_one, hears, is_down, after_hearing, heard_in}
+use Rattle.world_model.specs.ExactClients.{said_inside, tells, tells_in, says_one, hears, is_down, after_hearing, heard_in}
 use Rattle.world_model.specs.ExactWorlds.{numbered, NodeDoes, ClientDoes, deed_of, Steps, next_number, has_room, with_node_at, with_client_at, read_in, finishes, by_actor, done_by, step}
 use Rattle.world_model.specs.Forgetting.{IsSound, forget, setting_of}
 use Rattle.world_model.specs.Laws.{ExactStepsAreAllowed, StepsKeepSound}
@@ -59,6 +59,7 @@ client-deed c client_act.Try = refl
 client-deed c client_act.Kept = refl
 client-deed c client_act.Enter = refl
 client-deed c client_act.Leave = refl
+client-deed c client_act.Soften = refl
 client-deed c client_act.Fall = refl
 client-deed c (client_act.Rise age) = refl
 
@@ -142,7 +143,7 @@ tells-speaks c n k client.Idle = go (k.kept == 0)
     go false = one-speaks k (message.Release n c k.kept)
 tells-speaks c n k (client.Chosen t place) = λ ok. no ok
 tells-speaks c n k (client.Asking p) = one-speaks k (message.Request n p.ticket)
-tells-speaks c n k (client.Inside p) = one-speaks k (message.Request n p.ticket)
+tells-speaks c n k (client.Inside p) = one-speaks k (said_inside c n p)
 
 pub client-speaks : (b : List Ballot) (c n : ℕ) (k : ExactClient) → OnlySpeaks (tells b c n k)
 client-speaks b c n k = go (is_node_of (node_count b) n)

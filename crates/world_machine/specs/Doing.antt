@@ -12,7 +12,7 @@ use Rattle.world_model.specs.declared.events.StepFault.TheVariants as fault
 use Rattle.world_model.specs.declared.exact.ExactNode.{ExactNode}
 use Rattle.world_model.specs.declared.exact.ExactClient.{ExactClient}
 use Rattle.world_model.specs.ExactNodes.{tries_station_in, keeps_station_in, node_falls_in, node_rises_in}
-use Rattle.world_model.specs.ExactClients.{begins_in, tries_attempt_in, keeps_attempt_in, enters_in, leaves_in, client_falls_in, client_rises_in}
+use Rattle.world_model.specs.ExactClients.{begins_in, tries_attempt_in, keeps_attempt_in, enters_in, leaves_in, softens_in, client_falls_in, client_rises_in}
 use Rattle.world_model.specs.Parts.{turn_says}
 use Rattle.world_model.specs.Turns.{Turns, Acts, Speaks, Reads, acts, speaks}
 use Rattle.world_machine.specs.declared.turns.NodeAct.{NodeAct}
@@ -48,6 +48,7 @@ client_event c client_act.Try = event.Try (actor.Client c)
 client_event c client_act.Kept = event.Kept (actor.Client c)
 client_event c client_act.Enter = event.Enter c
 client_event c client_act.Leave = event.Leave c
+client_event c client_act.Soften = event.Soften c
 client_event c client_act.Fall = event.Fall (actor.Client c)
 client_event c (client_act.Rise age) = event.Rise (actor.Client c) age
 
@@ -57,6 +58,7 @@ client_turn client_act.Try c b k = tries_attempt_in k k.phase
 client_turn client_act.Kept c b k = keeps_attempt_in k k.phase
 client_turn client_act.Enter c b k = enters_in b k k.phase
 client_turn client_act.Leave c b k = leaves_in k k.phase
+client_turn client_act.Soften c b k = softens_in k k.phase
 client_turn client_act.Fall c b k = client_falls_in k k.phase
 client_turn (client_act.Rise age) c b k = client_rises_in age k k.phase
 

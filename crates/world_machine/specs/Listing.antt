@@ -6,8 +6,6 @@ use Rattle.lock_messages.specs.declared.ids.Actor.TheVariants as actor
 use Rattle.lock_messages.specs.declared.tickets.Mode.{Mode}
 use Rattle.lock_messages.specs.declared.tickets.Ticket.{Ticket}
 use Rattle.lock_model.specs.declared.entries.Live.{Live}
-use Rattle.lock_model.specs.declared.entries.Status.{Status}
-use Rattle.lock_model.specs.declared.entries.Status.TheVariants.{Waiting, Holding}
 use Rattle.lock_model.specs.Stations.{Station, Holds, Waits, ticket_at}
 use Rattle.lock_model.specs.Decisions.{Among}
 use Rattle.lock_model.specs.ExactStations.{holds}
@@ -19,13 +17,15 @@ use Rattle.world_model.specs.declared.exact.ExactWorld.{ExactWorld}
 use Rattle.world_model.specs.ExactWorlds.{numbered}
 use Rattle.world_model.specs.Views.{waits, waiting, holding}
 use Rattle.world_model.specs.Worlds.{World, IsInside}
+use Rattle.world_machine.specs.declared.listing.Claims.{Claims}
+use Rattle.world_machine.specs.declared.listing.Claims.TheVariants.{Waiting, Holding}
 
--- the test of tickets of this status, and the list that it gives
-abbrev pub listed_by : Status → List ℕ → Live → Bool
+-- the test of these tickets, and the list that it gives
+abbrev pub listed_by : Claims → List ℕ → Live → Bool
 listed_by Waiting x = waits x
 listed_by Holding x = holds x
 
-abbrev pub listed : Status → ℕ → List ℕ → ExactWorld → Option (List Ticket)
+abbrev pub listed : Claims → ℕ → List ℕ → ExactWorld → Option (List Ticket)
 listed Waiting n x w = waiting n x w
 listed Holding n x w = holding n x w
 

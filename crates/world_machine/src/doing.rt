@@ -67,6 +67,10 @@ pub(crate) fn client_acts(client: &mut WorldClient, act: ClientAct) -> Result<Ef
             Ok(()) => Ok(Effect::Outside),
             Err(fault) => Err(fault),
         },
+        ClientAct::Soften => match client.soften() {
+            Ok(()) => Ok(Effect::Softened),
+            Err(fault) => Err(fault),
+        },
         ClientAct::Fall => match client.fall() {
             Ok(()) => Ok(Effect::Down),
             Err(fault) => Err(fault),

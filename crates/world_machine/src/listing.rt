@@ -12,7 +12,7 @@ ghost use Rattle.world_machine.specs.Listing.{listed_by, listed, kept_bytes, Tel
 ghost use Rattle.world_machine.specs.Machines.{node_part, client_part};
 
 use lock_messages::{Actor, ClientId, NodeId, ResourceName, Ticket};
-use lock_model::{Entry, Live, Status};
+use lock_model::{Entry, Live};
 use stable_record::{NodeRecord, client_bytes, node_bytes};
 use std::alloc::{AllocError, Global};
 use world_actors::{WorldClient, WorldNode};
@@ -64,22 +64,29 @@ pub(crate) fn ticket_inside(clients: &[WorldClient], id: ClientId) -> Option<Tic
     clients[index].inside()
 }
 
-/// Whether the ticket is of this status, for this resource.
-fn is_listed(live: &Live, status: Status, resource: &ResourceName) -> bool
-    ensures { result ≡ listed_by status resource.now live.now }
+/// Which tickets of a record are listed: those that wait for the node's vote, or those that hold it.
+#[derive(Clone, Copy, Debug)]
+pub(crate) enum Claims {
+    Waiting,
+    Holding,
+}
+
+/// Whether the ticket is one of these, for this resource.
+fn is_listed(live: &Live, claims: Claims, resource: &ResourceName) -> bool
+    ensures { result ≡ listed_by claims resource.now live.now }
 {
-    match status {
-        Status::Waiting => live.waits() && live.resource.bytes() == resource.bytes(),
-        Status::Holding => live.holds(resource),
+    match claims {
+        Claims::Waiting => live.waits() && live.resource.bytes() == resource.bytes(),
+        Claims::Holding => live.holds(resource),
     }
 }
 
 /// The entry's ticket, if it is listed.
-fn listed_ticket(entry: &Entry, status: Status, resource: &ResourceName) -> Option<Ticket>
-    ensures { option_to_list result ≡ live_ticket (listed_by status resource.now) entry.now.client entry.now.live }
+fn listed_ticket(entry: &Entry, claims: Claims, resource: &ResourceName) -> Option<Ticket>
+    ensures { option_to_list result ≡ live_ticket (listed_by claims resource.now) entry.now.client entry.now.live }
 {
     match entry.live {
-        Some(live) if is_listed(&live, status, resource) => Some(Ticket {
+        Some(live) if is_listed(&live, claims, resource) => Some(Ticket {
             client: entry.client,
             attempt: live.attempt,
             mode: live.mode,
@@ -93,14 +100,14 @@ fn listed_ticket(entry: &Entry, status: Status, resource: &ResourceName) -> Opti
 fn ticket_at(
     kept: &NodeRecord,
     place: usize,
-    status: Status,
+    claims: Claims,
     resource: &ResourceName,
 ) -> Option<Ticket>
     ensures { (e : EntryValue) → slice_get kept.now.entries place ≡ Some e →
-        option_to_list result ≡ live_ticket (listed_by status resource.now) e.client e.live }
+        option_to_list result ≡ live_ticket (listed_by claims resource.now) e.client e.live }
 {
     match kept.entries.get(place) {
-        Some(entry) => listed_ticket(&entry, status, resource),
+        Some(entry) => listed_ticket(&entry, claims, resource),
         None => None,
     }
 }
@@ -109,14 +116,14 @@ fn ticket_at(
 fn listed_tickets(
     alloc: Global,
     kept: &NodeRecord,
-    status: Status,
+    claims: Claims,
     resource: &ResourceName,
 ) -> Result<Vec<Ticket>, AllocError>
-    ensures { IfOk result (λ v. v.items ≡ live_tickets (listed_by status resource.now) kept.now.entries) }
+    ensures { IfOk result (λ v. v.items ≡ live_tickets (listed_by claims resource.now) kept.now.entries) }
 {
     let mut tickets = Vec::new(alloc);
     for place in 0..kept.entries.len() {
-        put(&mut tickets, ticket_at(kept, place, status, resource))?;
+        put(&mut tickets, ticket_at(kept, place, claims, resource))?;
     }
     Ok(tickets)
 }
@@ -126,16 +133,16 @@ pub(crate) fn tickets_at(
     alloc: Global,
     nodes: &[WorldNode],
     id: NodeId,
-    status: Status,
+    claims: Claims,
     resource: &ResourceName,
 ) -> Result<Vec<Ticket>, StepFault>
-    ensures { (w : ExactWorld) → w.nodes ≡ map node_part nodes.now → Tells (λ v. v.items) (listed status id resource.now w) result }
+    ensures { (w : ExactWorld) → w.nodes ≡ map node_part nodes.now → Tells (λ v. v.items) (listed claims id resource.now w) result }
 {
     let index = id.get() as usize - 1;
     if index >= nodes.len() {
         return Err(StepFault::UnknownActor);
     }
-    match listed_tickets(alloc, nodes[index].kept(), status, resource) {
+    match listed_tickets(alloc, nodes[index].kept(), claims, resource) {
         Ok(tickets) => Ok(tickets),
         Err(_) => Err(StepFault::Memory),
     }

@@ -23,6 +23,7 @@ pub(crate) enum ClientAct {
     Kept,
     Enter,
     Leave,
+    Soften,
     Fall,
     Rise(Age),
 }
@@ -91,6 +92,7 @@ pub(crate) fn turn_of(event: &Event) -> Turn
         Event::Hear(id, number) => Turn::Hears(id, number),
         Event::Enter(id) => Turn::Client(id, ClientAct::Enter),
         Event::Leave(id) => Turn::Client(id, ClientAct::Leave),
+        Event::Soften(id) => Turn::Client(id, ClientAct::Soften),
         Event::Fall(who) => turn_of_fall(who),
         Event::Rise(who, age) => turn_of_rise(who, age),
     }

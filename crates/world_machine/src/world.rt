@@ -16,10 +16,11 @@ ghost use Rattle.world_machine.specs.Keeping.{KeepsRecords};
 ghost use Rattle.world_machine.specs.Listing.{has_actor, kept_bytes, Tells, AreInside, IsInsideBy, AreWaiting, AreHolding};
 
 use crate::keeping::{see_last, see_records};
-use crate::listing::{client_bytes_at, node_bytes_at, ticket_inside, tickets_at, tickets_inside};
+use crate::listing::{
+    Claims, client_bytes_at, node_bytes_at, ticket_inside, tickets_at, tickets_inside,
+};
 use crate::stepping::{message_at, take_step};
 use lock_messages::{Actor, ClientId, Message, Mode, NodeId, ResourceName, Ticket};
-use lock_model::Status;
 use std::alloc::Global;
 use std::marker::Model;
 use vote_weights::BallotList;
@@ -178,7 +179,7 @@ impl World {
         ensures caused { IfOk result (λ tickets. (t : TicketValue) → Among t tickets.items → t.mode ≡ Mode.Read → Cause ((forget self.now).nodes node).kept Mode.Read resource.now) }
     {
         lists_are_the_sets();
-        tickets_at(self.alloc, &self.nodes, node, Status::Waiting, resource)
+        tickets_at(self.alloc, &self.nodes, node, Claims::Waiting, resource)
     }
 
     /// The tickets that hold the node's vote for the resource, in the station that the node has kept,
@@ -190,7 +191,7 @@ impl World {
         ensures set { IfOk result (λ tickets. AreHolding ((forget self.now).nodes node).kept resource.now tickets.items) }
     {
         lists_are_the_sets();
-        tickets_at(self.alloc, &self.nodes, node, Status::Holding, resource)
+        tickets_at(self.alloc, &self.nodes, node, Claims::Holding, resource)
     }
 
     /// The record of what the actor has kept.

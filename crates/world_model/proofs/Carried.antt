@@ -1,16 +1,17 @@
 -- What one relation between two worlds carries over: whatever the event was, stations, clients and what
 -- is said of all messages stay as they have to be, but for what the event's actor does itself.
-use Rattle.std.proofs.Common.{◌≡◌, ◌≢◌, ℕ, ◌+◌, ◌<◌, ◌≤◌, ◌⊎◌, Bool, List, Option, Some, None, IfSome, sym, ◌∙◌, subst, inl, inr, arith}
+use Rattle.std.proofs.Common.{◌≡◌, ◌≢◌, ℕ, ◌+◌, ◌<◌, ◌≤◌, ◌⊎◌, List, Option, Some, None, IfSome, sym, ◌∙◌, subst, inl, inr, arith}
 use Rattle.lock_messages.specs.declared.tickets.Mode.{Mode}
 use Rattle.lock_messages.specs.declared.tickets.Ticket.{Ticket}
 use Rattle.lock_messages.specs.declared.messages.Message.{Message}
-use Rattle.lock_messages.specs.declared.messages.Message.TheVariants.{Request, Release, Grant, Muddled}
+use Rattle.lock_messages.specs.declared.messages.Message.TheVariants.{Request, Release, Grant, Muddled, Soften}
 use Rattle.lock_model.specs.declared.entries.Status.{Status}
+use Rattle.lock_model.specs.declared.entries.Status.TheVariants.{Softened}
 use Rattle.lock_model.specs.Ballots.{Ballot}
-use Rattle.lock_model.specs.Stations.{Free, Has, Standing, Station}
+use Rattle.lock_model.specs.Stations.{Free, Has, Standing, Station, asked_mode}
 use Rattle.lock_model.specs.Decisions.{Among}
 use Rattle.world_model.specs.Worlds.{NodePhase, NodeDown, NodeIdle, Decided, Stored, Node, Present, ClientPhase, ClientDown, ClientIdle, Chosen, Asking, IsIn, Client, World, Setting, IfDecided, EachStation}
-use Rattle.world_model.specs.Invariants.{IsPresentIn, IsPresent, WasAsked, Owes, IsSafeStation, IsSafeNode, IsGranted, IsSafeTicket, IsSafeClient, IsSafe}
+use Rattle.world_model.specs.Invariants.{IsPresentIn, IsPresent, IsUnsoftened, WasAsked, Owes, IsSafeStation, IsSafeNode, IsGranted, IsSafeTicket, IsSafeClient, IsSafe}
 
 -- the ticket's attempt is one that the client has kept since
 abbrev pub IsNewer : World → World → ℕ → Ticket → Type 0
@@ -19,8 +20,10 @@ IsNewer w v c t = ((w.clients c).kept < t.attempt) × (t.attempt ≤ (v.clients 
 pub record Carries (w v : World) : Type 0 where
   pub kept : (c : ℕ) → (w.clients c).kept ≤ (v.clients c).kept
   pub present : (c : ℕ) (t : Ticket) → IsPresent v c t → IsPresent w c t ⊎ IsNewer w v c t
+  pub unsoftened : (c a : ℕ) → IsUnsoftened v c a → IsUnsoftened w c a ⊎ ((w.clients c).kept < a)
   pub requested : (n : ℕ) (t : Ticket) → Among (Request n t) v.sent → Among (Request n t) w.sent ⊎ IsPresent w t.client t
   pub released : (n c a : ℕ) → Among (Release n c a) v.sent → Among (Release n c a) w.sent ⊎ ((a ≤ (v.clients c).kept) × ((t : Ticket) → IsPresent v c t → a < t.attempt))
+  pub softening : (n c a : ℕ) → Among (Soften n c a) v.sent → Among (Soften n c a) w.sent ⊎ ((a ≤ (v.clients c).kept) × ¬ (IsUnsoftened v c a))
   pub muddled : (n c a : ℕ) → Among (Muddled n c a) v.sent → Among (Muddled n c a) w.sent
   pub grows : (m : Message) → Among m w.sent → Among m v.sent
 
@@ -62,6 +65,7 @@ owes-still w v carries c standing owes = record {
   within = record { floor = omega (arith, owes.within.floor, carries.kept c); live = λ apart. omega (arith, owes.within.live apart, carries.kept c) };
   present = λ t p. present t (carries.present c t p);
   agrees = λ t m x status claim asked client attempt. agrees t m x status claim client attempt (asked-before w v carries t asked);
+  softened = λ m x claim un. softened m x claim (carries.unsoftened c (standing.floor + 1) un);
 }
   where
     present : (t : Ticket) → IsPresent w c t ⊎ IsNewer w v c t → standing.floor < t.attempt
@@ -69,12 +73,16 @@ owes-still w v carries c standing owes = record {
     present t (inr new) = omega (arith, owes.within.floor, new.0)
 
     agrees : (t : Ticket) (m : Mode) (x : List ℕ) (status : Status) → standing.claim ≡ Has m x status → t.client ≡ c → t.attempt ≡ standing.floor + 1 →
-        WasAsked w t ⊎ (IsPresent v t.client t × IsNewer w v t.client t) → (m ≡ t.mode) × (x ≡ t.resource)
+        WasAsked w t ⊎ (IsPresent v t.client t × IsNewer w v t.client t) → (asked_mode m status ≡ t.mode) × (x ≡ t.resource)
     agrees t m x status claim client attempt (inl asked) = owes.agrees t m x status claim asked client attempt
     agrees t m x status claim client attempt (inr new) =
         let above : (w.clients c).kept < t.attempt = subst (λ d. (w.clients d).kept < t.attempt) client new.1.0 in
         let below : standing.floor + 1 ≤ (w.clients c).kept = owes.within.live (has-claim standing m x status claim) in
         absurd (omega (arith, above, below, attempt))
+
+    softened : (m : Mode) (x : List ℕ) → standing.claim ≡ Has m x Softened → IsUnsoftened w c (standing.floor + 1) ⊎ ((w.clients c).kept < standing.floor + 1) → ⊥
+    softened m x claim (inl un) = owes.softened m x claim un
+    softened m x claim (inr newer) = omega (arith, owes.within.live (has-claim standing m x Softened claim), newer)
 
 -- no Grant of node n is new
 abbrev pub NoNewGrant : ℕ → World → World → Type 0
@@ -130,6 +138,8 @@ all-safe s w v safe carries nodes clients = record {
   asked = λ t h. asked t (asked-before w v carries t h);
   released = λ n c a m. released n c a (carries.released n c a m);
   over = λ n c a t m p. over n c a t p (carries.released n c a m) (carries.present c t p);
+  softening = λ n c a m. softening n c a (carries.softening n c a m);
+  softened = λ n c a m un. softened n c a un (carries.softening n c a m) (carries.unsoftened c a un);
   none_muddled = λ n c a m. safe.none_muddled n c a (carries.muddled n c a m);
 }
   where
@@ -155,3 +165,12 @@ all-safe s w v safe carries nodes clients = record {
     over n c a t p (inr new) other = new.1 t p
     over n c a t p (inl m) (inl q) = safe.over n c a t m q
     over n c a t p (inl m) (inr newer) = omega (arith, safe.released n c a m, newer.0)
+
+    softening : (n c a : ℕ) → Among (Soften n c a) w.sent ⊎ ((a ≤ (v.clients c).kept) × ¬ (IsUnsoftened v c a)) → a ≤ (v.clients c).kept
+    softening n c a (inl m) = omega (arith, safe.softening n c a m, carries.kept c)
+    softening n c a (inr new) = new.0
+
+    softened : (n c a : ℕ) → IsUnsoftened v c a → Among (Soften n c a) w.sent ⊎ ((a ≤ (v.clients c).kept) × ¬ (IsUnsoftened v c a)) → IsUnsoftened w c a ⊎ ((w.clients c).kept < a) → ⊥
+    softened n c a un (inr new) other = new.1 un
+    softened n c a un (inl m) (inl before) = safe.softened n c a m before
+    softened n c a un (inl m) (inr newer) = omega (arith, safe.softening n c a m, newer)

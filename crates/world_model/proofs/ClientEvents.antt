@@ -5,15 +5,15 @@ use Rattle.std.proofs.lemmas.Bool.{cases_eq, or_cases, eqb-true}
 use Rattle.lock_messages.specs.declared.tickets.Mode.{Mode}
 use Rattle.lock_messages.specs.declared.tickets.Ticket.{Ticket}
 use Rattle.lock_messages.specs.declared.messages.Message.{Message}
-use Rattle.lock_messages.specs.declared.messages.Message.TheVariants.{Request, Release, Grant, Muddled}
+use Rattle.lock_messages.specs.declared.messages.Message.TheVariants.{Request, Release, Grant, Muddled, Soften}
 use Rattle.lock_model.specs.declared.hearing.Heard.TheVariants as heard
 use Rattle.lock_model.specs.Ballots.{Ballot, IsEnough, ballot_at, node_count, votes_at, votes_of, nodes}
 use Rattle.lock_model.specs.Decisions.{Among}
 use Rattle.lock_model.specs.Hearing.{HearsOfTicket}
 use Rattle.world_model.specs.declared.events.Age.{Age}
 use Rattle.world_model.specs.declared.events.Age.TheVariants.{Old, New}
-use Rattle.world_model.specs.Worlds.{Present, Client, World, Setting, OfClient, ByClient, Begins, begins, TriesAttempt, tries_attempt, KeepsAttempt, keeps_attempt, grants_from, gained, Hears, counts, counts_inside, passes, passes_inside, passes_idle, passes_chosen, Enters, enters, Leaves, gives_up, leaves, ClientFalls, client_falls, ClientRises, client_rises_old, client_rises_new}
-use Rattle.world_model.specs.Invariants.{IsPresentIn, IsPresent, IsGranted, IsSafeClient, IsSafeNode, IsSafe}
+use Rattle.world_model.specs.Worlds.{Present, Client, World, Setting, OfClient, ByClient, Begins, begins, TriesAttempt, tries_attempt, KeepsAttempt, keeps_attempt, grants_from, gained, Hears, counts, counts_inside, passes, passes_inside, passes_softened, passes_idle, passes_chosen, Enters, enters, Leaves, gives_up, leaves, Softens, softens, ClientFalls, client_falls, ClientRises, client_rises_old, client_rises_new}
+use Rattle.world_model.specs.Invariants.{IsPresentIn, IsPresent, IsUnsoftenedIn, IsUnsoftened, IsGranted, IsSafeClient, IsSafeNode, IsSafe}
 use Rattle.world_model.proofs.Carried.{self-le, IsNewer, Carries, node-still, client-still, all-safe}
 
 -- a present ticket after is one before, or is of an attempt that was kept since
@@ -27,6 +27,7 @@ SameOrNewer w v d t = IsPresent w d t ⊎ IsNewer w v d t
 pub record GoesSafely (b : List Ballot) (w : World) (c : ℕ) (before after : Client) : Type 0 where
   pub kept : before.kept ≤ after.kept
   pub present : (t : Ticket) → IsPresentIn t after.phase → IsSameOrNewer before after t
+  pub unsoftened : (a : ℕ) → IsUnsoftenedIn a after.phase → IsUnsoftenedIn a before.phase ⊎ (before.kept < a)
   pub safe : IsSafeClient b w c after
 
 silent-keeps : (s : Setting) (c : ℕ) (w : World) (before after : Client) (v : World) → IsSafe s w → OfClient s c w before after [] v → (IsSafeClient s.ballots w c before → GoesSafely s.ballots w c before after) → IsSafe s v
@@ -57,12 +58,20 @@ silent-keeps s c w before after v safe of own = all-safe s w v safe carries node
         subst (λ x. SameOrNewer w v x t) (sym e) (present-here t (goes.present t (subst (λ (k : Client). IsPresentIn t k.phase) of.is (subst (λ x. IsPresent v x t) e p))))
     present d t (inr apart) p = inl (subst (λ (k : Client). IsPresentIn t k.phase) (of.others d apart) p)
 
+    unsoftened : (d a : ℕ) → (d ≡ c) ⊎ (d ≢ c) → IsUnsoftened v d a → IsUnsoftened w d a ⊎ ((w.clients d).kept < a)
+    unsoftened d a (inl e) un =
+        subst (λ x. IsUnsoftened w x a ⊎ ((w.clients x).kept < a)) (sym e)
+        (subst (λ (k : Client). IsUnsoftenedIn a k.phase ⊎ (k.kept < a)) (sym of.was) (goes.unsoftened a (subst (λ (k : Client). IsUnsoftenedIn a k.phase) of.is (subst (λ x. IsUnsoftened v x a) e un))))
+    unsoftened d a (inr apart) un = inl (subst (λ (k : Client). IsUnsoftenedIn a k.phase) (of.others d apart) un)
+
     carries : Carries w v
     carries = record {
       kept = λ d. kept d (cases_eq d c);
       present = λ d t p. present d t (cases_eq d c) p;
+      unsoftened = λ d a un. unsoftened d a (cases_eq d c) un;
       requested = λ n t h. inl (old (Request n t) h);
       released = λ n d a h. inl (old (Release n d a) h);
+      softening = λ n d a h. inl (old (Soften n d a) h);
       muddled = λ n d a h. old (Muddled n d a) h;
       grows = λ x h. (of.sends x).1 (inl h);
     }
@@ -80,6 +89,7 @@ begins-safe : (b : List Ballot) (w : World) (c : ℕ) (m : Mode) (x : List ℕ) 
 begins-safe b w c m x place before after (begins kept tried below placed) safe = record {
   kept = self-le kept;
   present = λ t p. absurd p;
+  unsoftened = λ a un. absurd un;
   safe = record { tried = safe.tried; ticket = (refl, refl, placed) };
 }
 
@@ -87,6 +97,7 @@ tries-safe : (b : List Ballot) (w : World) (c : ℕ) (before after : Client) →
 tries-safe b w c before after (tries_attempt kept t place) safe = record {
   kept = self-le kept;
   present = λ u p. absurd p;
+  unsoftened = λ a un. absurd un;
   safe = record { tried = safe.ticket.1; ticket = safe.ticket };
 }
 
@@ -94,6 +105,7 @@ keeps-safe : (b : List Ballot) (w : World) (c : ℕ) (before after : Client) →
 keeps-safe b w c before after (keeps_attempt kept a t place) safe = record {
   kept = omega (arith, safe.tried);
   present = λ u p. inr (newer u p);
+  unsoftened = λ b un. inr (subst (λ x. kept < x) un.0 (newer t refl).0);
   safe = record { tried = tt; ticket = record { placed = safe.ticket.2; client = safe.ticket.0; attempt_is = safe.ticket.1 ∙ sym safe.tried; grants = λ n g. absurd (let q : false ≡ true = g in cc) } };
 }
   where
@@ -143,35 +155,51 @@ hears-safe : (b : List Ballot) (w : World) (c : ℕ) (m : Message) (before after
 hears-safe b w c m before after sent (counts kept tried p h) safe = record {
   kept = self-le kept;
   present = λ u h. inl h;
+  unsoftened = λ a un. inl un;
   safe = record { tried = safe.tried; ticket = gained-granted b w c kept m p sent h safe.ticket };
 }
-hears-safe b w c m before after sent (counts_inside kept tried p h) safe = record {
+hears-safe b w c m before after sent (counts_inside kept tried p whole h) safe = record {
   kept = self-le kept;
   present = λ u h. inl h;
+  unsoftened = λ a un. inl un;
   safe = record { tried = safe.tried; ticket = (gained-granted b w c kept m p sent h safe.ticket.0, gained-enough (ballot_at b p.place) p.ticket.mode m p safe.ticket.1) };
 }
-hears-safe b w c m before after sent (passes kept tried p h hears apart) safe = record { kept = self-le kept; present = λ u h. inl h; safe = safe }
-hears-safe b w c m before after sent (passes_inside kept tried p h hears apart) safe = record { kept = self-le kept; present = λ u h. inl h; safe = safe }
-hears-safe b w c m before after sent (passes_idle kept tried h hears) safe = record { kept = self-le kept; present = λ u p. inl p; safe = safe }
-hears-safe b w c m before after sent (passes_chosen kept tried t place) safe = record { kept = self-le kept; present = λ u p. inl p; safe = safe }
+hears-safe b w c m before after sent (passes kept tried p h hears apart) safe = record { kept = self-le kept; present = λ u h. inl h; unsoftened = λ a un. inl un; safe = safe }
+hears-safe b w c m before after sent (passes_inside kept tried p h whole hears apart) safe = record { kept = self-le kept; present = λ u h. inl h; unsoftened = λ a un. inl un; safe = safe }
+hears-safe b w c m before after sent (passes_softened kept tried p h softened hears) safe = record { kept = self-le kept; present = λ u h. inl h; unsoftened = λ a un. inl un; safe = safe }
+hears-safe b w c m before after sent (passes_idle kept tried h hears) safe = record { kept = self-le kept; present = λ u p. inl p; unsoftened = λ a un. inl un; safe = safe }
+hears-safe b w c m before after sent (passes_chosen kept tried t place) safe = record { kept = self-le kept; present = λ u p. inl p; unsoftened = λ a un. inl un; safe = safe }
 
 enters-safe : (b : List Ballot) (w : World) (c : ℕ) (before after : Client) → Enters b before after → IsSafeClient b w c before → GoesSafely b w c before after
 enters-safe b w c before after (enters kept tried p enough) safe = record {
   kept = self-le kept;
   present = λ u h. inl h;
+  unsoftened = λ a un. inl un;
   safe = record { tried = safe.tried; ticket = (safe.ticket, enough) };
 }
 
 leaves-safe : (b : List Ballot) (w : World) (c : ℕ) (before after : Client) → Leaves before after → IsSafeClient b w c before → GoesSafely b w c before after
-leaves-safe b w c before after (gives_up kept tried p) safe = record { kept = self-le kept; present = λ u h. absurd h; safe = record { tried = safe.tried; ticket = tt } }
-leaves-safe b w c before after (leaves kept tried p) safe = record { kept = self-le kept; present = λ u h. absurd h; safe = record { tried = safe.tried; ticket = tt } }
+leaves-safe b w c before after (gives_up kept tried p) safe = record { kept = self-le kept; present = λ u h. absurd h; unsoftened = λ a un. absurd un; safe = record { tried = safe.tried; ticket = tt } }
+leaves-safe b w c before after (leaves kept tried p) safe = record { kept = self-le kept; present = λ u h. absurd h; unsoftened = λ a un. absurd un; safe = record { tried = safe.tried; ticket = tt } }
+
+-- the votes stay as they are, and so does the ticket that was asked with
+softens-safe : (b : List Ballot) (w : World) (c : ℕ) (before after : Client) → Softens before after → IsSafeClient b w c before → GoesSafely b w c before after
+softens-safe b w c before after (softens kept tried p writes whole) safe = record {
+  kept = self-le kept;
+  present = λ u h. inl h;
+  unsoftened = λ a un. absurd (let q : true ≡ false = un.1 in cc);
+  safe = record { tried = safe.tried; ticket = (record { placed = granted.placed; client = granted.client; attempt_is = granted.attempt_is; grants = granted.grants }, safe.ticket.1) };
+}
+  where
+    granted : IsGranted b w c kept p
+    granted = safe.ticket.0
 
 falls-safe : (b : List Ballot) (w : World) (c : ℕ) (before after : Client) → ClientFalls before after → IsSafeClient b w c before → GoesSafely b w c before after
-falls-safe b w c before after (client_falls kept tried phase up) safe = record { kept = self-le kept; present = λ u p. absurd p; safe = record { tried = safe.tried; ticket = tt } }
+falls-safe b w c before after (client_falls kept tried phase up) safe = record { kept = self-le kept; present = λ u p. absurd p; unsoftened = λ a un. absurd un; safe = record { tried = safe.tried; ticket = tt } }
 
 rises-safe : (b : List Ballot) (w : World) (c : ℕ) (age : Age) (before after : Client) → ClientRises age before after → IsSafeClient b w c before → GoesSafely b w c before after
-rises-safe b w c Old before after (client_rises_old kept tried) safe = record { kept = self-le kept; present = λ u p. absurd p; safe = record { tried = tt; ticket = tt } }
-rises-safe b w c New before after (client_rises_new kept a) safe = record { kept = omega (arith, safe.tried); present = λ u p. absurd p; safe = record { tried = tt; ticket = tt } }
+rises-safe b w c Old before after (client_rises_old kept tried) safe = record { kept = self-le kept; present = λ u p. absurd p; unsoftened = λ a un. absurd un; safe = record { tried = tt; ticket = tt } }
+rises-safe b w c New before after (client_rises_new kept a) safe = record { kept = omega (arith, safe.tried); present = λ u p. absurd p; unsoftened = λ a un. absurd un; safe = record { tried = tt; ticket = tt } }
 
 -- the whole, by the relation
 
@@ -195,6 +223,9 @@ enters-keeps s c w v safe h = by-client-keeps s c (Enters s.ballots) w v safe h 
 
 pub leaves-keeps : (s : Setting) (c : ℕ) (w v : World) → IsSafe s w → ByClient s w v c Leaves → IsSafe s v
 leaves-keeps s c w v safe h = by-client-keeps s c Leaves w v safe h (leaves-safe s.ballots w c)
+
+pub softens-keeps : (s : Setting) (c : ℕ) (w v : World) → IsSafe s w → ByClient s w v c Softens → IsSafe s v
+softens-keeps s c w v safe h = by-client-keeps s c Softens w v safe h (softens-safe s.ballots w c)
 
 pub falls-keeps : (s : Setting) (c : ℕ) (w v : World) → IsSafe s w → ByClient s w v c ClientFalls → IsSafe s v
 falls-keeps s c w v safe h = by-client-keeps s c ClientFalls w v safe h (falls-safe s.ballots w c)

@@ -1,20 +1,21 @@
 -- What a client says keeps the world safe: a request is of its present ticket, a release of an attempt
--- that is over.
-use Rattle.std.proofs.Common.{◌≡◌, ◌≢◌, ℕ, ◌<◌, ◌≤◌, ◌⊎◌, List, [], ◌∷◌, refl, sym, ◌∙◌, subst, inl, inr}
+-- that is over, a softening of one that it has softened.
+use Rattle.std.proofs.Common.{◌≡◌, ◌≢◌, ℕ, ◌<◌, ◌≤◌, ◌⊎◌, true, false, List, [], ◌∷◌, refl, sym, ◌∙◌, subst, inl, inr}
 use Rattle.std.proofs.lemmas.Bool.{cases_eq}
 use Rattle.lock_messages.specs.declared.tickets.Ticket.{Ticket}
 use Rattle.lock_messages.specs.declared.messages.Message.{Message}
-use Rattle.lock_messages.specs.declared.messages.Message.TheVariants.{Request, Release, Grant, Muddled}
+use Rattle.lock_messages.specs.declared.messages.Message.TheVariants.{Request, Release, Grant, Muddled, Soften}
 use Rattle.lock_model.specs.Decisions.{Among}
-use Rattle.world_model.specs.Worlds.{Client, World, Setting, OfClient, Tells, asks, asks_inside, releases}
-use Rattle.world_model.specs.Invariants.{IsPresentIn, IsPresent, IsSafeClient, IsSafeNode, IsSafe}
+use Rattle.world_model.specs.Worlds.{Client, World, Setting, OfClient, Tells, asks, asks_inside, tells_softened, releases}
+use Rattle.world_model.specs.Invariants.{IsPresentIn, IsPresent, IsUnsoftenedIn, IsUnsoftened, IsSafeClient, IsSafeNode, IsSafe}
 use Rattle.world_model.proofs.Carried.{self-le, Carries, node-still, client-still, all-safe}
 
 -- a message that a client may say: no Grant and no Muddled, a request of a present ticket only, a
--- release of an attempt that is over only
+-- release of an attempt that is over only, a softening of one that is kept and softened only
 record MaySay (w : World) (m : Message) : Type 0 where
   request : (n : ℕ) (t : Ticket) → m ≡ Request n t → IsPresent w t.client t
   release : (n c a : ℕ) → m ≡ Release n c a → (a ≤ (w.clients c).kept) × ((t : Ticket) → IsPresent w c t → a < t.attempt)
+  soften : (n c a : ℕ) → m ≡ Soften n c a → (a ≤ (w.clients c).kept) × ¬ (IsUnsoftened w c a)
   grant : (n : ℕ) (t : Ticket) → m ≢ Grant n t
   muddled : (n c a : ℕ) → m ≢ Muddled n c a
 
@@ -56,12 +57,23 @@ one-keeps s c w before m v safe of may = all-safe s w v safe carries nodes clien
         let r = may.release n d a e in
         inr (subst (λ (k : Client). a ≤ k.kept) (sym (same d)) r.0, λ t p. r.1 t (present d t p))
 
+    unsoftened : (d a : ℕ) → IsUnsoftened v d a → IsUnsoftened w d a
+    unsoftened d a un = subst (λ (k : Client). IsUnsoftenedIn a k.phase) (same d) un
+
+    softening : (n d a : ℕ) → Among (Soften n d a) w.sent ⊎ (m ≡ Soften n d a) → Among (Soften n d a) w.sent ⊎ ((a ≤ (v.clients d).kept) × ¬ (IsUnsoftened v d a))
+    softening n d a (inl h) = inl h
+    softening n d a (inr e) =
+        let r = may.soften n d a e in
+        inr (subst (λ (k : Client). a ≤ k.kept) (sym (same d)) r.0, λ un. r.1 (unsoftened d a un))
+
     carries : Carries w v
     carries = record {
       kept = λ d. subst (λ (k : Client). (w.clients d).kept ≤ k.kept) (sym (same d)) (self-le (w.clients d).kept);
       present = λ d t p. inl (present d t p);
+      unsoftened = λ d a un. inl (unsoftened d a un);
       requested = λ n t h. requested n t (new (Request n t) h);
       released = λ n d a h. released n d a (new (Release n d a) h);
+      softening = λ n d a h. softening n d a (new (Soften n d a) h);
       muddled = λ n d a h. old (Muddled n d a) (may.muddled n d a) h;
       grows = λ x h. (of.sends x).1 (inl h);
     }
@@ -77,6 +89,7 @@ request-may : (w : World) (n : ℕ) (t : Ticket) → IsPresent w t.client t → 
 request-may w n t present = record {
   request = λ k u e. (let q : Request n t ≡ Request k u = e in let same : t ≡ u = cc in subst (λ (x : Ticket). IsPresent w x.client x) same present);
   release = λ k c a e. absurd (let q : Request n t ≡ Release k c a = e in cc);
+  soften = λ k c a e. absurd (let q : Request n t ≡ Soften k c a = e in cc);
   grant = λ k u e. (let q : Request n t ≡ Grant k u = e in cc);
   muddled = λ k c a e. (let q : Request n t ≡ Muddled k c a = e in cc);
 }
@@ -90,8 +103,23 @@ release-may w n c a below absent = record {
       let client : c ≡ d = cc in
       let attempt : a ≡ b = cc in
       (subst (λ x. b ≤ (w.clients x).kept) client (subst (λ x. x ≤ (w.clients c).kept) attempt below), λ t p. absurd (absent t (subst (λ x. IsPresent w x t) (sym client) p))));
+  soften = λ k d b e. absurd (let q : Release n c a ≡ Soften k d b = e in cc);
   grant = λ k u e. (let q : Release n c a ≡ Grant k u = e in cc);
   muddled = λ k d b e. (let q : Release n c a ≡ Muddled k d b = e in cc);
+}
+
+-- a softening of an attempt that is kept and softened
+soften-may : (w : World) (n c a : ℕ) → a ≤ (w.clients c).kept → ¬ (IsUnsoftened w c a) → MaySay w (Soften n c a)
+soften-may w n c a below done = record {
+  request = λ k u e. absurd (let q : Soften n c a ≡ Request k u = e in cc);
+  release = λ k d b e. absurd (let q : Soften n c a ≡ Release k d b = e in cc);
+  soften = λ k d b e.
+      (let q : Soften n c a ≡ Soften k d b = e in
+      let client : c ≡ d = cc in
+      let attempt : a ≡ b = cc in
+      subst (λ x. (b ≤ (w.clients x).kept) × ¬ (IsUnsoftened w x b)) client (subst (λ x. (x ≤ (w.clients c).kept) × ¬ (IsUnsoftened w c x)) attempt (below, done)));
+  grant = λ k u e. (let q : Soften n c a ≡ Grant k u = e in cc);
+  muddled = λ k d b e. (let q : Soften n c a ≡ Muddled k d b = e in cc);
 }
 
 pub tells-keeps : (s : Setting) (c n : ℕ) (w : World) (before : Client) (said : List Message) (v : World) → IsSafe s w → Tells c n before said → OfClient s c w before before said v → IsSafe s v
@@ -100,11 +128,22 @@ tells-keeps s c n w before said v safe (asks kept tried p) of =
   where
     own : IsSafeClient s.ballots w c before
     own = subst (IsSafeClient s.ballots w c) of.was (safe.clients c)
-tells-keeps s c n w before said v safe (asks_inside kept tried p) of =
+tells-keeps s c n w before said v safe (asks_inside kept tried p whole) of =
     one-keeps s c w before (Request n p.ticket) v safe of (request-may w n p.ticket (subst (λ d. IsPresent w d p.ticket) (sym own.ticket.0.client) (subst (λ (k : Client). IsPresentIn p.ticket k.phase) (sym of.was) refl)))
   where
     own : IsSafeClient s.ballots w c before
     own = subst (IsSafeClient s.ballots w c) of.was (safe.clients c)
+tells-keeps s c n w before said v safe (tells_softened kept tried p softened) of =
+    one-keeps s c w before (Soften n c p.ticket.attempt) v safe of
+    (soften-may w n c p.ticket.attempt (subst (λ (k : Client). p.ticket.attempt ≤ k.kept) (sym of.was) (subst (λ a. p.ticket.attempt ≤ a) own.ticket.0.attempt_is (self-le p.ticket.attempt))) done)
+  where
+    own : IsSafeClient s.ballots w c before
+    own = subst (IsSafeClient s.ballots w c) of.was (safe.clients c)
+
+    done : IsUnsoftened w c p.ticket.attempt → ⊥
+    done un =
+        let whole : p.softened ≡ false = (subst (λ (k : Client). IsUnsoftenedIn p.ticket.attempt k.phase) of.was un).1 in
+        let q : true ≡ false = sym softened ∙ whole in cc
 tells-keeps s c n w before said v safe (releases kept tried some) of =
     one-keeps s c w before (Release n c kept) v safe of
     (release-may w n c kept (subst (λ (k : Client). kept ≤ k.kept) (sym of.was) (self-le kept)) (λ t p. subst (λ (k : Client). IsPresentIn t k.phase) of.was p))

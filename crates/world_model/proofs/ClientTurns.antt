@@ -1,14 +1,16 @@
 -- What a client's turns are told to be.
-use Rattle.std.proofs.Common.{◌≡◌, ◌≢◌, ℕ, ◌+◌, ◌≤◌, ◌==◌, true, nat_lt, nat_le, List, [], ◌∷◌, length, Option, Some, None, Err, refl, arith}
+use Rattle.std.proofs.Common.{◌≡◌, ◌≢◌, ℕ, ◌+◌, ◌≤◌, ◌==◌, ◌&&◌, Bool, true, false, not, cond, nat_lt, nat_le, List, [], ◌∷◌, Option, Some, None, Err, refl, arith}
 use Rattle.std.proofs.lemmas.Bool.Decides.{nat_tests}
 use Rattle.lock_messages.specs.declared.ids.TheConstants.{MAX_ATTEMPT}
 use Rattle.lock_messages.specs.declared.ids.Actor.TheVariants as actor
 use Rattle.lock_messages.specs.declared.tickets.Mode.{Mode}
+use Rattle.lock_messages.specs.declared.tickets.Mode.TheVariants.{Read, Write}
 use Rattle.lock_messages.specs.declared.tickets.Ticket.{Ticket}
 use Rattle.lock_messages.specs.declared.messages.Message.{Message}
 use Rattle.lock_messages.specs.declared.messages.Message.TheVariants as message
-use Rattle.lock_model.specs.Ballots.{HasAnyNode, HasPlace, has_place, ballot_at, node_count, needed, votes_of}
+use Rattle.lock_model.specs.Ballots.{HasAnyNode, has_place, ballot_at, node_count, needed, votes_of}
 use Rattle.lock_model.specs.ExactHearing.{is_node_of}
+use Rattle.lock_model.specs.ExactStations.{is_write}
 use Rattle.vote_weights.specs.Sets.{has_node}
 use Rattle.world_model.specs.declared.events.Age.{Age}
 use Rattle.world_model.specs.declared.events.Age.TheVariants.{Old, New}
@@ -22,13 +24,14 @@ use Rattle.world_model.specs.declared.exact.ExactPresent.{ExactPresent}
 use Rattle.world_model.specs.declared.exact.ExactClientPhase.{ExactClientPhase}
 use Rattle.world_model.specs.declared.exact.ExactClientPhase.TheVariants as exact
 use Rattle.world_model.specs.declared.exact.ExactWorld.{ExactWorld}
-use Rattle.world_model.specs.Worlds.{Client, ClientDown, ClientIdle, Chosen, Asking, IsIn, World, Setting, OfClient, ByClient, Happens, Begins, begins, TriesAttempt, tries_attempt, KeepsAttempt, keeps_attempt, Tells, asks, asks_inside, releases, Enters, enters, Leaves, gives_up, leaves, ClientFalls, client_falls, ClientRises, client_rises_old, client_rises_new}
+use Rattle.world_model.specs.Worlds.{Client, ClientDown, ClientIdle, Chosen, Asking, IsIn, World, Setting, OfClient, ByClient, Happens, Begins, begins, TriesAttempt, tries_attempt, KeepsAttempt, keeps_attempt, Tells, asks, asks_inside, tells_softened, releases, Enters, enters, Leaves, gives_up, leaves, Softens, softens, ClientFalls, client_falls, ClientRises, client_rises_old, client_rises_new}
 use Rattle.world_model.specs.Turns.{Turns, acts}
-use Rattle.world_model.specs.ExactClients.{client_in, next_ticket, begins_by, begins_in, tries_attempt_with, tries_attempt_in, first_of, keeps_attempt_with, keeps_attempt_in, says_one, tells_in, tells, enters_in, leaves_in, client_falls_in, client_rises_with, client_rises_in}
+use Rattle.world_model.specs.ExactClients.{client_in, next_ticket, begins_by, begins_in, tries_attempt_with, tries_attempt_in, first_of, keeps_attempt_with, keeps_attempt_in, says_one, said_inside, tells_in, tells, enters_in, leaves_in, soft, softens_in, client_falls_in, client_rises_with, client_rises_in}
 use Rattle.world_model.specs.Forgetting.{present_of, client_phase_of, client_of, IsSoundClient}
 use Rattle.world_model.specs.Laws.{IsNumbered}
 use Rattle.world_model.specs.Locality.{IsEffectOf, IsAsListed}
 use Rattle.world_model.proofs.RoomFacts.{fits-one}
+use Rattle.world_model.proofs.EntryFacts.{both-parts}
 use Rattle.world_model.proofs.Told.{Kind, Told, told-if}
 
 -- clients of this number, in this setting
@@ -124,6 +127,14 @@ speaking s c n k m known does =
       full = refl;
     }
 
+-- inside, the request or, once it has softened, that
+inside-tells : (c n : ℕ) (k : ExactClient) (p : ExactPresent) → Tells c n (client_of (client_in k (exact.Inside p))) (said_inside c n p ∷ [])
+inside-tells c n k p = go p.softened refl
+  where
+    go : (b : Bool) → p.softened ≡ b → Tells c n (client_of (client_in k (exact.Inside p))) (cond b (message.Soften n c p.ticket.attempt) (message.Request n p.ticket) ∷ [])
+    go true e = tells_softened k.kept k.tried (present_of p) e
+    go false e = asks_inside k.kept k.tried (present_of p) e
+
 pub tells-told : (s : Setting) (c n : ℕ) (k : ExactClient) → ClientTold s (event.SayTo c n) c k (tells s.ballots c n k)
 tells-told s c n k =
     told-if ExactClient (clients s c) s (event.SayTo c n) k (is_node_of (node_count s.ballots) n) (tells_in c n k k.phase) (Err fault.UnknownActor)
@@ -136,9 +147,9 @@ tells-told s c n k =
         (λ _. refl) (λ some. speaking s c n (client_in k exact.Idle) (message.Release n c k.kept) known (releases k.kept k.tried (grind (arith, nat_tests))))
     go known (exact.Chosen t place) = refl
     go known (exact.Asking p) = speaking s c n (client_in k (exact.Asking p)) (message.Request n p.ticket) known (asks k.kept k.tried (present_of p))
-    go known (exact.Inside p) = speaking s c n (client_in k (exact.Inside p)) (message.Request n p.ticket) known (asks_inside k.kept k.tried (present_of p))
+    go known (exact.Inside p) = speaking s c n (client_in k (exact.Inside p)) (said_inside c n p) known (inside-tells c n k p)
 
--- Enter, and Leave
+-- Enter, Leave, and Soften
 
 pub enters-told : (s : Setting) (c : ℕ) (k : ExactClient) → ClientTold s (event.Enter c) c k (enters_in s.ballots k k.phase)
 enters-told s c k = go k.phase
@@ -171,6 +182,32 @@ leaves-told s c k = go k.phase
     go (exact.Chosen t place) = refl
     go (exact.Asking p) = out (exact.Asking p) (gives_up k.kept k.tried (present_of p))
     go (exact.Inside p) = out (exact.Inside p) (leaves k.kept k.tried (present_of p))
+
+pub is-writer : (m : Mode) → is_write m ≡ true → m ≡ Write
+is-writer Read e = absurd (let q : false ≡ true = e in cc)
+is-writer Write e = refl
+
+pub is-whole : (b : Bool) → not b ≡ true → b ≡ false
+is-whole true e = absurd (let q : false ≡ true = e in cc)
+is-whole false e = refl
+
+pub softens-told : (s : Setting) (c : ℕ) (k : ExactClient) → ClientTold s (event.Soften c) c k (softens_in k k.phase)
+softens-told s c k = go k.phase
+  where
+    inside : (p : ExactPresent) → (is_write p.ticket.mode && not p.softened) ≡ true → ClientTold s (event.Soften c) c (client_in k (exact.Inside p)) (acts (client_in k (exact.Inside (soft p))) effect.Softened)
+    inside p may =
+        let both = both-parts (is_write p.ticket.mode) (not p.softened) may in
+        acting s (event.Soften c) c Softens (λ w v h. h) (client_in k (exact.Inside p)) (client_in k (exact.Inside (soft p))) effect.Softened
+        (softens k.kept k.tried (present_of p) (is-writer p.ticket.mode both.0) (is-whole p.softened both.1)) (λ ok. record { kept = ok.kept; tried = ok.tried; chosen = tt }) refl (λ w. tt) (λ w. tt)
+
+    go : (p : ExactClientPhase) → ClientTold s (event.Soften c) c (client_in k p) (softens_in (client_in k p) p)
+    go exact.Down = refl
+    go exact.Idle = refl
+    go (exact.Chosen t place) = refl
+    go (exact.Asking p) = refl
+    go (exact.Inside p) =
+        told-if ExactClient (clients s c) s (event.Soften c) (client_in k (exact.Inside p)) (is_write p.ticket.mode && not p.softened)
+        (acts (client_in k (exact.Inside (soft p))) effect.Softened) (Err fault.WrongPhase) (inside p) (λ _. refl)
 
 -- Fall, and Rise
 

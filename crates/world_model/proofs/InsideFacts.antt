@@ -5,7 +5,7 @@ use Rattle.std.specs.List.{flat_map}
 use Rattle.std.specs.Str.{bytes_eq}
 use Rattle.std.proofs.lemmas.Slice.Eq.{bytes_eq-Decides}
 use Rattle.lock_messages.specs.declared.tickets.Mode.{Mode}
-use Rattle.lock_messages.specs.declared.tickets.Mode.TheVariants.{Write}
+use Rattle.lock_messages.specs.declared.tickets.Mode.TheVariants.{Read, Write}
 use Rattle.lock_messages.specs.declared.tickets.Ticket.{Ticket}
 use Rattle.lock_model.specs.Decisions.{Among}
 use Rattle.lock_model.specs.Laws.{EnoughSetsShareANodeOfBoth, AnyTwoCross}
@@ -14,12 +14,11 @@ use Rattle.world_model.specs.declared.exact.ExactPresent.{ExactPresent}
 use Rattle.world_model.specs.declared.exact.ExactClientPhase.{ExactClientPhase}
 use Rattle.world_model.specs.declared.exact.ExactClientPhase.TheVariants as client
 use Rattle.world_model.specs.declared.exact.ExactWorld.{ExactWorld}
-use Rattle.vote_weights.specs.Sets.{has_node}
-use Rattle.world_model.specs.Worlds.{Present, ClientDown, IsIn, Client, IsInside}
+use Rattle.world_model.specs.Worlds.{Present, ClientDown, IsIn, Client, present_mode, IsInside}
 use Rattle.world_model.specs.Invariants.{IsSafeTicket}
 use Rattle.world_model.specs.ExactWorlds.{numbered}
 use Rattle.world_model.specs.Forgetting.{present_of, client_phase_of, client_numbered, forget, setting_of, IsSound}
-use Rattle.world_model.specs.Views.{ticket_in, ticket_for, inside}
+use Rattle.world_model.specs.Views.{softened_ticket, present_ticket, ticket_in, ticket_for, inside}
 use Rattle.world_model.proofs.ListFacts.{among-append, numbered-among, among-got, got-numbered}
 use Rattle.world_model.proofs.PhaseFacts.{client-inside}
 use Rattle.world_model.proofs.ExclusionFacts.{exclusive}
@@ -54,11 +53,29 @@ only-one f (z ∷ xs) (suc i) x y is gives none =
     ap (λ l. l ++ flat_map f xs) (none zero z refl (λ e. let p : zero ≡ suc i = e in absurd (omega (arith, p))))
     ∙ only-one f xs i x y is gives (λ j u h apart. none (suc j) u h (λ e. apart (omega (arith, e))))
 
+-- A present ticket is one of the client and the resource that it was asked with, in the mode in which the
+-- client is inside.
+
+abbrev as_reader : Bool → Ticket → Ticket
+as_reader softened t = cond softened (softened_ticket t) t
+
+reader-client : (softened : Bool) (t : Ticket) → (as_reader softened t).client ≡ t.client
+reader-client true t = refl
+reader-client false t = refl
+
+reader-resource : (softened : Bool) (t : Ticket) → (as_reader softened t).resource ≡ t.resource
+reader-resource true t = refl
+reader-resource false t = refl
+
+reader-mode : (softened : Bool) (t : Ticket) → (as_reader softened t).mode ≡ cond softened Read t.mode
+reader-mode true t = refl
+reader-mode false t = refl
+
 -- a client's ticket for a resource
 pub record HasTicket (x : List ℕ) (k : ExactClient) (t : Ticket) : Type 0 where
   pub present : ExactPresent
   pub phase : k.phase ≡ client.Inside present
-  pub ticket : present.ticket ≡ t
+  pub ticket : present_ticket present ≡ t
   pub resource : t.resource ≡ x
 
 abbrev tickets : List ℕ → ExactClient → List Ticket
@@ -67,9 +84,9 @@ tickets x k = ticket_for x (ticket_in k.phase)
 has-ticket : (x : List ℕ) (k : ExactClient) (t : Ticket) → Among t (tickets x k) → HasTicket x k t
 has-ticket x k t m = go k.phase refl m
   where
-    for : (p : ExactPresent) (b : Bool) → k.phase ≡ client.Inside p → bytes_eq p.ticket.resource x ≡ b → Among t (cond b (p.ticket ∷ []) []) → HasTicket x k t
+    for : (p : ExactPresent) (b : Bool) → k.phase ≡ client.Inside p → bytes_eq (present_ticket p).resource x ≡ b → Among t (cond b (present_ticket p ∷ []) []) → HasTicket x k t
     for p true is e (inl s) =
-        record { present = p; phase = is; ticket = sym s; resource = ap (λ (y : Ticket). y.resource) s ∙ (bytes_eq-Decides p.ticket.resource x).0 e }
+        record { present = p; phase = is; ticket = sym s; resource = ap (λ (y : Ticket). y.resource) s ∙ (bytes_eq-Decides (present_ticket p).resource x).0 e }
     for p true is e (inr h) = absurd h
     for p false is e h = absurd h
 
@@ -78,7 +95,7 @@ has-ticket x k t m = go k.phase refl m
     go client.Idle is h = absurd h
     go (client.Chosen u place) is h = absurd h
     go (client.Asking p) is h = absurd h
-    go (client.Inside p) is h = for p (bytes_eq p.ticket.resource x) is refl h
+    go (client.Inside p) is h = for p (bytes_eq (present_ticket p).resource x) is refl h
 
 is-listed : (x : List ℕ) (k : ExactClient) (t : Ticket) → HasTicket x k t → tickets x k ≡ t ∷ []
 is-listed x k t has =
@@ -97,14 +114,14 @@ client-inside-world : (w : ExactWorld) (x : List ℕ) (c : ℕ) (k : ExactClient
 client-inside-world w x c k t is has = (
   present_of has.present,
   ap (λ (y : Client). y.phase) (ap client_numbered is) ∙ ap client_phase_of has.phase,
-  ap (λ (u : Ticket). u.mode) has.ticket,
-  ap (λ (u : Ticket). u.resource) has.ticket ∙ has.resource,
+  sym (reader-mode has.present.softened has.present.ticket) ∙ ap (λ (u : Ticket). u.mode) has.ticket,
+  sym (reader-resource has.present.softened has.present.ticket) ∙ ap (λ (u : Ticket). u.resource) has.ticket ∙ has.resource,
 )
 
 own-client : (w : ExactWorld) → IsSound w → (x : List ℕ) (c : ℕ) (k : ExactClient) (t : Ticket) → numbered w.clients c ≡ Some k → HasTicket x k t → t.client ≡ c
 own-client w sound x c k t is has =
     let safe = subst (λ (y : Client). IsSafeTicket w.ballots (forget w) c y.kept y.phase) (ap client_numbered is) (sound.safe.clients c).ticket in
-    ap (λ (u : Ticket). u.client) (sym has.ticket) ∙ (subst (λ p. IsSafeTicket w.ballots (forget w) c k.kept p) (ap client_phase_of has.phase) safe).0.client
+    ap (λ (u : Ticket). u.client) (sym has.ticket) ∙ reader-client has.present.softened has.present.ticket ∙ (subst (λ p. IsSafeTicket w.ballots (forget w) c k.kept p) (ap client_phase_of has.phase) safe).0.client
 
 pub inside-is-set : (w : ExactWorld) → IsSound w → (x : List ℕ) (c : ℕ) (m : Mode) → IsInside (forget w) c m x ↔ ((t : Ticket) × Among t (inside x w) × (t.client ≡ c) × (t.mode ≡ m))
 inside-is-set w sound x c m = (to, from)
@@ -116,9 +133,10 @@ inside-is-set w sound x c m = (to, from)
         go None is = absurd (let q : ClientDown ≡ IsIn h.0 = sym (ap (λ (y : Client). y.phase) (ap client_numbered is)) ∙ h.1 in cc)
         go (Some k) is =
             let at = client-inside k.phase h.0 (sym (ap (λ (y : Client). y.phase) (ap client_numbered is)) ∙ h.1) in
-            let t = at.0.ticket in
-            let has : HasTicket x k t = record { present = at.0; phase = at.1; ticket = refl; resource = ap (λ (p : Present). p.ticket.resource) at.2 ∙ h.3 } in
-            (t, part-among (tickets x) w.clients k t (numbered-among w.clients c k is) (subst (Among t) (sym (is-listed x k t has)) (inl refl)), own-client w sound x c k t is has, ap (λ (p : Present). p.ticket.mode) at.2 ∙ h.2)
+            let t = present_ticket at.0 in
+            let resource : t.resource ≡ x = reader-resource at.0.softened at.0.ticket ∙ ap (λ (p : Present). p.ticket.resource) at.2 ∙ h.3 in
+            let has : HasTicket x k t = record { present = at.0; phase = at.1; ticket = refl; resource = resource } in
+            (t, part-among (tickets x) w.clients k t (numbered-among w.clients c k is) (subst (Among t) (sym (is-listed x k t has)) (inl refl)), own-client w sound x c k t is has, reader-mode at.0.softened at.0.ticket ∙ ap present_mode at.2 ∙ h.2)
 
     from : (t : Ticket) × Among t (inside x w) × (t.client ≡ c) × (t.mode ≡ m) → IsInside (forget w) c m x
     from h =

@@ -3,7 +3,7 @@ use Rattle.std.proofs.Common.{◌≡◌, ◌≢◌, ℕ, ◌≤◌, ◌⊎◌, t
 use Rattle.std.proofs.lemmas.Bool.{cases_eq}
 use Rattle.lock_messages.specs.declared.tickets.Ticket.{Ticket}
 use Rattle.lock_messages.specs.declared.messages.Message.{Message}
-use Rattle.lock_messages.specs.declared.messages.Message.TheVariants.{Request, Release, Grant, Muddled}
+use Rattle.lock_messages.specs.declared.messages.Message.TheVariants.{Request, Release, Grant, Muddled, Soften}
 use Rattle.lock_messages.specs.Messages.{is_for_node}
 use Rattle.lock_model.specs.Ballots.{Ballot}
 use Rattle.lock_model.specs.Stations.{Station}
@@ -11,7 +11,7 @@ use Rattle.lock_model.specs.Decisions.{Among}
 use Rattle.world_model.specs.declared.events.Age.{Age}
 use Rattle.world_model.specs.declared.events.Age.TheVariants.{Old, New}
 use Rattle.world_model.specs.Worlds.{Node, ClientPhase, ClientDown, ClientIdle, Chosen, Asking, IsIn, Client, World, Setting, OfNode, ByNode, TriesStation, tries_station, KeepsStation, keeps_station, Says, says, Takes, takes, takes_same, NodeFalls, node_falls, NodeRises, node_rises_old, node_rises_new}
-use Rattle.world_model.specs.Invariants.{IsPresentIn, IsHonored, IsSafeClient, IsSafeStation, IsGoodReply, AreGoodReplies, IsSafeNode, IsSafeTicket, IsSafe}
+use Rattle.world_model.specs.Invariants.{IsPresentIn, IsUnsoftenedIn, IsHonored, IsSafeClient, IsSafeStation, IsGoodReply, AreGoodReplies, IsSafeNode, IsSafeTicket, IsSafe}
 use Rattle.world_model.proofs.Carried.{self-le, Carries, NoNewGrant, owes-still, node-still, client-still, all-safe}
 use Rattle.world_model.proofs.StandingSteps.{AsksOnce}
 use Rattle.world_model.proofs.DecisionSteps.{decided-safely}
@@ -41,8 +41,10 @@ node-carries : (s : Setting) (n : ℕ) (w : World) (before after : Node) (said :
 node-carries s n w before after said v st of good = record {
   kept = λ c. subst (λ (k : Client). (w.clients c).kept ≤ k.kept) (sym (of.clients c)) (self-le (w.clients c).kept);
   present = λ c t p. inl (subst (λ (k : Client). IsPresentIn t k.phase) (of.clients c) p);
+  unsoftened = λ c a un. inl (subst (λ (k : Client). IsUnsoftenedIn a k.phase) (of.clients c) un);
   requested = λ k t m. inl (old (Request k t) (λ h. h) ((of.sends (Request k t)).0 m));
   released = λ k c a m. inl (old (Release k c a) (λ h. h) ((of.sends (Release k c a)).0 m));
+  softening = λ k c a m. inl (old (Soften k c a) (λ h. h) ((of.sends (Soften k c a)).0 m));
   muddled = λ k c a m. old (Muddled k c a) (λ h. h) ((of.sends (Muddled k c a)).0 m);
   grows = λ m h. (of.sends m).1 (inl h);
 }
@@ -108,7 +110,7 @@ keeps-safe w n before after (keeps_station kept tried s replies) safe = record {
 
 takes-safe : (s : Setting) (w : World) (n : ℕ) (m : Message) (before after : Node) → IsSafe s w → Among m w.sent → is_for_node m n ≡ true → Takes m before after → IsSafeNode w n before → IsSafeNode w n after
 takes-safe s w n m before after safe sent mine (takes kept u tried replies h) node =
-    let d = decided-safely w n kept m u replies (asks-once s w safe) safe.released safe.over node.stations.kept sent mine h in
+    let d = decided-safely w n kept m u replies (asks-once s w safe) safe.released safe.over safe.softened node.stations.kept sent mine h in
     record {
       stations = record { kept = node.stations.kept; tried = node.stations.tried; decided = d.station };
       phase = (untried tried node.phase, d.good);
@@ -118,7 +120,7 @@ takes-safe s w n m before after safe sent mine (takes kept u tried replies h) no
     untried None e = tt
     untried (Some x) e = absurd (let q : Some x ≡ None = e in cc)
 takes-safe s w n m before after safe sent mine (takes_same kept tried replies h) node =
-    let d = decided-safely w n kept m kept replies (asks-once s w safe) safe.released safe.over node.stations.kept sent mine h in
+    let d = decided-safely w n kept m kept replies (asks-once s w safe) safe.released safe.over safe.softened node.stations.kept sent mine h in
     record {
       stations = record { kept = node.stations.kept; tried = node.stations.tried; decided = tt };
       phase = (node.phase, d.good);

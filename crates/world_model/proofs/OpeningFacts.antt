@@ -10,7 +10,7 @@ use Rattle.lock_messages.specs.declared.ids.TheConstants.{MAX_ATTEMPT}
 use Rattle.lock_messages.specs.declared.tickets.Mode.TheVariants.{Write}
 use Rattle.lock_model.specs.declared.entries.Entry.{Entry}
 use Rattle.lock_model.specs.declared.entries.Live.{Live}
-use Rattle.lock_model.specs.declared.entries.Status.TheVariants.{Waiting, Holding}
+use Rattle.lock_model.specs.declared.entries.Status.TheVariants.{Waiting}
 use Rattle.lock_model.specs.declared.problems.Problem.{Problem}
 use Rattle.lock_model.specs.declared.problems.Problem.TheVariants.{First}
 use Rattle.lock_model.specs.Ballots.{Ballot, AllCross, node_count}
@@ -30,14 +30,14 @@ use Rattle.world_model.proofs.EntryFacts.{both-parts, both-true, all-at, all-fro
 -- nothing is kept
 
 nobody-lawful : (p : Problem) → IsLawful (meaning p [])
-nobody-lawful p = record { alone = λ c d m x holds other. absurd (let q : Free ≡ Has Write x Holding = holds in cc) }
+nobody-lawful p = record { alone = λ c d m x holds other. absurd (let q : Free ≡ Has Write x holds.0 = holds.2 in cc) }
 
 nobody-caused : (p : Problem) → IsCaused (meaning p [])
 nobody-caused p = record { cause = λ c m x waits. absurd (let q : Free ≡ Has m x Waiting = waits in cc) }
 
 empty-sound : (problems : List Problem) → AllByRecursion IsSoundStation (map empty_station problems)
 empty-sound [] = tt
-empty-sound (p ∷ problems) = (record { well_formed = record { once = tt; attempts = tt }; lawful = nobody-lawful p; caused = nobody-caused p }, empty-sound problems)
+empty-sound (p ∷ problems) = (record { well_formed = record { once = tt; attempts = tt; softened = tt }; lawful = nobody-lawful p; caused = nobody-caused p }, empty-sound problems)
 
 empty-within : (attempts : List ℕ) (problems : List Problem) → stations_within attempts (map empty_station problems) ≡ true
 empty-within attempts [] = refl

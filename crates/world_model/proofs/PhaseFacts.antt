@@ -1,13 +1,13 @@
 -- Which exact phase stands for a phase, and what each relation needs of the actor before it.
-use Rattle.std.proofs.Common.{◌≡◌, ◌≢◌, ℕ, ◌<◌, Bool, List, Option, Some, None, refl, ap, ◌∙◌}
+use Rattle.std.proofs.Common.{◌≡◌, ◌≢◌, ℕ, ◌<◌, false, List, Option, Some, None, refl, ap, ◌∙◌}
 use Rattle.std.specs.Option.{option_map}
 use Rattle.lock_messages.specs.declared.ids.TheConstants.{MAX_ATTEMPT}
 use Rattle.lock_messages.specs.declared.tickets.Mode.{Mode}
+use Rattle.lock_messages.specs.declared.tickets.Mode.TheVariants.{Write}
 use Rattle.lock_messages.specs.declared.tickets.Ticket.{Ticket}
 use Rattle.lock_messages.specs.declared.messages.Message.{Message}
 use Rattle.lock_model.specs.Ballots.{Ballot, HasPlace, IsEnough, ballot_at}
 use Rattle.lock_model.specs.Stations.{Station}
-use Rattle.vote_weights.specs.Sets.{has_node}
 use Rattle.world_model.specs.declared.events.Age.TheVariants.{Old, New}
 use Rattle.world_model.specs.declared.exact.ExactStation.{ExactStation}
 use Rattle.world_model.specs.declared.exact.ExactNodePhase.{ExactNodePhase}
@@ -15,7 +15,7 @@ use Rattle.world_model.specs.declared.exact.ExactNodePhase.TheVariants as node
 use Rattle.world_model.specs.declared.exact.ExactPresent.{ExactPresent}
 use Rattle.world_model.specs.declared.exact.ExactClientPhase.{ExactClientPhase}
 use Rattle.world_model.specs.declared.exact.ExactClientPhase.TheVariants as client
-use Rattle.world_model.specs.Worlds.{NodeDown, NodeIdle, Decided, Stored, Node, Present, ClientDown, ClientIdle, Chosen, Asking, IsIn, Client, Begins, begins, TriesAttempt, tries_attempt, TriesStation, tries_station, KeepsAttempt, keeps_attempt, KeepsStation, keeps_station, Tells, asks, asks_inside, releases, Says, says, Takes, takes, takes_same, Hears, counts, counts_inside, passes, passes_inside, passes_idle, passes_chosen, Enters, enters, Leaves, gives_up, leaves, NodeFalls, node_falls, ClientFalls, client_falls, NodeRises, node_rises_old, node_rises_new, ClientRises, client_rises_old, client_rises_new}
+use Rattle.world_model.specs.Worlds.{NodeDown, NodeIdle, Decided, Stored, Node, Present, ClientDown, ClientIdle, Chosen, Asking, IsIn, Client, Begins, begins, TriesAttempt, tries_attempt, TriesStation, tries_station, KeepsAttempt, keeps_attempt, KeepsStation, keeps_station, Tells, asks, asks_inside, tells_softened, releases, Says, says, Takes, takes, takes_same, Hears, counts, counts_inside, passes, passes_inside, passes_softened, passes_idle, passes_chosen, Enters, enters, Leaves, gives_up, leaves, Softens, softens, NodeFalls, node_falls, ClientFalls, client_falls, NodeRises, node_rises_old, node_rises_new, ClientRises, client_rises_old, client_rises_new}
 use Rattle.world_model.specs.Forgetting.{station_of, node_phase_of, present_of, client_phase_of}
 
 -- which exact phase stands for a phase
@@ -88,14 +88,16 @@ pub data MaySpeak (before : Client) : Type 0 where
 
 pub tells-needs : {c n : ℕ} {before : Client} {said : List Message} → Tells c n before said → MaySpeak before
 tells-needs (asks kept tried p) = speaks_asking p refl
-tells-needs (asks_inside kept tried p) = speaks_inside p refl
+tells-needs (asks_inside kept tried p whole) = speaks_inside p refl
+tells-needs (tells_softened kept tried p softened) = speaks_inside p refl
 tells-needs (releases kept tried some) = speaks_idle refl some
 
 pub hears-needs : {b : List Ballot} {c : ℕ} {m : Message} {before after : Client} → Hears b c m before after → before.phase ≢ ClientDown
 hears-needs (counts kept tried p h) = λ e. let q : Asking p ≡ ClientDown = e in cc
-hears-needs (counts_inside kept tried p h) = λ e. let q : IsIn p ≡ ClientDown = e in cc
+hears-needs (counts_inside kept tried p whole h) = λ e. let q : IsIn p ≡ ClientDown = e in cc
 hears-needs (passes kept tried p x h apart) = λ e. let q : Asking p ≡ ClientDown = e in cc
-hears-needs (passes_inside kept tried p x h apart) = λ e. let q : IsIn p ≡ ClientDown = e in cc
+hears-needs (passes_inside kept tried p x whole h apart) = λ e. let q : IsIn p ≡ ClientDown = e in cc
+hears-needs (passes_softened kept tried p x softened h) = λ e. let q : IsIn p ≡ ClientDown = e in cc
 hears-needs (passes_idle kept tried x h) = λ e. let q : ClientIdle ≡ ClientDown = e in cc
 hears-needs (passes_chosen kept tried t place) = λ e. let q : Chosen t place ≡ ClientDown = e in cc
 
@@ -110,6 +112,9 @@ pub data MayLeave (before : Client) : Type 0 where
 pub leaves-needs : {before after : Client} → Leaves before after → MayLeave before
 leaves-needs (gives_up kept tried p) = leaves_asking p refl
 leaves-needs (leaves kept tried p) = leaves_inside p refl
+
+pub softens-needs : {before after : Client} → Softens before after → (p : Present) × (before.phase ≡ IsIn p) × (p.ticket.mode ≡ Write) × (p.softened ≡ false)
+softens-needs (softens kept tried p writes whole) = (p, refl, writes, whole)
 
 pub client-falls-needs : {before after : Client} → ClientFalls before after → before.phase ≢ ClientDown
 client-falls-needs (client_falls kept tried phase up) = up

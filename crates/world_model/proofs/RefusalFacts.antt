@@ -153,6 +153,7 @@ list-has-memory (event.Hear c k) (inl h) = cc
 list-has-memory (event.Hear c k) (inr h) = cc
 list-has-memory (event.Enter c) h = h
 list-has-memory (event.Leave c) h = h
+list-has-memory (event.Soften c) h = h
 list-has-memory (event.Fall who) h = h
 list-has-memory (event.Rise who age) h = h
 

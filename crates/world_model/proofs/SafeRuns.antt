@@ -3,12 +3,12 @@ use Rattle.std.proofs.Common.{◌≡◌, ℕ, ◌+◌, List, [], ◌∷◌, IfSo
 use Rattle.lock_messages.specs.declared.ids.Actor.TheVariants as actor
 use Rattle.lock_messages.specs.declared.tickets.Ticket.{Ticket}
 use Rattle.lock_messages.specs.declared.messages.Message.{Message}
-use Rattle.lock_messages.specs.declared.messages.Message.TheVariants.{Request, Release, Grant, Muddled}
+use Rattle.lock_messages.specs.declared.messages.Message.TheVariants.{Request, Release, Grant, Muddled, Soften}
 use Rattle.lock_model.specs.Decisions.{Among}
 use Rattle.world_model.specs.declared.events.Event.{Event}
 use Rattle.world_model.specs.declared.events.Event.TheVariants as event
 use Rattle.world_model.specs.Worlds.{World, Setting, IfDecided, Happens, Run, IsLawfulOpening}
-use Rattle.world_model.specs.Invariants.{IsPresentIn, IsPresent, WasAsked, IsSafeStation, IsSafePhase, IsSafeNode, IsSafeTicket, IsSafeClient, IsSafe}
+use Rattle.world_model.specs.Invariants.{IsPresentIn, IsPresent, IsUnsoftenedIn, IsUnsoftened, WasAsked, IsSafeStation, IsSafePhase, IsSafeNode, IsSafeTicket, IsSafeClient, IsSafe}
 use Rattle.world_model.proofs.NodeEvents as nodes
 use Rattle.world_model.proofs.ClientSpeaks as speaks
 use Rattle.world_model.proofs.ClientEvents as clients
@@ -21,6 +21,9 @@ module _ (s : Setting) (w : World) (lawful : IsLawfulOpening s w) where
 
   none-present : (c : ℕ) (t : Ticket) → IsPresent w c t → ⊥
   none-present c t p = subst (IsPresentIn t) (lawful.clients_down c) p
+
+  none-unsoftened : (c a : ℕ) → IsUnsoftened w c a → ⊥
+  none-unsoftened c a un = subst (IsUnsoftenedIn a) (lawful.clients_down c) un
 
   none-asked : (t : Ticket) → WasAsked w t → ⊥
   none-asked t (inl h) = none-sent (Request h.0 t) h.1
@@ -35,6 +38,7 @@ module _ (s : Setting) (w : World) (lawful : IsLawfulOpening s w) where
       within = lawful.within n c;
       present = λ t p. absurd (none-present c t p);
       agrees = λ t m x status claim asked client attempt. absurd (none-asked t asked);
+      softened = λ m x claim. none-unsoftened c (((w.nodes n).kept.at c).floor + 1);
     };
   }
 
@@ -62,6 +66,8 @@ opening-safe s w lawful = record {
   asked = λ t h. absurd (none-asked s w lawful t h);
   released = λ n c a m. absurd (none-sent s w lawful (Release n c a) m);
   over = λ n c a t m p. absurd (none-sent s w lawful (Release n c a) m);
+  softening = λ n c a m. absurd (none-sent s w lawful (Soften n c a) m);
+  softened = λ n c a m un. none-unsoftened s w lawful c a un;
   none_muddled = λ n c a m. none-sent s w lawful (Muddled n c a) m;
 }
 
@@ -78,6 +84,7 @@ happens-safe s w (event.Take n k) v safe h = nodes.takes-keeps s n h.0 w v safe 
 happens-safe s w (event.Hear c k) v safe h = clients.hears-keeps s c h.0 w v safe h.1 h.3
 happens-safe s w (event.Enter c) v safe h = clients.enters-keeps s c w v safe h
 happens-safe s w (event.Leave c) v safe h = clients.leaves-keeps s c w v safe h
+happens-safe s w (event.Soften c) v safe h = clients.softens-keeps s c w v safe h
 happens-safe s w (event.Fall (actor.Node n)) v safe h = nodes.falls-keeps s n w v safe h
 happens-safe s w (event.Fall (actor.Client c)) v safe h = clients.falls-keeps s c w v safe h
 happens-safe s w (event.Rise (actor.Node n) age) v safe h = nodes.rises-keeps s n age w v safe h

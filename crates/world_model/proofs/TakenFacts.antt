@@ -1,13 +1,15 @@
 -- What may happen in the world that an exact one stands for, the exact one takes.
-use Rattle.std.proofs.Common.{◌≡◌, ◌≢◌, ℕ, ◌+◌, ◌≤◌, true, false, cond, nat_le, List, [], length, Some, None, Ok, Err, refl, sym, ◌∙◌, ap, subst, arith}
+use Rattle.std.proofs.Common.{◌≡◌, ◌≢◌, ℕ, ◌+◌, ◌≤◌, ◌&&◌, true, false, not, cond, nat_le, List, [], length, Some, None, Ok, Err, refl, sym, ◌∙◌, ap, subst, arith}
 use Rattle.std.proofs.lemmas.Bool.{ne_eqb, le-leb, lt-ltb}
 use Rattle.lock_messages.specs.declared.ids.TheConstants.{MAX_ATTEMPT}
 use Rattle.lock_messages.specs.declared.ids.Actor.TheVariants as actor
 use Rattle.lock_messages.specs.declared.tickets.Mode.{Mode}
+use Rattle.lock_messages.specs.declared.tickets.Mode.TheVariants.{Write}
 use Rattle.lock_messages.specs.declared.messages.Message.{Message}
 use Rattle.lock_messages.specs.declared.messages.Message.TheVariants as message
 use Rattle.lock_model.specs.Ballots.{Ballot, HasAnyNode, has_place, ballot_at, node_count, needed, votes_of}
 use Rattle.lock_model.specs.ExactHearing.{is_node_of}
+use Rattle.lock_model.specs.ExactStations.{is_write}
 use Rattle.vote_weights.specs.Sets.{has_node}
 use Rattle.world_model.specs.declared.events.Age.{Age}
 use Rattle.world_model.specs.declared.events.Age.TheVariants.{Old, New}
@@ -21,16 +23,16 @@ use Rattle.world_model.specs.declared.exact.ExactClient.{ExactClient}
 use Rattle.world_model.specs.declared.exact.ExactClientPhase.{ExactClientPhase}
 use Rattle.world_model.specs.declared.exact.ExactClientPhase.TheVariants as client
 use Rattle.world_model.specs.declared.exact.ExactWorld.{ExactWorld}
-use Rattle.world_model.specs.Worlds.{NodeDown, Node, Present, ClientDown, Client, World, OfNode, OfClient, ByNode, ByClient, Begins, TriesAttempt, TriesStation, KeepsAttempt, KeepsStation, Tells, Says, Enters, Leaves, NodeFalls, ClientFalls, NodeRises, ClientRises}
+use Rattle.world_model.specs.Worlds.{NodeDown, Node, Present, ClientDown, Client, World, OfNode, OfClient, ByNode, ByClient, Begins, TriesAttempt, TriesStation, KeepsAttempt, KeepsStation, Tells, Says, Enters, Leaves, Softens, NodeFalls, ClientFalls, NodeRises, ClientRises}
 use Rattle.world_model.specs.Turns.{Turn, Acts, Turns, acts}
 use Rattle.world_model.specs.ExactNodes.{tries_station_with, tries_station_in, keeps_station_with, keeps_station_in, says_in, node_falls_in, node_rises_with, node_rises_in}
-use Rattle.world_model.specs.ExactClients.{client_in, next_ticket, begins_by, begins_in, tries_attempt_with, tries_attempt_in, first_of, keeps_attempt_with, keeps_attempt_in, says_one, tells_in, tells, is_down, enters_in, leaves_in, client_falls_in, client_rises_with, client_rises_in}
+use Rattle.world_model.specs.ExactClients.{client_in, next_ticket, begins_by, begins_in, tries_attempt_with, tries_attempt_in, first_of, keeps_attempt_with, keeps_attempt_in, says_one, tells_in, tells, is_down, enters_in, leaves_in, soft, softens_in, client_falls_in, client_rises_with, client_rises_in}
 use Rattle.world_model.specs.ExactWorlds.{numbered, NodeDoes, ClientDoes, refusal_of}
 use Rattle.world_model.specs.Forgetting.{node_of, node_phase_of, client_of, client_phase_of, node_numbered, client_numbered, forget, setting_of, IsSound}
 use Rattle.world_model.specs.Parts.{part, node_part, client_part, refused_in}
 use Rattle.world_model.specs.Numbered.{numbered-there}
 use Rattle.world_model.proofs.EntryFacts.{both-true}
-use Rattle.world_model.proofs.PhaseFacts.{client-idle, client-down, client-chosen, client-asking, client-inside, begins-needs, tries-needs, keeps-needs, MaySpeak, speaks_asking, speaks_inside, speaks_idle, tells-needs, enters-needs, MayLeave, leaves_asking, leaves_inside, leaves-needs, client-falls-needs, old-needs, new-needs, node-down, node-decided, node-stored, none-tried, some-tried, station-tries-needs, station-keeps-needs, says-needs, node-falls-needs, node-old-needs, node-new-needs}
+use Rattle.world_model.proofs.PhaseFacts.{client-idle, client-down, client-chosen, client-asking, client-inside, begins-needs, tries-needs, keeps-needs, MaySpeak, speaks_asking, speaks_inside, speaks_idle, tells-needs, enters-needs, MayLeave, leaves_asking, leaves_inside, leaves-needs, softens-needs, client-falls-needs, old-needs, new-needs, node-down, node-decided, node-stored, none-tried, some-tried, station-tries-needs, station-keeps-needs, says-needs, node-falls-needs, node-old-needs, node-new-needs}
 
 -- the turn is one that the actor's own part doesn't refuse
 pub record MayTurn (A : Type 0) (turns : Turns A) : Type 0 where
@@ -103,6 +105,17 @@ leaves-may k after h = go (leaves-needs h)
     go : MayLeave (client_of k) → MayTurn ExactClient (leaves_in k k.phase)
     go (leaves_asking p e) = acts-may (leaves_in k k.phase) (client_in k client.Idle) effect.Outside (ap (leaves_in k) (client-asking k.phase p e).1)
     go (leaves_inside p e) = acts-may (leaves_in k k.phase) (client_in k client.Idle) effect.Outside (ap (leaves_in k) (client-inside k.phase p e).1)
+
+pub softens-may : (k : ExactClient) (after : Client) → Softens (client_of k) after → MayTurn ExactClient (softens_in k k.phase)
+softens-may k after h =
+    let n = softens-needs h in
+    let a = client-inside k.phase n.0 n.1 in
+    let writes : a.0.ticket.mode ≡ Write = ap (λ (p : Present). p.ticket.mode) a.2 ∙ n.2 in
+    let whole : a.0.softened ≡ false = ap (λ (p : Present). p.softened) a.2 ∙ n.3 in
+    let may : (is_write a.0.ticket.mode && not a.0.softened) ≡ true = both-true (is_write a.0.ticket.mode) (not a.0.softened) (ap is_write writes) (ap not whole) in
+    let next = client_in k (client.Inside (soft a.0)) in
+    acts-may (softens_in k k.phase) next effect.Softened
+    (ap (softens_in k) a.1 ∙ ap (λ e. cond e (acts next effect.Softened) (Err fault.WrongPhase)) may)
 
 pub client-falls-may : (k : ExactClient) (after : Client) → ClientFalls (client_of k) after → MayTurn ExactClient (client_falls_in k k.phase)
 client-falls-may k after h = go k.phase (client-falls-needs h)

@@ -1,5 +1,5 @@
 -- What may happen is taken, unless the list of messages is full.
-use Rattle.std.proofs.Common.{◌≡◌, ℕ, ◌⊎◌, Bool, true, false, cond, length, Option, Some, None, Ok, Err, sym, ◌∙◌, ap, subst, inl, inr}
+use Rattle.std.proofs.Common.{◌≡◌, ℕ, ◌⊎◌, Bool, true, false, cond, Option, Some, None, Ok, Err, sym, ◌∙◌, ap, subst, inl, inr}
 use Rattle.lock_model.specs.Ballots.{node_count}
 use Rattle.lock_messages.specs.declared.ids.Actor.TheVariants as actor
 use Rattle.lock_messages.specs.declared.messages.Message.{Message}
@@ -13,10 +13,10 @@ use Rattle.world_model.specs.declared.events.StepFault.{StepFault}
 use Rattle.world_model.specs.declared.events.StepFault.TheVariants as fault
 use Rattle.world_model.specs.declared.exact.ExactNode.{ExactNode}
 use Rattle.world_model.specs.declared.exact.ExactWorld.{ExactWorld}
-use Rattle.world_model.specs.Worlds.{Node, Client, World, Happens, Begins, TriesAttempt, TriesStation, KeepsAttempt, KeepsStation, Tells, Says, Enters, Leaves, NodeFalls, ClientFalls, NodeRises, ClientRises}
+use Rattle.world_model.specs.Worlds.{Node, Client, World, Happens, Begins, TriesAttempt, TriesStation, KeepsAttempt, KeepsStation, Tells, Says, Enters, Leaves, Softens, NodeFalls, ClientFalls, NodeRises, ClientRises}
 use Rattle.world_model.specs.Turns.{reads}
 use Rattle.world_model.specs.ExactNodes.{tries_station_in, keeps_station_in, says_in, decided_on, takes_in, node_falls_in, node_rises_in}
-use Rattle.world_model.specs.ExactClients.{begins_in, tries_attempt_in, keeps_attempt_in, tells, heard_in, after_hearing, is_down, hears, enters_in, leaves_in, client_falls_in, client_rises_in}
+use Rattle.world_model.specs.ExactClients.{begins_in, tries_attempt_in, keeps_attempt_in, tells, heard_in, after_hearing, is_down, hears, enters_in, leaves_in, softens_in, client_falls_in, client_rises_in}
 use Rattle.world_model.specs.ExactWorlds.{numbered, actor_of, with_node_at, with_client_at, read_in, finishes, by_actor, Stepped, refusal_of, refusal, step}
 use Rattle.world_model.specs.Forgetting.{forget, setting_of, IsSound}
 use Rattle.world_model.specs.Parts.{part, own_refusal, IsListFault}
@@ -24,7 +24,7 @@ use Rattle.world_model.specs.Laws.{NamesItsMessage}
 use Rattle.world_model.proofs.PhaseFacts.{node-idle, hears-needs, takes-needs}
 use Rattle.world_model.proofs.Deeds.{ModelLaws}
 use Rattle.world_model.proofs.RefusalFacts.{OnlyList, list-second}
-use Rattle.world_model.proofs.TakenFacts.{begins-may, tries-attempt-may, keeps-attempt-may, tells-may, awake, enters-may, leaves-may, client-falls-may, client-rises-may, tries-station-may, keeps-station-may, says-may, node-falls-may, node-rises-may, client-there, node-there, client-free, node-free, by-client-free, by-node-free}
+use Rattle.world_model.proofs.TakenFacts.{begins-may, tries-attempt-may, keeps-attempt-may, tells-may, awake, enters-may, leaves-may, softens-may, client-falls-may, client-rises-may, tries-station-may, keeps-station-may, says-may, node-falls-may, node-rises-may, client-there, node-there, client-free, node-free, by-client-free, by-node-free}
 
 abbrev IsTaken : ExactWorld → Event → Type 0
 IsTaken w e = (refusal w e ≡ None) ⊎ (refusal w e ≡ Some fault.SentListFull)
@@ -90,6 +90,8 @@ step-taken laws w (event.Enter c) u sound h named =
     unless-full laws w (event.Enter c) (by-client-free (Enters w.ballots) w c (λ b k. enters_in b k k.phase) u h (enters-may w.ballots)) (λ f z. absurd z)
 step-taken laws w (event.Leave c) u sound h named =
     unless-full laws w (event.Leave c) (by-client-free Leaves w c (λ b k. leaves_in k k.phase) u h leaves-may) (λ f z. absurd z)
+step-taken laws w (event.Soften c) u sound h named =
+    unless-full laws w (event.Soften c) (by-client-free Softens w c (λ b k. softens_in k k.phase) u h softens-may) (λ f z. absurd z)
 step-taken laws w (event.Fall (actor.Node n)) u sound h named =
     unless-full laws w (event.Fall (actor.Node n)) (by-node-free NodeFalls w n (λ v. node_falls_in v v.phase) u sound h node-falls-may) (λ f z. absurd z)
 step-taken laws w (event.Fall (actor.Client c)) u sound h named =

@@ -1,5 +1,5 @@
 -- A client's turns, each by the phase that it is in.
-use Rattle.std.specs.Prelude.{ℕ, ◌+◌, ◌==◌, Bool, true, false, nat_le, nat_lt, List, [], ◌∷◌, length, Option, Some, None, Err, if◌then◌else◌}
+use Rattle.std.specs.Prelude.{ℕ, ◌+◌, ◌==◌, ◌&&◌, Bool, true, false, not, nat_le, nat_lt, List, [], ◌∷◌, Option, Some, None, Err, if◌then◌else◌}
 use Rattle.lock_messages.specs.declared.ids.TheConstants.{MAX_ATTEMPT}
 use Rattle.lock_messages.specs.declared.tickets.Mode.{Mode}
 use Rattle.lock_messages.specs.declared.tickets.Ticket.{Ticket}
@@ -9,7 +9,8 @@ use Rattle.lock_messages.specs.Messages.{is_for_client, named_node}
 use Rattle.lock_model.specs.declared.hearing.Heard.{Heard}
 use Rattle.lock_model.specs.declared.hearing.Heard.TheVariants as heard
 use Rattle.lock_model.specs.Ballots.{Ballot, needed, votes_of, ballot_at, has_place, node_count}
-use Rattle.lock_model.specs.ExactHearing.{is_node_of, heard_of_ticket, heard_at_rest, is_counted}
+use Rattle.lock_model.specs.ExactHearing.{is_node_of, heard_of_ticket, heard_softened, heard_at_rest, is_counted}
+use Rattle.lock_model.specs.ExactStations.{is_write}
 use Rattle.vote_weights.specs.Sets.{has_node, with_node}
 use Rattle.world_model.specs.declared.events.Age.{Age}
 use Rattle.world_model.specs.declared.events.Age.TheVariants.{Old, New}
@@ -61,7 +62,7 @@ tries_attempt_in k (Inside p) = Err fault.WrongPhase
 
 -- a ticket and a place with which the client begins to ask, and no node has granted it
 abbrev pub first_of : Ticket → ℕ → ExactPresent
-first_of t place = record { ticket = t; place = place; granted = [] }
+first_of t place = record { ticket = t; place = place; granted = []; softened = false }
 
 abbrev pub keeps_attempt_with : Ticket → ℕ → Option ℕ → Turns ExactClient
 keeps_attempt_with t place None = Err fault.NothingTried
@@ -74,29 +75,38 @@ keeps_attempt_in k (Chosen t place) = keeps_attempt_with t place k.tried
 keeps_attempt_in k (Asking p) = Err fault.WrongPhase
 keeps_attempt_in k (Inside p) = Err fault.WrongPhase
 
--- SayTo: to a node of one of the ballots, the request of the ticket or, at rest, the release of the attempt
+-- SayTo: to a node of one of the ballots, the request of the ticket or, once it is softened, that; or at rest
+-- the release of the attempt
 
 abbrev pub says_one : ExactClient → Message → Turns ExactClient
 says_one k m = speaks k (m ∷ []) (λ first. effect.Sent first m)
+
+-- what a client that is inside has to say to a node
+abbrev pub said_inside : ℕ → ℕ → ExactPresent → Message
+said_inside c n p = if p.softened then message.Soften n c p.ticket.attempt else message.Request n p.ticket
 
 abbrev pub tells_in : ℕ → ℕ → ExactClient → ExactClientPhase → Turns ExactClient
 tells_in c n k Down = Err fault.Down
 tells_in c n k Idle = if k.kept == 0 then Err fault.NothingToSay else says_one k (message.Release n c k.kept)
 tells_in c n k (Chosen t place) = Err fault.NotStored
 tells_in c n k (Asking p) = says_one k (message.Request n p.ticket)
-tells_in c n k (Inside p) = says_one k (message.Request n p.ticket)
+tells_in c n k (Inside p) = says_one k (said_inside c n p)
 
 abbrev pub tells : List Ballot → ℕ → ℕ → ExactClient → Turns ExactClient
 tells b c n k = if is_node_of (node_count b) n then tells_in c n k k.phase else Err fault.UnknownActor
 
--- Hear: a vote that counts is put into the set; nothing else changes the client
+-- Hear: a vote that counts is put into the set; nothing else changes the client, and once it has softened
+-- nothing counts
+
+abbrev pub heard_inside : ℕ → ℕ → ExactPresent → Message → Heard
+heard_inside nodes c p m = if p.softened then heard_softened nodes c p.ticket.attempt m else heard_of_ticket nodes p.ticket (has_node p.granted) m
 
 abbrev pub heard_in : ℕ → ℕ → ℕ → ExactClientPhase → Message → Heard
 heard_in nodes c kept Down m = heard.NotMine
 heard_in nodes c kept Idle m = heard_at_rest nodes c kept m
 heard_in nodes c kept (Chosen t place) m = heard.NotMine
 heard_in nodes c kept (Asking p) m = heard_of_ticket nodes p.ticket (has_node p.granted) m
-heard_in nodes c kept (Inside p) m = heard_of_ticket nodes p.ticket (has_node p.granted) m
+heard_in nodes c kept (Inside p) m = heard_inside nodes c p m
 
 abbrev pub with_vote : ℕ → ExactPresent → ExactPresent
 with_vote n p = record p { granted = with_node p.granted n }
@@ -141,6 +151,18 @@ leaves_in k Idle = Err fault.WrongPhase
 leaves_in k (Chosen t place) = Err fault.WrongPhase
 leaves_in k (Asking p) = acts (client_in k Idle) effect.Outside
 leaves_in k (Inside p) = acts (client_in k Idle) effect.Outside
+
+-- Soften: a client that is inside with a writer's ticket, and hasn't softened it
+
+abbrev pub soft : ExactPresent → ExactPresent
+soft p = record p { softened = true }
+
+abbrev pub softens_in : ExactClient → ExactClientPhase → Turns ExactClient
+softens_in k Down = Err fault.Down
+softens_in k Idle = Err fault.WrongPhase
+softens_in k (Chosen t place) = Err fault.WrongPhase
+softens_in k (Asking p) = Err fault.WrongPhase
+softens_in k (Inside p) = if is_write p.ticket.mode && not p.softened then acts (client_in k (Inside (soft p))) effect.Softened else Err fault.WrongPhase
 
 -- Fall: what is kept and tried remains
 

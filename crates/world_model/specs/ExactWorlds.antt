@@ -15,7 +15,7 @@ use Rattle.world_model.specs.declared.exact.ExactClient.{ExactClient}
 use Rattle.world_model.specs.declared.exact.ExactWorld.{ExactWorld}
 use Rattle.world_model.specs.Turns.{Turn, Acts, Speaks, Reads, Turns}
 use Rattle.world_model.specs.ExactNodes.{tries_station_in, keeps_station_in, says_in, takes_in, node_falls_in, node_rises_in}
-use Rattle.world_model.specs.ExactClients.{begins_in, tries_attempt_in, keeps_attempt_in, tells, hears, enters_in, leaves_in, client_falls_in, client_rises_in}
+use Rattle.world_model.specs.ExactClients.{begins_in, tries_attempt_in, keeps_attempt_in, tells, hears, enters_in, leaves_in, softens_in, client_falls_in, client_rises_in}
 
 -- the k-th of a list, counted from 1
 abbrev pub numbered : {A : Type 0} → List A → ℕ → Option A
@@ -42,6 +42,7 @@ deed_of (event.Take n number) = NodeDoes n (λ v. takes_in n number v v.phase)
 deed_of (event.Hear c number) = ClientDoes c (λ b k. hears (node_count b) c number k)
 deed_of (event.Enter c) = ClientDoes c (λ b k. enters_in b k k.phase)
 deed_of (event.Leave c) = ClientDoes c (λ b k. leaves_in k k.phase)
+deed_of (event.Soften c) = ClientDoes c (λ b k. softens_in k k.phase)
 deed_of (event.Fall who) = either_does who (λ v. node_falls_in v v.phase) (λ k. client_falls_in k k.phase)
 deed_of (event.Rise who age) = either_does who (λ v. node_rises_in age v v.phase) (λ k. client_rises_in age k k.phase)
 

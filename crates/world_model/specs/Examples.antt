@@ -5,13 +5,14 @@ use Rattle.lock_messages.specs.declared.ids.Actor.TheVariants as actor
 use Rattle.lock_messages.specs.declared.tickets.Mode.TheVariants.{Read, Write}
 use Rattle.lock_messages.specs.declared.tickets.Ticket.{Ticket}
 use Rattle.lock_messages.specs.declared.messages.Message.TheVariants.{Request, Grant}
+use Rattle.lock_messages.specs.declared.messages.Message.TheVariants as message
 use Rattle.lock_model.specs.declared.hearing.Heard.TheVariants.{NotMine}
 use Rattle.lock_model.specs.declared.problems.Problem.TheVariants.{First}
 use Rattle.lock_model.specs.Ballots.{Ballot}
 use Rattle.world_model.specs.declared.events.Age.TheVariants.{Old, New}
 use Rattle.world_model.specs.declared.events.Effect.TheVariants as effect
 use Rattle.world_model.specs.declared.events.Event.{Event}
-use Rattle.world_model.specs.declared.events.Event.TheVariants.{Begin, Try, Kept, SayTo, Say, Take, Hear, Enter, Fall, Rise}
+use Rattle.world_model.specs.declared.events.Event.TheVariants.{Begin, Try, Kept, SayTo, Say, Take, Hear, Enter, Soften, Fall, Rise}
 use Rattle.world_model.specs.declared.events.StepFault.TheVariants as fault
 use Rattle.world_model.specs.declared.exact.ExactWorld.{ExactWorld}
 use Rattle.world_model.specs.ExactWorlds.{ran, after, effect, refusal}
@@ -111,3 +112,25 @@ GreatestAttempt =
     let w = resumed three_nodes (replicate 3 (empty_station First)) (MAX_ATTEMPT ∷ []) in
     (refusal w (Begin 1 Read (codes "a") 1) ≡ Some fault.Down)
     × (refusal (after w (Rise (actor.Client 1) Old)) (Begin 1 Read (codes "a") 1) ≡ Some fault.AttemptsSpent)
+
+-- one node, of one vote, which is enough for anybody
+abbrev pub one_node : List Ballot
+one_node = record { votes = 1 ∷ []; read = 1; write = 1 } ∷ []
+
+-- client 1 is inside `a` as a writer, by the messages 1 and 2, and client 2 asks to read `a`, by message 3
+abbrev pub one_writes : List Event
+one_writes =
+    let one = Begin 1 Write (codes "a") 1 ∷ Try (actor.Client 1) ∷ Kept (actor.Client 1) ∷ asks 1 1 ++ keeps 1 ++ replies 1 2 ++ Enter 1 ∷ [] in
+    let two = Begin 2 Read (codes "a") 1 ∷ Try (actor.Client 2) ∷ Kept (actor.Client 2) ∷ SayTo 2 1 ∷ Take 1 3 ∷ keeps 1 ++ Say 1 ∷ [] in
+    Rise (actor.Node 1) Old ∷ Rise (actor.Client 1) Old ∷ Rise (actor.Client 2) Old ∷ one ++ two
+
+-- A writer that softens is inside as a reader, says so to the node, and softens once only. The node then lets
+-- the reader that waited hold beside it.
+abbrev pub Softening : Type 0
+Softening =
+    let w = (ran one_writes (opening one_node (First ∷ []) 2)).world in
+    let v = after w (Soften 1) in
+    let told = (ran (SayTo 1 1 ∷ Take 1 5 ∷ keeps 1) v).world in
+    (effect w (Soften 1) ≡ Some effect.Softened) × (inside (codes "a") v ≡ first_ticket ∷ []) × (effect v (SayTo 1 1) ≡ Some (effect.Sent 5 (message.Soften 1 1 1)))
+    × (refusal v (Soften 1) ≡ Some fault.WrongPhase)
+    × (holding 1 (codes "a") told ≡ Some (first_ticket ∷ record { client = 2; attempt = 1; mode = Read; resource = codes "a" } ∷ []))

@@ -37,7 +37,7 @@ node_of v = record { kept = station_of v.kept; tried = option_map station_of v.t
 
 -- the list of nodes that granted a ticket, as a set
 abbrev pub present_of : ExactPresent → Present
-present_of p = record { ticket = p.ticket; place = p.place; granted = has_node p.granted }
+present_of p = record { ticket = p.ticket; place = p.place; granted = has_node p.granted; softened = p.softened }
 
 abbrev pub client_phase_of : ExactClientPhase → ClientPhase
 client_phase_of client.Down = ClientDown

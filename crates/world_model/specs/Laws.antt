@@ -51,6 +51,7 @@ NamesItsMessage w (event.SayTo c n) = Unit {0}
 NamesItsMessage w (event.Say n) = Unit {0}
 NamesItsMessage w (event.Enter c) = Unit {0}
 NamesItsMessage w (event.Leave c) = Unit {0}
+NamesItsMessage w (event.Soften c) = Unit {0}
 NamesItsMessage w (event.Fall who) = Unit {0}
 NamesItsMessage w (event.Rise who age) = Unit {0}
 
@@ -97,6 +98,7 @@ IsNumbered w (effect.Took m changed) = Unit {0}
 IsNumbered w (effect.Heard m heard) = Unit {0}
 IsNumbered w effect.Inside = Unit {0}
 IsNumbered w effect.Outside = Unit {0}
+IsNumbered w effect.Softened = Unit {0}
 IsNumbered w effect.Down = Unit {0}
 IsNumbered w effect.Up = Unit {0}
 

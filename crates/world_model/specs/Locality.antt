@@ -66,6 +66,7 @@ IsEffectOf (event.Take n k) done = (m : Message) × (changed : Bool) × (is_for_
 IsEffectOf (event.Hear c k) done = (m : Message) × (heard : Heard) × (is_for_client m c ≡ true) × (done ≡ effect.Heard m heard)
 IsEffectOf (event.Enter c) done = done ≡ effect.Inside
 IsEffectOf (event.Leave c) done = done ≡ effect.Outside
+IsEffectOf (event.Soften c) done = done ≡ effect.Softened
 IsEffectOf (event.Fall who) done = done ≡ effect.Down
 IsEffectOf (event.Rise who age) done = done ≡ effect.Up
 
@@ -83,6 +84,7 @@ IsAsListed w (event.SayTo c n) done = Unit {0}
 IsAsListed w (event.Say n) done = Unit {0}
 IsAsListed w (event.Enter c) done = Unit {0}
 IsAsListed w (event.Leave c) done = Unit {0}
+IsAsListed w (event.Soften c) done = Unit {0}
 IsAsListed w (event.Fall who) done = Unit {0}
 IsAsListed w (event.Rise who age) done = Unit {0}
 

@@ -84,6 +84,7 @@ IsListFault (event.Try who) f = ⊥
 IsListFault (event.Kept who) f = ⊥
 IsListFault (event.Enter c) f = ⊥
 IsListFault (event.Leave c) f = ⊥
+IsListFault (event.Soften c) f = ⊥
 IsListFault (event.Fall who) f = ⊥
 IsListFault (event.Rise who age) f = ⊥
 
@@ -98,6 +99,7 @@ message_of (effect.Sent k m) = None
 message_of (effect.Said first count) = None
 message_of effect.Inside = None
 message_of effect.Outside = None
+message_of effect.Softened = None
 message_of effect.Down = None
 message_of effect.Up = None
 

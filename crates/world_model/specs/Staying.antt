@@ -1,7 +1,8 @@
 -- Who is inside stays inside until its own Leave or Fall.
-use Rattle.std.specs.Prelude.{◌≡◌, ℕ, Bool, true, false, List, Option, Some, None}
+use Rattle.std.specs.Prelude.{◌≡◌, ℕ, ◌⊎◌, Bool, true, false, List, Option, Some, None}
 use Rattle.std.specs.List.{AllByRecursion}
 use Rattle.lock_messages.specs.declared.ids.Actor.TheVariants as actor
+use Rattle.lock_messages.specs.declared.tickets.Mode.TheVariants.{Write}
 use Rattle.lock_messages.specs.declared.tickets.Ticket.{Ticket}
 use Rattle.lock_model.specs.Ballots.{Ballot}
 use Rattle.world_model.specs.declared.events.Effect.{Effect}
@@ -12,7 +13,7 @@ use Rattle.world_model.specs.ExactWorlds.{actor_of}
 use Rattle.world_model.specs.Laws.{Takes}
 use Rattle.world_model.specs.Locality.{IsHistory, own_events, local_part}
 use Rattle.world_model.specs.Parts.{Part, NoPart, NodePart, ClientPart}
-use Rattle.world_model.specs.Views.{ticket_in, ticket_inside}
+use Rattle.world_model.specs.Views.{softened_ticket, ticket_in, ticket_inside}
 
 -- the ticket of an actor that is inside, by its part of the world
 abbrev pub inside_ticket : Part → Option Ticket
@@ -23,6 +24,7 @@ inside_ticket (ClientPart k) = ticket_in k.phase
 -- the event is a Leave or a Fall
 abbrev pub leaves_or_falls : Event → Bool
 leaves_or_falls (event.Leave c) = true
+leaves_or_falls (event.Soften c) = false
 leaves_or_falls (event.Fall who) = true
 leaves_or_falls (event.Begin c m x place) = false
 leaves_or_falls (event.Try who) = false
@@ -34,21 +36,46 @@ leaves_or_falls (event.Hear c k) = false
 leaves_or_falls (event.Enter c) = false
 leaves_or_falls (event.Rise who age) = false
 
+-- the event is a Soften
+abbrev pub is_soften : Event → Bool
+is_soften (event.Soften c) = true
+is_soften (event.Begin c m x place) = false
+is_soften (event.Try who) = false
+is_soften (event.Kept who) = false
+is_soften (event.SayTo c n) = false
+is_soften (event.Say n) = false
+is_soften (event.Take n k) = false
+is_soften (event.Hear c k) = false
+is_soften (event.Enter c) = false
+is_soften (event.Leave c) = false
+is_soften (event.Fall who) = false
+is_soften (event.Rise who age) = false
+
+-- none of these events is a Soften
+abbrev pub HasNoSoften : List (Event × Effect) → Type 0
+HasNoSoften own = AllByRecursion (λ p. is_soften p.0 ≡ false) own
+
+-- the second ticket is the first one, or it as a reader's where it was a writer's
+abbrev pub IsOrSoftens : Ticket → Ticket → Type 0
+IsOrSoftens t u = (u ≡ t) ⊎ ((t.mode ≡ Write) × (u ≡ softened_ticket t))
+
 -- none of these events is a Leave or a Fall
 abbrev pub HasNoEnd : List (Event × Effect) → Type 0
 HasNoEnd own = AllByRecursion (λ p. leaves_or_falls p.0 ≡ false) own
 
 -- A client's part that is inside with a ticket is inside with the same ticket after any events of its own
--- that have no Leave and no Fall.
+-- that have no Leave and no Fall; or with it as a reader's, but only where one of them is a Soften.
 abbrev pub PartsStayInside : Type 0
 PartsStayInside = (b : List Ballot) (p : Part) (t : Ticket) (own : List (Event × Effect)) → inside_ticket p ≡ Some t → HasNoEnd own →
-    inside_ticket (local_part b p own) ≡ Some t
+    (u : Ticket) × (inside_ticket (local_part b p own) ≡ Some u) × IsOrSoftens t u × (HasNoSoften own → u ≡ t)
 
--- So a client inside a resource is inside it, with the same ticket, after every history in which it has no
--- Leave and no Fall of its own, whatever events of others the history has.
+-- So a client inside a resource is inside it, with the same ticket or with it as a reader's, after every
+-- history in which it has no Leave and no Fall of its own, whatever events of others the history has; and
+-- without a Soften of its own with the same one.
 abbrev pub ClientsStayInside : Type 0
 ClientsStayInside = (w v : ExactWorld) (history : List (Event × Effect)) (c : ℕ) (t : Ticket) → IsHistory w history v →
-    ticket_inside c w ≡ Some t → HasNoEnd (own_events (actor.Client c) history) → ticket_inside c v ≡ Some t
+    ticket_inside c w ≡ Some t → HasNoEnd (own_events (actor.Client c) history) →
+    (u : Ticket) × (ticket_inside c v ≡ Some u) × IsOrSoftens t u × (HasNoSoften (own_events (actor.Client c) history) → u ≡ t)
 
 -- And its own Leave or Fall ends it: after it the client is inside nothing.
 abbrev pub LeavingEndsIt : Type 0

@@ -23,6 +23,7 @@ asks_for_memory (event.Kept who) = false
 asks_for_memory (event.Hear c k) = false
 asks_for_memory (event.Enter c) = false
 asks_for_memory (event.Leave c) = false
+asks_for_memory (event.Soften c) = false
 asks_for_memory (event.Fall who) = false
 asks_for_memory (event.Rise (actor.Client c) age) = false
 

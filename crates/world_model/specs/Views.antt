@@ -3,15 +3,25 @@ use Rattle.std.specs.Prelude.{ℕ, ◌&&◌, Bool, List, [], ◌∷◌, Option, 
 use Rattle.std.specs.List.{flat_map}
 use Rattle.std.specs.Option.{option_map}
 use Rattle.std.specs.Str.{bytes_eq}
+use Rattle.lock_messages.specs.declared.tickets.Mode.TheVariants.{Read}
 use Rattle.lock_messages.specs.declared.tickets.Ticket.{Ticket}
 use Rattle.lock_model.specs.declared.entries.Entry.{Entry}
 use Rattle.lock_model.specs.declared.entries.Live.{Live}
 use Rattle.lock_model.specs.ExactStations.{is_waiting, holds}
 use Rattle.world_model.specs.declared.exact.ExactClient.{ExactClient}
 use Rattle.world_model.specs.declared.exact.ExactClientPhase.{ExactClientPhase}
+use Rattle.world_model.specs.declared.exact.ExactPresent.{ExactPresent}
 use Rattle.world_model.specs.declared.exact.ExactClientPhase.TheVariants as client
 use Rattle.world_model.specs.declared.exact.ExactWorld.{ExactWorld}
 use Rattle.world_model.specs.ExactWorlds.{numbered}
+
+-- the ticket as a reader's
+abbrev pub softened_ticket : Ticket → Ticket
+softened_ticket t = record { client = t.client; attempt = t.attempt; mode = Read; resource = t.resource }
+
+-- the ticket of a present attempt: the one that was asked with, and once it is softened that as a reader's
+abbrev pub present_ticket : ExactPresent → Ticket
+present_ticket p = if p.softened then softened_ticket p.ticket else p.ticket
 
 -- the ticket of a client that is inside
 abbrev pub ticket_in : ExactClientPhase → Option Ticket
@@ -19,7 +29,7 @@ ticket_in client.Down = None
 ticket_in client.Idle = None
 ticket_in (client.Chosen t place) = None
 ticket_in (client.Asking p) = None
-ticket_in (client.Inside p) = Some p.ticket
+ticket_in (client.Inside p) = Some (present_ticket p)
 
 abbrev pub ticket_at : Option ExactClient → Option Ticket
 ticket_at None = None

@@ -1,8 +1,9 @@
 -- The world as sets and maps, and what may happen next.
-use Rattle.std.specs.Prelude.{◌≡◌, ◌≢◌, ◌↔◌, ℕ, ◌+◌, ◌<◌, ◌≤◌, ◌==◌, ◌||◌, ◌⊎◌, Bool, true, false, List, [], ◌∷◌, Option, Some, None, IfSome}
+use Rattle.std.specs.Prelude.{◌≡◌, ◌≢◌, ◌↔◌, ℕ, ◌+◌, ◌<◌, ◌≤◌, ◌==◌, ◌||◌, ◌⊎◌, Bool, true, false, List, [], ◌∷◌, Option, Some, None, IfSome, if◌then◌else◌}
 use Rattle.lock_messages.specs.declared.ids.TheConstants.{MAX_ATTEMPT}
 use Rattle.lock_messages.specs.declared.ids.Actor.TheVariants as actor
 use Rattle.lock_messages.specs.declared.tickets.Mode.{Mode}
+use Rattle.lock_messages.specs.declared.tickets.Mode.TheVariants.{Read, Write}
 use Rattle.lock_messages.specs.declared.tickets.Ticket.{Ticket}
 use Rattle.lock_messages.specs.declared.messages.Message.{Message}
 use Rattle.lock_messages.specs.declared.messages.Message.TheVariants as message
@@ -12,7 +13,7 @@ use Rattle.lock_model.specs.declared.hearing.Heard.TheVariants as heard
 use Rattle.lock_model.specs.Ballots.{Ballot, HasAnyNode, HasPlace, IsEnough, ballot_at, node_count}
 use Rattle.lock_model.specs.Stations.{Free, Standing, Station, IsLawful, IsCaused}
 use Rattle.lock_model.specs.Decisions.{Among, Decides}
-use Rattle.lock_model.specs.Hearing.{HearsOfTicket, HearsAtRest}
+use Rattle.lock_model.specs.Hearing.{HearsOfTicket, HearsSoftened, HearsAtRest}
 use Rattle.world_model.specs.declared.events.Age.{Age}
 use Rattle.world_model.specs.declared.events.Age.TheVariants.{Old, New}
 use Rattle.world_model.specs.declared.events.Event.{Event}
@@ -44,12 +45,17 @@ pub record EachStation (P : Station → Type 0) (v : Node) : Type 0 where
   pub tried : IfSome v.tried P
   pub decided : IfDecided v.phase P
 
--- what a client has of its present attempt: its ticket, the place of the ballot by which its votes count,
--- and the set of nodes that granted it
+-- what a client has of its present attempt: the ticket that it asked with, the place of the ballot by which
+-- its votes count, the set of nodes that granted it, and whether it has softened
 pub record Present : Type 0 where
   pub ticket : Ticket
   pub place : ℕ
   pub granted : ℕ → Bool
+  pub softened : Bool
+
+-- the mode in which the client of a present attempt is inside: who has softened is a reader
+abbrev pub present_mode : Present → Mode
+present_mode p = if p.softened then Read else p.ticket.mode
 
 -- what a client is about
 pub data ClientPhase : Type 0 where
@@ -118,7 +124,7 @@ pub data TriesStation : Node → Node → Type 0 where
 
 -- a ticket and a place with which the client begins to ask, and no node has granted it
 abbrev pub first_of : Ticket → ℕ → Present
-first_of t place = record { ticket = t; place = place; granted = λ n. false }
+first_of t place = record { ticket = t; place = place; granted = λ n. false; softened = false }
 
 -- what is tried becomes what is kept
 pub data KeepsAttempt : Client → Client → Type 0 where
@@ -127,10 +133,12 @@ pub data KeepsAttempt : Client → Client → Type 0 where
 pub data KeepsStation : Node → Node → Type 0 where
   keeps_station : (kept tried s : Station) (replies : List Message) → KeepsStation (record { kept = kept; tried = Some tried; phase = Decided s replies }) (record { kept = tried; tried = None; phase = Stored replies })
 
--- a client says to a node the request of its ticket, or while it rests the release of its attempt
+-- a client says to a node the request of its ticket or, where it has softened, that; or while it rests the
+-- release of its attempt
 pub data Tells (c n : ℕ) : Client → List Message → Type 0 where
   asks : (kept : ℕ) (tried : Option ℕ) (p : Present) → Tells c n (record { kept = kept; tried = tried; phase = Asking p }) (message.Request n p.ticket ∷ [])
-  asks_inside : (kept : ℕ) (tried : Option ℕ) (p : Present) → Tells c n (record { kept = kept; tried = tried; phase = IsIn p }) (message.Request n p.ticket ∷ [])
+  asks_inside : (kept : ℕ) (tried : Option ℕ) (p : Present) → p.softened ≡ false → Tells c n (record { kept = kept; tried = tried; phase = IsIn p }) (message.Request n p.ticket ∷ [])
+  tells_softened : (kept : ℕ) (tried : Option ℕ) (p : Present) → p.softened ≡ true → Tells c n (record { kept = kept; tried = tried; phase = IsIn p }) (message.Soften n c p.ticket.attempt ∷ [])
   releases : (kept : ℕ) (tried : Option ℕ) → 0 < kept → Tells c n (record { kept = kept; tried = tried; phase = ClientIdle }) (message.Release n c kept ∷ [])
 
 -- a node says its replies
@@ -154,19 +162,24 @@ grants_from (message.Busy n t) k = false
 grants_from (message.Over n c a) k = false
 grants_from (message.Done n c a) k = false
 grants_from (message.Muddled n c a) k = false
+grants_from (message.Soften n c a) k = false
+grants_from (message.Softened n c a) k = false
 
 abbrev pub gained : Message → Present → Present
 gained m p = record p { granted = λ k. grants_from m k || p.granted k }
 
--- a client hears a message: a vote counts where it has the ticket, and nothing else changes it
+-- A client hears a message: a vote counts where it has the ticket and hasn't softened it, and nothing else
+-- changes it.
 pub data Hears (b : List Ballot) (c : ℕ) (m : Message) : Client → Client → Type 0 where
   counts : (kept : ℕ) (tried : Option ℕ) (p : Present) → HearsOfTicket (node_count b) p.ticket p.granted m heard.Counted →
       Hears b c m (record { kept = kept; tried = tried; phase = Asking p }) (record { kept = kept; tried = tried; phase = Asking (gained m p) })
-  counts_inside : (kept : ℕ) (tried : Option ℕ) (p : Present) → HearsOfTicket (node_count b) p.ticket p.granted m heard.Counted →
+  counts_inside : (kept : ℕ) (tried : Option ℕ) (p : Present) → p.softened ≡ false → HearsOfTicket (node_count b) p.ticket p.granted m heard.Counted →
       Hears b c m (record { kept = kept; tried = tried; phase = IsIn p }) (record { kept = kept; tried = tried; phase = IsIn (gained m p) })
   passes : (kept : ℕ) (tried : Option ℕ) (p : Present) (h : Heard) → HearsOfTicket (node_count b) p.ticket p.granted m h → h ≢ heard.Counted →
       Hears b c m (record { kept = kept; tried = tried; phase = Asking p }) (record { kept = kept; tried = tried; phase = Asking p })
-  passes_inside : (kept : ℕ) (tried : Option ℕ) (p : Present) (h : Heard) → HearsOfTicket (node_count b) p.ticket p.granted m h → h ≢ heard.Counted →
+  passes_inside : (kept : ℕ) (tried : Option ℕ) (p : Present) (h : Heard) → p.softened ≡ false → HearsOfTicket (node_count b) p.ticket p.granted m h → h ≢ heard.Counted →
+      Hears b c m (record { kept = kept; tried = tried; phase = IsIn p }) (record { kept = kept; tried = tried; phase = IsIn p })
+  passes_softened : (kept : ℕ) (tried : Option ℕ) (p : Present) (h : Heard) → p.softened ≡ true → HearsSoftened (node_count b) c p.ticket.attempt m h →
       Hears b c m (record { kept = kept; tried = tried; phase = IsIn p }) (record { kept = kept; tried = tried; phase = IsIn p })
   passes_idle : (kept : ℕ) (tried : Option ℕ) (h : Heard) → HearsAtRest (node_count b) c kept m h →
       Hears b c m (record { kept = kept; tried = tried; phase = ClientIdle }) (record { kept = kept; tried = tried; phase = ClientIdle })
@@ -182,6 +195,15 @@ pub data Enters (b : List Ballot) : Client → Client → Type 0 where
 pub data Leaves : Client → Client → Type 0 where
   gives_up : (kept : ℕ) (tried : Option ℕ) (p : Present) → Leaves (record { kept = kept; tried = tried; phase = Asking p }) (record { kept = kept; tried = tried; phase = ClientIdle })
   leaves : (kept : ℕ) (tried : Option ℕ) (p : Present) → Leaves (record { kept = kept; tried = tried; phase = IsIn p }) (record { kept = kept; tried = tried; phase = ClientIdle })
+
+-- the same attempt, softened
+abbrev pub soft : Present → Present
+soft p = record p { softened = true }
+
+-- A client that is inside as a writer is inside as a reader from now on, with the votes that it has. They
+-- are not counted anew, also where a reader needs more.
+pub data Softens : Client → Client → Type 0 where
+  softens : (kept : ℕ) (tried : Option ℕ) (p : Present) → p.ticket.mode ≡ Write → p.softened ≡ false → Softens (record { kept = kept; tried = tried; phase = IsIn p }) (record { kept = kept; tried = tried; phase = IsIn (soft p) })
 
 -- a fall loses all but what is kept and tried
 pub data NodeFalls : Node → Node → Type 0 where
@@ -221,6 +243,7 @@ Happens s w (event.Take n k) v = (m : Message) × Among m w.sent × (is_for_node
 Happens s w (event.Hear c k) v = (m : Message) × Among m w.sent × (is_for_client m c ≡ true) × ByClient s w v c (Hears s.ballots c m)
 Happens s w (event.Enter c) v = ByClient s w v c (Enters s.ballots)
 Happens s w (event.Leave c) v = ByClient s w v c Leaves
+Happens s w (event.Soften c) v = ByClient s w v c Softens
 Happens s w (event.Fall (actor.Node n)) v = ByNode s w v n NodeFalls
 Happens s w (event.Fall (actor.Client c)) v = ByClient s w v c ClientFalls
 Happens s w (event.Rise (actor.Node n) age) v = ByNode s w v n (NodeRises age)
@@ -234,7 +257,7 @@ Run s w (e ∷ events) v = (u : World) × Happens s w e u × Run s u events v
 
 -- the client is inside the resource, in this mode
 abbrev pub IsInside : World → ℕ → Mode → List ℕ → Type 0
-IsInside w c m x = (p : Present) × ((w.clients c).phase ≡ IsIn p) × (p.ticket.mode ≡ m) × (p.ticket.resource ≡ x)
+IsInside w c m x = (p : Present) × ((w.clients c).phase ≡ IsIn p) × (present_mode p ≡ m) × (p.ticket.resource ≡ x)
 
 -- neither the floor nor the live attempt is above the attempt that the client has kept
 pub record IsWithin (kept : ℕ) (standing : Standing) : Type 0 where

@@ -25,7 +25,7 @@ pub enum Event {
     Try(Actor),
     /// The actor has kept it.
     Kept(Actor),
-    /// The client says to the node what it has to say: its request, or its release.
+    /// The client says to the node what it has to say: its request, its softening, or its release.
     SayTo(ClientId, NodeId),
     /// The node says its replies.
     Say(NodeId),
@@ -37,6 +37,8 @@ pub enum Event {
     Enter(ClientId),
     /// The client leaves, or gives up asking.
     Leave(ClientId),
+    /// The client, inside as a writer, is a reader from now on (our own).
+    Soften(ClientId),
     /// The actor falls: all that it hasn't kept is lost, but for what it was trying to keep.
     Fall(Actor),
     /// The actor rises with what it finds in its record.
@@ -61,6 +63,7 @@ pub enum Effect {
     Heard(Message, Heard),
     Inside,
     Outside,
+    Softened,
     Down,
     Up,
 }

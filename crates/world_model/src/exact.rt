@@ -32,13 +32,15 @@ pub struct ExactNode {
     pub phase: ExactNodePhase,
 }
 
-/// What a client has of its present attempt: its ticket, the place of the ballot by which its votes count,
-/// and the nodes that granted it, in ascending order.
+/// What a client has of its present attempt: the ticket that it asked with, the place of the ballot by which
+/// its votes count, the nodes that granted it, in ascending order, and whether it has softened: then it is a
+/// reader, whatever the ticket says.
 #[derive(Debug, Drop)]
 pub struct ExactPresent {
     pub ticket: Ticket,
     pub place: u8,
     pub granted: LinkedList<NodeId>,
+    pub softened: bool,
 }
 
 /// What a client is about.

@@ -1,7 +1,7 @@
 //! Laws of the definitions. Each function computes nothing: its contract is a theorem.
 
 ghost use Rattle.std.specs.Prelude.{◌≡◌};
-ghost use Rattle.world_model.specs.Examples.{FirstReader, OneGrantIsTooFew, SayBeforeKept, RestartWithOldRecord, RestartWithNewRecord, RefusedRises, RestartedClient, NoSuchPlace, GreatestAttempt};
+ghost use Rattle.world_model.specs.Examples.{FirstReader, OneGrantIsTooFew, SayBeforeKept, RestartWithOldRecord, RestartWithNewRecord, RefusedRises, RestartedClient, NoSuchPlace, GreatestAttempt, Softening};
 ghost use Rattle.world_model.specs.Exclusion.{WritersAreAlone, StationsStaySound, NothingIsMuddled};
 ghost use Rattle.world_model.specs.Laws.{ExactStepsAreAllowed, StepsKeepSound, AllowedStepsAreTaken, ExactRunsAreRuns, ResumedIsSound, ResumedIsLawful, OnlyWithinIsLawful, OpeningIsResumable, SaidNumbersFit, SoundIsExclusive, InsideIsTheSet, WriterInsideIsOnly, WaitingIsTheSet, HoldingIsTheSet};
 ghost use Rattle.world_model.specs.Locality.{PlacesAreApart, StepsChangeOnePart, OwnRefusalsComeFirst, ListRefusalsComeSecond, FullOnlyWithoutRoom, MemoryIsNoRefusal, EffectsAreOfTheirEvents, MessagesAreAsListed, PartsAreLocal, RefusalsAreLocal, HistoriesAreRuns};
@@ -100,7 +100,8 @@ pub fn locality()
 }
 
 /// A client that is inside a resource is inside it, with the same ticket, until its own Leave or Fall,
-/// whatever events of others come between; and each of these two ends it. So its own events tell it.
+/// whatever events of others come between; its own Soften alone makes it a reader there. Each of the first
+/// two ends it. So its own events tell it.
 pub fn inside_until_leave_or_fall()
     ensures parts { PartsStayInside }
     ensures clients { ClientsStayInside }
@@ -121,6 +122,7 @@ pub fn worked_examples()
     ensures restarted_client { RestartedClient }
     ensures no_such_place { NoSuchPlace }
     ensures greatest_attempt { GreatestAttempt }
+    ensures softening { Softening }
 {}
 
 /// The limit by number: a world has at most 1,048,576 messages.

@@ -4,7 +4,8 @@
 //! An `Event` is one atomic action of one actor, an `Effect` what it did, a `StepFault` why it was
 //! refused. The definitions stand in `specs/`, at two levels. `Worlds` has the world as sets and
 //! maps and what may happen next as a relation; it is what a reader has to believe, and `Exclusion`
-//! says of it that a writer is alone. `ExactWorlds` has it exactly, with entries in order and
+//! says of it that a writer is alone. A writer that is inside may soften: from then on it is a
+//! reader, without leaving (our own). `ExactWorlds` has it exactly, with entries in order and
 //! messages numbered from 1, and `step` as a function to the world after and the effect, or to the
 //! lowest refusal that applies. `Forgetting` leads from the exact world to the other, `Parts` says
 //! which part of the world is an actor's own.

@@ -63,6 +63,66 @@ fn falls_inside(_rt: HostRuntime) -> Outcome {
 }
 
 #[test]
+fn softens_inside(_rt: HostRuntime) -> Outcome {
+    let (to, reader) = (node(1)?, ticket(1, Mode::Read)?);
+    let soften = Message::Soften(to, reader.client, reader.attempt);
+    let softened = Message::Softened(to, reader.client, reader.attempt);
+    let grant = Message::Grant(to, ticket(1, Mode::Write)?);
+    let mut one = entered()?;
+    check(one.hear(&softened) == Heard::NotMine)?;
+    one.soften()?;
+    check(one.inside() == Some(reader) && one.message_for(to) == Ok(soften))?;
+    check(one.hear(&softened) == Heard::Softened && one.hear(&grant) == Heard::NotMine)?;
+    check(one.soften() == Err(StepFault::WrongPhase) && one.inside() == Some(reader))?;
+    one.leave()?;
+    let release = Message::Release(to, reader.client, reader.attempt);
+    check(one.inside().is_none() && one.message_for(to) == Ok(release))?;
+    check(one.hear(&softened) == Heard::NotMine)
+}
+
+/// Softening isn't kept: a client that rises is outside, and its attempt over.
+#[test]
+fn falls_softened(_rt: HostRuntime) -> Outcome {
+    let (to, reader) = (node(1)?, ticket(1, Mode::Read)?);
+    let mut one = entered()?;
+    one.soften()?;
+    one.fall()?;
+    check(one.inside().is_none() && one.soften() == Err(StepFault::Down))?;
+    one.rise(Age::Old)?;
+    let release = Message::Release(to, reader.client, reader.attempt);
+    check(one.inside().is_none() && one.message_for(to) == Ok(release))?;
+    check(one.soften() == Err(StepFault::WrongPhase) && one.kept() == 1)
+}
+
+/// c1 inside as a reader, on the vote of n1.
+fn reading() -> Result<WorldClient, Failure> {
+    let mut one = empty()?;
+    one.rise(Age::Old)?;
+    check(one.begin(Mode::Read, resource()?, 1) == Ok(attempt(1)?))?;
+    one.start_keeping()?;
+    one.keep()?;
+    let grant = Message::Grant(node(1)?, ticket(1, Mode::Read)?);
+    check(one.hear(&grant) == Heard::Counted)?;
+    one.enter()?;
+    Ok(one)
+}
+
+#[test]
+fn nobody_else_softens(_rt: HostRuntime) -> Outcome {
+    let mut down = empty()?;
+    check(down.soften() == Err(StepFault::Down))?;
+    down.rise(Age::Old)?;
+    check(down.soften() == Err(StepFault::WrongPhase))?;
+    let mut chosen = trying()?;
+    check(chosen.soften() == Err(StepFault::WrongPhase))?;
+    chosen.keep()?;
+    check(chosen.soften() == Err(StepFault::WrongPhase))?;
+    let mut reader = reading()?;
+    check(reader.soften() == Err(StepFault::WrongPhase))?;
+    check(reader.inside() == Some(ticket(1, Mode::Read)?))
+}
+
+#[test]
 fn restarted_client(_rt: HostRuntime) -> Outcome {
     let mut one = trying()?;
     one.fall()?;

@@ -1,5 +1,5 @@
 // Events of a fixed generator: 5 nodes and 6 clients, 2 resources. Messages come late, again and out of
-// order, or never; actors fall and rise; every client in turn asks, enters and releases.
+// order, or never; actors fall and rise; every client in turn asks, enters, softens and releases.
 
 use lock_messages::{Actor, ClientId, Message, Mode, NodeId, ResourceName};
 use rand_core::utils::NextWord;
@@ -52,18 +52,22 @@ fn some_actor(words: &mut Pcg32) -> Result<Actor, Failure> {
 /// What its actor does with a message.
 fn delivery(message: Message, number: u32) -> Event {
     match message {
-        Message::Request(node, _) | Message::Release(node, _, _) => Event::Take(node, number),
+        Message::Request(node, _) | Message::Release(node, _, _) | Message::Soften(node, _, _) => {
+            Event::Take(node, number)
+        }
         Message::Grant(_, ticket) | Message::Busy(_, ticket) => Event::Hear(ticket.client, number),
         Message::Over(_, client, _)
         | Message::Done(_, client, _)
-        | Message::Muddled(_, client, _) => Event::Hear(client, number),
+        | Message::Muddled(_, client, _)
+        | Message::Softened(_, client, _) => Event::Hear(client, number),
     }
 }
 
-/// One of the last three messages comes to its actor, again perhaps; before there is one, a node takes
-/// what was never sent.
+/// The last message comes to its actor, or now and then one of the two before it, again perhaps; before
+/// there is one, a node takes what was never sent.
 fn some_delivery(words: &mut Pcg32, world: &World, sent: u32) -> Result<Event, Failure> {
-    let number = sent.saturating_sub(words.next_word() % 3);
+    let back = (words.next_word() % 8).saturating_sub(5);
+    let number = sent.saturating_sub(back);
     match world.sent(number) {
         Some(message) => Ok(delivery(message, number)),
         None => {
@@ -73,35 +77,41 @@ fn some_delivery(words: &mut Pcg32, world: &World, sent: u32) -> Result<Event, F
     }
 }
 
-/// A step of an attempt, of 16: it is begun and kept, nodes are asked, and where it was left they are
-/// told.
+/// The steps of an attempt.
+const STEPS: u32 = 28;
+
+/// A step of an attempt: it is begun and kept, nodes are asked; where it is softened they are told, and
+/// where it was left.
 fn attempt_step(words: &mut Pcg32, round: u32) -> Result<Event, Failure> {
-    let client = client(round / 16)?;
+    let client = client(round / STEPS)?;
     let name = name(words.next_word())?;
     let node = node(round)?;
-    let mode = if words.next_word() % 3 == 0 {
+    let mode = if words.next_word() % 2 == 0 {
         Mode::Write
     } else {
         Mode::Read
     };
-    Ok(match round % 16 {
-        0 => Event::Begin(client, mode, name, 1 + (round / 16 % 2) as u8),
+    Ok(match round % STEPS {
+        0 => Event::Begin(client, mode, name, 1 + (round / STEPS % 2) as u8),
         1 => Event::Try(Actor::Client(client)),
         2 => Event::Kept(Actor::Client(client)),
-        9..=11 => Event::Enter(client),
-        12 => Event::Leave(client),
+        11 | 12 => Event::Enter(client),
+        13 => Event::Soften(client),
+        17 => Event::Leave(client),
         _ => Event::SayTo(client, node),
     })
 }
 
-/// Mostly the client whose attempt it is enters; now and then an actor falls or rises.
+/// Mostly the client whose attempt it is enters; now and then an actor falls or rises, or the client
+/// softens.
 fn rare_event(words: &mut Pcg32, round: u32) -> Result<Event, Failure> {
     let who = some_actor(words)?;
-    let client = client(round / 16)?;
+    let client = client(round / STEPS)?;
     Ok(match words.next_word() % 20 {
         0 => Event::Fall(who),
         1..=3 => Event::Rise(who, Age::New),
         4..=8 => Event::Rise(who, Age::Old),
+        9 => Event::Soften(client),
         _ => Event::Enter(client),
     })
 }

@@ -24,4 +24,6 @@ mod random_events;
 #[cfg(test)]
 mod records;
 #[cfg(test)]
+mod softening;
+#[cfg(test)]
 mod values;

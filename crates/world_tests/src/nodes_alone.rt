@@ -1,6 +1,6 @@
 // One node of the world by itself: what it keeps over a restart, and what it says.
 
-use crate::values::{node, request, ticket};
+use crate::values::{attempt, client, node, request, ticket};
 use admission_policy::{Admission, FirstProblem, SecondProblem};
 use lock_messages::{Message, Mode};
 use stable_record::read_node;
@@ -13,6 +13,19 @@ use world_model::{Age, StepFault};
 const ONE: [u8; 28] = [
     0x01, 0x01, 0x00, 0x01, //
     0x00, 0x00, 0x00, 0x01, 0x00, 0x00, 0x00, 0x00, 0x00, 0x00, 0x00, 0x00, 0x02, 0x00, 0x00, 0x00,
+    0x00, 0x00, 0x00, 0x00, 0x01, 0x00, 0x01, 0x61,
+];
+
+/// The records of problem 1 in which c1 holds `a` as a writer, and once it has softened.
+const WRITES: [u8; 28] = [
+    0x01, 0x01, 0x00, 0x01, //
+    0x00, 0x00, 0x00, 0x01, 0x00, 0x00, 0x00, 0x00, 0x00, 0x00, 0x00, 0x00, 0x02, 0x00, 0x00, 0x00,
+    0x00, 0x00, 0x00, 0x00, 0x01, 0x01, 0x01, 0x61,
+];
+
+const SOFTENED: [u8; 28] = [
+    0x01, 0x01, 0x00, 0x01, //
+    0x00, 0x00, 0x00, 0x01, 0x00, 0x00, 0x00, 0x00, 0x00, 0x00, 0x00, 0x00, 0x03, 0x00, 0x00, 0x00,
     0x00, 0x00, 0x00, 0x00, 0x01, 0x00, 0x01, 0x61,
 ];
 
@@ -32,6 +45,45 @@ fn trying(alloc: Global) -> Result<WorldNode, Failure> {
     one.start_keeping()?;
     check(changed && one.replies() == Err(StepFault::NotStored))?;
     Ok(one)
+}
+
+/// n1 with this record, up.
+fn risen(alloc: Global, record: &[u8]) -> Result<WorldNode, Failure> {
+    let id = node(1)?;
+    let Ok(record) = read_node(alloc, record) else {
+        return Err(Failure::Memory);
+    };
+    let policy: Box<dyn Admission + Send> = Box::new(alloc, FirstProblem)?;
+    let Ok(mut one) = WorldNode::opened(alloc, id, record, policy) else {
+        return Err(Failure::Wrong(0));
+    };
+    one.rise(Age::Old)?;
+    Ok(one)
+}
+
+fn soften() -> Result<Message, Failure> {
+    Ok(Message::Soften(node(1)?, client(1)?, attempt(1)?))
+}
+
+fn softened() -> Result<Message, Failure> {
+    Ok(Message::Softened(node(1)?, client(1)?, attempt(1)?))
+}
+
+/// n1 with c1 as a writer, which has decided on its softening and tries to keep that.
+fn softening(alloc: Global) -> Result<WorldNode, Failure> {
+    let message = soften()?;
+    let mut one = risen(alloc, &WRITES)?;
+    let changed = one.take(&message)?;
+    one.start_keeping()?;
+    check(changed)?;
+    Ok(one)
+}
+
+/// Whether n1 has nothing to keep for this message, and answers it so.
+fn answers(one: &mut WorldNode, message: &Message, answer: Message) -> Outcome {
+    let changed = one.take(message)?;
+    let said = one.say()?;
+    check(!changed && said.as_slice() == [answer].as_slice())
 }
 
 /// n1 after it fell and rose with a record of this age.
@@ -64,6 +116,43 @@ fn restart_with_new_record(rt: HostRuntime) -> Outcome {
     let mut one = restarted(rt.alloc(), Age::New)?;
     let changed = one.take(&message)?;
     check(!changed && one.kept().entries.len() == 1)
+}
+
+#[test]
+fn softened_writer(rt: HostRuntime) -> Outcome {
+    let mut one = softening(rt.alloc())?;
+    one.keep()?;
+    let said = one.say()?;
+    check(said.as_slice() == [softened()?].as_slice())
+}
+
+/// n1 after it fell while it tried to keep the softening, and rose with a record of this age.
+fn restarted_softening(alloc: Global, age: Age) -> Result<WorldNode, Failure> {
+    let mut one = softening(alloc)?;
+    one.fall()?;
+    one.rise(age)?;
+    Ok(one)
+}
+
+#[test]
+fn restart_before_softening(rt: HostRuntime) -> Outcome {
+    let (request, grant) = (request(1, Mode::Write)?, ticket(1, Mode::Write)?);
+    let mut one = restarted_softening(rt.alloc(), Age::Old)?;
+    answers(&mut one, &request, Message::Grant(node(1)?, grant))
+}
+
+#[test]
+fn restart_after_softening(rt: HostRuntime) -> Outcome {
+    let request = request(1, Mode::Write)?;
+    let mut one = restarted_softening(rt.alloc(), Age::New)?;
+    answers(&mut one, &request, softened()?)
+}
+
+#[test]
+fn risen_with_a_softened_holder(rt: HostRuntime) -> Outcome {
+    let (message, answer) = (soften()?, softened()?);
+    let mut one = risen(rt.alloc(), &SOFTENED)?;
+    answers(&mut one, &message, answer)
 }
 
 #[test]

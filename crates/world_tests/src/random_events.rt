@@ -1,9 +1,10 @@
-// Long runs of a fixed generator: after each event a writer inside is alone. The contract of `inside`
-// says so of every world; this shows that it says it of worlds in which clients enter.
+// Long runs of a fixed generator: after each event a writer inside is alone, and whoever waits at a node
+// has a cause. Contracts say so of every world; this shows that they say it of worlds in which clients
+// enter and soften.
 
 use crate::generator::{CLIENTS, NODES, client, event_of_turn, name, node};
 use admission_policy::{Admission, FirstProblem, SecondProblem};
-use lock_messages::{Actor, Mode};
+use lock_messages::{Actor, Mode, NodeId, Ticket};
 use lock_model::Problem;
 use rand_pcg::Pcg32;
 use std::alloc::Global;
@@ -82,20 +83,53 @@ fn raise(world: &mut World) -> Outcome {
     Ok(())
 }
 
+/// Whether a writer is among these.
+fn have_writer(tickets: &[Ticket]) -> bool {
+    tickets.iter().any(|ticket| ticket.mode == Mode::Write)
+}
+
+/// Whether these are readers, or one writer alone.
+fn are_exclusive(tickets: &[Ticket]) -> bool {
+    !have_writer(tickets) || tickets.len() == 1
+}
+
 /// Whether those inside this resource are readers, or one writer alone.
 fn is_exclusive(world: &World, number: u32) -> Result<bool, Failure> {
     let name = name(number)?;
     let tickets = world.inside(&name)?;
-    let writes = tickets.iter().any(|ticket| ticket.mode == Mode::Write);
-    Ok(!writes || tickets.len() == 1)
+    Ok(are_exclusive(&tickets))
 }
 
-/// What a run has seen: the messages sent, the events taken and the entries.
+/// Whether each of these that wait has a cause: a writer any holder, a reader a writer that holds or,
+/// under problem 2, one that waits.
+fn are_caused(problem: Problem, holding: &[Ticket], waiting: &[Ticket]) -> bool {
+    let stops_readers = match problem {
+        Problem::First => have_writer(holding),
+        Problem::Second => have_writer(holding) || have_writer(waiting),
+    };
+    let stops_writers = !holding.is_empty();
+    waiting.iter().all(|ticket| match ticket.mode {
+        Mode::Read => stops_readers,
+        Mode::Write => stops_writers,
+    })
+}
+
+/// Whether a node's holders of this resource are readers, or one writer alone, and whoever waits for it has
+/// a cause.
+fn is_settled(world: &World, problem: Problem, node: NodeId, number: u32) -> Result<bool, Failure> {
+    let name = name(number)?;
+    let holding = world.holding(node, &name)?;
+    let waiting = world.waiting(node, &name)?;
+    Ok(are_exclusive(&holding) && are_caused(problem, &holding, &waiting))
+}
+
+/// What a run has seen: the messages sent, the events taken, the entries, and the writers that softened.
 #[derive(Clone, Copy)]
 struct Seen {
     sent: u32,
     taken: u32,
     entered: u32,
+    softened: u32,
 }
 
 /// How many messages were sent, after an event with this effect.
@@ -109,25 +143,33 @@ fn sent_after(sent: u32, effect: &Effect) -> u32 {
 
 fn seen_with(seen: Seen, effect: &Effect) -> Seen {
     let entries = if *effect == Effect::Inside { 1 } else { 0 };
+    let softens = if *effect == Effect::Softened { 1 } else { 0 };
     Seen {
         sent: sent_after(seen.sent, effect),
         taken: seen.taken.saturating_add(1),
         entered: seen.entered.saturating_add(entries),
+        softened: seen.softened.saturating_add(softens),
     }
 }
 
-/// Takes an event, and looks who is inside then.
-fn seen_after(world: &mut World, event: &Event, seen: Seen) -> Result<Seen, Failure> {
-    let seen = match world.step(event) {
-        Ok(effect) => seen_with(seen, &effect),
-        Err(StepFault::Memory) => return Err(Failure::Memory),
-        Err(_) => seen,
-    };
+/// Whether a writer that is inside is alone, and this node is settled.
+fn look(world: &World, problem: Problem, node: NodeId) -> Outcome {
     for number in 0..2 {
         let alone = is_exclusive(world, number)?;
         check(alone)?;
+        let settled = is_settled(world, problem, node, number)?;
+        check(settled)?;
     }
-    Ok(seen)
+    Ok(())
+}
+
+/// Takes an event.
+fn seen_after(world: &mut World, event: &Event, seen: Seen) -> Result<Seen, Failure> {
+    match world.step(event) {
+        Ok(effect) => Ok(seen_with(seen, &effect)),
+        Err(StepFault::Memory) => Err(Failure::Memory),
+        Err(_) => Ok(seen),
+    }
 }
 
 /// What a run under this problem sees.
@@ -140,6 +182,7 @@ fn run(alloc: Global, problem: Problem) -> Result<Seen, Failure> {
         sent: 0,
         taken: 0,
         entered: 0,
+        softened: 0,
     };
     for turn in 0..TURNS {
         let Ok(event) = event_of_turn(&mut words, &world, turn, last, seen.sent) else {
@@ -149,13 +192,14 @@ fn run(alloc: Global, problem: Problem) -> Result<Seen, Failure> {
             last = node;
         }
         seen = seen_after(&mut world, &event, seen)?;
+        look(&world, problem, last)?;
     }
     Ok(seen)
 }
 
 fn enters_often(alloc: Global, problem: Problem) -> Outcome {
     let seen = run(alloc, problem)?;
-    check(seen.taken >= 3_000 && seen.entered >= 10)
+    check(seen.taken >= 3_000 && seen.entered >= 20 && seen.softened >= 5)
 }
 
 #[test]

@@ -1,5 +1,5 @@
 use Rattle.std.proofs.Common.{◌≡◌}
-use Rattle.client_core.specs.Clients.{phase_of}
+use Rattle.client_core.specs.Clients.{phase_of, ticket_of}
 use Rattle.actor_steps.specs.Endings.{falls_of}
 use Rattle.client_loop.specs.Sendings.{SentFollows}
 use Rattle.client_loop.specs.Standing.{Stands}
@@ -14,5 +14,6 @@ invariant-loop g l = record {
   visits : visits_of (g.R.Recorder.own_log l.recorder) ≡ visits_of (g.R.Recorder.own_log l.fn.recorder);
   sent : SentFollows (g.R.Recorder.own_log l.fn.recorder) (g.R.Recorder.own_log l.recorder) (g.L.Link.given l.fn.link) (g.L.Link.given l.link);
   phase : phase_of l.progress.core ≡ phase_of l.fn.progress.core;
+  ticket : ticket_of l.progress.core ≡ ticket_of l.fn.progress.core;
   falls : falls_of (g.R.Recorder.own_log l.recorder) ≡ falls_of (g.R.Recorder.own_log l.fn.recorder);
 }

@@ -23,6 +23,7 @@ loop-preserved g c = record {
   free = search rules;
   idle = search rules;
   entered = search rules;
+  softened = search rules;
   silent = search rules;
   falls = failures_on _ _ _ _ _ _ c.loop.invariant.falls (failures_on _ _ _ _ _ _ (failures_same _ _ _ c.begin.ensures.falls) c.keep_chosen.ensures.falls);
   begins = begins_still _ _ _ _ (begins_on _ _ _ _ c.loop.invariant.begins c.begin.ensures.begins) c.keep_chosen.ensures.visits;

@@ -15,6 +15,7 @@ invariant-loop g l = record {
   free : (goal.StableRecord-dyn g l.stable.now).stuck_of l.stable.now.1 ≡ false;
   idle : phase_of l.progress.core ≡ phase.Idle;
   entered : (visits_of (g.R.Recorder.own_log l.recorder)).entered ≡ (visits_of (g.R.Recorder.own_log l.fn.recorder)).entered;
+  softened : (visits_of (g.R.Recorder.own_log l.recorder)).softened ≡ (visits_of (g.R.Recorder.own_log l.fn.recorder)).softened;
   silent : sent_of (g.R.Recorder.own_log l.recorder) ≡ sent_of (g.R.Recorder.own_log l.fn.recorder);
   falls : FailuresFollow (falls_of (g.R.Recorder.own_log l.fn.recorder)) (falls_of (g.R.Recorder.own_log l.recorder)) ((goal.StableRecord-dyn g l.fn.stable.now).failures_of l.fn.stable.now.1)
       ((goal.StableRecord-dyn g l.stable.now).failures_of l.stable.now.1);

@@ -10,5 +10,8 @@ returns-clause-begun g c = ap (λ (v : Visits). v.begun) (visits-adds _ _ _ _ c.
 pub returns-clause-entered : goal.returns-clause-entered
 returns-clause-entered g c = ap (λ (v : Visits). v.entered) (visits-adds _ _ _ _ c.in_ok-log_plain.ensures.logged)
 
+pub returns-clause-softened : goal.returns-clause-softened
+returns-clause-softened g c = ap (λ (v : Visits). v.softened) (visits-adds _ _ _ _ c.in_ok-log_plain.ensures.logged)
+
 pub returns-clause-begins : goal.returns-clause-begins
 returns-clause-begins g c = begins_one _ _ _ (visits-adds _ _ _ _ c.in_ok-log_plain.ensures.logged)

@@ -3,6 +3,7 @@ use Rattle.std.proofs.lemmas.Grind.{common_steps}
 use Rattle.actor_steps.proofs.EndFacts.{failures_on}
 use Rattle.client_loop.proofs.BeginFacts.{wish_begun, same_ballots, wish_placed}
 use Rattle.client_loop.proofs.SentFacts.{follows_on}
+use Rattle.client_loop.proofs.SoftenedFacts.{wish_softened, wish_half_softened}
 use Rattle.client_loop.proofs.clients.fulfil_all.Goals as goal
 
 pub loop-wish-preserved : goal.loop-wish-preserved
@@ -11,6 +12,7 @@ loop-wish-preserved g c = record {
   free = c.in_default.ensures.free;
   idle = c.in_default.ensures.idle;
   entered = let added = c.in_default.ensures.entered in let before = c.loop-wish.invariant.entered in let count = c.loop-wish.invariant.count in let at = c.wish-item.is in grind (arith, common_steps);
+  softened = wish_softened _ _ _ _ c.wish-item.result _ (g.R.Recorder.own_log c.loop-wish.recorder) (g.R.Recorder.own_log c.fulfil-fulfilled.new.recorder) c.loop-wish-test.true c.wish-item.is c.loop-wish.invariant.count c.in_default.ensures.entered c.loop-wish.invariant.softened;
   count = search rules;
   sent = follows_on _ _ _ _ _ _ c.loop-wish.invariant.sent c.in_default.ensures.sent;
   falls = failures_on _ _ _ _ _ _ c.loop-wish.invariant.falls c.fulfil-fulfilled.ensures.falls;
@@ -20,6 +22,10 @@ loop-wish-preserved g c = record {
 
 pub returns-in-Err-clause-begun : goal.returns-in-Err-clause-begun
 returns-in-Err-clause-begun g c = wish_begun _ _ _ c.wish-item.result _ _ _ c.loop-wish-test.true c.wish-item.is c.fulfil-fulfilled.ensures.begins c.loop-wish.invariant.begun
+
+pub returns-in-Err-clause-softened : goal.returns-in-Err-clause-softened
+returns-in-Err-clause-softened g c =
+    wish_half_softened _ _ _ _ c.wish-item.result _ (g.R.Recorder.own_log c.loop-wish.recorder) (g.R.Recorder.own_log c.fulfil-fulfilled.new.recorder) c.loop-wish-test.true c.wish-item.is c.loop-wish.invariant.count c.fulfil-fulfilled.ensures.counted c.loop-wish.invariant.softened
 
 pub fulfil-fulfilled-requires-clause-placed : goal.fulfil-fulfilled-requires-clause-placed
 fulfil-fulfilled-requires-clause-placed g c =

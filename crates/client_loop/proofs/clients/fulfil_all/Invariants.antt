@@ -4,7 +4,7 @@ use Rattle.client_core.specs.declared.phases.Phase.TheVariants as phase
 use Rattle.actor_steps.specs.Endings.{falls_of, FailuresFollow}
 use Rattle.client_loop.specs.Sendings.{SentFollows}
 use Rattle.client_loop.specs.Standing.{Stands}
-use Rattle.client_loop.specs.Visits.{HasEntered, HasBegun}
+use Rattle.client_loop.specs.Visits.{HasEntered, HasSoftened, HasBegun}
 use Rattle.client_loop.proofs.clients.fulfil_all.Given as goal
 
 abbrev pub invariant-loop-wish : goal.invariant-loop-wish
@@ -13,6 +13,7 @@ invariant-loop-wish g l = record {
   free : (goal.StableRecord-dyn g l.stable.now).stuck_of l.stable.now.1 ≡ false;
   idle : phase_of l.progress.core ≡ phase.Idle;
   entered : HasEntered l.wishes l.entered (g.R.Recorder.own_log l.recorder);
+  softened : HasSoftened l.wishes l.entered (g.R.Recorder.own_log l.recorder);
   count : l.entered ≡ l.wish-index;
   sent : SentFollows (g.R.Recorder.own_log l.fn.recorder) (g.R.Recorder.own_log l.recorder) (g.L.Link.given l.fn.link) (g.L.Link.given l.link);
   falls : FailuresFollow (falls_of (g.R.Recorder.own_log l.fn.recorder)) (falls_of (g.R.Recorder.own_log l.recorder)) ((goal.StableRecord-dyn g l.fn.stable.now).failures_of l.fn.stable.now.1)

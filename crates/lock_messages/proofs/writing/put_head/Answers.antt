@@ -8,6 +8,7 @@ returns c =
       c.in_ok-extend_from_slice-3.ensures.items,
       c.in_ok-extend_from_slice-2.ensures.items,
       c.in_ok-extend_from_slice.ensures.items,
+      c.version.ensures,
       c.number.ensures,
       c.get.ensures.number,
       c.to_be_bytes.ensures,

@@ -15,6 +15,12 @@ returns c = record {
   release_settles = refl;
   muddled_request = refl;
   next_attempt = refl;
+  softened_holder = refl;
+  softened_before_writer = refl;
+  softened_waiter = refl;
+  softened_request = refl;
+  muddled_softened_request = refl;
+  softened_stranger = refl;
   weighted_votes = (refl, refl, refl, refl);
   larger_votes = (refl, refl, refl);
 }

@@ -9,6 +9,25 @@ use Rattle.node_threads.proofs.Openings.{ready_nodes, ready_clients, front, back
 use Rattle.node_threads.proofs.Places.{joined_links}
 use Rattle.node_threads.proofs.running.tasks_of.Goals as goal
 
+pub overflow_sub-others : goal.overflow_sub-others
+overflow_sub-others g c =
+    let may = c.requires.may in
+    let count : length c.args.policies.items ≡ length may.stations = as_many (λ p. (goal.Admission-dyn g (p.vtable, p.value)).problem_of p.value) (λ s. s.problem) c.args.policies.items may.stations may.policies in
+    let all : length c.args.records.items ≡ length may.stations + length may.attempts =
+    as_many_both (λ r. (goal.StableRecord-dyn g (r.vtable, r.value)).finds r.value) finds_station finds_attempt c.args.records.items may.stations may.attempts may.records in
+    omega (arith, count, all, c.args.policies.ok, c.args.records.ok, c.len-count.ensures, c.len.ensures)
+
+-- there are as many records as actors, and as many policies as nodes, so as many others as clients
+pub links_of-requires-clause-few_clients : goal.links_of-requires-clause-few_clients
+links_of-requires-clause-few_clients g c =
+    let may = c.requires.may in
+    let opening = c.args.book.now.opening in
+    let count : length c.args.policies.items ≡ length may.stations = as_many (λ p. (goal.Admission-dyn g (p.vtable, p.value)).problem_of p.value) (λ s. s.problem) c.args.policies.items may.stations may.policies in
+    let all : length c.args.records.items ≡ length may.stations + length may.attempts =
+    as_many_both (λ r. (goal.StableRecord-dyn g (r.vtable, r.value)).finds r.value) finds_station finds_attempt c.args.records.items may.stations may.attempts may.records in
+    let few : length may.attempts ≤ MAX_CLIENTS = few_attempts opening c.args.ballots may.stations may.attempts may.world c.requires.keeps in
+    omega (arith, count, all, few, c.args.policies.ok, c.args.records.ok, c.len-count.ensures, c.len.ensures)
+
 pub split_off-requires : goal.split_off-requires
 split_off-requires g c =
     let may = c.requires.may in

@@ -10,4 +10,4 @@ loop-place-preserved c =
     let found = option_to_list c.ticket_at.result in
     let within : c.loop-place.place < length c.args.kept.now.entries = omega (arith, c.loop-place-test.true, c.len-place-end.ensures.len) in
     c.in_ok-put.ensures ∙ ap (λ ts. ts ++ found) c.loop-place.invariant
-    ∙ flat_map-more (λ e. live_ticket (listed_by c.args.status c.args.resource.now) e.client e.live) c.args.kept.now.entries c.loop-place.place found within c.ticket_at.ensures
+    ∙ flat_map-more (λ e. live_ticket (listed_by c.args.claims c.args.resource.now) e.client e.live) c.args.kept.now.entries c.loop-place.place found within c.ticket_at.ensures

@@ -4,4 +4,4 @@ use Rattle.world_machine.specs.Listing.{listed_by}
 use Rattle.world_machine.proofs.listing.listed_tickets.Given as goal
 
 abbrev pub invariant-loop-place : goal.invariant-loop-place
-invariant-loop-place l = l.tickets.items ≡ live_tickets (listed_by l.status l.resource) (take l.place l.kept.entries)
+invariant-loop-place l = l.tickets.items ≡ live_tickets (listed_by l.claims l.resource) (take l.place l.kept.entries)

@@ -37,3 +37,7 @@ returns-clause-restarted_client c = (refl, refl, refl, refl)
 pub returns-clause-greatest_attempt : goal.returns-clause-greatest_attempt
 unfolding step
 returns-clause-greatest_attempt c = (refl, refl)
+
+pub returns-clause-softening : goal.returns-clause-softening
+unfolding step
+returns-clause-softening c = (refl, refl, refl, refl, refl)

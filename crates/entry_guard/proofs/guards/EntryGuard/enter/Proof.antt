@@ -50,6 +50,7 @@ use Rattle.std.specs.Borrow.{RestsIfNone}
 use Rattle.entry_guard.specs.declared.doors.Door as Door
 use Rattle.entry_guard.specs.contracts.guards.EntryGuard as Guard
 use Rattle.entry_guard.proofs.guards.EntryGuard.TheLaws.{the_row_laws as guard_laws}
+use Rattle.entry_guard.specs.Doors.{IsInsideWith}
 use Rattle.entry_guard.specs.Guards.{door_of, lender_of, guard_ticket}
 use Rattle.entry_guard.specs.contracts.guards.EntryGuard.guard_or_door as g
 use Rattle.entry_guard.proofs.guards.EntryGuard.guard_or_door.Met.{met}
@@ -119,7 +120,7 @@ module _ (Y : RattleType) (L : Laws Y) (h : Door.Ghosts Y.Denot) (d d' : Dict) {
 
     -- what both functions ensure
     abbrev Said : Guards.Denot → Type 0
-    Said o = (IsSome o ↔ h.can_enter door.now) × (IfSome o (λ i. lender_of i ≡ γ)) × (IfSome o (λ i. h.enters door.now (door_of i))) × (IfSome o (λ i. h.is_inside (door_of i) ≡ true)) × (IfSome o (λ i. h.ticket_of door.now ≡ Some (guard_ticket i)))
+    Said o = (IsSome o ↔ h.can_enter door.now) × (IfSome o (λ i. lender_of i ≡ γ)) × (IfSome o (λ i. h.enters door.now (door_of i))) × (IfSome o (λ i. h.is_inside (door_of i) ≡ true)) × (IfSome o (λ i. h.ticket_of door.now ≡ Some (guard_ticket i))) × (IfSome o (λ i. IsInsideWith (guard_ticket i) (h.is_inside (door_of i)) (h.ticket_of (door_of i))))
 
     abbrev Rests : Guards.Denot → Fml
     Rests o = RestsIfNone R door lender_of o (λ last. last ≡ door.now)
@@ -130,7 +131,7 @@ module _ (Y : RattleType) (L : Laws Y) (h : Door.Ghosts Y.Denot) (d d' : Dict) {
         qed 𝓛 (‵ (Guards.own_val o (v ∷ [])) ∷ ‵ (flft κ q) ∷ ‵ (flft κT qT) ∷ ‵ (Rests o) ∷ []) ∵
         suffices ! _ (ends_at 𝓛 ended stayed held bound v o (tt, tt) (tt, tt)) $
         nothing ! $ nothing ! $ fjoin ! $ join ! $ nothing ! $ move ! (2 ∷ 3 ∷ 0 ∷ []) $ group ! 3 $ join ! $ frame ! $
-        use0 𝓛 (raw (fact 𝓤 _)) (fact_i 𝓤 _ (emp 𝓤) said.4) $ use0 𝓛 (raw (fact 𝓤 _)) (fact_i 𝓤 _ (emp 𝓤) said.3) $ join ! $ use0 𝓛 (raw (fact 𝓤 _)) (fact_i 𝓤 _ (emp 𝓤) said.2) $ join ! $
+        use0 𝓛 (raw (fact 𝓤 _)) (fact_i 𝓤 _ (emp 𝓤) said.5) $ use0 𝓛 (raw (fact 𝓤 _)) (fact_i 𝓤 _ (emp 𝓤) said.4) $ join ! $ use0 𝓛 (raw (fact 𝓤 _)) (fact_i 𝓤 _ (emp 𝓤) said.3) $ join ! $ use0 𝓛 (raw (fact 𝓤 _)) (fact_i 𝓤 _ (emp 𝓤) said.2) $ join ! $
         use0 𝓛 (raw (fact 𝓤 _)) (fact_i 𝓤 _ (emp 𝓤) said.1) $ join ! $ use0 𝓛 (raw (fact 𝓤 _)) (fact_i 𝓤 _ (emp 𝓤) said.0) $ join ! $ move ! (1 ∷ 0 ∷ []) $ join ! $ done !
 
     -- a borrow follows itself
@@ -188,9 +189,9 @@ module _ (Y : RattleType) (L : Laws Y) (h : Door.Ghosts Y.Denot) (d d' : Dict) {
         calls_at ! (framed 𝓤 H 𝓜 𝓣) c met_at z (and_then ! (get ! refl) (no_more !)) (λ got.
         use1 𝓛 (later (some (λ (r : Pair.Denot). ((‵ (flft κ q) ⊛ ‵ (flft κT qT) ⊛ ‵ ftrue) ⊛ ‵ (Pair.own_val r (got ∷ []))) ⊛ some (λ (ws : Unit {0} × Unit {0}). ‵ (fsep ftrue ftrue)
         ⊛ raw (fact 𝓤 (IsSome r.0 ↔ h.can_enter door.now)) ⊛ raw (fact 𝓤 (IfSome r.0 (λ i. lender_of i ≡ γ))) ⊛ raw (fact 𝓤 (IfSome r.0 (λ i. h.enters door.now (door_of i)))) ⊛ raw (fact 𝓤 (IfSome r.0 (λ i. h.is_inside (door_of i) ≡ true)))
-        ⊛ raw (fact 𝓤 (IfSome r.0 (λ i. h.ticket_of door.now ≡ Some (guard_ticket i)))) ⊛ raw (fact 𝓤 (IfNone r.0 (r.1 ≡ Some door))))))) (id⊢ 𝓤 (c.post z got)) $
+        ⊛ raw (fact 𝓤 (IfSome r.0 (λ i. h.ticket_of door.now ≡ Some (guard_ticket i)))) ⊛ raw (fact 𝓤 (IfSome r.0 (λ i. IsInsideWith (guard_ticket i) (h.is_inside (door_of i)) (h.ticket_of (door_of i))))) ⊛ raw (fact 𝓤 (IfNone r.0 (r.1 ≡ Some door))))))) (id⊢ 𝓤 (c.post z got)) $
         await ! tt $ pick ! (λ r. split ! $ move ! (1 ∷ []) $ pick ! (λ ws. split ! $ drop ! $
-        split ! $ heard ! _ (λ entered. split ! $ heard ! _ (λ same. split ! $ heard ! _ (λ enters. split ! $ heard ! _ (λ inside. split ! $ heard ! _ (λ ticket. heard ! _ (λ back.
+        split ! $ heard ! _ (λ entered. split ! $ heard ! _ (λ same. split ! $ heard ! _ (λ enters. split ! $ heard ! _ (λ inside. split ! $ heard ! _ (λ ticket. split ! $ heard ! _ (λ within. heard ! _ (λ back.
         split ! $ split3 ! $ move ! (3 ∷ 0 ∷ 1 ∷ []) $
         -- [the pair; the two tokens]
         peeks ! Pair (Is Pair) (shows 𝓛 Pair) r (got ∷ []) (λ is. let good = ((of_pair.lawful 𝓛).typed r (got ∷ []) is).0 in
@@ -201,8 +202,8 @@ module _ (Y : RattleType) (L : Laws Y) (h : Door.Ghosts Y.Denot) (d d' : Dict) {
         lands_as ! is_pair refl (subst (λ (x : Val). T (has_ty (lone Pair.mir) x) × WT x) is_pair good) $
         sets ! (of_opd ! (get_in ! (fld ! refl (stop !)) (sub ! 0 refl (whole !)))) refl v.2 $
         returns ! (look_at ! 0 refl) $ free_all ! refl $
-        rewrite ! 2 (λ (ws : List Val). ‵ (Guards.own_val r.0 ws)) v.1 refl $ keep ! (2 ∷ 0 ∷ 3 ∷ 4 ∷ []) $ by ! (ends r.0 r.1 v.0 vss.1.0 (entered, same, enters, inside, ticket) back)
-        )))))))))))))))
+        rewrite ! 2 (λ (ws : List Val). ‵ (Guards.own_val r.0 ws)) v.1 refl $ keep ! (2 ∷ 0 ∷ 3 ∷ 4 ∷ []) $ by ! (ends r.0 r.1 v.0 vss.1.0 (entered, same, enters, inside, ticket, within) back)
+        ))))))))))))))))
 
   meets : Meets 𝓛 (g.signature Y) (𝓡.run (𝓡.env (callee.name args))) (g.spec Y h d d' 𝓛 𝓜.mem 𝓡.returns) → Meets 𝓛 ended.signature (WpFn 𝓤 H 𝓣.C 𝓣.Λ function) (closing 𝓛 ended held)
   unfolding tables_of contract.CodeStep.c_Tables

@@ -35,3 +35,8 @@ pub returns-clause-enters : goal.returns-clause-enters
 returns-clause-enters g c =
     subst (λ v. (door : (g.dyn-1.0.entry v.0).0.Denot) × (dyn_box_with c.args.door c.deref_box_mut-1.result.now.0 c.enter.new.self ≡ dyn_box_with c.args.door v.0 door) × (goal.Door-dyn g v).enters v.1 door)
     c.deref_box_mut-1.ensures.value.1 (c.enter.new.self, refl, c.enter.ensures.0)
+
+pub returns-clause-held : goal.returns-clause-held
+returns-clause-held g c =
+    let after = subst (λ v. c.ticket.result ≡ (goal.Door-dyn g v).ticket_of v.1) c.deref_box-2.ensures.1 c.ticket.ensures.0 in
+    record { inside = c.enter.ensures.1.0; ticket = sym after ∙ c.unwrap-ticket.ensures }

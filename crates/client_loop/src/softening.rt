@@ -1,0 +1,129 @@
+// Softening: a writer that is inside goes on as a reader.
+
+ghost use Rattle.std.specs.Prelude.{◌≡◌, ◌⊎◌, None, OnOk, OnErr, IfErr, if◌then◌else◌};
+ghost use Rattle.lock_messages.specs.declared.tickets.Mode.TheVariants.{Write};
+ghost use Rattle.vote_weights.specs.Sets.{has_node};
+ghost use Rattle.client_core.specs.Clients.{ticket_of};
+ghost use Rattle.client_core.specs.Calls.{MaySoften, softened, SoftensAll, message_for};
+ghost use Rattle.entry_guard.specs.Doors.{is_client_inside};
+ghost use Rattle.entry_guard.specs.Guards.{door_of, lender_of, guard_ticket, IsHeld};
+ghost use Rattle.client_loop.specs.Sendings.{sent_of, SentFollows, SentUnlessMemory, Tells, TellsSoftened};
+ghost use Rattle.client_loop.specs.Standing.{Stands};
+ghost use Rattle.actor_steps.specs.Steps.{IsBookFault};
+ghost use Rattle.actor_steps.specs.Endings.{falls_of};
+ghost use Rattle.client_loop.specs.Visits.{visits_of, visits_softening};
+
+use crate::talking::tell;
+use actor_steps::log_plain;
+use client_core::ClientCore;
+use entry_guard::EntryGuard;
+use event_recorders::{Recorder, RunFault};
+use lock_messages::NodeId;
+use lossy_link::Link;
+use stable_record::StableRecord;
+use std::alloc::Global;
+use vote_weights::NodeSet;
+use world_model::Event;
+
+/// Says to the node what the client has to say to it, where it is of the set.
+#[tactic(auto, using(crate::proofs::SentFacts::follows_none))]
+fn tell_if_granted<R: Recorder, L: Link>(
+    alloc: Global,
+    core: &ClientCore,
+    granted: NodeSet,
+    node: NodeId,
+    stable: &dyn StableRecord,
+    recorder: &mut R,
+    link: &mut L,
+) -> Result<(), RunFault>
+    requires { Stands (R.own_log recorder.old) (finds stable.now) core.now }
+    ensures told { OnOk result (Tells (if has_node granted node then message_for core.now node else None) node (R.own_log recorder.old) (R.own_log recorder.new)) }
+    ensures sent { OnOk result (SentFollows (R.own_log recorder.old) (R.own_log recorder.new) (L.given link.old) (L.given link.new)) }
+    ensures faulted { IfErr result (λ f. SentUnlessMemory f (R.own_log recorder.old) (R.own_log recorder.new) (L.given link.old) (L.given link.new)) }
+    ensures stands { Stands (R.own_log recorder.new) (finds stable.now) core.now }
+    ensures visits { visits_of (R.own_log recorder.new) ≡ visits_of (R.own_log recorder.old) }
+    ensures falls { falls_of (R.own_log recorder.new) ≡ falls_of (R.own_log recorder.old) }
+    ensures faults { IfErr result IsBookFault }
+{
+    if !granted.has(node) {
+        return Ok(());
+    }
+    tell(alloc, core, node, stable, recorder, link)
+}
+
+/// Says to each node of the set, once, that the client has softened.
+#[tactic(auto, using(crate::proofs::SentFacts::follows_none, crate::proofs::SentFacts::follows_on, crate::proofs::SentFacts::unless_on))]
+fn tell_granted<R: Recorder, L: Link>(
+    alloc: Global,
+    core: &ClientCore,
+    granted: NodeSet,
+    stable: &dyn StableRecord,
+    recorder: &mut R,
+    link: &mut L,
+) -> Result<(), RunFault>
+    requires stands { Stands (R.own_log recorder.old) (finds stable.now) core.now }
+    requires softened { SoftensAll core.now core.now.attempt }
+    ensures told { OnOk result (TellsSoftened core.now granted (R.own_log recorder.old) (R.own_log recorder.new)) }
+    ensures sent { OnOk result (SentFollows (R.own_log recorder.old) (R.own_log recorder.new) (L.given link.old) (L.given link.new)) }
+    ensures faulted { IfErr result (λ f. SentUnlessMemory f (R.own_log recorder.old) (R.own_log recorder.new) (L.given link.old) (L.given link.new)) }
+    ensures stands { Stands (R.own_log recorder.new) (finds stable.now) core.now }
+    ensures visits { visits_of (R.own_log recorder.new) ≡ visits_of (R.own_log recorder.old) }
+    ensures falls { falls_of (R.own_log recorder.new) ≡ falls_of (R.own_log recorder.old) }
+    ensures faults { IfErr result IsBookFault }
+{
+    for number in 1..core.ballots().nodes() + 1 {
+        let Some(node) = NodeId::of(number) else {
+            unreachable!()
+        };
+        tell_if_granted(alloc, core, granted, node, stable, recorder, link)?;
+    }
+    Ok(())
+}
+
+/// Logs that the client that is inside as a writer is a reader from now on.
+#[tactic(auto, using(crate::proofs::SentFacts::soften_sends_nothing))]
+fn log_soften<R: Recorder>(
+    core: &ClientCore,
+    stable: &dyn StableRecord,
+    recorder: &mut R,
+) -> Result<(), RunFault>
+    requires may { MaySoften core.now }
+    requires stands { Stands (R.own_log recorder.old) (finds stable.now) core.now }
+    ensures softened { OnOk result (Stands (R.own_log recorder.new) (finds stable.now) (softened core.now)) }
+    ensures silent { sent_of (R.own_log recorder.new) ≡ sent_of (R.own_log recorder.old) }
+    ensures visits { OnOk result (visits_of (R.own_log recorder.new) ≡ visits_softening (visits_of (R.own_log recorder.old))) }
+    ensures refused { OnErr result (R.own_log recorder.new ≡ R.own_log recorder.old) }
+    ensures falls { falls_of (R.own_log recorder.new) ≡ falls_of (R.own_log recorder.old) }
+    ensures faults { IfErr result IsBookFault }
+{
+    log_plain(recorder, Event::Soften(core.client()), stable)?;
+    Ok(())
+}
+
+/// Softens what the guard has entered: logs it, softens the guard, and says it to each node of the set.
+pub(crate) fn soften<R: Recorder, L: Link>(
+    alloc: Global,
+    granted: NodeSet,
+    guard: &mut EntryGuard<'_, ClientCore>,
+    stable: &dyn StableRecord,
+    recorder: &mut R,
+    link: &mut L,
+) -> Result<(), RunFault>
+    requires held { IsHeld is_client_inside ticket_of guard.old }
+    requires writes { (guard_ticket guard.old).mode ≡ Write }
+    requires stands { Stands (R.own_log recorder.old) (finds stable.now) (door_of guard.old) }
+    ensures held { IsHeld is_client_inside ticket_of guard.new }
+    ensures told { OnOk result (TellsSoftened (door_of guard.old) granted (R.own_log recorder.old) (R.own_log recorder.new)) }
+    ensures lender { lender_of guard.new ≡ lender_of guard.old }
+    ensures stands { OnOk result (Stands (R.own_log recorder.new) (finds stable.now) (door_of guard.new)) }
+    ensures sent { OnOk result (SentFollows (R.own_log recorder.old) (R.own_log recorder.new) (L.given link.old) (L.given link.new)) }
+    ensures faulted { IfErr result (λ f. SentUnlessMemory f (R.own_log recorder.old) (R.own_log recorder.new) (L.given link.old) (L.given link.new)) }
+    ensures visits { OnOk result (visits_of (R.own_log recorder.new) ≡ visits_softening (visits_of (R.own_log recorder.old))) }
+    ensures fewer { OnErr result ((visits_of (R.own_log recorder.new) ≡ visits_of (R.own_log recorder.old)) ⊎ (visits_of (R.own_log recorder.new) ≡ visits_softening (visits_of (R.own_log recorder.old)))) }
+    ensures falls { falls_of (R.own_log recorder.new) ≡ falls_of (R.own_log recorder.old) }
+    ensures faults { IfErr result IsBookFault }
+{
+    log_soften(guard.door(), stable, recorder)?;
+    guard.soften();
+    tell_granted(alloc, guard.door(), granted, stable, recorder, link)
+}
