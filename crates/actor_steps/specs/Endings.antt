@@ -24,6 +24,7 @@ is_fall (event.Enter c) = false
 is_fall (event.Leave c) = false
 is_fall (event.Soften c) = false
 is_fall (event.Rise who age) = false
+is_fall (event.Switch n p) = false
 
 -- how often the actor has fallen
 abbrev pub falls_of : OwnLog → ℕ

@@ -15,6 +15,6 @@ mod reopening;
 mod rising;
 
 pub use keeping::{Keeping, keep_next};
-pub use logging::{log_plain, log_reading, run_fault_of};
+pub use logging::{log_plain, log_reading, log_switch, run_fault_of};
 pub use reopening::MAX_REOPENS;
 pub use rising::{rise_again, rise_first};

@@ -9,6 +9,8 @@ ghost use Rattle.actor_steps.specs.Endings.{is_fall, falls_of};
 use event_recorders::laws::own_logs_tell_parts;
 use event_recorders::{Recorder, RunFault};
 use history_book::BookFault;
+use lock_messages::{Actor, NodeId};
+use lock_model::Problem;
 use stable_record::StableRecord;
 use world_model::{Effect, Event};
 
@@ -51,7 +53,7 @@ pub(crate) fn log_own<R: Recorder>(
 }
 
 /// Logs an event that neither reads a message nor changes what the actor keeps or tries to keep: a
-/// Begin, SayTo, Say, Enter, Leave or Fall.
+/// Begin, SayTo, Say, Enter, Leave, Soften, Fall or Switch.
 ///
 /// The caller owes that the event is the actor's, that the actor's own log allows it, and that a
 /// restart finds in the record what the actor keeps. The errors leave the log as it was: memory was
@@ -73,6 +75,33 @@ pub fn log_plain<R: Recorder>(
 {
     own_logs_tell_parts();
     log_own(recorder, event, stable)
+}
+
+/// Logs that the node takes this problem, and answers what the log has of it: whether it is another one
+/// than before. The record stays: where it is another one, what the node decided has yet to be kept.
+///
+/// The caller owes that the log is the node's and allows it, so that the node is up and about nothing, and
+/// that a restart finds in the record what the node keeps. The errors leave the log as it was: memory was
+/// refused (914), or the book is full or another's (915).
+pub fn log_switch<R: Recorder>(
+    recorder: &mut R,
+    node: NodeId,
+    problem: Problem,
+    stable: &dyn StableRecord,
+) -> Result<bool, RunFault>
+    requires actor { (R.own_log recorder.old).actor ≡ Actor.Node node }
+    requires allowed { own_refusal (R.own_log recorder.old).ballots (Event.Switch node problem) (part_now (R.own_log recorder.old)) ≡ None }
+    requires found { FindsPart (part_now (R.own_log recorder.old)) (finds stable.now) }
+    ensures logged { IfOk result (λ changed. IsAdded (R.own_log recorder.old) (Event.Switch node problem) (Effect.Switched changed) (R.own_log recorder.new)) }
+    ensures found { OnOk result (FindsPart (part_now (R.own_log recorder.new)) (finds stable.now)) }
+    ensures refused { IfErr result (λ fault. IsBookFault fault × (R.own_log recorder.new ≡ R.own_log recorder.old)) }
+    ensures falls { falls_of (R.own_log recorder.new) ≡ falls_of (R.own_log recorder.old) }
+{
+    let done = log_plain(recorder, Event::Switch(node, problem), stable)?;
+    let Effect::Switched(changed) = done else {
+        unreachable!()
+    };
+    Ok(changed)
 }
 
 /// What came of a reading: its effect; `None` exactly where the event is no step, since no message of the

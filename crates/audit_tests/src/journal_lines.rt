@@ -5,7 +5,7 @@ use std::alloc::Global;
 use test_outcomes::{Failure, Outcome, check_row};
 
 /// The line of each event, and of the greatest numbers.
-const EVENTS: [&str; 22] = [
+const EVENTS: [&str; 25] = [
     "begin c1 read a",
     "begin c1024 write abcdefghijklmnopqrstuvwxyz-01234",
     "begin c1 read a b2",
@@ -28,6 +28,9 @@ const EVENTS: [&str; 22] = [
     "rise n1 old",
     "rise c1 old",
     "rise c1024 new",
+    "switch n1 1",
+    "switch n1 2",
+    "switch n16 1",
 ];
 
 /// Whether the line is read as an event whose line it is.
@@ -44,6 +47,43 @@ fn events_there_and_back(rt: HostRuntime) -> Outcome {
     for (row, line) in EVENTS.iter().enumerate() {
         let right = is_read(rt.alloc(), line)?;
         check_row(right, row)?;
+    }
+    Ok(())
+}
+
+/// Lines that are no switch, each with the number of its fault. A problem is one digit, whatever its number
+/// could be.
+const NO_SWITCHES: [(&str, u16); 17] = [
+    ("switch", 805),
+    ("switch n1", 805),
+    ("switch n1 1 1", 805),
+    ("switch n1 1 ", 805),
+    ("switch c1 1", 802),
+    ("switch n17 1", 802),
+    ("switch n0 1", 802),
+    ("switch c1 3", 802),
+    ("switch n1 3", 803),
+    ("switch n1 0", 803),
+    ("switch n1 01", 803),
+    ("switch n1 12", 803),
+    ("switch n1 ", 803),
+    ("switch n1 1\r", 803),
+    ("switch n1 first", 803),
+    ("Switch n1 1", 801),
+    ("switches n1 1", 801),
+];
+
+fn fault_of_event(line: &str) -> u16 {
+    match read_event(line.as_bytes()) {
+        Ok(_) => 0,
+        Err(fault) => fault.number(),
+    }
+}
+
+#[test]
+fn lines_that_are_no_switch(_rt: HostRuntime) -> Outcome {
+    for (row, (line, number)) in NO_SWITCHES.into_iter().enumerate() {
+        check_row(fault_of_event(line) == number, row)?;
     }
     Ok(())
 }

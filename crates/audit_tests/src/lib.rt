@@ -16,4 +16,6 @@ mod softenings;
 #[cfg(test)]
 mod streams;
 #[cfg(test)]
+mod switches;
+#[cfg(test)]
 mod verdicts;

@@ -61,6 +61,7 @@ list_fault (event.Leave c) f of is = is
 list_fault (event.Soften c) f of is = is
 list_fault (event.Fall who) f of is = is
 list_fault (event.Rise who age) f of is = is
+list_fault (event.Switch n p) f of is = is
 
 unread : (e : Event) (f : StepFault) → IsOfEvent f → IsLocalRefusal e None (Some f) → IsUnread e f
 unread e f of (inl h) = absurd (let z : Some f ≡ None = h in cc)

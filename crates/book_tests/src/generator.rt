@@ -1,9 +1,10 @@
 // Events of a fixed generator for three nodes and four clients. Four turns in a row are one actor's, in
 // the order in which it gets on; messages come late, again and out of order, or to another than theirs;
-// actors fall and rise.
+// actors fall and rise, and nodes take the one problem or the other.
 
 use crate::worlds::node_id;
 use lock_messages::{Actor, ClientId, Message, Mode, NodeId, ResourceName};
+use lock_model::Problem;
 use rand_core::utils::NextWord;
 use rand_pcg::Pcg32;
 use test_outcomes::Failure;
@@ -82,13 +83,15 @@ fn client_event(
     })
 }
 
-/// An actor falls or rises, or a client leaves or softens.
+/// An actor falls or rises, a client leaves or softens, or a node takes a problem.
 fn rare_event(words: &mut Pcg32, who: Actor) -> Event {
     match (who, words.next_word() % 8) {
         (who, 0) => Event::Fall(who),
         (who, 1) => Event::Rise(who, Age::New),
         (Actor::Client(client), 2) => Event::Leave(client),
         (Actor::Client(client), 3) => Event::Soften(client),
+        (Actor::Node(node), 2) => Event::Switch(node, Problem::First),
+        (Actor::Node(node), 3) => Event::Switch(node, Problem::Second),
         (who, _) => Event::Rise(who, Age::Old),
     }
 }

@@ -23,6 +23,8 @@ mod meetings;
 #[cfg(test)]
 mod random_events;
 #[cfg(test)]
+mod switches;
+#[cfg(test)]
 mod worlds;
 #[cfg(test)]
 mod writers;

@@ -17,7 +17,7 @@ use world_machine::World;
 use world_model::{Effect, Event, StepFault};
 
 /// The seed of the events.
-const SEED: u64 = 9;
+const SEED: u64 = 2;
 
 /// The events that are logged.
 const EVENTS: u32 = 2_000;
@@ -53,12 +53,13 @@ fn berths_of(alloc: Global, book: &mut Book) -> Result<Vec<Berth>, Failure>
 }
 
 /// What a history has and what was refused: the messages sent, the entries, the writers that softened, the
-/// refused events.
+/// nodes that took another problem, the refused events.
 #[derive(Clone, Copy)]
 struct Seen {
     sent: u32,
     entered: u32,
     softened: u32,
+    switched: u32,
     refused: u32,
 }
 
@@ -70,6 +71,7 @@ fn seen_with(seen: Seen, answer: &Result<Effect, BookFault>) -> Seen {
         Ok(Effect::Said { count, .. }) => seen.sent = seen.sent.saturating_add(*count),
         Ok(Effect::Inside) => seen.entered = seen.entered.saturating_add(1),
         Ok(Effect::Softened) => seen.softened = seen.softened.saturating_add(1),
+        Ok(Effect::Switched(true)) => seen.switched = seen.switched.saturating_add(1),
         Ok(_) => {}
         Err(_) => seen.refused = seen.refused.saturating_add(1),
     }
@@ -113,6 +115,7 @@ fn run(book: &mut Book, berths: &mut Vec<Berth>, world: &mut World) -> Result<Se
         sent: 0,
         entered: 0,
         softened: 0,
+        switched: 0,
         refused: 0,
     };
     let mut place = 0;
@@ -141,7 +144,8 @@ fn random_history_is_sound(rt: HostRuntime) -> Outcome {
     let mut beside = three_nodes(alloc)?;
     let seen = run(&mut book, &mut berths, &mut beside)?;
     check(book.events() == EVENTS && book.entered() == seen.entered)?;
-    check(seen.refused >= 2_000 && seen.entered >= 5 && seen.softened >= 2)?;
+    check(seen.refused >= 2_000 && seen.entered >= 5)?;
+    check(seen.softened >= 2 && seen.switched >= 10)?;
     let journal = journal_of(&book, alloc)?;
     is_sound(alloc, three_nodes(alloc)?, journal.as_slice(), EVENTS)
 }

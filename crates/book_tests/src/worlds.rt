@@ -1,8 +1,9 @@
 // Worlds in which all are down and nothing is kept, and a few values.
 
-use admission_policy::{Admission, FirstProblem};
+use admission_policy::{Admission, FirstProblem, Pair, SecondProblem};
 use history_check::read_event;
-use lock_messages::{Actor, Attempt, ClientId, NodeId};
+use lock_messages::{Actor, Attempt, ClientId, NodeId, ResourceName};
+use lock_model::Problem;
 use std::alloc::Global;
 use test_outcomes::Failure;
 use vote_weights::{Ballot, BallotList};
@@ -31,6 +32,10 @@ pub(crate) fn attempt(number: u64) -> Result<Attempt, Failure> {
     Attempt::of(number).ok_or(Failure::Wrong(0))
 }
 
+pub(crate) fn resource(name: &str) -> Result<ResourceName, Failure> {
+    ResourceName::of(name.as_bytes()).ok_or(Failure::Wrong(0))
+}
+
 /// The event of a line.
 pub(crate) fn event(line: &str) -> Result<Event, Failure> {
     match read_event(line.as_bytes()) {
@@ -39,37 +44,48 @@ pub(crate) fn event(line: &str) -> Result<Event, Failure> {
     }
 }
 
-/// A world of this ballot, under problem 1, and of four clients.
-fn world_of(alloc: Global, ballot: Ballot) -> Result<World, Failure> {
+/// The plain policies of both problems.
+fn pair(alloc: Global) -> Result<Pair, Failure> {
+    let first: Box<dyn Admission + Send> = Box::new(alloc, FirstProblem)?;
+    let second: Box<dyn Admission + Send> = Box::new(alloc, SecondProblem)?;
+    Ok(Pair::of(first, second))
+}
+
+/// A world of this ballot, under this problem, and of four clients.
+fn world_of(alloc: Global, ballot: Ballot, problem: Problem) -> Result<World, Failure> {
     let Ok(ballots) = BallotList::of(&[ballot]) else {
         return Err(Failure::Wrong(0));
     };
-    let mut policies = Vec::new(alloc);
+    let mut pairs = Vec::new(alloc);
     for _ in 0..ballots.nodes() {
-        let policy: Box<dyn Admission + Send> = Box::new(alloc, FirstProblem)?;
-        policies.push(policy)?;
+        pairs.push(pair(alloc)?)?;
     }
-    if policies.len() != ballots.nodes() as usize {
+    if pairs.len() != ballots.nodes() as usize {
         return Err(Failure::Wrong(0));
     }
-    match World::start(alloc, ballots, 4, policies) {
+    match World::start(alloc, ballots, 4, problem, pairs) {
         Ok(world) => Ok(world),
         Err(_) => Err(Failure::Memory),
     }
 }
 
-/// Three nodes with a vote each, of which two read and two write.
+/// Three nodes with a vote each, of which two read and two write, under problem 1.
 pub(crate) fn three_nodes(alloc: Global) -> Result<World, Failure> {
     match Ballot::of(&[1, 1, 1], 2, 2) {
-        Ok(ballot) => world_of(alloc, ballot),
+        Ok(ballot) => world_of(alloc, ballot, Problem::First),
         Err(_) => Err(Failure::Wrong(0)),
     }
 }
 
-/// One node, whose vote is enough.
-pub(crate) fn one_node(alloc: Global) -> Result<World, Failure> {
+/// One node, whose vote is enough, under this problem.
+pub(crate) fn one_node_under(alloc: Global, problem: Problem) -> Result<World, Failure> {
     match Ballot::of(&[1], 1, 1) {
-        Ok(ballot) => world_of(alloc, ballot),
+        Ok(ballot) => world_of(alloc, ballot, problem),
         Err(_) => Err(Failure::Wrong(0)),
     }
+}
+
+/// One node, whose vote is enough, under problem 1.
+pub(crate) fn one_node(alloc: Global) -> Result<World, Failure> {
+    one_node_under(alloc, Problem::First)
 }

@@ -60,6 +60,7 @@ ballots_after v (event.Leave c) = refl
 ballots_after v (event.Soften c) = refl
 ballots_after v (event.Fall who) = refl
 ballots_after v (event.Rise who age) = refl
+ballots_after v (event.Switch n p) = refl
 
 ballots_from : (v : Visits) (events : List (Event × Effect)) → (visits_from v events).ballots ≡ v.ballots
 ballots_from v [] = refl
@@ -101,6 +102,7 @@ whose_after v (event.Leave c) = refl
 whose_after v (event.Soften c) = refl
 whose_after v (event.Fall who) = refl
 whose_after v (event.Rise who age) = refl
+whose_after v (event.Switch n p) = refl
 
 whose_from : (v : Visits) (events : List (Event × Effect)) → (visits_from v events).whose ≡ v.whose
 whose_from v [] = refl

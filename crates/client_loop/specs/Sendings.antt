@@ -38,6 +38,7 @@ number_of effect.Outside = 0
 number_of effect.Softened = 0
 number_of effect.Down = 0
 number_of effect.Up = 0
+number_of (effect.Switched changed) = 0
 
 -- What a client sends for an event of its own: at a SayTo what its part says there, to the node.
 abbrev pub sent_for : List Ballot → Event → Effect → Part → List Sending
@@ -53,6 +54,7 @@ sent_for b (event.Leave c) done p = []
 sent_for b (event.Soften c) done p = []
 sent_for b (event.Fall who) done p = []
 sent_for b (event.Rise who age) done p = []
+sent_for b (event.Switch n q) done p = []
 
 -- the same for a list of its events, from a part on
 abbrev pub sent_by : List Ballot → Part → List (Event × Effect) → List Sending

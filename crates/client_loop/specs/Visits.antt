@@ -60,6 +60,7 @@ visits_after v (event.Hear c k) = v
 visits_after v (event.Leave c) = v
 visits_after v (event.Fall who) = v
 visits_after v (event.Rise who age) = v
+visits_after v (event.Switch n p) = v
 
 abbrev pub visits_from : Visits → List (Event × Effect) → Visits
 visits_from v [] = v

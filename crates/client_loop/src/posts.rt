@@ -115,5 +115,7 @@ pub(crate) fn take_post<R: Recorder, L: Link>(
             progress.lose(*node);
             Ok(())
         }
+        // It is for nodes.
+        Post::Switch(_) => Ok(()),
     }
 }

@@ -1,6 +1,6 @@
 // A whole run of the program, from its words to its status.
 
-ghost use Rattle.std.specs.Prelude.{◌≡◌, map, replicate, string_bytes, IfOk, IfErr};
+ghost use Rattle.std.specs.Prelude.{◌≡◌, length, map, replicate, string_bytes, IfOk, IfErr};
 ghost use Rattle.std.specs.IoError.{error_kind};
 ghost use Rattle.std.specs.Io.KnownBytes.{Keeps};
 ghost use Rattle.std.specs.Vec.Iter.{into_iter_items};
@@ -12,7 +12,6 @@ ghost use Rattle.operator_cli.specs.declared.faults.ServeFault.TheVariants as fa
 ghost use Rattle.command_line.specs.CommandLine.{app, Says, EndsSaying, TellsFault, EndsUnread, EndsServed, ServesFor, RunsCommand, Shows, ReadsWords, RunsBy, Runs, no_text_words, fault_text};
 
 use crate::reading::{Unserved, read_words};
-use admission_policy::Admission;
 use line_streams::write_text;
 use operator_cli::{AuditFault, Command, Order, Policies, ServeFault, serve};
 use run_service::{Records, serve_run};
@@ -112,10 +111,8 @@ fn serve_for<T: Threads + Wait + Copy + Send, R: Read, W: Write>(
 ) -> Result<u8, ServeFault>
 where
     R: Drop,
-    requires first { map ⟦<Box<dyn Admission + Send> as Admission>⟧.problem_of order.policies.first.items ≡ replicate MAX_NODES First }
-    requires second { map ⟦<Box<dyn Admission + Send> as Admission>⟧.problem_of order.policies.second.items ≡ replicate MAX_NODES Second }
-    requires threads_first { map ⟦<Box<dyn Admission + Send> as Admission>⟧.problem_of threads.first.items ≡ replicate MAX_NODES First }
-    requires threads_second { map ⟦<Box<dyn Admission + Send> as Admission>⟧.problem_of threads.second.items ≡ replicate MAX_NODES Second }
+    requires policies { length order.policies.pairs.items ≡ MAX_NODES }
+    requires threads { length threads.pairs.items ≡ MAX_NODES }
     requires records_first { map (λ r. finds (r.vtable, r.value)) records.first.items ≡ replicate MAX_NODES (empty_node First) }
     requires records_second { map (λ r. finds (r.vtable, r.value)) records.second.items ≡ replicate MAX_NODES (empty_node Second) }
     requires records_clients { map (λ r. finds (r.vtable, r.value)) records.clients.items ≡ replicate MAX_CLIENTS empty_client }
@@ -142,10 +139,8 @@ fn run_command<T: Threads + Wait + Copy + Send, R: Read, W: Write, E: Write>(
 ) -> Ended
 where
     R: Drop,
-    requires first { map ⟦<Box<dyn Admission + Send> as Admission>⟧.problem_of order.policies.first.items ≡ replicate MAX_NODES First }
-    requires second { map ⟦<Box<dyn Admission + Send> as Admission>⟧.problem_of order.policies.second.items ≡ replicate MAX_NODES Second }
-    requires threads_first { map ⟦<Box<dyn Admission + Send> as Admission>⟧.problem_of threads.first.items ≡ replicate MAX_NODES First }
-    requires threads_second { map ⟦<Box<dyn Admission + Send> as Admission>⟧.problem_of threads.second.items ≡ replicate MAX_NODES Second }
+    requires policies { length order.policies.pairs.items ≡ MAX_NODES }
+    requires threads { length threads.pairs.items ≡ MAX_NODES }
     requires records_first { map (λ r. finds (r.vtable, r.value)) records.first.items ≡ replicate MAX_NODES (empty_node First) }
     requires records_second { map (λ r. finds (r.vtable, r.value)) records.second.items ≡ replicate MAX_NODES (empty_node Second) }
     requires records_clients { map (λ r. finds (r.vtable, r.value)) records.clients.items ≡ replicate MAX_CLIENTS empty_client }
@@ -183,10 +178,8 @@ fn run_words<T: Threads + Wait + Copy + Send, R: Read, W: Write, E: Write>(
 ) -> Ended
 where
     R: Drop,
-    requires first { map ⟦<Box<dyn Admission + Send> as Admission>⟧.problem_of policies.first.items ≡ replicate MAX_NODES First }
-    requires second { map ⟦<Box<dyn Admission + Send> as Admission>⟧.problem_of policies.second.items ≡ replicate MAX_NODES Second }
-    requires threads_first { map ⟦<Box<dyn Admission + Send> as Admission>⟧.problem_of threads.first.items ≡ replicate MAX_NODES First }
-    requires threads_second { map ⟦<Box<dyn Admission + Send> as Admission>⟧.problem_of threads.second.items ≡ replicate MAX_NODES Second }
+    requires policies { length policies.pairs.items ≡ MAX_NODES }
+    requires threads { length threads.pairs.items ≡ MAX_NODES }
     requires records_first { map (λ r. finds (r.vtable, r.value)) records.first.items ≡ replicate MAX_NODES (empty_node First) }
     requires records_second { map (λ r. finds (r.vtable, r.value)) records.second.items ≡ replicate MAX_NODES (empty_node Second) }
     requires records_clients { map (λ r. finds (r.vtable, r.value)) records.clients.items ≡ replicate MAX_CLIENTS empty_client }
@@ -225,10 +218,8 @@ fn run_given<T: Threads + Wait + Copy + Send, R: Read, W: Write, E: Write>(
 ) -> Ended
 where
     R: Drop,
-    requires first { map ⟦<Box<dyn Admission + Send> as Admission>⟧.problem_of policies.first.items ≡ replicate MAX_NODES First }
-    requires second { map ⟦<Box<dyn Admission + Send> as Admission>⟧.problem_of policies.second.items ≡ replicate MAX_NODES Second }
-    requires threads_first { map ⟦<Box<dyn Admission + Send> as Admission>⟧.problem_of threads.first.items ≡ replicate MAX_NODES First }
-    requires threads_second { map ⟦<Box<dyn Admission + Send> as Admission>⟧.problem_of threads.second.items ≡ replicate MAX_NODES Second }
+    requires policies { length policies.pairs.items ≡ MAX_NODES }
+    requires threads { length threads.pairs.items ≡ MAX_NODES }
     requires records_first { map (λ r. finds (r.vtable, r.value)) records.first.items ≡ replicate MAX_NODES (empty_node First) }
     requires records_second { map (λ r. finds (r.vtable, r.value)) records.second.items ≡ replicate MAX_NODES (empty_node Second) }
     requires records_clients { map (λ r. finds (r.vtable, r.value)) records.clients.items ≡ replicate MAX_CLIENTS empty_client }
@@ -269,9 +260,8 @@ pub fn end_without_memory<E: Write>(errors: &mut E) -> Ended
 /// status 1.
 ///
 /// Contracts speak of what the reader has left and of what the writers hold, where these are known.
-/// The caller owes policies of the right problems, as `serve` does: sixteen that solve problem 1 and
-/// sixteen that solve problem 2, and for the threads of a run as many again; and the empty records that
-/// `serve_run` asks for. A run may wait without end.
+/// The caller owes sixteen pairs of policies, as for `serve`, and for the threads of a run as many again;
+/// and the empty records that `serve_run` asks for. A run may wait without end.
 pub fn run<T: Threads + Wait + Copy + Send, R: Read, W: Write, E: Write>(
     rt: T,
     alloc: Global,
@@ -285,10 +275,8 @@ pub fn run<T: Threads + Wait + Copy + Send, R: Read, W: Write, E: Write>(
 ) -> Ended
 where
     R: Drop,
-    requires first { map ⟦<Box<dyn Admission + Send> as Admission>⟧.problem_of policies.first.items ≡ replicate MAX_NODES First }
-    requires second { map ⟦<Box<dyn Admission + Send> as Admission>⟧.problem_of policies.second.items ≡ replicate MAX_NODES Second }
-    requires threads_first { map ⟦<Box<dyn Admission + Send> as Admission>⟧.problem_of threads.first.items ≡ replicate MAX_NODES First }
-    requires threads_second { map ⟦<Box<dyn Admission + Send> as Admission>⟧.problem_of threads.second.items ≡ replicate MAX_NODES Second }
+    requires policies { length policies.pairs.items ≡ MAX_NODES }
+    requires threads { length threads.pairs.items ≡ MAX_NODES }
     requires records_first { map (λ r. finds (r.vtable, r.value)) records.first.items ≡ replicate MAX_NODES (empty_node First) }
     requires records_second { map (λ r. finds (r.vtable, r.value)) records.second.items ≡ replicate MAX_NODES (empty_node Second) }
     requires records_clients { map (λ r. finds (r.vtable, r.value)) records.clients.items ≡ replicate MAX_CLIENTS empty_client }

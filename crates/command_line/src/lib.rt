@@ -8,8 +8,8 @@
 //! and 1; wrong words as 2, by what `clap` says of them; a request for help or for the version as 0.
 //! `specs/CommandLine` says so.
 //!
-//! It stands on `operator_cli`, `run_service`, `line_streams`, `stable_record`, `admission_policy`,
-//! `lock_messages`, `lock_model` and `clap`.
+//! It stands on `operator_cli`, `run_service`, `line_streams`, `stable_record`, `lock_messages`,
+//! `lock_model` and `clap`.
 #![tactic(auto)]
 
 mod ending;

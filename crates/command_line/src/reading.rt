@@ -45,13 +45,14 @@ kept, sent 2 grant n1 c1 1 read a, counted, inside, inside a: c1 read.
 Settings: `votes` is a list with the votes of each node, 0 to 255, node 1 first, 16 nodes at most;
 `read` and `write` are how many votes a reader and a writer collect (read + write, and twice write,
 are over all votes); `problem` is 1 (a reader waits only where a writer holds) or 2 (it waits also
-where a writer waits); `clients` is how many clients there are, 1 to 1024. These are needed. `more`
-has other ballots, up to seven, as `more = [{ votes = [1, 1, 1], read = 1, write = 3 }]`: the first
-ballot is at place 1, those of `more` at 2 and on, and each two have to cross. Five more are for
-`rwvote run`, and judged by every command: `seed`, the number of the weather; `lose`, `twice` and
-`late`, how many of a thousand parcels are lost, go twice and are late, 1000 together at most; and
-`wishes`, a list of at most 4096 texts as `c1 read a`, or `c1 read a b2` by the ballot at place 2; one
-as `c1 soften a` writes, and goes on as a reader before it leaves.
+where a writer waits), and is that of each node at first; `clients` is how many clients there are, 1
+to 1024. These are needed. `more` has other ballots, up to seven, as
+`more = [{ votes = [1, 1, 1], read = 1, write = 3 }]`: the first ballot is at place 1, those of `more`
+at 2 and on, and each two have to cross. Five more are for `rwvote run`, and judged by every command:
+`seed`, the number of the weather; `lose`, `twice` and `late`, how many of a thousand parcels are
+lost, go twice and are late, 1000 together at most; and `wishes`, a list of at most 4096 texts as
+`c1 read a`, or `c1 read a b2` by the ballot at place 2; one as `c1 soften a` writes, and goes on as a
+reader before it leaves.
 
 The lines may also be typed one by one: each answer goes out before the next line is waited for, and
 `sent K` tells the number that the next `take` or `hear` names.
@@ -59,20 +60,25 @@ The lines may also be typed one by one: each answer goes out before the next lin
 All nodes and clients are up at first. (As a journal begins they are down: here the lines in which
 they first rise print `refused 603`.) Events: `begin cC read|write NAME`, `try nN|cC`, `kept nN|cC`,
 `sayto cC nN`, `say nN`, `take nN K`, `hear cC K`, `enter cC`, `leave cC`, `soften cC`,
-`fall nN|cC`, `rise nN|cC old|new`. `nN` is node N, `cC` client C, `K` the number of a message, as
-`sent K` prints it, `NAME` 1 to 32 of a-z, 0-9 and -. A `begin` may end with `bP`, P from 2 to 8: the
-attempt's votes count by the ballot at place P then, else by the first. `soften cC` makes a reader of
-a writer that is inside, and its next `sayto` says so. Queries: `inside NAME`, and of what node N has
-kept, `waiting nN NAME` and `holding nN NAME`.
+`fall nN|cC`, `rise nN|cC old|new`, `switch nN 1|2`. `nN` is node N, `cC` client C, `K` the number of
+a message, as `sent K` prints it, `NAME` 1 to 32 of a-z, 0-9 and -. A `begin` may end with `bP`, P
+from 2 to 8: the attempt's votes count by the ballot at place P then, else by the first. `soften cC`
+makes a reader of a writer that is inside, and its next `sayto` says so. `switch nN 1|2` gives node N
+this problem, and prints `changed`, or `same` where it has it already. As behind a `take`, what has
+changed is kept before the node's `say`, which grants the readers that needn't wait any more; where
+there are none it prints nothing. Queries: `inside NAME`, and of what node N has kept,
+`waiting nN NAME` and `holding nN NAME`.
 
-`refused N`: 601 no such node or client, 602 it is down, 603 it is up, 604 not in this phase, 605 not
-kept yet, 606 nothing to say, 607 no such message, 608 for another, 609 too few votes, 610 no
-attempts left, 611 nothing was tried, 612 too many messages, 614 no ballot at this place. Nothing has
-changed then, and the script goes on, also where the settings don't have the node or client.
+`refused N`: 601 no such node or client, 602 it is down, 603 it is up, 604 not in this phase, as a
+`take` or a `switch` in front of the node's `say`, 605 not kept yet, 606 nothing to say, 607 no such
+message, 608 for another, 609 too few votes, 610 no attempts left, 611 nothing was tried, 612 too many
+messages, 614 no ballot at this place. Nothing has changed then, and the script goes on, also where
+the settings don't have the node or client.
 
 `line L fault N` ends the script: line L behind `---` has 801 an unknown word, 802 no actor (`c0`,
-`c1025` and `n17` are none in any settings), 803 no number or no place, 804 no name, 805 words
-missing or left over, or over 128 bytes. A blank line or a comment behind `---` is 801.
+`c1025` and `n17` are none in any settings), 803 no number, no place or no problem (other than 1 and
+2), 804 no name, 805 words missing or left over, or over 128 bytes. A blank line or a comment behind
+`---` is 801.
 
 `settings fault N` stands alone: 921 no TOML, 922 a value missing or out of range, 923 an unknown key,
 924 no line `---` within 65536 bytes (also where lines end with CRLF), 925 no memory; 201 no node, 202
@@ -106,9 +112,11 @@ first line that is wrong: `unsound L refused N` where the event can't happen the
 where the line is no event. Lines count from 1 behind `---`, and the numbers are those of
 `rwvote script --help`; a blank line or a comment is `unsound L fault 801`. Nothing behind that line
 is read. The settings and the events are written as for `script`, a `soften c1` too: further ballots
-stand in `more`, and a `begin` by one of them ends with its place, as `b2`; a query is no event. A
-script is no journal, since it begins with all of them up: `begin c1 read a` as the first line gives
-`unsound 1 refused 602`.
+stand in `more`, and a `begin` by one of them ends with its place, as `b2`; a query is no event.
+`switch nN 1|2` gives node N this problem, where a script prints `changed`, or `same` if it has it
+already; in front of the node's `say` it is `unsound L refused 604`, and `switch n1 3` is
+`unsound L fault 803`. A script is no journal, since it begins with all of them up: `begin c1 read a`
+as the first line gives `unsound 1 refused 602`.
 
 The status is 0 for a sound journal; 1 for another one, and where `fault N` stands on standard error:
 931 the input failed in front of `---`, 816 behind it, 817 the output failed, 933 and 818 no memory,

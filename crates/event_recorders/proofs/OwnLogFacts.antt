@@ -6,7 +6,8 @@ use Rattle.lock_messages.specs.declared.messages.Message.{Message}
 use Rattle.lock_messages.specs.declared.messages.Message.TheVariants as message
 use Rattle.lock_messages.specs.declared.ids.TheConstants.{MAX_ATTEMPT}
 use Rattle.lock_messages.specs.Messages.{is_for_client, named_node}
-use Rattle.lock_model.specs.ExactDecisions.{decision, changes}
+use Rattle.lock_model.specs.declared.problems.Problem.{Problem}
+use Rattle.lock_model.specs.ExactDecisions.{decision, changes, switches}
 use Rattle.lock_model.specs.ExactStations.{is_write}
 use Rattle.lock_model.specs.ExactHearing.{is_node_of, is_counted}
 use Rattle.lock_messages.specs.declared.tickets.Mode.{Mode}
@@ -24,7 +25,7 @@ use Rattle.world_model.specs.declared.exact.ExactNodePhase.TheVariants as node
 use Rattle.world_model.specs.declared.exact.ExactClientPhase.{ExactClientPhase}
 use Rattle.world_model.specs.declared.exact.ExactClientPhase.TheVariants as client
 use Rattle.world_model.specs.ExactClients.{client_in, next_ticket, begins_by, begins_in, says_one, tells_in, heard_in, counts_in, after_hearing, is_down, enters_in, leaves_in, soft, softens_in, client_falls_in}
-use Rattle.world_model.specs.ExactNodes.{node_in, says_in, takes_in, decided_on, node_falls_in}
+use Rattle.world_model.specs.ExactNodes.{node_in, says_in, takes_in, decided_on, node_falls_in, is_another, switches_in}
 use Rattle.world_model.specs.Turns.{Turns, acts, reads}
 use Rattle.world_model.specs.Locality.{local_part}
 use Rattle.world_model.specs.Parts.{Part, NoPart, NodePart, ClientPart, after_own, after_turn, after_reading, message_of}
@@ -71,6 +72,15 @@ module _ (strings : List (List ℕ)) (v : ExactNode) (h : FindsPart (NodePart v)
   says (node.Decided s replies) done = h
   says (node.Stored replies) done = h
 
+  switched : (n : ℕ) (p : Problem) (phase : ExactNodePhase) (done : Effect) → Node (switches_in n p v phase) done
+  switched n p node.Down done = h
+  switched n p node.Idle done =
+      either (λ u. FindsPart (NodePart u) strings) (is_another p v)
+      (node_in v (node.Decided (record { problem = p; entries = (switches n p v.kept.entries).entries }) (switches n p v.kept.entries).replies))
+      (node_in v (node.Stored (switches n p v.kept.entries).replies)) h h
+  switched n p (node.Decided s replies) done = h
+  switched n p (node.Stored replies) done = h
+
   node-falls : (phase : ExactNodePhase) (done : Effect) → Node (node_falls_in v phase) done
   node-falls node.Down done = h
   node-falls node.Idle done = h
@@ -91,6 +101,7 @@ module _ (strings : List (List ℕ)) (v : ExactNode) (h : FindsPart (NodePart v)
   node-stays b (event.Fall (actor.Node n)) done still = node-falls v.phase done
   node-stays b (event.Fall (actor.Client c)) done still = h
   node-stays b (event.Rise who age) done still = absurd (cc still)
+  node-stays b (event.Switch n p) done still = switched n p v.phase done
 
 module _ (strings : List (List ℕ)) (k : ExactClient) (h : FindsPart (ClientPart k) strings) where
   -- what is found of the client after a turn
@@ -163,6 +174,7 @@ module _ (strings : List (List ℕ)) (k : ExactClient) (h : FindsPart (ClientPar
   client-stays b (event.Fall (actor.Node n)) done still = h
   client-stays b (event.Fall (actor.Client c)) done still = client-falls k.phase done
   client-stays b (event.Rise who age) done still = absurd (cc still)
+  client-stays b (event.Switch n p) done still = h
 
 pub records-stay : RecordsStay
 records-stay b e done NoPart strings still h = h

@@ -81,6 +81,7 @@ IsUnread (event.Leave c) f = ⊥
 IsUnread (event.Soften c) f = ⊥
 IsUnread (event.Fall who) f = ⊥
 IsUnread (event.Rise who age) f = ⊥
+IsUnread (event.Switch n p) f = ⊥
 
 -- why a recorder may refuse an event that its own log allows
 abbrev pub IsRecorderFault : Event → BookFault → Type 0
@@ -119,6 +120,7 @@ reads (event.Leave c) = false
 reads (event.Soften c) = false
 reads (event.Fall who) = false
 reads (event.Rise who age) = false
+reads (event.Switch n p) = false
 
 -- the events that change what an actor keeps or tries to keep
 abbrev pub changes_record : Event → Bool
@@ -134,3 +136,4 @@ changes_record (event.Enter c) = false
 changes_record (event.Leave c) = false
 changes_record (event.Soften c) = false
 changes_record (event.Fall who) = false
+changes_record (event.Switch n p) = false

@@ -154,6 +154,7 @@ enters_by (event.Leave c) = 0
 enters_by (event.Soften c) = 0
 enters_by (event.Fall who) = 0
 enters_by (event.Rise who age) = 0
+enters_by (event.Switch n p) = 0
 
 -- how many Enters a history has
 abbrev pub enters : List (Event × Effect) → ℕ

@@ -26,6 +26,7 @@ fn whose(event: Event) -> Actor
         Event::Soften(c) => Actor::Client(c),
         Event::Fall(who) => who,
         Event::Rise(who, _) => who,
+        Event::Switch(n, _) => Actor::Node(n),
     }
 }
 
@@ -53,7 +54,8 @@ pub(crate) fn enters_by(event: &Event) -> u32
         | Event::Leave(_)
         | Event::Soften(_)
         | Event::Fall(_)
-        | Event::Rise(..) => 0,
+        | Event::Rise(..)
+        | Event::Switch(..) => 0,
     }
 }
 

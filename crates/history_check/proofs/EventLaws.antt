@@ -24,6 +24,7 @@ among (event.Leave c) = inr (inr (inr (inr (inr (inr (inr (inr (inl refl))))))))
 among (event.Soften c) = inr (inr (inr (inr (inr (inr (inr (inr (inr (inl refl)))))))))
 among (event.Fall who) = inr (inr (inr (inr (inr (inr (inr (inr (inr (inr (inl refl))))))))))
 among (event.Rise who age) = inr (inr (inr (inr (inr (inr (inr (inr (inr (inr (inr (inl refl)))))))))))
+among (event.Switch n p) = inr (inr (inr (inr (inr (inr (inr (inr (inr (inr (inr (inr (inl refl))))))))))))
 
 is_its_line : (l : Line) (e : Event) → event_in l ≡ Ok e → l ≡ line.Event e
 is_its_line (line.Event d) e h = ap line.Event (ok_same d e h)

@@ -55,7 +55,7 @@ named_is (d ∷ ds) w c h = named_at (bytes_eq w (word_of d)) d ds w c refl (nam
 -- the commands have different words
 abbrev every : List Command
 every =
-    command.Begin ∷ command.Try ∷ command.Kept ∷ command.SayTo ∷ command.Say ∷ command.Take ∷ command.Hear ∷ command.Enter ∷ command.Leave ∷ command.Soften ∷ command.Fall ∷ command.Rise ∷ command.Inside ∷ command.Waiting ∷ command.Holding
+    command.Begin ∷ command.Try ∷ command.Kept ∷ command.SayTo ∷ command.Say ∷ command.Take ∷ command.Hear ∷ command.Enter ∷ command.Leave ∷ command.Soften ∷ command.Fall ∷ command.Rise ∷ command.Switch ∷ command.Inside ∷ command.Waiting ∷ command.Holding
     ∷ []
 
 its_word : (c : Command) → named every (word_of c) ≡ Ok c
@@ -71,6 +71,7 @@ its_word command.Leave = refl
 its_word command.Soften = refl
 its_word command.Fall = refl
 its_word command.Rise = refl
+its_word command.Switch = refl
 its_word command.Inside = refl
 its_word command.Waiting = refl
 its_word command.Holding = refl
@@ -153,6 +154,7 @@ said_is command.Leave ws l h = row command.Leave (λ a. line.Event (event.Leave 
 said_is command.Soften ws l h = row command.Soften (λ a. line.Event (event.Soften a.0)) (λ a. refl) (λ a v. v) (λ a. refl) ws l h
 said_is command.Fall ws l h = row command.Fall (λ a. line.Event (event.Fall a.0)) (λ a. refl) (λ a v. v) (λ a. refl) ws l h
 said_is command.Rise ws l h = row command.Rise (λ a. line.Event (event.Rise a.0 a.1.0)) (λ a. refl) (λ a v. v) (λ a. refl) ws l h
+said_is command.Switch ws l h = row command.Switch (λ a. line.Event (event.Switch a.0 a.1.0)) (λ a. refl) (λ a v. v) (λ a. refl) ws l h
 said_is command.Inside ws l h = row command.Inside (λ a. line.Query (query.Inside a.0)) (λ a. refl) (λ a v. v) (λ a. refl) ws l h
 said_is command.Waiting ws l h = row command.Waiting (λ a. line.Query (query.Waiting a.0 a.1.0)) (λ a. refl) (λ a v. v) (λ a. refl) ws l h
 said_is command.Holding ws l h = row command.Holding (λ a. line.Query (query.Holding a.0 a.1.0)) (λ a. refl) (λ a v. v) (λ a. refl) ws l h
@@ -323,6 +325,7 @@ plain_word command.Leave = (refl, (refl, (refl, (refl, (refl, tt)))))
 plain_word command.Soften = (refl, (refl, (refl, (refl, (refl, (refl, tt))))))
 plain_word command.Fall = (refl, (refl, (refl, (refl, tt))))
 plain_word command.Rise = (refl, (refl, (refl, (refl, tt))))
+plain_word command.Switch = (refl, (refl, (refl, (refl, (refl, (refl, tt))))))
 plain_word command.Inside = (refl, (refl, (refl, (refl, (refl, (refl, tt))))))
 plain_word command.Waiting = (refl, (refl, (refl, (refl, (refl, (refl, (refl, tt)))))))
 plain_word command.Holding = (refl, (refl, (refl, (refl, (refl, (refl, (refl, tt)))))))
@@ -340,6 +343,7 @@ few_words command.Leave = refl
 few_words command.Soften = refl
 few_words command.Fall = refl
 few_words command.Rise = refl
+few_words command.Switch = refl
 few_words command.Inside = refl
 few_words command.Waiting = refl
 few_words command.Holding = refl
@@ -357,6 +361,7 @@ the_last command.Leave = refl
 the_last command.Soften = refl
 the_last command.Fall = refl
 the_last command.Rise = refl
+the_last command.Switch = refl
 the_last command.Inside = refl
 the_last command.Waiting = refl
 the_last command.Holding = refl
@@ -393,6 +398,7 @@ what_is_written cs (line.Event (event.Leave c)) v h = back cs command.Leave (λ 
 what_is_written cs (line.Event (event.Soften c)) v h = back cs command.Soften (λ a. line.Event (event.Soften a.0)) (λ ws. refl) (c, tt) v h
 what_is_written cs (line.Event (event.Fall who)) v h = back cs command.Fall (λ a. line.Event (event.Fall a.0)) (λ ws. refl) (who, tt) v h
 what_is_written cs (line.Event (event.Rise who age)) v h = back cs command.Rise (λ a. line.Event (event.Rise a.0 a.1.0)) (λ ws. refl) (who, (age, tt)) v h
+what_is_written cs (line.Event (event.Switch n p)) v h = back cs command.Switch (λ a. line.Event (event.Switch a.0 a.1.0)) (λ ws. refl) (n, (p, tt)) v h
 what_is_written cs (line.Query (query.Inside x)) v h = back cs command.Inside (λ a. line.Query (query.Inside a.0)) (λ ws. refl) (x, tt) v h
 what_is_written cs (line.Query (query.Waiting n x)) v h = back cs command.Waiting (λ a. line.Query (query.Waiting a.0 a.1.0)) (λ ws. refl) (n, (x, tt)) v h
 what_is_written cs (line.Query (query.Holding n x)) v h = back cs command.Holding (λ a. line.Query (query.Holding a.0 a.1.0)) (λ ws. refl) (n, (x, tt)) v h

@@ -17,13 +17,15 @@ use Rattle.lock_messages.specs.declared.tickets.Mode.TheVariants.{Read, Write}
 use Rattle.lock_messages.specs.Ids.{IsClient}
 use Rattle.lock_messages.specs.Names.{IsName, is_name_byte}
 use Rattle.lock_messages.specs.Texts.{actor_text, mode_text}
+use Rattle.lock_model.specs.declared.problems.Problem.{Problem}
+use Rattle.lock_model.specs.declared.problems.Problem.TheVariants.{First, Second}
 use Rattle.vote_weights.specs.declared.lists.TheConstants.{MAX_BALLOTS}
 use Rattle.world_model.specs.declared.TheConstants.{MAX_MESSAGES}
 use Rattle.world_model.specs.declared.events.Age.{Age}
 use Rattle.world_model.specs.declared.events.Age.TheVariants.{Old, New}
 use Rattle.history_check.specs.declared.faults.LineFault.{LineFault}
 use Rattle.history_check.specs.declared.faults.LineFault.TheVariants as fault
-use Rattle.history_check.specs.Lines.{◌>>=◌, Kind, ANode, AClient, AnActor, ANumber, AName, AMode, AWishMode, AnAge, APlace, WishMode, Value, left_out, is_space, spelled, lettered, either_of, node_word, client_word, actor_word, number_word, name_word, mode_word, wish_mode_word, age_word, behind_first, place_word, age_text, wish_mode_text, value_in, value_text, value_texts, IsValue, IsActor, IsPlace, IsWishMode}
+use Rattle.history_check.specs.Lines.{◌>>=◌, Kind, ANode, AClient, AnActor, ANumber, AName, AMode, AWishMode, AnAge, APlace, AProblem, WishMode, Value, left_out, is_space, spelled, lettered, either_of, node_word, client_word, actor_word, number_word, name_word, mode_word, wish_mode_word, age_word, problem_word, behind_first, place_word, age_text, problem_text, wish_mode_text, value_in, value_text, value_texts, IsValue, IsActor, IsPlace, IsWishMode}
 use Rattle.history_check.proofs.NumberFacts.{own, spelled_so}
 
 -- numbers
@@ -147,6 +149,11 @@ age_is w a h =
     pick {P = Spells AnAge w a} (bytes_eq w (codes "old")) Old a _ (λ t e. ((bytes_eq-Decides w (codes "old")).0 t ∙ ap age_text e, tt))
     (pick {P = Spells AnAge w a} (bytes_eq w (codes "new")) New a (Err fault.Word) (λ t e. ((bytes_eq-Decides w (codes "new")).0 t ∙ ap age_text e, tt)) (λ e. never_ok fault.Word a e)) h
 
+problem_is : (w : List ℕ) (p : Problem) → problem_word w ≡ Ok p → Spells AProblem w p
+problem_is w p h =
+    pick {P = Spells AProblem w p} (bytes_eq w (codes "1")) First p _ (λ t e. ((bytes_eq-Decides w (codes "1")).0 t ∙ ap problem_text e, tt))
+    (pick {P = Spells AProblem w p} (bytes_eq w (codes "2")) Second p (Err fault.Number) (λ t e. ((bytes_eq-Decides w (codes "2")).0 t ∙ ap problem_text e, tt)) (λ e. never_ok fault.Number p e)) h
+
 -- the word is the only one of the value
 abbrev pub IsItsWord : (k : Kind) → List ℕ → Value k → Type 0
 IsItsWord k w x = (w ∷ [] ≡ value_texts k x) × IsValue k x
@@ -175,6 +182,7 @@ value_is AName w x h = alone AName w x refl (name_is w x h)
 value_is AMode w x h = alone AMode w x refl (mode_is w x h)
 value_is AWishMode w x h = alone AWishMode w x refl (wish_mode_is w x h)
 value_is AnAge w x h = alone AnAge w x refl (age_is w x h)
+value_is AProblem w x h = alone AProblem w x refl (problem_is w x h)
 value_is APlace w x h = place_is w (lettered 98 MAX_BALLOTS w) x refl h
 
 -- a value whose word is left out
@@ -187,6 +195,7 @@ left_is AName x h = absurd (let clash : None ≡ Some x = h in cc)
 left_is AMode x h = absurd (let clash : None ≡ Some x = h in cc)
 left_is AWishMode x h = absurd (let clash : None ≡ Some x = h in cc)
 left_is AnAge x h = absurd (let clash : None ≡ Some x = h in cc)
+left_is AProblem x h = absurd (let clash : None ≡ Some x = h in cc)
 left_is APlace x h =
     let same : 1 ≡ x = (let s : Some 1 ≡ Some x = h in cc) in
     subst (λ (n : ℕ). ([] ≡ value_texts APlace n) × IsPlace n) same (refl, (omega arith, omega arith))
@@ -228,6 +237,10 @@ age_says : (a : Age) → age_word (age_text a) ≡ Ok a
 age_says Old = refl
 age_says New = refl
 
+problem_says : (p : Problem) → problem_word (problem_text p) ≡ Ok p
+problem_says First = refl
+problem_says Second = refl
+
 place_says : (p : ℕ) → IsPlace p → (p == 1) ≡ false → place_word (value_text APlace p) ≡ Ok p
 place_says p h e = ap behind_first (text_is_spelled MAX_BALLOTS p (omega arith) h.0 h.1) ∙ ap (λ (b : Bool). cond b (Err fault.Number) (Ok p)) e
 
@@ -267,6 +280,10 @@ plain_age : (a : Age) → Plain (age_text a)
 plain_age Old = (refl, (refl, (refl, tt)))
 plain_age New = (refl, (refl, (refl, tt)))
 
+plain_problem : (p : Problem) → Plain (problem_text p)
+plain_problem First = (refl, tt)
+plain_problem Second = (refl, tt)
+
 short_number : (n : ℕ) → n ≤ 2000000 → length (decimal n) ≤ 7
 short_number n h = length-decimal-le 7 n (omega arith) (omega arith) (omega arith)
 
@@ -281,6 +298,7 @@ width AMode = 8
 width AWishMode = 8
 width AnAge = 8
 width APlace = 8
+width AProblem = 8
 
 short_behind : (b : ℕ) (bs : List ℕ) → length bs ≤ 7 → length (b ∷ bs) ≤ 8
 short_behind b bs h = omega arith
@@ -300,6 +318,10 @@ short_wish_mode (m, false) = short_mode m
 short_age : (a : Age) → length (age_text a) ≤ 8
 short_age Old = at_most (length (age_text Old)) 8 refl
 short_age New = at_most (length (age_text New)) 8 refl
+
+short_problem : (p : Problem) → length (problem_text p) ≤ 8
+short_problem First = at_most (length (problem_text First)) 8 refl
+short_problem Second = at_most (length (problem_text Second)) 8 refl
 
 -- a word that has no space, is short, and is read as the value
 pub record IsGoodWord (k : Kind) (w : List ℕ) (x : Value k) : Type 0 where
@@ -365,4 +387,5 @@ spelled_by AName x h = inr (value_text AName x, refl, record { says = name_says 
 spelled_by AMode m h = inr (value_text AMode m, refl, record { says = mode_says m; plain = plain_mode m; short = short_mode m })
 spelled_by AWishMode x h = inr (value_text AWishMode x, refl, record { says = wish_mode_says x h; plain = plain_wish_mode x; short = short_wish_mode x })
 spelled_by AnAge a h = inr (value_text AnAge a, refl, record { says = age_says a; plain = plain_age a; short = short_age a })
+spelled_by AProblem p h = inr (value_text AProblem p, refl, record { says = problem_says p; plain = plain_problem p; short = short_problem p })
 spelled_by APlace p h = place_spelled p (p == 1) refl h

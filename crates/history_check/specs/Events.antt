@@ -12,7 +12,7 @@ use Rattle.history_check.specs.Lines.{◌>>=◌, line_of, text_of, IsInRange}
 -- the commands of events
 abbrev pub event_commands : List Command
 event_commands =
-    command.Begin ∷ command.Try ∷ command.Kept ∷ command.SayTo ∷ command.Say ∷ command.Take ∷ command.Hear ∷ command.Enter ∷ command.Leave ∷ command.Soften ∷ command.Fall ∷ command.Rise
+    command.Begin ∷ command.Try ∷ command.Kept ∷ command.SayTo ∷ command.Say ∷ command.Take ∷ command.Hear ∷ command.Enter ∷ command.Leave ∷ command.Soften ∷ command.Fall ∷ command.Rise ∷ command.Switch
     ∷ []
 
 -- the event of a line; where these commands are read no line is a query

@@ -15,6 +15,8 @@ use Rattle.lock_messages.specs.declared.tickets.Mode.TheVariants.{Read, Write}
 use Rattle.lock_messages.specs.Ids.{IsNode, IsClient}
 use Rattle.lock_messages.specs.Names.{IsName, is_name_byte}
 use Rattle.lock_messages.specs.Texts.{node_text, client_text, actor_text, mode_text}
+use Rattle.lock_model.specs.declared.problems.Problem.{Problem}
+use Rattle.lock_model.specs.declared.problems.Problem.TheVariants.{First, Second}
 use Rattle.vote_weights.specs.declared.lists.TheConstants.{MAX_BALLOTS}
 use Rattle.world_model.specs.declared.TheConstants.{MAX_MESSAGES}
 use Rattle.world_model.specs.declared.events.Age.{Age}
@@ -37,7 +39,7 @@ abbrev pub ◌>>=◌ : {A B : Type 0} → Result A LineFault → (A → Result B
 (Err e) >>= f = Err e
 
 -- What an argument is: a node, a client, either of these, a message's number, a resource's name, a mode, the
--- mode of a wish, an age, the place of a ballot.
+-- mode of a wish, an age, the place of a ballot, a problem.
 pub data Kind : Type 0 where
   ANode : Kind
   AClient : Kind
@@ -48,6 +50,7 @@ pub data Kind : Type 0 where
   AWishMode : Kind
   AnAge : Kind
   APlace : Kind
+  AProblem : Kind
 
 -- The grammar: the arguments of each command, in order. All else is said of this table. What may be left
 -- out stands last.
@@ -64,6 +67,7 @@ kinds_of command.Leave = AClient ∷ []
 kinds_of command.Soften = AClient ∷ []
 kinds_of command.Fall = AnActor ∷ []
 kinds_of command.Rise = AnActor ∷ AnAge ∷ []
+kinds_of command.Switch = ANode ∷ AProblem ∷ []
 kinds_of command.Inside = AName ∷ []
 kinds_of command.Waiting = ANode ∷ AName ∷ []
 kinds_of command.Holding = ANode ∷ AName ∷ []
@@ -83,6 +87,7 @@ Value AMode = Mode
 Value AWishMode = WishMode
 Value AnAge = Age
 Value APlace = ℕ
+Value AProblem = Problem
 
 abbrev pub Arguments : List Kind → Type 0
 Arguments [] = Unit {0}
@@ -99,6 +104,7 @@ left_out AName = None
 left_out AMode = None
 left_out AWishMode = None
 left_out AnAge = None
+left_out AProblem = None
 
 -- A line, taken apart: f is given its command and its arguments.
 abbrev pub with_parts : {R : Type 0} → ((c : Command) → Arguments (kinds_of c) → R) → Line → R
@@ -114,6 +120,7 @@ with_parts f (line.Event (event.Leave c)) = f command.Leave (c, tt)
 with_parts f (line.Event (event.Soften c)) = f command.Soften (c, tt)
 with_parts f (line.Event (event.Fall who)) = f command.Fall (who, tt)
 with_parts f (line.Event (event.Rise who age)) = f command.Rise (who, (age, tt))
+with_parts f (line.Event (event.Switch n p)) = f command.Switch (n, (p, tt))
 with_parts f (line.Query (query.Inside x)) = f command.Inside (x, tt)
 with_parts f (line.Query (query.Waiting n x)) = f command.Waiting (n, (x, tt))
 with_parts f (line.Query (query.Holding n x)) = f command.Holding (n, (x, tt))
@@ -131,6 +138,10 @@ abbrev pub age_text : Age → List ℕ
 age_text Old = codes "old"
 age_text New = codes "new"
 
+abbrev pub problem_text : Problem → List ℕ
+problem_text First = codes "1"
+problem_text Second = codes "2"
+
 abbrev pub value_text : (k : Kind) → Value k → List ℕ
 value_text ANode n = node_text n
 value_text AClient c = client_text c
@@ -141,6 +152,7 @@ value_text AMode m = mode_text m
 value_text AWishMode x = wish_mode_text x
 value_text AnAge age = age_text age
 value_text APlace place = codes "b" ++ decimal place
+value_text AProblem p = problem_text p
 
 -- The words that spell an argument: its one word, but none for place 1.
 abbrev pub value_texts : (k : Kind) → Value k → List (List ℕ)
@@ -153,6 +165,7 @@ value_texts AName x = value_text AName x ∷ []
 value_texts AMode m = value_text AMode m ∷ []
 value_texts AWishMode x = value_text AWishMode x ∷ []
 value_texts AnAge age = value_text AnAge age ∷ []
+value_texts AProblem p = value_text AProblem p ∷ []
 
 abbrev pub argument_texts : (ks : List Kind) → Arguments ks → List (List ℕ)
 argument_texts [] a = []
@@ -189,6 +202,7 @@ IsValue AMode m = Unit {0}
 IsValue AWishMode x = IsWishMode x
 IsValue AnAge age = Unit {0}
 IsValue APlace place = IsPlace place
+IsValue AProblem p = Unit {0}
 
 abbrev pub AreValues : (ks : List Kind) → Arguments ks → Type 0
 AreValues [] a = Unit {0}
@@ -259,6 +273,10 @@ wish_mode_word word = if bytes_eq word (codes "soften") then Ok (Write, true) el
 abbrev pub age_word : List ℕ → Result Age LineFault
 age_word word = if bytes_eq word (codes "old") then Ok Old else (if bytes_eq word (codes "new") then Ok New else Err fault.Word)
 
+-- `1` or `2`
+abbrev pub problem_word : List ℕ → Result Problem LineFault
+problem_word word = if bytes_eq word (codes "1") then Ok First else (if bytes_eq word (codes "2") then Ok Second else Err fault.Number)
+
 -- the place behind the first one
 abbrev pub behind_first : Option ℕ → Result ℕ LineFault
 behind_first None = Err fault.Number
@@ -279,6 +297,7 @@ value_in AMode word = mode_word word
 value_in AWishMode word = wish_mode_word word
 value_in AnAge word = age_word word
 value_in APlace word = place_word word
+value_in AProblem word = problem_word word
 
 -- the words, where there are at least and at most so many
 abbrev pub between : ℕ → ℕ → List (List ℕ) → Result (List (List ℕ)) LineFault
@@ -324,6 +343,7 @@ said_by command.Leave ws = given command.Leave (λ a. line.Event (event.Leave a.
 said_by command.Soften ws = given command.Soften (λ a. line.Event (event.Soften a.0)) ws
 said_by command.Fall ws = given command.Fall (λ a. line.Event (event.Fall a.0)) ws
 said_by command.Rise ws = given command.Rise (λ a. line.Event (event.Rise a.0 a.1.0)) ws
+said_by command.Switch ws = given command.Switch (λ a. line.Event (event.Switch a.0 a.1.0)) ws
 said_by command.Inside ws = given command.Inside (λ a. line.Query (query.Inside a.0)) ws
 said_by command.Waiting ws = given command.Waiting (λ a. line.Query (query.Waiting a.0 a.1.0)) ws
 said_by command.Holding ws = given command.Holding (λ a. line.Query (query.Holding a.0 a.1.0)) ws

@@ -10,7 +10,7 @@ use std::alloc::{AllocError, Global};
 use world_model::Event;
 
 /// The commands of events.
-const EVENTS: [Command; 12] = [
+const EVENTS: [Command; 13] = [
     Command::Begin,
     Command::Try,
     Command::Kept,
@@ -23,6 +23,7 @@ const EVENTS: [Command; 12] = [
     Command::Soften,
     Command::Fall,
     Command::Rise,
+    Command::Switch,
 ];
 
 /// The event of a line. Where these commands are read no line is a query.

@@ -14,8 +14,8 @@ pub enum LineFault {
     /// 802: a word isn't a node or a client of the kind that is wanted.
     #[error("no node or client is spelled so")]
     Actor,
-    /// 803: a word isn't the number of a message, or isn't the place of a ballot from 2 on.
-    #[error("no message or ballot has this number")]
+    /// 803: a word isn't the number of a message, the place of a ballot from 2 on, or a problem.
+    #[error("no message, ballot or problem has this number")]
     Number,
     /// 804: a word isn't a resource's name.
     #[error("no resource has this name")]

@@ -11,8 +11,8 @@
 //! client is to do (`Wishes`). The place of a ballot is the one argument that may be left out: at place 1 it
 //! always is.
 //!
-//! It stands on `lock_messages`, on `vote_weights` for the places of ballots, on `world_model` for events,
-//! and on `thiserror`.
+//! It stands on `lock_messages`, on `lock_model` for problems, on `vote_weights` for the places of ballots, on
+//! `world_model` for events, and on `thiserror`.
 #![tactic(auto)]
 
 mod commands;

@@ -3,16 +3,17 @@
 ghost use Rattle.std.specs.Prelude.{◌≡◌, ◌∷◌, [], ◌++◌, IfOk, OnOk, string_bytes};
 ghost use Rattle.history_check.specs.declared.commands.Command.TheVariants as command;
 ghost use Rattle.history_check.specs.declared.lines.Line.TheVariants as line;
-ghost use Rattle.history_check.specs.Lines.{AClient, AMode, AName, ANode, ANumber, AnActor, AnAge, APlace, arguments_in, said_by, line_of, text_of};
+ghost use Rattle.history_check.specs.Lines.{AClient, AMode, AName, ANode, ANumber, AnActor, AnAge, APlace, AProblem, arguments_in, said_by, line_of, text_of};
 ghost use Rattle.history_check.specs.Reading.{Gives, words_behind};
 
 use crate::LineFault;
 use crate::commands::{Command, named};
 use crate::words::{
     MAX_LINE_LEN, actor_of, age_of, client_of, first_word, message_of, mode_of, name_of, node_of,
-    one, place_of, three_or_four, two,
+    one, place_of, problem_of, three_or_four, two,
 };
 use lock_messages::{Actor, ClientId, Mode, NodeId, ResourceName};
+use lock_model::Problem;
 use std::alloc::{AllocError, Global};
 use world_model::{Age, Event};
 
@@ -95,6 +96,13 @@ fn actor_and_age(rest: Option<&[u8]>) -> Result<(Actor, Age), LineFault>
     Ok((actor_of(first)?, age_of(second)?))
 }
 
+fn node_and_problem(rest: Option<&[u8]>) -> Result<(NodeId, Problem), LineFault>
+    ensures { Gives (λ x. (x.0, (x.1, tt))) result (arguments_in (ANode ∷ AProblem ∷ []) (words_behind rest.entry)) }
+{
+    let (first, second) = two(rest)?;
+    Ok((node_of(first)?, problem_of(second)?))
+}
+
 /// A client, a mode and a name, and the place of a ballot: it has no word where it is 1.
 fn client_mode_name_and_place(
     rest: Option<&[u8]>,
@@ -162,6 +170,10 @@ fn said_by(command: Command, rest: Option<&[u8]>) -> Result<Line, LineFault>
             let (actor, age) = actor_and_age(rest)?;
             Event::Rise(actor, age)
         }
+        Command::Switch => {
+            let (node, problem) = node_and_problem(rest)?;
+            Event::Switch(node, problem)
+        }
         Command::Inside => return inside(rest),
         Command::Waiting => return waiting(rest),
         Command::Holding => return holding(rest),
@@ -181,8 +193,8 @@ fn said_by(command: Command, rest: Option<&[u8]>) -> Result<Line, LineFault>
 /// the first that applies is answered: the first word is none of the commands (`Word`, 801), words
 /// are missing or left over (`Words`, 805), and then from the left what is wrong with an argument:
 /// an actor (`Actor`, 802), a message's number (`Number`, 803), a resource's name (`Name`, 804), a
-/// mode or an age (`Word`, 801), the place of a ballot that is written and isn't from 2 to 8 (`Number`,
-/// 803).
+/// mode or an age (`Word`, 801), the place of a ballot that is written and isn't from 2 to 8, or a problem
+/// other than `1` and `2` (`Number`, 803).
 #[tactic(auto, unfolding(crate::specs::Lines::line_of))]
 pub fn read_line(commands: &[Command], line: &[u8]) -> Result<Line, LineFault>
     ensures { result ≡ line_of commands.now line.now }
@@ -215,6 +227,8 @@ pub(crate) fn push_event(text: &mut String, event: &Event) -> Result<(), AllocEr
         Event::Fall(actor) => write!(text, "fall {actor}"),
         Event::Rise(actor, Age::Old) => write!(text, "rise {actor} old"),
         Event::Rise(actor, Age::New) => write!(text, "rise {actor} new"),
+        Event::Switch(node, Problem::First) => write!(text, "switch {node} 1"),
+        Event::Switch(node, Problem::Second) => write!(text, "switch {node} 2"),
     }
 }
 

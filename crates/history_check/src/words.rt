@@ -3,11 +3,12 @@
 ghost use Rattle.std.specs.Prelude.{◌≡◌, [], ◌∷◌, ◌≤◌, ◌==◌, slice_index, IfSome};
 ghost use Rattle.std.specs.List.{position, list_all};
 ghost use Rattle.std.specs.Char.{is_ascii_digit};
-ghost use Rattle.history_check.specs.Lines.{is_space, words, spelled, lettered, node_word, client_word, actor_word, number_word, name_word, mode_word, wish_mode_word, age_word, APlace, between, values_in};
+ghost use Rattle.history_check.specs.Lines.{is_space, words, spelled, lettered, node_word, client_word, actor_word, number_word, name_word, mode_word, wish_mode_word, age_word, problem_word, APlace, between, values_in};
 ghost use Rattle.history_check.specs.Reading.{Gives, words_behind, word_there};
 
 use crate::LineFault;
 use lock_messages::{Actor, ClientId, MAX_CLIENTS, MAX_NODES, Mode, NodeId, ResourceName};
+use lock_model::Problem;
 use std::str;
 use vote_weights::MAX_BALLOTS;
 use world_model::{Age, MAX_MESSAGES};
@@ -151,6 +152,19 @@ pub fn age_of(word: &[u8]) -> Result<Age, LineFault>
         return Ok(Age::New);
     }
     Err(LineFault::Word)
+}
+
+/// A problem: its word is `1` or `2`. Any other word is `Number` (803).
+pub fn problem_of(word: &[u8]) -> Result<Problem, LineFault>
+    ensures { result ≡ problem_word word.now }
+{
+    if word == b"1".as_slice() {
+        return Ok(Problem::First);
+    }
+    if word == b"2".as_slice() {
+        return Ok(Problem::Second);
+    }
+    Err(LineFault::Number)
 }
 
 /// The place of a ballot, by our own rule: 1 where its word is left out; else the word is `b` and the

@@ -13,6 +13,8 @@ use Rattle.lock_messages.specs.declared.tickets.Mode.{Mode}
 use Rattle.lock_messages.specs.declared.tickets.Mode.TheVariants.{Read, Write}
 use Rattle.lock_messages.specs.Names.{is_name_byte}
 use Rattle.lock_messages.specs.Texts.{actor_text, mode_text}
+use Rattle.lock_model.specs.declared.problems.Problem.{Problem}
+use Rattle.lock_model.specs.declared.problems.Problem.TheVariants.{First, Second}
 use Rattle.world_model.specs.declared.events.Age.{Age}
 use Rattle.world_model.specs.declared.events.Age.TheVariants.{Old, New}
 use Rattle.world_model.specs.declared.events.Effect.{Effect}
@@ -20,7 +22,7 @@ use Rattle.world_model.specs.declared.events.Event.{Event}
 use Rattle.world_model.specs.declared.events.Event.TheVariants as event
 use Rattle.history_check.specs.declared.commands.Command.TheVariants as command
 use Rattle.history_check.specs.Commands.{word_of}
-use Rattle.history_check.specs.Lines.{Kind, ANode, AClient, AnActor, ANumber, AName, AMode, AWishMode, AnAge, APlace, WishMode, Value, Arguments, kinds_of, value_text, value_texts, argument_texts, wish_mode_text, age_text, IsActor, IsValue, IsPlace, AreValues}
+use Rattle.history_check.specs.Lines.{Kind, ANode, AClient, AnActor, ANumber, AName, AMode, AWishMode, AnAge, APlace, AProblem, WishMode, Value, Arguments, kinds_of, value_text, value_texts, argument_texts, wish_mode_text, age_text, problem_text, IsActor, IsValue, IsPlace, AreValues}
 use Rattle.history_check.specs.Events.{event_text, IsEventInRange}
 use Rattle.line_streams.specs.Streams.{is_line_feed, pieces, lines_in}
 use Rattle.journal_text.specs.Journals.{history_text}
@@ -72,6 +74,10 @@ plain_age : (a : Age) → Plain (age_text a)
 plain_age Old = (refl, (refl, (refl, tt)))
 plain_age New = (refl, (refl, (refl, tt)))
 
+plain_problem : (p : Problem) → Plain (problem_text p)
+plain_problem First = (refl, tt)
+plain_problem Second = (refl, tt)
+
 abbrev pub ArePlain : List (List ℕ) → Type 0
 ArePlain [] = Unit {0}
 ArePlain (w ∷ ws) = Plain w × ArePlain ws
@@ -90,6 +96,7 @@ plain_value AName x h = (plain_of is_name_byte refl x h.each, tt)
 plain_value AMode m h = (plain_mode m, tt)
 plain_value AWishMode x h = (plain_wish_mode x, tt)
 plain_value AnAge a h = (plain_age a, tt)
+plain_value AProblem p h = (plain_problem p, tt)
 plain_value APlace place h = plain_place (place == 1) place h
 
 plain_both : (xs ys : List ℕ) → Plain xs → Plain ys → Plain (xs ++ ys)
@@ -126,6 +133,7 @@ plain_event (event.Leave c) h = plain_line (word_of command.Leave) (kinds_of com
 plain_event (event.Soften c) h = plain_line (word_of command.Soften) (kinds_of command.Soften) (c, tt) (refl, (refl, (refl, (refl, (refl, (refl, tt)))))) h
 plain_event (event.Fall who) h = plain_line (word_of command.Fall) (kinds_of command.Fall) (who, tt) (refl, (refl, (refl, (refl, tt)))) h
 plain_event (event.Rise who age) h = plain_line (word_of command.Rise) (kinds_of command.Rise) (who, (age, tt)) (refl, (refl, (refl, (refl, tt)))) h
+plain_event (event.Switch n p) h = plain_line (word_of command.Switch) (kinds_of command.Switch) (n, (p, tt)) (refl, (refl, (refl, (refl, (refl, (refl, tt)))))) h
 
 -- lines
 

@@ -76,6 +76,7 @@ in_range laws w u (event.Leave c) done sound few t h = (h, tt)
 in_range laws w u (event.Soften c) done sound few t h = (h, tt)
 in_range laws w u (event.Fall who) done sound few t h = (h, tt)
 in_range laws w u (event.Rise who age) done sound few t h = (h, (tt, tt))
+in_range laws w u (event.Switch n p) done sound few t h = (h, (tt, tt))
 
 -- a step leaves the ballots as they are
 few_stay : WorldLaws → (w u : ExactWorld) (e : Event) (done : Effect) → IsSound w → HasFewBallots w → Takes w e done u → HasFewBallots u

@@ -41,6 +41,7 @@ IsWellNamed (event.Leave c) = IsClient c
 IsWellNamed (event.Soften c) = IsClient c
 IsWellNamed (event.Fall who) = IsActor who
 IsWellNamed (event.Rise who age) = IsActor who
+IsWellNamed (event.Switch n p) = IsNode n
 
 abbrev pub AreWellNamed : List (Event × Effect) → Type 0
 AreWellNamed history = AllByRecursion (λ p. IsWellNamed p.0) history

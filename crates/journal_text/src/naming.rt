@@ -51,6 +51,9 @@ pub fn tell_names(event: &Event)
         Event::Soften(client) => {
             let _number = client.get();
         }
+        Event::Switch(node, _) => {
+            let _number = node.get();
+        }
         Event::Try(actor) => tell_actor(*actor),
         Event::Kept(actor) => tell_actor(*actor),
         Event::Fall(actor) => tell_actor(*actor),

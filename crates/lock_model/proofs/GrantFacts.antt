@@ -1,5 +1,5 @@
 -- The Grants that settling adds are those of the tickets that it made holders.
-use Rattle.std.proofs.Common.{◌≡◌, ◌≢◌, ℕ, ◌+◌, ◌==◌, ◌⊎◌, Bool, true, false, ◌&&◌, cond, List, [], ◌∷◌, ◌++◌, Option, Some, None, IfSome, refl, sym, ◌∙◌, ap, subst, inl, inr}
+use Rattle.std.proofs.Common.{◌≡◌, ◌≢◌, ◌↔◌, ℕ, ◌+◌, ◌==◌, ◌⊎◌, Bool, true, false, ◌&&◌, cond, List, [], ◌∷◌, ◌++◌, Option, Some, None, IfSome, refl, sym, ◌∙◌, ap, subst, inl, inr}
 use Rattle.std.specs.List.{AllByRecursion}
 use Rattle.std.proofs.lemmas.Bool.{eq-eqb, ne_eqb, and_parts, and_from}
 use Rattle.std.proofs.lemmas.Bool.Decides.{eqb_tells}
@@ -12,7 +12,7 @@ use Rattle.lock_model.specs.declared.entries.Status.{Status}
 use Rattle.lock_model.specs.declared.entries.Status.TheVariants.{Waiting, Holding}
 use Rattle.lock_model.specs.declared.problems.Problem.{Problem}
 use Rattle.lock_model.specs.Stations.{Has, Station, Holds, Waits, Becomes, Settles}
-use Rattle.lock_model.specs.Decisions.{Among, IsOnly, TellsGrant, AreReplies}
+use Rattle.lock_model.specs.Decisions.{Among, IsOnly, TellsGrant, AreReplies, AreGrants}
 use Rattle.lock_model.specs.ExactStations.{is_of, knows, entry_of, standing_of, claim_of, meaning, EachOnce, IsAboveFloor, is_waiting, is_holding, if_live, settled_entry, settle, waits_in, holds_in}
 use Rattle.lock_model.specs.ExactDecisions.{grant_of, told, grants}
 use Rattle.lock_model.proofs.EntryFacts.{any-none, entry_of-found, all-at, has-found, if_live-found}
@@ -207,18 +207,26 @@ told-grant n p es fs r a h =
       told_so = subst (λ o. Among r (grant_of n (l.entry).client o)) (sym l.live_is) (inl same);
     }
 
+-- these Grants are those of the relation
+pub grants-are : (n : ℕ) (p : Problem) (es fs : List Entry) → InStep es fs → EachOnce es → AllByRecursion IsAboveFloor fs → Settles (meaning p es) (meaning p fs) →
+    AreGrants n (meaning p es) (meaning p fs) (grants n es fs)
+grants-are n p es fs s o a k r = (λ m. grant-told n p es fs r a k (grants-sound n es fs r s o m), λ t. grants-complete n es fs r s (told-grant n p es fs r a t))
+
 -- the replies with these Grants are those of the relation
 pub replies-are : (n : ℕ) (p : Problem) (es fs : List Entry) (first : Message) → InStep es fs → EachOnce es → AllByRecursion IsAboveFloor fs → Settles (meaning p es) (meaning p fs) →
     AreReplies n first (meaning p es) (meaning p fs) (first ∷ grants n es fs)
 replies-are n p es fs first s o a k r = (to, from)
   where
+    are : Among r (grants n es fs) ↔ TellsGrant n (meaning p es) (meaning p fs) r
+    are = grants-are n p es fs s o a k r
+
     to : Among r (first ∷ grants n es fs) → (r ≡ first) ⊎ TellsGrant n (meaning p es) (meaning p fs) r
     to (inl e) = inl e
-    to (inr m) = inr (grant-told n p es fs r a k (grants-sound n es fs r s o m))
+    to (inr m) = inr (are.0 m)
 
     from : (r ≡ first) ⊎ TellsGrant n (meaning p es) (meaning p fs) r → Among r (first ∷ grants n es fs)
     from (inl e) = inl e
-    from (inr t) = inr (grants-complete n es fs r s (told-grant n p es fs r a t))
+    from (inr t) = inr (are.1 t)
 
 pub only-reply : (first : Message) → IsOnly first (first ∷ [])
 only-reply first r = (to, λ e. inl e)

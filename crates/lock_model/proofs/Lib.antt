@@ -6,6 +6,7 @@ pub mod SettlingSets
 pub mod EntryEdits
 pub mod GrantFacts
 pub mod DecisionFacts
+pub mod SwitchFacts
 pub mod PassFacts
 pub mod EntryTests
 pub mod JudgementFacts

@@ -1,5 +1,5 @@
--- What a node may decide on a message: a relation between the station before, the message, the
--- station after, and the replies as a set.
+-- What a node may decide on a message, or on another problem: a relation between the station before, the
+-- message or the problem, the station after, and the replies as a set.
 use Rattle.std.specs.Prelude.{◌≡◌, ◌≢◌, ◌↔◌, ℕ, ◌+◌, ◌-◌, ◌<◌, ◌≤◌, ◌⊎◌, List, [], ◌∷◌}
 use Rattle.lock_messages.specs.declared.tickets.Mode.{Mode}
 use Rattle.lock_messages.specs.declared.tickets.Mode.TheVariants.{Read, Write}
@@ -7,9 +7,10 @@ use Rattle.lock_messages.specs.declared.tickets.Ticket.{Ticket}
 use Rattle.lock_messages.specs.declared.messages.Message.{Message}
 use Rattle.lock_messages.specs.declared.messages.Message.TheVariants.{Request, Release, Grant, Busy, Over, Done, Muddled, Soften}
 use Rattle.lock_messages.specs.declared.messages.Message.TheVariants as message
+use Rattle.lock_model.specs.declared.problems.Problem.{Problem}
 use Rattle.lock_model.specs.declared.entries.Status.{Status}
 use Rattle.lock_model.specs.declared.entries.Status.TheVariants.{Waiting, Holding, Softened}
-use Rattle.lock_model.specs.Stations.{Station, Standing, Free, Has, Cause, Puts, Ends, Softens, Settles, Becomes, asked_mode, ticket_at}
+use Rattle.lock_model.specs.Stations.{Station, Standing, Free, Has, Cause, Puts, Ends, Softens, Settles, Becomes, asked_mode, ticket_at, under}
 
 -- x is one of the list
 abbrev pub Among : {A : Type 0} → A → List A → Type 0
@@ -27,6 +28,10 @@ TellsGrant n s t r = (c : ℕ) × (m : Mode) × (x : List ℕ) × Becomes s t c 
 -- the replies are the first one, and a Grant for each ticket that settling made a holder
 abbrev pub AreReplies : ℕ → Message → Station → Station → List Message → Type 0
 AreReplies n first s t replies = (r : Message) → Among r replies ↔ ((r ≡ first) ⊎ TellsGrant n s t r)
+
+-- the replies are a Grant for each ticket that settling made a holder, and nothing else
+abbrev pub AreGrants : ℕ → Station → Station → List Message → Type 0
+AreGrants n s t replies = (r : Message) → Among r replies ↔ TellsGrant n s t r
 
 -- The attempt is one that the node hasn't met: it is above the attempt of the client's claim, or is
 -- just above the floor and the client has no claim.
@@ -77,6 +82,11 @@ pub record IsSoftened (n : ℕ) (s : Station) (c a : ℕ) (after : Station) (rep
   pub softens : Softens s c a changed
   pub settles : Settles changed after
   pub replies_are : AreReplies n (message.Softened n c a) changed after replies
+
+-- Node n, at s, takes the problem p: all tickets settle under it, and nobody else is told anything.
+pub record IsSwitched (n : ℕ) (s : Station) (p : Problem) (after : Station) (replies : List Message) : Type 0 where
+  pub settles : Settles (under p s) after
+  pub replies_are : AreGrants n (under p s) after replies
 
 -- a node may decide so on a message; on one that is for a client it decides nothing
 abbrev pub Decides : Station → Message → Station → List Message → Type 0

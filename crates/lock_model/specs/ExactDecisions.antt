@@ -15,6 +15,7 @@ use Rattle.lock_model.specs.declared.entries.Status.{Status}
 use Rattle.lock_model.specs.declared.entries.Status.TheVariants.{Waiting, Holding}
 use Rattle.lock_model.specs.declared.entries.Status.TheVariants as status
 use Rattle.lock_model.specs.declared.problems.Problem.{Problem}
+use Rattle.lock_model.specs.declared.problems.Problem.TheVariants.{First, Second}
 use Rattle.lock_model.specs.Stations.{asked_mode}
 use Rattle.lock_model.specs.ExactStations.{is_of, knows, entry_of, is_write, is_waiting, is_holding, if_live, admits, settled}
 
@@ -152,6 +153,10 @@ softens n p entries c a =
     let after = settled p before in
     record { entries = after; replies = message.Softened n c a ∷ grants n before after }
 
+-- the node takes another problem, and all settle under it
+abbrev pub switches : ℕ → Problem → List Entry → Outcome
+switches n p entries = record { entries = settled p entries; replies = grants n entries (settled p entries) }
+
 -- The decision on a message. What is for a client changes nothing and has no reply.
 abbrev pub decision : Problem → List Entry → Message → Outcome
 decision p entries (Request n t) = answered n p entries t (reply_to_known n t (entry_of entries t.client))
@@ -191,3 +196,10 @@ same_entries = pointwise same_entry
 
 abbrev pub changes : Problem → List Entry → Message → Bool
 changes p entries message = not (same_entries entries (decision p entries message).entries)
+
+-- both problems are one
+abbrev pub same_problem : Problem → Problem → Bool
+same_problem First First = true
+same_problem First Second = false
+same_problem Second First = false
+same_problem Second Second = true

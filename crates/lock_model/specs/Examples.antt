@@ -12,7 +12,7 @@ use Rattle.lock_model.specs.declared.entries.Status.TheVariants.{Waiting, Holdin
 use Rattle.lock_model.specs.declared.problems.Problem.{Problem}
 use Rattle.lock_model.specs.declared.problems.Problem.TheVariants.{First, Second}
 use Rattle.lock_model.specs.Ballots.{Ballot, votes_of, larger_votes}
-use Rattle.lock_model.specs.ExactDecisions.{decision}
+use Rattle.lock_model.specs.ExactDecisions.{decision, switches}
 
 -- the ticket of a client for the resource `a`, and for a resource of this name
 abbrev pub asks : ℕ → ℕ → Mode → Ticket
@@ -108,6 +108,17 @@ MuddledSoftenedRequest = Leads First (entry_with (asks 1 1 Read) 0 Softened ∷ 
 -- a Soften of an unknown client adds no entry
 abbrev pub SoftenedStranger : Type 0
 SoftenedStranger = Leads First [] (Soften 1 3 5) [] (message.Softened 1 3 5 ∷ [])
+
+-- a switch to problem 1 lets in the reader behind a writer that waits; a switch to problem 2 sends nobody
+-- away
+abbrev pub SwitchesTo : Problem → List Entry → List Entry → List Message → Type 0
+SwitchesTo p before after replies = switches 1 p before ≡ record { entries = after; replies = replies }
+
+abbrev pub SwitchedToFirst : Type 0
+SwitchedToFirst = SwitchesTo First (behind_writer Waiting) (behind_writer Holding) (Grant 1 (asks 3 1 Read) ∷ [])
+
+abbrev pub SwitchedToSecond : Type 0
+SwitchedToSecond = SwitchesTo Second (behind_writer Holding) (behind_writer Holding) []
 
 -- votes 3, 1, 1 and 0: nodes 2 and 4 have one together, nodes 1 and 2 have four, node 9 has none
 abbrev pub weighted : Ballot

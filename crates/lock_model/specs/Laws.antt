@@ -1,6 +1,6 @@
 -- What follows from the definitions, as statements; each is proved as the contract of a function of
 -- `laws`.
-use Rattle.std.specs.Prelude.{◌≡◌, ◌↔◌, ℕ, ◌≤◌, Bool, true, false, IsTrue, List}
+use Rattle.std.specs.Prelude.{◌≡◌, ◌↔◌, ℕ, ◌≤◌, Bool, true, false, IsTrue, List, []}
 use Rattle.lock_messages.specs.declared.tickets.Mode.{Mode}
 use Rattle.lock_messages.specs.declared.tickets.Mode.TheVariants.{Write}
 use Rattle.lock_messages.specs.declared.tickets.Ticket.{Ticket}
@@ -11,11 +11,11 @@ use Rattle.lock_model.specs.declared.hearing.Heard.{Heard}
 use Rattle.lock_model.specs.declared.problems.Problem.{Problem}
 use Rattle.lock_model.specs.Ballots.{Ballot, Crosses, IsEnough, IsShared, AreCrossing, IsSharedUnderBoth, HasPlace, ballot_at, AllCross}
 use Rattle.lock_model.specs.Stations.{Station, IsLawful, IsCaused, IsEnded, Settles}
-use Rattle.lock_model.specs.Decisions.{Decides}
+use Rattle.lock_model.specs.Decisions.{Decides, IsSwitched}
 use Rattle.lock_model.specs.Hearing.{HearsOfTicket, HearsSoftened, HearsAtRest}
 use Rattle.lock_model.specs.ExactHearing.{heard_of_ticket, heard_softened, heard_at_rest}
 use Rattle.lock_model.specs.ExactStations.{EachOnce, IsWellFormed, meaning, IsSettling, with_holders, settled, new_holders}
-use Rattle.lock_model.specs.ExactDecisions.{decision, Changes, changes}
+use Rattle.lock_model.specs.ExactDecisions.{decision, Changes, changes, switches, same_problem}
 use Rattle.lock_model.specs.Judgement.{is_lawful, is_caused}
 
 -- where a ballot crosses, two sets that are enough, one of them for a writer, share a node of the
@@ -79,6 +79,26 @@ abbrev pub ExactDecisionIsAllowed : Type 0
 ExactDecisionIsAllowed = (p : Problem) (entries : List Entry) (message : Message) (n : ℕ) → is_for_node message n ≡ true →
     IsWellFormed entries → IsLawful (meaning p entries) → IsCaused (meaning p entries) →
     IsAllowed p entries message
+
+-- From a lawful station, whatever its problem, the exact switch to a problem is one that the node may
+-- take, and leaves the entries of a lawful station that is caused under the new problem.
+pub record IsAllowedSwitch (p q : Problem) (entries : List Entry) (n : ℕ) : Type 0 where
+  pub switched : IsSwitched n (meaning p entries) q (meaning q (switches n q entries).entries) (switches n q entries).replies
+  pub well_formed : IsWellFormed (switches n q entries).entries
+  pub lawful : IsLawful (meaning q (switches n q entries).entries)
+  pub caused : IsCaused (meaning q (switches n q entries).entries)
+
+abbrev pub ExactSwitchIsAllowed : Type 0
+ExactSwitchIsAllowed = (p q : Problem) (entries : List Entry) (n : ℕ) → IsWellFormed entries → IsLawful (meaning p entries) → IsAllowedSwitch p q entries n
+
+-- a switch to the problem that a caused station has already changes no entry and tells nobody anything
+abbrev pub SwitchToTheSame : Type 0
+SwitchToTheSame = (p : Problem) (entries : List Entry) (n : ℕ) → IsWellFormed entries → IsCaused (meaning p entries) →
+    switches n p entries ≡ record { entries = entries; replies = [] }
+
+-- the test on two problems passes exactly where they are one
+abbrev pub ProblemsAreCompared : Type 0
+ProblemsAreCompared = (p q : Problem) → IsTrue (same_problem p q) ↔ (p ≡ q)
 
 -- the test on entries by which a change is seen passes exactly where they change, and fails exactly
 -- where they stay

@@ -30,6 +30,10 @@ pub record Station : Type 0 where
   pub problem : Problem
   pub at : ℕ → Standing
 
+-- the station under another problem: each client stands where it stood
+abbrev pub under : Problem → Station → Station
+under p s = record { problem = p; at = s.at }
+
 -- the client that a node doesn't know
 abbrev pub stranger : Standing
 stranger = record { floor = 0; claim = Free }

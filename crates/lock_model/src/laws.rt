@@ -1,7 +1,7 @@
 //! Laws of the definitions. Each function computes nothing: its contract is a theorem.
 
-ghost use Rattle.lock_model.specs.Examples.{FirstReader, RepeatedRequest, WriterBehindReader, ReleasedReader, LateRequest, ReleasedStranger, ReaderPasses, ReaderWaits, ReleaseSettles, MuddledRequest, NextAttempt, SoftenedHolder, SoftenedBeforeWriter, SoftenedWaiter, SoftenedRequest, MuddledSoftenedRequest, SoftenedStranger, WeightedVotes, LargerVotes};
-ghost use Rattle.lock_model.specs.Laws.{EnoughSetsShareANode, EnoughSetsShareANodeOfBoth, CrossesWithItself, AnyTwoCross, LawfulIsSeen, CausedIsSeen, SettlingIsExact, SettlingIsUnique, NothingToSettle, NoEntryToSettle, ExactDecisionIsAllowed, ChangesAreSeen, StayingIsSeen, FloorsNeverFall, EndedStaysEnded, HearingOfTicketIsExact, HearingSoftenedIsExact, HearingAtRestIsExact};
+ghost use Rattle.lock_model.specs.Examples.{FirstReader, RepeatedRequest, WriterBehindReader, ReleasedReader, LateRequest, ReleasedStranger, ReaderPasses, ReaderWaits, ReleaseSettles, MuddledRequest, NextAttempt, SoftenedHolder, SoftenedBeforeWriter, SoftenedWaiter, SoftenedRequest, MuddledSoftenedRequest, SoftenedStranger, SwitchedToFirst, SwitchedToSecond, WeightedVotes, LargerVotes};
+ghost use Rattle.lock_model.specs.Laws.{EnoughSetsShareANode, EnoughSetsShareANodeOfBoth, CrossesWithItself, AnyTwoCross, LawfulIsSeen, CausedIsSeen, SettlingIsExact, SettlingIsUnique, NothingToSettle, NoEntryToSettle, ExactDecisionIsAllowed, ExactSwitchIsAllowed, SwitchToTheSame, ProblemsAreCompared, ChangesAreSeen, StayingIsSeen, FloorsNeverFall, EndedStaysEnded, HearingOfTicketIsExact, HearingSoftenedIsExact, HearingAtRestIsExact};
 
 /// Where a ballot crosses, two sets of nodes that are enough, one of them for a writer, share a
 /// node of the ballot that has votes.
@@ -48,6 +48,15 @@ pub fn decision_is_allowed()
     ensures { ExactDecisionIsAllowed }
 {}
 
+/// From a lawful station, whatever its problem, the exact switch to a problem is one that the node may
+/// take, and the station after it is lawful, and caused under the new problem, since all tickets settle
+/// under it. A switch to the problem that a caused station has already changes nothing and says nothing.
+pub fn switch_is_allowed()
+    ensures allowed { ExactSwitchIsAllowed }
+    ensures same { SwitchToTheSame }
+    ensures compared { ProblemsAreCompared }
+{}
+
 /// The exact decision tells whether it changes the entries, by a test that compares them.
 pub fn changes_are_seen()
     ensures changed { ChangesAreSeen }
@@ -87,6 +96,8 @@ pub fn worked_examples()
     ensures softened_request { SoftenedRequest }
     ensures muddled_softened_request { MuddledSoftenedRequest }
     ensures softened_stranger { SoftenedStranger }
+    ensures switched_to_first { SwitchedToFirst }
+    ensures switched_to_second { SwitchedToSecond }
     ensures weighted_votes { WeightedVotes }
     ensures larger_votes { LargerVotes }
 {}

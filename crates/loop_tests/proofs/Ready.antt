@@ -2,7 +2,6 @@
 use Rattle.std.proofs.Common.{◌≡◌, ℕ, List, [], ◌∷◌, sym, ap, ◌∙◌, subst, refl}
 use Rattle.lock_messages.specs.declared.ids.Actor.TheVariants as actor
 use Rattle.lock_model.specs.declared.problems.Problem.{Problem}
-use Rattle.lock_model.specs.declared.problems.Problem.TheVariants.{First}
 use Rattle.lock_model.specs.Ballots.{Ballot}
 use Rattle.stable_record.specs.declared.node_records.NodeRecord.{NodeRecord}
 use Rattle.stable_record.specs.Records.{IsNodeRecord, node_record_of}
@@ -12,23 +11,22 @@ use Rattle.book_recorders.specs.Sharing.{log_of}
 use Rattle.node_loop.specs.Standing.{IsReady}
 use Rattle.loop_tests.specs.Fresh.{IsUnlogged, IsNewNode, empty_record}
 
-pub node_log : (b : List Ballot) (n : ℕ) (k : BerthValue) (book : BookValue) → IsUnlogged b (actor.Node n) k book → n ≡ 1 → IsNewNode (log_of k)
-node_log b n k book unlogged one =
-    let at : IsUnlogged b (actor.Node 1) k book = subst (λ (m : ℕ). IsUnlogged b (actor.Node m) k book) one unlogged in
+pub node_log : (b : List Ballot) (p : Problem) (n : ℕ) (k : BerthValue) (book : BookValue) → IsUnlogged b p (actor.Node n) k book → n ≡ 1 → IsNewNode p (log_of k)
+node_log b p n k book unlogged one =
+    let at : IsUnlogged b p (actor.Node 1) k book = subst (λ (m : ℕ). IsUnlogged b p (actor.Node m) k book) one unlogged in
     record {
       actor = ap (λ (l : OwnLog). l.actor) at.log;
       opening = ap (λ (l : OwnLog). l.opening) at.log;
       events = ap (λ (l : OwnLog). l.events) at.log;
     }
 
-pub node_ready : (l : OwnLog) (n : ℕ) (p : Problem) (strings : List (List ℕ)) → IsNewNode l → IsNodeRecord empty_record → n ≡ 1 → p ≡ First → strings ≡ node_record_of empty_record ∷ [] → (kept : NodeRecord) × IsReady l n kept p strings
-node_ready l n p strings new good one first finds = (
-  empty_record,
+pub node_ready : (l : OwnLog) (n : ℕ) (p : Problem) (strings : List (List ℕ)) → IsNewNode p l → IsNodeRecord (empty_record p) → n ≡ 1 → strings ≡ node_record_of (empty_record p) ∷ [] → (kept : NodeRecord) × IsReady l n kept strings
+node_ready l n p strings new good one finds = (
+  empty_record p,
   record {
     unused = record { actor = new.actor ∙ ap (λ (m : ℕ). actor.Node m) (sym one); events = new.events; down = subst (IsDownAtRest (actor.Node n)) (sym new.opening) (refl, refl) };
     opening = new.opening;
     good = good;
-    problem = sym first;
     finds = finds;
   },
 )

@@ -2,7 +2,6 @@
 use Rattle.std.proofs.Common.{◌≡◌, ℕ, ◌∙◌, refl, sym, ap, List, [], ◌∷◌, Some, arith}
 use Rattle.lock_messages.specs.declared.ids.Actor.TheVariants as actor
 use Rattle.lock_model.specs.Ballots.{Ballot}
-use Rattle.lock_model.specs.declared.problems.Problem.{Problem}
 use Rattle.stable_record.specs.Records.{client_record_of}
 use Rattle.world_model.specs.declared.exact.ExactStation.{ExactStation}
 use Rattle.world_model.specs.declared.exact.ExactWorld.{ExactWorld}
@@ -27,9 +26,9 @@ keeps-first b stations first second attempt (a ∷ rest) each spelled =
     }
 
 -- the first client has made the attempt of which the first record is
-pub resumed-keeps : (b : List Ballot) (problems : List Problem) (nodes : List (List ℕ)) (first second : List ℕ) (attempt : ℕ) (w : ExactWorld) → IsResumed b problems nodes (first ∷ second ∷ []) w → first ≡ client_record_of attempt →
+pub resumed-keeps : (b : List Ballot) (nodes : List (List ℕ)) (first second : List ℕ) (attempt : ℕ) (w : ExactWorld) → IsResumed b nodes (first ∷ second ∷ []) w → first ≡ client_record_of attempt →
     HasKept b attempt w
-resumed-keeps b problems nodes first second attempt w h spelled = record {
+resumed-keeps b nodes first second attempt w h spelled = record {
   ballots = ap (λ (v : ExactWorld). v.ballots) h.world;
   down = rw h.world (keeps-first b (stations_in h.records) first second attempt h.attempts h.clients_keep spelled);
 }

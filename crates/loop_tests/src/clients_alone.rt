@@ -119,7 +119,7 @@ fn is_row<R: Wait>(rt: &R, alloc: Global, row: &Row) -> Result<bool, Failure> {
 
 /// A client without a wish rises. One for which nothing comes any more has lost both nodes (912): it leaves
 /// what it asked for, and has nobody to tell it.
-const ROWS: [Row; 4] = [
+const ROWS: [Row; 5] = [
     Row {
         wishes: "",
         posts: "1 grant",
@@ -130,6 +130,21 @@ const ROWS: [Row; 4] = [
     Row {
         wishes: "c1 read a",
         posts: "",
+        sent: "1 request",
+        journal: "\
+rise c1 old
+begin c1 read a
+try c1
+kept c1
+sayto c1 n1
+leave c1
+",
+        answer: Err((0, RunFault::TooFewNodes)),
+    },
+    // Switches of the problem, which are for nodes.
+    Row {
+        wishes: "c1 read a",
+        posts: "switch 1, switch 2, switch 3",
         sent: "1 request",
         journal: "\
 rise c1 old

@@ -18,6 +18,7 @@ use event_recorders::{Gate, RunFault};
 use history_book::{Berth, Book};
 use history_check::{MAX_WISHES, Wish};
 use lock_messages::NodeId;
+use lock_model::Problem;
 use stable_record::client_bytes;
 use std::alloc::Global;
 use std::marker::Brand;
@@ -108,13 +109,14 @@ pub(crate) fn end_of<R: Wait + Copy, G: Gate>(
     let ballots = ballots()?;
     let node = node_id(numbers.0)?;
     let nodes = (node, node_id(numbers.1)?);
-    let (book, one, two) = opened(alloc, ballots, node)?;
+    let problem = Problem::First;
+    let (book, one, two) = opened(alloc, ballots, problem, node)?;
     let wishes = wishes(alloc, wished)?;
     let berths = (one, two);
     let (book, answer) = run::<Brand, Book, R, G>(
         rt, alloc, ballots, book, berths, nodes, device, &wishes, coming, gate,
     )?;
-    let journal = journal_of(alloc, &book, world(alloc, ballots)?)?;
+    let journal = journal_of(alloc, &book, world(alloc, ballots, problem)?)?;
     Ok((journal, answer))
 }
 
@@ -164,6 +166,16 @@ hear c1 4
 ",
     answer: Ok(1),
 };
+
+/// Switches of the problem are for nodes: they are dropped.
+#[test]
+fn switches_in_a_wish(rt: HostRuntime) -> Outcome {
+    let row = Row {
+        posts: "switch 1, switch 2, switch 0, switch 255",
+        ..WHOLE
+    };
+    ends(rt, rt.alloc(), Device::Memory, &row)
+}
 
 #[test]
 fn a_whole_wish(rt: HostRuntime) -> Outcome {

@@ -10,6 +10,7 @@ use crate::records::Device;
 use crate::worlds::{client_id, node_id};
 use event_recorders::RunFault;
 use lock_messages::Actor;
+use lock_model::Problem;
 use stable_record::Leaves;
 use test_outcomes::{Failure, Outcome, check_row};
 
@@ -38,7 +39,8 @@ fn of_a_node(rt: HostRuntime) -> Outcome {
     let gate = CountingGate::of(Actor::Node(node_id(1)?));
     let device = Device::Faulty(2, Leaves::Old, 0);
     let posts = "1 request, 2 release, 2 release";
-    let ended = node_end(rt, rt.alloc(), device, GIVES_UP, posts, &gate)?;
+    let problem = Problem::First;
+    let ended = node_end(rt, rt.alloc(), problem, device, GIVES_UP, posts, &gate)?;
     check_row(is_called(&gate, &ended.journal, "try n1")?, 0)?;
     if ended.answer == Err(RunFault::Memory) {
         return Err(Failure::Memory);

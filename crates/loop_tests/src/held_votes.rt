@@ -19,6 +19,7 @@ use client_loop::run_client;
 use event_recorders::RunFault;
 use history_book::{Berth, Book};
 use history_check::{MAX_WISHES, Wish};
+use lock_model::Problem;
 use stable_record::client_bytes;
 use std::alloc::Global;
 use std::marker::Brand;
@@ -122,11 +123,12 @@ fn run<B: BookName, K: Logs + Drop, R: Wait + Copy>(
 /// The journal in which c1 wishes to write, and what the loop answered.
 fn end_of<R: Wait + Copy>(rt: R, alloc: Global) -> Result<(Vec<u8>, Answer), Failure> {
     let ballots = ballots()?;
-    let (book, node, one, two) = all_opened(alloc, ballots, node_id(1)?)?;
+    let problem = Problem::First;
+    let (book, node, one, two) = all_opened(alloc, ballots, problem, node_id(1)?)?;
     let wishes = wishes(alloc, "c1 write a")?;
     let berths = (node, one, two);
     let (book, answer) = run::<Brand, Book, R>(rt, alloc, ballots, book, berths, &wishes)?;
-    let journal = journal_of(alloc, &book, world(alloc, ballots)?)?;
+    let journal = journal_of(alloc, &book, world(alloc, ballots, problem)?)?;
     Ok((journal, answer))
 }
 

@@ -45,6 +45,8 @@ mod softened_clients;
 #[cfg(test)]
 mod softened_nodes;
 #[cfg(test)]
+mod switched_nodes;
+#[cfg(test)]
 mod watched_clients;
 #[cfg(test)]
 mod watched_nodes;

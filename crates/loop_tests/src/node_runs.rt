@@ -6,14 +6,14 @@ ghost use Rattle.book_recorders.specs.Sharing.{log_of};
 ghost use Rattle.loop_tests.specs.Fresh.{IsNewNode, empty_record};
 
 use crate::audits::journal_of;
-use crate::faults::of_book;
 use crate::gates::OpenGate;
 use crate::posts::{is_sent, is_sent_until, posts};
 use crate::records::{Device, record_on};
-use crate::worlds::{all_opened, ballots, client_id, node_id, policy, world};
+use crate::scripts::Others;
+use crate::worlds::{ballots, client_id, clients_opened, node_id, pair, world};
 use book_recorders::{BookName, BookRecorder, Logs, Named};
 use event_recorders::{Gate, RunFault};
-use history_book::{Berth, Book, BookFault};
+use history_book::{Berth, Book};
 use history_check::read_event;
 use lock_messages::Actor;
 use lock_model::Problem;
@@ -29,13 +29,13 @@ use world_model::Event;
 /// What a node's loop answers.
 pub(crate) type Answer = Result<(), RunFault>;
 
-/// The record of a node that has kept nothing yet.
-pub(crate) fn nothing_kept(alloc: Global) -> Result<Vec<u8>, Failure>
-    ensures bytes { IfOk result (λ v. v.items ≡ node_record_of empty_record) }
-    ensures good { OnOk result (IsNodeRecord empty_record) }
+/// The record of a node for this problem that has kept nothing yet.
+pub(crate) fn nothing_kept(alloc: Global, problem: Problem) -> Result<Vec<u8>, Failure>
+    ensures bytes { IfOk result (λ v. v.items ≡ node_record_of (empty_record problem)) }
+    ensures good { OnOk result (IsNodeRecord (empty_record problem)) }
 {
     let record = NodeRecord {
-        policy: Problem::First,
+        policy: problem,
         entries: Entries::new(alloc),
     };
     match node_bytes(alloc, &record) {
@@ -52,62 +52,42 @@ pub(crate) fn event(line: &str) -> Result<Event, Failure> {
     }
 }
 
-/// Logs the event of the one whose it is.
-pub(crate) fn log_either<B: BookName, K: Logs, R: Wait + Copy>(
-    one: &mut BookRecorder<'_, B, K, R>,
-    two: &mut BookRecorder<'_, B, K, R>,
-    event: &Event,
-) -> Outcome {
-    let done = match one.log_event(*event) {
-        Err(BookFault::OtherActor) => two.log_event(*event),
-        done => done,
-    };
-    match done {
-        Ok(_) => Ok(()),
-        Err(fault) => Err(of_book(fault)),
-    }
-}
-
-/// Lets two clients log the events of these lines, each its own.
+/// Lets three clients log the events of these lines, each its own.
 pub(crate) fn tells<B: BookName, K: Logs, R: Wait + Copy>(
     rt: R,
     lock: &Mutex<Named<B, K>>,
-    berths: (Berth, Berth),
+    berths: (Berth, Berth, Berth),
     lines: &[u8],
 ) -> Outcome
     requires one { berths.0.table ≡ B.table }
     requires two { berths.1.table ≡ B.table }
+    requires three { berths.2.table ≡ B.table }
 {
     let Ok(text) = str::from_utf8(lines) else {
         return Err(Failure::Wrong(0));
     };
-    let (one, two) = berths;
-    let mut first = BookRecorder::of(rt, lock, one);
-    let mut second = BookRecorder::of(rt, lock, two);
-    for line in text.lines() {
-        let event = event(line)?;
-        log_either(&mut first, &mut second, &event)?;
-    }
-    Ok(())
+    let mut clients = Others::of(rt, lock, berths);
+    clients.log(text)
 }
 
-/// Runs n1 with a record on this device over these posts, beside this gate; answers the link, and what the
-/// loop answered.
+/// Runs n1, under this problem, with a record on this device over these posts, beside this gate; answers the
+/// link, and what the loop answered.
 #[tactic(auto, using(crate::proofs::Ready::node_ready))]
 fn run_over<B: BookName, K: Logs, R: Wait + Copy, G: Gate>(
     rt: R,
     alloc: Global,
     lock: &Mutex<Named<B, K>>,
     berth: Berth,
+    problem: Problem,
     device: Device,
     posts: Vec<Post>,
     gate: &G,
 ) -> Result<(ListLink, Answer), Failure>
     requires table { berth.table ≡ B.table }
-    requires log { IsNewNode (log_of berth) }
+    requires log { IsNewNode problem (log_of berth) }
 {
-    let stable = record_on(alloc, device, nothing_kept(alloc)?.as_slice())?;
-    let policy = policy(alloc)?;
+    let stable = record_on(alloc, device, nothing_kept(alloc, problem)?.as_slice())?;
+    let policies = pair(alloc)?;
     let node = node_id(1)?;
     let mut recorder = BookRecorder::of(rt, lock, berth);
     let mut link = ListLink::of(posts);
@@ -116,7 +96,7 @@ fn run_over<B: BookName, K: Logs, R: Wait + Copy, G: Gate>(
         alloc,
         node,
         stable,
-        policy,
+        policies,
         &mut recorder,
         &mut link,
         gate,
@@ -129,7 +109,8 @@ fn run<B: BookName, K: Logs + Drop, R: Wait + Copy, G: Gate>(
     rt: R,
     alloc: Global,
     book: K,
-    berths: (Berth, Berth, Berth),
+    berths: (Berth, Berth, Berth, Berth),
+    problem: Problem,
     device: Device,
     lines: &[u8],
     posts: Vec<Post>,
@@ -139,12 +120,13 @@ fn run<B: BookName, K: Logs + Drop, R: Wait + Copy, G: Gate>(
     requires node { berths.0.table ≡ B.table }
     requires one { berths.1.table ≡ B.table }
     requires two { berths.2.table ≡ B.table }
-    requires log { IsNewNode (log_of berths.0) }
+    requires three { berths.3.table ≡ B.table }
+    requires log { IsNewNode problem (log_of berths.0) }
 {
     let lock = Mutex::new(Named::<B, K>::of(book));
-    let (node, one, two) = berths;
-    tells(rt, &lock, (one, two), lines)?;
-    let (link, answer) = run_over(rt, alloc, &lock, node, device, posts, gate)?;
+    let (node, one, two, three) = berths;
+    tells(rt, &lock, (one, two, three), lines)?;
+    let (link, answer) = run_over(rt, alloc, &lock, node, problem, device, posts, gate)?;
     Ok((lock.into_inner().into_book(), link, answer))
 }
 
@@ -156,32 +138,27 @@ pub(crate) struct Ended {
     pub(crate) answer: Answer,
 }
 
-/// How n1 ends with a record on this device over these posts, once clients have logged these lines,
-/// beside this gate.
+/// How n1, under this problem, ends with a record on this device over these posts, once clients have logged
+/// these lines, beside this gate.
 #[tactic(auto, using(crate::proofs::Ready::node_log))]
 pub(crate) fn end_of<R: Wait + Copy, G: Gate>(
     rt: R,
     alloc: Global,
+    problem: Problem,
     device: Device,
     asks: &str,
     texts: &str,
     gate: &G,
 ) -> Result<Ended, Failure> {
     let ballots = ballots()?;
-    let (book, node, one, two) = all_opened(alloc, ballots, node_id(1)?)?;
-    let berths = (node, one, two);
+    let (book, node, one, two, three) = clients_opened(alloc, ballots, problem)?;
+    let berths = (node, one, two, three);
     let posts = posts(alloc, texts)?;
+    let lines = asks.as_bytes();
     let (book, link, answer) = run::<Brand, Book, R, G>(
-        rt,
-        alloc,
-        book,
-        berths,
-        device,
-        asks.as_bytes(),
-        posts,
-        gate,
+        rt, alloc, book, berths, problem, device, lines, posts, gate,
     )?;
-    let journal = journal_of(alloc, &book, world(alloc, ballots)?)?;
+    let journal = journal_of(alloc, &book, world(alloc, ballots, problem)?)?;
     Ok(Ended {
         journal,
         link,
@@ -222,11 +199,12 @@ fn has_sent(alloc: Global, sent: &[Sending], row: &Row, answer: Answer) -> Resul
     is_sent(alloc, client, sent, row.sent)
 }
 
-/// Ends the test unless n1 does what the row says, and answers so. Where memory was refused to it (914)
-/// it has logged a beginning of that.
-pub(crate) fn does<R: Wait + Copy>(
+/// Ends the test unless n1, under this problem, does what the row says, and answers so. Where memory was
+/// refused to it (914) it has logged a beginning of that.
+pub(crate) fn does_under<R: Wait + Copy>(
     rt: R,
     alloc: Global,
+    problem: Problem,
     device: Device,
     asks: &str,
     row: &Row,
@@ -236,10 +214,22 @@ pub(crate) fn does<R: Wait + Copy>(
         journal,
         link,
         answer,
-    } = end_of(rt, alloc, device, asks, row.posts, &OpenGate)?;
+    } = end_of(rt, alloc, problem, device, asks, row.posts, &OpenGate)?;
     let is_cut = answer == Err(RunFault::Memory);
     let has_sent = has_sent(alloc, link.sent(), row, answer)?;
     let is_logged = is_logged(&journal, asks, row.events, is_cut);
     check_row(has_sent && is_logged && (is_cut || answer == expected), 0)?;
     if is_cut { Err(Failure::Memory) } else { Ok(()) }
+}
+
+/// The same under problem 1.
+pub(crate) fn does<R: Wait + Copy>(
+    rt: R,
+    alloc: Global,
+    device: Device,
+    asks: &str,
+    row: &Row,
+    expected: Answer,
+) -> Outcome {
+    does_under(rt, alloc, Problem::First, device, asks, row, expected)
 }

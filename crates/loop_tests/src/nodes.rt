@@ -6,6 +6,7 @@ use crate::node_runs::{Ended, Row, does, end_of};
 use crate::records::Device;
 use crate::worlds::node_id;
 use event_recorders::RunFault;
+use lock_model::Problem;
 use lossy_link::{Post, Sending};
 use stable_record::Leaves;
 use std::alloc::Global;
@@ -273,7 +274,15 @@ fn falls<R: Wait + Copy>(
         journal,
         link,
         answer,
-    } = end_of(rt, alloc, device, GIVES_UP_THRICE, TWICE, &OpenGate)?;
+    } = end_of(
+        rt,
+        alloc,
+        Problem::First,
+        device,
+        GIVES_UP_THRICE,
+        TWICE,
+        &OpenGate,
+    )?;
     if answer == Err(RunFault::Memory) {
         return Err(Failure::Memory);
     }

@@ -8,8 +8,7 @@ ghost use Rattle.book_recorders.specs.Sharing.{log_of};
 ghost use Rattle.loop_tests.specs.Clients.{HasKept, IsClientOf};
 
 use crate::faults::of_book;
-use crate::worlds::{client_id, policy};
-use admission_policy::Admission;
+use crate::worlds::{client_id, pair};
 use book_recorders::open_alone;
 use history_book::{Berth, Book};
 use lock_messages::Actor;
@@ -29,9 +28,9 @@ pub(crate) fn resumed(alloc: Global, ballots: BallotList, attempt: u64) -> Resul
     requires attempt { attempt ≤ MAX_ATTEMPT }
     ensures { IfOk result (λ w. HasKept ballots attempt w) }
 {
-    let mut policies: Vec<Box<dyn Admission + Send>> = Vec::new(alloc);
-    policies.push(policy(alloc)?)?;
-    policies.push(policy(alloc)?)?;
+    let mut pairs = Vec::new(alloc);
+    pairs.push(pair(alloc)?)?;
+    pairs.push(pair(alloc)?)?;
     let nodes = [
         Vec::from_slice(alloc, &NOTHING)?,
         Vec::from_slice(alloc, &NOTHING)?,
@@ -40,7 +39,7 @@ pub(crate) fn resumed(alloc: Global, ballots: BallotList, attempt: u64) -> Resul
         Vec::from_slice(alloc, &client_bytes(attempt))?,
         Vec::from_slice(alloc, &client_bytes(0))?,
     ];
-    match World::resume(alloc, ballots, 2, policies, &nodes, &clients) {
+    match World::resume(alloc, ballots, 2, pairs, &nodes, &clients) {
         Ok(world) => Ok(world),
         Err((OpeningFault::Memory, _)) => Err(Failure::Memory),
         Err(_) => Err(Failure::Wrong(0)),

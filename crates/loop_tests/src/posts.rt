@@ -32,13 +32,17 @@ fn about(word: &str, node: NodeId, ticket: Ticket) -> Result<Message, Failure> {
 }
 
 /// The message with the node of a text: `grant` is about c1's ticket to read, `grant write` about c1's to
-/// write, `grant again` about c1's second to read, `grant c2` about c2's to write.
+/// write, `grant again` about c1's second to read, `grant c2` about c2's to write, `grant c3` about c3's to
+/// read.
 fn message_with(text: &str, node: NodeId) -> Result<Message, Failure> {
     if let Some(word) = text.strip_suffix(" write") {
         return about(word, node, ticket(1, 1, Mode::Write)?);
     }
     if let Some(word) = text.strip_suffix(" again") {
         return about(word, node, ticket(1, 2, Mode::Read)?);
+    }
+    if let Some(word) = text.strip_suffix(" c3") {
+        return about(word, node, ticket(3, 1, Mode::Read)?);
     }
     match text.strip_suffix(" c2") {
         Some(word) => about(word, node, ticket(2, 1, Mode::Write)?),
@@ -89,14 +93,28 @@ fn news(text: &str) -> Result<Option<Post>, Failure> {
     }
 }
 
+/// What a text as `switch 1` brings.
+fn switch(text: &str) -> Result<Option<Post>, Failure> {
+    let Some(number) = text.strip_prefix("switch ") else {
+        return Ok(None);
+    };
+    match number.parse() {
+        Ok(number) => Ok(Some(Post::Switch(number))),
+        Err(_) => Err(Failure::Wrong(0)),
+    }
+}
+
 fn post(alloc: Global, text: &str) -> Result<Post, Failure> {
+    if let Some(post) = switch(text)? {
+        return Ok(post);
+    }
     match news(text)? {
         Some(post) => Ok(post),
         None => Ok(Post::Parcel(parcel(alloc, text)?)),
     }
 }
 
-/// The posts of a row, as `1 request, nudge`.
+/// The posts of a row, as `1 request, nudge, switch 1`.
 pub(crate) fn posts(alloc: Global, row: &str) -> Result<Vec<Post>, Failure> {
     let mut posts = Vec::new(alloc);
     for text in row.split(", ") {
@@ -114,6 +132,10 @@ fn sending(alloc: Global, to: Actor, text: &str) -> Result<Sending, Failure> {
             let other = Actor::Client(client_id(2)?);
             Ok(Sending::Sent(other, parcel(alloc, text)?))
         }
+        None if text.ends_with(" c3") => {
+            let other = Actor::Client(client_id(3)?);
+            Ok(Sending::Sent(other, parcel(alloc, text)?))
+        }
         None if text.ends_with(" n2") => {
             let other = Actor::Node(node_id(2)?);
             Ok(Sending::Sent(other, parcel(alloc, text)?))
@@ -122,7 +144,7 @@ fn sending(alloc: Global, to: Actor, text: &str) -> Result<Sending, Failure> {
     }
 }
 
-/// What a row says was sent to the actor and told, as `2 grant, nudge`; what is about c2 goes to c2, and
+/// What a row says was sent to the actor and told, as `2 grant, nudge`; what is about c2 or c3 goes to it, and
 /// what is with n2 to n2.
 pub(crate) fn sendings(alloc: Global, to: Actor, row: &str) -> Result<Vec<Sending>, Failure> {
     let to = &to;

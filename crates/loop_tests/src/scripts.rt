@@ -3,7 +3,7 @@
 ghost use Rattle.std.specs.Prelude.{◌≡◌};
 
 use crate::faults::of_book;
-use crate::node_runs::{event, log_either};
+use crate::node_runs::event;
 use book_recorders::{BookName, BookRecorder, Logs, Named};
 use history_book::{Berth, BookFault};
 use lock_messages::Actor;
@@ -11,6 +11,22 @@ use lossy_link::{Link, LinkFault, ListLink, Parcel, Post};
 use std::sync::{Mutex, Wait};
 use test_outcomes::{Failure, Outcome};
 use world_model::Event;
+
+/// Logs the event of the one whose it is.
+fn log_either<B: BookName, K: Logs, R: Wait + Copy>(
+    one: &mut BookRecorder<'_, B, K, R>,
+    two: &mut BookRecorder<'_, B, K, R>,
+    event: &Event,
+) -> Outcome {
+    let done = match one.log_event(*event) {
+        Err(BookFault::OtherActor) => two.log_event(*event),
+        done => done,
+    };
+    match done {
+        Ok(_) => Ok(()),
+        Err(fault) => Err(of_book(fault)),
+    }
+}
 
 /// Three actors beside the one whose loop runs, in its book.
 #[derive(Drop)]
@@ -48,7 +64,7 @@ impl<'a, B: BookName, K: Logs, R: Wait + Copy> Others<'a, B, K, R> {
     }
 
     /// Logs the events of these lines.
-    fn log(&mut self, lines: &str) -> Outcome {
+    pub(crate) fn log(&mut self, lines: &str) -> Outcome {
         for line in lines.lines() {
             let event = event(line)?;
             self.log_one(&event)?;

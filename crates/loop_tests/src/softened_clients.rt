@@ -19,6 +19,7 @@ use event_recorders::RunFault;
 use history_book::{Berth, Book};
 use history_check::{MAX_WISHES, Wish};
 use lock_messages::Actor;
+use lock_model::Problem;
 use lossy_link::{ListLink, Sending};
 use stable_record::client_bytes;
 use std::alloc::Global;
@@ -153,7 +154,7 @@ fn end_of<R: Wait + Copy>(
         rt, alloc, ballots, book, berths, &wishes, script, limits, &watch,
     )?;
     Ok(Ended {
-        journal: journal_of(alloc, &book, world(alloc, ballots)?)?,
+        journal: journal_of(alloc, &book, world(alloc, ballots, Problem::First)?)?,
         link,
         answer,
         modes: watch.gate.seen(),

@@ -10,11 +10,12 @@ use crate::node_runs::{Answer, nothing_kept};
 use crate::posts::{is_sent, posts};
 use crate::records::{Device, record_on};
 use crate::scripts::{Others, Script, Scripted};
-use crate::worlds::{ballots, client_id, node_id, policy, whole_opened, world};
+use crate::worlds::{ballots, client_id, node_id, pair, whole_opened, world};
 use book_recorders::{BookName, BookRecorder, Logs, Named};
 use event_recorders::RunFault;
 use history_book::{Berth, Book};
 use lock_messages::Actor;
+use lock_model::Problem;
 use lossy_link::ListLink;
 use node_loop::run_node;
 use stable_record::Leaves;
@@ -37,10 +38,11 @@ fn run_over<B: BookName, K: Logs, R: Wait + Copy>(
     requires second { berths.1.table ≡ B.table }
     requires one { berths.2.table ≡ B.table }
     requires two { berths.3.table ≡ B.table }
-    requires log { IsNewNode (log_of berths.0) }
+    requires log { IsNewNode Problem.First (log_of berths.0) }
 {
-    let stable = record_on(alloc, device, nothing_kept(alloc)?.as_slice())?;
-    let policy = policy(alloc)?;
+    let nothing = nothing_kept(alloc, Problem::First)?;
+    let stable = record_on(alloc, device, nothing.as_slice())?;
+    let policies = pair(alloc)?;
     let node = node_id(1)?;
     let (first, second, one, two) = berths;
     let others = Others::of(rt, lock, (second, one, two));
@@ -51,7 +53,7 @@ fn run_over<B: BookName, K: Logs, R: Wait + Copy>(
         alloc,
         node,
         stable,
-        policy,
+        policies,
         &mut recorder,
         &mut link,
         &OpenGate,
@@ -73,7 +75,7 @@ fn run<B: BookName, K: Logs + Drop, R: Wait + Copy>(
     requires second { berths.1.table ≡ B.table }
     requires one { berths.2.table ≡ B.table }
     requires two { berths.3.table ≡ B.table }
-    requires log { IsNewNode (log_of berths.0) }
+    requires log { IsNewNode Problem.First (log_of berths.0) }
 {
     let lock = Mutex::new(Named::<B, K>::of(book));
     let (link, answer) = run_over(rt, alloc, &lock, berths, device, script)?;
@@ -93,7 +95,7 @@ fn end_of<R: Wait + Copy>(
     let (book, first, second, one, two) = whole_opened(alloc, ballots)?;
     let berths = (first, second, one, two);
     let (book, link, answer) = run::<Brand, Book, R>(rt, alloc, book, berths, device, script)?;
-    let journal = journal_of(alloc, &book, world(alloc, ballots)?)?;
+    let journal = journal_of(alloc, &book, world(alloc, ballots, Problem::First)?)?;
     Ok((journal, link, answer))
 }
 

@@ -8,11 +8,12 @@ use crate::audits::{journal_of, lines_of};
 use crate::node_runs::{Answer, nothing_kept, tells};
 use crate::posts::{is_sent, posts};
 use crate::watches::{Counts, ENOUGH, Room, Watched, counted_record};
-use crate::worlds::{all_opened, ballots, client_id, node_id, policy, world};
+use crate::worlds::{ballots, client_id, clients_opened, node_id, pair, world};
 use book_recorders::{BookName, BookRecorder, Logs, Named};
 use event_recorders::RunFault;
 use history_book::{Berth, Book};
 use lock_messages::Actor;
+use lock_model::Problem;
 use lossy_link::{ListLink, Post};
 use node_loop::run_node;
 use std::alloc::Global;
@@ -32,10 +33,14 @@ fn run_over<B: BookName, K: Logs, R: Wait + Copy>(
     counts: &Arc<Counts>,
 ) -> Result<(ListLink, Answer), Failure>
     requires table { berth.table ≡ B.table }
-    requires log { IsNewNode (log_of berth) }
+    requires log { IsNewNode Problem.First (log_of berth) }
 {
-    let stable = counted_record(alloc, nothing_kept(alloc)?.as_slice(), counts)?;
-    let policy = policy(alloc)?;
+    let stable = counted_record(
+        alloc,
+        nothing_kept(alloc, Problem::First)?.as_slice(),
+        counts,
+    )?;
+    let policies = pair(alloc)?;
     let node = node_id(1)?;
     let counts: &Counts = counts;
     let inner = BookRecorder::of(rt, lock, berth);
@@ -50,7 +55,7 @@ fn run_over<B: BookName, K: Logs, R: Wait + Copy>(
         alloc,
         node,
         stable,
-        policy,
+        policies,
         &mut recorder,
         &mut link,
         counts,
@@ -63,7 +68,7 @@ fn run<B: BookName, K: Logs + Drop, R: Wait + Copy>(
     rt: R,
     alloc: Global,
     book: K,
-    berths: (Berth, Berth, Berth),
+    berths: (Berth, Berth, Berth, Berth),
     lines: &[u8],
     posts: Vec<Post>,
     room: Room,
@@ -73,11 +78,12 @@ fn run<B: BookName, K: Logs + Drop, R: Wait + Copy>(
     requires node { berths.0.table ≡ B.table }
     requires one { berths.1.table ≡ B.table }
     requires two { berths.2.table ≡ B.table }
-    requires log { IsNewNode (log_of berths.0) }
+    requires three { berths.3.table ≡ B.table }
+    requires log { IsNewNode Problem.First (log_of berths.0) }
 {
     let lock = Mutex::new(Named::<B, K>::of(book));
-    let (node, one, two) = berths;
-    tells(rt, &lock, (one, two), lines)?;
+    let (node, one, two, three) = berths;
+    tells(rt, &lock, (one, two, three), lines)?;
     let (link, answer) = run_over(rt, alloc, &lock, node, posts, room, counts)?;
     Ok((lock.into_inner().into_book(), link, answer))
 }
@@ -94,20 +100,15 @@ fn end_of<R: Wait + Copy>(
     counts: &Arc<Counts>,
 ) -> Result<(Vec<u8>, ListLink, Answer), Failure> {
     let ballots = ballots()?;
-    let (book, node, one, two) = all_opened(alloc, ballots, node_id(1)?)?;
-    let berths = (node, one, two);
+    let problem = Problem::First;
+    let (book, node, one, two, three) = clients_opened(alloc, ballots, problem)?;
+    let berths = (node, one, two, three);
     let posts = posts(alloc, texts)?;
+    let lines = asks.as_bytes();
     let (book, link, answer) = run::<Brand, Book, R>(
-        rt,
-        alloc,
-        book,
-        berths,
-        asks.as_bytes(),
-        posts,
-        room,
-        counts,
+        rt, alloc, book, berths, lines, posts, room, counts,
     )?;
-    let journal = journal_of(alloc, &book, world(alloc, ballots)?)?;
+    let journal = journal_of(alloc, &book, world(alloc, ballots, problem)?)?;
     Ok((journal, link, answer))
 }
 

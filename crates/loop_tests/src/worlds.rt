@@ -4,7 +4,7 @@ ghost use Rattle.std.specs.Prelude.{◌≡◌, ◌∷◌, [], IfOk};
 ghost use Rattle.loop_tests.specs.Fresh.{IsNew, IsNewBook, IsUnlogged, two_nodes};
 
 use crate::faults::of_book;
-use admission_policy::{Admission, FirstProblem};
+use admission_policy::{Admission, FirstProblem, Pair, SecondProblem};
 use history_book::{Berth, Book};
 use lock_messages::{Actor, Attempt, ClientId, NodeId, ResourceName};
 use lock_model::Problem;
@@ -33,12 +33,11 @@ pub(crate) fn resource(name: &[u8]) -> Result<ResourceName, Failure> {
     ResourceName::of(name).ok_or(Failure::Wrong(0))
 }
 
-/// A policy for problem 1.
-pub(crate) fn policy(alloc: Global) -> Result<Box<dyn Admission + Send>, Failure>
-    ensures { IfOk result (λ p. problem_of p ≡ Problem.First) }
-{
-    let policy: Box<dyn Admission + Send> = Box::new(alloc, FirstProblem)?;
-    Ok(policy)
+/// The plain policies of both problems.
+pub(crate) fn pair(alloc: Global) -> Result<Pair, Failure> {
+    let first: Box<dyn Admission + Send> = Box::new(alloc, FirstProblem)?;
+    let second: Box<dyn Admission + Send> = Box::new(alloc, SecondProblem)?;
+    Ok(Pair::of(first, second))
 }
 
 /// The list of one ballot: two nodes with a vote each, of which one reads and two write.
@@ -54,39 +53,45 @@ pub(crate) fn ballots() -> Result<BallotList, Failure>
     }
 }
 
-/// A world of those ballots and of two clients, in which nothing has happened.
-pub(crate) fn world(alloc: Global, ballots: BallotList) -> Result<World, Failure>
+/// A world of those ballots, under this problem, and of three clients, in which nothing has happened.
+pub(crate) fn world(alloc: Global, ballots: BallotList, problem: Problem) -> Result<World, Failure>
     requires { ballots ≡ two_nodes }
-    ensures { IfOk result (λ w. IsNew ballots w) }
+    ensures { IfOk result (λ w. IsNew ballots problem w) }
 {
-    let mut policies: Vec<Box<dyn Admission + Send>> = Vec::new(alloc);
-    policies.push(policy(alloc)?)?;
-    policies.push(policy(alloc)?)?;
-    match World::start(alloc, ballots, 2, policies) {
+    let mut pairs = Vec::new(alloc);
+    pairs.push(pair(alloc)?)?;
+    pairs.push(pair(alloc)?)?;
+    match World::start(alloc, ballots, 3, problem, pairs) {
         Ok(world) => Ok(world),
         Err(_) => Err(Failure::Memory),
     }
 }
 
 /// A book over such a world, in which nothing is logged.
-fn book(alloc: Global, ballots: BallotList) -> Result<Book, Failure>
+fn book(alloc: Global, ballots: BallotList, problem: Problem) -> Result<Book, Failure>
     requires { ballots ≡ two_nodes }
-    ensures { IfOk result (λ b. IsNewBook ballots b) }
+    ensures { IfOk result (λ b. IsNewBook ballots problem b) }
 {
-    match Book::over(alloc, 1, world(alloc, ballots)?) {
+    match Book::over(alloc, 1, world(alloc, ballots, problem)?) {
         Ok(book) => Ok(book),
         Err((_, fault)) => Err(of_book(fault)),
     }
 }
 
 /// The berth of an actor that was given none, in a book in which nothing is logged.
-fn berth_of(ballots: BallotList, book: &mut Book, actor: Actor) -> Result<Berth, Failure>
-    requires { IsNewBook ballots book.old }
-    ensures book { IsNewBook ballots book.new }
-    ensures berth { IfOk result (λ k. IsUnlogged ballots actor k book.new) }
+fn berth_of(
+    ballots: BallotList,
+    problem: Problem,
+    book: &mut Book,
+    actor: Actor,
+) -> Result<Berth, Failure>
+    requires { IsNewBook ballots problem book.old }
+    ensures book { IsNewBook ballots problem book.new }
+    ensures berth { IfOk result (λ k. IsUnlogged ballots problem actor k book.new) }
     ensures table { book.new.table ≡ book.old.table }
 {
     let _ = ballots;
+    let _ = problem;
     match book.berth(actor) {
         Ok(Some(berth)) => Ok(berth),
         Ok(None) => Err(Failure::Wrong(0)),
@@ -94,20 +99,21 @@ fn berth_of(ballots: BallotList, book: &mut Book, actor: Actor) -> Result<Berth,
     }
 }
 
-/// A new book of those ballots, with the berths of a node and of c1.
+/// A new book of those ballots, under this problem, with the berths of a node and of c1.
 pub(crate) fn opened(
     alloc: Global,
     ballots: BallotList,
+    problem: Problem,
     node: NodeId,
 ) -> Result<(Book, Berth, Berth), Failure>
     requires { ballots ≡ two_nodes }
-    ensures book { IfOk result (λ r. IsNewBook ballots r.0) }
-    ensures node { IfOk result (λ r. IsUnlogged ballots (Actor.Node node) r.1 r.0) }
-    ensures client { IfOk result (λ r. IsUnlogged ballots (Actor.Client 1) r.2 r.0) }
+    ensures book { IfOk result (λ r. IsNewBook ballots problem r.0) }
+    ensures node { IfOk result (λ r. IsUnlogged ballots problem (Actor.Node node) r.1 r.0) }
+    ensures client { IfOk result (λ r. IsUnlogged ballots problem (Actor.Client 1) r.2 r.0) }
 {
-    let mut book = book(alloc, ballots)?;
-    let one = berth_of(ballots, &mut book, Actor::Node(node))?;
-    let two = berth_of(ballots, &mut book, Actor::Client(client_id(1)?))?;
+    let mut book = book(alloc, ballots, problem)?;
+    let one = berth_of(ballots, problem, &mut book, Actor::Node(node))?;
+    let two = berth_of(ballots, problem, &mut book, Actor::Client(client_id(1)?))?;
     Ok((book, one, two))
 }
 
@@ -115,31 +121,50 @@ pub(crate) fn opened(
 pub(crate) fn all_opened(
     alloc: Global,
     ballots: BallotList,
+    problem: Problem,
     node: NodeId,
 ) -> Result<(Book, Berth, Berth, Berth), Failure>
     requires { ballots ≡ two_nodes }
-    ensures book { IfOk result (λ r. IsNewBook ballots r.0) }
-    ensures node { IfOk result (λ r. IsUnlogged ballots (Actor.Node node) r.1 r.0) }
-    ensures one { IfOk result (λ r. IsUnlogged ballots (Actor.Client 1) r.2 r.0) }
-    ensures two { IfOk result (λ r. IsUnlogged ballots (Actor.Client 2) r.3 r.0) }
+    ensures book { IfOk result (λ r. IsNewBook ballots problem r.0) }
+    ensures node { IfOk result (λ r. IsUnlogged ballots problem (Actor.Node node) r.1 r.0) }
+    ensures one { IfOk result (λ r. IsUnlogged ballots problem (Actor.Client 1) r.2 r.0) }
+    ensures two { IfOk result (λ r. IsUnlogged ballots problem (Actor.Client 2) r.3 r.0) }
 {
-    let (mut book, node, one) = opened(alloc, ballots, node)?;
-    let two = berth_of(ballots, &mut book, Actor::Client(client_id(2)?))?;
+    let (mut book, node, one) = opened(alloc, ballots, problem, node)?;
+    let two = berth_of(ballots, problem, &mut book, Actor::Client(client_id(2)?))?;
     Ok((book, node, one, two))
 }
 
-/// A new book of those ballots, with the berths of both nodes, of c1 and of c2.
+/// A new book of those ballots, under this problem, with the berths of n1 and of all clients.
+pub(crate) fn clients_opened(
+    alloc: Global,
+    ballots: BallotList,
+    problem: Problem,
+) -> Result<(Book, Berth, Berth, Berth, Berth), Failure>
+    requires { ballots ≡ two_nodes }
+    ensures node { IfOk result (λ r. IsUnlogged ballots problem (Actor.Node 1) r.1 r.0) }
+    ensures one { IfOk result (λ r. IsUnlogged ballots problem (Actor.Client 1) r.2 r.0) }
+    ensures two { IfOk result (λ r. IsUnlogged ballots problem (Actor.Client 2) r.3 r.0) }
+    ensures three { IfOk result (λ r. IsUnlogged ballots problem (Actor.Client 3) r.4 r.0) }
+{
+    let (mut book, node, one, two) = all_opened(alloc, ballots, problem, node_id(1)?)?;
+    let three = berth_of(ballots, problem, &mut book, Actor::Client(client_id(3)?))?;
+    Ok((book, node, one, two, three))
+}
+
+/// A new book of those ballots, under problem 1, with the berths of both nodes, of c1 and of c2.
 pub(crate) fn whole_opened(
     alloc: Global,
     ballots: BallotList,
 ) -> Result<(Book, Berth, Berth, Berth, Berth), Failure>
     requires { ballots ≡ two_nodes }
-    ensures first { IfOk result (λ r. IsUnlogged ballots (Actor.Node 1) r.1 r.0) }
-    ensures second { IfOk result (λ r. IsUnlogged ballots (Actor.Node 2) r.2 r.0) }
-    ensures one { IfOk result (λ r. IsUnlogged ballots (Actor.Client 1) r.3 r.0) }
-    ensures two { IfOk result (λ r. IsUnlogged ballots (Actor.Client 2) r.4 r.0) }
+    ensures first { IfOk result (λ r. IsUnlogged ballots Problem.First (Actor.Node 1) r.1 r.0) }
+    ensures second { IfOk result (λ r. IsUnlogged ballots Problem.First (Actor.Node 2) r.2 r.0) }
+    ensures one { IfOk result (λ r. IsUnlogged ballots Problem.First (Actor.Client 1) r.3 r.0) }
+    ensures two { IfOk result (λ r. IsUnlogged ballots Problem.First (Actor.Client 2) r.4 r.0) }
 {
-    let (mut book, first, one, two) = all_opened(alloc, ballots, node_id(1)?)?;
-    let second = berth_of(ballots, &mut book, Actor::Node(node_id(2)?))?;
+    let problem = Problem::First;
+    let (mut book, first, one, two) = all_opened(alloc, ballots, problem, node_id(1)?)?;
+    let second = berth_of(ballots, problem, &mut book, Actor::Node(node_id(2)?))?;
     Ok((book, first, second, one, two))
 }

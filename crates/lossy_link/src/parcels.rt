@@ -21,6 +21,9 @@ pub enum Post {
     Nudge(NodeId),
     /// This node has ended. This is no message.
     Gone(NodeId),
+    /// Whoever works the link wants the node to solve the problem with this number, 1 or 2, from now on.
+    /// This is no message, and no actor sends one.
+    Switch(u8),
 }
 
 /// What was given to a link.

@@ -1,8 +1,9 @@
 // A node of the world by itself: 613. After a refusal the same call does what it would have done.
 
 use crate::failures::{Failure, Outcome, check, node, request};
-use admission_policy::{Admission, FirstProblem};
+use crate::policies::told_once;
 use lock_messages::Mode;
+use lock_model::Problem;
 use stable_record::read_node;
 use std::alloc::Global;
 use world_actors::WorldNode;
@@ -19,11 +20,7 @@ const ONE: [u8; 28] = [
 fn opened(alloc: Global) -> Result<WorldNode, Failure> {
     let id = node(1)?;
     let record = read_node(alloc, &ONE)?;
-    let policy: Box<dyn Admission + Send> = Box::new(alloc, FirstProblem)?;
-    match WorldNode::opened(alloc, id, record, policy) {
-        Ok(one) => Ok(one),
-        Err(_) => Err(Failure::Wrong),
-    }
+    Ok(WorldNode::opened(alloc, id, record, told_once(alloc)?))
 }
 
 /// Rises; where memory is refused the node is still down.
@@ -46,6 +43,19 @@ fn takes(one: &mut WorldNode) -> Outcome {
         Err(fault) => {
             check(one.may_take() == Ok(()))?;
             let changed = one.take(&message)?;
+            check(changed)?;
+            Err(fault.into())
+        }
+    }
+}
+
+/// Takes problem 2, which is another one; where memory is refused the node is still idle.
+fn switches(one: &mut WorldNode) -> Outcome {
+    match one.switch(Problem::Second) {
+        Ok(changed) => check(changed),
+        Err(fault) => {
+            check(one.may_take() == Ok(()))?;
+            let changed = one.switch(Problem::Second)?;
             check(changed)?;
             Err(fault.into())
         }
@@ -85,6 +95,17 @@ fn keep_what_was_decided(rt: HostRuntime) -> Outcome {
     let mut one = trying(rt.alloc())?;
     one.keep()?;
     check(one.replies() == Ok(1) && one.kept().entries.len() == 2)
+}
+
+/// What it kept is of problem 2, and there is nothing to say.
+#[test]
+fn keep_a_switch(rt: HostRuntime) -> Outcome {
+    let mut one = opened(rt.alloc())?;
+    rises(&mut one, Age::Old)?;
+    switches(&mut one)?;
+    starts(&mut one)?;
+    one.keep()?;
+    check(one.replies() == Ok(0) && one.kept().policy == Problem::Second)
 }
 
 #[test]

@@ -5,11 +5,12 @@ ghost use Rattle.std.specs.Prelude.{◌≡◌, IfOk, OnOk};
 ghost use Rattle.history_book.specs.Books.{BookValue, BerthValue};
 
 use crate::failures::{Failure, Outcome, check, client, node, refused};
+use crate::policies::for_nodes;
 use crate::rooms::Room;
-use admission_policy::{Admission, FirstProblem};
 use history_book::{Berth, Book, BookFault, JournalFault};
 use history_check::read_event;
 use lock_messages::Actor;
+use lock_model::Problem;
 use std::alloc::Global;
 use vote_weights::{Ballot, BallotList};
 use world_machine::World;
@@ -24,15 +25,11 @@ fn world(alloc: Global) -> Result<World, Failure> {
     let Ok(ballots) = BallotList::of(&[ballot]) else {
         return Err(Failure::Wrong);
     };
-    let mut policies = Vec::new(alloc);
-    for _ in 0..3 {
-        let policy: Box<dyn Admission + Send> = Box::new(alloc, FirstProblem)?;
-        policies.push(policy)?;
-    }
-    if policies.len() != ballots.nodes() as usize {
+    let pairs = for_nodes(alloc, 3)?;
+    if pairs.len() != ballots.nodes() as usize {
         return Err(Failure::Wrong);
     }
-    match World::start(alloc, ballots, 4, policies) {
+    match World::start(alloc, ballots, 4, Problem::First, pairs) {
         Ok(world) => Ok(world),
         Err(_) => Err(Failure::Memory),
     }
@@ -147,6 +144,26 @@ fn log_the_first_reader(rt: HostRuntime) -> Outcome {
     let mut book = opened(rt.alloc())?;
     first_reader(&mut book)?;
     check(book.events() == 19 && book.entered() == 1)
+}
+
+const SWITCHES: &str = "switch n1 2\ntry n1\nkept n1\nsay n1\nswitch n1 2\nsay n1\n";
+
+/// A node that has granted a reader takes problem 2, and once more.
+fn first_switch(book: &mut Book) -> Outcome
+    requires { Unit {0} }
+{
+    let mut one = berth_of(book, Actor::Client(client(1)?))?;
+    let mut first = berth_of(book, Actor::Node(node(1)?))?;
+    logs_all(book, &mut one, ASKS)?;
+    logs_all(book, &mut first, GRANTS)?;
+    logs_all(book, &mut first, SWITCHES)
+}
+
+#[test]
+fn log_a_switch(rt: HostRuntime) -> Outcome {
+    let mut book = opened(rt.alloc())?;
+    first_switch(&mut book)?;
+    check(book.events() == 16)
 }
 
 /// Whether what was written is a beginning of the journal, or after no fault the whole of it.

@@ -24,6 +24,8 @@ mod links;
 #[cfg(test)]
 mod plates;
 #[cfg(test)]
+mod policies;
+#[cfg(test)]
 mod records;
 #[cfg(test)]
 mod rooms;

@@ -1,10 +1,12 @@
-// Lines of scripts and journals: want of memory where one is written.
+// Lines of scripts and journals: want of memory where one is written. To read one takes none.
 
-use crate::failures::{Failure, Outcome, check};
-use history_check::{Command, read_line, write_line};
+use crate::failures::{Failure, Outcome, check, node};
+use history_check::{Command, read_event, read_line, write_line};
+use lock_model::Problem;
 use std::alloc::Global;
+use world_model::Event;
 
-const COMMANDS: [Command; 15] = [
+const COMMANDS: [Command; 16] = [
     Command::Begin,
     Command::Try,
     Command::Kept,
@@ -17,13 +19,14 @@ const COMMANDS: [Command; 15] = [
     Command::Soften,
     Command::Fall,
     Command::Rise,
+    Command::Switch,
     Command::Inside,
     Command::Waiting,
     Command::Holding,
 ];
 
 /// A line of each command, with the least and the greatest arguments.
-const LINES: [&str; 19] = [
+const LINES: [&str; 21] = [
     "begin c1024 write a-9",
     "begin c1 read a",
     "try n16",
@@ -40,6 +43,8 @@ const LINES: [&str; 19] = [
     "fall n1",
     "rise n16 old",
     "rise c1 new",
+    "switch n1 1",
+    "switch n16 2",
     "inside 0-z",
     "waiting n16 a",
     "holding n1 a",
@@ -62,4 +67,10 @@ fn lines_are_written(rt: HostRuntime) -> Outcome {
         check(is_told(rt.alloc(), line)?)?;
     }
     Ok(())
+}
+
+#[test]
+fn read_a_switch(_rt: HostRuntime) -> Outcome {
+    let switch = Event::Switch(node(16)?, Problem::Second);
+    check(read_event(b"switch n16 2") == Ok(switch))
 }

@@ -1,10 +1,10 @@
 // A whole run: 933, or 925 of the settings; what was written is a beginning of the output.
 
 use crate::failures::{Failure, Outcome, check, refused};
+use crate::policies::for_nodes;
 use crate::rooms::Room;
-use admission_policy::{Admission, FirstProblem, SecondProblem};
 use lock_messages::MAX_NODES;
-use operator_cli::{Command, Order, Policies, ServeFault, serve};
+use operator_cli::{Command, Order, Policies, serve};
 use std::alloc::Global;
 
 const SCRIPT: &str = "\
@@ -39,31 +39,30 @@ sent 2 grant n1 c1 1 write a\ncounted\ninside\n\
 softened\nsent 3 soften n1 c1 1\nchanged\ntried\nkept\nsent 4 softened n1 c1 1\nsoftened\n\
 holding n1 a: c1 read\nrefused 604\n";
 
+/// A node takes problem 1 while a reader holds, once more, and a problem that isn't there.
+const SWITCHES: &str = "\
+votes = [1]\nread = 1\nwrite = 1\nproblem = 2\nclients = 1\n---\n\
+begin c1 read a\ntry c1\nkept c1\nsayto c1 n1\ntake n1 1\ntry n1\nkept n1\nsay n1\n\
+switch n1 1\ntry n1\nkept n1\nsay n1\nswitch n1 1\nsay n1\nholding n1 a\nswitch n1 3\n";
+
+const SWITCHES_EXPECTED: &str = "\
+chose 1\ntried\nkept\nsent 1 request n1 c1 1 read a\nchanged\ntried\nkept\n\
+sent 2 grant n1 c1 1 read a\nchanged\ntried\nkept\nsame\nholding n1 a: c1 read\n\
+line 16 fault 803\n";
+
 const BAD_SETTINGS: &str = "votes = [1, 1]\nread = 1\nwrite = 1\nproblem = 1\nclients = 2\n---\n";
 
 /// Serves a script.
-fn serve_script(alloc: Global, script: &str, out: &mut Room) -> Result<u8, ServeFault> {
-    let mut first: Vec<Box<dyn Admission + Send>> = Vec::new(alloc);
-    let mut second: Vec<Box<dyn Admission + Send>> = Vec::new(alloc);
-    for _ in 0..MAX_NODES {
-        let Ok(policy) = Box::new(alloc, FirstProblem) else {
-            return Err(ServeFault::Memory);
-        };
-        let Ok(()) = first.push(policy) else {
-            return Err(ServeFault::Memory);
-        };
-        let Ok(policy) = Box::new(alloc, SecondProblem) else {
-            return Err(ServeFault::Memory);
-        };
-        let Ok(()) = second.push(policy) else {
-            return Err(ServeFault::Memory);
-        };
+fn serve_script(alloc: Global, script: &str, out: &mut Room) -> Result<u8, Failure> {
+    let pairs = for_nodes(alloc, MAX_NODES)?;
+    if pairs.len() != MAX_NODES as usize {
+        return Err(Failure::Wrong);
     }
     let order = Order {
         command: Command::Script,
-        policies: Policies { first, second },
+        policies: Policies { pairs },
     };
-    serve(alloc, order, script.as_bytes(), out)
+    Ok(serve(alloc, order, script.as_bytes(), out)?)
 }
 
 /// Serves a script, and judges what it wrote and its status.
@@ -74,9 +73,9 @@ fn serves(alloc: Global, script: &str, expected: &str, status: u8) -> Outcome {
     match served {
         Ok(2) if told == b"settings fault 925\n".as_slice() => refused(true),
         Ok(ended) => check(told == expected.as_bytes() && ended == status),
-        Err(fault) => {
+        Err(failure) => {
             check(expected.as_bytes().starts_with(told))?;
-            Err(fault.into())
+            Err(failure)
         }
     }
 }
@@ -94,6 +93,11 @@ fn serve_a_long_name(rt: HostRuntime) -> Outcome {
 #[test]
 fn serve_a_softening(rt: HostRuntime) -> Outcome {
     serves(rt.alloc(), SOFTENS, SOFTENS_EXPECTED, 1)
+}
+
+#[test]
+fn serve_a_switch(rt: HostRuntime) -> Outcome {
+    serves(rt.alloc(), SWITCHES, SWITCHES_EXPECTED, 1)
 }
 
 #[test]

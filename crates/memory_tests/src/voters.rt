@@ -3,8 +3,10 @@
 use crate::failures::{
     Failure, Outcome, check, client, first_attempt, node, refused, request, ticket,
 };
-use admission_policy::{Admission, Counted, FirstProblem};
+use crate::policies::{have_let_in, told_once};
+use admission_policy::Pair;
 use lock_messages::{Message, Mode, ResourceName, Ticket};
+use lock_model::Problem;
 use stable_record::RecordFault;
 use std::alloc::Global;
 use voter_core::{NodeCore, Phase, VoterFault};
@@ -18,23 +20,19 @@ const ONE: [u8; 28] = [
 
 const NONE: [u8; 4] = [1, 1, 0, 0];
 
-/// A policy of problem 1 that was told of one reader.
-fn told_once() -> Counted<FirstProblem> {
-    let mut policy = Counted::of(FirstProblem);
-    policy.note(true);
-    policy
-}
-
-/// n1 with this record; where memory is refused the policy comes back as it was.
+/// n1 with this record; where memory is refused the policies come back as they were.
 fn risen(alloc: Global, bytes: &[u8]) -> Result<NodeCore, Failure> {
     let id = node(1)?;
-    let policy: Box<dyn Admission + Send> = Box::new(alloc, told_once())?;
-    match NodeCore::rise(alloc, id, bytes, policy) {
+    match NodeCore::rise(alloc, id, bytes, told_once(alloc)?) {
         Ok(core) => Ok(core),
-        Err((policy, fault)) => refused(
-            is_memory(fault) && policy.tally() == (1, 0) && policy.problem() == 1,
-        ),
+        Err((policies, fault)) => refused(is_memory(fault) && are_as_made(&policies)),
     }
+}
+
+/// Whether the policies stand in their places, and were told of nothing more.
+fn are_as_made(policies: &Pair) -> bool {
+    let numbers = (policies.first.problem(), policies.second.problem());
+    numbers == (1, 2) && have_let_in(policies, 1, 0)
 }
 
 /// Memory may be refused before the record is read, or while it is.
@@ -63,17 +61,17 @@ fn restart_with_a_record(rt: HostRuntime) -> Outcome {
     match core.restart(&ONE) {
         Ok(()) => {
             rests_with(rt.alloc(), &core, &ONE)?;
-            check(core.fall().tally() == (1, 0))
+            check(are_as_made(&core.fall()))
         }
         Err(fault) => {
             rests_with(rt.alloc(), &core, &NONE)?;
-            refused(is_memory(fault) && core.fall().tally() == (1, 0))
+            refused(is_memory(fault) && are_as_made(&core.fall()))
         }
     }
 }
 
-/// Takes a message; where memory is refused the node rests with the record that it had, and its policy was
-/// told of nothing.
+/// Takes a message; where memory is refused the node rests with the record that it had, and its policies
+/// were told of nothing.
 fn takes(
     alloc: Global,
     core: NodeCore,
@@ -88,7 +86,7 @@ fn takes(
         Ok(changed) => Ok((core, changed)),
         Err(fault) => {
             rests_with(alloc, &core, bytes)?;
-            check(core.fall().tally() == (1, 0))?;
+            check(are_as_made(&core.fall()))?;
             Err(fault.into())
         }
     }
@@ -108,7 +106,7 @@ fn take_a_reader(rt: HostRuntime) -> Outcome {
     let message = request(2, Mode::Read)?;
     let core = risen(rt.alloc(), &ONE)?;
     let (core, changed) = takes(rt.alloc(), core, &ONE, &message)?;
-    check(changed && core.fall().tally() == (2, 0))
+    check(changed && have_let_in(&core.fall(), 2, 0))
 }
 
 /// The longest name of a resource.
@@ -133,12 +131,13 @@ fn take_a_request_again(rt: HostRuntime) -> Outcome {
     check(!changed && core.phase() == Phase::Stored && core.replies() == 1)
 }
 
-/// The record of problem 1 in which c1 holds `a` as a writer, and c2 to c1024 wait for it as readers.
-fn all_waiting(alloc: Global) -> Result<Vec<u8>, Failure> {
+/// The record of this problem in which c1 holds `a` and c2 to c1024 wait for it, all but this one as readers.
+fn all_waiting(alloc: Global, problem: u8, writer: u32) -> Result<Vec<u8>, Failure> {
     let mut bytes = Vec::new(alloc);
-    bytes.extend_from_slice(&[1, 1, 4, 0])?;
+    bytes.extend_from_slice(&[1, problem, 4, 0])?;
     for client in 1..=1_024u32 {
-        let (state, mode) = if client == 1 { (2, 1) } else { (1, 0) };
+        let state = if client == 1 { 2 } else { 1 };
+        let mode = u8::from(client == writer);
         bytes.extend_from_slice(&client.to_be_bytes())?;
         let ticket = [
             0, 0, 0, 0, 0, 0, 0, 0, state, 0, 0, 0, 0, 0, 0, 0, 1, mode, 1,
@@ -170,37 +169,38 @@ fn are_to_all(replies: &[Message]) -> bool {
 }
 
 /// Keeps and speaks.
-fn spoken(core: NodeCore) -> Result<Vec<Message>, Failure> {
+fn spoken(core: NodeCore) -> Result<(NodeCore, Vec<Message>), Failure> {
     let mut core = core;
     if core.phase() != Phase::Decided {
         return Err(Failure::Wrong);
     }
     core.kept();
-    Ok(core.speak())
+    let replies = core.speak();
+    Ok((core, replies))
 }
 
 /// A release that lets in as many as may wait: nothing has changed where memory is refused.
 #[test]
 fn take_a_release_for_all(rt: HostRuntime) -> Outcome {
-    let bytes = all_waiting(rt.alloc())?;
+    let bytes = all_waiting(rt.alloc(), 1, 1)?;
     check(bytes.len() == 24_580)?;
     let message = Message::Release(node(1)?, client(1)?, first_attempt()?);
     let core = risen(rt.alloc(), &bytes)?;
     let (core, changed) = takes(rt.alloc(), core, &bytes, &message)?;
     check(changed && core.next_bytes(rt.alloc())?.len() == 24_569)?;
-    let replies = spoken(core)?;
+    let (_, replies) = spoken(core)?;
     check(are_to_all(&replies))
 }
 
 /// A softening that lets in as many.
 #[test]
 fn take_a_softening_for_all(rt: HostRuntime) -> Outcome {
-    let bytes = all_waiting(rt.alloc())?;
+    let bytes = all_waiting(rt.alloc(), 1, 1)?;
     let message = Message::Soften(node(1)?, client(1)?, first_attempt()?);
     let core = risen(rt.alloc(), &bytes)?;
     let (core, changed) = takes(rt.alloc(), core, &bytes, &message)?;
     check(changed && core.next_bytes(rt.alloc())?.len() == 24_580)?;
-    let replies = spoken(core)?;
+    let (_, replies) = spoken(core)?;
     check(are_to_all(&replies))
 }
 
@@ -225,7 +225,7 @@ fn take_a_softening(rt: HostRuntime) -> Outcome {
     let (core, changed) = takes(rt.alloc(), core, &WRITES, &message)?;
     check(changed && core.phase() == Phase::Decided && core.replies() == 1)?;
     check(core.next_bytes(rt.alloc())?.as_slice() == SOFTENED.as_slice())?;
-    check(core.fall().tally() == (1, 0))
+    check(are_as_made(&core.fall()))
 }
 
 #[test]
@@ -242,4 +242,120 @@ fn take_a_softening_of_a_stranger(rt: HostRuntime) -> Outcome {
     let core = risen(rt.alloc(), &WRITES)?;
     let (core, changed) = takes(rt.alloc(), core, &WRITES, &message)?;
     check(!changed && core.phase() == Phase::Stored && core.replies() == 1)
+}
+
+/// Takes another problem or the same; where memory is refused the node rests with the record that it had, and
+/// its policies were told of nothing.
+fn switches(
+    alloc: Global,
+    core: NodeCore,
+    bytes: &[u8],
+    problem: Problem,
+) -> Result<(NodeCore, bool), Failure> {
+    let mut core = core;
+    if core.phase() != Phase::Idle {
+        return Err(Failure::Wrong);
+    }
+    match core.switch(problem) {
+        Ok(changed) => Ok((core, changed)),
+        Err(fault) => {
+            rests_with(alloc, &core, bytes)?;
+            refused(fault == VoterFault::Memory && are_as_made(&core.fall()))
+        }
+    }
+}
+
+/// The record of problem 2 in which c1 holds `a` as a reader, c2 waits for it as a writer, and c3 waits
+/// behind c2 as a reader; and the one of problem 1 in which c3 holds too.
+const SECOND: [u8; 76] = [
+    0x01, 0x02, 0x00, 0x03, //
+    0x00, 0x00, 0x00, 0x01, 0x00, 0x00, 0x00, 0x00, 0x00, 0x00, 0x00, 0x00, 0x02, 0x00, 0x00, 0x00,
+    0x00, 0x00, 0x00, 0x00, 0x01, 0x00, 0x01, 0x61, //
+    0x00, 0x00, 0x00, 0x02, 0x00, 0x00, 0x00, 0x00, 0x00, 0x00, 0x00, 0x00, 0x01, 0x00, 0x00, 0x00,
+    0x00, 0x00, 0x00, 0x00, 0x01, 0x01, 0x01, 0x61, //
+    0x00, 0x00, 0x00, 0x03, 0x00, 0x00, 0x00, 0x00, 0x00, 0x00, 0x00, 0x00, 0x01, 0x00, 0x00, 0x00,
+    0x00, 0x00, 0x00, 0x00, 0x01, 0x00, 0x01, 0x61,
+];
+
+const FIRST: [u8; 76] = [
+    0x01, 0x01, 0x00, 0x03, //
+    0x00, 0x00, 0x00, 0x01, 0x00, 0x00, 0x00, 0x00, 0x00, 0x00, 0x00, 0x00, 0x02, 0x00, 0x00, 0x00,
+    0x00, 0x00, 0x00, 0x00, 0x01, 0x00, 0x01, 0x61, //
+    0x00, 0x00, 0x00, 0x02, 0x00, 0x00, 0x00, 0x00, 0x00, 0x00, 0x00, 0x00, 0x01, 0x00, 0x00, 0x00,
+    0x00, 0x00, 0x00, 0x00, 0x01, 0x01, 0x01, 0x61, //
+    0x00, 0x00, 0x00, 0x03, 0x00, 0x00, 0x00, 0x00, 0x00, 0x00, 0x00, 0x00, 0x02, 0x00, 0x00, 0x00,
+    0x00, 0x00, 0x00, 0x00, 0x01, 0x00, 0x01, 0x61,
+];
+
+/// The reader passes the writer under problem 1, and no policy is told of it.
+#[test]
+fn switch_to_the_first_problem(rt: HostRuntime) -> Outcome {
+    let core = risen(rt.alloc(), &SECOND)?;
+    let (core, changed) = switches(rt.alloc(), core, &SECOND, Problem::First)?;
+    check(changed && core.phase() == Phase::Decided && core.replies() == 1)?;
+    check(core.next_bytes(rt.alloc())?.as_slice() == FIRST.as_slice())?;
+    check(are_as_made(&core.fall()))
+}
+
+/// Who holds goes on holding, and nobody is told anything.
+#[test]
+fn switch_to_the_second_problem(rt: HostRuntime) -> Outcome {
+    let core = risen(rt.alloc(), &ONE)?;
+    let (core, changed) = switches(rt.alloc(), core, &ONE, Problem::Second)?;
+    check(changed && core.phase() == Phase::Decided && core.replies() == 0)
+}
+
+#[test]
+fn switch_to_the_same_problem(rt: HostRuntime) -> Outcome {
+    let core = risen(rt.alloc(), &SECOND)?;
+    let (core, changed) = switches(rt.alloc(), core, &SECOND, Problem::Second)?;
+    check(!changed && core.phase() == Phase::Stored && core.replies() == 0)?;
+    check(core.next_bytes(rt.alloc())?.as_slice() == SECOND.as_slice())
+}
+
+/// Whether the replies are a Grant to each of c3 to c1024, in this order.
+fn are_to_all_readers(replies: &[Message]) -> bool {
+    let mut last = 2u32;
+    for reply in replies {
+        last = last.saturating_add(1);
+        let right = match reply {
+            Message::Grant(_, ticket) => ticket.client.get() == last,
+            _ => false,
+        };
+        if !right {
+            return false;
+        }
+    }
+    last == 1_024
+}
+
+/// A switch that lets in as many as may pass a writer.
+#[test]
+fn switch_for_all(rt: HostRuntime) -> Outcome {
+    let bytes = all_waiting(rt.alloc(), 2, 2)?;
+    let core = risen(rt.alloc(), &bytes)?;
+    let (core, changed) = switches(rt.alloc(), core, &bytes, Problem::First)?;
+    check(changed && core.replies() == 1_022)?;
+    check(core.next_bytes(rt.alloc())?.starts_with(&[1, 1, 4, 0]))?;
+    let (_, replies) = spoken(core)?;
+    check(are_to_all_readers(&replies))
+}
+
+/// The record of problem 2 in which c1 holds `a` as a reader.
+const ONE_OF_SECOND: [u8; 28] = [
+    0x01, 0x02, 0x00, 0x01, //
+    0x00, 0x00, 0x00, 0x01, 0x00, 0x00, 0x00, 0x00, 0x00, 0x00, 0x00, 0x00, 0x02, 0x00, 0x00, 0x00,
+    0x00, 0x00, 0x00, 0x00, 0x01, 0x00, 0x01, 0x61,
+];
+
+/// Once the switch is kept and said, the policy of problem 2 is told of a new reader's ticket.
+#[test]
+fn take_a_reader_after_a_switch(rt: HostRuntime) -> Outcome {
+    let message = request(2, Mode::Read)?;
+    let core = risen(rt.alloc(), &ONE)?;
+    let (core, _) = switches(rt.alloc(), core, &ONE, Problem::Second)?;
+    let (core, replies) = spoken(core)?;
+    check(replies.is_empty())?;
+    let (core, changed) = takes(rt.alloc(), core, &ONE_OF_SECOND, &message)?;
+    check(changed && have_let_in(&core.fall(), 1, 1))
 }

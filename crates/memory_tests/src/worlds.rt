@@ -4,12 +4,14 @@
 use crate::failures::{
     Failure, Outcome, check, client, first_attempt, node, refused, request, resource, ticket,
 };
-use admission_policy::{Admission, Counted, FirstProblem};
+use crate::policies::{for_nodes, have_let_in};
+use admission_policy::Pair;
 use lock_messages::{Actor, Message, Mode};
+use lock_model::Problem;
 use std::alloc::Global;
 use vote_weights::{Ballot, BallotList};
 use world_machine::{OpeningFault, World};
-use world_model::{Age, Effect, Event};
+use world_model::{Age, Effect, Event, StepFault};
 
 /// The record of problem 1 in which c1 holds `a` as a reader, c2 waits for it as a writer.
 const TWO: [u8; 52] = [
@@ -23,24 +25,24 @@ const TWO: [u8; 52] = [
 /// A client's record: it has made one attempt.
 const FIRST: [u8; 9] = [1, 0, 0, 0, 0, 0, 0, 0, 1];
 
-/// The policy of n1, which was told of one reader.
-fn policies(alloc: Global) -> Result<Vec<Box<dyn Admission + Send>>, Failure> {
-    let mut told = Counted::of(FirstProblem);
-    told.note(true);
-    let policy: Box<dyn Admission + Send> = Box::new(alloc, told)?;
-    let mut policies = Vec::new(alloc);
-    policies.push(policy)?;
-    Ok(policies)
-}
+/// The record of problem 2 in which c1 holds `a` as a reader, c2 waits for it as a writer, and c3 waits
+/// behind c2 as a reader.
+const THREE: [u8; 76] = [
+    0x01, 0x02, 0x00, 0x03, //
+    0x00, 0x00, 0x00, 0x01, 0x00, 0x00, 0x00, 0x00, 0x00, 0x00, 0x00, 0x00, 0x02, 0x00, 0x00, 0x00,
+    0x00, 0x00, 0x00, 0x00, 0x01, 0x00, 0x01, 0x61, //
+    0x00, 0x00, 0x00, 0x02, 0x00, 0x00, 0x00, 0x00, 0x00, 0x00, 0x00, 0x00, 0x01, 0x00, 0x00, 0x00,
+    0x00, 0x00, 0x00, 0x00, 0x01, 0x01, 0x01, 0x61, //
+    0x00, 0x00, 0x00, 0x03, 0x00, 0x00, 0x00, 0x00, 0x00, 0x00, 0x00, 0x00, 0x01, 0x00, 0x00, 0x00,
+    0x00, 0x00, 0x00, 0x00, 0x01, 0x00, 0x01, 0x61,
+];
 
-/// What an opening gives; where memory is refused the policy comes back as it was.
-fn opened(
-    answer: Result<World, (OpeningFault, Vec<Box<dyn Admission + Send>>)>,
-) -> Result<World, Failure> {
+/// What an opening gives; where memory is refused the policies come back as they were.
+fn opened(answer: Result<World, (OpeningFault, Vec<Pair>)>) -> Result<World, Failure> {
     match answer {
         Ok(world) => Ok(world),
-        Err((fault, policies)) => match policies.as_slice() {
-            [one] => refused(fault == OpeningFault::Memory && one.tally() == (1, 0)),
+        Err((fault, pairs)) => match pairs.as_slice() {
+            [one] => refused(fault == OpeningFault::Memory && have_let_in(one, 1, 0)),
             _ => Err(Failure::Wrong),
         },
     }
@@ -57,23 +59,23 @@ fn ballots() -> Result<BallotList, Failure> {
 }
 
 fn started(alloc: Global) -> Result<World, Failure> {
-    let (ballots, policies) = (ballots()?, policies(alloc)?);
-    if policies.len() != ballots.nodes() as usize {
+    let (ballots, pairs) = (ballots()?, for_nodes(alloc, 1)?);
+    if pairs.len() != ballots.nodes() as usize {
         return Err(Failure::Wrong);
     }
-    opened(World::start(alloc, ballots, 2, policies))
+    opened(World::start(alloc, ballots, 3, Problem::First, pairs))
 }
 
 fn resumed_from(
     alloc: Global,
     nodes: &[Vec<u8>; 1],
-    clients: &[Vec<u8>; 2],
+    clients: &[Vec<u8>; 3],
 ) -> Result<World, Failure> {
-    let (ballots, policies) = (ballots()?, policies(alloc)?);
-    if policies.len() != ballots.nodes() as usize || ballots.nodes() != 1 {
+    let (ballots, pairs) = (ballots()?, for_nodes(alloc, 1)?);
+    if pairs.len() != ballots.nodes() as usize || ballots.nodes() != 1 {
         return Err(Failure::Wrong);
     }
-    opened(World::resume(alloc, ballots, 2, policies, nodes, clients))
+    opened(World::resume(alloc, ballots, 3, pairs, nodes, clients))
 }
 
 /// A copy of a record.
@@ -83,10 +85,14 @@ fn bytes(alloc: Global, record: &[u8]) -> Result<Vec<u8>, Failure> {
     Ok(bytes)
 }
 
-/// A world of these records.
-fn resumed(alloc: Global) -> Result<World, Failure> {
-    let nodes = [bytes(alloc, &TWO)?];
-    let clients = [bytes(alloc, &FIRST)?, bytes(alloc, &FIRST)?];
+/// A world in which n1 has kept this record, and each client its first attempt.
+fn resumed(alloc: Global, record: &[u8]) -> Result<World, Failure> {
+    let nodes = [bytes(alloc, record)?];
+    let clients = [
+        bytes(alloc, &FIRST)?,
+        bytes(alloc, &FIRST)?,
+        bytes(alloc, &FIRST)?,
+    ];
     resumed_from(alloc, &nodes, &clients)
 }
 
@@ -152,7 +158,7 @@ fn start_a_world(rt: HostRuntime) -> Outcome {
 #[test]
 fn rise_after_a_resume(rt: HostRuntime) -> Outcome {
     let who = Actor::Node(node(1)?);
-    let mut world = resumed(rt.alloc())?;
+    let mut world = resumed(rt.alloc(), &TWO)?;
     does(&mut world, &Event::Rise(who, Age::Old), Effect::Up)
 }
 
@@ -229,11 +235,63 @@ fn soften_and_say(rt: HostRuntime) -> Outcome {
     check(inside.as_slice() == [ticket(1, Mode::Read)?].as_slice())
 }
 
+/// n1 takes problem 1 for problem 2; where memory is refused it has nothing to say, and takes it after that.
+fn switches(world: &mut World) -> Outcome {
+    let at = node(1)?;
+    let switch = Event::Switch(at, Problem::First);
+    match world.step(&switch) {
+        Ok(done) => check(done == Effect::Switched(true)),
+        Err(fault) => {
+            let says = world.step(&Event::Say(at));
+            check(says == Err(StepFault::NothingToSay))?;
+            let again = world.step(&switch)?;
+            check(again == Effect::Switched(true))?;
+            Err(fault.into())
+        }
+    }
+}
+
+/// A world in which n1 has switched, and has kept that.
+fn switched(alloc: Global) -> Result<World, Failure> {
+    let who = Actor::Node(node(1)?);
+    let mut world = resumed(alloc, &THREE)?;
+    does(&mut world, &Event::Rise(who, Age::Old), Effect::Up)?;
+    switches(&mut world)?;
+    does(&mut world, &Event::Try(who), Effect::Tried)?;
+    does(&mut world, &Event::Kept(who), Effect::Kept)?;
+    Ok(world)
+}
+
+#[test]
+fn switch_and_say(rt: HostRuntime) -> Outcome {
+    let at = node(1)?;
+    let said = Effect::Said { first: 1, count: 1 };
+    let grant = Message::Grant(at, ticket(3, Mode::Read)?);
+    let mut world = switched(rt.alloc())?;
+    does(&mut world, &Event::Say(at), said)?;
+    check(world.sent(1) == Some(grant))?;
+    let waiting = world.waiting(at, &resource()?)?;
+    check(waiting.as_slice() == [ticket(2, Mode::Write)?].as_slice())
+}
+
+/// Without replies a Say names the number that the next message gets.
+#[test]
+fn switch_to_the_same_and_say(rt: HostRuntime) -> Outcome {
+    let (at, who) = (node(1)?, Actor::Node(node(1)?));
+    let switch = Event::Switch(at, Problem::Second);
+    let said = Effect::Said { first: 1, count: 0 };
+    let mut world = resumed(rt.alloc(), &THREE)?;
+    does(&mut world, &Event::Rise(who, Age::Old), Effect::Up)?;
+    does(&mut world, &switch, Effect::Switched(false))?;
+    does(&mut world, &Event::Say(at), said)?;
+    check(world.sent(1).is_none())
+}
+
 #[test]
 fn who_holds_and_who_waits(rt: HostRuntime) -> Outcome {
     let (at, resource) = (node(1)?, resource()?);
     let (reader, writer) = (ticket(1, Mode::Read)?, ticket(2, Mode::Write)?);
-    let world = resumed(rt.alloc())?;
+    let world = resumed(rt.alloc(), &TWO)?;
     let holding = world.holding(at, &resource)?;
     check(holding.as_slice() == [reader].as_slice())?;
     let waiting = world.waiting(at, &resource)?;
@@ -242,7 +300,7 @@ fn who_holds_and_who_waits(rt: HostRuntime) -> Outcome {
 
 #[test]
 fn kept_bytes(rt: HostRuntime) -> Outcome {
-    let world = resumed(rt.alloc())?;
+    let world = resumed(rt.alloc(), &TWO)?;
     let of_node = world.kept_bytes(Actor::Node(node(1)?))?;
     check(of_node.as_slice() == TWO.as_slice())?;
     let of_client = world.kept_bytes(Actor::Client(client(2)?))?;

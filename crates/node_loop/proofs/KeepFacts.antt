@@ -1,7 +1,6 @@
 -- What keeping and rising make of a node's part of the world.
 use Rattle.std.proofs.Common.{◌≡◌, ℕ, Bool, List, [], ◌∷◌, ◌++◌, None, refl, sym, ap, ◌∙◌, subst}
 use Rattle.lock_messages.specs.declared.ids.Actor.TheVariants as actor
-use Rattle.lock_model.specs.declared.problems.Problem.{Problem}
 use Rattle.stable_record.specs.declared.node_records.NodeRecord.{NodeRecord}
 use Rattle.stable_record.specs.Records.{IsNodeRecord, node_record_of}
 use Rattle.stable_record.specs.Laws.{OneSpelling}
@@ -25,18 +24,16 @@ abbrev pub idle_with : NodeRecord → ExactNode
 idle_with r = record { kept = station_in r; tried = None; phase = node.Idle }
 
 -- a record by which the node is up and idle
-record IsUpWith (p : Problem) (q : Part) (r : NodeRecord) : Type 0 where
+record IsUpWith (q : Part) (r : NodeRecord) : Type 0 where
   pub good : IsNodeRecord r
-  pub problem : r.policy ≡ p
   pub part : q ≡ NodePart (idle_with r)
 
 risen_with : (l l' : OwnLog) (v : Voter) (before : NodeRecord) (tried : List ℕ) (strings : List (List ℕ)) (age : Age) → FailsToKeep l v before tried strings →
-    IsRisenAgain l (actor.Node v.node) age l' → (r : NodeRecord) × IsUpWith v.problem (part_now l') r
+    IsRisenAgain l (actor.Node v.node) age l' → (r : NodeRecord) × IsUpWith (part_now l') r
 risen_with l l' v before tried strings Old s again = (
   before,
   record {
     good = s.good;
-    problem = s.problem;
     part = again.risen.part
         ∙ ap (after_own l.ballots (event.Rise (actor.Node v.node) Old) effect.Up) (again.fallen.part ∙ ap (after_own l.ballots (event.Fall (actor.Node v.node)) effect.Down) s.part);
   },
@@ -45,16 +42,15 @@ risen_with l l' v before tried strings New s again = (
   record_of v,
   record {
     good = s.decided;
-    problem = refl;
     part = again.risen.part
         ∙ ap (after_own l.ballots (event.Rise (actor.Node v.node) New) effect.Up) (again.fallen.part ∙ ap (after_own l.ballots (event.Fall (actor.Node v.node)) effect.Down) s.part);
   },
 )
 
 -- The core that rises with what was found stands by the node that is up with it.
-stands_risen : (l : OwnLog) (n : ℕ) (p : Problem) (found : List ℕ) (r r' : NodeRecord) (v : Voter) (strings : List (List ℕ)) (stuck : Bool) → OneSpelling → l.actor ≡ actor.Node n →
-    IsUpWith p (part_now l) r → HasFound found l strings stuck → IsRecordOf p found r' → v ≡ risen n r' → StandsIdle l v strings stuck
-stands_risen l n p found r r' v strings stuck law own up here is core =
+stands_risen : (l : OwnLog) (n : ℕ) (found : List ℕ) (r r' : NodeRecord) (v : Voter) (strings : List (List ℕ)) (stuck : Bool) → OneSpelling → l.actor ≡ actor.Node n →
+    IsUpWith (part_now l) r → HasFound found l strings stuck → IsRecordOf found r' → v ≡ risen n r' → StandsIdle l v strings stuck
+stands_risen l n found r r' v strings stuck law own up here is core =
     let bytes : node_record_of r ≡ found = sym (here.kept ∙ ap kept_in up.part) in
     let same : r ≡ r' = (law r r' [] [] up.good is.good (ap (λ xs. xs ++ []) (bytes ∙ is.spelled))).0 in
     subst (λ (w : Voter). StandsIdle l w strings stuck) (sym core)
@@ -63,7 +59,6 @@ stands_risen l n p found r r' v strings stuck law own up here is core =
       state = refl;
       part = up.part ∙ ap (λ x. NodePart (idle_with x)) same;
       good = is.good;
-      problem = refl;
       finds = here.found ∙ ap (λ b. b ∷ []) is.spelled;
       ready = here.free;
     })
@@ -72,37 +67,36 @@ stands_risen l n p found r r' v strings stuck law own up here is core =
 unused_part : (l : OwnLog) (p : Part) → l.events ≡ [] → l.opening ≡ p → part_now l ≡ p
 unused_part l p none opening = ap (local_part l.ballots l.opening) none ∙ opening
 
-first_up : (l l' : OwnLog) (n : ℕ) (kept : NodeRecord) (p : Problem) (strings : List (List ℕ)) → IsReady l n kept p strings →
-    IsAdded l (event.Rise (actor.Node n) Old) effect.Up l' → IsUpWith p (part_now l') kept
-first_up l l' n kept p strings s added = record {
+first_up : (l l' : OwnLog) (n : ℕ) (kept : NodeRecord) (strings : List (List ℕ)) → IsReady l n kept strings →
+    IsAdded l (event.Rise (actor.Node n) Old) effect.Up l' → IsUpWith (part_now l') kept
+first_up l l' n kept strings s added = record {
   good = s.good;
-  problem = s.problem;
   part = added.part ∙ ap (after_own l.ballots (event.Rise (actor.Node n) Old) effect.Up) (unused_part l (NodePart (down_node (station_in kept))) s.unused.events s.opening);
 }
 
 -- rising again: the core that restarts with what was found
 pub restarts : (l l' : OwnLog) (v v' : Voter) (n : ℕ) (before : NodeRecord) (tried : List ℕ) (strings strings' : List (List ℕ)) (stuck : Bool) (age : Age) (found bytes : List ℕ) (r : NodeRecord) →
     OneSpelling → n ≡ v.node → FailsToKeep l v before tried strings → IsRisenAgain l (actor.Node n) age l' → HasFound found l' strings' stuck → bytes ≡ found →
-    IsRecordOf v.problem bytes r → v' ≡ risen v.node r → StandsIdle l' v' strings' stuck
+    IsRecordOf bytes r → v' ≡ risen v.node r → StandsIdle l' v' strings' stuck
 restarts l l' v v' n before tried strings strings' stuck age found bytes r law number failed again here read is core =
     let again' : IsRisenAgain l (actor.Node v.node) age l' = subst (λ (k : ℕ). IsRisenAgain l (actor.Node k) age l') number again in
     let up = risen_with l l' v before tried strings age failed again' in
     let own : l'.actor ≡ actor.Node v.node = ap (λ (x : OwnLog). x.actor) again.risen.log ∙ failed.actor in
-    stands_risen l' v.node v.problem found up.0 r v' strings' stuck law own up.1 here (subst (λ (b : List ℕ). IsRecordOf v.problem b r) read is) core
+    stands_risen l' v.node found up.0 r v' strings' stuck law own up.1 here (subst (λ (b : List ℕ). IsRecordOf b r) read is) core
 
--- what is found after a fall is a record of the problem
+-- what is found after a fall is a record
 pub finds_record : (l l' : OwnLog) (v : Voter) (n : ℕ) (before : NodeRecord) (tried : List ℕ) (strings strings' : List (List ℕ)) (stuck : Bool) (age : Age) (found bytes : List ℕ) →
-    n ≡ v.node → FailsToKeep l v before tried strings → IsRisenAgain l (actor.Node n) age l' → HasFound found l' strings' stuck → bytes ≡ found → (r : NodeRecord) × IsRecordOf v.problem bytes r
+    n ≡ v.node → FailsToKeep l v before tried strings → IsRisenAgain l (actor.Node n) age l' → HasFound found l' strings' stuck → bytes ≡ found → (r : NodeRecord) × IsRecordOf bytes r
 finds_record l l' v n before tried strings strings' stuck age found bytes number failed again here read =
     let again' : IsRisenAgain l (actor.Node v.node) age l' = subst (λ (k : ℕ). IsRisenAgain l (actor.Node k) age l') number again in
     let up = risen_with l l' v before tried strings age failed again' in
     let spelled : found ≡ node_record_of up.0 = here.kept ∙ ap kept_in up.1.part in
-    (up.0, record { good = up.1.good; spelled = read ∙ spelled; problem = up.1.problem })
+    (up.0, record { good = up.1.good; spelled = read ∙ spelled })
 
 -- the first rising: the core that rises with what was found
-pub rises : (l l' : OwnLog) (n : ℕ) (kept r : NodeRecord) (p : Problem) (found bytes : List ℕ) (strings strings' : List (List ℕ)) (stuck : Bool) (v : Voter) → OneSpelling →
-    IsReady l n kept p strings → IsAdded l (event.Rise (actor.Node n) Old) effect.Up l' → HasFound found l' strings' stuck → bytes ≡ found → IsRecordOf p bytes r → v ≡ risen n r →
+pub rises : (l l' : OwnLog) (n : ℕ) (kept r : NodeRecord) (found bytes : List ℕ) (strings strings' : List (List ℕ)) (stuck : Bool) (v : Voter) → OneSpelling →
+    IsReady l n kept strings → IsAdded l (event.Rise (actor.Node n) Old) effect.Up l' → HasFound found l' strings' stuck → bytes ≡ found → IsRecordOf bytes r → v ≡ risen n r →
     StandsIdle l' v strings' stuck
-rises l l' n kept r p found bytes strings strings' stuck v law ready added here read is core =
+rises l l' n kept r found bytes strings strings' stuck v law ready added here read is core =
     let own : l'.actor ≡ actor.Node n = ap (λ (x : OwnLog). x.actor) added.log ∙ ready.unused.actor in
-    stands_risen l' n p found kept r v strings' stuck law own (first_up l l' n kept p strings ready added) here (subst (λ (b : List ℕ). IsRecordOf p b r) read is) core
+    stands_risen l' n found kept r v strings' stuck law own (first_up l l' n kept strings ready added) here (subst (λ (b : List ℕ). IsRecordOf b r) read is) core

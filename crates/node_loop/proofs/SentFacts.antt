@@ -3,6 +3,7 @@ use Rattle.std.proofs.Common.{◌≡◌, ℕ, Bool, List, [], ◌∷◌, ◌++�
 use Rattle.lock_messages.specs.declared.ids.Actor.{Actor}
 use Rattle.lock_messages.specs.declared.ids.Actor.TheVariants as actor
 use Rattle.lock_messages.specs.declared.messages.Message.{Message}
+use Rattle.lock_model.specs.declared.problems.Problem.{Problem}
 use Rattle.lock_model.specs.Ballots.{Ballot}
 use Rattle.lossy_link.specs.declared.parcels.Post.TheVariants as post
 use Rattle.lossy_link.specs.declared.parcels.Sending.{Sending}
@@ -39,6 +40,9 @@ silent l l' e done added nothing = sent_more l l' e done added ∙ ap (λ xs. se
 
 pub take_sends_nothing : (l l' : OwnLog) (n k : ℕ) (done : Effect) → IsAdded l (event.Take n k) done l' → sent_of l' ≡ sent_of l
 take_sends_nothing l l' n k done added = silent l l' (event.Take n k) done added refl
+
+pub switch_sends_nothing : (l l' : OwnLog) (n : ℕ) (p : Problem) (done : Effect) → IsAdded l (event.Switch n p) done l' → sent_of l' ≡ sent_of l
+switch_sends_nothing l l' n p done added = silent l l' (event.Switch n p) done added refl
 
 pub first_rise_sends_nothing : (l l' : OwnLog) (who : Actor) (age : Age) → IsUnused l who → IsAdded l (event.Rise who age) effect.Up l' → sent_of l' ≡ []
 first_rise_sends_nothing l l' who age unused added = silent l l' (event.Rise who age) effect.Up added refl ∙ ap (sent_by l.ballots l.opening) unused.events

@@ -52,6 +52,7 @@ first_of effect.Outside = 0
 first_of effect.Softened = 0
 first_of effect.Down = 0
 first_of effect.Up = 0
+first_of (effect.Switched changed) = 0
 
 -- What a node sends for an event of its own: its replies, as it says them; and once it has fallen the
 -- nudge of its node, since its replies are lost.
@@ -69,6 +70,7 @@ sent_for b (event.Enter c) done p = []
 sent_for b (event.Leave c) done p = []
 sent_for b (event.Soften c) done p = []
 sent_for b (event.Rise who age) done p = []
+sent_for b (event.Switch n q) done p = []
 
 -- the same for a list of its events, from a part on
 abbrev pub sent_by : List Ballot → Part → List (Event × Effect) → List Sending

@@ -5,11 +5,13 @@ use Rattle.lock_model.specs.declared.problems.Problem.{Problem}
 use Rattle.stable_record.specs.declared.node_records.NodeRecord.{NodeRecord}
 use Rattle.stable_record.specs.Records.{IsNodeRecord, node_record_of}
 use Rattle.voter_core.specs.Voters.{Voter, State, Idle, Decided, Stored, record_of, replies_in}
+use Rattle.world_model.specs.declared.events.Effect.TheVariants as effect
+use Rattle.world_model.specs.declared.events.Event.TheVariants as event
 use Rattle.world_model.specs.declared.exact.ExactNodePhase.TheVariants as node
 use Rattle.world_model.specs.Openings.{down_node}
 use Rattle.world_model.specs.Parts.{Part, NoPart, NodePart, ClientPart}
 use Rattle.world_actors.specs.Nodes.{station_in, phase_of}
-use Rattle.event_recorders.specs.OwnLogs.{OwnLog, part_now, FindsPart, IsUnused}
+use Rattle.event_recorders.specs.OwnLogs.{OwnLog, part_now, FindsPart, IsAdded, IsUnused}
 use Rattle.lossy_link.specs.declared.parcels.Post.{Post}
 use Rattle.event_recorders.specs.declared.faults.RunFault.{RunFault}
 use Rattle.event_recorders.specs.declared.faults.RunFault.TheVariants as run
@@ -24,7 +26,6 @@ pub record StandsBy (s : State) (l : OwnLog) (core : Voter) (kept : NodeRecord) 
   pub state : core.state ≡ s
   pub part : part_now l ≡ NodePart (record { kept = station_in kept; tried = None; phase = phase_of (record_of core) s })
   pub good : IsNodeRecord kept
-  pub problem : kept.policy ≡ core.problem
   pub finds : strings ≡ node_record_of kept ∷ []
   pub ready : stuck ≡ false
 
@@ -32,11 +33,16 @@ pub record StandsBy (s : State) (l : OwnLog) (core : Voter) (kept : NodeRecord) 
 abbrev pub StandsIdle : OwnLog → Voter → List (List ℕ) → Bool → Type 0
 StandsIdle l core strings stuck = StandsBy Idle l core (record_of core) strings stuck
 
--- The node has taken a message: its record changes, and what it has kept is the one before; or its
--- record stays, and the replies may be said.
+-- The node has taken a message, or another problem: its record changes, and what it has kept is the one
+-- before; or its record stays, and the replies may be said.
 abbrev pub HasTaken : Bool → OwnLog → Voter → NodeRecord → List (List ℕ) → Bool → Type 0
 HasTaken true l core before strings stuck = StandsBy (Decided (replies_in core.state)) l core before strings stuck
 HasTaken false l core before strings stuck = StandsBy (Stored (replies_in core.state)) l core (record_of core) strings stuck
+
+-- The node has logged that it takes this problem, as one event of this kind, and has taken it.
+pub record HasSwitched (p : Problem) (changed : Bool) (l l' : OwnLog) (core : Voter) (before : NodeRecord) (strings : List (List ℕ)) (stuck : Bool) : Type 0 where
+  pub logged : (told : Bool) × IsAdded l (event.Switch core.node p) (effect.Switched told) l'
+  pub taken : HasTaken changed l' core before strings stuck
 
 -- What the node decided is kept, and the replies may be said; or the device failed, and the node has
 -- risen again.
@@ -50,17 +56,14 @@ pub record FailsToKeep (l : OwnLog) (core : Voter) (before : NodeRecord) (tried 
   pub part : part_now l ≡ NodePart (record { kept = station_in before; tried = Some (station_in (record_of core)); phase = node.Decided (station_in (record_of core)) (replies_in core.state) })
   pub good : IsNodeRecord before
   pub decided : IsNodeRecord (record_of core)
-  pub problem : before.policy ≡ core.problem
   pub bytes : tried ≡ node_record_of (record_of core)
   pub found : FindsPart (part_now l) strings
 
--- The log is unused, and what the node has kept in its opening is this record, of the problem; a restart
--- finds just that.
-pub record IsReady (l : OwnLog) (n : ℕ) (kept : NodeRecord) (p : Problem) (strings : List (List ℕ)) : Type 0 where
+-- The log is unused, and what the node has kept in its opening is this record; a restart finds just that.
+pub record IsReady (l : OwnLog) (n : ℕ) (kept : NodeRecord) (strings : List (List ℕ)) : Type 0 where
   pub unused : IsUnused l (actor.Node n)
   pub opening : l.opening ≡ NodePart (down_node (station_in kept))
   pub good : IsNodeRecord kept
-  pub problem : kept.policy ≡ p
   pub finds : strings ≡ node_record_of kept ∷ []
 
 -- The node is up and about nothing, with nothing tried: all that it took it has answered.

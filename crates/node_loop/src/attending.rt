@@ -1,22 +1,25 @@
-// A node's turn: from a parcel to the replies.
+// A node's turn: from a post to the replies.
 
-ghost use Rattle.std.specs.Prelude.{◌≡◌, [], ◌∷◌, ◌++◌, ◌+◌, IfOk, IfErr, IfSome, IfNone, OnOk, IsOkUnless};
+ghost use Rattle.std.specs.Prelude.{◌≡◌, ◌≢◌, [], ◌∷◌, ◌++◌, ◌+◌, IfOk, IfErr, IfSome, IfNone, IsOk, OnOk, IsOkUnless};
+ghost use Rattle.lock_model.specs.declared.problems.Problem.{Problem as ProblemValue};
+ghost use Rattle.admission_policy.specs.Policies.{problem_number};
 ghost use Rattle.stable_record.specs.declared.node_records.NodeRecord.{NodeRecord};
 ghost use Rattle.voter_core.specs.Voters.{Idle, Decided, Stored, record_of, replies_in};
 ghost use Rattle.lossy_link.specs.Links.{one_more};
 ghost use Rattle.lossy_link.specs.declared.parcels.Post.{Post as PostValue};
 ghost use Rattle.lossy_link.specs.declared.parcels.Sending.{Sending as SendingValue};
 ghost use Rattle.node_loop.specs.Replies.{sent_of, SentFollows, IsSentIn};
-ghost use Rattle.node_loop.specs.Standing.{StandsBy, StandsIdle, HasTaken, HasKept, FailsToKeep, IsNodeFault};
+ghost use Rattle.node_loop.specs.Standing.{StandsBy, StandsIdle, HasTaken, HasSwitched, HasKept, FailsToKeep, IsNodeFault};
 ghost use Rattle.actor_steps.specs.Steps.{IsBookFault};
 ghost use Rattle.actor_steps.specs.Endings.{falls_of, FailuresFollow, EndsFrom};
 
 use crate::replies::send_all;
-use actor_steps::{Keeping, keep_next, log_plain, log_reading, rise_again};
+use actor_steps::{Keeping, keep_next, log_plain, log_reading, log_switch, rise_again};
 use event_recorders::laws::records_fit;
 use event_recorders::{Gate, Recorder, RunFault};
 use lock_messages::{Actor, NodeId, decode};
-use lock_model::laws::changes_are_seen;
+use lock_model::Problem;
+use lock_model::laws::{changes_are_seen, switch_is_allowed};
 use lossy_link::{Link, Parcel, Post};
 use stable_record::StableRecord;
 use stable_record::laws::one_spelling;
@@ -52,6 +55,41 @@ fn take<R: Recorder>(
         return Err(RunFault::Memory);
     };
     Ok(Some(changed))
+}
+
+/// The problem with this number, 1 or 2; `None` exactly where no problem has it.
+fn problem_numbered(number: u8) -> Option<Problem>
+    ensures numbered { IfSome result (λ problem. problem_number problem ≡ number) }
+    ensures none { IfNone result ((problem : ProblemValue) → problem_number problem ≢ number) }
+{
+    match number {
+        1 => Some(Problem::First),
+        2 => Some(Problem::Second),
+        _ => None,
+    }
+}
+
+/// Takes this problem from now on, and answers whether it is another one, which changes the node's record.
+#[tactic(auto, using(crate::proofs::SentFacts::switch_sends_nothing))]
+fn switch<R: Recorder>(
+    problem: Problem,
+    core: &mut NodeCore,
+    stable: &dyn StableRecord,
+    recorder: &mut R,
+) -> Result<bool, RunFault>
+    requires { StandsIdle (R.own_log recorder.old) core.old (finds stable.now) (stuck_of stable.now) }
+    ensures switched { IfOk result (λ changed. HasSwitched problem changed (R.own_log recorder.old) (R.own_log recorder.new) core.new (record_of core.old) (finds stable.now) (stuck_of stable.now)) }
+    ensures silent { OnOk result (sent_of (R.own_log recorder.new) ≡ sent_of (R.own_log recorder.old)) }
+    ensures faults { IfErr result IsBookFault }
+    ensures falls { falls_of (R.own_log recorder.new) ≡ falls_of (R.own_log recorder.old) }
+{
+    log_switch(recorder, core.node(), problem, stable)?;
+    switch_is_allowed();
+    let _station = core.record();
+    let Ok(changed) = core.switch(problem) else {
+        return Err(RunFault::Memory);
+    };
+    Ok(changed)
 }
 
 /// Keeps what the node decided. Where the record's device fails, the node falls and rises again with
@@ -109,7 +147,7 @@ fn restart<R: Recorder>(
     match core.restart(&found) {
         Ok(()) => Ok(()),
         Err(VoterFault::Memory) => Err(RunFault::Memory),
-        Err(VoterFault::Unreadable(_) | VoterFault::OtherProblem) => unreachable!(),
+        Err(VoterFault::Unreadable(_)) => unreachable!(),
     }
 }
 
@@ -147,8 +185,35 @@ fn tell_lost<L: Link>(node: NodeId, link: &mut L) -> Result<(), RunFault>
     Ok(())
 }
 
-/// A turn: takes the message of the number, keeps what it changes, and sends the replies.
+/// Keeps what the node took, where it changed the record, and sends the replies.
 #[tactic(auto, using(crate::proofs::SentFacts::follows_none, crate::proofs::SentFacts::follows_from, crate::proofs::SentFacts::nudge_follows, actor_steps::proofs::EndFacts::failures_stay, actor_steps::proofs::EndFacts::failures_on))]
+fn finish<R: Recorder, L: Link, G: Gate>(
+    alloc: Global,
+    changed: bool,
+    core: &mut NodeCore,
+    stable: &mut dyn StableRecord,
+    recorder: &mut R,
+    link: &mut L,
+    gate: &G,
+) -> Result<(), RunFault>
+    requires { (before : NodeRecord) × HasTaken changed (R.own_log recorder.old) core.old before (finds stable.old) (stuck_of stable.old) }
+    ensures idle { OnOk result (StandsIdle (R.own_log recorder.new) core.new (finds stable.new) (stuck_of stable.new)) }
+    ensures sent { OnOk result (SentFollows (R.own_log recorder.old) (R.own_log recorder.new) (L.given link.old) (L.given link.new)) }
+    ensures faults { IfErr result IsNodeFault }
+    ensures ended { IfErr result (λ fault. EndsFrom fault (falls_of (R.own_log recorder.old)) (R.own_log recorder.new) (stuck_of stable.new) (spent_of stable.new) (failures_of stable.old) (failures_of stable.new)) }
+    ensures falls { FailuresFollow (falls_of (R.own_log recorder.old)) (falls_of (R.own_log recorder.new)) (failures_of stable.old) (failures_of stable.new) }
+{
+    if changed {
+        match keep(alloc, core, stable, recorder, gate)? {
+            Keeping::Kept => {}
+            Keeping::Failed => return tell_lost(core.node(), link),
+        }
+    }
+    say(alloc, core, &*stable, recorder, link)
+}
+
+/// A turn: takes the message of the number, keeps what it changes, and sends the replies.
+#[tactic(auto, using(crate::proofs::SentFacts::follows_none, crate::proofs::SentFacts::follows_from, actor_steps::proofs::EndFacts::failures_stay, actor_steps::proofs::EndFacts::failures_on))]
 fn take_turn<R: Recorder, L: Link, G: Gate>(
     alloc: Global,
     number: u32,
@@ -168,16 +233,64 @@ fn take_turn<R: Recorder, L: Link, G: Gate>(
     let Some(changed) = take(number, core, &*stable, recorder)? else {
         return Ok(());
     };
-    if changed {
-        match keep(alloc, core, stable, recorder, gate)? {
-            Keeping::Kept => {}
-            Keeping::Failed => return tell_lost(core.node(), link),
-        }
-    }
-    say(alloc, core, &*stable, recorder, link)
+    finish(alloc, changed, core, stable, recorder, link, gate)
 }
 
-/// Does what a post asks for. What is no message for the node is dropped.
+/// A turn: takes the problem of this number, keeps what that changes, and sends the replies. A number that
+/// no problem has is dropped.
+#[tactic(auto, using(crate::proofs::SentFacts::follows_none, crate::proofs::SentFacts::follows_from, actor_steps::proofs::EndFacts::failures_stay, actor_steps::proofs::EndFacts::failures_on))]
+fn switch_turn<R: Recorder, L: Link, G: Gate>(
+    alloc: Global,
+    number: u8,
+    core: &mut NodeCore,
+    stable: &mut dyn StableRecord,
+    recorder: &mut R,
+    link: &mut L,
+    gate: &G,
+) -> Result<(), RunFault>
+    requires { StandsIdle (R.own_log recorder.old) core.old (finds stable.old) (stuck_of stable.old) }
+    ensures idle { OnOk result (StandsIdle (R.own_log recorder.new) core.new (finds stable.new) (stuck_of stable.new)) }
+    ensures dropped { ((problem : ProblemValue) → problem_number problem ≢ number) → IsOk result × (core.new ≡ core.old) × (R.own_log recorder.new ≡ R.own_log recorder.old) × (L.given link.new ≡ L.given link.old) }
+    ensures sent { OnOk result (SentFollows (R.own_log recorder.old) (R.own_log recorder.new) (L.given link.old) (L.given link.new)) }
+    ensures faults { IfErr result IsNodeFault }
+    ensures ended { IfErr result (λ fault. EndsFrom fault (falls_of (R.own_log recorder.old)) (R.own_log recorder.new) (stuck_of stable.new) (spent_of stable.new) (failures_of stable.old) (failures_of stable.new)) }
+    ensures falls { FailuresFollow (falls_of (R.own_log recorder.old)) (falls_of (R.own_log recorder.new)) (failures_of stable.old) (failures_of stable.new) }
+{
+    let Some(problem) = problem_numbered(number) else {
+        return Ok(());
+    };
+    let changed = switch(problem, core, &*stable, recorder)?;
+    finish(alloc, changed, core, stable, recorder, link, gate)
+}
+
+/// Does what a parcel asks for. What is no message for the node is dropped.
+#[tactic(auto, using(crate::proofs::SentFacts::follows_none))]
+fn parcel_turn<R: Recorder, L: Link, G: Gate>(
+    alloc: Global,
+    parcel: &Parcel,
+    core: &mut NodeCore,
+    stable: &mut dyn StableRecord,
+    recorder: &mut R,
+    link: &mut L,
+    gate: &G,
+) -> Result<(), RunFault>
+    requires { StandsIdle (R.own_log recorder.old) core.old (finds stable.old) (stuck_of stable.old) }
+    ensures idle { OnOk result (StandsIdle (R.own_log recorder.new) core.new (finds stable.new) (stuck_of stable.new)) }
+    ensures sent { OnOk result (SentFollows (R.own_log recorder.old) (R.own_log recorder.new) (L.given link.old) (L.given link.new)) }
+    ensures faults { IfErr result IsNodeFault }
+    ensures ended { IfErr result (λ fault. EndsFrom fault (falls_of (R.own_log recorder.old)) (R.own_log recorder.new) (stuck_of stable.new) (spent_of stable.new) (failures_of stable.old) (failures_of stable.new)) }
+    ensures falls { FailuresFollow (falls_of (R.own_log recorder.old)) (falls_of (R.own_log recorder.new)) (failures_of stable.old) (failures_of stable.new) }
+{
+    let Ok(message) = decode(&parcel.frame) else {
+        return Ok(());
+    };
+    if !message.is_for_node(core.node()) {
+        return Ok(());
+    }
+    take_turn(alloc, parcel.number, core, stable, recorder, link, gate)
+}
+
+/// Does what a post asks for. A nudge and a node that is gone are dropped.
 #[tactic(auto, using(crate::proofs::SentFacts::follows_none))]
 pub(crate) fn attend<R: Recorder, L: Link, G: Gate>(
     alloc: Global,
@@ -195,14 +308,9 @@ pub(crate) fn attend<R: Recorder, L: Link, G: Gate>(
     ensures ended { IfErr result (λ fault. EndsFrom fault (falls_of (R.own_log recorder.old)) (R.own_log recorder.new) (stuck_of stable.new) (spent_of stable.new) (failures_of stable.old) (failures_of stable.new)) }
     ensures falls { FailuresFollow (falls_of (R.own_log recorder.old)) (falls_of (R.own_log recorder.new)) (failures_of stable.old) (failures_of stable.new) }
 {
-    let Post::Parcel(Parcel { number, frame }) = post else {
-        return Ok(());
-    };
-    let Ok(message) = decode(&frame) else {
-        return Ok(());
-    };
-    if !message.is_for_node(core.node()) {
-        return Ok(());
+    match post {
+        Post::Parcel(parcel) => parcel_turn(alloc, &parcel, core, stable, recorder, link, gate),
+        Post::Switch(number) => switch_turn(alloc, number, core, stable, recorder, link, gate),
+        Post::Nudge(_) | Post::Gone(_) => Ok(()),
     }
-    take_turn(alloc, number, core, stable, recorder, link, gate)
 }

@@ -1,9 +1,9 @@
 //! The loop that a node's thread runs.
 //!
-//! `run_node` takes a node from its first rising to its end: parcel by parcel it logs that it takes a
-//! message, decides, keeps what changes, logs that this is kept, and only then says its replies and sends
-//! them. It is generic in the recorder by which it logs, in the link over which it hears and sends, and in
-//! the gate that is called before a keep, so it holds no lock of its own between two events.
+//! `run_node` takes a node from its first rising to its end: post by post it logs that it takes a message,
+//! or another problem, decides, keeps what changes, logs that this is kept, and only then says its replies
+//! and sends them. It is generic in the recorder by which it logs, in the link over which it hears and
+//! sends, and in the gate that is called before a keep, so it holds no lock of its own between two events.
 //!
 //! The crate promises that a node logs only events that its own log allows, each while its record finds
 //! what the node has kept by then; that its core is always what its log tells of it; that over a link

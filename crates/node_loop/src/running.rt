@@ -12,7 +12,7 @@ ghost use Rattle.actor_steps.specs.Endings.{falls_of, FailuresFollow, EndsFrom, 
 
 use crate::attending::attend;
 use actor_steps::rise_first;
-use admission_policy::Admission;
+use admission_policy::Pair;
 use event_recorders::{Gate, Recorder, RunFault};
 use lock_messages::{Actor, NodeId};
 use lossy_link::{Link, Post};
@@ -27,10 +27,10 @@ fn rise<R: Recorder>(
     alloc: Global,
     node: NodeId,
     stable: &mut dyn StableRecord,
-    policy: Box<dyn Admission + Send>,
+    policies: Pair,
     recorder: &mut R,
 ) -> Result<NodeCore, RunFault>
-    requires { (kept : NodeRecord) × IsReady (R.own_log recorder.old) node kept (problem_of policy) (finds stable.old) }
+    requires { (kept : NodeRecord) × IsReady (R.own_log recorder.old) node kept (finds stable.old) }
     ensures idle { IfOk result (λ core. StandsIdle (R.own_log recorder.new) core (finds stable.new) (stuck_of stable.new)) }
     ensures silent { OnOk result (sent_of (R.own_log recorder.new) ≡ []) }
     ensures faults { IfErr result IsNodeFault }
@@ -39,10 +39,10 @@ fn rise<R: Recorder>(
 {
     one_spelling();
     let found = rise_first(Actor::Node(node), stable, recorder)?;
-    match NodeCore::rise(alloc, node, &found, policy) {
+    match NodeCore::rise(alloc, node, &found, policies) {
         Ok(core) => Ok(core),
         Err((_, VoterFault::Memory)) => Err(RunFault::Memory),
-        Err((_, VoterFault::Unreadable(_) | VoterFault::OtherProblem)) => unreachable!(),
+        Err((_, VoterFault::Unreadable(_))) => unreachable!(),
     }
 }
 
@@ -81,12 +81,12 @@ fn live<W: Wait, R: Recorder, L: Link, G: Gate>(
     alloc: Global,
     node: NodeId,
     stable: &mut dyn StableRecord,
-    policy: Box<dyn Admission + Send>,
+    policies: Pair,
     recorder: &mut R,
     link: &mut L,
     gate: &G,
 ) -> Result<(), RunFault>
-    requires { (kept : NodeRecord) × IsReady (R.own_log recorder.old) node kept (problem_of policy) (finds stable.old) }
+    requires { (kept : NodeRecord) × IsReady (R.own_log recorder.old) node kept (finds stable.old) }
     ensures idle { OnOk result (IsIdleNode (part_now (R.own_log recorder.new))) }
     ensures sent { OnOk result (L.given link.new ≡ all_more (L.given link.old) (sent_of (R.own_log recorder.new))) }
     ensures closed { OnOk result (IsAtEnd (L.coming link.new)) }
@@ -94,7 +94,7 @@ fn live<W: Wait, R: Recorder, L: Link, G: Gate>(
     ensures ended { IfErr result (λ fault. EndsBy fault (R.own_log recorder.new) (stuck_of stable.new) (spent_of stable.new) (failures_of stable.old) (failures_of stable.new)) }
     ensures falls { HasFailed (falls_of (R.own_log recorder.new)) (failures_of stable.old) (failures_of stable.new) }
 {
-    let mut core = rise(alloc, node, stable, policy, recorder)?;
+    let mut core = rise(alloc, node, stable, policies, recorder)?;
     serve(rt, alloc, &mut core, stable, recorder, link, gate)
 }
 
@@ -107,12 +107,12 @@ pub fn run_node_over<W: Wait, R: Recorder, L: Link, G: Gate>(
     alloc: Global,
     node: NodeId,
     stable: &mut dyn StableRecord,
-    policy: Box<dyn Admission + Send>,
+    policies: Pair,
     recorder: &mut R,
     link: &mut L,
     gate: &G,
 ) -> Result<(), RunFault>
-    requires { (kept : NodeRecord) × IsReady (R.own_log recorder.old) node kept (problem_of policy) (finds stable.old) }
+    requires { (kept : NodeRecord) × IsReady (R.own_log recorder.old) node kept (finds stable.old) }
     // All that it took it has answered.
     ensures idle { OnOk result (IsIdleNode (part_now (R.own_log recorder.new))) }
     // What was sent is what its own log tells: its replies, and after each fall its nudge.
@@ -126,7 +126,7 @@ pub fn run_node_over<W: Wait, R: Recorder, L: Link, G: Gate>(
     // each only where its log and its record tell the cause.
     ensures ended { IfErr result (λ fault. EndsBy fault (R.own_log recorder.new) (stuck_of stable.new) (spent_of stable.new) (failures_of stable.old) (failures_of stable.new)) }
 {
-    let ended = live(rt, alloc, node, stable, policy, recorder, link, gate);
+    let ended = live(rt, alloc, node, stable, policies, recorder, link, gate);
     if ended.is_err() {
         let _ = link.tell_all(Post::Gone(node));
     }
@@ -137,8 +137,11 @@ pub fn run_node_over<W: Wait, R: Recorder, L: Link, G: Gate>(
 /// other, keeps what they change, and sends its replies, until nothing comes any more over its link.
 ///
 /// The caller owes a recorder whose own log is this node's and unused, with the node down and nothing tried
-/// in its opening; a record in which a restart finds just what the node has kept there, which is a node
-/// record that can be read again; and a policy of that record's problem.
+/// in its opening; and a record in which a restart finds just what the node has kept there, which is a node
+/// record that can be read again. The node solves that record's problem.
+///
+/// A post that switches the problem is logged and taken like a message: what it changes is kept, and then
+/// the Grants of those who are let in are sent, perhaps none. A number that no problem has is dropped.
 ///
 /// A nudge, a node that is gone, and a frame that is no message for the node are dropped and log nothing;
 /// so is a parcel whose number was never sent, or sent to another actor (607, 608). The message that is
@@ -156,12 +159,12 @@ pub fn run_node<W: Wait, R: Recorder, L: Link, G: Gate>(
     alloc: Global,
     node: NodeId,
     stable: Box<dyn StableRecord + Send>,
-    policy: Box<dyn Admission + Send>,
+    policies: Pair,
     recorder: &mut R,
     link: &mut L,
     gate: &G,
 ) -> Result<(), RunFault>
-    requires { (kept : NodeRecord) × IsReady (R.own_log recorder.old) node kept (problem_of policy) (finds stable) }
+    requires { (kept : NodeRecord) × IsReady (R.own_log recorder.old) node kept (finds stable) }
     // All that it took it has answered.
     ensures idle { OnOk result (IsIdleNode (part_now (R.own_log recorder.new))) }
     // What was sent is what its own log tells: its replies, and after each fall its nudge.
@@ -174,5 +177,14 @@ pub fn run_node<W: Wait, R: Recorder, L: Link, G: Gate>(
     ensures ended { IfErr result (λ fault. EndsSomehow fault (R.own_log recorder.new)) }
 {
     let mut stable = stable;
-    run_node_over(rt, alloc, node, &mut *stable, policy, recorder, link, gate)
+    run_node_over(
+        rt,
+        alloc,
+        node,
+        &mut *stable,
+        policies,
+        recorder,
+        link,
+        gate,
+    )
 }

@@ -2,26 +2,23 @@
 use Rattle.std.proofs.Common.{◌≡◌, ℕ, ◌+◌, ◌<◌, List, [], ◌∷◌, ◌++◌, length, get_or, map, slice_get, zero, suc, refl, sym, ◌∙◌, ap, subst, arith}
 use Rattle.std.specs.List.{All, remove}
 use Rattle.std.proofs.lemmas.List.Elements.{All-append}
-use Rattle.lock_model.specs.declared.problems.Problem.{Problem}
 use Rattle.world_model.specs.declared.exact.ExactWorld.{ExactWorld}
 use Rattle.node_threads.specs.Actors.{IsNodeReady, IsClientReady, AreNodesReady, AreClientsReady}
 
-pub first_node : {X Y : Type 0} (f : X → Problem) (h : Y → List (List ℕ)) (w : ExactWorld) (place : ℕ) (xs : List X) (ys : List Y) (x : X) (y : Y) → AreNodesReady place w (map f xs) (map h ys) →
-    0 < length xs → 0 < length ys → x ≡ get_or xs 0 x → y ≡ get_or ys 0 y → IsNodeReady w (place + 1) (f x) (h y)
-first_node f h w place [] ys x y ready some others at_x at_y = absurd (omega arith)
-first_node f h w place (a ∷ xs) [] x y ready some others at_x at_y = absurd (omega arith)
-first_node f h w place (a ∷ xs) (b ∷ ys) x y ready some others at_x at_y =
+pub first_node : {Y : Type 0} (h : Y → List (List ℕ)) (w : ExactWorld) (place : ℕ) (ys : List Y) (y : Y) → AreNodesReady place w (map h ys) → 0 < length ys → y ≡ get_or ys 0 y →
+    IsNodeReady w (place + 1) (h y)
+first_node h w place [] y ready some at_y = absurd (omega arith)
+first_node h w place (b ∷ ys) y ready some at_y =
     let n : 0 + place + 1 ≡ place + 1 = omega arith in
-    let here : IsNodeReady w (place + 1) (f a) (h b) = subst (λ k. IsNodeReady w k (f a) (h b)) n (ready 0 (f a) (h b) refl refl) in
-    subst (λ z. IsNodeReady w (place + 1) (f z) (h y)) (sym at_x) (subst (λ z. IsNodeReady w (place + 1) (f a) (h z)) (sym at_y) here)
+    let here : IsNodeReady w (place + 1) (h b) = subst (λ k. IsNodeReady w k (h b)) n (ready 0 (h b) refl) in
+    subst (λ z. IsNodeReady w (place + 1) (h z)) (sym at_y) here
 
-pub rest_nodes : {X Y : Type 0} (f : X → Problem) (h : Y → List (List ℕ)) (w : ExactWorld) (place : ℕ) (xs xs' : List X) (ys ys' : List Y) → AreNodesReady place w (map f xs) (map h ys) →
-    0 < length xs → 0 < length ys → xs' ≡ remove xs 0 → ys' ≡ remove ys 0 → AreNodesReady (place + 1) w (map f xs') (map h ys')
-rest_nodes f h w place [] xs' ys ys' ready some others at_xs at_ys = absurd (omega arith)
-rest_nodes f h w place (a ∷ xs) xs' [] ys' ready some others at_xs at_ys = absurd (omega arith)
-rest_nodes f h w place (a ∷ xs) xs' (b ∷ ys) ys' ready some others at_xs at_ys = λ i p s at_p at_s.
+pub rest_nodes : {Y : Type 0} (h : Y → List (List ℕ)) (w : ExactWorld) (place : ℕ) (ys ys' : List Y) → AreNodesReady place w (map h ys) → 0 < length ys → ys' ≡ remove ys 0 →
+    AreNodesReady (place + 1) w (map h ys')
+rest_nodes h w place [] ys' ready some at_ys = absurd (omega arith)
+rest_nodes h w place (b ∷ ys) ys' ready some at_ys = λ i s at_s.
     let n : suc i + place + 1 ≡ i + (place + 1) + 1 = omega arith in
-    subst (λ k. IsNodeReady w k p s) n (ready (suc i) p s (ap (λ l. slice_get (map f l) i) (sym at_xs) ∙ at_p) (ap (λ l. slice_get (map h l) i) (sym at_ys) ∙ at_s))
+    subst (λ k. IsNodeReady w k s) n (ready (suc i) s (ap (λ l. slice_get (map h l) i) (sym at_ys) ∙ at_s))
 
 pub first_client : {Y : Type 0} (h : Y → List (List ℕ)) (w : ExactWorld) (place : ℕ) (ys : List Y) (y : Y) → AreClientsReady place w (map h ys) → 0 < length ys → y ≡ get_or ys 0 y →
     IsClientReady w (place + 1) (h y)

@@ -8,7 +8,6 @@ use Rattle.std.specs.List.{drop-map}
 use Rattle.std.proofs.Math.ListN.{length-append}
 use Rattle.std.proofs.lemmas.Option.{slice_get-map, slice_get_within, get_or_from_slice_get}
 use Rattle.lock_messages.specs.declared.ids.TheConstants.{MAX_NODES, MAX_CLIENTS}
-use Rattle.lock_model.specs.declared.problems.Problem.{Problem}
 use Rattle.lock_model.specs.Ballots.{Ballot}
 use Rattle.stable_record.specs.Records.{IsNodeRecord}
 use Rattle.world_machine.specs.Keeping.{record_in, KeepsRecords}
@@ -34,7 +33,7 @@ image_at f xs i x at = slice_get-map f xs i ∙ ap (option_map f) at
 
 -- one node
 node_at : (w : ExactWorld) (votes : List Ballot) (stations : List ExactStation) (attempts : List ℕ) → w ≡ resumed votes stations attempts → KeepsRecords w → (i : ℕ) (s : ExactStation) → slice_get stations i ≡ Some s →
-    IsNodeReady w (i + 0 + 1) s.problem (finds_station s)
+    IsNodeReady w (i + 0 + 1) (finds_station s)
 node_at w votes stations attempts is keeps i s at =
     let nodes : w.nodes ≡ map down_node stations = ap (λ (v : ExactWorld). v.nodes) is in
     let there : slice_get w.nodes i ≡ Some (down_node s) = ap (λ xs. slice_get xs i) nodes ∙ image_at down_node stations i s at in
@@ -43,7 +42,6 @@ node_at w votes stations attempts is keeps i s at =
       kept = record_in s;
       part = ap node_part (at_place w.nodes i (down_node s) there);
       good = subst (λ (v : ExactNode). IsNodeRecord (record_in v.kept)) is_there good;
-      problem = refl;
       finds = refl;
     }
 
@@ -61,24 +59,19 @@ client_at w votes stations attempts is sound i a at =
     }
 
 -- each node is ready with what the first records find
-pub ready_nodes : (w : ExactWorld) (votes : List Ballot) (stations : List ExactStation) (attempts : List ℕ) (problems : List Problem) (found : List (List (List ℕ))) → w ≡ resumed votes stations attempts → KeepsRecords w →
-    problems ≡ map (λ s. s.problem) stations → found ≡ map finds_station stations → AreNodesReady 0 w problems found
-ready_nodes w votes stations attempts problems found is keeps by_problem by_station i p strings at_p at_s = go (slice_get stations i) refl
+pub ready_nodes : (w : ExactWorld) (votes : List Ballot) (stations : List ExactStation) (attempts : List ℕ) (found : List (List (List ℕ))) → w ≡ resumed votes stations attempts → KeepsRecords w → found ≡ map finds_station stations →
+    AreNodesReady 0 w found
+ready_nodes w votes stations attempts found is keeps by_station i strings at_s = go (slice_get stations i) refl
   where
-    problem_at : option_map (λ s. s.problem) (slice_get stations i) ≡ Some p
-    problem_at = sym (slice_get-map (λ s. s.problem) stations i) ∙ ap (λ xs. slice_get xs i) (sym by_problem) ∙ at_p
-
     found_at : option_map finds_station (slice_get stations i) ≡ Some strings
     found_at = sym (slice_get-map finds_station stations i) ∙ ap (λ xs. slice_get xs i) (sym by_station) ∙ at_s
 
-    go : (o : Option ExactStation) → slice_get stations i ≡ o → IsNodeReady w (i + 0 + 1) p strings
-    go None e = absurd (let q : None ≡ Some p = sym (ap (option_map (λ s. s.problem)) e) ∙ problem_at in cc)
+    go : (o : Option ExactStation) → slice_get stations i ≡ o → IsNodeReady w (i + 0 + 1) strings
+    go None e = absurd (let q : None ≡ Some strings = sym (ap (option_map finds_station) e) ∙ found_at in cc)
     go (Some s) e =
-        let h : Some s.problem ≡ Some p = sym (ap (option_map (λ s. s.problem)) e) ∙ problem_at in
         let k : Some (finds_station s) ≡ Some strings = sym (ap (option_map finds_station) e) ∙ found_at in
-        let same : s.problem ≡ p = cc in
         let finds : finds_station s ≡ strings = cc in
-        subst (λ q. IsNodeReady w (i + 0 + 1) q strings) same (subst (λ l. IsNodeReady w (i + 0 + 1) s.problem l) finds (node_at w votes stations attempts is keeps i s e))
+        subst (λ l. IsNodeReady w (i + 0 + 1) l) finds (node_at w votes stations attempts is keeps i s e)
 
 -- each client is ready with what the other records find
 pub ready_clients : (w : ExactWorld) (votes : List Ballot) (stations : List ExactStation) (attempts : List ℕ) (found : List (List (List ℕ))) → w ≡ resumed votes stations attempts → IsSound w → found ≡ map finds_attempt attempts →
@@ -102,7 +95,7 @@ front f xs ys zs n is count = sym (take-map f n xs) ∙ ap (take n) is ∙ ap (�
 pub back : {X Y : Type 0} (f : X → Y) (xs : List X) (ys zs : List Y) (n : ℕ) → map f xs ≡ ys ++ zs → n ≡ length ys → map f (drop n xs) ≡ zs
 back f xs ys zs n is count = sym (drop-map f n xs) ∙ ap (drop n) is ∙ ap (λ k. drop k (ys ++ zs)) count ∙ drop-append_seam ys zs
 
--- as many as the stations, and as many as these with the attempts
+-- as many as these, and as many as the stations with the attempts
 pub as_many : {X Y Z : Type 0} (f : X → Y) (h : Z → Y) (xs : List X) (zs : List Z) → map f xs ≡ map h zs → length xs ≡ length zs
 as_many f h xs zs is = sym (length-map xs f) ∙ ap length is ∙ length-map zs h
 

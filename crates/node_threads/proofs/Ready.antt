@@ -4,7 +4,6 @@ use Rattle.std.proofs.lemmas.List.Elements.{filter_passes, All-filter}
 use Rattle.std.proofs.lemmas.List.Sums.{length-filter, count_by-le-length}
 use Rattle.lock_messages.specs.declared.ids.Actor.{Actor}
 use Rattle.lock_messages.specs.declared.ids.Actor.TheVariants as actor
-use Rattle.lock_model.specs.declared.problems.Problem.{Problem}
 use Rattle.lock_model.specs.Ballots.{Ballot, HasPlace}
 use Rattle.history_check.specs.declared.wishes.Wish.{Wish}
 use Rattle.history_book.specs.Books.{BookValue, BerthValue, IsGiven}
@@ -23,8 +22,8 @@ use Rattle.node_threads.specs.Tasks.{IsNodeTask, IsClientTask, own_wishes}
 opens : (who : Actor) (b b' : BookValue) (k : BerthValue) → IsGiven who b k b' → part k.opening k.actor ≡ part b.opening who
 opens who b b' k given = ap (λ w. part w k.actor) given.opening ∙ ap (part b.opening) given.actor
 
-pub node_ready : (n : ℕ) (p : Problem) (strings : List (List ℕ)) (b b' : BookValue) (k : BerthValue) → IsNodeReady b.opening n p strings → IsGiven (actor.Node n) b k b' → IsNodeTask b.table n k p strings
-node_ready n p strings b b' k ready given =
+pub node_ready : (n : ℕ) (strings : List (List ℕ)) (b b' : BookValue) (k : BerthValue) → IsNodeReady b.opening n strings → IsGiven (actor.Node n) b k b' → IsNodeTask b.table n k strings
+node_ready n strings b b' k ready given =
     let at : (log_of k).opening ≡ NodePart (down_node (station_in ready.kept)) = opens (actor.Node n) b b' k given ∙ ready.part in record {
       table = given.table;
       kept = ready.kept;
@@ -32,7 +31,6 @@ node_ready n p strings b b' k ready given =
         unused = record { actor = given.actor; events = given.own; down = subst (IsDownAtRest (actor.Node n)) (sym at) (refl, refl) };
         opening = at;
         good = ready.good;
-        problem = ready.problem;
         finds = ready.finds;
       };
     }

@@ -2,7 +2,6 @@
 use Rattle.std.specs.Prelude.{◌≡◌, ℕ, ◌≤◌, ◌==◌, List, length, filter, All}
 use Rattle.berth_seats.specs.Views.{TableId}
 use Rattle.lock_messages.specs.declared.ids.Actor.TheVariants as actor
-use Rattle.lock_model.specs.declared.problems.Problem.{Problem}
 use Rattle.lock_model.specs.Ballots.{Ballot}
 use Rattle.stable_record.specs.declared.node_records.NodeRecord.{NodeRecord}
 use Rattle.history_check.specs.declared.wishes.Wish.{Wish}
@@ -14,12 +13,11 @@ use Rattle.history_check.specs.declared.wishes.TheConstants.{MAX_WISHES}
 use Rattle.client_loop.specs.Standing.{KeepsAttempt}
 use Rattle.client_loop.specs.Visits.{ArePlaced}
 
--- The node's berth is of the book of this table, and its policy and its record are those of what it has
--- kept.
-pub record IsNodeTask (book : TableId) (n : ℕ) (k : BerthValue) (p : Problem) (strings : List (List ℕ)) : Type 0 where
+-- The node's berth is of the book of this table, and its record is that of what it has kept.
+pub record IsNodeTask (book : TableId) (n : ℕ) (k : BerthValue) (strings : List (List ℕ)) : Type 0 where
   pub table : k.table ≡ book
   pub kept : NodeRecord
-  pub ready : IsReady (log_of k) n kept p strings
+  pub ready : IsReady (log_of k) n kept strings
 
 -- the wishes of this client among these, in order
 abbrev pub own_wishes : ℕ → List Wish → List Wish

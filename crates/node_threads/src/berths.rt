@@ -9,7 +9,7 @@ ghost use Rattle.node_threads.specs.Actors.{IsNodeReady, IsClientReady, AreNodes
 ghost use Rattle.node_threads.specs.Tasks.{IsNodeTask, IsClientTask, own_wishes};
 
 use crate::tasks::{ClientTask, NodeTask};
-use admission_policy::Admission;
+use admission_policy::Pair;
 use event_recorders::RunFault;
 use history_book::{Berth, Book};
 use history_check::{MAX_WISHES, Wish};
@@ -38,11 +38,11 @@ fn node_task<R: Wait + Copy>(
     book: &mut Book,
     node: NodeId,
     stable: Box<dyn StableRecord + Send>,
-    policy: Box<dyn Admission + Send>,
+    policies: Pair,
     link: ChannelLink<R>,
 ) -> Result<NodeTask<R>, RunFault>
-    requires { IsNodeReady book.old.opening node (problem_of policy) (finds stable) }
-    ensures task { IfOk result (λ task. IsNodeTask book.old.table task.node task.berth (problem_of task.policy) (finds task.stable)) }
+    requires { IsNodeReady book.old.opening node (finds stable) }
+    ensures task { IfOk result (λ task. IsNodeTask book.old.table task.node task.berth (finds task.stable)) }
     ensures node { IfOk result (λ task. task.node ≡ node) }
     ensures link { IfOk result (λ task. task.link ≡ link) }
     ensures table { IfOk result (λ _. book.new.table ≡ book.old.table) }
@@ -54,7 +54,7 @@ fn node_task<R: Wait + Copy>(
         node,
         berth,
         stable,
-        policy,
+        policies,
         link,
     })
 }
@@ -111,33 +111,33 @@ fn client_task<R: Wait + Copy>(
 pub(crate) fn node_tasks<R: Wait + Copy>(
     alloc: Global,
     book: &mut Book,
-    policies: Vec<Box<dyn Admission + Send>>,
+    pairs: Vec<Pair>,
     records: Vec<Box<dyn StableRecord + Send>>,
     links: Vec<ChannelLink<R>>,
 ) -> Result<Vec<NodeTask<R>>, RunFault>
-    requires few { length policies.items ≤ MAX_NODES }
-    requires records { length records.items ≡ length policies.items }
-    requires links { length links.items ≡ length policies.items }
-    requires ready { AreNodesReady 0 book.old.opening (map (λ p. problem_of p) policies.items) (map (λ r. finds r) records.items) }
-    ensures tasks { IfOk result (λ tasks. All (λ task. IsNodeTask book.old.table task.node task.berth (problem_of task.policy) (finds task.stable)) tasks.items) }
+    requires few { length pairs.items ≤ MAX_NODES }
+    requires records { length records.items ≡ length pairs.items }
+    requires links { length links.items ≡ length pairs.items }
+    requires ready { AreNodesReady 0 book.old.opening (map (λ r. finds r) records.items) }
+    ensures tasks { IfOk result (λ tasks. All (λ task. IsNodeTask book.old.table task.node task.berth (finds task.stable)) tasks.items) }
     // There is a task for each node, and each has the link of its place.
-    ensures all_nodes { IfOk result (λ tasks. map (λ task. task.node) tasks.items ≡ range_with_len 1 (length policies.items)) }
+    ensures all_nodes { IfOk result (λ tasks. map (λ task. task.node) tasks.items ≡ range_with_len 1 (length pairs.items)) }
     ensures links { IfOk result (λ tasks. map (λ task. task.link) tasks.items ≡ links.items) }
     ensures table { IfOk result (λ _. book.new.table ≡ book.old.table) }
     ensures opening { IfOk result (λ _. book.new.opening ≡ book.old.opening) }
     ensures err { IfErr result (λ f. f ≡ RunFault.Memory) }
 {
-    let count = policies.len();
-    let (mut policies, mut records, mut links) = (policies, records, links);
+    let count = pairs.len();
+    let (mut pairs, mut records, mut links) = (pairs, records, links);
     let mut tasks = Vec::new(alloc);
     for place in 0..count {
         let Some(node) = NodeId::of(place as u8 + 1) else {
             unreachable!()
         };
-        let policy = policies.remove(0);
+        let policies = pairs.remove(0);
         let stable = records.remove(0);
         let link = links.remove(0);
-        let task = node_task(book, node, stable, policy, link)?;
+        let task = node_task(book, node, stable, policies, link)?;
         let Ok(()) = tasks.push(task) else {
             return Err(RunFault::Memory);
         };

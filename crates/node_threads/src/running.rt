@@ -19,7 +19,7 @@ use crate::berths::{client_tasks, node_tasks};
 use crate::ends::{ClientEnd, Ends, faults_of};
 use crate::runs::opened;
 use crate::tasks::{ClientTask, NodeTask};
-use admission_policy::Admission;
+use admission_policy::Pair;
 use book_recorders::Logs;
 use event_recorders::{Gate, RunFault};
 use history_book::{Berth, Book, BookFault};
@@ -106,16 +106,16 @@ fn tasks_of<R: Wait + Copy>(
     ballots: BallotList,
     wishes: &[Wish],
     records: Vec<Box<dyn StableRecord + Send>>,
-    policies: Vec<Box<dyn Admission + Send>>,
+    pairs: Vec<Pair>,
     weather: &Weather,
     book: &mut Book,
 ) -> Result<Tasks<R>, RunFault>
-    requires may { MayRun book.old.opening ballots (map (λ p. problem_of p) policies.items) (map (λ r. finds r) records.items) }
+    requires may { MayRun book.old.opening ballots (length pairs.items) (map (λ r. finds r) records.items) }
     requires keeps { KeepsRecords book.old.opening }
     requires sound { IsSound book.old.opening }
     requires few { length wishes.now ≤ MAX_WISHES }
     requires placed { ArePlaced ballots wishes.now }
-    ensures nodes { IfOk result (λ tasks. All (λ task. IsNodeTask book.new.table task.node task.berth (problem_of task.policy) (finds task.stable)) tasks.nodes.items) }
+    ensures nodes { IfOk result (λ tasks. All (λ task. IsNodeTask book.new.table task.node task.berth (finds task.stable)) tasks.nodes.items) }
     ensures clients { IfOk result (λ tasks. All (λ task. IsClientTask book.new.table task.client task.ballots task.wishes.items task.berth (finds task.stable)) tasks.clients.items) }
     ensures own { IfOk result (λ tasks. All (λ task. task.wishes.items ≡ own_wishes task.client wishes.now) tasks.clients.items) }
     // There is a task for each node and each client of the world, and each has the link of its place in this weather.
@@ -127,7 +127,7 @@ fn tasks_of<R: Wait + Copy>(
     ensures opening { IfOk result (λ _. book.new.opening ≡ book.old.opening) }
     ensures err { IfErr result (λ f. f ≡ RunFault.Memory) }
 {
-    let count = policies.len();
+    let count = pairs.len();
     let others = records.len() - count;
     let Ok((node_links, client_links)) = links_of(rt, alloc, count, others, weather) else {
         return Err(RunFault::Memory);
@@ -136,7 +136,7 @@ fn tasks_of<R: Wait + Copy>(
     let Ok(client_records) = records.split_off(count) else {
         return Err(RunFault::Memory);
     };
-    let Ok(nodes) = node_tasks(alloc, book, policies, records, node_links) else {
+    let Ok(nodes) = node_tasks(alloc, book, pairs, records, node_links) else {
         return Err(RunFault::Memory);
     };
     let Ok(clients) = client_tasks(alloc, book, ballots, wishes, client_records, client_links)
@@ -169,8 +169,8 @@ fn tie_all(book: &mut Book, ends: Vec<ClientEnd>)
 ///
 /// The caller owes the world's own ballots; a world whose actors are all down with nothing tried, and whose
 /// list of messages is empty; one record an actor, nodes first, each of which finds just what its actor has
-/// kept in the world; one policy a node, of its record's problem; and wishes of the world's clients, at most
-/// `MAX_WISHES`, whose places the ballots have.
+/// kept in the world; one pair of policies a node; and wishes of the world's clients, at most `MAX_WISHES`,
+/// whose places the ballots have. No thread sends a switch of the problem; a caller's link may.
 ///
 /// The only error is that memory was refused or a thread couldn't be started (914). Then the threads that
 /// were started have ended, and what was handed in is dropped.
@@ -186,11 +186,11 @@ pub fn run_all<R: Threads + Wait + Copy + Send, G: Gate + Sync>(
     wishes: &[Wish],
     records: Vec<Box<dyn StableRecord + Send>>,
     world: World,
-    policies: Vec<Box<dyn Admission + Send>>,
+    pairs: Vec<Pair>,
     weather: Weather,
     gate: &G,
 ) -> Result<RunEnd, RunFault>
-    requires may { MayRun world ballots (map (λ p. problem_of p) policies.items) (map (λ r. finds r) records.items) }
+    requires may { MayRun world ballots (length pairs.items) (map (λ r. finds r) records.items) }
     requires few { length wishes.now ≤ MAX_WISHES }
     requires placed { ArePlaced ballots wishes.now }
     requires theirs { All (λ wish. has_actor world (Actor.Client wish.client) ≡ true) wishes.now }
@@ -210,7 +210,7 @@ pub fn run_all<R: Threads + Wait + Copy + Send, G: Gate + Sync>(
         return Err(RunFault::Memory);
     };
     let Ok(tasks) = tasks_of(
-        rt, alloc, ballots, wishes, records, policies, &weather, &mut book,
+        rt, alloc, ballots, wishes, records, pairs, &weather, &mut book,
     ) else {
         return Err(RunFault::Memory);
     };

@@ -26,7 +26,7 @@ fn named<B: BookName + Send, K: Logs + Send, R: Threads + Wait + Copy + Send, G:
     gate: &G,
 ) -> (K, Result<Ends, RunFault>)
     requires table { (K.book book).table ≡ B.table }
-    requires nodes { All (λ task. IsNodeTask B.table task.node task.berth (problem_of task.policy) (finds task.stable)) nodes.items }
+    requires nodes { All (λ task. IsNodeTask B.table task.node task.berth (finds task.stable)) nodes.items }
     requires clients { All (λ task. IsClientTask B.table task.client task.ballots task.wishes.items task.berth (finds task.stable)) clients.items }
     ensures table { (K.book result.0).table ≡ (K.book book).table }
     ensures nodes { IfOk result.1 (λ ends. AreNodeEnds (map (λ t. t.node) nodes.items) ends.nodes.items) }
@@ -53,7 +53,7 @@ pub(crate) fn opened<
     gate: &G,
 ) -> (K, Result<Ends, RunFault>)
     requires opening { (K.book book).opening ≡ O.world }
-    requires nodes { All (λ task. IsNodeTask (K.book book).table task.node task.berth (problem_of task.policy) (finds task.stable)) nodes.items }
+    requires nodes { All (λ task. IsNodeTask (K.book book).table task.node task.berth (finds task.stable)) nodes.items }
     requires clients { All (λ task. IsClientTask (K.book book).table task.client task.ballots task.wishes.items task.berth (finds task.stable)) clients.items }
     ensures opening { (K.book result.0).opening ≡ O.world }
     ensures table { (K.book result.0).table ≡ (K.book book).table }

@@ -5,7 +5,7 @@ ghost use Rattle.node_threads.specs.Ends.{IsNodeEnd, IsClientEnd};
 ghost use Rattle.node_threads.specs.Tasks.{IsNodeTask, IsClientTask};
 
 use crate::ends::{ClientEnd, NodeEnd};
-use admission_policy::Admission;
+use admission_policy::Pair;
 use book_recorders::{BookName, BookRecorder, Logs, Named};
 use client_loop::run_client;
 use event_recorders::Gate;
@@ -25,7 +25,7 @@ pub(crate) struct NodeTask<R: Wait + Copy> {
     pub(crate) node: NodeId,
     pub(crate) berth: Berth,
     pub(crate) stable: Box<dyn StableRecord + Send>,
-    pub(crate) policy: Box<dyn Admission + Send>,
+    pub(crate) policies: Pair,
     pub(crate) link: ChannelLink<R>,
 }
 
@@ -48,7 +48,7 @@ pub(crate) fn do_node<B: BookName, K: Logs, R: Wait + Copy, G: Gate>(
     book: &Mutex<Named<B, K>>,
     gate: &G,
 ) -> NodeEnd
-    requires { IsNodeTask B.table task.node task.berth (problem_of task.policy) (finds task.stable) }
+    requires { IsNodeTask B.table task.node task.berth (finds task.stable) }
     ensures node { result.node ≡ task.node }
     ensures end { IsNodeEnd result }
 {
@@ -56,7 +56,7 @@ pub(crate) fn do_node<B: BookName, K: Logs, R: Wait + Copy, G: Gate>(
         node,
         berth,
         stable,
-        policy,
+        policies,
         link,
     } = task;
     let mut link = link;
@@ -66,7 +66,7 @@ pub(crate) fn do_node<B: BookName, K: Logs, R: Wait + Copy, G: Gate>(
         alloc,
         node,
         stable,
-        policy,
+        policies,
         &mut recorder,
         &mut link,
         gate,

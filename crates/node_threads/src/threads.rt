@@ -57,7 +57,7 @@ fn start_nodes<
     book: &'s Mutex<Named<B, K>>,
     gate: &'s G,
 ) -> Result<Vec<PromisedHandle<NodeEnd, OfNode>>, RunFault>
-    requires { All (λ task. IsNodeTask B.table task.node task.berth (problem_of task.policy) (finds task.stable)) nodes.items }
+    requires { All (λ task. IsNodeTask B.table task.node task.berth (finds task.stable)) nodes.items }
     ensures named { IfOk result (λ threads. map (λ t. t.promise.node) threads.items ≡ map (λ t. t.node) nodes.items) }
     ensures err { IfErr result (λ f. f ≡ RunFault.Memory) }
 {
@@ -67,7 +67,7 @@ fn start_nodes<
         let Ok(handle) = scope.spawn_with(
             promise,
             move || -> NodeEnd
-                requires { IsNodeTask B.table task.node task.berth (problem_of task.policy) (finds task.stable) }
+                requires { IsNodeTask B.table task.node task.berth (finds task.stable) }
                 ensures node { result.node ≡ task.node }
                 ensures end { IsNodeEnd result }
             { do_node(rt, alloc, task, book, gate) },
@@ -172,7 +172,7 @@ pub(crate) fn run_threads<
     book: &Mutex<Named<B, K>>,
     gate: &G,
 ) -> Result<Ends, RunFault>
-    requires nodes { All (λ task. IsNodeTask B.table task.node task.berth (problem_of task.policy) (finds task.stable)) nodes.items }
+    requires nodes { All (λ task. IsNodeTask B.table task.node task.berth (finds task.stable)) nodes.items }
     requires clients { All (λ task. IsClientTask B.table task.client task.ballots task.wishes.items task.berth (finds task.stable)) clients.items }
     ensures nodes { IfOk result (λ ends. AreNodeEnds (map (λ t. t.node) nodes.items) ends.nodes.items) }
     ensures clients { IfOk result (λ ends. AreClientEnds (map (λ t. with_wishes t.client t.wishes.items t.berth.table) clients.items) ends.clients.items) }
@@ -183,7 +183,7 @@ pub(crate) fn run_threads<
         &rt,
         move |scope| -> Result<Ends, RunFault>
             requires cross { IsSend B.row × IsSend K.row × IsSend R.row × IsSync G.row }
-            requires nodes { All (λ task. IsNodeTask B.table task.node task.berth (problem_of task.policy) (finds task.stable)) nodes.items }
+            requires nodes { All (λ task. IsNodeTask B.table task.node task.berth (finds task.stable)) nodes.items }
             requires clients { All (λ task. IsClientTask B.table task.client task.ballots task.wishes.items task.berth (finds task.stable)) clients.items }
             ensures nodes { IfOk result (λ ends. AreNodeEnds (map (λ t. t.node) nodes.items) ends.nodes.items) }
             ensures clients { IfOk result (λ ends. AreClientEnds (map (λ t. with_wishes t.client t.wishes.items t.berth.table) clients.items) ends.clients.items) }

@@ -19,3 +19,4 @@ fits w effect.Outside h = tt
 fits w effect.Softened h = tt
 fits w effect.Down h = tt
 fits w effect.Up h = tt
+fits w (effect.Switched changed) h = tt

@@ -4,7 +4,6 @@ pub mod WishFacts
 pub mod TextFacts
 pub mod AnswerFacts
 pub mod HeadFacts
-pub mod OrderFacts
 pub mod OpeningFacts
 pub mod ScriptFacts
 pub mod ServeFacts

@@ -11,7 +11,7 @@ use Rattle.history_check.specs.Lines as lines
 abbrev pub commands : List Command
 commands =
     command.Begin ∷ command.Try ∷ command.Kept ∷ command.SayTo ∷ command.Say ∷ command.Take ∷ command.Hear ∷ command.Enter ∷ command.Leave ∷ command.Soften
-    ∷ command.Fall ∷ command.Rise ∷ command.Inside ∷ command.Waiting ∷ command.Holding ∷ []
+    ∷ command.Fall ∷ command.Rise ∷ command.Switch ∷ command.Inside ∷ command.Waiting ∷ command.Holding ∷ []
 
 -- What a line says, given without its line feed: an event or a query, or what is wrong with it.
 unfoldable pub line_of : List ℕ → Result Line LineFault

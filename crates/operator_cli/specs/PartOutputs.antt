@@ -55,6 +55,7 @@ SaidFits effect.Outside = Unit {0}
 SaidFits effect.Softened = Unit {0}
 SaidFits effect.Down = Unit {0}
 SaidFits effect.Up = Unit {0}
+SaidFits (effect.Switched changed) = Unit {0}
 
 -- What a call found of the tickets that a query asks for: these; or that the node isn't there; or
 -- memory was refused, and it is.

@@ -187,7 +187,7 @@ onto front (Err e) = Err e
 abbrev pub listed : List Ballot → Result (List Ballot) SettingsFault
 listed ballots = ballot_said (list_unless (list_fault_of ballots) ballots)
 
--- What the values say of the world: the numbers of the first ballot, the problem that all nodes solve, 1 or
+-- What the values say of the world: the numbers of the first ballot, the first problem of every node, 1 or
 -- 2, how many clients there are, and the numbers of more ballots. Each is needed but the last, and the
 -- question for the ballot does without the problem and the clients. First each value is judged by itself,
 -- then each ballot, and then the list of them.

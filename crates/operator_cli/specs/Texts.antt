@@ -28,9 +28,10 @@ found_text k (Some m) = sent_text k m
 unfoldable pub said_text : List Message → ℕ → ℕ → List ℕ
 said_text sent first count = flat_map (λ k. found_text k (numbered sent k)) (range_with_len first count)
 
-abbrev pub took_text : Bool → List ℕ
-took_text true = codes "changed\n"
-took_text false = codes "same\n"
+-- whether a node has another record than before, by a message or by a switch
+abbrev pub changed_text : Bool → List ℕ
+changed_text true = codes "changed\n"
+changed_text false = codes "same\n"
 
 abbrev pub heard_text : Heard → List ℕ
 heard_text heard.Counted = codes "counted\n"
@@ -47,13 +48,14 @@ effect_text sent effect.Tried = codes "tried\n"
 effect_text sent effect.Kept = codes "kept\n"
 effect_text sent (effect.Sent k m) = sent_text k m
 effect_text sent (effect.Said first count) = said_text sent first count
-effect_text sent (effect.Took m changed) = took_text changed
+effect_text sent (effect.Took m changed) = changed_text changed
 effect_text sent (effect.Heard m heard) = heard_text heard
 effect_text sent effect.Inside = codes "inside\n"
 effect_text sent effect.Outside = codes "outside\n"
 effect_text sent effect.Softened = codes "softened\n"
 effect_text sent effect.Down = codes "down\n"
 effect_text sent effect.Up = codes "up\n"
+effect_text sent (effect.Switched changed) = changed_text changed
 
 -- `refused 609`
 abbrev pub refused_text : ℕ → List ℕ

@@ -7,7 +7,7 @@ use crate::LineFault;
 use history_check::{Command, Line};
 
 /// The commands that a script reads: all that there are.
-const COMMANDS: [Command; 15] = [
+const COMMANDS: [Command; 16] = [
     Command::Begin,
     Command::Try,
     Command::Kept,
@@ -20,6 +20,7 @@ const COMMANDS: [Command; 15] = [
     Command::Soften,
     Command::Fall,
     Command::Rise,
+    Command::Switch,
     Command::Inside,
     Command::Waiting,
     Command::Holding,

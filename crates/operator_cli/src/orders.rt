@@ -1,11 +1,9 @@
 // What the program is asked to do, and the policies that the nodes decide by.
 
-ghost use Rattle.std.specs.Prelude.{◌≡◌, ◌≤◌, map, replicate, take};
+ghost use Rattle.std.specs.Prelude.{◌≡◌, ◌≤◌, length, take};
 ghost use Rattle.lock_messages.specs.declared.ids.TheConstants.{MAX_NODES};
-ghost use Rattle.lock_model.specs.declared.problems.Problem.TheVariants.{First, Second};
 
-use admission_policy::Admission;
-use lock_model::Problem;
+use admission_policy::Pair;
 
 /// What is to be done.
 #[derive(Clone, Copy, Debug, PartialEq, Eq)]
@@ -20,12 +18,11 @@ pub enum Command {
     Run { journal: bool },
 }
 
-/// Policies for as many nodes as there may be, of either problem: sixteen that solve problem 1, and
-/// sixteen that solve problem 2.
+/// Policies for as many nodes as there may be: sixteen pairs, each of a policy of problem 1 and one of
+/// problem 2.
 #[derive(Drop)]
 pub struct Policies {
-    pub first: Vec<Box<dyn Admission + Send>>,
-    pub second: Vec<Box<dyn Admission + Send>>,
+    pub pairs: Vec<Pair>,
 }
 
 /// A command, and the policies that serve it.
@@ -35,26 +32,16 @@ pub struct Order {
     pub policies: Policies,
 }
 
-/// So many of the policies, the first ones first.
-fn front(policies: Vec<Box<dyn Admission + Send>>, count: u8) -> Vec<Box<dyn Admission + Send>>
-    ensures { result.items ≡ take count policies.items }
-{
-    let mut policies = policies;
-    policies.truncate(count as usize);
-    policies
-}
-
-/// The policies of so many nodes that solve the problem, the first ones first; the others are dropped.
-/// The caller owes sixteen that solve each problem, and no more nodes than there may be.
-pub fn chosen(policies: Policies, problem: Problem, nodes: u8) -> Vec<Box<dyn Admission + Send>>
-    requires first { map problem_of policies.first.items ≡ replicate MAX_NODES First }
-    requires second { map problem_of policies.second.items ≡ replicate MAX_NODES Second }
+/// The pairs of so many nodes, the first ones first; the others are dropped. The caller owes sixteen pairs,
+/// and no more nodes than there may be.
+pub fn chosen(policies: Policies, nodes: u8) -> Vec<Pair>
+    requires pairs { length policies.pairs.items ≡ MAX_NODES }
     requires few { nodes ≤ MAX_NODES }
-    ensures { map problem_of result.items ≡ replicate nodes problem }
+    ensures first_ones { result.items ≡ take nodes policies.pairs.items }
+    ensures count { length result.items ≡ nodes }
 {
-    let Policies { first, second } = policies;
-    match problem {
-        Problem::First => front(first, nodes),
-        Problem::Second => front(second, nodes),
-    }
+    let Policies { pairs } = policies;
+    let mut pairs = pairs;
+    pairs.truncate(nodes as usize);
+    pairs
 }

@@ -1,8 +1,7 @@
 // A whole run of the program, from the bytes that come in to the bytes that go out.
 
-ghost use Rattle.std.specs.Prelude.{◌≡◌, ◌≤◌, map, replicate, IfOk};
+ghost use Rattle.std.specs.Prelude.{◌≡◌, ◌≤◌, length, IfOk};
 ghost use Rattle.lock_messages.specs.declared.ids.TheConstants.{MAX_NODES, MAX_CLIENTS};
-ghost use Rattle.lock_model.specs.declared.problems.Problem.TheVariants.{First, Second};
 ghost use Rattle.vote_weights.specs.Faults.{fault_number};
 ghost use Rattle.history_check.specs.Faults.{line_fault_number};
 ghost use Rattle.lossy_link.specs.Faults.{weather_fault_number};
@@ -206,11 +205,11 @@ fn serve_lines<R: Read, W: Write>(
     finish(came, &mut out, writer)
 }
 
-/// The world of the settings in which all actors are down and nothing is kept. The nodes get, in order, the
-/// first policies that solve the settings' problem.
+/// The world of the settings in which all actors are down and nothing is kept. The settings' problem is the
+/// first one of every node, and the nodes get the first of the pairs, in order.
 ///
-/// The only fault is want of memory (`Memory`, 933). The caller owes settings in range and sixteen policies
-/// that solve each problem.
+/// The only fault is want of memory (`Memory`, 933). The caller owes settings in range and sixteen pairs of
+/// policies.
 pub fn world_down(
     alloc: Global,
     settings: &Settings,
@@ -218,12 +217,17 @@ pub fn world_down(
 ) -> Result<World, ServeFault>
     requires some_client { 1 ≤ settings.now.clients }
     requires few_clients { settings.now.clients ≤ MAX_CLIENTS }
-    requires first { map problem_of policies.first.items ≡ replicate MAX_NODES First }
-    requires second { map problem_of policies.second.items ≡ replicate MAX_NODES Second }
+    requires policies { length policies.pairs.items ≡ MAX_NODES }
     ensures { IfOk result (λ w. w ≡ all_down settings.now) }
 {
-    let policies = chosen(policies, settings.problem, settings.ballots.nodes());
-    match World::start(alloc, settings.ballots, settings.clients, policies) {
+    let pairs = chosen(policies, settings.ballots.nodes());
+    match World::start(
+        alloc,
+        settings.ballots,
+        settings.clients,
+        settings.problem,
+        pairs,
+    ) {
         Ok(world) => Ok(world),
         Err(_) => Err(ServeFault::Memory),
     }
@@ -239,8 +243,7 @@ fn serve_script<R: Read, W: Write>(
 ) -> Result<u8, ServeFault>
     requires some_client { 1 ≤ settings.now.clients }
     requires few_clients { settings.now.clients ≤ MAX_CLIENTS }
-    requires first { map problem_of policies.first.items ≡ replicate MAX_NODES First }
-    requires second { map problem_of policies.second.items ≡ replicate MAX_NODES Second }
+    requires policies { length policies.pairs.items ≡ MAX_NODES }
     ensures { WritesBehind command.Script settings.now source.old (W.contents writer.old) (W.contents writer.new) result }
 {
     let Ok(mut world) = world_down(alloc, settings, policies) else {
@@ -288,8 +291,7 @@ fn serve_audit<R: Read, W: Write>(
 ) -> Result<u8, ServeFault>
     requires some_client { 1 ≤ settings.now.clients }
     requires few_clients { settings.now.clients ≤ MAX_CLIENTS }
-    requires first { map problem_of policies.first.items ≡ replicate MAX_NODES First }
-    requires second { map problem_of policies.second.items ≡ replicate MAX_NODES Second }
+    requires policies { length policies.pairs.items ≡ MAX_NODES }
     ensures { WritesBehind command.Audit settings.now source.old (W.contents writer.old) (W.contents writer.new) result }
 {
     let Ok(world) = world_down(alloc, settings, policies) else {
@@ -323,8 +325,7 @@ fn serve_behind<R: Read, W: Write>(
 ) -> Result<u8, ServeFault>
     requires some_client { 1 ≤ settings.now.clients }
     requires few_clients { settings.now.clients ≤ MAX_CLIENTS }
-    requires first { map problem_of order.policies.first.items ≡ replicate MAX_NODES First }
-    requires second { map problem_of order.policies.second.items ≡ replicate MAX_NODES Second }
+    requires policies { length order.policies.pairs.items ≡ MAX_NODES }
     requires served { IsServed order.command }
     ensures { WritesBehind order.command settings.now source.old (W.contents writer.old) (W.contents writer.new) result }
 {
@@ -346,11 +347,11 @@ fn serve_behind<R: Read, W: Write>(
 /// print `settings fault N` and nothing else, and the status is 2.
 ///
 /// - `Script`: every node and then every client rises with nothing kept, which prints nothing. Each line
-///   behind the settings is an event, which prints its effect, one line for each reply that a node says,
-///   or `refused N`; or a query, `inside NAME`, `waiting nN NAME` or `holding nN NAME`, which prints the
-///   tickets, or `refused 601` for a node that isn't there. A line that is neither prints `line L fault
-///   N` (lines count from 1) and is the last. The status is 1 where an event or a query was refused or
-///   a line was bad, else 0.
+///   behind the settings is an event, which prints its effect, one line for each reply that a node says
+///   and none where it has no reply, or `refused N`; or a query, `inside NAME`, `waiting nN NAME` or
+///   `holding nN NAME`, which prints the tickets, or `refused 601` for a node that isn't there. A line
+///   that is neither prints `line L fault N` (lines count from 1) and is the last. The status is 1 where
+///   an event or a query was refused or a line was bad, else 0.
 /// - `Audit`: the lines behind the settings are a journal from the world in which all actors are down.
 ///   They are judged as they come, as `journal_audit::audit` does it, and the verdict's line is printed.
 ///   The status is 0 where the journal is sound, else 1.
@@ -360,11 +361,10 @@ fn serve_behind<R: Read, W: Write>(
 ///
 /// Contracts speak of what the reader has left and of what the writer holds, where these are known.
 /// What is written is the command's output of the bytes that were left, or `settings fault 925` where
-/// memory was refused for the settings. The caller owes policies of the right problems: sixteen that
-/// solve problem 1 and sixteen that solve problem 2. The nodes get, in order, the first of those that
-/// solve the settings' problem; the others are dropped. It also owes an order for one of these three
-/// commands: `Run` takes threads, and is served by a call of its own (`run_service::serve_run`). The texts
-/// are our own.
+/// memory was refused for the settings. The settings' problem is the first one of every node, which an
+/// event may switch. The caller owes sixteen pairs of policies: the nodes get, in order, the first of
+/// them, and the others are dropped. It also owes an order for one of these three commands: `Run` takes
+/// threads, and is served by a call of its own (`run_service::serve_run`). The texts are our own.
 ///
 /// # Errors
 ///
@@ -381,8 +381,7 @@ pub fn serve<R: Read, W: Write>(
 ) -> Result<u8, ServeFault>
 where
     R: Drop,
-    requires first { map problem_of order.policies.first.items ≡ replicate MAX_NODES First }
-    requires second { map problem_of order.policies.second.items ≡ replicate MAX_NODES Second }
+    requires policies { length order.policies.pairs.items ≡ MAX_NODES }
     requires served { IsServed order.command }
     ensures output { Serves order.command (R.remaining reader) (W.contents writer.old) (W.contents writer.new) result }
 {

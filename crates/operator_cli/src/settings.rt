@@ -20,7 +20,7 @@ use std::str;
 use toml::{Table, Value};
 use vote_weights::{Ballot, BallotList};
 
-/// What settings say of the world: the ballots, the problem that all nodes solve, and how many clients
+/// What settings say of the world: the ballots, the first problem of every node, and how many clients
 /// there are, 1 to 1,024.
 #[derive(Clone, Copy, Debug, PartialEq, Eq)]
 pub struct Settings {
@@ -245,7 +245,7 @@ fn problem_numbered(number: u16) -> Problem
     }
 }
 
-/// The problem that all nodes solve.
+/// The first problem of every node.
 fn problem_at(command: Command, table: &Table) -> Result<Problem, SettingsFault>
     ensures { Judges (λ p. p) result (problem_at command (table_view table.now)) }
 {

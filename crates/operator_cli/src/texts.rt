@@ -3,7 +3,7 @@
 ghost use Rattle.std.specs.Prelude.{◌≡◌, ◌+◌, ◌<◌, ◌≤◌, ◌++◌, OnOk, string_bytes};
 ghost use Rattle.std.specs.List.{flat_map};
 ghost use Rattle.operator_cli.specs.PartOutputs.{SaidFits};
-ghost use Rattle.operator_cli.specs.Texts.{sent_text, found_text, said_text, took_text, heard_text, effect_text, refused_text, member_text, other_text, members_text, answer_text, line_fault_text, ballot_text, ballots_text};
+ghost use Rattle.operator_cli.specs.Texts.{sent_text, found_text, said_text, changed_text, heard_text, effect_text, refused_text, member_text, other_text, members_text, answer_text, line_fault_text, ballot_text, ballots_text};
 ghost use Rattle.world_model.specs.declared.TheConstants.{MAX_MESSAGES};
 ghost use Rattle.world_model.specs.ExactWorlds.{numbered};
 
@@ -44,6 +44,13 @@ fn push_said(text: &mut String, world: &World, first: u32, count: u32) -> Result
     Ok(())
 }
 
+/// Whether a node has another record than before.
+fn changed_text(changed: bool) -> &'static str
+    ensures { result.now ≡ changed_text changed }
+{
+    if changed { "changed\n" } else { "same\n" }
+}
+
 /// What a client made of a message.
 fn heard_text(heard: Heard) -> &'static str
     ensures { result.now ≡ heard_text heard }
@@ -73,14 +80,14 @@ pub(crate) fn push_effect(
         Effect::Kept => text.push_str("kept\n"),
         Effect::Sent(number, message) => push_sent(text, number, &message),
         Effect::Said { first, count } => push_said(text, world, first, count),
-        Effect::Took(_, true) => text.push_str("changed\n"),
-        Effect::Took(_, false) => text.push_str("same\n"),
+        Effect::Took(_, changed) => text.push_str(changed_text(changed)),
         Effect::Heard(_, heard) => text.push_str(heard_text(heard)),
         Effect::Inside => text.push_str("inside\n"),
         Effect::Outside => text.push_str("outside\n"),
         Effect::Softened => text.push_str("softened\n"),
         Effect::Down => text.push_str("down\n"),
         Effect::Up => text.push_str("up\n"),
+        Effect::Switched(changed) => text.push_str(changed_text(changed)),
     }
 }
 

@@ -1,7 +1,8 @@
 //! What a node decides, by the plain decision and by a node's core, which answer the same: scripts
 //! of messages, each with its replies.
 
-use crate::nodes::{FIRST, SECOND, SETTLED, WRITER_WAITS, has_record, policy_of, risen, same_step};
+use crate::nodes::{FIRST, SECOND, SETTLED, WRITER_WAITS, has_record, risen, same_step};
+use crate::pairs::plain;
 use crate::rows::{message, release};
 use crate::tables::{Table, each};
 use lock_messages::Message;
@@ -44,7 +45,7 @@ pub(crate) fn new_core(alloc: Global, problem: Problem) -> Option<NodeCore> {
         Problem::First => FIRST,
         Problem::Second => SECOND,
     };
-    risen(alloc, &record, policy_of(alloc, problem)?)
+    risen(alloc, &record, plain(alloc)?)
 }
 
 /// The entries after a row's message; none where its replies are not the row's.

@@ -62,9 +62,8 @@ const RECORDS: [RecordFault; 19] = [
     RecordFault::ClientTrailing,
 ];
 
-const VOTERS: [VoterFault; 3] = [
+const VOTERS: [VoterFault; 2] = [
     VoterFault::Unreadable(RecordFault::Short),
-    VoterFault::OtherProblem,
     VoterFault::Memory,
 ];
 
@@ -114,11 +113,10 @@ const TEXTS: &str = "\
 323 no attempt has this number
 324 bytes follow the client record
 501 the node record can't be read: the node record ends within a field
-502 the node record is of the other problem
 503 out of memory
 613 there was no memory
 621 an entry is above the attempt that its client has kept
-622 the actor's record can't be read, or is of the other problem
+622 the actor's record can't be read
 701 an attempt is under way
 702 no attempt is left
 703 there is no ballot at this place

@@ -27,6 +27,8 @@ mod long_runs;
 #[cfg(test)]
 mod nodes;
 #[cfg(test)]
+mod pairs;
+#[cfg(test)]
 mod policies;
 #[cfg(test)]
 mod record_tables;
@@ -36,6 +38,8 @@ mod records;
 mod restarts;
 #[cfg(test)]
 mod rows;
+#[cfg(test)]
+mod switches;
 #[cfg(test)]
 mod tables;
 #[cfg(test)]

@@ -4,7 +4,9 @@
 ghost use Rattle.std.specs.Prelude.{◌≤◌};
 
 use crate::decisions::new_core;
-use crate::nodes::{keeps, policy_of, risen, same_step, speaks, takes};
+use crate::nodes::{keeps, risen, same_step, speaks, takes};
+use crate::pairs::plain;
+use crate::switches::{entries_of, other, switched};
 use lock_messages::{Attempt, ClientId, Message, Mode, NodeId, ResourceName, Ticket};
 use lock_model::{Entry, Live, Problem, Status};
 use rand_core::utils::NextWord;
@@ -106,13 +108,15 @@ fn same_line(one: &ResourceIndex, other: &ResourceIndex, resource: &ResourceName
     }
 }
 
-/// Whether the index that the core keeps is that of its record, at the three resources.
-fn keeps_its_index(alloc: Global, core: &NodeCore) -> Option<bool> {
+/// Whether the index that the core keeps is that of its record, at each resource from `a` to `h`.
+pub(crate) fn keeps_its_index(alloc: Global, core: &NodeCore) -> Option<bool> {
     let fresh = ResourceIndex::of(alloc, core.record()).ok()?;
-    let same = same_line(core.index(), &fresh, &ResourceName::of(b"a")?)
-        && same_line(core.index(), &fresh, &ResourceName::of(b"b")?)
-        && same_line(core.index(), &fresh, &ResourceName::of(b"c")?);
-    Some(same)
+    for letter in b"abcdefgh" {
+        if !same_line(core.index(), &fresh, &ResourceName::of(&[*letter])?) {
+            return Some(false);
+        }
+    }
+    Some(true)
 }
 
 /// Whether the index goes along with the entries over the same 2,000 messages.
@@ -134,6 +138,31 @@ fn goes_along(alloc: Global, problem: Problem) -> Option<bool> {
 fn index_of_long_runs(rt: HostRuntime) -> Outcome {
     check_answer(goes_along(rt.alloc(), Problem::First), 1)?;
     check_answer(goes_along(rt.alloc(), Problem::Second), 2)
+}
+
+/// Whether a node goes on as the plain decision does over 2,000 messages, while every tenth turn gives it
+/// the next of both problems in turn; and its index goes along. Of the switches some let in a reader.
+fn agrees_through_switches(alloc: Global, first: Problem) -> Option<bool> {
+    let mut core = new_core(alloc, first)?;
+    let mut words = Pcg32::new(SEED, 1);
+    let mut problem = first;
+    let mut let_in = 0usize;
+    for turn in 0..2_000u64 {
+        let message = some_message(&mut words, turn / 100)?;
+        let entries = entries_of(alloc, &core)?;
+        same_step(alloc, problem, &mut core, &entries, &message)?;
+        if turn % 10 == 9 {
+            problem = other(problem);
+            let_in = let_in.saturating_add(switched(alloc, &mut core, problem)?);
+        }
+    }
+    Some(let_in >= 20)
+}
+
+#[test]
+fn long_runs_through_switches(rt: HostRuntime) -> Outcome {
+    check_answer(agrees_through_switches(rt.alloc(), Problem::First), 1)?;
+    check_answer(agrees_through_switches(rt.alloc(), Problem::Second), 2)
 }
 
 /// Whether a hundred readers of one resource come and go again, each with one reply.
@@ -233,9 +262,8 @@ fn lets_in(
 
 /// Whether c1's message, by which it holds no longer or as a reader, lets in c2 to c1024, in this order.
 fn lets_all_in(alloc: Global, message: Option<Message>) -> Option<bool> {
-    let policy = policy_of(alloc, Problem::First)?;
     let bytes = record_of_waiters(alloc)?;
-    let mut core = risen(alloc, &bytes, policy)?;
+    let mut core = risen(alloc, &bytes, plain(alloc)?)?;
     let entries = waiters(alloc)?;
     lets_in(alloc, &mut core, &entries, &message?)
 }

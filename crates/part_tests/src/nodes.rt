@@ -1,7 +1,7 @@
 //! What the tests of nodes share: a node's core beside the plain decision.
 
 use crate::rows::bytes;
-use admission_policy::{Admission, FirstProblem, SecondProblem};
+use admission_policy::Pair;
 use lock_messages::{Message, NodeId};
 use lock_model::{Decision, Entry, Problem, decide};
 use stable_record::{NodeRecord, read_node};
@@ -25,33 +25,21 @@ pub(crate) const SETTLED: &str = "01 02 0003 \
 00000002 0000000000000001 00 \
 00000003 0000000000000000 02 0000000000000001 00 01 61";
 
+/// The record in which a writer waits once the node has taken problem 1: c3 holds too.
+pub(crate) const SWITCHED: &str = "01 01 0003 \
+00000001 0000000000000000 02 0000000000000001 00 01 61 \
+00000002 0000000000000000 01 0000000000000001 01 01 61 \
+00000003 0000000000000000 02 0000000000000001 00 01 61";
+
 /// c1, which was a writer, is softened and holds `a` as a reader beside c2; c3 waits for it as a writer.
 pub(crate) const SOFTENED: &str = "01 01 0003 \
 00000001 0000000000000000 03 0000000000000001 00 01 61 \
 00000002 0000000000000000 02 0000000000000001 00 01 61 \
 00000003 0000000000000000 01 0000000000000001 01 01 61";
 
-/// The plain policy of a problem.
-pub(crate) fn policy_of(alloc: Global, problem: Problem) -> Option<Box<dyn Admission + Send>> {
-    match problem {
-        Problem::First => {
-            let policy: Box<dyn Admission + Send> = Box::new(alloc, FirstProblem).ok()?;
-            Some(policy)
-        }
-        Problem::Second => {
-            let policy: Box<dyn Admission + Send> = Box::new(alloc, SecondProblem).ok()?;
-            Some(policy)
-        }
-    }
-}
-
 /// n1 with this record.
-pub(crate) fn risen(
-    alloc: Global,
-    record: &[u8],
-    policy: Box<dyn Admission + Send>,
-) -> Option<NodeCore> {
-    match NodeCore::rise(alloc, NodeId::of(1)?, record, policy) {
+pub(crate) fn risen(alloc: Global, record: &[u8], policies: Pair) -> Option<NodeCore> {
+    match NodeCore::rise(alloc, NodeId::of(1)?, record, policies) {
         Ok(core) => Some(core),
         Err(_) => None,
     }
@@ -72,6 +60,23 @@ pub(crate) fn takes(core: &mut NodeCore, message: &Message) -> Option<bool> {
         return None;
     }
     core.take(message).ok()
+}
+
+/// The problem of this number.
+pub(crate) fn problem(number: &str) -> Option<Problem> {
+    match number {
+        "1" => Some(Problem::First),
+        "2" => Some(Problem::Second),
+        _ => None,
+    }
+}
+
+/// Takes a problem, and neither keeps the record nor replies. Whether it is another one.
+pub(crate) fn switches(core: &mut NodeCore, problem: Problem) -> Option<bool> {
+    let Phase::Idle = core.phase() else {
+        return None;
+    };
+    core.switch(problem).ok()
 }
 
 /// Keeps a decided record.

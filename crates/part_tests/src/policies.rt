@@ -1,12 +1,12 @@
-//! The rules of the two problems, what is counted, and a counting policy watched through a node's
-//! calls.
+//! The rules of the two problems, what is counted, and counting policies watched through a node's calls.
 
 ghost use Rattle.std.specs.Prelude.{IfSome};
 ghost use Rattle.stable_record.specs.Records.{IsNodeRecord};
 
-use crate::nodes::{FIRST, SECOND, WRITER_WAITS, keeps, risen, speaks, takes};
+use crate::nodes::{FIRST, SECOND, WRITER_WAITS, keeps, risen, speaks, switches, takes};
+use crate::pairs::{counting, has_counted, tell_all};
 use crate::rows::{bytes, message};
-use admission_policy::{Admission, Counted, FirstProblem, SecondProblem};
+use admission_policy::{Admission, Counted, FirstProblem, Pair, SecondProblem};
 use lock_messages::NodeId;
 use lock_model::Problem;
 use stable_record::{IndexedRecord, read_node};
@@ -68,16 +68,6 @@ fn policies_by_their_rules(_rt: HostRuntime) -> Outcome {
     check_answer(Some(answers_by_the_rule(Problem::Second, 2)), 3)
 }
 
-/// A counting policy of the problem.
-fn counting(alloc: Global, problem: u8) -> Option<Box<dyn Admission + Send>> {
-    let policy: Box<dyn Admission + Send> = if problem == 1 {
-        Box::new(alloc, Counted::of(FirstProblem)).ok()?
-    } else {
-        Box::new(alloc, Counted::of(SecondProblem)).ok()?
-    };
-    Some(policy)
-}
-
 /// The record that these bytes spell, with its index.
 fn indexed(alloc: Global, record: &[u8]) -> Option<IndexedRecord>
     ensures { IfSome result IsNodeRecord }
@@ -91,8 +81,8 @@ fn indexed(alloc: Global, record: &[u8]) -> Option<IndexedRecord>
     }
 }
 
-/// Calls `take` with a reader's request, `kept`, `speak`, `restart` and `restart_with`: the first so
-/// many of them.
+/// Calls `take` with a reader's request, `kept`, `speak`, `restart`, `restart_with`, and `switch` to each
+/// of the problems: the first so many of them.
 fn goes_on(alloc: Global, core: &mut NodeCore, record: &[u8], calls: u64) -> Option<()> {
     if calls > 0 {
         takes(core, &message("request n1 c1 1 read a")?)?;
@@ -106,21 +96,48 @@ fn goes_on(alloc: Global, core: &mut NodeCore, record: &[u8], calls: u64) -> Opt
     if calls > 3 {
         core.restart(record).ok()?;
     }
-    if calls > 4 && !core.restart_with(indexed(alloc, record)?) {
-        return None;
+    if calls > 4 {
+        core.restart_with(indexed(alloc, record)?);
+    }
+    if calls > 5 {
+        switches_twice(core)?;
     }
     Some(())
 }
 
-/// Whether the policy that falls out of a node after these calls is the one that rose with it, told
-/// before of two readers that were admitted and one that waits, and in the node of one reader.
+/// Takes each of the problems, and keeps the second without a reply.
+fn switches_twice(core: &mut NodeCore) -> Option<()> {
+    switches(core, Problem::First)?;
+    keeps(core);
+    speaks(core)?;
+    switches(core, Problem::Second)?;
+    keeps(core);
+    Some(())
+}
+
+/// Whether the policies that fall out of a node after these calls are those that rose with it, of which each
+/// was told before of two readers that were admitted and one that waits, and the one of the node's problem
+/// in the node of one reader.
 fn is_watched(alloc: Global, problem: u8, record: &[u8], calls: u64) -> Option<bool> {
-    let mut policy = counting(alloc, problem)?;
-    tell(&mut policy);
-    let mut core = risen(alloc, record, policy)?;
+    let mut pair = counting(alloc)?;
+    tell_all(&mut pair, TOLD_BEFORE)?;
+    let mut core = risen(alloc, record, pair)?;
     goes_on(alloc, &mut core, record, calls)?;
-    let told = if calls == 0 { (2, 1) } else { (3, 1) };
-    Some(is_of(&core.fall(), problem, told))
+    let told = match (calls, problem) {
+        (0, _) => "2,1 2,1",
+        (_, 1) => "3,1 2,1",
+        _ => "2,1 3,1",
+    };
+    are_both(&core.fall(), told)
+}
+
+const TOLD_BEFORE: &str = "1+ 1- 1+ 2+ 2- 2+";
+
+/// Whether this is a pair of both problems that has counted so much.
+fn are_both(pair: &Pair, told: &str) -> Option<bool> {
+    let right = is_of(&pair.first, 1, pair.tally(Problem::First))
+        && is_of(&pair.second, 2, pair.tally(Problem::Second));
+    Some(right && has_counted(pair, told)?)
 }
 
 // Of these a policy is told of each new reader alone: once of c1, c3, c4, c6 and c7, and not of c5, which
@@ -153,47 +170,45 @@ fn runs(core: &mut NodeCore) -> Option<()> {
     Some(())
 }
 
-/// Whether a policy was told so much in the run. c6 waits when it comes, and what lets it in later is not
-/// told; under problem 2 c3 does so too. All others are admitted.
-fn is_told(alloc: Global, problem: u8, record: &[u8], tally: (u64, u64)) -> Option<bool> {
-    let mut core = risen(alloc, record, counting(alloc, problem)?)?;
+/// Whether the policies were told so much in the run. c6 waits when it comes, and what lets it in later is
+/// not told; under problem 2 c3 does so too. All others are admitted.
+fn is_told(alloc: Global, record: &[u8], told: &str) -> Option<bool> {
+    let mut core = risen(alloc, record, counting(alloc)?)?;
     runs(&mut core)?;
-    Some(is_of(&core.fall(), problem, tally))
+    are_both(&core.fall(), told)
 }
 
-/// Whether a record is refused by this fault, and the counting policy of problem 2 comes back as it
-/// was.
-fn comes_back(alloc: Global, record: &[u8], fault: u16) -> Option<bool> {
-    let mut policy = counting(alloc, 2)?;
-    tell(&mut policy);
-    let Err((back, found)) = NodeCore::rise(alloc, NodeId::of(1)?, record, policy) else {
+/// Whether a record is refused as unreadable, and the policies come back as they were.
+fn comes_back(alloc: Global, record: &[u8]) -> Option<bool> {
+    let mut pair = counting(alloc)?;
+    tell_all(&mut pair, TOLD_BEFORE)?;
+    let Err((back, found)) = NodeCore::rise(alloc, NodeId::of(1)?, record, pair) else {
         return None;
     };
     match found.number() {
         503 => None,
-        number => Some(number == fault && is_of(&back, 2, (2, 1))),
+        number => Some(number == 501 && are_both(&back, "2,1 2,1")?),
     }
 }
 
-/// Whether a node that refuses records at restarts has its policy as it was.
+/// Whether a node that refuses a record at a restart has its policies as they were.
 fn stays(alloc: Global) -> Option<bool> {
-    let mut policy = counting(alloc, 2)?;
-    tell(&mut policy);
-    let mut core = risen(alloc, &bytes(alloc, WRITER_WAITS)?, policy)?;
-    let refused = core.restart(&FIRST).is_err() && core.restart(&[3]).is_err();
-    Some(refused && is_of(&core.fall(), 2, (2, 1)))
+    let mut pair = counting(alloc)?;
+    tell_all(&mut pair, TOLD_BEFORE)?;
+    let mut core = risen(alloc, &bytes(alloc, WRITER_WAITS)?, pair)?;
+    let refused = core.restart(&[3]).is_err();
+    Some(refused && are_both(&core.fall(), "2,1 2,1")?)
 }
 
 #[test]
-fn a_policy_watched_through_a_node(rt: HostRuntime) -> Outcome {
+fn policies_watched_through_a_node(rt: HostRuntime) -> Outcome {
     let alloc = rt.alloc();
-    for calls in 0..=5u64 {
+    for calls in 0..=6u64 {
         check_answer(is_watched(alloc, 1, &FIRST, calls), calls as usize)?;
         check_answer(is_watched(alloc, 2, &SECOND, calls), calls as usize)?;
     }
-    check_answer(is_told(alloc, 1, &FIRST, (4, 1)), 11)?;
-    check_answer(is_told(alloc, 2, &SECOND, (3, 2)), 12)?;
-    check_answer(comes_back(alloc, &[1, 2, 0], 501), 21)?;
-    check_answer(comes_back(alloc, &FIRST, 502), 22)?;
-    check_answer(stays(alloc), 23)
+    check_answer(is_told(alloc, &FIRST, "4,1 0,0"), 11)?;
+    check_answer(is_told(alloc, &SECOND, "0,0 3,2"), 12)?;
+    check_answer(comes_back(alloc, &[1, 2, 0]), 21)?;
+    check_answer(stays(alloc), 22)
 }

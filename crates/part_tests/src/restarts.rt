@@ -1,8 +1,10 @@
 //! A node that is put back at rest with its record.
 
 use crate::nodes::{
-    FIRST, SETTLED, SOFTENED, WRITER_WAITS, has_record, keeps, policy_of, risen, speaks, takes,
+    FIRST, SETTLED, SOFTENED, SWITCHED, WRITER_WAITS, has_record, keeps, risen, speaks, switches,
+    takes,
 };
+use crate::pairs::plain;
 use crate::rows::{bytes, message};
 use lock_model::Problem;
 use stable_record::RecordFault;
@@ -13,19 +15,25 @@ use voter_core::{NodeCore, Phase, VoterFault};
 /// n1 with the record in which a writer waits.
 fn with_waiting_writer(alloc: Global) -> Option<NodeCore> {
     let record = bytes(alloc, WRITER_WAITS)?;
-    risen(alloc, &record, policy_of(alloc, Problem::Second)?)
+    risen(alloc, &record, plain(alloc)?)
 }
 
-/// Whether refused restarts change nothing.
+/// Whether a refused restart changes nothing.
 fn refuses(alloc: Global, core: &mut NodeCore) -> Option<bool> {
-    let other = core.restart(&FIRST).err()?;
-    if other == VoterFault::Memory {
+    let found = core.restart(&[3]).err()?;
+    if found == VoterFault::Memory {
         return None;
     }
-    let unreadable = core.restart(&[3]).err()?;
     let version = VoterFault::Unreadable(RecordFault::Version);
-    let right = other == VoterFault::OtherProblem && unreadable == version;
-    Some(right && has_record(alloc, core, WRITER_WAITS)?)
+    Some(found == version && has_record(alloc, core, WRITER_WAITS)?)
+}
+
+/// Whether a restart with a record of the other problem gives the node that problem.
+fn takes_the_problem(alloc: Global, core: &mut NodeCore) -> Option<bool> {
+    core.restart(&FIRST).ok()?;
+    let first = core.phase() == Phase::Idle && has_record(alloc, core, "01 01 0000")?;
+    core.restart(&bytes(alloc, WRITER_WAITS)?).ok()?;
+    Some(first && is_at_rest(alloc, core)?)
 }
 
 /// Whether the node is about nothing, with the record in which a writer waits.
@@ -48,10 +56,11 @@ fn restarts(alloc: Global, core: &mut NodeCore) -> Option<bool> {
     Some(decided && is_at_rest(alloc, core)?)
 }
 
-/// Whether a node restarts, and refuses other records.
+/// Whether a node restarts, with either problem, and refuses what is no record.
 fn goes_on(alloc: Global) -> Option<bool> {
     let mut core = with_waiting_writer(alloc)?;
-    Some(restarts(alloc, &mut core)? && refuses(alloc, &mut core)?)
+    let restarts = restarts(alloc, &mut core)? && takes_the_problem(alloc, &mut core)?;
+    Some(restarts && refuses(alloc, &mut core)?)
 }
 
 #[test]
@@ -117,7 +126,7 @@ fn lets_the_writer_in(alloc: Global, core: &mut NodeCore) -> Option<bool> {
 /// Whether a node comes back from a softening with each of its records.
 fn comes_back_softened(alloc: Global) -> Option<bool> {
     let record = bytes(alloc, BEFORE_SOFTENING)?;
-    let mut core = risen(alloc, &record, policy_of(alloc, Problem::First)?)?;
+    let mut core = risen(alloc, &record, plain(alloc)?)?;
     let old = comes_back_old(alloc, &mut core)?;
     let new = comes_back_new(alloc, &mut core)?;
     Some(old && new && lets_the_writer_in(alloc, &mut core)?)
@@ -126,4 +135,49 @@ fn comes_back_softened(alloc: Global) -> Option<bool> {
 #[test]
 fn restarted_while_it_softens(rt: HostRuntime) -> Outcome {
     check_answer(comes_back_softened(rt.alloc()), 0)
+}
+
+/// Whether a node takes problem 1, and is then stopped before that is kept, with these bytes of its next
+/// record.
+fn decides_to_switch(alloc: Global, core: &mut NodeCore) -> Option<bool> {
+    let changed = switches(core, Problem::First)?;
+    let decided = core.phase() == Phase::Decided && core.replies() == 1;
+    Some(changed && decided && has_record(alloc, core, SWITCHED)?)
+}
+
+/// Whether a node that comes back with its old record has the old problem: a new reader is busy, and the
+/// one that was let in waits as before.
+fn comes_back_unswitched(alloc: Global, core: &mut NodeCore) -> Option<bool> {
+    let decided = decides_to_switch(alloc, core)?;
+    core.restart(&bytes(alloc, WRITER_WAITS)?).ok()?;
+    let old = is_at_rest(alloc, core)?;
+    let (busy, _) = answered(alloc, core, "request n1 c4 1 read a")?;
+    let (again, changed) = answered(alloc, core, "request n1 c3 1 read a")?;
+    let told = busy.as_str() == "busy n1 c4 1 read a;" && !changed;
+    Some(decided && old && told && again.as_str() == "busy n1 c3 1 read a;")
+}
+
+/// Whether a node that comes back with its new record has the new problem: a new reader is let in, and the
+/// one that was holds still.
+fn comes_back_switched(alloc: Global, core: &mut NodeCore) -> Option<bool> {
+    core.restart(&bytes(alloc, WRITER_WAITS)?).ok()?;
+    let decided = decides_to_switch(alloc, core)?;
+    core.restart(&bytes(alloc, SWITCHED)?).ok()?;
+    let new = core.phase() == Phase::Idle && has_record(alloc, core, SWITCHED)?;
+    let (grant, _) = answered(alloc, core, "request n1 c4 1 read a")?;
+    let (again, changed) = answered(alloc, core, "request n1 c3 1 read a")?;
+    let told = grant.as_str() == "grant n1 c4 1 read a;" && !changed;
+    Some(decided && new && told && again.as_str() == "grant n1 c3 1 read a;")
+}
+
+/// Whether a node comes back from a switch with each of its records.
+fn comes_back_of_either_problem(alloc: Global) -> Option<bool> {
+    let mut core = with_waiting_writer(alloc)?;
+    let old = comes_back_unswitched(alloc, &mut core)?;
+    Some(old && comes_back_switched(alloc, &mut core)?)
+}
+
+#[test]
+fn restarted_while_it_switches(rt: HostRuntime) -> Outcome {
+    check_answer(comes_back_of_either_problem(rt.alloc()), 0)
 }

@@ -1,6 +1,6 @@
 //! How the rows of a table are asked.
 
-use crate::{attempts, ballots, decisions, frames, record_tables, records, words};
+use crate::{attempts, ballots, decisions, frames, pairs, record_tables, records, words};
 use std::alloc::Global;
 use test_outcomes::{Outcome, check_answer};
 
@@ -32,6 +32,8 @@ pub(crate) enum Table {
     ChangedRecords,
     Phases,
     RefusedBegins,
+    Asked,
+    Told,
 }
 
 /// Whether a row holds.
@@ -61,6 +63,8 @@ fn holds(alloc: Global, table: Table, row: &str) -> Option<bool> {
         Table::ChangedRecords => record_tables::all_agree(alloc, row),
         Table::Phases => attempts::in_each_phase(alloc, row),
         Table::RefusedBegins => attempts::refuses(alloc, row),
+        Table::Asked => pairs::answers(alloc, row),
+        Table::Told => pairs::counts(alloc, row),
     }
 }
 

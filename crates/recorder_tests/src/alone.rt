@@ -4,10 +4,10 @@
 ghost use Rattle.std.specs.Prelude.{◌≡◌};
 ghost use Rattle.book_recorders.specs.Alone.{IsAlone};
 
-use crate::worlds::{client, world};
+use crate::worlds::{client, node, world};
 use book_recorders::{ListRecorder, Logs, open_alone};
 use history_book::{Berth, Book, BookFault};
-use lock_messages::{Actor, NodeId};
+use lock_messages::Actor;
 use std::test::Fail;
 use world_model::{Age, Effect, Event, StepFault};
 
@@ -57,7 +57,7 @@ fn an_actor_alone(rt: HostRuntime) -> Result<(), Fail> {
 
 #[test]
 fn a_stranger_alone(rt: HostRuntime) -> Result<(), Fail> {
-    let stranger = Actor::Node(NodeId::of(2).ok_or("wrong: no node")?);
+    let stranger = Actor::Node(node(2)?);
     match open_alone(rt.alloc(), world(rt.alloc())?, stranger) {
         Ok(None) => Ok(()),
         Ok(Some(_)) => Err("wrong: a node that isn't there".into()),

@@ -1,5 +1,5 @@
-//! Tests of recorders by their public calls alone: an actor that logs in a book of its own, and two threads
-//! that log in one book.
+//! Tests of recorders by their public calls alone: an actor that logs in a book of its own, a node that takes
+//! another problem, and two threads that log in one book.
 //!
 //! It has no code but tests, and stands on the crates that it tests. Each file is named for what it
 //! shows.
@@ -7,6 +7,8 @@
 
 #[cfg(test)]
 mod alone;
+#[cfg(test)]
+mod switches;
 #[cfg(test)]
 mod threads;
 #[cfg(test)]

@@ -1,9 +1,9 @@
 //! Two threads that log in one book at the same time. A test ends with an error that begins with `wrong`
 //! where an answer is wrong.
 
-ghost use Rattle.std.specs.Prelude.{◌≡◌, IfOk};
+ghost use Rattle.std.specs.Prelude.{◌≡◌};
 
-use crate::worlds::{client, world};
+use crate::worlds::{berth, client, world};
 use book_recorders::{BookName, BookRecorder, Logs, Named};
 use history_book::{Berth, Book};
 use journal_audit::{Verdict, audit};
@@ -80,17 +80,6 @@ fn in_two_threads<R: Threads + Wait + Copy + Send + Sync>(
     requires two { two.0.table ≡ book.table }
 {
     whole::<Brand, Book, R>(rt, book, one, two)
-}
-
-fn berth(book: &mut Book, actor: &Actor) -> Result<Berth, Fail>
-    requires { Unit {0} }
-    ensures { IfOk result (λ k. (k.table ≡ book.old.table) × (book.new.table ≡ book.old.table)) }
-{
-    match book.berth(*actor) {
-        Ok(Some(berth)) => Ok(berth),
-        Ok(None) => Err("wrong: no berth".into()),
-        Err(_) => Err("no memory for a berth".into()),
-    }
 }
 
 /// How many lines of the journal are this one.

@@ -1,5 +1,5 @@
--- A world in which all are down and nothing is kept may run, with empty records and policies of the
--- settings' problem.
+-- A world in which all are down and nothing is kept may run, with empty records and a pair of policies a
+-- node.
 use Rattle.std.proofs.Common.{◌≡◌, ℕ, zero, suc, ◌≤◌, true, nat_le, List, [], ◌∷◌, ◌++◌, length, get_or, map, replicate, All, refl, sym, ap, subst, ◌∙◌, arith}
 use Rattle.std.proofs.lemmas.List.{length-replicate}
 use Rattle.std.proofs.lemmas.Bool.Decides.{nat_tests}
@@ -28,8 +28,8 @@ stations_of n p = map empty_station (replicate n p)
 stations_are : (n : ℕ) (p : Problem) → stations_of n p ≡ replicate n (empty_station p)
 stations_are n p = map_same empty_station n p
 
-problems_are : (n : ℕ) (p : Problem) → replicate n p ≡ map (λ s. s.problem) (stations_of n p)
-problems_are n p = sym (ap (map (λ (s : ExactStation). s.problem)) (stations_are n p) ∙ map_same (λ (s : ExactStation). s.problem) n (empty_station p))
+so_many : (n : ℕ) (p : Problem) → n ≡ length (stations_of n p)
+so_many n p = sym (ap length (stations_are n p) ∙ length-replicate n (empty_station p))
 
 nodes_are : (n : ℕ) (p : Problem) → replicate n (empty_node p) ≡ map (λ s. station_bytes s ∷ []) (stations_of n p)
 nodes_are n p = sym (ap (map (λ (s : ExactStation). station_bytes s ∷ [])) (stations_are n p) ∙ map_same (λ (s : ExactStation). station_bytes s ∷ []) n (empty_station p))
@@ -37,15 +37,15 @@ nodes_are n p = sym (ap (map (λ (s : ExactStation). station_bytes s ∷ [])) (s
 clients_are : (k : ℕ) → replicate k empty_client ≡ map (λ a. client_record_of a ∷ []) (replicate k 0)
 clients_are k = sym (map_same (λ (a : ℕ). client_record_of a ∷ []) k 0)
 
-pub may_run : (s : Settings) (w : ExactWorld) (n : ℕ) (problems : List Problem) (found : List (List (List ℕ))) → w ≡ all_down s → n ≡ node_count s.ballots
-    → problems ≡ replicate n s.problem → found ≡ replicate n (empty_node s.problem) ++ replicate s.clients empty_client → MayRun w s.ballots problems found
-may_run s w n problems found is_world count all_policies all_records =
+pub may_run : (s : Settings) (w : ExactWorld) (n pairs : ℕ) (found : List (List (List ℕ))) → w ≡ all_down s → n ≡ node_count s.ballots
+    → pairs ≡ n → found ≡ replicate n (empty_node s.problem) ++ replicate s.clients empty_client → MayRun w s.ballots pairs found
+may_run s w n pairs found is_world count all_pairs all_records =
     let votes = node_count s.ballots in
     let p = s.problem in record {
       stations = stations_of votes p;
       attempts = replicate s.clients 0;
       world = is_world;
-      policies = all_policies ∙ ap (λ m. replicate m p) count ∙ problems_are votes p;
+      paired = all_pairs ∙ count ∙ so_many votes p;
       records = all_records ∙ ap (λ m. replicate m (empty_node p) ++ replicate s.clients empty_client) count ∙ ap (λ rs. rs ++ replicate s.clients empty_client) (nodes_are votes p)
           ∙ ap (λ rs. map (λ (t : ExactStation). station_bytes t ∷ []) (stations_of votes p) ++ rs) (clients_are s.clients);
     }

@@ -13,8 +13,8 @@
 //!
 //! It stands on `operator_cli` for settings, `node_threads` for the run, `journal_text`, `journal_audit`
 //! and `journal_laws` for the journal, `line_streams`, `event_recorders`, `history_book`, `history_check`,
-//! `client_core` and `entry_guard` for the gate, `lossy_link`, `stable_record`, `admission_policy`,
-//! `vote_weights`, `world_machine`, `world_model`, `lock_messages` and `lock_model`.
+//! `client_core` and `entry_guard` for the gate, `lossy_link`, `stable_record`, `vote_weights`,
+//! `world_machine`, `world_model`, `lock_messages` and `lock_model`.
 #![tactic(auto)]
 
 mod ends;

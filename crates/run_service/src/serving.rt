@@ -1,6 +1,6 @@
 // A whole run, from the bytes of its settings to what is told of its end.
 
-ghost use Rattle.std.specs.Prelude.{◌≡◌, ◌≤◌, ◌++◌, List, map, replicate, codes, IfOk, OnOk};
+ghost use Rattle.std.specs.Prelude.{◌≡◌, ◌≤◌, ◌++◌, List, length, map, replicate, codes, IfOk, OnOk};
 ghost use Rattle.lock_messages.specs.declared.ids.TheConstants.{MAX_NODES, MAX_CLIENTS};
 ghost use Rattle.lock_model.specs.declared.problems.Problem.TheVariants.{First, Second};
 ghost use Rattle.history_book.specs.Books.{enters};
@@ -17,7 +17,6 @@ ghost use Rattle.run_service.specs.Parts.{TellsEnd, RunsHead};
 use crate::ends::{push_end, status_of};
 use crate::gates::OpenGate;
 use crate::records::{Records, chosen_records};
-use admission_policy::Admission;
 use history_check::Wish;
 use journal_audit::laws::verdicts_are_exact;
 use journal_laws::laws::journals_are_sound;
@@ -128,10 +127,8 @@ fn run<T: Threads + Wait + Copy + Send>(
     requires some_client { 1 ≤ settings.now.clients }
     requires few_clients { settings.now.clients ≤ MAX_CLIENTS }
     requires wishes { AreAmong settings.now.clients settings.now.ballots wishes.now }
-    requires world_first { map ⟦<Box<dyn Admission + Send> as Admission>⟧.problem_of for_world.first.items ≡ replicate MAX_NODES First }
-    requires world_second { map ⟦<Box<dyn Admission + Send> as Admission>⟧.problem_of for_world.second.items ≡ replicate MAX_NODES Second }
-    requires threads_first { map ⟦<Box<dyn Admission + Send> as Admission>⟧.problem_of for_threads.first.items ≡ replicate MAX_NODES First }
-    requires threads_second { map ⟦<Box<dyn Admission + Send> as Admission>⟧.problem_of for_threads.second.items ≡ replicate MAX_NODES Second }
+    requires world { length for_world.pairs.items ≡ MAX_NODES }
+    requires threads { length for_threads.pairs.items ≡ MAX_NODES }
     requires records_first { map (λ r. finds r) records.first.items ≡ replicate MAX_NODES (empty_node First) }
     requires records_second { map (λ r. finds r) records.second.items ≡ replicate MAX_NODES (empty_node Second) }
     requires records_clients { map (λ r. finds r) records.clients.items ≡ replicate MAX_CLIENTS empty_client }
@@ -146,10 +143,10 @@ fn run<T: Threads + Wait + Copy + Send>(
     let Ok(records) = chosen_records(records, settings.problem, nodes, settings.clients) else {
         return Err(ServeFault::Memory);
     };
-    let policies = chosen(for_threads, settings.problem, nodes);
+    let pairs = chosen(for_threads, nodes);
     let ballots = settings.ballots;
     let Ok(end) = run_all(
-        rt, alloc, ballots, wishes, records, world, policies, weather, &OpenGate,
+        rt, alloc, ballots, wishes, records, world, pairs, weather, &OpenGate,
     ) else {
         return Err(ServeFault::Memory);
     };
@@ -168,10 +165,8 @@ fn run_head<T: Threads + Wait + Copy + Send, W: Write>(
     records: Records,
     writer: &mut W,
 ) -> Result<u8, ServeFault>
-    requires world_first { map ⟦<Box<dyn Admission + Send> as Admission>⟧.problem_of for_world.first.items ≡ replicate MAX_NODES First }
-    requires world_second { map ⟦<Box<dyn Admission + Send> as Admission>⟧.problem_of for_world.second.items ≡ replicate MAX_NODES Second }
-    requires threads_first { map ⟦<Box<dyn Admission + Send> as Admission>⟧.problem_of for_threads.first.items ≡ replicate MAX_NODES First }
-    requires threads_second { map ⟦<Box<dyn Admission + Send> as Admission>⟧.problem_of for_threads.second.items ≡ replicate MAX_NODES Second }
+    requires world { length for_world.pairs.items ≡ MAX_NODES }
+    requires threads { length for_threads.pairs.items ≡ MAX_NODES }
     requires records_first { map (λ r. finds r) records.first.items ≡ replicate MAX_NODES (empty_node First) }
     requires records_second { map (λ r. finds r) records.second.items ≡ replicate MAX_NODES (empty_node Second) }
     requires records_clients { map (λ r. finds r) records.clients.items ≡ replicate MAX_CLIENTS empty_client }
@@ -214,10 +209,10 @@ fn run_head<T: Threads + Wait + Copy + Send, W: Write>(
 /// is 1 where an actor ended by a fault, else 0.
 ///
 /// Contracts speak of what the reader has left and of what the writer holds, where these are known. The
-/// caller owes an order for `Run`; sixteen policies that solve each problem for the world, with the order,
-/// and as many for the threads; and records in which nothing was ever written: sixteen of nodes that solve
-/// each problem, and 1,024 of clients. Of each the first ones are used, as many as the settings need, and
-/// the others are dropped. It waits for all threads; that they end is not promised.
+/// caller owes an order for `Run`; sixteen pairs of policies for the world, with the order, and as many for
+/// the threads; and records in which nothing was ever written: sixteen of nodes that solve each problem, and
+/// 1,024 of clients. Of each the first ones are used, as many as the settings need, and the others are
+/// dropped. It waits for all threads; that they end is not promised.
 ///
 /// # Errors
 ///
@@ -236,10 +231,8 @@ pub fn serve_run<T: Threads + Wait + Copy + Send, R: Read, W: Write>(
 where
     R: Drop,
     requires run { IsRun order.command }
-    requires world_first { map ⟦<Box<dyn Admission + Send> as Admission>⟧.problem_of order.policies.first.items ≡ replicate MAX_NODES First }
-    requires world_second { map ⟦<Box<dyn Admission + Send> as Admission>⟧.problem_of order.policies.second.items ≡ replicate MAX_NODES Second }
-    requires threads_first { map ⟦<Box<dyn Admission + Send> as Admission>⟧.problem_of policies.first.items ≡ replicate MAX_NODES First }
-    requires threads_second { map ⟦<Box<dyn Admission + Send> as Admission>⟧.problem_of policies.second.items ≡ replicate MAX_NODES Second }
+    requires world { length order.policies.pairs.items ≡ MAX_NODES }
+    requires threads { length policies.pairs.items ≡ MAX_NODES }
     requires records_first { map (λ r. finds r) records.first.items ≡ replicate MAX_NODES (empty_node First) }
     requires records_second { map (λ r. finds r) records.second.items ≡ replicate MAX_NODES (empty_node Second) }
     requires records_clients { map (λ r. finds r) records.clients.items ≡ replicate MAX_CLIENTS empty_client }

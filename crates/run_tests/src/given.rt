@@ -1,4 +1,4 @@
-// What a run is handed: policies, a world in which nothing has happened, records and wishes.
+// What a run is handed: pairs of policies, a world in which nothing has happened, records and wishes.
 
 ghost use Rattle.std.specs.Prelude.{◌≡◌, ◌≤◌, ◌++◌, length, map, replicate, IfOk};
 ghost use Rattle.lock_model.specs.Ballots.{node_count, HasPlace};
@@ -8,7 +8,7 @@ ghost use Rattle.run_service.specs.Empty.{empty_node, empty_client};
 ghost use Rattle.world_model.specs.Openings.{opening};
 
 use crate::devices::{Device, record_on};
-use admission_policy::{Admission, FirstProblem};
+use admission_policy::{Admission, FirstProblem, Pair, SecondProblem};
 use history_check::{MAX_WISHES, Wish, read_wish};
 use lock_model::Problem;
 use stable_record::{StableRecord, client_bytes};
@@ -20,23 +20,25 @@ use world_machine::World;
 /// The record of a node for problem 1 that has kept nothing.
 const NOTHING: [u8; 4] = [1, 1, 0, 0];
 
-/// A policy for problem 1.
-fn policy(alloc: Global) -> Result<Box<dyn Admission + Send>, Failure>
-    ensures { IfOk result (λ p. problem_of p ≡ Problem.First) }
-{
-    let policy: Box<dyn Admission + Send> = Box::new(alloc, FirstProblem)?;
-    Ok(policy)
+/// The plain policies of both problems.
+pub(crate) fn pair(alloc: Global) -> Result<Pair, Failure> {
+    let first: Box<dyn Admission + Send> = Box::new(alloc, FirstProblem)?;
+    let second: Box<dyn Admission + Send> = Box::new(alloc, SecondProblem)?;
+    Ok(Pair::of(first, second))
 }
 
-/// So many policies for problem 1.
-pub(crate) fn policies(alloc: Global, count: u8) -> Result<Vec<Box<dyn Admission + Send>>, Failure>
-    ensures { IfOk result (λ v. map (λ p. problem_of p) v.items ≡ replicate count Problem.First) }
+/// So many pairs.
+pub(crate) fn pairs(alloc: Global, count: u8) -> Result<Vec<Pair>, Failure>
+    ensures { IfOk result (λ v. length v.items ≡ count) }
 {
-    let mut policies: Vec<Box<dyn Admission + Send>> = Vec::new(alloc);
+    let mut pairs = Vec::new(alloc);
     for _ in 0..count {
-        policies.push(policy(alloc)?)?;
+        pairs.push(pair(alloc)?)?;
     }
-    Ok(policies)
+    if pairs.len() != count as usize {
+        return Err(Failure::Wrong(0));
+    }
+    Ok(pairs)
 }
 
 /// A world of nodes for problem 1 in which nothing has happened.
@@ -45,7 +47,8 @@ pub(crate) fn world(alloc: Global, ballots: BallotList, clients: u16) -> Result<
     requires few { clients ≤ MAX_CLIENTS }
     ensures { IfOk result (λ w. w ≡ opening ballots (replicate (node_count ballots) Problem.First) clients) }
 {
-    match World::start(alloc, ballots, clients, policies(alloc, ballots.nodes())?) {
+    let pairs = pairs(alloc, ballots.nodes())?;
+    match World::start(alloc, ballots, clients, Problem::First, pairs) {
         Ok(world) => Ok(world),
         Err(_) => Err(Failure::Memory),
     }

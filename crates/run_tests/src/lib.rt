@@ -29,4 +29,10 @@ mod storms;
 #[cfg(test)]
 mod supplies;
 #[cfg(test)]
+mod switched_actors;
+#[cfg(test)]
+mod switched_storms;
+#[cfg(test)]
+mod switching_links;
+#[cfg(test)]
 mod together;

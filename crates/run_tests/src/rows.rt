@@ -6,7 +6,7 @@ ghost use Rattle.lock_messages.specs.declared.ids.TheConstants.{MAX_CLIENTS};
 
 use crate::audits::journal_of;
 use crate::devices::Device;
-use crate::given::{policies, records, wishes, world};
+use crate::given::{pairs, records, wishes, world};
 use event_recorders::{Gate, RunFault};
 use lock_messages::{Actor, ClientId, MAX_CLIENTS, NodeId};
 use lossy_link::Weather;
@@ -58,7 +58,7 @@ fn end_of<R: Threads + Wait + Copy + Send, G: Gate + Sync>(
     };
     let wishes = wishes(alloc, row.clients, &ballots, row.wishes)?;
     let records = records(alloc, row.devices, row.of_clients, row.clients)?;
-    let policies = policies(alloc, ballots.nodes())?;
+    let pairs = pairs(alloc, ballots.nodes())?;
     let world = world(alloc, ballots, row.clients)?;
     match run_all(
         rt,
@@ -67,7 +67,7 @@ fn end_of<R: Threads + Wait + Copy + Send, G: Gate + Sync>(
         wishes.as_slice(),
         records,
         world,
-        policies,
+        pairs,
         weather,
         gate,
     ) {

@@ -1,8 +1,8 @@
 // Runs from the bytes of their settings to what is printed: the quiet, the empty and the hopeless one.
 
 use crate::devices::Device;
-use crate::given::{client_records, node_records, policies};
-use crate::supplies::{second_policies, second_records};
+use crate::given::{client_records, node_records, pairs};
+use crate::supplies::second_records;
 use lock_messages::MAX_NODES;
 use operator_cli::{Command, Order, Policies, ServeFault};
 use run_service::{Records, serve_run};
@@ -18,12 +18,10 @@ fn served<R: Threads + Wait + Copy + Send>(
     settings: &str,
 ) -> Result<(Vec<u8>, u8), Failure> {
     let for_world = Policies {
-        first: policies(alloc, MAX_NODES)?,
-        second: second_policies(alloc)?,
+        pairs: pairs(alloc, MAX_NODES)?,
     };
     let for_threads = Policies {
-        first: policies(alloc, MAX_NODES)?,
-        second: second_policies(alloc)?,
+        pairs: pairs(alloc, MAX_NODES)?,
     };
     let records = Records {
         first: node_records(alloc, &[Device::Memory; 16])?,

@@ -37,6 +37,12 @@ fn text(alloc: Global, place: u32, modes: &Modes) -> Result<Vec<u8>, Failure> {
     Ok(text.into_bytes())
 }
 
+/// The text of a client's wish in a round; some wishes are to soften.
+pub(crate) fn own_text(alloc: Global, client: u32, round: u32) -> Result<Vec<u8>, Failure> {
+    let place = round.wrapping_mul(8).wrapping_add(client).wrapping_sub(1);
+    text(alloc, place, &THREE_MODES)
+}
+
 /// So many wishes.
 fn texts(alloc: Global, count: u32, modes: &Modes) -> Result<Vec<Vec<u8>>, Failure> {
     let mut texts = Vec::new(alloc);

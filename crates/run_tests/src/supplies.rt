@@ -1,11 +1,10 @@
-// What a served run is handed beside what runs for problem 1 need: policies and records for problem 2.
+// What a served run is handed beside what runs for problem 1 need: records for problem 2.
 
 ghost use Rattle.std.specs.Prelude.{◌≡◌, map, replicate, IfOk};
 ghost use Rattle.lock_messages.specs.declared.ids.TheConstants.{MAX_NODES};
 ghost use Rattle.run_service.specs.Empty.{empty_node};
 
 use crate::devices::{Device, record_on};
-use admission_policy::{Admission, SecondProblem};
 use lock_messages::MAX_NODES;
 use lock_model::Problem;
 use stable_record::StableRecord;
@@ -14,25 +13,6 @@ use test_outcomes::Failure;
 
 /// The record of a node for problem 2 that has kept nothing.
 const NOTHING: [u8; 4] = [1, 2, 0, 0];
-
-/// A policy for problem 2.
-fn second_policy(alloc: Global) -> Result<Box<dyn Admission + Send>, Failure>
-    ensures { IfOk result (λ p. problem_of p ≡ Problem.Second) }
-{
-    let policy: Box<dyn Admission + Send> = Box::new(alloc, SecondProblem)?;
-    Ok(policy)
-}
-
-/// As many policies for problem 2 as there may be nodes.
-pub(crate) fn second_policies(alloc: Global) -> Result<Vec<Box<dyn Admission + Send>>, Failure>
-    ensures { IfOk result (λ v. map (λ p. problem_of p) v.items ≡ replicate MAX_NODES Problem.Second) }
-{
-    let mut policies: Vec<Box<dyn Admission + Send>> = Vec::new(alloc);
-    for _ in 0..MAX_NODES {
-        policies.push(second_policy(alloc)?)?;
-    }
-    Ok(policies)
-}
 
 /// As many records of nodes for problem 2 as there may be nodes.
 pub(crate) fn second_records(alloc: Global) -> Result<Vec<Box<dyn StableRecord + Send>>, Failure>

@@ -6,7 +6,7 @@
 
 mod supplies;
 
-use crate::supplies::{add_client, add_nodes, add_policies, no_policies, no_records};
+use crate::supplies::{add_client, add_nodes, add_pair, no_policies, no_records};
 use admission_policy::{FirstProblem, SecondProblem};
 use lock_messages::{MAX_CLIENTS, MAX_NODES};
 use lock_model::Problem;
@@ -31,7 +31,7 @@ fn main(rt: HostRuntime) -> ExitCode {
         let Ok(second) = Box::new(alloc, SecondProblem) else {
             return end_without_memory(&rt);
         };
-        let Ok(()) = add_policies(&mut world, first, second) else {
+        let Ok(()) = add_pair(&mut world, first, second) else {
             return end_without_memory(&rt);
         };
     }
@@ -42,7 +42,7 @@ fn main(rt: HostRuntime) -> ExitCode {
         let Ok(second) = Box::new(alloc, SecondProblem) else {
             return end_without_memory(&rt);
         };
-        let Ok(()) = add_policies(&mut threads, first, second) else {
+        let Ok(()) = add_pair(&mut threads, first, second) else {
             return end_without_memory(&rt);
         };
     }

@@ -1,8 +1,9 @@
 // The lists that the program fills with policies and records.
 
 ghost use Rattle.std.specs.Prelude.{◌≡◌, [], ◌∷◌, ◌++◌, OnOk};
+ghost use Rattle.lock_model.specs.declared.problems.Problem.TheVariants.{First, Second};
 
-use admission_policy::Admission;
+use admission_policy::{Admission, Pair};
 use operator_cli::Policies;
 use run_service::Records;
 use stable_record::StableRecord;
@@ -10,12 +11,10 @@ use std::alloc::{AllocError, Global};
 
 /// No policies yet.
 pub(crate) fn no_policies(alloc: Global) -> Policies
-    ensures first { result.first.items ≡ [] }
-    ensures second { result.second.items ≡ [] }
+    ensures { result.pairs.items ≡ [] }
 {
     Policies {
-        first: Vec::new(alloc),
-        second: Vec::new(alloc),
+        pairs: Vec::new(alloc),
     }
 }
 
@@ -32,16 +31,17 @@ pub(crate) fn no_records(alloc: Global) -> Records
     }
 }
 
-/// Adds a policy of each problem.
-pub(crate) fn add_policies(
+/// Adds the pair of a policy of problem 1 and one of problem 2.
+pub(crate) fn add_pair(
     policies: &mut Policies,
     first: Box<dyn Admission + Send>,
     second: Box<dyn Admission + Send>,
 ) -> Result<(), AllocError>
-    ensures first { OnOk result (policies.new.first.items ≡ policies.old.first.items ++ first ∷ []) }
-    ensures second { OnOk result (policies.new.second.items ≡ policies.old.second.items ++ second ∷ []) }
+    requires first { problem_of first ≡ First }
+    requires second { problem_of second ≡ Second }
+    ensures { OnOk result (policies.new.pairs.items ≡ policies.old.pairs.items ++ record { first = first; second = second } ∷ []) }
 {
-    if policies.first.push(first).is_err() || policies.second.push(second).is_err() {
+    if policies.pairs.push(Pair::of(first, second)).is_err() {
         return Err(AllocError);
     }
     Ok(())

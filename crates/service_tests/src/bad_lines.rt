@@ -15,6 +15,8 @@ fn first_words(rt: HostRuntime) -> Outcome {
         "softens c1",
         "softened c1",
         "Soften c1",
+        "switches n1 1",
+        "Switch n1 1",
         "inside\r\n",
     ];
     each_is_bad(rt.alloc(), 801, &lines)
@@ -48,6 +50,10 @@ fn numbers_of_words(rt: HostRuntime) -> Outcome {
         "soften",
         "soften c1 a",
         "soften c1 ",
+        "switch",
+        "switch n1",
+        "switch n1 1 ",
+        "switch n1 1 2",
         "inside",
         "inside a b",
         "take n1",
@@ -82,6 +88,11 @@ fn actors(rt: HostRuntime) -> Outcome {
         "soften c1025",
         "soften n1",
         "soften a",
+        "switch c1 1",
+        "switch n0 1",
+        "switch n01 3",
+        "switch n17 1",
+        "switch 1 1",
         "enter c1\r",
         "say n1x",
         "fall a",
@@ -108,6 +119,14 @@ fn numbers(rt: HostRuntime) -> Outcome {
         "begin c1 read a b02",
         "begin c1 read a B2",
         "begin c1 read a ",
+        "switch n1 0",
+        "switch n1 3",
+        "switch n1 01",
+        "switch n1 +1",
+        "switch n1 12",
+        "switch n1 1\r",
+        "switch n1 ",
+        "switch n1 first",
     ];
     each_is_bad(rt.alloc(), 803, &lines)
 }
@@ -137,6 +156,7 @@ fn greatest_words(rt: HostRuntime) -> Outcome {
         "try c5",
         "say n4",
         "soften c1024",
+        "switch n16 2",
     ] {
         plays_lines(alloc, line, "refused 601\n", 1)?;
     }

@@ -153,7 +153,7 @@ fn settings_faults(rt: HostRuntime) -> Outcome {
 }
 
 /// Lines of journals, and what is found of them.
-const JOURNALS: [(&str, &str, u8); 15] = [
+const JOURNALS: [(&str, &str, u8); 21] = [
     ("", "sound 0\n", 0),
     ("rise c1 old\nbegin c1 read a\n", "sound 2\n", 0),
     (
@@ -173,6 +173,24 @@ const JOURNALS: [(&str, &str, u8); 15] = [
     ("soften c5\n", "unsound 1 refused 601\n", 1),
     ("soften c1\n", "unsound 1 refused 602\n", 1),
     ("rise c1 old\nsoften c1\n", "unsound 2 refused 604\n", 1),
+    ("switch n1 3\n", "unsound 1 fault 803\n", 1),
+    ("switch n4 1\n", "unsound 1 refused 601\n", 1),
+    ("switch n1 1\n", "unsound 1 refused 602\n", 1),
+    (
+        "rise n1 old\nswitch n1 1\nsay n1\nswitch n1 1\n",
+        "sound 4\n",
+        0,
+    ),
+    (
+        "rise n1 old\nswitch n1 2\nsay n1\n",
+        "unsound 3 refused 605\n",
+        1,
+    ),
+    (
+        "rise n1 old\nswitch n1 2\ntry n1\nkept n1\nswitch n1 2\n",
+        "unsound 5 refused 604\n",
+        1,
+    ),
 ];
 
 #[test]

@@ -62,7 +62,7 @@ const LINES: [(LineFault, &str); 5] = [
     (LineFault::Actor, "802 no node or client is spelled so"),
     (
         LineFault::Number,
-        "803 no message or ballot has this number",
+        "803 no message, ballot or problem has this number",
     ),
     (LineFault::Name, "804 no resource has this name"),
     (

@@ -29,4 +29,6 @@ mod scripts;
 #[cfg(test)]
 mod streams;
 #[cfg(test)]
+mod switches;
+#[cfg(test)]
 mod worlds;

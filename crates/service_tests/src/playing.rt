@@ -1,9 +1,10 @@
 // Running a script through `serve`.
 
-ghost use Rattle.std.specs.Prelude.{IfSome};
+ghost use Rattle.std.specs.Prelude.{◌≡◌, length, IfOk, IfSome};
+ghost use Rattle.lock_messages.specs.declared.ids.TheConstants.{MAX_NODES};
 ghost use Rattle.operator_cli.specs.Outputs.{IsServed};
 
-use admission_policy::{Admission, FirstProblem, SecondProblem};
+use admission_policy::{Admission, FirstProblem, Pair, SecondProblem};
 use journal_audit::AuditFault;
 use lock_messages::MAX_NODES;
 use operator_cli::{Command, Order, Policies, ServeFault, serve};
@@ -27,6 +28,27 @@ fn served_by(command: Command) -> Option<Command>
     }
 }
 
+/// The plain policies of both problems.
+pub(crate) fn pair(alloc: Global) -> Result<Pair, Failure> {
+    let first: Box<dyn Admission + Send> = Box::new(alloc, FirstProblem)?;
+    let second: Box<dyn Admission + Send> = Box::new(alloc, SecondProblem)?;
+    Ok(Pair::of(first, second))
+}
+
+/// As many pairs as there may be nodes.
+fn pairs(alloc: Global) -> Result<Vec<Pair>, Failure>
+    ensures { IfOk result (λ v. length v.items ≡ MAX_NODES) }
+{
+    let mut pairs = Vec::new(alloc);
+    for _ in 0..MAX_NODES {
+        pairs.push(pair(alloc)?)?;
+    }
+    if pairs.len() != MAX_NODES as usize {
+        return Err(Failure::Wrong(0));
+    }
+    Ok(pairs)
+}
+
 /// Serves a command with what a reader gives.
 fn serve_command<R: Read + Drop, W: Write>(
     alloc: Global,
@@ -37,25 +59,12 @@ fn serve_command<R: Read + Drop, W: Write>(
     let Some(command) = served_by(command) else {
         return Err(ServeFault::Read);
     };
-    let mut first: Vec<Box<dyn Admission + Send>> = Vec::new(alloc);
-    let mut second: Vec<Box<dyn Admission + Send>> = Vec::new(alloc);
-    for _ in 0..MAX_NODES {
-        let Ok(policy) = Box::new(alloc, FirstProblem) else {
-            return Err(ServeFault::Memory);
-        };
-        let Ok(()) = first.push(policy) else {
-            return Err(ServeFault::Memory);
-        };
-        let Ok(policy) = Box::new(alloc, SecondProblem) else {
-            return Err(ServeFault::Memory);
-        };
-        let Ok(()) = second.push(policy) else {
-            return Err(ServeFault::Memory);
-        };
-    }
+    let Ok(pairs) = pairs(alloc) else {
+        return Err(ServeFault::Memory);
+    };
     let order = Order {
         command,
-        policies: Policies { first, second },
+        policies: Policies { pairs },
     };
     serve(alloc, order, reader, writer)
 }

@@ -2,9 +2,10 @@
 //
 // A table has an event and what it does on each line.
 
-use admission_policy::{Admission, FirstProblem};
+use crate::playing::pair;
 use history_check::read_event;
 use lock_messages::ResourceName;
+use lock_model::Problem;
 use std::alloc::Global;
 use test_outcomes::{Failure, Outcome, check, check_row};
 use vote_weights::{Ballot, BallotList};
@@ -23,22 +24,36 @@ fn event(row: &str) -> Option<Event> {
     Some(event)
 }
 
-/// A world of nodes with these votes that solve problem 1, and of four clients, all down.
-fn world(alloc: Global, votes: &[u8], read: u16, write: u16) -> Result<World, Failure> {
+/// A world of nodes with these votes under this problem, and of four clients, all down.
+fn world_under(
+    alloc: Global,
+    problem: Problem,
+    votes: &[u8],
+    read: u16,
+    write: u16,
+) -> Result<World, Failure> {
     let Ok(ballot) = Ballot::of(votes, read, write) else {
         return Err(Failure::Wrong(0));
     };
     let Ok(ballots) = BallotList::of(&[ballot]) else {
         return Err(Failure::Wrong(0));
     };
-    let mut policies: Vec<Box<dyn Admission + Send>> = Vec::new(alloc);
+    let mut pairs = Vec::new(alloc);
     for _ in 0..ballots.nodes() {
-        policies.push(Box::new(alloc, FirstProblem)?)?;
+        pairs.push(pair(alloc)?)?;
     }
-    match World::start(alloc, ballots, 4, policies) {
+    if pairs.len() != ballots.nodes() as usize {
+        return Err(Failure::Wrong(0));
+    }
+    match World::start(alloc, ballots, 4, problem, pairs) {
         Ok(world) => Ok(world),
         Err(_) => Err(Failure::Memory),
     }
+}
+
+/// The same under problem 1.
+fn world(alloc: Global, votes: &[u8], read: u16, write: u16) -> Result<World, Failure> {
+    world_under(alloc, Problem::First, votes, read, write)
 }
 
 const RISE: &str = "\
@@ -52,6 +67,13 @@ rise c4 old > up";
 
 pub(crate) fn three_nodes(alloc: Global) -> Result<World, Failure> {
     let mut world = world(alloc, &[1, 1, 1], 2, 2)?;
+    play(alloc, &mut world, RISE)?;
+    Ok(world)
+}
+
+/// The same under problem 2.
+pub(crate) fn three_nodes_under_the_second(alloc: Global) -> Result<World, Failure> {
+    let mut world = world_under(alloc, Problem::Second, &[1, 1, 1], 2, 2)?;
     play(alloc, &mut world, RISE)?;
     Ok(world)
 }
@@ -74,6 +96,8 @@ fn text(alloc: Global, did: &Result<Effect, StepFault>) -> Result<String, Failur
         Ok(Effect::Softened) => text.push_str("softened")?,
         Ok(Effect::Down) => text.push_str("down")?,
         Ok(Effect::Up) => text.push_str("up")?,
+        Ok(Effect::Switched(true)) => text.push_str("changed")?,
+        Ok(Effect::Switched(false)) => text.push_str("same")?,
     }
     Ok(text)
 }
@@ -234,6 +258,8 @@ sayto c5 n1 > refused 601
 sayto c1 n4 > refused 601
 say n4 > refused 601
 take n4 1 > refused 601
+switch n4 1 > refused 601
+switch n4 2 > refused 601
 hear c5 1 > refused 601
 enter c5 > refused 601
 leave c5 > refused 601
@@ -521,6 +547,15 @@ sayto c2 n1 > refused 605
 leave c1 > outside
 sayto c1 n1 > refused 612";
 
+// Who says nothing needs no room.
+const SAYS_NOTHING: &str = "\
+switch n2 1 > same
+say n2 > said 1048577 0
+switch n2 2 > changed
+try n2 > tried
+kept n2 > kept
+say n2 > said 1048577 0";
+
 /// c1 says its request to n1.
 fn asks_again(world: &mut World) -> Outcome {
     let Some(ask) = event("sayto c1 n1") else {
@@ -541,5 +576,6 @@ fn a_full_list(rt: HostRuntime) -> Outcome {
         asks_again(&mut world)?;
     }
     play(alloc, &mut world, TAKES)?;
-    play(alloc, &mut world, FULL)
+    play(alloc, &mut world, FULL)?;
+    play(alloc, &mut world, SAYS_NOTHING)
 }

@@ -23,12 +23,14 @@ pub(crate) fn parcel(number: u32) -> Parcel {
     }
 }
 
-/// A post by a number: a parcel by its own, a nudge by 100 and its node, an end by 200 and its node.
+/// A post by a number: a parcel by its own, a nudge by 100 and its node, an end by 200 and its node, a switch
+/// by 300 and its problem's number.
 pub(crate) fn number_of(post: &Post) -> u32 {
     match post {
         Post::Parcel(parcel) => parcel.number,
         Post::Nudge(node) => 100 + u32::from(node.get()),
         Post::Gone(node) => 200 + u32::from(node.get()),
+        Post::Switch(number) => 300 + u32::from(*number),
     }
 }
 
@@ -58,10 +60,12 @@ fn posts_of_a_list(rt: HostRuntime) -> Result<(), Fail> {
     posts.push(Post::Parcel(parcel(1)))?;
     posts.push(Post::Nudge(node(2)?))?;
     posts.push(Post::Gone(node(3)?))?;
+    posts.push(Post::Switch(2))?;
+    posts.push(Post::Switch(255))?;
     let mut link = ListLink::of(posts);
     same_numbers(
         &received(rt.alloc(), &mut link)?,
-        &[1, 102, 203],
+        &[1, 102, 203, 302, 555],
         "the posts",
     )?;
     same_numbers(

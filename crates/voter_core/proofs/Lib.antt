@@ -6,4 +6,5 @@ pub mod RangeFacts
 pub mod FreedFacts
 pub mod SoftenFacts
 pub mod QueueFacts
+pub mod AllFacts
 pub mod TakingFacts

@@ -24,11 +24,11 @@ use Rattle.voter_core.proofs.FreedFacts.{all-at, others-settled, told-nothing}
 
 -- ---- an entry in its place
 
-at-seam : (front rest : List Entry) (e : Entry) → slice_get (front ++ e ∷ rest) (length front) ≡ Some e
+pub at-seam : (front rest : List Entry) (e : Entry) → slice_get (front ++ e ∷ rest) (length front) ≡ Some e
 at-seam [] rest e = refl
 at-seam (d ∷ front) rest e = at-seam front rest e
 
-set-seam : (front rest : List Entry) (e f : Entry) → set (front ++ e ∷ rest) (length front) f ≡ front ++ f ∷ rest
+pub set-seam : (front rest : List Entry) (e f : Entry) → set (front ++ e ∷ rest) (length front) f ≡ front ++ f ∷ rest
 set-seam [] rest e f = refl
 set-seam (d ∷ front) rest e f = ap (λ (l : List Entry). d ∷ l) (set-seam front rest e f)
 
@@ -76,7 +76,7 @@ place-of c (d ∷ es) e h = go (λ k. place-of c es e k) (is_of c d) refl
 
 -- ---- one client settles
 
-one-at : (p : Problem) (es : List Entry) (i : ℕ) (e : Entry) → EachOnce es → slice_get es i ≡ Some e → settle_one p e.client es ≡ set es i (settled_entry p es e)
+pub one-at : (p : Problem) (es : List Entry) (i : ℕ) (e : Entry) → EachOnce es → slice_get es i ≡ Some e → settle_one p e.client es ≡ set es i (settled_entry p es e)
 one-at p es i e once at =
     ap (settle_by p es) (found-at es i e once at) ∙ replaced-at es i e (settled_entry p es e) once at refl
 
@@ -118,7 +118,7 @@ not-waiting p x es i client floor (Some l) others at h = go (is_waiting l.status
         let z : true ≡ false = sym (ap (λ b. b && bytes_eq l.resource x) is ∙ here) ∙ h in
         cc
 
-abbrev Walks : Problem → ℕ → List ℕ → List Entry → List Entry → Type 0
+abbrev pub Walks : Problem → ℕ → List ℕ → List Entry → List Entry → Type 0
 Walks p n cs front rest = (settle_each p cs (front ++ rest) ≡ front ++ settle p front rest) × (told_each p n cs (front ++ rest) ≡ grants n rest (settle p front rest))
 
 walk : (p : Problem) (n : ℕ) (x : List ℕ) (front rest : List Entry) → EachOnce (front ++ rest) → OthersStay p (Some x) (front ++ rest) → Walks p n (clients_of (waits_for x) rest) front rest
@@ -239,7 +239,7 @@ some-name [] j h = absurd (omega arith)
 some-name (d ∷ w) zero h = (d, refl)
 some-name (d ∷ w) (suc j) h = some-name w j (omega arith)
 
-drop-next : (w : List ℕ) (k c : ℕ) → slice_get w k ≡ Some c → drop k w ≡ c ∷ drop (suc k) w
+pub drop-next : (w : List ℕ) (k c : ℕ) → slice_get w k ≡ Some c → drop k w ≡ c ∷ drop (suc k) w
 drop-next [] k c at = cc
 drop-next (d ∷ w) zero c at = let is : d ≡ c = cc in ap (λ y. y ∷ w) is
 drop-next (d ∷ w) (suc k) c at = drop-next w k c at
@@ -254,7 +254,7 @@ length-gone [] k c at = cc
 length-gone (d ∷ w) zero c at = omega arith
 length-gone (d ∷ w) (suc k) c at = let h = length-gone w k c at in omega (arith, h)
 
-names-length : (es : List Entry) → length (map (λ (e : Entry). e.client) es) ≡ length es
+pub names-length : (es : List Entry) → length (map (λ (e : Entry). e.client) es) ≡ length es
 names-length [] = refl
 names-length (e ∷ es) = ap (λ n. suc n) (names-length es)
 

@@ -59,7 +59,7 @@ range-entry p es client floor (Some l) h = go (is_waiting l.status && admits p l
     go true = record { client = h.client; floor = h.floor; live = record { attempt = h.live.attempt; resource = h.live.resource } }
     go false = h
 
-range-settle : (p : Problem) (front es : List Entry) → InRange es → InRange (settle p front es)
+pub range-settle : (p : Problem) (front es : List Entry) → InRange es → InRange (settle p front es)
 range-settle p front [] h = tt
 range-settle p front (e ∷ es) h =
     (range-entry p (front ++ e ∷ es) e.client e.floor e.live h.0, range-settle p (front ++ settled_entry p (front ++ e ∷ es) e ∷ []) es h.1)

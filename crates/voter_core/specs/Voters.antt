@@ -1,5 +1,5 @@
 -- One node: its station as it keeps it, and what it is about.
-use Rattle.std.specs.Prelude.{◌≡◌, ◌≢◌, ℕ, ◌-◌, Bool, true, false, ◌&&◌, List, [], Option, Some, None, Err, nat_lt, if◌then◌else◌}
+use Rattle.std.specs.Prelude.{◌≡◌, ◌≢◌, ℕ, ◌-◌, Bool, true, false, not, ◌&&◌, List, [], Option, Some, None, Err, nat_lt, if◌then◌else◌}
 use Rattle.lock_messages.specs.declared.messages.Message.{Message}
 use Rattle.lock_messages.specs.declared.messages.Message.TheVariants.{Request, Release, Grant, Busy, Over, Done, Muddled, Soften, Softened}
 use Rattle.lock_messages.specs.declared.tickets.Mode.{Mode}
@@ -9,9 +9,9 @@ use Rattle.lock_model.specs.declared.entries.Entry.{Entry}
 use Rattle.lock_model.specs.declared.entries.Live.{Live}
 use Rattle.lock_model.specs.declared.problems.Problem.{Problem}
 use Rattle.lock_model.specs.Stations.{IsLawful, IsCaused}
-use Rattle.lock_model.specs.Decisions.{Decides}
+use Rattle.lock_model.specs.Decisions.{Decides, IsSwitched}
 use Rattle.lock_model.specs.ExactStations.{is_waiting, admits, promoted, meaning, entry_of, settled}
-use Rattle.lock_model.specs.ExactDecisions.{decision, changes, ended, reply_to_known}
+use Rattle.lock_model.specs.ExactDecisions.{decision, changes, switches, same_problem, ended, reply_to_known}
 use Rattle.stable_record.specs.declared.node_records.NodeRecord.{NodeRecord}
 use Rattle.stable_record.specs.declared.faults.RecordFault.{RecordFault}
 use Rattle.stable_record.specs.declared.faults.RecordFault.TheVariants as record_fault
@@ -86,6 +86,21 @@ pub record Allows (before : Voter) (m : Message) (after : Voter) : Type 0 where
   pub lawful : IsLawful (meaning after.problem after.entries)
   pub caused : IsCaused (meaning after.problem after.entries)
 
+-- the node after it took this problem: the exact switch
+abbrev pub switched : Voter → Problem → Voter
+switched v p = record {
+  node = v.node;
+  problem = p;
+  entries = (switches v.node p v.entries).entries;
+  state = state_after (not (same_problem v.problem p)) (switches v.node p v.entries).replies;
+}
+
+-- the switch that led from one node to the other is one that it may take
+pub record AllowsSwitch (before : Voter) (p : Problem) (after : Voter) : Type 0 where
+  pub switched : IsSwitched before.node (meaning before.problem before.entries) p (meaning after.problem after.entries) (replies_in after.state)
+  pub lawful : IsLawful (meaning after.problem after.entries)
+  pub caused : IsCaused (meaning after.problem after.entries)
+
 -- the node after its decision was kept
 abbrev pub kept : Voter → Voter
 kept v = record { node = v.node; problem = v.problem; entries = v.entries; state = Stored (replies_in v.state) }
@@ -94,18 +109,16 @@ kept v = record { node = v.node; problem = v.problem; entries = v.entries; state
 abbrev pub spoken : Voter → Voter
 spoken v = record { node = v.node; problem = v.problem; entries = v.entries; state = Idle }
 
--- bytes that are the record of a lawful and caused station of this problem
-pub record IsRecordOf (p : Problem) (bytes : List ℕ) (r : NodeRecord) : Type 0 where
+-- bytes that are the record of a lawful and caused station
+pub record IsRecordOf (bytes : List ℕ) (r : NodeRecord) : Type 0 where
   pub good : IsNodeRecord r
   pub spelled : bytes ≡ node_record_of r
-  pub problem : r.policy ≡ p
 
--- Why a node can't rise with these bytes under this problem: reading them meets this fault, or they
--- are a record of the other problem. Memory may be refused at any time.
-abbrev pub IsRefusedFor : Problem → List ℕ → VoterFault → Type 0
-IsRefusedFor p bytes (fault.Unreadable f) = (reading bytes ≡ Err f) × (f ≢ record_fault.NoMemory)
-IsRefusedFor p bytes fault.OtherProblem = (r : NodeRecord) × IsNodeRecord r × (bytes ≡ node_record_of r) × (r.policy ≢ p)
-IsRefusedFor p bytes fault.Memory = Unit {0}
+-- Why a node can't rise with these bytes: reading them meets this fault. Memory may be refused at any
+-- time.
+abbrev pub IsRefusedFor : List ℕ → VoterFault → Type 0
+IsRefusedFor bytes (fault.Unreadable f) = (reading bytes ≡ Err f) × (f ≢ record_fault.NoMemory)
+IsRefusedFor bytes fault.Memory = Unit {0}
 
 -- the ticket, holding, where it waits and is admitted among the entries
 abbrev pub admitted_now : Problem → List Entry → Option Live → Option Live

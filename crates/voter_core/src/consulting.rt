@@ -1,44 +1,22 @@
-// What is asked of a policy, and what it is told.
+// What a node's policies are told.
 
-ghost use Rattle.std.specs.Prelude.{◌≡◌, ◌↔◌, IsTrue};
+ghost use Rattle.std.specs.Prelude.{◌≡◌};
+ghost use Rattle.std.specs.DynBox.{dyn_box_with};
 ghost use Rattle.lock_messages.specs.declared.tickets.Mode.{Mode};
-ghost use Rattle.lock_model.specs.ExactStations.{admits_reader};
+ghost use Rattle.lock_model.specs.declared.problems.Problem.{Problem};
 
-use admission_policy::{Admission, problem_of};
+use admission_policy::Pair;
 use lock_messages::Mode;
 use lock_model::Problem;
 
-/// Whether both are the same problem.
-pub(crate) fn same_problem(a: Problem, b: Problem) -> bool
-    ensures { IsTrue result ↔ (a ≡ b) }
-{
-    a == b
-}
-
-/// Whether a reader is admitted, by the rule of the station's problem. The policy says so. No core
-/// has a policy of the other problem; such a one would not be asked.
-pub(crate) fn admits_reader(
-    policy: &(dyn Admission + Send),
-    problem: Problem,
-    writer_holds: bool,
-    writer_waits: bool,
-) -> bool
-    ensures { result ≡ admits_reader problem writer_holds writer_waits }
-{
-    if same_problem(problem_of(policy), problem) {
-        policy.admits(writer_holds, writer_waits)
-    } else {
-        problem.admits_reader(writer_holds, writer_waits)
-    }
-}
-
-/// Tells the policy what became of a new ticket: of a reader's once, of a writer's nothing.
-pub(crate) fn note(policy: &mut (dyn Admission + Send), mode: Mode, admitted: bool)
-    ensures reader { mode ≡ Mode.Read → (after : _) × notes policy.old admitted after × (policy.new ≡ (policy.old.0, after)) }
-    ensures writer { mode ≡ Mode.Write → policy.new ≡ policy.old }
+/// Tells the policy of the problem what became of a new ticket: of a reader's once, of a writer's nothing.
+pub(crate) fn note(policies: &mut Pair, problem: Problem, mode: Mode, admitted: bool)
+    ensures first { mode ≡ Mode.Read → problem ≡ Problem.First → (after : _) × notes (policies.old.first.vtable, policies.old.first.value) admitted after × (policies.new ≡ record { first = dyn_box_with policies.old.first policies.old.first.vtable after; second = policies.old.second }) }
+    ensures second { mode ≡ Mode.Read → problem ≡ Problem.Second → (after : _) × notes (policies.old.second.vtable, policies.old.second.value) admitted after × (policies.new ≡ record { first = policies.old.first; second = dyn_box_with policies.old.second policies.old.second.vtable after }) }
+    ensures writer { mode ≡ Mode.Write → policies.new ≡ policies.old }
 {
     match mode {
-        Mode::Read => policy.note(admitted),
+        Mode::Read => policies.note(problem, admitted),
         Mode::Write => {}
     }
 }

@@ -4,16 +4,18 @@ ghost use Rattle.std.specs.Prelude.{◌≡◌, ◌≢◌, ◌≤◌, ◌<◌, �
 ghost use Rattle.std.specs.List.{AllByRecursion};
 ghost use Rattle.std.specs.Option.{option_map_or};
 ghost use Rattle.std.specs.Str.{bytes_eq};
+ghost use Rattle.std.specs.DynBox.{dyn_box_with};
 ghost use Rattle.std.specs.Vec.{vec_len, vec_capacity};
 ghost use Rattle.lock_messages.specs.declared.ids.TheConstants.{MAX_CLIENTS};
 ghost use Rattle.lock_messages.specs.declared.messages.Message.{Message};
 ghost use Rattle.lock_messages.specs.Messages.{IsTicket, IsMessage, is_for_node};
 ghost use Rattle.lock_model.specs.declared.entries.Entry.{Entry};
 ghost use Rattle.lock_model.specs.declared.entries.Live.{Live};
-ghost use Rattle.lock_model.specs.Laws.{IsAllowed};
+ghost use Rattle.lock_model.specs.declared.problems.Problem.{Problem};
+ghost use Rattle.lock_model.specs.Laws.{IsAllowed, IsAllowedSwitch};
 ghost use Rattle.stable_record.specs.Records.{IsNodeRecord};
 ghost use Rattle.lock_model.specs.ExactStations.{EachOnce, IsAboveFloor, entry_of, knows};
-ghost use Rattle.lock_model.specs.ExactDecisions.{ended, live_in, moved_last, reply_to_known, takes_up, releases, softened, softened_entry, softens, decision, Changes, changes};
+ghost use Rattle.lock_model.specs.ExactDecisions.{ended, live_in, moved_last, reply_to_known, takes_up, releases, softened, softened_entry, softens, decision, switches, same_problem, Changes, changes};
 ghost use Rattle.lock_model.specs.Judgement.{is_caused};
 ghost use Rattle.stable_record.specs.EntryLists.{replaced};
 ghost use Rattle.stable_record.specs.Indexing.{IndexesWith, IsEntryAmong, without_live};
@@ -23,9 +25,11 @@ ghost use Rattle.voter_core.specs.Voters.{ends_something, is_admitted, note_for,
 
 use crate::consulting::note;
 use crate::settling::{admits, settle};
-use admission_policy::Admission;
+use admission_policy::Pair;
 use lock_messages::{Attempt, ClientId, Message, Mode, NodeId, ResourceName, Ticket};
-use lock_model::laws::{changes_are_seen, decision_is_allowed, judgement_is_exact};
+use lock_model::laws::{
+    changes_are_seen, decision_is_allowed, judgement_is_exact, switch_is_allowed,
+};
 use lock_model::{Entry, Live, Problem, Status, new_entry, reply_to_known};
 use stable_record::laws::{entries_are_few, strangers_leave_the_index};
 use stable_record::{Entries, NodeRecord, ResourceIndex};
@@ -56,6 +60,13 @@ fn waiting_for(index: &ResourceIndex, freed: &Option<ResourceName>) -> usize
         None => 0,
         Some(resource) => index.waiting_count(resource),
     }
+}
+
+/// Whether both problems are one.
+pub(crate) fn same_problem(a: Problem, b: Problem) -> bool
+    ensures { result ≡ same_problem a b }
+{
+    a == b
 }
 
 /// Whether this is the freed resource.
@@ -255,7 +266,7 @@ fn tells_grants(replies: &[Message]) -> bool
 /// Takes a release: the client's attempts end, and the others settle. It answers whether the entries
 /// changed.
 fn release(
-    policy: &(dyn Admission + Send),
+    policies: &Pair,
     problem: Problem,
     node: NodeId,
     entries: &mut Entries,
@@ -279,7 +290,7 @@ fn release(
     replies.push_reserved(Message::Done(node, client, attempt));
     let waiting = waiting_for(index, &freed);
     settle(
-        policy, problem, node, entries, index, freed, waiting, replies,
+        policies, problem, node, entries, index, freed, waiting, replies,
     );
     Ok(ended || tells_grants(replies))
 }
@@ -287,7 +298,7 @@ fn release(
 /// Takes a softening: the client's ticket of this attempt is softened, and the others settle. It
 /// answers whether the entries changed.
 fn soften(
-    policy: &(dyn Admission + Send),
+    policies: &Pair,
     problem: Problem,
     node: NodeId,
     entries: &mut Entries,
@@ -310,7 +321,7 @@ fn soften(
     replies.push_reserved(Message::Softened(node, client, attempt));
     let waiting = waiting_for(index, &freed);
     settle(
-        policy, problem, node, entries, index, freed, waiting, replies,
+        policies, problem, node, entries, index, freed, waiting, replies,
     );
     softened
 }
@@ -367,9 +378,9 @@ fn make_way(
 }
 
 /// Takes up a new ticket: the attempts before it end, the others settle, and then it is admitted or
-/// waits. The policy is told once of a reader, and never of a writer.
+/// waits. The policy of the problem is told once of a reader, and never of a writer.
 fn take_up(
-    policy: &mut (dyn Admission + Send),
+    policies: &mut Pair,
     problem: Problem,
     node: NodeId,
     entries: &mut Entries,
@@ -386,9 +397,10 @@ fn take_up(
     requires indexed { Indexes index.old entries.old }
     ensures entries { entries.new ≡ (if is_ok result then (takes_up node problem entries.old ticket.now).entries else entries.old) }
     ensures replies { OnOk result (replies.new.items ≡ (takes_up node problem entries.old ticket.now).replies) }
-    ensures told { OnOk result ((b : Bool) → note_for ticket.now.mode (is_admitted problem entries.old ticket.now) ≡ Some b → (after : _) × notes policy.old b after × (policy.new ≡ (policy.old.0, after))) }
-    ensures untold { OnOk result (note_for ticket.now.mode (is_admitted problem entries.old ticket.now) ≡ None → policy.new ≡ policy.old) }
-    ensures refused { OnErr result (policy.new ≡ policy.old) }
+    ensures told_first { OnOk result (problem ≡ Problem.First → (b : Bool) → note_for ticket.now.mode (is_admitted problem entries.old ticket.now) ≡ Some b → (after : _) × notes (policies.old.first.vtable, policies.old.first.value) b after × (policies.new ≡ record { first = dyn_box_with policies.old.first policies.old.first.vtable after; second = policies.old.second })) }
+    ensures told_second { OnOk result (problem ≡ Problem.Second → (b : Bool) → note_for ticket.now.mode (is_admitted problem entries.old ticket.now) ≡ Some b → (after : _) × notes (policies.old.second.vtable, policies.old.second.value) b after × (policies.new ≡ record { first = policies.old.first; second = dyn_box_with policies.old.second policies.old.second.vtable after })) }
+    ensures untold { OnOk result (note_for ticket.now.mode (is_admitted problem entries.old ticket.now) ≡ None → policies.new ≡ policies.old) }
+    ensures refused { OnErr result (policies.new ≡ policies.old) }
     ensures indexed { Indexes index.new entries.new }
 {
     let last = ticket.attempt.get() - 1;
@@ -397,18 +409,18 @@ fn take_up(
     replies.push_reserved(Message::Busy(node, *ticket));
     let waiting = waiting_beside(index, &freed, &ticket.resource);
     settle(
-        policy, problem, node, entries, index, freed, waiting, replies,
+        policies, problem, node, entries, index, freed, waiting, replies,
     );
-    let admitted = admits(policy, problem, index, ticket.mode, &ticket.resource);
+    let admitted = admits(policies, problem, index, ticket.mode, &ticket.resource);
     answer(replies, node, ticket, admitted);
-    note(policy, ticket.mode, admitted);
+    note(policies, problem, ticket.mode, admitted);
     put_last(entries, index, new_entry(ticket, admitted));
     Ok(())
 }
 
 /// Answers a request, and whether the entries changed.
 fn request(
-    policy: &mut (dyn Admission + Send),
+    policies: &mut Pair,
     problem: Problem,
     node: NodeId,
     entries: &mut Entries,
@@ -425,9 +437,10 @@ fn request(
     ensures entries { entries.new ≡ (if is_ok result then (decision problem entries.old (Message.Request node ticket.now)).entries else entries.old) }
     ensures replies { OnOk result (replies.new.items ≡ (decision problem entries.old (Message.Request node ticket.now)).replies) }
     ensures changed { IfOk result (λ b. IsTrue b ↔ Changes problem entries.old (Message.Request node ticket.now)) }
-    ensures told { OnOk result ((b : Bool) → note_of problem entries.old (Message.Request node ticket.now) ≡ Some b → (after : _) × notes policy.old b after × (policy.new ≡ (policy.old.0, after))) }
-    ensures untold { OnOk result (note_of problem entries.old (Message.Request node ticket.now) ≡ None → policy.new ≡ policy.old) }
-    ensures refused { OnErr result (policy.new ≡ policy.old) }
+    ensures told_first { OnOk result (problem ≡ Problem.First → (b : Bool) → note_of problem entries.old (Message.Request node ticket.now) ≡ Some b → (after : _) × notes (policies.old.first.vtable, policies.old.first.value) b after × (policies.new ≡ record { first = dyn_box_with policies.old.first policies.old.first.vtable after; second = policies.old.second })) }
+    ensures told_second { OnOk result (problem ≡ Problem.Second → (b : Bool) → note_of problem entries.old (Message.Request node ticket.now) ≡ Some b → (after : _) × notes (policies.old.second.vtable, policies.old.second.value) b after × (policies.new ≡ record { first = policies.old.first; second = dyn_box_with policies.old.second policies.old.second.vtable after })) }
+    ensures untold { OnOk result (note_of problem entries.old (Message.Request node ticket.now) ≡ None → policies.new ≡ policies.old) }
+    ensures refused { OnErr result (policies.new ≡ policies.old) }
     ensures indexed { Indexes index.new entries.new }
 {
     match reply_to_known(node, ticket, entries.entry_of(ticket.client)) {
@@ -437,7 +450,7 @@ fn request(
         }
         None => {
             take_up(
-                policy, problem, node, entries, index, alloc, ticket, replies,
+                policies, problem, node, entries, index, alloc, ticket, replies,
             )?;
             Ok(true)
         }
@@ -447,7 +460,7 @@ fn request(
 /// Decides on a message: the entries after it, the replies behind none yet, and whether the entries
 /// changed. Memory is refused before anything has changed.
 pub(crate) fn decide(
-    policy: &mut (dyn Admission + Send),
+    policies: &mut Pair,
     problem: Problem,
     entries: &mut Entries,
     index: &mut ResourceIndex,
@@ -463,25 +476,27 @@ pub(crate) fn decide(
     ensures entries { entries.new ≡ (if is_ok result then (decision problem entries.old message.now).entries else entries.old) }
     ensures replies { OnOk result (replies.new.items ≡ (decision problem entries.old message.now).replies) }
     ensures changed { IfOk result (λ b. IsTrue b ↔ Changes problem entries.old message.now) }
-    // The policy is told once of a new reader's ticket, and of nothing else.
-    ensures told { OnOk result ((b : Bool) → note_of problem entries.old message.now ≡ Some b → (after : _) × notes policy.old b after × (policy.new ≡ (policy.old.0, after))) }
-    ensures untold { OnOk result (note_of problem entries.old message.now ≡ None → policy.new ≡ policy.old) }
-    ensures refused { OnErr result (policy.new ≡ policy.old) }
+    // The policy of the problem is told once of a new reader's ticket, and of nothing else; the other of
+    // nothing.
+    ensures told_first { OnOk result (problem ≡ Problem.First → (b : Bool) → note_of problem entries.old message.now ≡ Some b → (after : _) × notes (policies.old.first.vtable, policies.old.first.value) b after × (policies.new ≡ record { first = dyn_box_with policies.old.first policies.old.first.vtable after; second = policies.old.second })) }
+    ensures told_second { OnOk result (problem ≡ Problem.Second → (b : Bool) → note_of problem entries.old message.now ≡ Some b → (after : _) × notes (policies.old.second.vtable, policies.old.second.value) b after × (policies.new ≡ record { first = policies.old.first; second = dyn_box_with policies.old.second policies.old.second.vtable after })) }
+    ensures untold { OnOk result (note_of problem entries.old message.now ≡ None → policies.new ≡ policies.old) }
+    ensures refused { OnErr result (policies.new ≡ policies.old) }
     ensures indexed { Indexes index.new entries.new }
 {
     match message {
         Message::Request(node, ticket) => {
             request(
-                policy, problem, *node, entries, index, alloc, ticket, replies,
+                policies, problem, *node, entries, index, alloc, ticket, replies,
             )
         }
         Message::Release(node, client, attempt) => {
             release(
-                policy, problem, *node, entries, index, *client, *attempt, replies,
+                policies, problem, *node, entries, index, *client, *attempt, replies,
             )
         }
         Message::Soften(node, client, attempt) => Ok(soften(
-            policy, problem, *node, entries, index, *client, *attempt, replies,
+            policies, problem, *node, entries, index, *client, *attempt, replies,
         )),
         Message::Grant(..)
         | Message::Busy(..)
@@ -550,5 +565,17 @@ pub(crate) fn stays_a_record(station: &NodeRecord, node: NodeId, message: &Messa
     is_message(message);
     decision_is_allowed();
     changes_are_seen();
+    entries_are_few();
+}
+
+/// Computes nothing: after a switch to a problem the station is one that can be kept and read again, and
+/// the switch is one that the node may take.
+pub(crate) fn switches_to_a_record(station: &NodeRecord, node: NodeId, problem: Problem)
+    requires { IsNodeRecord station.now }
+    ensures record { IsNodeRecord (record { policy = problem; entries = (switches node problem station.now.entries).entries }) }
+    ensures allowed { IsAllowedSwitch station.now.policy problem station.now.entries node }
+{
+    let _policy = station.policy;
+    switch_is_allowed();
     entries_are_few();
 }

@@ -1,6 +1,6 @@
-// Settling, by going over the clients that wait for the freed resource.
+// Settling, by going over the clients that wait for the freed resource, or over all entries.
 
-ghost use Rattle.std.specs.Prelude.{◌≡◌, ◌≤◌, ◌<◌, ◌+◌, ◌++◌, ℕ, List, Option, Some, true, is_some};
+ghost use Rattle.std.specs.Prelude.{◌≡◌, ◌≤◌, ◌<◌, ◌+◌, ◌++◌, ℕ, List, Option, Some, true, is_some, length, slice_get};
 ghost use Rattle.std.specs.Vec.{vec_len, vec_capacity};
 ghost use Rattle.lock_messages.specs.declared.messages.Message.{Message};
 ghost use Rattle.lock_model.specs.declared.entries.Entry.{Entry};
@@ -14,15 +14,14 @@ ghost use Rattle.voter_core.specs.Voters.{admitted_now};
 ghost use Rattle.voter_core.specs.Freed.{OthersStay, waiting_for};
 ghost use Rattle.voter_core.specs.Queues.{settle_one, told_one};
 
-use crate::consulting::admits_reader;
-use admission_policy::Admission;
+use admission_policy::Pair;
 use lock_messages::{ClientId, Message, Mode, NodeId, ResourceName, Ticket};
 use lock_model::{Entry, Live, Problem, Status};
 use stable_record::{Entries, ResourceIndex};
 
 /// Whether a ticket in this mode for this resource is admitted among the entries that are indexed.
 pub(crate) fn admits(
-    policy: &(dyn Admission + Send),
+    policies: &Pair,
     problem: Problem,
     index: &ResourceIndex,
     mode: Mode,
@@ -35,14 +34,14 @@ pub(crate) fn admits(
         Mode::Read => {
             let writer_holds = index.has_writing_holder(resource);
             let writer_waits = index.has_waiting_writer(resource);
-            admits_reader(policy, problem, writer_holds, writer_waits)
+            policies.admits(problem, writer_holds, writer_waits)
         }
     }
 }
 
 /// The ticket, holding, where it waits and is admitted among the entries that are indexed.
 fn admitted_now(
-    policy: &(dyn Admission + Send),
+    policies: &Pair,
     problem: Problem,
     index: &ResourceIndex,
     live: Option<Live>,
@@ -50,7 +49,7 @@ fn admitted_now(
     ensures { (a : Option (ℕ × List ℕ)) (entries : List Entry) → IndexesWith a index.now entries → result ≡ admitted_now problem entries live }
 {
     let live = live?;
-    if live.waits() && admits(policy, problem, index, live.mode, &live.resource) {
+    if live.waits() && admits(policies, problem, index, live.mode, &live.resource) {
         let status = Status::Holding;
         Some(Live { status, ..live })
     } else {
@@ -89,7 +88,7 @@ fn hold(entries: &mut Entries, index: &mut ResourceIndex, entry: &Entry, live: L
 /// It is a client's turn: where its ticket is admitted it becomes a holder and is told a Grant. It
 /// answers whether it did.
 fn settle_client(
-    policy: &(dyn Admission + Send),
+    policies: &Pair,
     problem: Problem,
     node: NodeId,
     entries: &mut Entries,
@@ -110,7 +109,7 @@ fn settle_client(
     let Some(entry) = entries.entry_of(client) else {
         return false;
     };
-    let Some(live) = admitted_now(policy, problem, index, entry.live) else {
+    let Some(live) = admitted_now(policies, problem, index, entry.live) else {
         return false;
     };
     replies.push_reserved(grant(node, client, &live));
@@ -121,7 +120,7 @@ fn settle_client(
 /// Settles the entries of a resource for which so many wait, and adds the Grants of those that became
 /// holders. A client that becomes a holder leaves its place to the next.
 fn settle_resource(
-    policy: &(dyn Admission + Send),
+    policies: &Pair,
     problem: Problem,
     node: NodeId,
     entries: &mut Entries,
@@ -142,16 +141,48 @@ fn settle_resource(
     let mut place = 0usize;
     for turn in 0..waiting {
         let client = index.waiting_at(resource, place).unwrap();
-        if !settle_client(policy, problem, node, entries, index, client, replies) {
+        if !settle_client(policies, problem, node, entries, index, client, replies) {
             place += 1;
         }
+    }
+}
+
+/// The client of the entry at a place; none exactly where there is no entry.
+fn client_at(entries: &Entries, place: usize) -> Option<ClientId>
+    ensures { result ≡ option_map (λ e. e.client) (slice_get entries.now place) }
+{
+    match entries.get(place) {
+        None => None,
+        Some(entry) => Some(entry.client),
+    }
+}
+
+/// Settles all entries, each in its turn, and adds the Grants of those that became holders.
+pub(crate) fn settle_all(
+    policies: &Pair,
+    problem: Problem,
+    node: NodeId,
+    entries: &mut Entries,
+    index: &mut ResourceIndex,
+    replies: &mut Vec<Message>,
+)
+    requires room { vec_len replies.old + length entries.old ≤ vec_capacity replies.old }
+    requires indexed { (a : Option (ℕ × List ℕ)) × IndexesWith a index.old entries.old }
+    ensures entries { entries.new ≡ settled problem entries.old }
+    ensures replies { replies.new.items ≡ replies.old.items ++ grants node entries.old entries.new }
+    ensures indexed { (a : Option (ℕ × List ℕ)) → IndexesWith a index.old entries.old → IndexesWith a index.new entries.new }
+{
+    let many = entries.len();
+    for place in 0..many {
+        let client = client_at(entries, place).unwrap();
+        settle_client(policies, problem, node, entries, index, client, replies);
     }
 }
 
 /// Settles the entries where a ticket for this resource ended or was softened, for which so many wait,
 /// and adds the Grants of those that became holders. Who waits for another resource has a cause still.
 pub(crate) fn settle(
-    policy: &(dyn Admission + Send),
+    policies: &Pair,
     problem: Problem,
     node: NodeId,
     entries: &mut Entries,
@@ -170,7 +201,7 @@ pub(crate) fn settle(
 {
     if let Some(resource) = freed {
         settle_resource(
-            policy, problem, node, entries, index, &resource, waiting, replies,
+            policies, problem, node, entries, index, &resource, waiting, replies,
         );
     }
 }

@@ -1,37 +1,40 @@
 // One node.
 
-ghost use Rattle.std.specs.Prelude.{◌≡◌, ◌≢◌, ◌↔◌, if◌then◌else◌, true, length, IsTrue, IfOk, IfErr, OnOk, OnErr, IsOkUnless};
+ghost use Rattle.std.specs.Prelude.{◌≡◌, ◌↔◌, true, not, length, IsTrue, IfOk, IfErr, OnOk, OnErr, IsOkUnless};
 ghost use Rattle.lock_messages.specs.Messages.{is_for_node};
-ghost use Rattle.lock_model.specs.ExactDecisions.{Changes, changes};
+ghost use Rattle.lock_model.specs.ExactDecisions.{Changes, changes, same_problem};
 ghost use Rattle.stable_record.specs.declared.node_records.NodeRecord.{NodeRecord};
 ghost use Rattle.stable_record.specs.Lines.{Indexes};
 ghost use Rattle.stable_record.specs.Records.{IsNodeRecord, node_record_of};
-ghost use Rattle.voter_core.specs.Voters.{phase_in, replies_in, record_of, risen, taken, Allows, kept, spoken, IsRecordOf, IsRefusedFor};
+ghost use Rattle.voter_core.specs.Voters.{phase_in, replies_in, record_of, risen, taken, switched, Allows, AllowsSwitch, kept, spoken, IsRecordOf, IsRefusedFor};
 
-use crate::consulting::same_problem;
-use crate::deciding::{decide, freed_by, is_caused, room_for, stays_a_record};
+use crate::deciding::{
+    decide, freed_by, is_caused, room_for, same_problem, stays_a_record, switches_to_a_record,
+};
 use crate::phases::phase_after;
 use crate::rising::read_record;
+use crate::settling::settle_all;
 use crate::{Phase, VoterFault};
-use admission_policy::{Admission, problem_of};
+use admission_policy::Pair;
 use lock_messages::{Message, NodeId};
+use lock_model::Problem;
 use stable_record::{IndexedRecord, NodeRecord, ResourceIndex, node_bytes};
 use std::alloc::Global;
 use std::marker::Model;
 use std::mem;
 
-/// One node: its number, its station, its policy, and what it is about.
+/// One node: its number, its station, its policies, and what it is about.
 ///
 /// Contracts see the number, the station as a problem and entries in order, and the phase with its
-/// replies. They do not see the policy, which decides nothing: it answers by the station's problem,
-/// and is told what became of readers.
+/// replies. They do not see the policies, which decide nothing: that of the station's present problem is
+/// asked, and is told what became of readers.
 #[derive(Drop)]
 pub struct NodeCore {
     alloc: Global,
     id: NodeId,
     station: NodeRecord,
     index: ResourceIndex,
-    policy: Box<dyn Admission + Send>,
+    policies: Pair,
     about: Phase,
     told: Vec<Message>,
 }
@@ -47,78 +50,67 @@ impl Model for NodeCore {
 }
 
 impl NodeCore {
-    /// The node with this number, at rest, with the station that its record has.
+    /// The node with this number, at rest, with the station that its record has, of whichever problem.
     ///
-    /// A refusal hands the policy back: 501 where the bytes are no node record, with the first fault
-    /// that reading them meets; 502 where the record is of the other problem than the policy; 503
-    /// where memory was refused, which may come before both.
+    /// A refusal hands the policies back: 501 where the bytes are no node record, with the first fault
+    /// that reading them meets; 503 where memory was refused, which may come before it.
     pub fn rise(
         alloc: Global,
         node: NodeId,
         bytes: &[u8],
-        policy: Box<dyn Admission + Send>,
-    ) -> Result<NodeCore, (Box<dyn Admission + Send>, VoterFault)>
+        policies: Pair,
+    ) -> Result<NodeCore, (Pair, VoterFault)>
         requires { Unit {0} }
-        // The station is the record's.
-        ensures risen { IfOk result (λ core. (r : NodeRecord) × IsRecordOf (problem_of policy) bytes.now r × (core ≡ risen node r)) }
-        ensures refused { IfErr result (λ back. (back.0 ≡ policy) × IsRefusedFor (problem_of policy) bytes.now back.1) }
-        // A record of the policy's problem is refused for memory alone.
-        ensures only { (r : NodeRecord) → IsRecordOf (problem_of policy) bytes.now r → IfErr result (λ back. back.1 ≡ VoterFault.Memory) }
+        // The station is the record's, its problem too.
+        ensures risen { IfOk result (λ core. (r : NodeRecord) × IsRecordOf bytes.now r × (core ≡ risen node r)) }
+        ensures refused { IfErr result (λ back. (back.0 ≡ policies) × IsRefusedFor bytes.now back.1) }
+        // A record is refused for memory alone.
+        ensures only { (r : NodeRecord) → IsRecordOf bytes.now r → IfErr result (λ back. back.1 ≡ VoterFault.Memory) }
     {
         let station = match read_record(alloc, bytes) {
             Ok(station) => station,
-            Err(fault) => return Err((policy, fault)),
+            Err(fault) => return Err((policies, fault)),
         };
         let Ok(station) = IndexedRecord::of(alloc, station) else {
-            return Err((policy, VoterFault::Memory));
+            return Err((policies, VoterFault::Memory));
         };
-        match NodeCore::rise_with(alloc, node, station, policy) {
-            Ok(core) => Ok(core),
-            Err((policy, _)) => Err((policy, VoterFault::OtherProblem)),
-        }
+        Ok(NodeCore::rise_with(alloc, node, station, policies))
     }
 
     /// The node with this number, at rest, with this station and its index. It takes no memory.
     ///
     /// The caller owes that the station is a record that can be kept and read again: one that
     /// `read_node` answered, that of a core (`record`), or a copy of either; one without entries is.
-    /// A refusal hands the policy and the station back: the station is of the other problem than the
-    /// policy.
     pub fn rise_with(
         alloc: Global,
         node: NodeId,
         station: IndexedRecord,
-        policy: Box<dyn Admission + Send>,
-    ) -> Result<NodeCore, (Box<dyn Admission + Send>, IndexedRecord)>
+        policies: Pair,
+    ) -> NodeCore
         requires { IsNodeRecord station }
-        ensures risen { IfOk result (λ core. (station.policy ≡ problem_of policy) × (core ≡ risen node station)) }
-        ensures refused { IfErr result (λ back. (back.0 ≡ policy) × (back.1 ≡ station) × (station.policy ≢ problem_of policy)) }
+        ensures { result ≡ risen node station }
     {
-        if !same_problem(station.record().policy, problem_of(&*policy)) {
-            return Err((policy, station));
-        }
         let (station, index) = station.into_parts();
-        Ok(NodeCore {
+        NodeCore {
             alloc,
             id: node,
             station,
             index,
-            policy,
+            policies,
             about: Phase::Idle,
             told: Vec::new(alloc),
-        })
+        }
     }
 
-    /// Puts the node back at rest with the station that its record has, as a restart does; the policy
-    /// stays. What it was about is lost.
+    /// Puts the node back at rest with the station that its record has, as a restart does; the policies
+    /// stay. What it was about is lost, and so is a problem that was not kept.
     ///
-    /// A refusal changes nothing: 501, 502 (the record is of the other problem than the station) and
-    /// 503 as in `rise`.
+    /// A refusal changes nothing: 501 and 503 as in `rise`.
     pub fn restart(&mut self, bytes: &[u8]) -> Result<(), VoterFault>
         requires { Unit {0} }
-        ensures risen { OnOk result ((r : NodeRecord) × IsRecordOf self.old.problem bytes.now r × (self.new ≡ risen self.old.node r)) }
-        ensures refused { IfErr result (λ fault. (self.new ≡ self.old) × IsRefusedFor self.old.problem bytes.now fault) }
-        ensures only { (r : NodeRecord) → IsRecordOf self.old.problem bytes.now r → IfErr result (λ fault. fault ≡ VoterFault.Memory) }
+        ensures risen { OnOk result ((r : NodeRecord) × IsRecordOf bytes.now r × (self.new ≡ risen self.old.node r)) }
+        ensures refused { IfErr result (λ fault. (self.new ≡ self.old) × IsRefusedFor bytes.now fault) }
+        ensures only { (r : NodeRecord) → IsRecordOf bytes.now r → IfErr result (λ fault. fault ≡ VoterFault.Memory) }
     {
         let station = match read_record(self.alloc, bytes) {
             Ok(station) => station,
@@ -127,32 +119,23 @@ impl NodeCore {
         let Ok(station) = IndexedRecord::of(self.alloc, station) else {
             return Err(VoterFault::Memory);
         };
-        if self.restart_with(station) {
-            Ok(())
-        } else {
-            Err(VoterFault::OtherProblem)
-        }
+        self.restart_with(station);
+        Ok(())
     }
 
-    /// Puts the node back at rest with this station, and answers whether it did; the policy stays.
-    /// What it was about is lost. It takes no memory.
+    /// Puts the node back at rest with this station; the policies stay. What it was about is lost. It
+    /// takes no memory.
     ///
-    /// The caller owes that the station is a record, as in `rise_with`. A station of the other
-    /// problem changes nothing.
-    pub fn restart_with(&mut self, station: IndexedRecord) -> bool
+    /// The caller owes that the station is a record, as in `rise_with`.
+    pub fn restart_with(&mut self, station: IndexedRecord)
         requires { IsNodeRecord station }
-        ensures answer { IsTrue result ↔ (station.policy ≡ self.old.problem) }
-        ensures risen { self.new ≡ (if result then risen self.old.node station else self.old) }
+        ensures { self.new ≡ risen self.old.node station }
     {
-        if !same_problem(station.record().policy, self.station.policy) {
-            return false;
-        }
         let (station, index) = station.into_parts();
         self.station = station;
         self.index = index;
         self.about = Phase::Idle;
         self.told = Vec::new(self.alloc);
-        true
     }
 
     /// The node's station, as a record; from `take` on the decided one. It can be kept and read
@@ -198,7 +181,8 @@ impl NodeCore {
     /// The caller owes that the node is idle (`phase`) and that the message is for it
     /// (`Message::is_for_node`, of `node`). The rules are those of problems 1 and 2 (Courtois, Heymans and
     /// Parnas 1971), for the node's own vote; attempts, floors, softening and the order of entries are
-    /// our own. The policy is told once of each new reader's ticket, and of nothing else. The only error
+    /// our own. The policy of the present problem is told once of each new reader's ticket, and of nothing
+    /// else; the other is told nothing. The only error
     /// is want of memory (503), and then nothing has changed. Where a ticket ends or is softened, those
     /// that wait for its resource are asked one after the other, each by look-ups; no others are, and the
     /// replies take room for these alone. Only a new ticket's entry costs more, where entries stand behind
@@ -223,9 +207,9 @@ impl NodeCore {
         let problem = self.station.policy;
         let entries = &mut self.station.entries;
         let index = &mut self.index;
-        let policy = &mut *self.policy;
+        let policies = &mut self.policies;
         let Ok(changed) = decide(
-            policy,
+            policies,
             problem,
             entries,
             index,
@@ -235,6 +219,40 @@ impl NodeCore {
         ) else {
             return Err(VoterFault::Memory);
         };
+        self.told = replies;
+        self.about = phase_after(changed);
+        Ok(changed)
+    }
+
+    /// Takes this problem from now on, whatever the node's was, and answers whether it is another one. If
+    /// it is, the record has to be kept before the node replies (Decided); else what there is to say may
+    /// be said at once (Stored). The replies are the Grants of the tickets that settling made holders, in
+    /// the order of the entries, perhaps none.
+    ///
+    /// All tickets settle under the problem, each in its turn, so no one waits without a cause; nobody
+    /// who holds is sent away (our own; the problems are those of Courtois, Heymans and Parnas 1971). The
+    /// policies are told nothing. The caller owes that the node is idle (`phase`). The only error is want
+    /// of memory (503), which is asked for the replies, and then nothing has changed.
+    pub fn switch(&mut self, problem: Problem) -> Result<bool, VoterFault>
+        requires { phase_in self.old.state ≡ Phase.Idle }
+        ensures exact { OnOk result (self.new ≡ switched self.old problem) }
+        ensures answer { IfOk result (λ b. b ≡ not (same_problem self.old.problem problem)) }
+        // It is a switch that the node may take, and the station after it is lawful and caused.
+        ensures allowed { OnOk result (AllowsSwitch self.old problem self.new) }
+        ensures memory { IsOkUnless result VoterFault.Memory }
+        ensures unchanged { OnErr result (self.new ≡ self.old) }
+    {
+        switches_to_a_record(&self.station, self.id, problem);
+        let mut replies = Vec::new(self.alloc);
+        if replies.reserve(self.station.entries.len()).is_err() {
+            return Err(VoterFault::Memory);
+        }
+        let policies = &self.policies;
+        let entries = &mut self.station.entries;
+        let index = &mut self.index;
+        settle_all(policies, problem, self.id, entries, index, &mut replies);
+        let changed = !same_problem(self.station.policy, problem);
+        self.station.policy = problem;
         self.told = replies;
         self.about = phase_after(changed);
         Ok(changed)
@@ -285,11 +303,11 @@ impl NodeCore {
         mem::replace(&mut self.told, Vec::new(self.alloc))
     }
 
-    /// The policy, where the node falls: all but its record is lost. It takes no memory.
-    pub fn fall(self) -> Box<dyn Admission + Send>
+    /// The policies, where the node falls: all but its record is lost. It takes no memory.
+    pub fn fall(self) -> Pair
         requires { Unit {0} }
     {
-        let NodeCore { policy, .. } = self;
-        policy
+        let NodeCore { policies, .. } = self;
+        policies
     }
 }

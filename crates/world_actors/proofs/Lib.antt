@@ -1,1 +1,2 @@
 pub mod ClientFacts
+pub mod NodeFacts

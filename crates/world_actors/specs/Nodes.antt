@@ -41,13 +41,8 @@ abbrev pub IsInStepIf : Bool → Voter → NodeRecord → Option NodeRecord → 
 IsInStepIf true core kept tried = IsInStep core.state (record_of core) kept tried
 IsInStepIf false core kept tried = Unit {0}
 
--- a record that the core can be put back to
-pub record IsRecordFor (core : Voter) (r : NodeRecord) : Type 0 where
-  pub good : IsNodeRecord r
-  pub problem : r.policy ≡ core.problem
-
 -- what holds of each node
 pub record IsActing (core : Voter) (k : NodeRecord) (t : Option NodeRecord) (up : Bool) : Type 0 where
-  pub kept : IsRecordFor core k
-  pub tried : IfSome t (IsRecordFor core)
+  pub kept : IsNodeRecord k
+  pub tried : IfSome t IsNodeRecord
   pub in_step : IsInStepIf up core k t

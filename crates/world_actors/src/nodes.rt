@@ -1,19 +1,20 @@
 // One node of the world.
 
-ghost use Rattle.std.specs.Prelude.{◌≡◌, ◌≢◌, ℕ, Err, length, true, IsOk, IfOk, IfErr, OnOk, OnErr, IsOkUnless};
+ghost use Rattle.std.specs.Prelude.{◌≡◌, ℕ, Err, length, true, IsOk, IfOk, IfErr, OnOk, OnErr, IsOkUnless};
 ghost use Rattle.lock_messages.specs.Messages.{is_for_node};
+ghost use Rattle.lock_model.specs.declared.problems.Problem.{Problem};
 ghost use Rattle.lock_model.specs.ExactDecisions.{changes};
 ghost use Rattle.stable_record.specs.Records.{IsNodeRecord};
 ghost use Rattle.world_model.specs.declared.events.Effect.TheVariants as effect;
 ghost use Rattle.world_model.specs.declared.exact.ExactNodePhase.TheVariants as phase;
-ghost use Rattle.world_model.specs.ExactNodes.{tries_station_in, keeps_station_in, says_in, takes_in, decided_on, node_falls_in, node_rises_in, node_rises_with};
+ghost use Rattle.world_model.specs.ExactNodes.{tries_station_in, keeps_station_in, says_in, takes_in, decided_on, switches_in, node_falls_in, node_rises_in, node_rises_with};
 ghost use Rattle.world_model.specs.Openings.{down_node, empty_station};
 ghost use Rattle.world_model.specs.Parts.{turn_says};
 ghost use Rattle.world_model.specs.Turns.{acts, speaks};
 ghost use Rattle.world_actors.specs.Acting.{IsRefusedTurn, MayTake, IsRefusedTake};
 ghost use Rattle.world_actors.specs.Nodes.{station_in};
 
-use admission_policy::{Admission, problem_of};
+use admission_policy::Pair;
 use lock_messages::{Message, NodeId};
 use lock_model::{Problem, laws};
 use stable_record::{Entries, IndexedRecord, NodeRecord};
@@ -24,7 +25,7 @@ use world_model::{Age, StepFault};
 
 /// One node of the world: what it has kept, what it tries to keep, and its core while it is up.
 ///
-/// Contracts see its number and its part of the world. They do not see the policy, which stays for good.
+/// Contracts see its number and its part of the world. They do not see the policies, which stay for good.
 #[derive(Drop)]
 pub struct WorldNode {
     alloc: Global,
@@ -56,14 +57,6 @@ fn empty_record(alloc: Global, problem: Problem) -> NodeRecord
     }
 }
 
-/// The same, with its index.
-fn empty_indexed(alloc: Global, problem: Problem) -> IndexedRecord
-    ensures empty { station_in result ≡ empty_station problem }
-    ensures good { IsNodeRecord result }
-{
-    IndexedRecord::empty(alloc, problem)
-}
-
 /// A copy of a record, with its index. The only error is want of memory.
 fn indexed_copy(alloc: Global, station: &NodeRecord) -> Result<IndexedRecord, AllocError>
     ensures { IfOk result (λ copy. copy ≡ station.now) }
@@ -79,50 +72,31 @@ impl WorldNode {
     /// The node with this number, down, with this record kept and nothing tried. It takes no memory.
     ///
     /// The caller owes a record that can be kept and read again: one that `read_node` answered, or a
-    /// copy of one. The policy and the record come back where the record is of the other problem.
-    pub fn opened(
-        alloc: Global,
-        id: NodeId,
-        station: NodeRecord,
-        policy: Box<dyn Admission + Send>,
-    ) -> Result<WorldNode, (Box<dyn Admission + Send>, NodeRecord)>
+    /// copy of one. The node's problem is the record's.
+    pub fn opened(alloc: Global, id: NodeId, station: NodeRecord, policies: Pair) -> WorldNode
         requires { IsNodeRecord station }
-        ensures problem { OnOk result (station.policy ≡ problem_of policy) }
-        ensures number { IfOk result (λ node. node.number ≡ id) }
-        ensures down { IfOk result (λ node. node.part ≡ down_node (station_in station)) }
-        ensures refused { IfErr result (λ back. (back.0 ≡ policy) × (back.1 ≡ station) × (station.policy ≢ problem_of policy)) }
-    {
-        let empty = empty_indexed(alloc, station.policy);
-        match NodeCore::rise_with(alloc, id, empty, policy) {
-            Ok(core) => Ok(WorldNode {
-                alloc,
-                core,
-                kept: station,
-                tried: None,
-                up: false,
-            }),
-            Err((policy, _)) => Err((policy, station)),
-        }
-    }
-
-    /// The node with this number, down, with a record without entries kept and nothing tried. It takes
-    /// no memory.
-    pub fn empty(alloc: Global, id: NodeId, policy: Box<dyn Admission + Send>) -> WorldNode
-        requires { Unit {0} }
         ensures number { result.number ≡ id }
-        ensures down { result.part ≡ down_node (empty_station (problem_of policy)) }
+        ensures down { result.part ≡ down_node (station_in station) }
     {
-        let problem = problem_of(&*policy);
-        let Ok(core) = NodeCore::rise_with(alloc, id, empty_indexed(alloc, problem), policy) else {
-            unreachable!();
-        };
+        let empty = IndexedRecord::empty(alloc, station.policy);
         WorldNode {
             alloc,
-            core,
-            kept: empty_record(alloc, problem),
+            core: NodeCore::rise_with(alloc, id, empty, policies),
+            kept: station,
             tried: None,
             up: false,
         }
+    }
+
+    /// The node with this number, down, with a record of this problem without entries kept and nothing
+    /// tried. It takes no memory.
+    pub fn empty(alloc: Global, id: NodeId, problem: Problem, policies: Pair) -> WorldNode
+        requires { Unit {0} }
+        ensures number { result.number ≡ id }
+        ensures down { result.part ≡ down_node (empty_station problem) }
+    {
+        let station = empty_record(alloc, problem);
+        WorldNode::opened(alloc, id, station, policies)
     }
 
     /// The node's number.
@@ -227,12 +201,14 @@ impl WorldNode {
         }
     }
 
-    /// Whether the node may take a message, or why not: the own part of the event `Take`.
+    /// Whether the node may take a message, or why not: the own part of the event `Take`. A switch is
+    /// refused alike.
     ///
     /// Refused while the node is down (602) and while it is not idle (604).
     pub fn may_take(&self) -> Result<(), StepFault>
         ensures idle { OnOk result (self.now.part.phase ≡ phase.Idle) }
         ensures refused { IfErr result (λ f. (number : ℕ) → takes_in self.now.number number self.now.part self.now.part.phase ≡ Err f) }
+        ensures no_switch { IfErr result (λ f. (problem : Problem) → switches_in self.now.number problem self.now.part self.now.part.phase ≡ Err f) }
     {
         if !self.up {
             return Err(StepFault::Down);
@@ -264,6 +240,28 @@ impl WorldNode {
             return Err(StepFault::NotAddressed);
         }
         match self.core.take(message) {
+            Ok(changed) => Ok(changed),
+            Err(_) => Err(StepFault::Memory),
+        }
+    }
+
+    /// Takes this problem from now on, and answers whether it is another one than the kept record's: the
+    /// event `Switch`. All tickets settle under it.
+    ///
+    /// Refused while the node is down (602) and while it is not idle (604), and then for want of memory
+    /// (613).
+    pub fn switch(&mut self, problem: Problem) -> Result<bool, StepFault>
+        requires { Unit {0} }
+        ensures done { IfOk result (λ b. switches_in self.old.number problem self.old.part self.old.part.phase ≡ acts self.new.part (effect.Switched b)) }
+        ensures refused { IfErr result (λ f. IsRefusedTurn (switches_in self.old.number problem self.old.part self.old.part.phase) f) }
+        ensures unchanged { OnErr result (self.new ≡ self.old) }
+        ensures number { self.new.number ≡ self.old.number }
+    {
+        laws::switch_is_allowed();
+        if let Err(fault) = self.may_take() {
+            return Err(fault);
+        }
+        match self.core.switch(problem) {
             Ok(changed) => Ok(changed),
             Err(_) => Err(StepFault::Memory),
         }

@@ -63,11 +63,11 @@ client-does w e c turn cs k u r is at s h =
     subst (λ xs. Does e (step w e) w r (with_clients w xs)) (client-put w cs c u is)
     (does-turned w e (with_client_at w c) client_part turn false k u r s (λ q. absurd (let p : false ≡ true = q in cc)) (λ q. absurd (let p : false ≡ true = q in cc)) (ap (with_clients w) (set-same w.clients c k.part (client-there w cs c k is at))) h)
 
-pub act-node : (w : ExactWorld) (n : ℕ) (act : NodeAct) (ns : List ActingNode) (v u : ActingNode) (r : Result Effect StepFault) → w.nodes ≡ map node_part ns → numbered ns n ≡ Some v →
-    Turned (node_asks act) node_part (node_turn act v.part) v r u → Does (node_event n act) (step w (node_event n act)) w r (with_nodes w (map node_part (slice_set ns (n - 1) u)))
-act-node w n act ns v u r is at h =
-    node-does w (node_event n act) n (node_turn act v.part) (node_asks act) ns v u r is at (step-node w (node_event n act) n (λ x. node_turn act x) v.part (node-deed n act) (node-there w ns n v is at))
-    (λ q. node-asks n act ∙ q) (node-acts act v.part) h
+pub act-node : (w : ExactWorld) (n : ℕ) (act : NodeAct) (ns : List ActingNode) (v u : ActingNode) (r : Result Effect StepFault) → w.nodes ≡ map node_part ns → AreNodes ns → numbered ns n ≡ Some v →
+    Turned (node_asks act) node_part (node_turn act v.number v.part) v r u → Does (node_event n act) (step w (node_event n act)) w r (with_nodes w (map node_part (slice_set ns (n - 1) u)))
+act-node w n act ns v u r is order at h =
+    node-does w (node_event n act) n (node_turn act n v.part) (node_asks act) ns v u r is at (step-node w (node_event n act) n (λ x. node_turn act n x) v.part (node-deed n act) (node-there w ns n v is at))
+    (λ q. node-asks n act ∙ q) (node-acts act n v.part) (subst (λ m. Turned (node_asks act) node_part (node_turn act m v.part) v r u) (order n v at) h)
 
 pub act-client : (w : ExactWorld) (c : ℕ) (act : ClientAct) (cs : List ActingClient) (k u : ActingClient) (r : Result Effect StepFault) → w.clients ≡ map client_part cs → AreClients w.ballots cs → numbered cs c ≡ Some k →
     Turned false client_part (client_turn act k.number k.ballots k.part) k r u → Does (client_event c act) (step w (client_event c act)) w r (with_clients w (map client_part (slice_set cs (c - 1) u)))

@@ -16,7 +16,7 @@ use Rattle.world_model.specs.Forgetting.{IsSound}
 use Rattle.world_model.specs.Openings.{down_node, down_client, empty_station, resumed, IsResumable}
 use Rattle.world_opening.specs.Openings.{AreRecords, AreAttempts, station_in, stations_in}
 use Rattle.world_machine.specs.Machines.{node_part, client_part, world_view, AreNodes, AreClients, IsWorld}
-use Rattle.world_machine.specs.Opened.{problems_in, CanOpen}
+use Rattle.world_machine.specs.Opened.{CanOpen}
 use Rattle.world_model.specs.Numbered.{past-zero, numbered-one, numbered-next}
 
 -- lists with one more
@@ -56,16 +56,6 @@ map-more f g xs ys i x d h within is =
 
 -- the first of a list, and the rest
 
-pub first-solves : {X : Type 0} (f : X → Problem) (rs : List NodeRecord) (ps : List X) (r : NodeRecord) (p : X) → problems_in rs ≡ map f ps → 0 < length rs → r ≡ get_or rs 0 r → p ≡ get_or ps 0 p → r.policy ≡ f p
-first-solves f [] ps r p same some at_r at_p = absurd (omega arith)
-first-solves f (x ∷ rs) [] r p same some at_r at_p = absurd (cc)
-first-solves f (x ∷ rs) (y ∷ ps) r p same some at_r at_p = ap (λ s. s.policy) at_r ∙ (let e : x.policy ≡ f y = cc in e) ∙ ap f (sym at_p)
-
-pub rest-solves : {X : Type 0} (f : X → Problem) (rs : List NodeRecord) (ps qs : List X) → problems_in rs ≡ map f ps → 0 < length rs → qs ≡ remove ps 0 → problems_in (remove rs 0) ≡ map f qs
-rest-solves f [] ps qs same some left = absurd (omega arith)
-rest-solves f (x ∷ rs) [] qs same some left = absurd (cc)
-rest-solves f (x ∷ rs) (y ∷ ps) qs same some left = let e : problems_in rs ≡ map f ps = cc in e ∙ ap (map f) (sym left)
-
 pub first-good : (rs : List NodeRecord) (r : NodeRecord) → AllByRecursion IsNodeRecord rs → 0 < length rs → r ≡ get_or rs 0 r → IsNodeRecord r
 first-good [] r good some at = absurd (omega arith)
 first-good (x ∷ rs) r good some at = subst IsNodeRecord (sym at) good.0
@@ -77,6 +67,13 @@ rest-good (x ∷ rs) good = good.1
 pub rest-length : {A : Type 0} (xs : List A) → 0 < length xs → length (remove xs 0) + 1 ≡ length xs
 rest-length [] some = absurd (omega arith)
 rest-length (x ∷ xs) some = omega arith
+
+-- two lists that are equally long stay so without their first
+pub rest-same : {A B : Type 0} (xs : List A) (ys : List B) (us : List A) (vs : List B) → length xs ≡ length ys → 0 < length ys → us ≡ remove xs 0 → vs ≡ remove ys 0 → length us ≡ length vs
+rest-same xs ys us vs same some left right =
+    let a = rest-length xs (omega (arith, same, some)) in
+    let b = rest-length ys some in
+    ap length left ∙ (let e : length (remove xs 0) ≡ length (remove ys 0) = omega (arith, a, b, same) in e) ∙ ap length (sym right)
 
 -- the first of the records goes over to the nodes
 pub parts-more : (vs : List ActingNode) (n : ℕ) (rs : List NodeRecord) (r : NodeRecord) → 0 < length rs → r ≡ get_or rs 0 r →
@@ -99,66 +96,45 @@ all-numbered {A} P (x ∷ xs) h = (h 1 x refl, all-numbered P xs (λ n a e. h (n
         let one = (numbered-one xs n a e).0 in
         ap (slice_get (x ∷ xs)) (let m : n ≡ suc (n - 1) = omega (arith, one) in m) ∙ (sym (past-zero xs n one) ∙ e)
 
-same-each : (rs : List NodeRecord) (ps : List Problem) → length rs ≡ length ps → ((i : ℕ) (r : NodeRecord) → slice_get rs i ≡ Some r → slice_get ps i ≡ Some r.policy) → problems_in rs ≡ ps
-same-each [] [] long h = refl
-same-each [] (p ∷ ps) long h = absurd (omega (arith, long))
-same-each (r ∷ rs) [] long h = absurd (omega (arith, long))
-same-each (r ∷ rs) (p ∷ ps) long h =
-    let first : Some p ≡ Some r.policy = h 0 r refl in
-    let rest : problems_in rs ≡ ps = same-each rs ps (omega (arith, long)) (λ i s e. h (suc i) s e) in
-    cc
+kept-good : (found : List (List ℕ)) (records : List NodeRecord) → AreRecords found records → AllByRecursion IsNodeRecord records
+kept-good found records are = all-numbered IsNodeRecord records (λ n r e. (are.each n r e).reads.good)
 
-kept-good : (problems : List Problem) (found : List (List ℕ)) (records : List NodeRecord) → AreRecords problems found records → AllByRecursion IsNodeRecord records
-kept-good problems found records are = all-numbered IsNodeRecord records (λ n r e. (are.each n r e).reads.good)
+pub records-many : {V : Type 0} (h : V → List ℕ) (b : List Ballot) (nodes : List V) (records : List NodeRecord) → length nodes ≡ node_count b → AreRecords (map h nodes) records → length records ≡ node_count b
+records-many h b nodes records long are = are.count_is ∙ length-map nodes h ∙ long
 
-kept-problems : (problems : List Problem) (found : List (List ℕ)) (records : List NodeRecord) → AreRecords problems found records → length found ≡ length problems → problems_in records ≡ problems
-kept-problems problems found records are long = same-each records problems (are.count_is ∙ long) (λ i r e.
-    let h = are.each (i + 1) r (numbered-next records i ∙ e) in
-    sym (numbered-next problems i) ∙ h.solves ∙ ap Some (sym h.reads.problem))
+-- a world can be opened from what was judged
+pub can-open : {V : Type 0} (h : V → List ℕ) (b : List Ballot) (nodes clients : List V) (records : List NodeRecord) (attempts : List ℕ) →
+    length nodes ≡ node_count b → node_count b ≤ MAX_NODES → length clients ≤ MAX_CLIENTS → AreRecords (map h nodes) records → AreAttempts (map h clients) attempts →
+    IsResumable b (stations_in records) attempts → CanOpen b records attempts
+can-open h b nodes clients records attempts nodes_long few_nodes few_clients are made fits = record {
+  good = kept-good (map h nodes) records are;
+  few_nodes = subst (λ n. n ≤ MAX_NODES) (sym (records-many h b nodes records nodes_long are)) few_nodes;
+  few_clients = subst (λ n. n ≤ MAX_CLIENTS) (sym (made.count_is ∙ length-map clients h)) few_clients;
+  resumable = fits;
+}
 
--- a world can be opened from what was judged, by policies that solve the problems
-pub can-open : {X V : Type 0} (f : X → Problem) (h : V → List ℕ) (b : List Ballot) (policies lent : List X) (problems : List Problem) (nodes clients : List V) (records : List NodeRecord) (attempts : List ℕ) → lent ≡ policies → problems ≡ map f lent →
-    length policies ≡ node_count b → length nodes ≡ node_count b → node_count b ≤ MAX_NODES → length clients ≤ MAX_CLIENTS → AreRecords problems (map h nodes) records → AreAttempts (map h clients) attempts →
-    (length problems ≡ node_count b → IsResumable b (stations_in records) attempts) → CanOpen b (map f policies) records attempts
-can-open f h b policies lent problems nodes clients records attempts same told long nodes_long few_nodes few_clients are made fits =
-    let solved : problems ≡ map f policies = told ∙ ap (map f) same in
-    let solved_long : length problems ≡ node_count b = ap length solved ∙ length-map policies f ∙ long in
-    let found_long : length (map h nodes) ≡ length problems = length-map nodes h ∙ nodes_long ∙ sym solved_long in
-    record {
-      good = kept-good problems (map h nodes) records are;
-      solve = kept-problems problems (map h nodes) records are found_long ∙ solved;
-      few_nodes = subst (λ n. n ≤ MAX_NODES) (sym (are.count_is ∙ found_long ∙ solved_long)) few_nodes;
-      few_clients = subst (λ n. n ≤ MAX_CLIENTS) (sym (made.count_is ∙ length-map clients h)) few_clients;
-      resumable = fits solved_long;
-    }
+-- one record more without entries
+pub empty-more : (rs : List NodeRecord) (r : NodeRecord) (n : ℕ) (p : Problem) → stations_in rs ≡ map empty_station (replicate n p) → station_in r ≡ empty_station p → stations_in (rs ++ r ∷ []) ≡ map empty_station (replicate (n + 1) p)
+empty-more rs r n p h is =
+    map-append station_in rs (r ∷ []) ∙ ap (λ l. l ++ station_in r ∷ []) h ∙ ap (λ s. map empty_station (replicate n p) ++ s ∷ []) is ∙ shifted n ∙ (let e : suc n ≡ n + 1 = omega arith in ap (λ k. map empty_station (replicate k p)) e)
+  where
+    shifted : (k : ℕ) → map empty_station (replicate k p) ++ empty_station p ∷ [] ≡ map empty_station (replicate (suc k) p)
+    shifted zero = refl
+    shifted (suc k) = ap (λ l. empty_station p ∷ l) (shifted k)
 
-empty-problems : (rs : List NodeRecord) (ps : List Problem) → stations_in rs ≡ map empty_station ps → problems_in rs ≡ ps
-empty-problems [] [] same = refl
-empty-problems [] (p ∷ ps) same = absurd (cc)
-empty-problems (r ∷ rs) [] same = absurd (cc)
-empty-problems (r ∷ rs) (p ∷ ps) same =
-    let first : station_in r ≡ empty_station p = cc in
-    let rest : stations_in rs ≡ map empty_station ps = cc in
-    let problem : r.policy ≡ p = ap (λ s. s.problem) first in
-    let others : problems_in rs ≡ ps = empty-problems rs ps rest in
-    cc
+pub empty-many : (rs : List NodeRecord) (n : ℕ) (p : Problem) → stations_in rs ≡ map empty_station (replicate n p) → length rs ≡ n
+empty-many rs n p h = sym (length-map rs station_in) ∙ ap length h ∙ length-map (replicate n p) empty_station ∙ length-replicate n p
 
 -- and where nothing is kept
-pub can-open-empty : {X : Type 0} (f : X → Problem) (b : List Ballot) (policies lent : List X) (n : ℕ) (records : List NodeRecord) (attempts : List ℕ) → lent ≡ policies → length policies ≡ node_count b → node_count b ≤ MAX_NODES → n ≤ MAX_CLIENTS →
-    AllByRecursion IsNodeRecord records → stations_in records ≡ map empty_station (map f lent) → attempts ≡ replicate n 0 →
-    (length (map f policies) ≡ node_count b → IsResumable b (map empty_station (map f policies)) (replicate n 0)) → CanOpen b (map f policies) records attempts
-can-open-empty f b policies lent n records attempts same long few_nodes few_clients good made zeros fits =
-    let problems : List Problem = map f policies in
-    let stations : stations_in records ≡ map empty_station problems = made ∙ ap (λ ps. map empty_station (map f ps)) same in
-    let solve : problems_in records ≡ problems = empty-problems records problems stations in
-    let solved_long : length problems ≡ node_count b = length-map policies f ∙ long in
-    record {
-      good = good;
-      solve = solve;
-      few_nodes = subst (λ k. k ≤ MAX_NODES) (sym (sym (length-map records (λ r. r.policy)) ∙ ap length solve ∙ solved_long)) few_nodes;
-      few_clients = subst (λ k. k ≤ MAX_CLIENTS) (sym (ap length zeros ∙ length-replicate n 0)) few_clients;
-      resumable = subst (λ ss. IsResumable b ss attempts) (sym stations) (subst (IsResumable b (map empty_station problems)) (sym zeros) (fits solved_long));
-    }
+pub can-open-empty : (b : List Ballot) (p : Problem) (n : ℕ) (records : List NodeRecord) (attempts : List ℕ) → node_count b ≤ MAX_NODES → n ≤ MAX_CLIENTS →
+    AllByRecursion IsNodeRecord records → stations_in records ≡ map empty_station (replicate (node_count b) p) → attempts ≡ replicate n 0 →
+    IsResumable b (map empty_station (replicate (node_count b) p)) (replicate n 0) → CanOpen b records attempts
+can-open-empty b p n records attempts few_nodes few_clients good made zeros fits = record {
+  good = good;
+  few_nodes = subst (λ k. k ≤ MAX_NODES) (sym (empty-many records (node_count b) p made)) few_nodes;
+  few_clients = subst (λ k. k ≤ MAX_CLIENTS) (sym (ap length zeros ∙ length-replicate n 0)) few_clients;
+  resumable = subst (λ ss. IsResumable b ss attempts) (sym made) (subst (IsResumable b (map empty_station (replicate (node_count b) p))) (sym zeros) fits);
+}
 
 -- the world that is opened
 

@@ -4,6 +4,7 @@ use Rattle.std.proofs.lemmas.Bool.{le-leb, lt-leb}
 use Rattle.lock_messages.specs.declared.messages.Message.{Message}
 use Rattle.lock_messages.specs.declared.messages.Message.TheVariants as message
 use Rattle.lock_messages.specs.Messages.{is_for_node, is_for_client}
+use Rattle.lock_model.specs.declared.problems.Problem.{Problem}
 use Rattle.lock_model.specs.ExactDecisions.{changes}
 use Rattle.lock_model.specs.ExactHearing.{is_node_of}
 use Rattle.lock_model.specs.Ballots.{Ballot, node_count}
@@ -23,7 +24,7 @@ use Rattle.world_model.specs.declared.exact.ExactClient.{ExactClient}
 use Rattle.world_model.specs.declared.exact.ExactClientPhase.{ExactClientPhase}
 use Rattle.world_model.specs.declared.exact.ExactClientPhase.TheVariants as client
 use Rattle.world_model.specs.declared.exact.ExactWorld.{ExactWorld}
-use Rattle.world_model.specs.ExactNodes.{tries_station_in, tries_station_with, node_rises_in, node_rises_with, says_in, takes_in, node_in, decided_on}
+use Rattle.world_model.specs.ExactNodes.{tries_station_in, tries_station_with, node_rises_in, node_rises_with, says_in, takes_in, node_in, decided_on, is_another, switched_to, switches_in}
 use Rattle.world_model.specs.ExactClients.{said_inside, tells, tells_in, says_one, hears, is_down, after_hearing, heard_in}
 use Rattle.world_model.specs.ExactWorlds.{numbered, NodeDoes, ClientDoes, deed_of, Steps, next_number, has_room, with_node_at, with_client_at, read_in, finishes, by_actor, done_by, step}
 use Rattle.world_model.specs.Forgetting.{IsSound, forget, setting_of}
@@ -41,17 +42,19 @@ use Rattle.world_machine.specs.Machines.{with_sent}
 
 -- the deeds of turns
 
-pub node-deed : (n : ℕ) (act : NodeAct) → deed_of (node_event n act) ≡ NodeDoes n (λ v. node_turn act v)
+pub node-deed : (n : ℕ) (act : NodeAct) → deed_of (node_event n act) ≡ NodeDoes n (λ v. node_turn act n v)
 node-deed n node_act.Try = refl
 node-deed n node_act.Kept = refl
 node-deed n node_act.Fall = refl
 node-deed n (node_act.Rise age) = refl
+node-deed n (node_act.Switch p) = refl
 
 pub node-asks : (n : ℕ) (act : NodeAct) → asks_for_memory (node_event n act) ≡ node_asks act
 node-asks n node_act.Try = refl
 node-asks n node_act.Kept = refl
 node-asks n node_act.Fall = refl
 node-asks n (node_act.Rise age) = refl
+node-asks n (node_act.Switch p) = refl
 
 pub client-deed : (c : ℕ) (act : ClientAct) → deed_of (client_event c act) ≡ ClientDoes c (λ b k. client_turn act c b k)
 client-deed c (client_act.Begin m x place) = refl
@@ -115,12 +118,19 @@ rises-in-acts age v node.Idle = λ ok. no ok
 rises-in-acts age v (node.Decided s replies) = λ ok. no ok
 rises-in-acts age v (node.Stored replies) = λ ok. no ok
 
+switches-in-acts : (n : ℕ) (p : Problem) (v : ExactNode) (phase : ExactNodePhase) → OnlyActs (switches_in n p v phase)
+switches-in-acts n p v node.Down = λ ok. no ok
+switches-in-acts n p v node.Idle = λ ok. (switched_to n p v, effect.Switched (is_another p v), refl)
+switches-in-acts n p v (node.Decided s replies) = λ ok. no ok
+switches-in-acts n p v (node.Stored replies) = λ ok. no ok
+
 -- those that ask for memory act
-pub node-acts : (act : NodeAct) (v : ExactNode) → node_asks act ≡ true → OnlyActs (node_turn act v)
-node-acts node_act.Try v asks = tries-in-acts v v.phase
-node-acts node_act.Kept v asks = absurd (let q : false ≡ true = asks in cc)
-node-acts node_act.Fall v asks = absurd (let q : false ≡ true = asks in cc)
-node-acts (node_act.Rise age) v asks = rises-in-acts age v v.phase
+pub node-acts : (act : NodeAct) (n : ℕ) (v : ExactNode) → node_asks act ≡ true → OnlyActs (node_turn act n v)
+node-acts node_act.Try n v asks = tries-in-acts v v.phase
+node-acts node_act.Kept n v asks = absurd (let q : false ≡ true = asks in cc)
+node-acts node_act.Fall n v asks = absurd (let q : false ≡ true = asks in cc)
+node-acts (node_act.Rise age) n v asks = rises-in-acts age v v.phase
+node-acts (node_act.Switch p) n v asks = switches-in-acts n p v v.phase
 
 says-speaks : (v : ExactNode) (phase : ExactNodePhase) → OnlySpeaks (says_in v phase)
 says-speaks v node.Down = λ ok. no ok

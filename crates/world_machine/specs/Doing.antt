@@ -11,7 +11,7 @@ use Rattle.world_model.specs.declared.events.StepFault.{StepFault}
 use Rattle.world_model.specs.declared.events.StepFault.TheVariants as fault
 use Rattle.world_model.specs.declared.exact.ExactNode.{ExactNode}
 use Rattle.world_model.specs.declared.exact.ExactClient.{ExactClient}
-use Rattle.world_model.specs.ExactNodes.{tries_station_in, keeps_station_in, node_falls_in, node_rises_in}
+use Rattle.world_model.specs.ExactNodes.{tries_station_in, keeps_station_in, node_falls_in, node_rises_in, switches_in}
 use Rattle.world_model.specs.ExactClients.{begins_in, tries_attempt_in, keeps_attempt_in, enters_in, leaves_in, softens_in, client_falls_in, client_rises_in}
 use Rattle.world_model.specs.Parts.{turn_says}
 use Rattle.world_model.specs.Turns.{Turns, Acts, Speaks, Reads, acts, speaks}
@@ -28,18 +28,21 @@ node_event n node_act.Try = event.Try (actor.Node n)
 node_event n node_act.Kept = event.Kept (actor.Node n)
 node_event n node_act.Fall = event.Fall (actor.Node n)
 node_event n (node_act.Rise age) = event.Rise (actor.Node n) age
+node_event n (node_act.Switch p) = event.Switch n p
 
-abbrev pub node_turn : NodeAct → ExactNode → Turns ExactNode
-node_turn node_act.Try v = tries_station_in v v.phase
-node_turn node_act.Kept v = keeps_station_in v v.phase
-node_turn node_act.Fall v = node_falls_in v v.phase
-node_turn (node_act.Rise age) v = node_rises_in age v v.phase
+abbrev pub node_turn : NodeAct → ℕ → ExactNode → Turns ExactNode
+node_turn node_act.Try n v = tries_station_in v v.phase
+node_turn node_act.Kept n v = keeps_station_in v v.phase
+node_turn node_act.Fall n v = node_falls_in v v.phase
+node_turn (node_act.Rise age) n v = node_rises_in age v v.phase
+node_turn (node_act.Switch p) n v = switches_in n p v v.phase
 
 abbrev pub node_asks : NodeAct → Bool
 node_asks node_act.Try = true
 node_asks node_act.Kept = false
 node_asks node_act.Fall = false
 node_asks (node_act.Rise age) = true
+node_asks (node_act.Switch p) = true
 
 -- what a client does by itself; it asks for no memory
 abbrev pub client_event : ℕ → ClientAct → Event

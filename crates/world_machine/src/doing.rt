@@ -17,7 +17,7 @@ use world_model::{Effect, MAX_MESSAGES, StepFault};
 
 /// What a node does by itself.
 pub(crate) fn node_acts(node: &mut WorldNode, act: NodeAct) -> Result<Effect, StepFault>
-    ensures turned { Turned (node_asks act) node_part (node_turn act node.old.part) node.old result node.new }
+    ensures turned { Turned (node_asks act) node_part (node_turn act node.old.number node.old.part) node.old result node.new }
     ensures number { node.new.number ≡ node.old.number }
 {
     match act {
@@ -35,6 +35,10 @@ pub(crate) fn node_acts(node: &mut WorldNode, act: NodeAct) -> Result<Effect, St
         },
         NodeAct::Rise(age) => match node.rise(age) {
             Ok(()) => Ok(Effect::Up),
+            Err(fault) => Err(fault),
+        },
+        NodeAct::Switch(problem) => match node.switch(problem) {
+            Ok(changed) => Ok(Effect::Switched(changed)),
             Err(fault) => Err(fault),
         },
     }

@@ -12,10 +12,10 @@ ghost use Rattle.world_model.specs.Worlds.{IsLawfulOpening};
 ghost use Rattle.world_opening.specs.Openings.{IsRefusedOpening, station_in, stations_in};
 ghost use Rattle.world_opening.specs.declared.faults.OpeningFault.TheVariants as fault;
 ghost use Rattle.world_machine.specs.Machines.{node_part, client_part, AreNodes, AreClients};
-ghost use Rattle.world_machine.specs.Opened.{IsResumed, CanOpen, problems_in};
+ghost use Rattle.world_machine.specs.Opened.{IsResumed, CanOpen};
 
 use crate::World;
-use admission_policy::{Admission, problem_of};
+use admission_policy::Pair;
 use lock_messages::NodeId;
 use lock_model::Problem;
 use stable_record::{Entries, NodeRecord};
@@ -24,27 +24,6 @@ use vote_weights::BallotList;
 use world_actors::{WorldClient, WorldNode};
 use world_model::laws::openings_are_lawful;
 use world_opening::{Opening, OpeningFault, client_at, judge, node_at};
-
-/// The problem that a policy in a box solves.
-fn solved_by(policy: &Box<dyn Admission + Send>) -> Problem
-    ensures { result ≡ problem_of policy.now }
-{
-    problem_of(&**policy)
-}
-
-/// The problems that the policies solve, in order.
-fn problems_of(
-    alloc: Global,
-    policies: &[Box<dyn Admission + Send>],
-) -> Result<Vec<Problem>, AllocError>
-    ensures { IfOk result (λ v. v.items ≡ map (λ p. problem_of p) policies.now) }
-{
-    let mut problems = Vec::new(alloc);
-    for policy in policies {
-        problems.push(solved_by(policy))?;
-    }
-    Ok(problems)
-}
 
 /// Clients that are down and have kept these attempts.
 fn clients_of(
@@ -71,98 +50,100 @@ fn put_node(
     nodes: &mut Vec<WorldNode>,
     id: NodeId,
     station: NodeRecord,
-    policy: Box<dyn Admission + Send>,
+    policies: Pair,
 )
     requires room { vec_len nodes.old < vec_capacity nodes.old }
     requires good { IsNodeRecord station }
-    requires problem { station.policy ≡ problem_of policy }
     ensures node { nodes.new.items ≡ nodes.old.items ++ record { number = id; part = down_node (station_in station) } ∷ [] }
     ensures capacity { vec_capacity nodes.old ≤ vec_capacity nodes.new }
 {
-    let Ok(node) = WorldNode::opened(alloc, id, station, policy) else {
-        unreachable!();
-    };
+    let node = WorldNode::opened(alloc, id, station, policies);
     let Ok(()) = nodes.push(node) else {
         unreachable!();
     };
 }
 
-/// Nodes that are down and have kept these records; the policies back where memory was refused.
+/// Nodes that are down and have kept these records; the pairs back where memory was refused.
 fn nodes_of(
     alloc: Global,
     records: Vec<NodeRecord>,
-    policies: Vec<Box<dyn Admission + Send>>,
-) -> Result<Vec<WorldNode>, Vec<Box<dyn Admission + Send>>>
+    pairs: Vec<Pair>,
+) -> Result<Vec<WorldNode>, Vec<Pair>>
     requires good { AllByRecursion IsNodeRecord records.items }
     requires few { length records.items ≤ MAX_NODES }
-    requires problems { problems_in records.items ≡ map (λ p. problem_of p) policies.items }
+    requires pairs { length pairs.items ≡ length records.items }
     ensures parts { IfOk result (λ nodes. map node_part nodes.items ≡ map down_node (stations_in records.items)) }
     ensures order { IfOk result (λ nodes. AreNodes nodes.items) }
-    ensures back { IfErr result (λ back. back.items ≡ policies.items) }
+    ensures back { IfErr result (λ back. back.items ≡ pairs.items) }
 {
     let count = records.len();
     let Ok(mut nodes) = Vec::with_capacity(alloc, count) else {
-        return Err(policies);
+        return Err(pairs);
     };
     let mut records = records;
-    let mut policies = policies;
+    let mut pairs = pairs;
     for place in 0..count {
         let station = records.remove(0);
-        let policy = policies.remove(0);
-        put_node(alloc, &mut nodes, node_at(place), station, policy);
+        let pair = pairs.remove(0);
+        put_node(alloc, &mut nodes, node_at(place), station, pair);
     }
     Ok(nodes)
 }
 
-/// Records without entries, of these problems.
-fn empty_records(alloc: Global, problems: &[Problem]) -> Result<Vec<NodeRecord>, AllocError>
-    ensures stations { IfOk result (λ v. stations_in v.items ≡ map empty_station problems.now) }
+/// So many records without entries, of this problem.
+fn empty_records(
+    alloc: Global,
+    problem: Problem,
+    count: usize,
+) -> Result<Vec<NodeRecord>, AllocError>
+    ensures stations { IfOk result (λ v. stations_in v.items ≡ map empty_station (replicate count problem)) }
     ensures good { IfOk result (λ v. AllByRecursion IsNodeRecord v.items) }
 {
-    let mut records = Vec::with_capacity(alloc, problems.len())?;
-    for problem in problems {
+    let mut records = Vec::with_capacity(alloc, count)?;
+    for place in 0..count {
         records.push(NodeRecord {
-            policy: *problem,
+            policy: problem,
             entries: Entries::new(alloc),
         })?;
     }
     Ok(records)
 }
 
-/// What is kept by nodes with these policies, and by so many clients, before anything was.
+/// What is kept by so many nodes, of this problem, and by so many clients, before anything was.
 fn nothing_kept(
     alloc: Global,
-    policies: &[Box<dyn Admission + Send>],
+    problem: Problem,
+    nodes: u8,
     clients: u16,
 ) -> Result<Opening, AllocError>
-    ensures stations { IfOk result (λ o. stations_in o.records.items ≡ map empty_station (map (λ p. problem_of p) policies.now)) }
+    ensures stations { IfOk result (λ o. stations_in o.records.items ≡ map empty_station (replicate nodes problem)) }
     ensures good { IfOk result (λ o. AllByRecursion IsNodeRecord o.records.items) }
     ensures attempts { IfOk result (λ o. o.attempts.items ≡ replicate clients 0) }
 {
-    let problems = problems_of(alloc, policies)?;
-    let records = empty_records(alloc, &problems)?;
+    let records = empty_records(alloc, problem, nodes as usize)?;
     let attempts = vec![in alloc; 0; clients as usize]?;
     Ok(Opening { records, attempts })
 }
 
-/// The world in which each actor is down with what is kept; the policies back where memory was refused.
+/// The world in which each actor is down with what is kept; the pairs back where memory was refused.
 fn opened(
     alloc: Global,
     ballots: BallotList,
-    policies: Vec<Box<dyn Admission + Send>>,
+    pairs: Vec<Pair>,
     kept: Opening,
-) -> Result<World, Vec<Box<dyn Admission + Send>>>
-    requires { CanOpen ballots (map (λ p. problem_of p) policies.items) kept.records.items kept.attempts.items }
+) -> Result<World, Vec<Pair>>
+    requires kept { CanOpen ballots kept.records.items kept.attempts.items }
+    requires pairs { length pairs.items ≡ length kept.records.items }
     ensures world { IfOk result (λ w. w ≡ resumed ballots (stations_in kept.records.items) kept.attempts.items) }
     ensures lawful { IfOk result (λ w. IsLawfulOpening (setting_of w) (forget w)) }
-    ensures back { IfErr result (λ back. back.items ≡ policies.items) }
+    ensures back { IfErr result (λ back. back.items ≡ pairs.items) }
 {
     openings_are_lawful();
     let Opening { records, attempts } = kept;
     let Ok(clients) = clients_of(alloc, ballots, &attempts) else {
-        return Err(policies);
+        return Err(pairs);
     };
-    match nodes_of(alloc, records, policies) {
+    match nodes_of(alloc, records, pairs) {
         Ok(nodes) => Ok(World {
             alloc,
             ballots,
@@ -170,82 +151,80 @@ fn opened(
             clients,
             sent: Vec::new(alloc),
         }),
-        Err(policies) => Err(policies),
+        Err(pairs) => Err(pairs),
     }
 }
 
 impl World {
-    /// The world in which nothing is kept: all actors are down, the nodes' records are empty, no client
-    /// has made an attempt, and nothing is sent. Node 1 has the first policy, node 2 the second and so on.
+    /// The world in which nothing is kept: all actors are down, the nodes' records are empty and of this
+    /// problem, no client has made an attempt, and nothing is sent. Node 1 has the first pair of policies,
+    /// node 2 the second and so on.
     ///
-    /// The caller owes 1 to `MAX_CLIENTS` clients, and one policy for each node of the ballot. The only
-    /// error is want of memory (613), and then the policies come back as they were.
+    /// The caller owes 1 to `MAX_CLIENTS` clients, and one pair for each node of the ballots. The only
+    /// error is want of memory (613), and then the pairs come back as they were.
     pub fn start(
         alloc: Global,
         ballots: BallotList,
         clients: u16,
-        policies: Vec<Box<dyn Admission + Send>>,
-    ) -> Result<World, (OpeningFault, Vec<Box<dyn Admission + Send>>)>
+        problem: Problem,
+        pairs: Vec<Pair>,
+    ) -> Result<World, (OpeningFault, Vec<Pair>)>
         requires some_client { 1 ≤ clients }
         requires few_clients { clients ≤ MAX_CLIENTS }
-        requires policies { length policies.items ≡ node_count ballots }
-        ensures world { IfOk result (λ w. w ≡ opening ballots (map (λ p. problem_of p) policies.items) clients) }
+        requires pairs { length pairs.items ≡ node_count ballots }
+        ensures world { IfOk result (λ w. w ≡ opening ballots (replicate (node_count ballots) problem) clients) }
         ensures lawful { IfOk result (λ w. IsLawfulOpening (setting_of w) (forget w)) }
         ensures memory { IfErr result (λ refused. refused.0 ≡ fault.Memory) }
-        ensures back { IfErr result (λ refused. refused.1.items ≡ policies.items) }
+        ensures back { IfErr result (λ refused. refused.1.items ≡ pairs.items) }
     {
         openings_are_lawful();
-        let _nodes = ballots.nodes();
-        let Ok(kept) = nothing_kept(alloc, &policies, clients) else {
-            return Err((OpeningFault::Memory, policies));
+        let nodes = ballots.nodes();
+        let Ok(kept) = nothing_kept(alloc, problem, nodes, clients) else {
+            return Err((OpeningFault::Memory, pairs));
         };
-        match opened(alloc, ballots, policies, kept) {
+        match opened(alloc, ballots, pairs, kept) {
             Ok(world) => Ok(world),
-            Err(policies) => Err((OpeningFault::Memory, policies)),
+            Err(pairs) => Err((OpeningFault::Memory, pairs)),
         }
     }
 
     /// The world in which each actor has kept what its record says: all are down, nothing is tried and
-    /// nothing sent. Node 1 has the first policy and the first of `node_records`, client 1 the first of
-    /// `client_records`, and so on. Each record is read once.
+    /// nothing sent. Node 1 has the first pair of policies and the first of `node_records`, whose problem
+    /// is its own, client 1 the first of `client_records`, and so on. Each record is read once.
     ///
-    /// The caller owes 1 to `MAX_CLIENTS` clients with one record each, and one policy and one record for
-    /// each node of the ballot.
+    /// The caller owes 1 to `MAX_CLIENTS` clients with one record each, and one pair and one record for
+    /// each node of the ballots.
     ///
-    /// Errors: a record can't be read or is of the other problem than its node's policy (622), with the
-    /// first such actor, nodes first; then an entry's floor or attempt is above the attempt of its
-    /// client (621), where a client that isn't there counts as 0; and want of memory (613), which may
-    /// come before both. With each the policies come back as they were.
+    /// Errors: a record can't be read (622), with the first such actor, nodes first; then an entry's floor
+    /// or attempt is above the attempt of its client (621), where a client that isn't there counts as 0;
+    /// and want of memory (613), which may come before both. With each the pairs come back as they were.
     pub fn resume(
         alloc: Global,
         ballots: BallotList,
         clients: u16,
-        policies: Vec<Box<dyn Admission + Send>>,
+        pairs: Vec<Pair>,
         node_records: &[Vec<u8>],
         client_records: &[Vec<u8>],
-    ) -> Result<World, (OpeningFault, Vec<Box<dyn Admission + Send>>)>
+    ) -> Result<World, (OpeningFault, Vec<Pair>)>
         requires some_client { 1 ≤ clients }
         requires few_clients { clients ≤ MAX_CLIENTS }
-        requires policies { length policies.items ≡ node_count ballots }
+        requires pairs { length pairs.items ≡ node_count ballots }
         requires nodes { length node_records.now ≡ node_count ballots }
         requires clients { length client_records.now ≡ clients }
-        ensures world { IfOk result (IsResumed ballots (map (λ p. problem_of p) policies.items) (map (λ v. v.items) node_records.now) (map (λ v. v.items) client_records.now)) }
+        ensures world { IfOk result (IsResumed ballots (map (λ v. v.items) node_records.now) (map (λ v. v.items) client_records.now)) }
         ensures lawful { IfOk result (λ w. IsLawfulOpening (setting_of w) (forget w)) }
-        ensures refused { IfErr result (λ refused. IsRefusedOpening (map (λ p. problem_of p) policies.items) (map (λ v. v.items) node_records.now) (map (λ v. v.items) client_records.now) refused.0) }
-        ensures back { IfErr result (λ refused. refused.1.items ≡ policies.items) }
+        ensures refused { IfErr result (λ refused. IsRefusedOpening (map (λ v. v.items) node_records.now) (map (λ v. v.items) client_records.now) refused.0) }
+        ensures back { IfErr result (λ refused. refused.1.items ≡ pairs.items) }
     {
         openings_are_lawful();
         let (_nodes, _clients) = (ballots.nodes(), clients);
-        let Ok(problems) = problems_of(alloc, &policies) else {
-            return Err((OpeningFault::Memory, policies));
-        };
-        let kept = match judge(alloc, &problems, node_records, client_records) {
+        let kept = match judge(alloc, node_records, client_records) {
             Ok(kept) => kept,
-            Err(fault) => return Err((fault, policies)),
+            Err(fault) => return Err((fault, pairs)),
         };
-        match opened(alloc, ballots, policies, kept) {
+        match opened(alloc, ballots, pairs, kept) {
             Ok(world) => Ok(world),
-            Err(policies) => Err((OpeningFault::Memory, policies)),
+            Err(pairs) => Err((OpeningFault::Memory, pairs)),
         }
     }
 }

@@ -35,7 +35,7 @@ pub(crate) fn message_at(sent: &[Message], number: u32) -> Option<Message>
 
 /// The node of this number does something by itself.
 fn act_node(nodes: &mut Vec<WorldNode>, id: NodeId, act: NodeAct) -> Result<Effect, StepFault>
-    ensures does { (w : ExactWorld) → w.nodes ≡ map node_part nodes.old.items →
+    ensures does { (w : ExactWorld) → w.nodes ≡ map node_part nodes.old.items → AreNodes nodes.old.items →
         Does (node_event id act) (step w (node_event id act)) w result (with_nodes w (map node_part nodes.new.items)) }
     ensures order { AreNodes nodes.old.items → AreNodes nodes.new.items }
 {

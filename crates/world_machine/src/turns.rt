@@ -4,6 +4,7 @@ ghost use Rattle.std.specs.Prelude.{◌≡◌};
 ghost use Rattle.world_machine.specs.Doing.{event_of};
 
 use lock_messages::{Actor, ClientId, Mode, NodeId, ResourceName};
+use lock_model::Problem;
 use world_model::{Age, Event};
 
 /// What a node does by itself.
@@ -13,6 +14,7 @@ pub(crate) enum NodeAct {
     Kept,
     Fall,
     Rise(Age),
+    Switch(Problem),
 }
 
 /// What a client does by itself.
@@ -95,5 +97,6 @@ pub(crate) fn turn_of(event: &Event) -> Turn
         Event::Soften(id) => Turn::Client(id, ClientAct::Soften),
         Event::Fall(who) => turn_of_fall(who),
         Event::Rise(who, age) => turn_of_rise(who, age),
+        Event::Switch(id, problem) => Turn::Node(id, NodeAct::Switch(problem)),
     }
 }

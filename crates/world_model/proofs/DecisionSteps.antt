@@ -6,10 +6,11 @@ use Rattle.lock_messages.specs.declared.messages.Message.{Message}
 use Rattle.lock_messages.specs.declared.messages.Message.TheVariants.{Request, Release, Grant, Busy, Over, Done, Muddled, Soften}
 use Rattle.lock_messages.specs.declared.messages.Message.TheVariants as message
 use Rattle.lock_messages.specs.Messages.{is_for_node}
+use Rattle.lock_model.specs.declared.problems.Problem.{Problem}
 use Rattle.lock_model.specs.declared.entries.Status.{Status}
 use Rattle.lock_model.specs.declared.entries.Status.TheVariants.{Waiting, Holding, Softened}
-use Rattle.lock_model.specs.Stations.{Standing, Station, IsLawful, IsCaused, Puts, Ends, Softens, Settles, asked_mode}
-use Rattle.lock_model.specs.Decisions.{Among, IsOnly, TellsGrant, AreReplies, IsNew, taken_up, IsAsked, over, muddled, held, waited, softened, granted, queued, IsReleased, IsSoftened, Decides}
+use Rattle.lock_model.specs.Stations.{Standing, Station, IsLawful, IsCaused, Puts, Ends, Softens, Settles, asked_mode, under}
+use Rattle.lock_model.specs.Decisions.{Among, IsOnly, TellsGrant, AreReplies, IsNew, taken_up, IsAsked, over, muddled, held, waited, softened, granted, queued, IsReleased, IsSoftened, IsSwitched, Decides}
 use Rattle.world_model.specs.Worlds.{World}
 use Rattle.world_model.specs.Invariants.{IsPresent, IsUnsoftened, WasAsked, Honors, IsSafeStation, IsGoodReply, AreGoodReplies}
 use Rattle.world_model.proofs.StandingSteps.{GoesOn, goes-nowhere, goes-further, ended-goes-on, softened-goes-on, settled-goes-on, cleared, new-cleared, settled-cleared, new-some, AsksOnce, taken-goes-on}
@@ -177,6 +178,13 @@ softened-safely w n s c a after replies done safe told = record {
     reply : (r : Message) → (r ≡ message.Softened n c a) ⊎ TellsGrant n told.changed after r → IsGoodReply n after r
     reply r (inl e) = subst (IsGoodReply n after) (sym e) tt
     reply r (inr grant) = told-good n told.changed after r grant
+
+-- a node takes a problem: each client stands where it stood, and then all settle
+pub switched-safely : (w : World) (n : ℕ) (s : Station) (p : Problem) (after : Station) (replies : List Message) → IsSafeStation w n s → IsSwitched n s p after replies → DecidedSafely w n after replies
+switched-safely w n s p after replies safe h = record {
+  station = went-on-safe w n s after (settles-go-on w (under p s) after h.settles) h.settles.lawful h.settles.caused safe;
+  good = λ r m. told-good n (under p s) after r ((h.replies_are r).0 m);
+}
 
 -- a decision on a message that was sent to the node
 pub decided-safely : (w : World) (n : ℕ) (s : Station) (m : Message) (after : Station) (replies : List Message) → AsksOnce w → ((k c a : ℕ) → Among (Release k c a) w.sent → a ≤ (w.clients c).kept) →

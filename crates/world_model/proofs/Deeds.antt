@@ -1,6 +1,6 @@
 -- What is told of each event: the one place where the proofs go over all of them.
 use Rattle.lock_messages.specs.declared.ids.Actor.TheVariants as actor
-use Rattle.lock_model.specs.Laws.{ExactDecisionIsAllowed, StayingIsSeen, HearingOfTicketIsExact, HearingSoftenedIsExact, HearingAtRestIsExact}
+use Rattle.lock_model.specs.Laws.{ExactDecisionIsAllowed, StayingIsSeen, ExactSwitchIsAllowed, SwitchToTheSame, ProblemsAreCompared, HearingOfTicketIsExact, HearingSoftenedIsExact, HearingAtRestIsExact}
 use Rattle.world_model.specs.declared.events.Event.{Event}
 use Rattle.world_model.specs.declared.events.Event.TheVariants as event
 use Rattle.world_model.specs.declared.exact.ExactNode.{ExactNode}
@@ -9,11 +9,12 @@ use Rattle.world_model.specs.Worlds.{Setting}
 use Rattle.world_model.specs.ExactWorlds.{Deed, NodeDoes, ClientDoes, deed_of}
 use Rattle.world_model.proofs.ClientTurns.{ClientTold, begins-told, tries-attempt-told, keeps-attempt-told, tells-told, enters-told, leaves-told, softens-told, client-falls-told, client-rises-told}
 use Rattle.world_model.proofs.HearTurns.{HearingLaws, hears-told}
-use Rattle.world_model.proofs.NodeTurns.{DecisionLaws, NodeTold, tries-station-told, keeps-station-told, says-told, takes-told, node-falls-told, node-rises-told}
+use Rattle.world_model.proofs.NodeTurns.{DecisionLaws, SwitchLaws, NodeTold, tries-station-told, keeps-station-told, says-told, takes-told, node-falls-told, node-rises-told, switches-told}
 
 -- the laws of lock_model, as they are used here
 pub record ModelLaws : Type 1 where
   pub deciding : DecisionLaws
+  pub switching : SwitchLaws
   pub hearing : HearingLaws
 
 abbrev pub DeedTold : Setting → Event → Deed → Type 0
@@ -37,6 +38,7 @@ deed-told laws s (event.Fall (actor.Node n)) = node-falls-told s n
 deed-told laws s (event.Fall (actor.Client c)) = client-falls-told s c
 deed-told laws s (event.Rise (actor.Node n) age) = node-rises-told s n age
 deed-told laws s (event.Rise (actor.Client c) age) = client-rises-told s c age
+deed-told laws s (event.Switch n p) = switches-told laws.switching s n p
 
-pub laws-of : ExactDecisionIsAllowed → StayingIsSeen → HearingOfTicketIsExact → HearingSoftenedIsExact → HearingAtRestIsExact → ModelLaws
-laws-of allowed seen of_ticket softened at_rest = record { deciding = record { allowed = allowed; seen = seen }; hearing = record { of_ticket = of_ticket; softened = softened; at_rest = at_rest } }
+pub laws-of : ExactDecisionIsAllowed → StayingIsSeen → ExactSwitchIsAllowed → SwitchToTheSame → ProblemsAreCompared → HearingOfTicketIsExact → HearingSoftenedIsExact → HearingAtRestIsExact → ModelLaws
+laws-of allowed seen switched same compared of_ticket softened at_rest = record { deciding = record { allowed = allowed; seen = seen }; switching = record { allowed = switched; same = same; compared = compared }; hearing = record { of_ticket = of_ticket; softened = softened; at_rest = at_rest } }

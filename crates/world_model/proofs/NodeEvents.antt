@@ -5,16 +5,17 @@ use Rattle.lock_messages.specs.declared.tickets.Ticket.{Ticket}
 use Rattle.lock_messages.specs.declared.messages.Message.{Message}
 use Rattle.lock_messages.specs.declared.messages.Message.TheVariants.{Request, Release, Grant, Muddled, Soften}
 use Rattle.lock_messages.specs.Messages.{is_for_node}
+use Rattle.lock_model.specs.declared.problems.Problem.{Problem}
 use Rattle.lock_model.specs.Ballots.{Ballot}
 use Rattle.lock_model.specs.Stations.{Station}
 use Rattle.lock_model.specs.Decisions.{Among}
 use Rattle.world_model.specs.declared.events.Age.{Age}
 use Rattle.world_model.specs.declared.events.Age.TheVariants.{Old, New}
-use Rattle.world_model.specs.Worlds.{Node, ClientPhase, ClientDown, ClientIdle, Chosen, Asking, IsIn, Client, World, Setting, OfNode, ByNode, TriesStation, tries_station, KeepsStation, keeps_station, Says, says, Takes, takes, takes_same, NodeFalls, node_falls, NodeRises, node_rises_old, node_rises_new}
+use Rattle.world_model.specs.Worlds.{Node, ClientPhase, ClientDown, ClientIdle, Chosen, Asking, IsIn, Client, World, Setting, OfNode, ByNode, TriesStation, tries_station, KeepsStation, keeps_station, Says, says, Takes, takes, takes_same, NodeFalls, node_falls, NodeRises, node_rises_old, node_rises_new, Switches, switches_to, switches_same}
 use Rattle.world_model.specs.Invariants.{IsPresentIn, IsUnsoftenedIn, IsHonored, IsSafeClient, IsSafeStation, IsGoodReply, AreGoodReplies, IsSafeNode, IsSafeTicket, IsSafe}
 use Rattle.world_model.proofs.Carried.{self-le, Carries, NoNewGrant, owes-still, node-still, client-still, all-safe}
 use Rattle.world_model.proofs.StandingSteps.{AsksOnce}
-use Rattle.world_model.proofs.DecisionSteps.{decided-safely}
+use Rattle.world_model.proofs.DecisionSteps.{decided-safely, switched-safely}
 
 -- what is known of tickets in a safe world
 
@@ -108,19 +109,34 @@ keeps-safe w n before after (keeps_station kept tried s replies) safe = record {
   phase = (refl, subst (λ u. AreGoodReplies n u replies) (sym safe.phase.0) safe.phase.1);
 }
 
+-- nothing is tried, so what is tried is the station
+untried : (u : Station) (o : Option Station) → o ≡ None → IfSome o (λ x. x ≡ u)
+untried u None e = tt
+untried u (Some x) e = absurd (let q : Some x ≡ None = e in cc)
+
 takes-safe : (s : Setting) (w : World) (n : ℕ) (m : Message) (before after : Node) → IsSafe s w → Among m w.sent → is_for_node m n ≡ true → Takes m before after → IsSafeNode w n before → IsSafeNode w n after
 takes-safe s w n m before after safe sent mine (takes kept u tried replies h) node =
     let d = decided-safely w n kept m u replies (asks-once s w safe) safe.released safe.over safe.softened node.stations.kept sent mine h in
     record {
       stations = record { kept = node.stations.kept; tried = node.stations.tried; decided = d.station };
-      phase = (untried tried node.phase, d.good);
+      phase = (untried u tried node.phase, d.good);
     }
-  where
-    untried : (o : Option Station) → o ≡ None → IfSome o (λ x. x ≡ u)
-    untried None e = tt
-    untried (Some x) e = absurd (let q : Some x ≡ None = e in cc)
 takes-safe s w n m before after safe sent mine (takes_same kept tried replies h) node =
     let d = decided-safely w n kept m kept replies (asks-once s w safe) safe.released safe.over safe.softened node.stations.kept sent mine h in
+    record {
+      stations = record { kept = node.stations.kept; tried = node.stations.tried; decided = tt };
+      phase = (node.phase, d.good);
+    }
+
+switches-safe : (w : World) (n : ℕ) (p : Problem) (before after : Node) → Switches n p before after → IsSafeNode w n before → IsSafeNode w n after
+switches-safe w n p before after (switches_to kept u tried replies apart h) node =
+    let d = switched-safely w n kept p u replies node.stations.kept h in
+    record {
+      stations = record { kept = node.stations.kept; tried = node.stations.tried; decided = d.station };
+      phase = (untried u tried node.phase, d.good);
+    }
+switches-safe w n p before after (switches_same kept tried replies same h) node =
+    let d = switched-safely w n kept p kept replies node.stations.kept h in
     record {
       stations = record { kept = node.stations.kept; tried = node.stations.tried; decided = tt };
       phase = (node.phase, d.good);
@@ -180,3 +196,6 @@ falls-keeps s n w v safe h = silent-keeps s n w h.0 h.1 v safe h.3 (falls-safe w
 
 pub rises-keeps : (s : Setting) (n : ℕ) (age : Age) (w v : World) → IsSafe s w → ByNode s w v n (NodeRises age) → IsSafe s v
 rises-keeps s n age w v safe h = silent-keeps s n w h.0 h.1 v safe h.3 (rises-safe w n age h.0 h.1 h.2)
+
+pub switches-keeps : (s : Setting) (n : ℕ) (p : Problem) (w v : World) → IsSafe s w → ByNode s w v n (Switches n p) → IsSafe s v
+switches-keeps s n p w v safe h = silent-keeps s n w h.0 h.1 v safe h.3 (switches-safe w n p h.0 h.1 h.2)

@@ -1,14 +1,15 @@
 -- What a node's turns are told to be.
-use Rattle.std.proofs.Common.{◌≡◌, ◌≢◌, ℕ, Bool, true, false, cond, List, length, Option, Some, None, refl, sym, subst, inl, inr}
+use Rattle.std.proofs.Common.{◌≡◌, ◌≢◌, ℕ, Bool, true, false, not, cond, List, length, Option, Some, None, refl, sym, ◌∙◌, ap, subst, inl, inr}
 use Rattle.lock_messages.specs.declared.ids.Actor.TheVariants as actor
 use Rattle.lock_messages.specs.declared.messages.Message.{Message}
 use Rattle.lock_messages.specs.Messages.{is_for_node}
 use Rattle.lock_model.specs.declared.problems.Problem.{Problem}
 use Rattle.lock_model.specs.declared.entries.Entry.{Entry}
-use Rattle.lock_model.specs.Decisions.{Decides}
+use Rattle.lock_model.specs.Stations.{IsCaused}
+use Rattle.lock_model.specs.Decisions.{Decides, IsSwitched}
 use Rattle.lock_model.specs.ExactStations.{meaning}
-use Rattle.lock_model.specs.ExactDecisions.{decision, changes}
-use Rattle.lock_model.specs.Laws.{IsAllowed, ExactDecisionIsAllowed, StayingIsSeen}
+use Rattle.lock_model.specs.ExactDecisions.{Outcome, decision, changes, switches, same_problem}
+use Rattle.lock_model.specs.Laws.{IsAllowed, ExactDecisionIsAllowed, StayingIsSeen, IsAllowedSwitch, ExactSwitchIsAllowed, SwitchToTheSame, ProblemsAreCompared}
 use Rattle.world_model.specs.declared.events.Age.{Age}
 use Rattle.world_model.specs.declared.events.Age.TheVariants.{Old, New}
 use Rattle.world_model.specs.declared.events.Effect.{Effect}
@@ -20,9 +21,9 @@ use Rattle.world_model.specs.declared.exact.ExactNode.{ExactNode}
 use Rattle.world_model.specs.declared.exact.ExactNodePhase.{ExactNodePhase}
 use Rattle.world_model.specs.declared.exact.ExactNodePhase.TheVariants as exact
 use Rattle.world_model.specs.declared.exact.ExactWorld.{ExactWorld}
-use Rattle.world_model.specs.Worlds.{Node, NodeDown, NodeIdle, Decided, Stored, World, Setting, OfNode, ByNode, Happens, TriesStation, tries_station, KeepsStation, keeps_station, says, Takes, takes, takes_same, NodeFalls, node_falls, NodeRises, node_rises_old, node_rises_new}
+use Rattle.world_model.specs.Worlds.{Node, NodeDown, NodeIdle, Decided, Stored, World, Setting, OfNode, ByNode, Happens, TriesStation, tries_station, KeepsStation, keeps_station, says, Takes, takes, takes_same, NodeFalls, node_falls, NodeRises, node_rises_old, node_rises_new, Switches, switches_to, switches_same}
 use Rattle.world_model.specs.Turns.{Turns, acts}
-use Rattle.world_model.specs.ExactNodes.{node_in, tries_station_with, tries_station_in, keeps_station_with, keeps_station_in, says_in, decided_on, takes_in, node_falls_in, node_rises_with, node_rises_in}
+use Rattle.world_model.specs.ExactNodes.{node_in, tries_station_with, tries_station_in, keeps_station_with, keeps_station_in, says_in, decided_on, takes_in, node_falls_in, node_rises_with, node_rises_in, is_another, switched_to, switches_in}
 use Rattle.world_model.specs.Forgetting.{station_of, node_phase_of, node_of, IsSoundNode}
 use Rattle.world_model.specs.Laws.{IsNumbered}
 use Rattle.world_model.specs.Locality.{IsEffectOf, IsAsListed}
@@ -190,5 +191,66 @@ node-rises-told s n age v = go v.phase
     go : (p : ExactNodePhase) → NodeTold s (event.Rise (actor.Node n) age) n (node_in v p) (node_rises_in age (node_in v p) p)
     go exact.Down = down age v.tried
     go exact.Idle = refl
+    go (exact.Decided u replies) = refl
+    go (exact.Stored replies) = refl
+
+-- Switch
+
+-- the laws of switching, as they are used here
+pub record SwitchLaws : Type 1 where
+  pub allowed : ExactSwitchIsAllowed
+  pub same : SwitchToTheSame
+  pub compared : ProblemsAreCompared
+
+-- a switch is one that the node may take, and leaves it sound
+record SwitchesSo (n : ℕ) (p : Problem) (v after : ExactNode) : Type 0 where
+  does : Switches n p (node_of v) (node_of after)
+  sound : IsSoundNode after
+
+switches-so : SwitchLaws → (n : ℕ) (p : Problem) (v : ExactNode) → IsSoundNode (node_in v exact.Idle) → SwitchesSo n p (node_in v exact.Idle) (switched_to n p (node_in v exact.Idle))
+switches-so laws n p v ok = go (same_problem v.kept.problem p) refl
+  where
+    before : ExactNode
+    before = node_in v exact.Idle
+
+    after : List Entry
+    after = (switches n p v.kept.entries).entries
+
+    replies : List Message
+    replies = (switches n p v.kept.entries).replies
+
+    is : IsAllowedSwitch v.kept.problem p v.kept.entries n
+    is = laws.allowed v.kept.problem p v.kept.entries n ok.kept.well_formed ok.kept.lawful
+
+    go : (b : Bool) → same_problem v.kept.problem p ≡ b → SwitchesSo n p before (cond (not b) (node_in before (exact.Decided (record { problem = p; entries = after }) replies)) (node_in before (exact.Stored replies)))
+    go true e =
+        let same : v.kept.problem ≡ p = (laws.compared v.kept.problem p).0 e in
+        let stays : after ≡ v.kept.entries =
+        ap (λ (o : Outcome). o.entries) (laws.same p v.kept.entries n ok.kept.well_formed (subst (λ q. IsCaused (meaning q v.kept.entries)) same ok.kept.caused)) in
+        record {
+          does = switches_same (station_of v.kept) (node_of v).tried replies same
+              (subst (λ q. IsSwitched n (station_of v.kept) p (meaning q v.kept.entries) replies) (sym same) (subst (λ entries. IsSwitched n (station_of v.kept) p (meaning p entries) replies) stays is.switched));
+          sound = record { kept = ok.kept; tried = ok.tried; decided = tt };
+        }
+    go false e =
+        let apart : v.kept.problem ≢ p = λ q. let z : false ≡ true = sym e ∙ (laws.compared v.kept.problem p).1 q in cc in
+        record {
+          does = switches_to (station_of v.kept) (meaning p after) (node_of v).tried replies apart is.switched;
+          sound = record { kept = ok.kept; tried = ok.tried; decided = record { well_formed = is.well_formed; lawful = is.lawful; caused = is.caused } };
+        }
+
+pub switches-told : SwitchLaws → (s : Setting) (n : ℕ) (p : Problem) (v : ExactNode) → NodeTold s (event.Switch n p) n v (switches_in n p v v.phase)
+switches-told laws s n p v = go v.phase
+  where
+    go : (phase : ExactNodePhase) → NodeTold s (event.Switch n p) n (node_in v phase) (switches_in n p (node_in v phase) phase)
+    go exact.Down = refl
+    go exact.Idle =
+        record {
+          happens = λ ok w u of. (node_of (node_in v exact.Idle), node_of (switched_to n p (node_in v exact.Idle)), (switches-so laws n p v ok).does, of);
+          sound = λ ok. (switches-so laws n p v ok).sound;
+          kind = (is_another p v, refl);
+          numbers = λ w. tt;
+          listed = λ w. tt;
+        }
     go (exact.Decided u replies) = refl
     go (exact.Stored replies) = refl

@@ -7,6 +7,7 @@ use Rattle.lock_messages.specs.declared.tickets.Mode.TheVariants.{Write}
 use Rattle.lock_messages.specs.declared.tickets.Ticket.{Ticket}
 use Rattle.lock_messages.specs.declared.messages.Message.{Message}
 use Rattle.lock_model.specs.Ballots.{Ballot, HasPlace, IsEnough, ballot_at}
+use Rattle.lock_model.specs.declared.problems.Problem.{Problem}
 use Rattle.lock_model.specs.Stations.{Station}
 use Rattle.world_model.specs.declared.events.Age.TheVariants.{Old, New}
 use Rattle.world_model.specs.declared.exact.ExactStation.{ExactStation}
@@ -15,7 +16,7 @@ use Rattle.world_model.specs.declared.exact.ExactNodePhase.TheVariants as node
 use Rattle.world_model.specs.declared.exact.ExactPresent.{ExactPresent}
 use Rattle.world_model.specs.declared.exact.ExactClientPhase.{ExactClientPhase}
 use Rattle.world_model.specs.declared.exact.ExactClientPhase.TheVariants as client
-use Rattle.world_model.specs.Worlds.{NodeDown, NodeIdle, Decided, Stored, Node, Present, ClientDown, ClientIdle, Chosen, Asking, IsIn, Client, Begins, begins, TriesAttempt, tries_attempt, TriesStation, tries_station, KeepsAttempt, keeps_attempt, KeepsStation, keeps_station, Tells, asks, asks_inside, tells_softened, releases, Says, says, Takes, takes, takes_same, Hears, counts, counts_inside, passes, passes_inside, passes_softened, passes_idle, passes_chosen, Enters, enters, Leaves, gives_up, leaves, Softens, softens, NodeFalls, node_falls, ClientFalls, client_falls, NodeRises, node_rises_old, node_rises_new, ClientRises, client_rises_old, client_rises_new}
+use Rattle.world_model.specs.Worlds.{NodeDown, NodeIdle, Decided, Stored, Node, Present, ClientDown, ClientIdle, Chosen, Asking, IsIn, Client, Begins, begins, TriesAttempt, tries_attempt, TriesStation, tries_station, KeepsAttempt, keeps_attempt, KeepsStation, keeps_station, Tells, asks, asks_inside, tells_softened, releases, Says, says, Takes, takes, takes_same, Hears, counts, counts_inside, passes, passes_inside, passes_softened, passes_idle, passes_chosen, Enters, enters, Leaves, gives_up, leaves, Softens, softens, NodeFalls, node_falls, ClientFalls, client_falls, NodeRises, node_rises_old, node_rises_new, ClientRises, client_rises_old, client_rises_new, Switches, switches_to, switches_same}
 use Rattle.world_model.specs.Forgetting.{station_of, node_phase_of, present_of, client_phase_of}
 
 -- which exact phase stands for a phase
@@ -186,3 +187,7 @@ node-old-needs (node_rises_old kept tried) = refl
 
 pub node-new-needs : {before after : Node} → NodeRises New before after → (s : Station) × (before.phase ≡ NodeDown) × (before.tried ≡ Some s)
 node-new-needs (node_rises_new kept s) = (s, refl, refl)
+
+pub switches-needs : {n : ℕ} {p : Problem} {before after : Node} → Switches n p before after → before.phase ≡ NodeIdle
+switches-needs (switches_to kept s tried replies apart h) = refl
+switches-needs (switches_same kept tried replies same h) = refl

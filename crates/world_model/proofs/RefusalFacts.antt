@@ -156,6 +156,7 @@ list-has-memory (event.Leave c) h = h
 list-has-memory (event.Soften c) h = h
 list-has-memory (event.Fall who) h = h
 list-has-memory (event.Rise who age) h = h
+list-has-memory (event.Switch n p) h = h
 
 pub never-memory : ModelLaws → (w : ExactWorld) (e : Event) → refusal w e ≡ Some fault.Memory → ⊥
 never-memory laws w e h = go (own_refusal w.ballots e (part w (actor_of e))) refl

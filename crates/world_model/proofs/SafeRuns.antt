@@ -89,6 +89,7 @@ happens-safe s w (event.Fall (actor.Node n)) v safe h = nodes.falls-keeps s n w 
 happens-safe s w (event.Fall (actor.Client c)) v safe h = clients.falls-keeps s c w v safe h
 happens-safe s w (event.Rise (actor.Node n) age) v safe h = nodes.rises-keeps s n age w v safe h
 happens-safe s w (event.Rise (actor.Client c) age) v safe h = clients.rises-keeps s c age w v safe h
+happens-safe s w (event.Switch n p) v safe h = nodes.switches-keeps s n p w v safe h
 
 pub run-safe : (s : Setting) (events : List Event) (w v : World) → IsSafe s w → Run s w events v → IsSafe s v
 run-safe s [] w v safe run = subst (IsSafe s) (sym run) safe

@@ -83,6 +83,7 @@ client-stays b (event.Soften c) done k t stays whole h = absurd (let z : true �
 client-stays b (event.Fall who) done k t stays whole h = absurd (let z : true ≡ false = stays in cc)
 client-stays b (event.Rise (actor.Node n) age) done k t stays whole h = h
 client-stays b (event.Rise (actor.Client c) age) done k t stays whole h = stays-by k t (client_rises_in age k) done (λ p. refl) h
+client-stays b (event.Switch n p) done k t stays whole h = h
 
 -- who is inside is so with a ticket that goes on from t, and with t itself where nothing softens
 abbrev Remains : Option Ticket → Ticket → Type 0 → Type 0
@@ -131,6 +132,7 @@ client-remains b (event.Leave c) done k t stays h = absurd (let z : true ≡ fal
 client-remains b (event.Soften c) done k t stays h = softens-stays b c done k t h
 client-remains b (event.Fall who) done k t stays h = absurd (let z : true ≡ false = stays in cc)
 client-remains b (event.Rise who age) done k t stays h = unsoftened-stays b (event.Rise who age) done k t stays refl h
+client-remains b (event.Switch n p) done k t stays h = unsoftened-stays b (event.Switch n p) done k t stays refl h
 
 part-remains : (b : List Ballot) (e : Event) (done : Effect) (p : Part) (t : Ticket) → leaves_or_falls e ≡ false → inside_ticket p ≡ Some t → Remains (inside_ticket (after_own b e done p)) t (is_soften e ≡ false)
 part-remains b e done NoPart t stays h = absurd (let z : None ≡ Some t = h in cc)
@@ -204,6 +206,7 @@ client-ends b (event.Hear d number) done k c is ends = absurd (let z : false ≡
 client-ends b (event.Enter d) done k c is ends = absurd (let z : false ≡ true = ends in cc)
 client-ends b (event.Soften d) done k c is ends = absurd (let z : false ≡ true = ends in cc)
 client-ends b (event.Rise who age) done k c is ends = absurd (let z : false ≡ true = ends in cc)
+client-ends b (event.Switch n p) done k c is ends = absurd (let z : false ≡ true = ends in cc)
 
 node-none : (b : List Ballot) (deed : Deed) (done : Effect) (v : ExactNode) → inside_ticket (after_in b deed done (NodePart v)) ≡ None
 node-none b (NodeDoes n turn) done v = refl

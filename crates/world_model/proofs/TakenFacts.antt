@@ -7,6 +7,7 @@ use Rattle.lock_messages.specs.declared.tickets.Mode.{Mode}
 use Rattle.lock_messages.specs.declared.tickets.Mode.TheVariants.{Write}
 use Rattle.lock_messages.specs.declared.messages.Message.{Message}
 use Rattle.lock_messages.specs.declared.messages.Message.TheVariants as message
+use Rattle.lock_model.specs.declared.problems.Problem.{Problem}
 use Rattle.lock_model.specs.Ballots.{Ballot, HasAnyNode, has_place, ballot_at, node_count, needed, votes_of}
 use Rattle.lock_model.specs.ExactHearing.{is_node_of}
 use Rattle.lock_model.specs.ExactStations.{is_write}
@@ -23,16 +24,16 @@ use Rattle.world_model.specs.declared.exact.ExactClient.{ExactClient}
 use Rattle.world_model.specs.declared.exact.ExactClientPhase.{ExactClientPhase}
 use Rattle.world_model.specs.declared.exact.ExactClientPhase.TheVariants as client
 use Rattle.world_model.specs.declared.exact.ExactWorld.{ExactWorld}
-use Rattle.world_model.specs.Worlds.{NodeDown, Node, Present, ClientDown, Client, World, OfNode, OfClient, ByNode, ByClient, Begins, TriesAttempt, TriesStation, KeepsAttempt, KeepsStation, Tells, Says, Enters, Leaves, Softens, NodeFalls, ClientFalls, NodeRises, ClientRises}
+use Rattle.world_model.specs.Worlds.{NodeDown, Node, Present, ClientDown, Client, World, OfNode, OfClient, ByNode, ByClient, Begins, TriesAttempt, TriesStation, KeepsAttempt, KeepsStation, Tells, Says, Enters, Leaves, Softens, NodeFalls, ClientFalls, NodeRises, ClientRises, Switches}
 use Rattle.world_model.specs.Turns.{Turn, Acts, Turns, acts}
-use Rattle.world_model.specs.ExactNodes.{tries_station_with, tries_station_in, keeps_station_with, keeps_station_in, says_in, node_falls_in, node_rises_with, node_rises_in}
+use Rattle.world_model.specs.ExactNodes.{tries_station_with, tries_station_in, keeps_station_with, keeps_station_in, says_in, node_falls_in, node_rises_with, node_rises_in, is_another, switched_to, switches_in}
 use Rattle.world_model.specs.ExactClients.{client_in, next_ticket, begins_by, begins_in, tries_attempt_with, tries_attempt_in, first_of, keeps_attempt_with, keeps_attempt_in, says_one, tells_in, tells, is_down, enters_in, leaves_in, soft, softens_in, client_falls_in, client_rises_with, client_rises_in}
 use Rattle.world_model.specs.ExactWorlds.{numbered, NodeDoes, ClientDoes, refusal_of}
 use Rattle.world_model.specs.Forgetting.{node_of, node_phase_of, client_of, client_phase_of, node_numbered, client_numbered, forget, setting_of, IsSound}
 use Rattle.world_model.specs.Parts.{part, node_part, client_part, refused_in}
 use Rattle.world_model.specs.Numbered.{numbered-there}
 use Rattle.world_model.proofs.EntryFacts.{both-true}
-use Rattle.world_model.proofs.PhaseFacts.{client-idle, client-down, client-chosen, client-asking, client-inside, begins-needs, tries-needs, keeps-needs, MaySpeak, speaks_asking, speaks_inside, speaks_idle, tells-needs, enters-needs, MayLeave, leaves_asking, leaves_inside, leaves-needs, softens-needs, client-falls-needs, old-needs, new-needs, node-down, node-decided, node-stored, none-tried, some-tried, station-tries-needs, station-keeps-needs, says-needs, node-falls-needs, node-old-needs, node-new-needs}
+use Rattle.world_model.proofs.PhaseFacts.{client-idle, client-down, client-chosen, client-asking, client-inside, begins-needs, tries-needs, keeps-needs, MaySpeak, speaks_asking, speaks_inside, speaks_idle, tells-needs, enters-needs, MayLeave, leaves_asking, leaves_inside, leaves-needs, softens-needs, client-falls-needs, old-needs, new-needs, node-down, node-idle, node-decided, node-stored, none-tried, some-tried, station-tries-needs, station-keeps-needs, says-needs, node-falls-needs, node-old-needs, node-new-needs, switches-needs}
 
 -- the turn is one that the actor's own part doesn't refuse
 pub record MayTurn (A : Type 0) (turns : Turns A) : Type 0 where
@@ -168,6 +169,9 @@ node-rises-may New v after h =
     let n = node-new-needs h in
     let u = some-tried v.tried n.0 n.2 in
     acts-may (node_rises_in New v v.phase) (record { kept = u.0; tried = None; phase = node.Idle }) effect.Up (ap (node_rises_in New v) (node-down v.phase n.1) ∙ ap (node_rises_with New v.kept) u.1)
+
+pub switches-may : (n : ℕ) (p : Problem) (v : ExactNode) (after : Node) → Switches n p (node_of v) after → MayTurn ExactNode (switches_in n p v v.phase)
+switches-may n p v after h = acts-may (switches_in n p v v.phase) (switched_to n p v) (effect.Switched (is_another p v)) (ap (switches_in n p v) (node-idle v.phase (switches-needs h)))
 
 -- an actor of a change is there
 

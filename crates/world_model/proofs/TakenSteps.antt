@@ -13,9 +13,9 @@ use Rattle.world_model.specs.declared.events.StepFault.{StepFault}
 use Rattle.world_model.specs.declared.events.StepFault.TheVariants as fault
 use Rattle.world_model.specs.declared.exact.ExactNode.{ExactNode}
 use Rattle.world_model.specs.declared.exact.ExactWorld.{ExactWorld}
-use Rattle.world_model.specs.Worlds.{Node, Client, World, Happens, Begins, TriesAttempt, TriesStation, KeepsAttempt, KeepsStation, Tells, Says, Enters, Leaves, Softens, NodeFalls, ClientFalls, NodeRises, ClientRises}
+use Rattle.world_model.specs.Worlds.{Node, Client, World, Happens, Begins, TriesAttempt, TriesStation, KeepsAttempt, KeepsStation, Tells, Says, Enters, Leaves, Softens, NodeFalls, ClientFalls, NodeRises, ClientRises, Switches}
 use Rattle.world_model.specs.Turns.{reads}
-use Rattle.world_model.specs.ExactNodes.{tries_station_in, keeps_station_in, says_in, decided_on, takes_in, node_falls_in, node_rises_in}
+use Rattle.world_model.specs.ExactNodes.{tries_station_in, keeps_station_in, says_in, decided_on, takes_in, node_falls_in, node_rises_in, switches_in}
 use Rattle.world_model.specs.ExactClients.{begins_in, tries_attempt_in, keeps_attempt_in, tells, heard_in, after_hearing, is_down, hears, enters_in, leaves_in, softens_in, client_falls_in, client_rises_in}
 use Rattle.world_model.specs.ExactWorlds.{numbered, actor_of, with_node_at, with_client_at, read_in, finishes, by_actor, Stepped, refusal_of, refusal, step}
 use Rattle.world_model.specs.Forgetting.{forget, setting_of, IsSound}
@@ -24,7 +24,7 @@ use Rattle.world_model.specs.Laws.{NamesItsMessage}
 use Rattle.world_model.proofs.PhaseFacts.{node-idle, hears-needs, takes-needs}
 use Rattle.world_model.proofs.Deeds.{ModelLaws}
 use Rattle.world_model.proofs.RefusalFacts.{OnlyList, list-second}
-use Rattle.world_model.proofs.TakenFacts.{begins-may, tries-attempt-may, keeps-attempt-may, tells-may, awake, enters-may, leaves-may, softens-may, client-falls-may, client-rises-may, tries-station-may, keeps-station-may, says-may, node-falls-may, node-rises-may, client-there, node-there, client-free, node-free, by-client-free, by-node-free}
+use Rattle.world_model.proofs.TakenFacts.{begins-may, tries-attempt-may, keeps-attempt-may, tells-may, awake, enters-may, leaves-may, softens-may, client-falls-may, client-rises-may, tries-station-may, keeps-station-may, says-may, node-falls-may, node-rises-may, switches-may, client-there, node-there, client-free, node-free, by-client-free, by-node-free}
 
 abbrev IsTaken : ExactWorld → Event → Type 0
 IsTaken w e = (refusal w e ≡ None) ⊎ (refusal w e ≡ Some fault.SentListFull)
@@ -100,3 +100,5 @@ step-taken laws w (event.Rise (actor.Node n) age) u sound h named =
     unless-full laws w (event.Rise (actor.Node n) age) (by-node-free (NodeRises age) w n (λ v. node_rises_in age v v.phase) u sound h (node-rises-may age)) (λ f z. absurd z)
 step-taken laws w (event.Rise (actor.Client c) age) u sound h named =
     unless-full laws w (event.Rise (actor.Client c) age) (by-client-free (ClientRises age) w c (λ b k. client_rises_in age k k.phase) u h (client-rises-may age)) (λ f z. absurd z)
+step-taken laws w (event.Switch n p) u sound h named =
+    unless-full laws w (event.Switch n p) (by-node-free (Switches n p) w n (λ v. switches_in n p v v.phase) u sound h (switches-may n p)) (λ f z. absurd z)

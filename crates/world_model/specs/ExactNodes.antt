@@ -1,8 +1,9 @@
 -- A node's turns, each by the phase that it is in.
-use Rattle.std.specs.Prelude.{ℕ, List, length, Option, Some, None, Err, if◌then◌else◌}
+use Rattle.std.specs.Prelude.{ℕ, Bool, not, List, length, Option, Some, None, Err, if◌then◌else◌}
 use Rattle.lock_messages.specs.declared.messages.Message.{Message}
 use Rattle.lock_messages.specs.Messages.{is_for_node}
-use Rattle.lock_model.specs.ExactDecisions.{decision, changes}
+use Rattle.lock_model.specs.declared.problems.Problem.{Problem}
+use Rattle.lock_model.specs.ExactDecisions.{decision, changes, switches, same_problem}
 use Rattle.world_model.specs.declared.events.Age.{Age}
 use Rattle.world_model.specs.declared.events.Age.TheVariants.{Old, New}
 use Rattle.world_model.specs.declared.events.Effect.TheVariants as effect
@@ -84,3 +85,22 @@ node_rises_in age v Down = node_rises_with age v.kept v.tried
 node_rises_in age v Idle = Err fault.Up
 node_rises_in age v (Decided s replies) = Err fault.Up
 node_rises_in age v (Stored replies) = Err fault.Up
+
+-- Switch: all that wait are settled under the problem; where it is the one that the node has kept, nothing has
+-- to be kept and the replies may be said at once
+
+abbrev pub is_another : Problem → ExactNode → Bool
+is_another p v = not (same_problem v.kept.problem p)
+
+abbrev pub switched_to : ℕ → Problem → ExactNode → ExactNode
+switched_to n p v =
+    let o = switches n p v.kept.entries in
+    if is_another p v
+    then node_in v (Decided (record { problem = p; entries = o.entries }) o.replies)
+    else node_in v (Stored o.replies)
+
+abbrev pub switches_in : ℕ → Problem → ExactNode → ExactNodePhase → Turns ExactNode
+switches_in n p v Down = Err fault.Down
+switches_in n p v Idle = acts (switched_to n p v) (effect.Switched (is_another p v))
+switches_in n p v (Decided s replies) = Err fault.WrongPhase
+switches_in n p v (Stored replies) = Err fault.WrongPhase

@@ -14,7 +14,7 @@ use Rattle.world_model.specs.declared.exact.ExactNode.{ExactNode}
 use Rattle.world_model.specs.declared.exact.ExactClient.{ExactClient}
 use Rattle.world_model.specs.declared.exact.ExactWorld.{ExactWorld}
 use Rattle.world_model.specs.Turns.{Turn, Acts, Speaks, Reads, Turns}
-use Rattle.world_model.specs.ExactNodes.{tries_station_in, keeps_station_in, says_in, takes_in, node_falls_in, node_rises_in}
+use Rattle.world_model.specs.ExactNodes.{tries_station_in, keeps_station_in, says_in, takes_in, node_falls_in, node_rises_in, switches_in}
 use Rattle.world_model.specs.ExactClients.{begins_in, tries_attempt_in, keeps_attempt_in, tells, hears, enters_in, leaves_in, softens_in, client_falls_in, client_rises_in}
 
 -- the k-th of a list, counted from 1
@@ -45,6 +45,7 @@ deed_of (event.Leave c) = ClientDoes c (λ b k. leaves_in k k.phase)
 deed_of (event.Soften c) = ClientDoes c (λ b k. softens_in k k.phase)
 deed_of (event.Fall who) = either_does who (λ v. node_falls_in v v.phase) (λ k. client_falls_in k k.phase)
 deed_of (event.Rise who age) = either_does who (λ v. node_rises_in age v v.phase) (λ k. client_rises_in age k k.phase)
+deed_of (event.Switch n p) = NodeDoes n (λ v. switches_in n p v v.phase)
 
 -- the actor whose event it is
 abbrev pub actor_in : Deed → Actor

@@ -1,23 +1,26 @@
 -- Worked runs of the exact world, each under the name of what it shows.
-use Rattle.std.specs.Prelude.{◌≡◌, ℕ, false, List, [], ◌∷◌, ◌++◌, Some, codes, replicate}
+use Rattle.std.specs.Prelude.{◌≡◌, ℕ, true, false, List, [], ◌∷◌, ◌++◌, Option, Some, codes, replicate}
+use Rattle.std.specs.Option.{option_map}
 use Rattle.lock_messages.specs.declared.ids.TheConstants.{MAX_ATTEMPT}
 use Rattle.lock_messages.specs.declared.ids.Actor.TheVariants as actor
+use Rattle.lock_messages.specs.declared.tickets.Mode.{Mode}
 use Rattle.lock_messages.specs.declared.tickets.Mode.TheVariants.{Read, Write}
 use Rattle.lock_messages.specs.declared.tickets.Ticket.{Ticket}
 use Rattle.lock_messages.specs.declared.messages.Message.TheVariants.{Request, Grant}
 use Rattle.lock_messages.specs.declared.messages.Message.TheVariants as message
 use Rattle.lock_model.specs.declared.hearing.Heard.TheVariants.{NotMine}
-use Rattle.lock_model.specs.declared.problems.Problem.TheVariants.{First}
+use Rattle.lock_model.specs.declared.problems.Problem.{Problem}
+use Rattle.lock_model.specs.declared.problems.Problem.TheVariants.{First, Second}
 use Rattle.lock_model.specs.Ballots.{Ballot}
 use Rattle.world_model.specs.declared.events.Age.TheVariants.{Old, New}
 use Rattle.world_model.specs.declared.events.Effect.TheVariants as effect
 use Rattle.world_model.specs.declared.events.Event.{Event}
-use Rattle.world_model.specs.declared.events.Event.TheVariants.{Begin, Try, Kept, SayTo, Say, Take, Hear, Enter, Soften, Fall, Rise}
+use Rattle.world_model.specs.declared.events.Event.TheVariants.{Begin, Try, Kept, SayTo, Say, Take, Hear, Enter, Soften, Fall, Rise, Switch}
 use Rattle.world_model.specs.declared.events.StepFault.TheVariants as fault
 use Rattle.world_model.specs.declared.exact.ExactWorld.{ExactWorld}
-use Rattle.world_model.specs.ExactWorlds.{ran, after, effect, refusal}
+use Rattle.world_model.specs.ExactWorlds.{numbered, ran, after, effect, refusal}
 use Rattle.world_model.specs.Openings.{empty_station, resumed, opening}
-use Rattle.world_model.specs.Views.{inside, holding}
+use Rattle.world_model.specs.Views.{inside, waiting, holding}
 
 -- three nodes of one vote each; two votes read, and two write
 abbrev pub three_nodes : List Ballot
@@ -134,3 +137,56 @@ Softening =
     (effect w (Soften 1) ≡ Some effect.Softened) × (inside (codes "a") v ≡ first_ticket ∷ []) × (effect v (SayTo 1 1) ≡ Some (effect.Sent 5 (message.Soften 1 1 1)))
     × (refusal v (Soften 1) ≡ Some fault.WrongPhase)
     × (holding 1 (codes "a") told ≡ Some (first_ticket ∷ record { client = 2; attempt = 1; mode = Read; resource = codes "a" } ∷ []))
+
+-- a client asks the one node, and the node keeps and says what it decides on the message of this number
+
+abbrev pub asks_to : ℕ → Mode → List Event
+asks_to c m = Begin c m (codes "a") 1 ∷ Try (actor.Client c) ∷ Kept (actor.Client c) ∷ SayTo c 1 ∷ []
+
+abbrev pub is_told : ℕ → List Event
+is_told request = Take 1 request ∷ keeps 1 ++ Say 1 ∷ []
+
+-- the ticket of a client's first attempt, for `a`
+abbrev pub asked_by : ℕ → Mode → Ticket
+asked_by c m = record { client = c; attempt = 1; mode = m; resource = codes "a" }
+
+-- Under problem 2 client 1 holds `a` as a reader, and client 2 waits for it as a writer, and behind it client 3
+-- as a reader, by the messages 1 to 6.
+abbrev pub behind_writer : ExactWorld
+behind_writer =
+    let up = Rise (actor.Node 1) Old ∷ Rise (actor.Client 1) Old ∷ Rise (actor.Client 2) Old ∷ Rise (actor.Client 3) Old ∷ Rise (actor.Client 4) Old ∷ [] in
+    (ran (up ++ asks_to 1 Read ++ is_told 1 ++ asks_to 2 Write ++ is_told 3 ++ asks_to 3 Read ++ is_told 5) (opening one_node (Second ∷ []) 4)).world
+
+-- the problem that node 1 has kept
+abbrev pub kept_problem : ExactWorld → Option Problem
+kept_problem w = option_map (λ v. v.kept.problem) (numbered w.nodes 1)
+
+-- the world after the switch to problem 1, once the node has said what came of it
+abbrev pub let_in : ExactWorld
+let_in = (ran (Switch 1 First ∷ keeps 1 ++ Say 1 ∷ []) behind_writer).world
+
+-- A switch to problem 1 lets in the reader behind a writer that waits, and tells it, once the new problem is kept.
+-- The writer still waits. Another switch to problem 1 changes nothing, and then there is nothing to say.
+abbrev pub Switching : Type 0
+Switching =
+    let w = behind_writer in
+    let decided = after w (Switch 1 First) in
+    let again = after let_in (Switch 1 First) in
+    (effect w (Switch 1 First) ≡ Some (effect.Switched true)) × (refusal decided (Say 1) ≡ Some fault.NotStored) × (refusal decided (Switch 1 Second) ≡ Some fault.WrongPhase)
+    × (refusal w (Switch 2 First) ≡ Some fault.UnknownActor) × (refusal (after w (Fall (actor.Node 1))) (Switch 1 First) ≡ Some fault.Down)
+    × (numbered let_in.sent 7 ≡ Some (Grant 1 (asked_by 3 Read))) × (kept_problem let_in ≡ Some First)
+    × (holding 1 (codes "a") let_in ≡ Some (asked_by 1 Read ∷ asked_by 3 Read ∷ [])) × (waiting 1 (codes "a") let_in ≡ Some (asked_by 2 Write ∷ []))
+    × (effect let_in (Switch 1 First) ≡ Some (effect.Switched false)) × (effect again (Say 1) ≡ Some (effect.Said 8 0))
+
+-- A node that fell before its new problem was kept has the old one, and where it was being written the old one or
+-- the new one. So a reader that asks behind the writer, by message 8, holds or waits.
+abbrev pub SwitchingPastAFall : Type 0
+SwitchingPastAFall =
+    let w = (ran (asks_to 4 Read ++ Switch 1 Second ∷ []) let_in).world in
+    let tried = after (after w (Try (actor.Node 1))) (Fall (actor.Node 1)) in
+    let untried = (ran (Rise (actor.Node 1) Old ∷ is_told 8) (after w (Fall (actor.Node 1)))).world in
+    let old = after tried (Rise (actor.Node 1) Old) in
+    let new = (ran (Rise (actor.Node 1) New ∷ is_told 8) tried).world in
+    (kept_problem w ≡ Some First) × (kept_problem untried ≡ Some First) × (kept_problem old ≡ Some First) × (kept_problem new ≡ Some Second)
+    × (holding 1 (codes "a") untried ≡ Some (asked_by 1 Read ∷ asked_by 3 Read ∷ asked_by 4 Read ∷ []))
+    × (waiting 1 (codes "a") new ≡ Some (asked_by 2 Write ∷ asked_by 4 Read ∷ []))

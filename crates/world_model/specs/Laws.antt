@@ -54,6 +54,7 @@ NamesItsMessage w (event.Leave c) = Unit {0}
 NamesItsMessage w (event.Soften c) = Unit {0}
 NamesItsMessage w (event.Fall who) = Unit {0}
 NamesItsMessage w (event.Rise who age) = Unit {0}
+NamesItsMessage w (event.Switch n p) = Unit {0}
 
 -- The other way round: what may happen is taken, or refused because the list of messages is full.
 abbrev pub AllowedStepsAreTaken : Type 0
@@ -101,6 +102,7 @@ IsNumbered w effect.Outside = Unit {0}
 IsNumbered w effect.Softened = Unit {0}
 IsNumbered w effect.Down = Unit {0}
 IsNumbered w effect.Up = Unit {0}
+IsNumbered w (effect.Switched changed) = Unit {0}
 
 abbrev pub SaidNumbersFit : Type 0
 SaidNumbersFit = (w v : ExactWorld) (e : Event) (done : Effect) → Takes w e done v → IsNumbered w done

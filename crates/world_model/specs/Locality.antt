@@ -69,6 +69,7 @@ IsEffectOf (event.Leave c) done = done ≡ effect.Outside
 IsEffectOf (event.Soften c) done = done ≡ effect.Softened
 IsEffectOf (event.Fall who) done = done ≡ effect.Down
 IsEffectOf (event.Rise who age) done = done ≡ effect.Up
+IsEffectOf (event.Switch n p) done = (changed : Bool) × (done ≡ effect.Switched changed)
 
 abbrev pub EffectsAreOfTheirEvents : Type 0
 EffectsAreOfTheirEvents = (w v : ExactWorld) (e : Event) (done : Effect) → Takes w e done v → IsEffectOf e done
@@ -87,6 +88,7 @@ IsAsListed w (event.Leave c) done = Unit {0}
 IsAsListed w (event.Soften c) done = Unit {0}
 IsAsListed w (event.Fall who) done = Unit {0}
 IsAsListed w (event.Rise who age) done = Unit {0}
+IsAsListed w (event.Switch n p) done = Unit {0}
 
 abbrev pub MessagesAreAsListed : Type 0
 MessagesAreAsListed = (w v : ExactWorld) (e : Event) (done : Effect) → Takes w e done v → IsAsListed w e done

@@ -87,6 +87,7 @@ IsListFault (event.Leave c) f = ⊥
 IsListFault (event.Soften c) f = ⊥
 IsListFault (event.Fall who) f = ⊥
 IsListFault (event.Rise who age) f = ⊥
+IsListFault (event.Switch n p) f = ⊥
 
 -- the message that an effect carries
 abbrev pub message_of : Effect → Option Message
@@ -102,6 +103,7 @@ message_of effect.Outside = None
 message_of effect.Softened = None
 message_of effect.Down = None
 message_of effect.Up = None
+message_of (effect.Switched changed) = None
 
 -- the actor after its turn
 abbrev pub after_reading : {A : Type 0} → A → (Message → A) → Option Message → A

@@ -35,6 +35,7 @@ leaves_or_falls (event.Take n k) = false
 leaves_or_falls (event.Hear c k) = false
 leaves_or_falls (event.Enter c) = false
 leaves_or_falls (event.Rise who age) = false
+leaves_or_falls (event.Switch n p) = false
 
 -- the event is a Soften
 abbrev pub is_soften : Event → Bool
@@ -50,6 +51,7 @@ is_soften (event.Enter c) = false
 is_soften (event.Leave c) = false
 is_soften (event.Fall who) = false
 is_soften (event.Rise who age) = false
+is_soften (event.Switch n p) = false
 
 -- none of these events is a Soften
 abbrev pub HasNoSoften : List (Event × Effect) → Type 0

@@ -9,14 +9,15 @@ use Rattle.world_model.specs.declared.events.StepFault.TheVariants as fault
 use Rattle.world_model.specs.declared.exact.ExactWorld.{ExactWorld}
 use Rattle.world_model.specs.ExactWorlds.{Steps, Ran, ran, step}
 
--- The events for which memory is asked: a message is taken, or sent, or a node's record is written or
--- read. A client asks for some only where it speaks.
+-- The events for which memory is asked: a message is taken, or sent, a node's record is written or read, or
+-- it takes a problem. A client asks for some only where it speaks.
 abbrev pub asks_for_memory : Event → Bool
 asks_for_memory (event.Take n number) = true
 asks_for_memory (event.Say n) = true
 asks_for_memory (event.SayTo c n) = true
 asks_for_memory (event.Try (actor.Node n)) = true
 asks_for_memory (event.Rise (actor.Node n) age) = true
+asks_for_memory (event.Switch n p) = true
 asks_for_memory (event.Begin c m x place) = false
 asks_for_memory (event.Try (actor.Client c)) = false
 asks_for_memory (event.Kept who) = false

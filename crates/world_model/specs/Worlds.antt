@@ -8,11 +8,12 @@ use Rattle.lock_messages.specs.declared.tickets.Ticket.{Ticket}
 use Rattle.lock_messages.specs.declared.messages.Message.{Message}
 use Rattle.lock_messages.specs.declared.messages.Message.TheVariants as message
 use Rattle.lock_messages.specs.Messages.{is_for_node, is_for_client}
+use Rattle.lock_model.specs.declared.problems.Problem.{Problem}
 use Rattle.lock_model.specs.declared.hearing.Heard.{Heard}
 use Rattle.lock_model.specs.declared.hearing.Heard.TheVariants as heard
 use Rattle.lock_model.specs.Ballots.{Ballot, HasAnyNode, HasPlace, IsEnough, ballot_at, node_count}
 use Rattle.lock_model.specs.Stations.{Free, Standing, Station, IsLawful, IsCaused}
-use Rattle.lock_model.specs.Decisions.{Among, Decides}
+use Rattle.lock_model.specs.Decisions.{Among, Decides, IsSwitched}
 use Rattle.lock_model.specs.Hearing.{HearsOfTicket, HearsSoftened, HearsAtRest}
 use Rattle.world_model.specs.declared.events.Age.{Age}
 use Rattle.world_model.specs.declared.events.Age.TheVariants.{Old, New}
@@ -153,6 +154,15 @@ pub data Takes (m : Message) : Node → Node → Type 0 where
   takes_same : (kept : Station) (tried : Option Station) (replies : List Message) → Decides kept m kept replies →
       Takes m (record { kept = kept; tried = tried; phase = NodeIdle }) (record { kept = kept; tried = tried; phase = Stored replies })
 
+-- An idle node takes a problem, and all that wait are settled under it. Where it is another problem the
+-- replies wait until the new station is kept; where it is the same the station stays, and they may be said
+-- at once.
+pub data Switches (n : ℕ) (p : Problem) : Node → Node → Type 0 where
+  switches_to : (kept s : Station) (tried : Option Station) (replies : List Message) → kept.problem ≢ p → IsSwitched n kept p s replies →
+      Switches n p (record { kept = kept; tried = tried; phase = NodeIdle }) (record { kept = kept; tried = tried; phase = Decided s replies })
+  switches_same : (kept : Station) (tried : Option Station) (replies : List Message) → kept.problem ≡ p → IsSwitched n kept p kept replies →
+      Switches n p (record { kept = kept; tried = tried; phase = NodeIdle }) (record { kept = kept; tried = tried; phase = Stored replies })
+
 -- the set with the node whose Grant it is
 abbrev pub grants_from : Message → ℕ → Bool
 grants_from (message.Grant n t) k = n == k
@@ -248,6 +258,7 @@ Happens s w (event.Fall (actor.Node n)) v = ByNode s w v n NodeFalls
 Happens s w (event.Fall (actor.Client c)) v = ByClient s w v c ClientFalls
 Happens s w (event.Rise (actor.Node n) age) v = ByNode s w v n (NodeRises age)
 Happens s w (event.Rise (actor.Client c) age) v = ByClient s w v c (ClientRises age)
+Happens s w (event.Switch n p) v = ByNode s w v n (Switches n p)
 
 -- A run: a list of events, each of which may happen where it stands. A loss is a message that is
 -- never taken, a repeat one that is taken again, a reordering any order of taking.

@@ -4,7 +4,7 @@ ghost use Rattle.std.specs.Prelude.{◌≡◌};
 ghost use Rattle.world_model.specs.Faults.{fault_number};
 
 use lock_messages::{Actor, Attempt, ClientId, Message, Mode, NodeId, ResourceName};
-use lock_model::Heard;
+use lock_model::{Heard, Problem};
 use thiserror::Error;
 
 /// Which value an actor rises with, where its record was being written as it fell.
@@ -43,6 +43,8 @@ pub enum Event {
     Fall(Actor),
     /// The actor rises with what it finds in its record.
     Rise(Actor, Age),
+    /// The node takes this problem from now on, and all that wait are settled under it (our own).
+    Switch(NodeId, Problem),
 }
 
 /// What an event did.
@@ -66,6 +68,8 @@ pub enum Effect {
     Softened,
     Down,
     Up,
+    /// Whether the problem is another one than before.
+    Switched(bool),
 }
 
 /// Why an event was refused. Of several that apply, the one of the lowest number is answered.

@@ -18,7 +18,7 @@ pub struct ExactStation {
 pub enum ExactNodePhase {
     Down,
     Idle,
-    /// It has decided on a message: the station after, and the replies.
+    /// It has decided, on a message or on another problem: the station after, and the replies.
     Decided(ExactStation, LinkedList<Message>),
     /// What it decided is kept, and it has these replies to say.
     Stored(LinkedList<Message>),

@@ -1,7 +1,7 @@
 //! Laws of the definitions. Each function computes nothing: its contract is a theorem.
 
 ghost use Rattle.std.specs.Prelude.{◌≡◌};
-ghost use Rattle.world_model.specs.Examples.{FirstReader, OneGrantIsTooFew, SayBeforeKept, RestartWithOldRecord, RestartWithNewRecord, RefusedRises, RestartedClient, NoSuchPlace, GreatestAttempt, Softening};
+ghost use Rattle.world_model.specs.Examples.{FirstReader, OneGrantIsTooFew, SayBeforeKept, RestartWithOldRecord, RestartWithNewRecord, RefusedRises, RestartedClient, NoSuchPlace, GreatestAttempt, Softening, Switching, SwitchingPastAFall};
 ghost use Rattle.world_model.specs.Exclusion.{WritersAreAlone, StationsStaySound, NothingIsMuddled};
 ghost use Rattle.world_model.specs.Laws.{ExactStepsAreAllowed, StepsKeepSound, AllowedStepsAreTaken, ExactRunsAreRuns, ResumedIsSound, ResumedIsLawful, OnlyWithinIsLawful, OpeningIsResumable, SaidNumbersFit, SoundIsExclusive, InsideIsTheSet, WriterInsideIsOnly, WaitingIsTheSet, HoldingIsTheSet};
 ghost use Rattle.world_model.specs.Locality.{PlacesAreApart, StepsChangeOnePart, OwnRefusalsComeFirst, ListRefusalsComeSecond, FullOnlyWithoutRoom, MemoryIsNoRefusal, EffectsAreOfTheirEvents, MessagesAreAsListed, PartsAreLocal, RefusalsAreLocal, HistoriesAreRuns};
@@ -33,6 +33,7 @@ pub fn exact_steps_are_allowed()
 {
     lock_model::laws::decision_is_allowed();
     lock_model::laws::changes_are_seen();
+    lock_model::laws::switch_is_allowed();
     lock_model::laws::hearing_is_exact();
 }
 
@@ -64,6 +65,7 @@ pub fn said_numbers_fit()
 {
     lock_model::laws::decision_is_allowed();
     lock_model::laws::changes_are_seen();
+    lock_model::laws::switch_is_allowed();
     lock_model::laws::hearing_is_exact();
 }
 
@@ -83,6 +85,7 @@ pub fn steps_change_one_part()
 {
     lock_model::laws::decision_is_allowed();
     lock_model::laws::changes_are_seen();
+    lock_model::laws::switch_is_allowed();
     lock_model::laws::hearing_is_exact();
 }
 
@@ -96,6 +99,7 @@ pub fn locality()
 {
     lock_model::laws::decision_is_allowed();
     lock_model::laws::changes_are_seen();
+    lock_model::laws::switch_is_allowed();
     lock_model::laws::hearing_is_exact();
 }
 
@@ -123,6 +127,8 @@ pub fn worked_examples()
     ensures no_such_place { NoSuchPlace }
     ensures greatest_attempt { GreatestAttempt }
     ensures softening { Softening }
+    ensures switching { Switching }
+    ensures switching_past_a_fall { SwitchingPastAFall }
 {}
 
 /// The limit by number: a world has at most 1,048,576 messages.

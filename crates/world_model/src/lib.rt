@@ -5,7 +5,8 @@
 //! refused. The definitions stand in `specs/`, at two levels. `Worlds` has the world as sets and
 //! maps and what may happen next as a relation; it is what a reader has to believe, and `Exclusion`
 //! says of it that a writer is alone. A writer that is inside may soften: from then on it is a
-//! reader, without leaving (our own). `ExactWorlds` has it exactly, with entries in order and
+//! reader, without leaving (our own). A node may take another problem while it runs, and settles all
+//! that wait under it (our own). `ExactWorlds` has it exactly, with entries in order and
 //! messages numbered from 1, and `step` as a function to the world after and the effect, or to the
 //! lowest refusal that applies. `Forgetting` leads from the exact world to the other, `Parts` says
 //! which part of the world is an actor's own.

@@ -6,10 +6,9 @@ use Rattle.std.proofs.lemmas.List.{length-map}
 use Rattle.std.proofs.lemmas.List.Folds.{list_all-map}
 use Rattle.std.proofs.Math.Seq.{drop-cons}
 use Rattle.std.proofs.lemmas.List.{length-append}
-use Rattle.std.proofs.lemmas.Option.{slice_get-map, slice_get_read, slice_get-get_or, slice_get_within, get_or_from_slice_get}
+use Rattle.std.proofs.lemmas.Option.{slice_get-map, slice_get_read, slice_get_within, get_or_from_slice_get}
 use Rattle.lock_messages.specs.declared.ids.TheConstants.{MAX_ATTEMPT}
 use Rattle.lock_model.specs.Ballots.{Ballot, AllCross, node_count}
-use Rattle.lock_model.specs.declared.problems.Problem.{Problem}
 use Rattle.stable_record.specs.declared.node_records.NodeRecord.{NodeRecord}
 use Rattle.world_model.specs.ExactWorlds.{numbered}
 use Rattle.world_model.specs.Forgetting.{IsSoundStation}
@@ -42,29 +41,16 @@ first-without P count k all h within none = record {
 }
 
 -- the bytes at a place
-at-place : {A : Type 0} (xs : List A) (i : ℕ) (d : A) → i < length xs → numbered xs (i + 1) ≡ Some (get_or xs i d)
-at-place xs i d within = numbered-next xs i ∙ slice_get-get_or xs i d within
-
 mapped-place : {A B : Type 0} (f : A → B) (xs : List A) (i : ℕ) (x : A) → i < length xs → x ≡ get_or xs i x → numbered (map f xs) (i + 1) ≡ Some (f x)
 mapped-place f xs i x within is = numbered-next (map f xs) i ∙ slice_get-map f xs i ∙ ap (Rattle.std.specs.Option.option_map f) (slice_get_read xs (length xs) i x refl within is)
 
-pub node-finds : {V : Type 0} (f : V → List ℕ) (problems : List Problem) (found : List V) (i : ℕ) (d : Problem) (v : V) (r : NodeRecord) → i < length problems → i < length found →
-    v ≡ get_or found i v → IsRecordOf (get_or problems i d) (f v) r → NodeFinds problems (map f found) (i + 1) r
-node-finds f problems found i d v r some within at h = record {
-  problem = get_or problems i d;
-  bytes = f v;
-  solves = at-place problems i d some;
-  finds = mapped-place f found i v within at;
-  reads = h;
-}
+pub node-finds : {V : Type 0} (f : V → List ℕ) (found : List V) (i : ℕ) (v : V) (r : NodeRecord) → i < length found → v ≡ get_or found i v → IsRecordOf (f v) r → NodeFinds (map f found) (i + 1) r
+node-finds f found i v r within at h = record { bytes = f v; finds = mapped-place f found i v within at; reads = h }
 
-pub node-finds-none : {V : Type 0} (f : V → List ℕ) (problems : List Problem) (found : List V) (i : ℕ) (d : Problem) (v : V) → i < length problems → i < length found →
-    v ≡ get_or found i v → ((r : NodeRecord) → ¬ (IsRecordOf (get_or problems i d) (f v) r)) → (r : NodeRecord) → ¬ (NodeFinds problems (map f found) (i + 1) r)
-node-finds-none f problems found i d v some within at none r h =
-    let p = get_or problems i d in
-    let same : h.problem ≡ p = let e : Some h.problem ≡ Some p = sym h.solves ∙ at-place problems i d some in cc in
+pub node-finds-none : {V : Type 0} (f : V → List ℕ) (found : List V) (i : ℕ) (v : V) → i < length found → v ≡ get_or found i v → ((r : NodeRecord) → ¬ (IsRecordOf (f v) r)) → (r : NodeRecord) → ¬ (NodeFinds (map f found) (i + 1) r)
+node-finds-none f found i v within at none r h =
     let bytes : h.bytes ≡ f v = let e : Some h.bytes ≡ Some (f v) = sym h.finds ∙ mapped-place f found i v within at in cc in
-    none r (subst (λ q. IsRecordOf q (f v) r) same (subst (λ b. IsRecordOf h.problem b r) bytes h.reads))
+    none r (subst (λ b. IsRecordOf b r) bytes h.reads)
 
 pub client-finds : {V : Type 0} (f : V → List ℕ) (found : List V) (i : ℕ) (v : V) (a : ℕ) → i < length found → v ≡ get_or found i v → IsAttemptOf (f v) a → ClientFinds (map f found) (i + 1) a
 client-finds f found i v a within at h = record { bytes = f v; finds = mapped-place f found i v within at; reads = h }
@@ -107,18 +93,18 @@ all-mapped P f [] h = tt
 all-mapped P f (x ∷ xs) h = (h.0, all-mapped P f xs h.1)
 
 -- records that fit
-pub fit_to_open : (problems : List Problem) (nodes clients : List (List ℕ)) (records : List NodeRecord) (attempts : List ℕ) → AreRecords problems nodes records → AreAttempts clients attempts →
-    list_all (λ r. entries_within attempts r.entries) records ≡ true → length nodes ≡ length problems → (b : List Ballot) → AllCross b → length problems ≡ node_count b → IsResumable b (stations_in records) attempts
-fit_to_open problems nodes clients records attempts are made within count b crosses votes = record {
+pub fit_to_open : (nodes clients : List (List ℕ)) (records : List NodeRecord) (attempts : List ℕ) → AreRecords nodes records → AreAttempts clients attempts →
+    list_all (λ r. entries_within attempts r.entries) records ≡ true → (b : List Ballot) → AllCross b → length nodes ≡ node_count b → IsResumable b (stations_in records) attempts
+fit_to_open nodes clients records attempts are made within b crosses votes = record {
   crosses = crosses;
-  nodes = length-map records station_in ∙ are.count_is ∙ count ∙ votes;
-  sound = all-mapped IsSoundStation station_in records (all-numbered (λ r. IsSoundStation (station_in r)) records (λ n r e. sound r (are.each n r e).problem (are.each n r e).bytes (are.each n r e).reads));
+  nodes = length-map records station_in ∙ are.count_is ∙ votes;
+  sound = all-mapped IsSoundStation station_in records (all-numbered (λ r. IsSoundStation (station_in r)) records (λ n r e. sound r (are.each n r e).bytes (are.each n r e).reads));
   in_range = all-numbered (λ a. a ≤ MAX_ATTEMPT) attempts (λ c a e. (made.each c a e).reads.in_range);
   within = list_all-map (λ s. entries_within attempts s.entries) station_in records ∙ within;
 }
   where
-    sound : (r : NodeRecord) (p : Problem) (bytes : List ℕ) → IsRecordOf p bytes r → IsSoundStation (station_in r)
-    sound r p bytes h = record { well_formed = h.good.well_formed; lawful = h.good.lawful; caused = h.good.caused }
+    sound : (r : NodeRecord) (bytes : List ℕ) → IsRecordOf bytes r → IsSoundStation (station_in r)
+    sound r bytes h = record { well_formed = h.good.well_formed; lawful = h.good.lawful; caused = h.good.caused }
 
 pub fit_not : (attempts : List ℕ) (records : List NodeRecord) → list_all (λ r. entries_within attempts r.entries) records ≡ false → stations_within attempts (stations_in records) ≡ false
 fit_not attempts records h = list_all-map (λ s. entries_within attempts s.entries) station_in records ∙ h

@@ -15,8 +15,8 @@ pub enum OpeningFault {
     /// 621: an entry's floor or attempt is above the attempt that its client has kept.
     #[error("an entry is above the attempt that its client has kept")]
     EntryAboveAttempt,
-    /// 622: the actor's record can't be read, or is of the other problem.
-    #[error("the actor's record can't be read, or is of the other problem")]
+    /// 622: the actor's record can't be read.
+    #[error("the actor's record can't be read")]
     NoRecord(Actor),
 }
 

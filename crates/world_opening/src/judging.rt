@@ -3,7 +3,6 @@
 ghost use Rattle.std.specs.Prelude.{◌≡◌, ◌<◌, ◌≤◌, ◌+◌, ℕ, List, length, map, IfOk, IfErr};
 ghost use Rattle.std.specs.List.{list_all};
 ghost use Rattle.lock_messages.specs.declared.ids.TheConstants.{MAX_NODES, MAX_CLIENTS};
-ghost use Rattle.lock_model.specs.declared.problems.Problem.{Problem};
 ghost use Rattle.lock_model.specs.Ballots.{Ballot, node_count, AllCross};
 ghost use Rattle.stable_record.specs.declared.node_records.NodeRecord.{NodeRecord};
 ghost use Rattle.world_model.specs.Openings.{kept_attempt, live_within, entry_within, entries_within};
@@ -12,7 +11,7 @@ ghost use Rattle.world_opening.specs.Openings.{IsFound, IsRecordOf, IsAttemptOf,
 
 use crate::OpeningFault;
 use lock_messages::{Actor, ClientId, NodeId};
-use lock_model::{Entry, Live, Problem};
+use lock_model::{Entry, Live};
 use stable_record::{NodeRecord, RecordFault, read_client, read_node};
 use std::alloc::{AllocError, Global};
 
@@ -24,22 +23,12 @@ pub struct Opening {
     pub attempts: Vec<u64>,
 }
 
-/// The record of this problem that the bytes are, if they are one.
-fn record_of(
-    alloc: Global,
-    problem: Problem,
-    bytes: &[u8],
-) -> Result<Option<NodeRecord>, AllocError>
-    ensures { IfOk result (IsFound (IsRecordOf problem bytes.now)) }
+/// The record that the bytes are, if they are one.
+fn record_of(alloc: Global, bytes: &[u8]) -> Result<Option<NodeRecord>, AllocError>
+    ensures { IfOk result (IsFound (IsRecordOf bytes.now)) }
 {
     match read_node(alloc, bytes) {
-        Ok(record) => {
-            if record.policy == problem {
-                Ok(Some(record))
-            } else {
-                Ok(None)
-            }
-        }
+        Ok(record) => Ok(Some(record)),
         Err(RecordFault::NoMemory) => Err(AllocError),
         Err(_) => Ok(None),
     }
@@ -73,20 +62,14 @@ pub fn client_at(place: usize) -> ClientId
 }
 
 /// The records of all nodes.
-fn records_of(
-    alloc: Global,
-    problems: &[Problem],
-    found: &[Vec<u8>],
-) -> Result<Vec<NodeRecord>, OpeningFault>
-    requires count { length found.now ≡ length problems.now }
-    requires few { length found.now ≤ MAX_NODES }
-    ensures records { IfOk result (λ records. AreRecords problems.now (map (λ v. v.items) found.now) records.items) }
-    ensures refused { (clients : List (List ℕ)) → IfErr result (λ fault. IsRefusedOpening problems.now (map (λ v. v.items) found.now) clients fault) }
+fn records_of(alloc: Global, found: &[Vec<u8>]) -> Result<Vec<NodeRecord>, OpeningFault>
+    requires { length found.now ≤ MAX_NODES }
+    ensures records { IfOk result (λ records. AreRecords (map (λ v. v.items) found.now) records.items) }
+    ensures refused { (clients : List (List ℕ)) → IfErr result (λ fault. IsRefusedOpening (map (λ v. v.items) found.now) clients fault) }
 {
     let mut records = Vec::new(alloc);
     for place in 0..found.len() {
-        let problem = problems[place];
-        let Ok(read) = record_of(alloc, problem, &found[place]) else {
+        let Ok(read) = record_of(alloc, &found[place]) else {
             return Err(OpeningFault::Memory);
         };
         let Some(record) = read else {
@@ -103,8 +86,8 @@ fn records_of(
 fn attempts_of(alloc: Global, found: &[Vec<u8>]) -> Result<Vec<u64>, OpeningFault>
     requires { length found.now ≤ MAX_CLIENTS }
     ensures attempts { IfOk result (λ attempts. AreAttempts (map (λ v. v.items) found.now) attempts.items) }
-    ensures refused { (problems : List Problem) (nodes : List (List ℕ)) (records : List NodeRecord) → AreRecords problems nodes records →
-        IfErr result (λ fault. IsRefusedOpening problems nodes (map (λ v. v.items) found.now) fault) }
+    ensures refused { (nodes : List (List ℕ)) (records : List NodeRecord) → AreRecords nodes records →
+        IfErr result (λ fault. IsRefusedOpening nodes (map (λ v. v.items) found.now) fault) }
 {
     let mut attempts = Vec::new(alloc);
     for place in 0..found.len() {
@@ -175,31 +158,23 @@ fn fits(opening: &Opening) -> bool
 
 /// What a world is opened from: the records that its nodes and clients have kept, if they fit.
 ///
-/// `problems` are those that the nodes' policies solve, one for each record in `nodes`; `clients` has
-/// the records of all clients. The caller owes as many records as problems, at most `MAX_NODES`, and at
-/// most `MAX_CLIENTS` records of clients. Under each ballot that crosses, a world that is opened from
-/// what is answered is a lawful opening.
+/// `nodes` has the records of all nodes, each of its own problem, and `clients` those of all clients. The
+/// caller owes at most `MAX_NODES` records of nodes, and at most `MAX_CLIENTS` of clients. Under each
+/// ballot that crosses, a world that is opened from what is answered is a lawful opening.
 ///
-/// Errors: a record can't be read or is of the other problem (622), with the first such actor, nodes
-/// first; then an entry's floor or attempt is above the attempt of its client (621), where a client that
-/// isn't there counts as 0; and want of memory (613), which may come before both. It reads each record
-/// once.
-pub fn judge(
-    alloc: Global,
-    problems: &[Problem],
-    nodes: &[Vec<u8>],
-    clients: &[Vec<u8>],
-) -> Result<Opening, OpeningFault>
-    requires count { length nodes.now ≡ length problems.now }
+/// Errors: a record can't be read (622), with the first such actor, nodes first; then an entry's floor or
+/// attempt is above the attempt of its client (621), where a client that isn't there counts as 0; and want
+/// of memory (613), which may come before both. It reads each record once.
+pub fn judge(alloc: Global, nodes: &[Vec<u8>], clients: &[Vec<u8>]) -> Result<Opening, OpeningFault>
     requires few_nodes { length nodes.now ≤ MAX_NODES }
     requires few_clients { length clients.now ≤ MAX_CLIENTS }
-    ensures records { IfOk result (λ o. AreRecords problems.now (map (λ v. v.items) nodes.now) o.records.items) }
+    ensures records { IfOk result (λ o. AreRecords (map (λ v. v.items) nodes.now) o.records.items) }
     ensures attempts { IfOk result (λ o. AreAttempts (map (λ v. v.items) clients.now) o.attempts.items) }
     // Under a ballot that crosses and has these nodes, a world can be opened from it.
-    ensures resumable { IfOk result (λ o. (b : List Ballot) → AllCross b → length problems.now ≡ node_count b → IsResumable b (stations_in o.records.items) o.attempts.items) }
-    ensures refused { IfErr result (λ fault. IsRefusedOpening problems.now (map (λ v. v.items) nodes.now) (map (λ v. v.items) clients.now) fault) }
+    ensures resumable { IfOk result (λ o. (b : List Ballot) → AllCross b → length nodes.now ≡ node_count b → IsResumable b (stations_in o.records.items) o.attempts.items) }
+    ensures refused { IfErr result (λ fault. IsRefusedOpening (map (λ v. v.items) nodes.now) (map (λ v. v.items) clients.now) fault) }
 {
-    let records = match records_of(alloc, problems, nodes) {
+    let records = match records_of(alloc, nodes) {
         Ok(records) => records,
         Err(fault) => return Err(fault),
     };

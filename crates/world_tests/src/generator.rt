@@ -1,7 +1,9 @@
 // Events of a fixed generator: 5 nodes and 6 clients, 2 resources. Messages come late, again and out of
-// order, or never; actors fall and rise; every client in turn asks, enters, softens and releases.
+// order, or never; actors fall and rise, and nodes take problems; every client in turn asks, enters, softens
+// and releases.
 
 use lock_messages::{Actor, ClientId, Message, Mode, NodeId, ResourceName};
+use lock_model::Problem;
 use rand_core::utils::NextWord;
 use rand_pcg::Pcg32;
 use test_outcomes::Failure;
@@ -77,6 +79,17 @@ fn some_delivery(words: &mut Pcg32, world: &World, sent: u32) -> Result<Event, F
     }
 }
 
+/// A node takes a problem, its own or the other.
+fn some_switch(words: &mut Pcg32) -> Result<Event, Failure> {
+    let node = node(words.next_word())?;
+    let problem = if words.next_word() % 2 == 0 {
+        Problem::First
+    } else {
+        Problem::Second
+    };
+    Ok(Event::Switch(node, problem))
+}
+
 /// The steps of an attempt.
 const STEPS: u32 = 28;
 
@@ -102,16 +115,18 @@ fn attempt_step(words: &mut Pcg32, round: u32) -> Result<Event, Failure> {
     })
 }
 
-/// Mostly the client whose attempt it is enters; now and then an actor falls or rises, or the client
-/// softens.
+/// Mostly the client whose attempt it is enters; now and then an actor falls or rises, the client softens,
+/// or a node takes a problem.
 fn rare_event(words: &mut Pcg32, round: u32) -> Result<Event, Failure> {
     let who = some_actor(words)?;
     let client = client(round / STEPS)?;
+    let switch = some_switch(words)?;
     Ok(match words.next_word() % 20 {
         0 => Event::Fall(who),
         1..=3 => Event::Rise(who, Age::New),
         4..=8 => Event::Rise(who, Age::Old),
         9 => Event::Soften(client),
+        10 => switch,
         _ => Event::Enter(client),
     })
 }
@@ -126,6 +141,7 @@ pub(crate) fn event_of_turn(
 ) -> Result<Event, Failure> {
     let round = turn / 8;
     match turn % 8 {
+        0 if round % 8 == 5 => some_switch(words),
         1 => Ok(Event::Try(Actor::Node(last))),
         2 => Ok(Event::Kept(Actor::Node(last))),
         3 => Ok(Event::Say(last)),

@@ -16,7 +16,7 @@ mod nodes_alone;
 #[cfg(test)]
 mod openings;
 #[cfg(test)]
-mod policies;
+mod pairs;
 #[cfg(test)]
 mod queries;
 #[cfg(test)]
@@ -25,5 +25,9 @@ mod random_events;
 mod records;
 #[cfg(test)]
 mod softening;
+#[cfg(test)]
+mod steps;
+#[cfg(test)]
+mod switching;
 #[cfg(test)]
 mod values;

@@ -1,8 +1,9 @@
 // One node of the world by itself: what it keeps over a restart, and what it says.
 
+use crate::pairs::plain;
 use crate::values::{attempt, client, node, request, ticket};
-use admission_policy::{Admission, FirstProblem, SecondProblem};
 use lock_messages::{Message, Mode};
+use lock_model::Problem;
 use stable_record::read_node;
 use std::alloc::Global;
 use test_outcomes::{Failure, Outcome, check};
@@ -32,8 +33,8 @@ const SOFTENED: [u8; 28] = [
 /// n1 under problem 1, down, with nothing kept.
 fn empty(alloc: Global) -> Result<WorldNode, Failure> {
     let id = node(1)?;
-    let policy: Box<dyn Admission + Send> = Box::new(alloc, FirstProblem)?;
-    Ok(WorldNode::empty(alloc, id, policy))
+    let pair = plain(alloc)?;
+    Ok(WorldNode::empty(alloc, id, Problem::First, pair))
 }
 
 /// n1, which has decided on c1's request and tries to keep that.
@@ -47,16 +48,19 @@ fn trying(alloc: Global) -> Result<WorldNode, Failure> {
     Ok(one)
 }
 
-/// n1 with this record, up.
-fn risen(alloc: Global, record: &[u8]) -> Result<WorldNode, Failure> {
+/// n1 with this record, down.
+fn opened(alloc: Global, record: &[u8]) -> Result<WorldNode, Failure> {
     let id = node(1)?;
     let Ok(record) = read_node(alloc, record) else {
         return Err(Failure::Memory);
     };
-    let policy: Box<dyn Admission + Send> = Box::new(alloc, FirstProblem)?;
-    let Ok(mut one) = WorldNode::opened(alloc, id, record, policy) else {
-        return Err(Failure::Wrong(0));
-    };
+    let pair = plain(alloc)?;
+    Ok(WorldNode::opened(alloc, id, record, pair))
+}
+
+/// n1 with this record, up.
+fn risen(alloc: Global, record: &[u8]) -> Result<WorldNode, Failure> {
+    let mut one = opened(alloc, record)?;
     one.rise(Age::Old)?;
     Ok(one)
 }
@@ -157,26 +161,97 @@ fn risen_with_a_softened_holder(rt: HostRuntime) -> Outcome {
 
 #[test]
 fn opened_with_a_record(rt: HostRuntime) -> Outcome {
-    let id = node(1)?;
-    let Ok(record) = read_node(rt.alloc(), &ONE) else {
-        return Err(Failure::Memory);
-    };
-    let policy: Box<dyn Admission + Send> = Box::new(rt.alloc(), FirstProblem)?;
-    match WorldNode::opened(rt.alloc(), id, record, policy) {
-        Ok(one) => check(one.number() == id && one.kept().entries.len() == 1),
-        Err(_) => Err(Failure::Wrong(0)),
-    }
+    let one = opened(rt.alloc(), &ONE)?;
+    check(one.number() == node(1)? && one.kept().entries.len() == 1)
+}
+
+/// The record of problem 2 in which c1 holds `a` as a reader, c2 waits for it as a writer and c3 behind that
+/// one as a reader.
+const WAITS: [u8; 76] = [
+    0x01, 0x02, 0x00, 0x03, //
+    0x00, 0x00, 0x00, 0x01, 0x00, 0x00, 0x00, 0x00, 0x00, 0x00, 0x00, 0x00, 0x02, 0x00, 0x00, 0x00,
+    0x00, 0x00, 0x00, 0x00, 0x01, 0x00, 0x01, 0x61, //
+    0x00, 0x00, 0x00, 0x02, 0x00, 0x00, 0x00, 0x00, 0x00, 0x00, 0x00, 0x00, 0x01, 0x00, 0x00, 0x00,
+    0x00, 0x00, 0x00, 0x00, 0x01, 0x01, 0x01, 0x61, //
+    0x00, 0x00, 0x00, 0x03, 0x00, 0x00, 0x00, 0x00, 0x00, 0x00, 0x00, 0x00, 0x01, 0x00, 0x00, 0x00,
+    0x00, 0x00, 0x00, 0x00, 0x01, 0x00, 0x01, 0x61,
+];
+
+/// n1 with a writer that waits, which has taken problem 1 and tries to keep that.
+fn switching(alloc: Global) -> Result<WorldNode, Failure> {
+    let mut one = risen(alloc, &WAITS)?;
+    check(one.switch(Problem::First)?)?;
+    check(one.replies() == Err(StepFault::NotStored) && one.kept().policy == Problem::Second)?;
+    one.start_keeping()?;
+    Ok(one)
+}
+
+/// Whether the node says just these.
+fn says_just(one: &mut WorldNode, messages: &[Message]) -> Outcome {
+    let said = one.say()?;
+    check(said.as_slice() == messages)
+}
+
+/// The same problem again is no change, and leaves nothing to say.
+fn same_again(one: &mut WorldNode) -> Outcome {
+    let is_changed = one.switch(Problem::First)?;
+    check(!is_changed && one.replies() == Ok(0))?;
+    says_just(one, &[])?;
+    check(one.may_take() == Ok(()))
 }
 
 #[test]
-fn opened_with_a_record_of_the_other_problem(rt: HostRuntime) -> Outcome {
-    let id = node(1)?;
-    let Ok(record) = read_node(rt.alloc(), &ONE) else {
-        return Err(Failure::Memory);
-    };
-    let policy: Box<dyn Admission + Send> = Box::new(rt.alloc(), SecondProblem)?;
-    match WorldNode::opened(rt.alloc(), id, record, policy) {
-        Ok(_) => Err(Failure::Wrong(0)),
-        Err((policy, record)) => check(policy.problem() == 2 && record.entries.len() == 1),
-    }
+fn another_problem(rt: HostRuntime) -> Outcome {
+    let grant = Message::Grant(node(1)?, ticket(3, Mode::Read)?);
+    let mut one = switching(rt.alloc())?;
+    one.keep()?;
+    check(one.kept().policy == Problem::First && one.replies() == Ok(1))?;
+    says_just(&mut one, &[grant])?;
+    same_again(&mut one)
+}
+
+/// n1 after it fell while it tried to keep problem 1, and rose with a record of this age.
+fn restarted_switching(alloc: Global, age: Age) -> Result<WorldNode, Failure> {
+    let mut one = switching(alloc)?;
+    one.fall()?;
+    one.rise(age)?;
+    Ok(one)
+}
+
+#[test]
+fn restart_before_another_problem(rt: HostRuntime) -> Outcome {
+    let (request, busy) = (request(3, Mode::Read)?, ticket(3, Mode::Read)?);
+    let mut one = restarted_switching(rt.alloc(), Age::Old)?;
+    check(one.kept().policy == Problem::Second)?;
+    answers(&mut one, &request, Message::Busy(node(1)?, busy))
+}
+
+#[test]
+fn restart_after_another_problem(rt: HostRuntime) -> Outcome {
+    let (request, grant) = (request(3, Mode::Read)?, ticket(3, Mode::Read)?);
+    let mut one = restarted_switching(rt.alloc(), Age::New)?;
+    check(one.kept().policy == Problem::First)?;
+    answers(&mut one, &request, Message::Grant(node(1)?, grant))
+}
+
+/// Whether the node takes neither problem, and this is why.
+fn refuses(one: &mut WorldNode, fault: StepFault) -> Outcome {
+    let first = one.switch(Problem::First);
+    let second = one.switch(Problem::Second);
+    check(first == Err(fault) && second == Err(fault))
+}
+
+/// A node that is down, or about something else, takes no problem.
+#[test]
+fn nobody_else_switches(rt: HostRuntime) -> Outcome {
+    let mut one = opened(rt.alloc(), &WAITS)?;
+    refuses(&mut one, StepFault::Down)?;
+    one.rise(Age::Old)?;
+    check(one.switch(Problem::First)?)?;
+    refuses(&mut one, StepFault::WrongPhase)?;
+    one.start_keeping()?;
+    one.keep()?;
+    refuses(&mut one, StepFault::WrongPhase)?;
+    one.fall()?;
+    refuses(&mut one, StepFault::Down)
 }

@@ -1,14 +1,15 @@
 // Worlds that resume from records, and worlds that start.
 
-use crate::policies::{are_back, policies};
+use crate::pairs::{are_back, told_pairs};
 use crate::records::records;
-use admission_policy::Admission;
+use admission_policy::Pair;
 use lock_messages::{Actor, ClientId, MAX_CLIENTS, Mode, NodeId, ResourceName};
+use lock_model::Problem;
 use std::alloc::Global;
 use test_outcomes::{Failure, Outcome, check, check_row};
 use vote_weights::{Ballot, BallotList};
 use world_machine::{OpeningFault, World};
-use world_model::{Age, Event, StepFault};
+use world_model::{Age, Effect, Event, StepFault};
 
 /// Three nodes of one vote each.
 fn ballots() -> Result<BallotList, Failure> {
@@ -24,14 +25,12 @@ fn ballots() -> Result<BallotList, Failure> {
 /// A world, or why there is none.
 type Opened = Result<World, OpeningFault>;
 
-/// What came of an opening, where the policies came back with a refusal.
-fn opened(
-    answer: Result<World, (OpeningFault, Vec<Box<dyn Admission + Send>>)>,
-) -> Result<Opened, Failure> {
+/// What came of an opening, where the pairs of policies came back with a refusal.
+fn opened(answer: Result<World, (OpeningFault, Vec<Pair>)>) -> Result<Opened, Failure> {
     match answer {
         Ok(world) => Ok(Ok(world)),
-        Err((fault, policies)) => {
-            if !are_back(&policies) {
+        Err((fault, pairs)) => {
+            if !are_back(&pairs) {
                 Err(Failure::Wrong(0))
             } else if fault == OpeningFault::Memory {
                 Err(Failure::Memory)
@@ -45,16 +44,16 @@ fn opened(
 /// What comes of the records of these names.
 fn resumed(alloc: Global, nodes: &[Vec<u8>], clients: &[Vec<u8>]) -> Result<Opened, Failure> {
     let ballots = ballots()?;
-    let policies = policies(alloc)?;
+    let pairs = told_pairs(alloc)?;
     let count = ballots.nodes() as usize;
-    if nodes.len() != count || policies.len() != count {
+    if nodes.len() != count || pairs.len() != count {
         return Err(Failure::Wrong(0));
     }
     if clients.is_empty() || clients.len() > MAX_CLIENTS as usize {
         return Err(Failure::Wrong(0));
     }
     let number = clients.len() as u16;
-    opened(World::resume(alloc, ballots, number, policies, nodes, clients))
+    opened(World::resume(alloc, ballots, number, pairs, nodes, clients))
 }
 
 fn node(number: u8) -> Result<NodeId, Failure> {
@@ -108,15 +107,15 @@ fn are_refused(alloc: Global, rows: &str) -> Outcome {
     Ok(())
 }
 
-// One cause. A node's record is too short, empty, of another version, or of the other problem than its
-// policy's; a client's is too short, too long, or past the greatest attempt.
+// One cause. A node's record is too short, empty, of another version, or of no problem; a client's is too
+// short, too long, or past the greatest attempt.
 const UNREADABLE: &str = "\
 622 n1; short second first; none none
-622 n1; second second first; none none
+622 n1; third second first; none none
 622 n2; first version first; none none
-622 n2; first first first; none none
+622 n2; first third first; none none
 622 n3; first second empty; none none
-622 n3; first second second; none none
+622 n3; second first third; none none
 622 c1; first second first; short none
 622 c1; first second first; empty none
 622 c2; first second first; none past
@@ -143,10 +142,10 @@ fn entries_above_their_clients(rt: HostRuntime) -> Outcome {
 // Of two causes the first actor's, nodes first, and records before entries.
 const TWO_CAUSES: &str = "\
 622 n1; short version second; short none
-622 n2; first first short; none none
+622 n2; first third short; none none
 622 n3; first second short; short past
 622 c1; first second first; past short
-622 n3; floor3 second second; two none
+622 n3; floor3 second third; two none
 622 c2; floor3 second first; two short";
 
 #[test]
@@ -227,24 +226,85 @@ fn greatest_attempt(rt: HostRuntime) -> Outcome {
     is_refused_as(&mut world, &begin, StepFault::AttemptsSpent)
 }
 
-/// The world in which nothing is kept, with four clients.
-fn started(alloc: Global) -> Result<World, Failure> {
+/// Whether a node, once it rises, has this problem: to take it changes nothing, and to take the other one
+/// does.
+fn has_problem(world: &mut World, number: u8, problem: Problem) -> Outcome {
+    let node = node(number)?;
+    world.step(&Event::Rise(Actor::Node(node), Age::Old))?;
+    let same = world.step(&Event::Switch(node, problem))?;
+    world.step(&Event::Say(node))?;
+    let other = match problem {
+        Problem::First => Problem::Second,
+        Problem::Second => Problem::First,
+    };
+    let changed = world.step(&Event::Switch(node, other))?;
+    check(same == Effect::Switched(false) && changed == Effect::Switched(true))
+}
+
+/// Whether nodes 1, 2 and so on have these problems.
+fn have_problems(world: &mut World, problems: &[Problem]) -> Outcome {
+    let mut number = 0u8;
+    for problem in problems {
+        number = number.saturating_add(1);
+        has_problem(world, number, *problem)?;
+    }
+    Ok(())
+}
+
+/// Records of nodes, with the problems that these then have.
+const PROBLEMS: [(&str, [Problem; 3]); 4] = [
+    ("first first first", [Problem::First; 3]),
+    ("second second second", [Problem::Second; 3]),
+    (
+        "second first second",
+        [Problem::Second, Problem::First, Problem::Second],
+    ),
+    (
+        "waits3 holds3 floor3",
+        [Problem::Second, Problem::First, Problem::First],
+    ),
+];
+
+#[test]
+fn problems_of_records(rt: HostRuntime) -> Outcome {
+    let alloc = rt.alloc();
+    let clients = records(alloc, "three three three")?;
+    for (names, problems) in &PROBLEMS {
+        let nodes = records(alloc, names)?;
+        let mut world = world_of(alloc, &nodes, &clients)?;
+        have_problems(&mut world, problems)?;
+    }
+    Ok(())
+}
+
+/// The world in which nothing is kept, with four clients, of this problem.
+fn started(alloc: Global, problem: Problem) -> Result<World, Failure> {
     let ballots = ballots()?;
-    let policies = policies(alloc)?;
-    if policies.len() != ballots.nodes() as usize {
+    let pairs = told_pairs(alloc)?;
+    if pairs.len() != ballots.nodes() as usize {
         return Err(Failure::Wrong(0));
     }
-    match opened(World::start(alloc, ballots, 4, policies))? {
+    match opened(World::start(alloc, ballots, 4, problem, pairs))? {
         Ok(world) => Ok(world),
         Err(_) => Err(Failure::Wrong(0)),
     }
 }
 
 #[test]
+fn one_first_problem(rt: HostRuntime) -> Outcome {
+    let alloc = rt.alloc();
+    for problem in [Problem::First, Problem::Second] {
+        let mut world = started(alloc, problem)?;
+        have_problems(&mut world, &[problem; 3])?;
+    }
+    Ok(())
+}
+
+#[test]
 fn empty_records(rt: HostRuntime) -> Outcome {
     let alloc = rt.alloc();
-    let mut world = started(alloc)?;
-    let nodes = records(alloc, "first second first")?;
+    let mut world = started(alloc, Problem::Second)?;
+    let nodes = records(alloc, "second second second")?;
     let clients = records(alloc, "none none none none")?;
     nodes_keep(&world, &nodes)?;
     clients_keep(&world, &clients)?;

@@ -1,8 +1,9 @@
 // What is asked of a world: who is inside, who waits and who holds, what is kept, and what was sent.
 
+use crate::pairs::plain_pairs;
 use crate::values::{client, node, resource, ticket};
-use admission_policy::{Admission, FirstProblem};
 use lock_messages::{Actor, Message, Mode, ResourceName};
+use lock_model::Problem;
 use std::alloc::Global;
 use test_outcomes::{Failure, Outcome, check};
 use vote_weights::{Ballot, BallotList};
@@ -28,13 +29,11 @@ fn world(alloc: Global) -> Result<World, Failure> {
     let Ok(ballots) = BallotList::of(&[ballot]) else {
         return Err(Failure::Wrong(0));
     };
-    let policy: Box<dyn Admission + Send> = Box::new(alloc, FirstProblem)?;
-    let mut policies = Vec::new(alloc);
-    policies.push(policy)?;
-    if policies.len() != ballots.nodes() as usize {
+    let pairs = plain_pairs(alloc, 1)?;
+    if pairs.len() != ballots.nodes() as usize {
         return Err(Failure::Wrong(0));
     }
-    match World::start(alloc, ballots, 3, policies) {
+    match World::start(alloc, ballots, 3, Problem::First, pairs) {
         Ok(world) => Ok(world),
         Err(_) => Err(Failure::Memory),
     }

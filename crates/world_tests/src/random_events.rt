@@ -1,47 +1,23 @@
 // Long runs of a fixed generator: after each event a writer inside is alone, and whoever waits at a node
-// has a cause. Contracts say so of every world; this shows that they say it of worlds in which clients
-// enter and soften.
+// has a cause under the node's present problem. Contracts say so of every world; this shows that they say it
+// of worlds in which clients enter and soften, and nodes take other problems.
 
 use crate::generator::{CLIENTS, NODES, client, event_of_turn, name, node};
-use admission_policy::{Admission, FirstProblem, SecondProblem};
+use crate::pairs::plain_pairs;
 use lock_messages::{Actor, Mode, NodeId, Ticket};
 use lock_model::Problem;
 use rand_pcg::Pcg32;
 use std::alloc::Global;
-use test_outcomes::{Failure, Outcome, check};
+use test_outcomes::{Failure, Outcome, check, check_row};
 use vote_weights::{Ballot, BallotList};
 use world_machine::World;
 use world_model::{Age, Effect, Event, StepFault};
 
 /// The seed of the events.
-const SEED: u64 = 9;
+const SEED: u64 = 23;
 
 /// The events that are tried; more than 3,000 of them are taken.
 const TURNS: u32 = 14_000;
-
-/// The plain policy of a problem.
-fn policy_of(alloc: Global, problem: Problem) -> Result<Box<dyn Admission + Send>, Failure> {
-    match problem {
-        Problem::First => {
-            let policy: Box<dyn Admission + Send> = Box::new(alloc, FirstProblem)?;
-            Ok(policy)
-        }
-        Problem::Second => {
-            let policy: Box<dyn Admission + Send> = Box::new(alloc, SecondProblem)?;
-            Ok(policy)
-        }
-    }
-}
-
-/// One for each node.
-fn policies_of(alloc: Global, problem: Problem) -> Result<Vec<Box<dyn Admission + Send>>, Failure> {
-    let mut policies = Vec::new(alloc);
-    for _ in 0..NODES {
-        let policy = policy_of(alloc, problem)?;
-        policies.push(policy)?;
-    }
-    Ok(policies)
-}
 
 /// Two ballots of unlike votes, each two of which cross.
 fn ballots() -> Result<BallotList, Failure> {
@@ -57,14 +33,14 @@ fn ballots() -> Result<BallotList, Failure> {
     }
 }
 
-/// A world of nodes with unlike votes, all down, nothing kept.
+/// A world of nodes with unlike votes, all down under this problem, nothing kept.
 fn new_world(alloc: Global, problem: Problem) -> Result<World, Failure> {
     let ballots = ballots()?;
-    let policies = policies_of(alloc, problem)?;
-    if policies.len() != ballots.nodes() as usize {
+    let pairs = plain_pairs(alloc, NODES)?;
+    if pairs.len() != ballots.nodes() as usize {
         return Err(Failure::Wrong(0));
     }
-    match World::start(alloc, ballots, CLIENTS, policies) {
+    match World::start(alloc, ballots, CLIENTS, problem, pairs) {
         Ok(world) => Ok(world),
         Err(_) => Err(Failure::Memory),
     }
@@ -114,8 +90,18 @@ fn are_caused(problem: Problem, holding: &[Ticket], waiting: &[Ticket]) -> bool 
     })
 }
 
+/// The problem of the record that the node has kept.
+fn present_problem(world: &World, node: NodeId) -> Result<Problem, Failure> {
+    let kept = world.kept_bytes(Actor::Node(node))?;
+    match kept.get(1) {
+        Some(1) => Ok(Problem::First),
+        Some(2) => Ok(Problem::Second),
+        _ => Err(Failure::Wrong(0)),
+    }
+}
+
 /// Whether a node's holders of this resource are readers, or one writer alone, and whoever waits for it has
-/// a cause.
+/// a cause under this problem.
 fn is_settled(world: &World, problem: Problem, node: NodeId, number: u32) -> Result<bool, Failure> {
     let name = name(number)?;
     let holding = world.holding(node, &name)?;
@@ -123,13 +109,15 @@ fn is_settled(world: &World, problem: Problem, node: NodeId, number: u32) -> Res
     Ok(are_exclusive(&holding) && are_caused(problem, &holding, &waiting))
 }
 
-/// What a run has seen: the messages sent, the events taken, the entries, and the writers that softened.
+/// What a run has seen: the messages sent, the events taken, the entries, the writers that softened, and the
+/// nodes that took another problem.
 #[derive(Clone, Copy)]
 struct Seen {
     sent: u32,
     taken: u32,
     entered: u32,
     softened: u32,
+    switched: u32,
 }
 
 /// How many messages were sent, after an event with this effect.
@@ -144,16 +132,23 @@ fn sent_after(sent: u32, effect: &Effect) -> u32 {
 fn seen_with(seen: Seen, effect: &Effect) -> Seen {
     let entries = if *effect == Effect::Inside { 1 } else { 0 };
     let softens = if *effect == Effect::Softened { 1 } else { 0 };
+    let switches = if *effect == Effect::Switched(true) {
+        1
+    } else {
+        0
+    };
     Seen {
         sent: sent_after(seen.sent, effect),
         taken: seen.taken.saturating_add(1),
         entered: seen.entered.saturating_add(entries),
         softened: seen.softened.saturating_add(softens),
+        switched: seen.switched.saturating_add(switches),
     }
 }
 
-/// Whether a writer that is inside is alone, and this node is settled.
-fn look(world: &World, problem: Problem, node: NodeId) -> Outcome {
+/// Whether a writer that is inside is alone, and this node is settled under its present problem.
+fn look(world: &World, node: NodeId) -> Outcome {
+    let problem = present_problem(world, node)?;
     for number in 0..2 {
         let alone = is_exclusive(world, number)?;
         check(alone)?;
@@ -163,16 +158,27 @@ fn look(world: &World, problem: Problem, node: NodeId) -> Outcome {
     Ok(())
 }
 
+/// Whether what is said, also where that is nothing, is numbered from the next message on.
+fn follows(sent: u32, effect: &Effect) -> bool {
+    match effect {
+        Effect::Said { first, .. } => *first == sent.saturating_add(1),
+        _ => true,
+    }
+}
+
 /// Takes an event.
 fn seen_after(world: &mut World, event: &Event, seen: Seen) -> Result<Seen, Failure> {
     match world.step(event) {
-        Ok(effect) => Ok(seen_with(seen, &effect)),
+        Ok(effect) => {
+            check(follows(seen.sent, &effect))?;
+            Ok(seen_with(seen, &effect))
+        }
         Err(StepFault::Memory) => Err(Failure::Memory),
         Err(_) => Ok(seen),
     }
 }
 
-/// What a run under this problem sees.
+/// What a run sees that begins under this problem.
 fn run(alloc: Global, problem: Problem) -> Result<Seen, Failure> {
     let mut world = new_world(alloc, problem)?;
     raise(&mut world)?;
@@ -183,23 +189,28 @@ fn run(alloc: Global, problem: Problem) -> Result<Seen, Failure> {
         taken: 0,
         entered: 0,
         softened: 0,
+        switched: 0,
     };
     for turn in 0..TURNS {
         let Ok(event) = event_of_turn(&mut words, &world, turn, last, seen.sent) else {
             return Err(Failure::Wrong(0));
         };
-        if let Event::Take(node, _) = event {
+        if let Event::Take(node, _) | Event::Switch(node, _) = event {
             last = node;
         }
         seen = seen_after(&mut world, &event, seen)?;
-        look(&world, problem, last)?;
+        look(&world, last)?;
+        look(&world, node(turn)?)?;
     }
     Ok(seen)
 }
 
 fn enters_often(alloc: Global, problem: Problem) -> Outcome {
     let seen = run(alloc, problem)?;
-    check(seen.taken >= 3_000 && seen.entered >= 20 && seen.softened >= 5)
+    check_row(seen.taken >= 3_000, 1)?;
+    check_row(seen.entered >= 20, 2)?;
+    check_row(seen.softened >= 5, 3)?;
+    check_row(seen.switched >= 50, 4)
 }
 
 #[test]

@@ -1,12 +1,11 @@
 // A writer that softens in the world: what it says, whom that lets in, and what is left of it after falls.
 
+use crate::steps::{answers, begins, does, is_refused, runs, world};
 use crate::values::{attempt, client, node, resource, ticket};
-use admission_policy::{Admission, FirstProblem};
 use lock_messages::{Actor, Message, Mode};
-use lock_model::Heard;
+use lock_model::{Heard, Problem};
 use std::alloc::Global;
 use test_outcomes::{Failure, Outcome, check};
-use vote_weights::{Ballot, BallotList};
 use world_machine::World;
 use world_model::{Age, Effect, Event, StepFault};
 
@@ -28,77 +27,12 @@ const SOFTENED: [u8; 52] = [
     0x00, 0x00, 0x00, 0x00, 0x01, 0x00, 0x01, 0x61,
 ];
 
-/// A world of three nodes with a vote each under problem 1, and of two clients.
-fn world(alloc: Global) -> Result<World, Failure> {
-    let Ok(ballot) = Ballot::of(&[1, 1, 1], 2, 2) else {
-        return Err(Failure::Wrong(0));
-    };
-    let Ok(ballots) = BallotList::of(&[ballot]) else {
-        return Err(Failure::Wrong(0));
-    };
-    let mut policies = Vec::new(alloc);
-    for _ in 0..ballots.nodes() {
-        let policy: Box<dyn Admission + Send> = Box::new(alloc, FirstProblem)?;
-        policies.push(policy)?;
-    }
-    if policies.len() != ballots.nodes() as usize {
-        return Err(Failure::Wrong(0));
-    }
-    match World::start(alloc, ballots, 2, policies) {
-        Ok(world) => Ok(world),
-        Err(_) => Err(Failure::Memory),
-    }
-}
-
-/// Takes an event, and compares what it did.
-fn does(world: &mut World, event: Event, effect: Effect) -> Outcome {
-    let done = world.step(&event)?;
-    check(done == effect)
-}
-
-/// Whether an event is refused with this fault.
-fn is_refused(world: &mut World, event: Event, fault: StepFault) -> Outcome {
-    check(world.step(&event) == Err(fault))
-}
-
-fn runs(world: &mut World, events: &[Event]) -> Outcome {
-    match world.run(events) {
-        Ok(_) => Ok(()),
-        Err((_, fault)) => Err(fault.into()),
-    }
-}
-
-/// A client rises, and asks with its first ticket.
-fn begins(world: &mut World, number: u32, mode: Mode) -> Outcome {
-    let client = client(number)?;
-    let who = Actor::Client(client);
-    let events = [
-        Event::Rise(who, Age::Old),
-        Event::Begin(client, mode, resource()?, 1),
-        Event::Try(who),
-        Event::Kept(who),
-    ];
-    runs(world, &events)
-}
-
-/// A node takes the message of this number, which changes its record, and answers.
-fn answers(world: &mut World, number: u8, message: u32) -> Outcome {
-    let node = node(number)?;
-    let events = [
-        Event::Take(node, message),
-        Event::Try(Actor::Node(node)),
-        Event::Kept(Actor::Node(node)),
-        Event::Say(node),
-    ];
-    runs(world, &events)
-}
-
 /// The world in which c1 is inside as a writer by the votes of n1 and n2, and n1 was busy for the reader
 /// c2: six messages.
 fn writing(alloc: Global) -> Result<World, Failure> {
     let (one, two) = (client(1)?, client(2)?);
     let (first, second) = (node(1)?, node(2)?);
-    let mut world = world(alloc)?;
+    let mut world = world(alloc, Problem::First, 2)?;
     let up = [
         Event::Rise(Actor::Node(first), Age::Old),
         Event::Rise(Actor::Node(second), Age::Old),

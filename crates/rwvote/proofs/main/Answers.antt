@@ -7,27 +7,25 @@ use Rattle.run_service.proofs.ListFacts.{pushed}
 use Rattle.rwvote.proofs.main.OwnLists.{own-1, own-2, at-2-1}
 use Rattle.rwvote.proofs.main.Goals as goal
 
-pub loop-preserved : goal.loop-preserved
-loop-preserved g c =
+pub add_pair-requires-clause-first : goal.add_pair-requires-clause-first
+add_pair-requires-clause-first g c =
     let box = c.into_dyn_box in
-    let other = c.into_dyn_box-in-loop in
-    record {
-      first = pushed _ _ _ _ First _ c.loop.invariant.first c.in-Ok-add_policies.ensures.first
-          (subst (λ v. (x : (own-1.entry v).0.Denot) → (own-1.entry v).1.problem_of x ≡ First) (sym box.ensures.0) (λ x. refl) box.result.value);
-      second = pushed _ _ _ _ Second _ c.loop.invariant.second c.in-Ok-add_policies.ensures.second
-          (subst (λ v. (x : (own-1.entry v).0.Denot) → (own-1.entry v).1.problem_of x ≡ Second) (sym other.ensures.0) (λ x. refl) other.result.value);
-    }
+    subst (λ v. (x : (own-1.entry v).0.Denot) → (own-1.entry v).1.problem_of x ≡ First) (sym box.ensures.0) (λ x. refl) box.result.value
 
-pub loop-2-preserved : goal.loop-2-preserved
-loop-2-preserved g c =
+pub add_pair-requires-clause-second : goal.add_pair-requires-clause-second
+add_pair-requires-clause-second g c =
+    let box = c.into_dyn_box-in-loop in
+    subst (λ v. (x : (own-1.entry v).0.Denot) → (own-1.entry v).1.problem_of x ≡ Second) (sym box.ensures.0) (λ x. refl) box.result.value
+
+pub add_pair-requires-in-loop-2-clause-first : goal.add_pair-requires-in-loop-2-clause-first
+add_pair-requires-in-loop-2-clause-first g c =
     let box = c.into_dyn_box-in-loop-2 in
-    let other = c.into_dyn_box-in-loop-2-2 in
-    record {
-      first = pushed _ _ _ _ First _ c.loop-2.invariant.first c.in-Ok-add_policies-2.ensures.first
-          (subst (λ v. (x : (own-1.entry v).0.Denot) → (own-1.entry v).1.problem_of x ≡ First) (sym box.ensures.0) (λ x. refl) box.result.value);
-      second = pushed _ _ _ _ Second _ c.loop-2.invariant.second c.in-Ok-add_policies-2.ensures.second
-          (subst (λ v. (x : (own-1.entry v).0.Denot) → (own-1.entry v).1.problem_of x ≡ Second) (sym other.ensures.0) (λ x. refl) other.result.value);
-    }
+    subst (λ v. (x : (own-1.entry v).0.Denot) → (own-1.entry v).1.problem_of x ≡ First) (sym box.ensures.0) (λ x. refl) box.result.value
+
+pub add_pair-requires-in-loop-2-clause-second : goal.add_pair-requires-in-loop-2-clause-second
+add_pair-requires-in-loop-2-clause-second g c =
+    let box = c.into_dyn_box-in-loop-2-2 in
+    subst (λ v. (x : (own-1.entry v).0.Denot) → (own-1.entry v).1.problem_of x ≡ Second) (sym box.ensures.0) (λ x. refl) box.result.value
 
 pub loop-3-preserved : goal.loop-3-preserved
 loop-3-preserved g c =

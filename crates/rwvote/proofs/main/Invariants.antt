@@ -1,21 +1,15 @@
-use Rattle.std.proofs.Common.{◌≡◌, map, replicate}
+use Rattle.std.proofs.Common.{◌≡◌, length, map, replicate}
 use Rattle.lock_messages.specs.declared.ids.TheConstants.{MAX_NODES}
 use Rattle.lock_model.specs.declared.problems.Problem.TheVariants.{First, Second}
 use Rattle.run_service.specs.Empty.{empty_node, empty_client}
-use Rattle.rwvote.proofs.main.OwnLists.{own-1, own-2}
+use Rattle.rwvote.proofs.main.OwnLists.{own-2}
 use Rattle.rwvote.proofs.main.Given as goal
 
 abbrev pub invariant-loop : goal.invariant-loop
-invariant-loop g l = record {
-  first : map (λ b. (own-1.entry b.vtable).1.problem_of b.value) l.world.first.items ≡ replicate l.counter First;
-  second : map (λ b. (own-1.entry b.vtable).1.problem_of b.value) l.world.second.items ≡ replicate l.counter Second;
-}
+invariant-loop g l = length l.world.pairs.items ≡ l.counter
 
 abbrev pub invariant-loop-2 : goal.invariant-loop-2
-invariant-loop-2 g l = record {
-  first : map (λ b. (own-1.entry b.vtable).1.problem_of b.value) l.threads.first.items ≡ replicate l.counter First;
-  second : map (λ b. (own-1.entry b.vtable).1.problem_of b.value) l.threads.second.items ≡ replicate l.counter Second;
-}
+invariant-loop-2 g l = length l.threads.pairs.items ≡ l.counter
 
 abbrev pub invariant-loop-3 : goal.invariant-loop-3
 invariant-loop-3 g l = record {

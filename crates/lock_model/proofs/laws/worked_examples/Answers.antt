@@ -21,6 +21,8 @@ returns c = record {
   softened_request = refl;
   muddled_softened_request = refl;
   softened_stranger = refl;
+  switched_to_first = refl;
+  switched_to_second = refl;
   weighted_votes = (refl, refl, refl, refl);
   larger_votes = (refl, refl, refl);
 }

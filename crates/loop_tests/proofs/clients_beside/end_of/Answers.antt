@@ -1,4 +1,4 @@
-use Rattle.std.proofs.Common.{◌≡◌, List, sym, subst}
+use Rattle.std.proofs.Common.{List, sym, subst}
 use Rattle.lock_model.specs.Ballots.{Ballot}
 use Rattle.history_check.specs.declared.wishes.Wish.{Wish}
 use Rattle.client_loop.specs.Visits.{ArePlaced}

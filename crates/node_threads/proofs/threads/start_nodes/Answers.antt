@@ -12,7 +12,7 @@ use Rattle.node_threads.proofs.Promises.{one_more_started, all_started}
 use Rattle.node_threads.proofs.Taking.{first_of, rest_of}
 use Rattle.node_threads.proofs.threads.start_nodes.Goals as goal
 
--- a node's record and policy may go to its thread, as their boxes say
+-- a node's record and policies may go to its thread, as their boxes say
 pub spawn_with-requires-send-F : goal.spawn_with-requires-send-F
 spawn_with-requires-send-F g c κs within =
     let records : Sends g.dyn-1.0 = g.dyn-1.2 in
@@ -25,14 +25,14 @@ spawn_with-requires-send-F g c κs within =
 
 pub spawn_with-requires-clause-runs : goal.spawn_with-requires-clause-runs
 spawn_with-requires-clause-runs g c κs within =
-    first_of c.in-Some.task (λ t. IsNodeTask g.B.BookName.table t.node t.berth ((goal.Admission-dyn g (t.policy.vtable, t.policy.value)).problem_of t.policy.value)
+    first_of c.in-Some.task (λ t. IsNodeTask g.B.BookName.table t.node t.berth
     ((goal.StableRecord-dyn g (t.stable.vtable, t.stable.value)).finds t.stable.value)) _ _ c.in-Some.ensures.steps.0 c.loop-task.invariant.tasks
 
 pub loop-task-preserved : goal.loop-task-preserved
 loop-task-preserved g c = record {
   can = tt;
   finite = tt;
-  tasks = rest_of c.in-Some.task (λ t. IsNodeTask g.B.BookName.table t.node t.berth ((goal.Admission-dyn g (t.policy.vtable, t.policy.value)).problem_of t.policy.value)
+  tasks = rest_of c.in-Some.task (λ t. IsNodeTask g.B.BookName.table t.node t.berth
       ((goal.StableRecord-dyn g (t.stable.vtable, t.stable.value)).finds t.stable.value)) _ _ c.in-Some.ensures.steps.0 c.loop-task.invariant.tasks;
   named = one_more_started (λ t. t.promise.node) (λ t. t.node) c.loop-task.threads.items _ _ _ c.in-Ok.handle c.in-Some.task _
       c.loop-task.invariant.named c.in-Some.ensures.steps.0 c.in-Ok-push.ensures.items (ap (λ p. p.node) c.in-Ok.ensures.ok);

@@ -8,6 +8,6 @@ abbrev pub invariant-loop-task : goal.invariant-loop-task
 invariant-loop-task g l = record {
   can : (goal.iterator-loop-task g).can_next l.task-iterator;
   finite : (goal.iterator-loop-task g).is_finite l.task-iterator;
-  tasks : All (λ t. IsNodeTask g.B.BookName.table t.node t.berth ((goal.Admission-dyn g (t.policy.vtable, t.policy.value)).problem_of t.policy.value) ((goal.StableRecord-dyn g (t.stable.vtable, t.stable.value)).finds t.stable.value)) (into_iter_items l.task-iterator);
+  tasks : All (λ t. IsNodeTask g.B.BookName.table t.node t.berth ((goal.StableRecord-dyn g (t.stable.vtable, t.stable.value)).finds t.stable.value)) (into_iter_items l.task-iterator);
   named : map (λ t. t.promise.node) l.threads.items ++ map (λ t. t.node) (into_iter_items l.task-iterator) ≡ map (λ t. t.node) l.fn.nodes.items;
 }

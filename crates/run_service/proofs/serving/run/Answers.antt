@@ -6,7 +6,7 @@ use Rattle.run_service.proofs.serving.run.Goals as goal
 
 pub run_all-requires-clause-may : goal.run_all-requires-clause-may
 run_all-requires-clause-may g c κs within =
-    may_run c.args.settings.now c.in-Ok.world c.nodes-nodes.result _ _ c.in-Ok.ensures c.nodes-nodes.ensures.nodes c.chosen-policies.ensures c.in-Ok-chosen_records.ensures
+    may_run c.args.settings.now c.in-Ok.world c.nodes-nodes.result _ _ c.in-Ok.ensures c.nodes-nodes.ensures.nodes c.chosen-pairs.ensures.count c.in-Ok-chosen_records.ensures
 
 pub run_all-requires-clause-theirs : goal.run_all-requires-clause-theirs
 run_all-requires-clause-theirs g c κs within = theirs c.args.settings.now c.in-Ok.world c.args.wishes.now c.in-Ok.ensures c.requires.wishes

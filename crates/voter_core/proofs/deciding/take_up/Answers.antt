@@ -70,15 +70,25 @@ returns-clause-replies g c =
     c.in_ok-make_way.ensures.entries c.settle.ensures.entries
     (c.admits-admitted.ensures (Some (t.client, t.resource)) c.settle.new.entries (c.settle.ensures.indexed (Some (t.client, t.resource)) c.in_ok-make_way.ensures.announced))
 
-pub returns-clause-told : goal.returns-clause-told
-returns-clause-told g c = λ b h.
+pub returns-clause-told_first : goal.returns-clause-told_first
+returns-clause-told_first g c = λ here b h.
     let t = c.args.ticket.now in
     let s = note-reader t.mode _ b h in
     let asked = c.admits-admitted.ensures (Some (c.args.ticket.now.client, c.args.ticket.now.resource)) c.settle.new.entries
     (c.settle.ensures.indexed (Some (c.args.ticket.now.client, c.args.ticket.now.resource)) c.in_ok-make_way.ensures.announced) in
     let is = asked-is c.args.problem t c.args.entries.now c.make_way.new.entries c.settle.new.entries c.admits-admitted.result b c.in_ok-make_way.ensures.entries c.settle.ensures.entries asked s.1 in
-    let x = c.note.ensures.reader s.0 in
-    (x.0, subst (λ (k : Bool). (goal.Admission-dyn g c.args.policy.now).notes c.args.policy.now.1 k x.0) is x.1, x.2)
+    let x = c.note.ensures.first s.0 here in
+    (x.0, subst (λ (k : Bool). (goal.Admission-dyn g (c.args.policies.now.first.vtable, c.args.policies.now.first.value)).notes c.args.policies.now.first.value k x.0) is x.1, x.2)
+
+pub returns-clause-told_second : goal.returns-clause-told_second
+returns-clause-told_second g c = λ here b h.
+    let t = c.args.ticket.now in
+    let s = note-reader t.mode _ b h in
+    let asked = c.admits-admitted.ensures (Some (c.args.ticket.now.client, c.args.ticket.now.resource)) c.settle.new.entries
+    (c.settle.ensures.indexed (Some (c.args.ticket.now.client, c.args.ticket.now.resource)) c.in_ok-make_way.ensures.announced) in
+    let is = asked-is c.args.problem t c.args.entries.now c.make_way.new.entries c.settle.new.entries c.admits-admitted.result b c.in_ok-make_way.ensures.entries c.settle.ensures.entries asked s.1 in
+    let x = c.note.ensures.second s.0 here in
+    (x.0, subst (λ (k : Bool). (goal.Admission-dyn g (c.args.policies.now.second.vtable, c.args.policies.now.second.value)).notes c.args.policies.now.second.value k x.0) is x.1, x.2)
 
 pub returns-clause-untold : goal.returns-clause-untold
 returns-clause-untold g c = λ h. c.note.ensures.writer (note-writer c.args.ticket.now.mode _ h)

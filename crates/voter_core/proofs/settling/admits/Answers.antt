@@ -10,6 +10,6 @@ pub returns-in-Read : goal.returns-in-Read
 returns-in-Read g c = λ a es h.
     let p = c.args.problem in
     let x = c.args.resource.now in
-    c.admits_reader.ensures ∙ ap (λ b. admits_reader p b c.has_waiting_writer-writer_waits.result) (c.has_writing_holder-writer_holds.ensures a es h)
+    c.admits.ensures ∙ ap (λ b. admits_reader p b c.has_waiting_writer-writer_waits.result) (c.has_writing_holder-writer_holds.ensures a es h)
     ∙ ap (λ b. admits_reader p (any_live (writer_holds x) es) b) (c.has_waiting_writer-writer_waits.ensures a es h)
     ∙ ap (λ m. admits p m x es) (sym c.in-Read.is)

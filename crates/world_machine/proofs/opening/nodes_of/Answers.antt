@@ -7,15 +7,13 @@ use Rattle.world_actors.specs.Acting.{ActingNode}
 use Rattle.world_model.specs.Openings.{down_node}
 use Rattle.world_opening.specs.Openings.{station_in, stations_in}
 use Rattle.world_machine.specs.Machines.{node_part, AreNodes}
-use Rattle.world_machine.specs.Opened.{problems_in}
-use Rattle.world_machine.proofs.OpeningFacts.{rest-solves, rest-good, rest-length, parts-more, nodes-more}
+use Rattle.world_machine.proofs.OpeningFacts.{rest-same, rest-good, rest-length, parts-more, nodes-more}
 use Rattle.world_machine.proofs.opening.nodes_of.Goals as goal
 
 pub loop-place-preserved : goal.loop-place-preserved
 loop-place-preserved g c =
     let vs = c.loop-place.nodes.items in
     let rs = c.loop-place.records.items in
-    let ps = c.loop-place.policies.items in
     let r = c.remove-station.result in
     let v : ActingNode = record { number = c.node_at.result; part = down_node (station_in r) } in
     let old = c.loop-place.invariant in
@@ -32,5 +30,5 @@ loop-place-preserved g c =
       left = omega (arith, old.left, ap length left, rest-length rs some);
       room = omega (arith, old.room, c.put_node.ensures.capacity);
       good = subst (AllByRecursion IsNodeRecord) (sym {A = List NodeRecord} left) (rest-good rs old.good);
-      problems = ap problems_in left ∙ rest-solves _ rs ps c.remove-policy.new.self.items old.problems some c.remove-policy.ensures.items;
+      pairs = rest-same c.loop-place.pairs.items rs c.remove-pair.new.self.items c.remove-station.new.self.items old.pairs some c.remove-pair.ensures.items left;
     }

@@ -4,7 +4,6 @@ use Rattle.stable_record.specs.Records.{IsNodeRecord}
 use Rattle.world_model.specs.Openings.{down_node}
 use Rattle.world_opening.specs.Openings.{stations_in}
 use Rattle.world_machine.specs.Machines.{node_part, AreNodes}
-use Rattle.world_machine.specs.Opened.{problems_in}
 use Rattle.world_machine.proofs.opening.nodes_of.Given as goal
 
 -- the nodes so far and those of the records that are left are all
@@ -16,5 +15,5 @@ invariant-loop-place g l = record {
   left : l.place + length l.records.items ≡ l.count;
   room : l.count ≤ vec_capacity l.nodes;
   good : AllByRecursion IsNodeRecord l.records.items;
-  problems : problems_in l.records.items ≡ map (λ p. (goal.Admission-dyn g (p.vtable, p.value)).problem_of p.value) l.policies.items;
+  pairs : length l.pairs.items ≡ length l.records.items;
 }

@@ -9,7 +9,7 @@ pub returns-in-Node-clause-does : goal.returns-in-Node-clause-does
 returns-in-Node-clause-does g c =
     let w = world_view c.args.ballots.now c.args.nodes.now.items c.args.clients.now.items c.args.sent.now.items in
     subst (λ e. Does e (step w e) w c.act_node.result (world_view c.args.ballots.now c.act_node.new.nodes.items c.args.clients.now.items c.args.sent.now.items)) (ap event_of (sym c.in-Node.is) ∙ c.turn_of.ensures)
-    (c.act_node.ensures.does w refl)
+    (c.act_node.ensures.does w refl c.requires.nodes)
 
 pub returns-in-Node-clause-order : goal.returns-in-Node-clause-order
 returns-in-Node-clause-order g c = record { nodes = c.act_node.ensures.order c.requires.nodes; clients = c.requires.clients; room = c.requires.room }

@@ -41,3 +41,11 @@ returns-clause-greatest_attempt c = (refl, refl)
 pub returns-clause-softening : goal.returns-clause-softening
 unfolding step
 returns-clause-softening c = (refl, refl, refl, refl, refl)
+
+pub returns-clause-switching : goal.returns-clause-switching
+unfolding step
+returns-clause-switching c = (refl, refl, refl, refl, refl, refl, refl, refl, refl, refl, refl)
+
+pub returns-clause-switching_past_a_fall : goal.returns-clause-switching_past_a_fall
+unfolding step
+returns-clause-switching_past_a_fall c = (refl, refl, refl, refl, refl, refl)

@@ -5,7 +5,7 @@ use Rattle.world_opening.proofs.JudgingFacts.{each-more, first-without, client-f
 use Rattle.world_opening.proofs.judging.attempts_of.Goals as goal
 
 pub returns-in_default-clause-refused : goal.returns-in_default-clause-refused
-returns-in_default-clause-refused c problems nodes records are =
+returns-in_default-clause-refused c nodes records are =
     let found = c.args.found.now in
     let i = c.loop-place.place in
     let within : i < length found = c.loop-place-test.true in

@@ -1,12 +1,15 @@
-use Rattle.std.proofs.Common.{◌∙◌, arith}
-use Rattle.world_machine.proofs.OpeningFacts.{can-open}
+use Rattle.std.proofs.Common.{◌∙◌, sym, arith}
+use Rattle.world_machine.proofs.OpeningFacts.{can-open, records-many}
 use Rattle.world_machine.proofs.world.World.resume.Goals as goal
 
-pub opened-requires : goal.opened-requires
-opened-requires g c =
+pub opened-requires-clause-kept : goal.opened-requires-clause-kept
+opened-requires-clause-kept g c =
     let b = c.args.ballots in
     let nodes = c.nodes-nodes.ensures in
-    let judged = c.in-Ok-judge.ensures in
-    can-open _ (λ v. v.items) b c.args.policies.items c.deref.result.now c.deref-2.result.now c.args.node_records.now c.args.client_records.now c.in-Ok-judge.kept.records.items c.in-Ok-judge.kept.attempts.items
-    c.deref.ensures.value (c.deref-2.ensures.value ∙ c.in-Ok.ensures) c.requires.policies c.requires.nodes (omega (arith, nodes.nodes, nodes.few_nodes)) (omega (arith, c.requires.clients, c.requires.few_clients))
-    judged.records judged.attempts (judged.resumable b nodes.cross)
+    let judged = c.in-Ok.ensures in
+    can-open (λ v. v.items) b c.args.node_records.now c.args.client_records.now c.in-Ok.kept.records.items c.in-Ok.kept.attempts.items
+    c.requires.nodes (omega (arith, nodes.nodes, nodes.few_nodes)) (omega (arith, c.requires.clients, c.requires.few_clients))
+    judged.records judged.attempts (judged.resumable b nodes.cross c.requires.nodes)
+
+pub opened-requires-clause-pairs : goal.opened-requires-clause-pairs
+opened-requires-clause-pairs g c = c.requires.pairs ∙ sym (records-many (λ v. v.items) c.args.ballots c.args.node_records.now c.in-Ok.kept.records.items c.requires.nodes c.in-Ok.ensures.records)

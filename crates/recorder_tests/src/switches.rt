@@ -1,0 +1,170 @@
+//! A node that takes another problem, in a book that it shares with a client. A test ends with an error that
+//! begins with `wrong` where an answer is wrong.
+
+ghost use Rattle.std.specs.Prelude.{◌≡◌};
+
+use crate::worlds::{berth, client, node, world};
+use book_recorders::{BookName, BookRecorder, Logs, Named};
+use history_book::{Berth, Book, BookFault};
+use lock_messages::{Actor, Attempt, ClientId, Message, Mode, NodeId, ResourceName, Ticket};
+use lock_model::Problem;
+use std::marker::Brand;
+use std::sync::{Mutex, Wait};
+use std::test::Fail;
+use world_model::{Age, Effect, Event, StepFault};
+
+/// Logs an event, and compares the answer.
+fn answers<B: BookName, K: Logs, R: Wait + Copy>(
+    recorder: &mut BookRecorder<'_, B, K, R>,
+    event: Event,
+    expected: Result<Effect, BookFault>,
+) -> Result<(), Fail> {
+    let answer = recorder.log_event(event);
+    if answer == Err(BookFault::Memory) {
+        return Err("no memory to log in".into());
+    }
+    if answer != expected {
+        return Err("wrong: another answer".into());
+    }
+    Ok(())
+}
+
+/// c1's first ticket, to read `a`.
+fn ticket(client: ClientId) -> Result<Ticket, Fail> {
+    Ok(Ticket {
+        client,
+        attempt: Attempt::of(1).ok_or("wrong: no attempt")?,
+        mode: Mode::Read,
+        resource: ResourceName::of(b"a").ok_or("wrong: no resource")?,
+    })
+}
+
+/// The client asks the node; it can't take a problem for the node.
+fn asks<B: BookName, K: Logs, R: Wait + Copy>(
+    recorder: &mut BookRecorder<'_, B, K, R>,
+    from: ClientId,
+    to: NodeId,
+) -> Result<(), Fail> {
+    let (who, ticket) = (Actor::Client(from), ticket(from)?);
+    let (begin, chose) = (
+        Event::Begin(from, Mode::Read, ticket.resource, 1),
+        Effect::Chose(ticket.attempt),
+    );
+    let asked = Effect::Sent(1, Message::Request(to, ticket));
+    let switch = Event::Switch(to, Problem::Second);
+    answers(recorder, Event::Rise(who, Age::Old), Ok(Effect::Up))?;
+    answers(recorder, begin, Ok(chose))?;
+    answers(recorder, Event::Try(who), Ok(Effect::Tried))?;
+    answers(recorder, Event::Kept(who), Ok(Effect::Kept))?;
+    answers(recorder, switch, Err(BookFault::OtherActor))?;
+    answers(recorder, Event::SayTo(from, to), Ok(asked))
+}
+
+/// What a node is answered that is in another phase.
+fn not_now() -> Result<Effect, BookFault> {
+    Err(BookFault::NotAStep(StepFault::WrongPhase))
+}
+
+/// The node keeps what it decided, and says so many replies, from this number on. Before it may neither take a
+/// message nor a problem.
+fn keeps_and_says<B: BookName, K: Logs, R: Wait + Copy>(
+    recorder: &mut BookRecorder<'_, B, K, R>,
+    at: NodeId,
+    said: Effect,
+) -> Result<(), Fail> {
+    let (tries, keeps) = (Event::Try(Actor::Node(at)), Event::Kept(Actor::Node(at)));
+    let switch = Event::Switch(at, Problem::Second);
+    answers(recorder, Event::Take(at, 1), not_now())?;
+    answers(recorder, switch, not_now())?;
+    answers(recorder, tries, Ok(Effect::Tried))?;
+    answers(recorder, keeps, Ok(Effect::Kept))?;
+    answers(recorder, Event::Say(at), Ok(said))
+}
+
+/// The node takes the message and then the problem; it can take neither for another node.
+fn takes_both<B: BookName, K: Logs, R: Wait + Copy>(
+    recorder: &mut BookRecorder<'_, B, K, R>,
+    at: NodeId,
+    message: Message,
+) -> Result<(), Fail> {
+    let (other, rise) = (node(2)?, Event::Rise(Actor::Node(at), Age::Old));
+    let switch = Event::Switch(at, Problem::Second);
+    answers(recorder, rise, Ok(Effect::Up))?;
+    answers(recorder, Event::Take(other, 1), Err(BookFault::OtherActor))?;
+    answers(
+        recorder,
+        Event::Switch(other, Problem::Second),
+        Err(BookFault::OtherActor),
+    )?;
+    answers(
+        recorder,
+        Event::Take(at, 1),
+        Ok(Effect::Took(message, true)),
+    )?;
+    keeps_and_says(recorder, at, Effect::Said { first: 2, count: 1 })?;
+    answers(recorder, switch, Ok(Effect::Switched(true)))?;
+    keeps_and_says(recorder, at, Effect::Said { first: 3, count: 0 })?;
+    answers(recorder, switch, Ok(Effect::Switched(false)))?;
+    answers(
+        recorder,
+        Event::Say(at),
+        Ok(Effect::Said { first: 3, count: 0 }),
+    )
+}
+
+/// Both log in the book behind a lock.
+fn both<B: BookName, K: Logs, R: Wait + Copy>(
+    rt: R,
+    book: &Mutex<Named<B, K>>,
+    one: Berth,
+    voter: Berth,
+) -> Result<(), Fail>
+    requires one { one.table ≡ B.table }
+    requires voter { voter.table ≡ B.table }
+{
+    let (from, to) = (ClientId::of(1).ok_or("wrong: no client")?, node(1)?);
+    let mut one = BookRecorder::of(rt, book, one);
+    let mut voter = BookRecorder::of(rt, book, voter);
+    asks(&mut one, from, to)?;
+    takes_both(&mut voter, to, Message::Request(to, ticket(from)?))
+}
+
+/// The book, in which both have logged.
+fn whole<B: BookName, K: Logs, R: Wait + Copy>(
+    rt: R,
+    book: K,
+    one: Berth,
+    voter: Berth,
+) -> (K, Result<(), Fail>)
+    requires book { (K.book book).table ≡ B.table }
+    requires one { one.table ≡ B.table }
+    requires voter { voter.table ≡ B.table }
+{
+    let lock = Mutex::new(Named::<B, K>::of(book));
+    let done = both(rt, &lock, one, voter);
+    (lock.into_inner().into_book(), done)
+}
+
+// The name of the book is picked here, where its berths are at hand.
+fn by_name<R: Wait + Copy>(rt: R, book: Book, one: Berth, voter: Berth) -> (Book, Result<(), Fail>)
+    requires one { one.table ≡ book.table }
+    requires voter { voter.table ≡ book.table }
+{
+    whole::<Brand, Book, R>(rt, book, one, voter)
+}
+
+#[test]
+fn a_node_switches_as_it_takes(rt: HostRuntime) -> Result<(), Fail> {
+    let Ok(mut book) = Book::over(rt.alloc(), 7, world(rt.alloc())?) else {
+        return Err("no memory for a book".into());
+    };
+    let one = berth(&mut book, &client(1)?)?;
+    let voter = berth(&mut book, &Actor::Node(node(1)?))?;
+    let (book, done) = by_name(rt, book, one, voter);
+    done?;
+    if book.events() == 16 {
+        Ok(())
+    } else {
+        Err("wrong: not sixteen events".into())
+    }
+}

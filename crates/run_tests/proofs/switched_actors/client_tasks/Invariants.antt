@@ -1,0 +1,9 @@
+use Rattle.std.proofs.Common.{◌≡◌}
+use Rattle.run_tests.specs.Fresh.{IsNewBook}
+use Rattle.run_tests.proofs.switched_actors.client_tasks.Given as goal
+
+abbrev pub invariant-loop-place : goal.invariant-loop-place
+invariant-loop-place g l = record {
+  new : IsNewBook l.ballots l.clients l.book;
+  table : l.book.table ≡ l.fn.book.table;
+}
