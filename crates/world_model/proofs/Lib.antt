@@ -22,6 +22,7 @@ pub mod NodeEvents
 pub mod ClientSpeaks
 pub mod ClientEvents
 pub mod SafeRuns
+pub mod Costs
 pub mod ExclusionFacts
 pub mod LocalityFacts
 pub mod StayFacts

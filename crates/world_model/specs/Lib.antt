@@ -13,6 +13,8 @@ pub mod Views
 pub mod StepsOf
 pub mod Parts
 pub mod Laws
+pub mod Advice
+pub mod Ways
 pub mod Locality
 pub mod Staying
 pub mod Examples
