@@ -8,7 +8,7 @@ use Rattle.world_model.specs.Worlds.{NodePhase, NodeDown, NodeIdle, Decided, Sto
 use Rattle.world_model.specs.Advice.{Want, coming, blocks, is_wanted, asks_for, is_inside_as, is_grant, node_numbers, client_numbers}
 
 -- the sum over some numbers
-pub total_over : (ℕ → ℕ) → List ℕ → ℕ
+abbrev pub total_over : (ℕ → ℕ) → List ℕ → ℕ
 total_over f [] = 0
 total_over f (n ∷ ns) = f n + total_over f ns
 

@@ -23,6 +23,7 @@ pub mod ClientSpeaks
 pub mod ClientEvents
 pub mod SafeRuns
 pub mod Costs
+pub mod Nearer
 pub mod ExclusionFacts
 pub mod LocalityFacts
 pub mod StayFacts
