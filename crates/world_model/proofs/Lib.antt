@@ -29,3 +29,4 @@ pub mod LocalityFacts
 pub mod StayFacts
 pub mod InsideFacts
 pub mod HoldingFacts
+pub mod FewClients
