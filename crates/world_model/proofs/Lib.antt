@@ -23,10 +23,11 @@ pub mod ClientSpeaks
 pub mod ClientEvents
 pub mod SafeRuns
 pub mod Costs
+pub mod FewClients
 pub mod Nearer
+pub mod FineFacts
 pub mod ExclusionFacts
 pub mod LocalityFacts
 pub mod StayFacts
 pub mod InsideFacts
 pub mod HoldingFacts
-pub mod FewClients
