@@ -26,6 +26,10 @@ pub mod Costs
 pub mod FewClients
 pub mod Nearer
 pub mod FineFacts
+pub mod Puts
+pub mod FinishMoves
+pub mod Searches
+pub mod Progress
 pub mod ExclusionFacts
 pub mod LocalityFacts
 pub mod StayFacts

@@ -99,7 +99,7 @@ client-among s c known = among-numbers 1 s.clients c known.0 (omega (arith, know
 abbrev pub Grows : World → World → Type 0
 Grows w v = (m : Message) → Among m w.sent → Among m v.sent
 
-any-grows : {A : Type 0} (p : A → Bool) (xs ys : List A) → ((x : A) → Among x xs → Among x ys) → list_any p xs ≡ true → list_any p ys ≡ true
+pub any-grows : {A : Type 0} (p : A → Bool) (xs ys : List A) → ((x : A) → Among x xs → Among x ys) → list_any p xs ≡ true → list_any p ys ≡ true
 any-grows p xs ys grows h = let f = any-found p xs h in any-of p ys f.0 (grows f.0 f.1) f.2
 
 -- a test that may only turn true
