@@ -30,6 +30,7 @@ pub mod Puts
 pub mod FinishMoves
 pub mod Searches
 pub mod Progress
+pub mod Arrivals
 pub mod ExclusionFacts
 pub mod LocalityFacts
 pub mod StayFacts
