@@ -31,6 +31,7 @@ pub mod FinishMoves
 pub mod Searches
 pub mod Progress
 pub mod Arrivals
+pub mod Raises
 pub mod ExclusionFacts
 pub mod LocalityFacts
 pub mod StayFacts
