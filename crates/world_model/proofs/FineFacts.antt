@@ -1,6 +1,6 @@
 -- What holds from the first move to the last: how one event keeps it.
 use Rattle.std.proofs.Common.{◌≡◌, ◌≢◌, ℕ, ◌+◌, ◌<◌, ◌≤◌, ◌⊎◌, Bool, true, false, List, [], ◌∷◌, Option, None, Some, IfSome, refl, sym, ◌∙◌, ap, subst, inl, inr, arith}
-use Rattle.std.proofs.lemmas.Bool.{cases_eq}
+use Rattle.std.proofs.lemmas.Bool.{cases_eq, cases_lt}
 use Rattle.lock_messages.specs.declared.ids.Actor.TheVariants as actor
 use Rattle.lock_messages.specs.declared.messages.Message.{Message}
 use Rattle.lock_model.specs.Stations.{Claim, Free, Has, Standing, Station, stranger}
@@ -122,6 +122,15 @@ coming-safe w n kept tried (Stored replies) each = each.kept
 pub safe-coming : (s : Setting) (w : World) (n : ℕ) → IsSafe s w → IsSafeStation w n (coming (w.nodes n))
 safe-coming s w n safe = coming-safe w n (w.nodes n).kept (w.nodes n).tried (w.nodes n).phase (safe.nodes n).stations
 
+-- a number is a client's of the setting, or it isn't
+pub cases-client : (s : Setting) (c : ℕ) → HasClient s c ⊎ (¬ (HasClient s c))
+cases-client s c = go (cases_lt c 1) (cases_lt s.clients c)
+  where
+    go : (c < 1) ⊎ (1 ≤ c) → (s.clients < c) ⊎ (c ≤ s.clients) → HasClient s c ⊎ (¬ (HasClient s c))
+    go (inl low) past = inr (λ has. let z : ⊥ = omega (arith, has.0) in z)
+    go (inr high) (inl past) = inr (λ has. let z : ⊥ = omega (arith, has.1) in z)
+    go (inr high) (inr within) = inl (high, within)
+
 standing-stranger : (t : Standing) → IsWithin 0 t → t ≡ stranger
 standing-stranger t within = go t.floor t.claim within.floor (λ h. within.live h)
   where
@@ -129,8 +138,12 @@ standing-stranger t within = go t.floor t.claim within.floor (λ h. within.live 
     go floor Free le live = let e : floor ≡ 0 = omega arith in ap (λ f. record { floor = f; claim = Free }) e
     go floor (Has m x status) le live = absurd (let r : floor + 1 ≤ 0 = live (λ e. let q : Has m x status ≡ Free = e in cc) in omega (arith, r))
 
+-- where a client that isn't there has kept nothing, it stands at no safe station
+pub stranger-is : (s : Setting) (w : World) (n : ℕ) (t : Station) → ((c : ℕ) → ¬ (HasClient s c) → (w.clients c).kept ≡ 0) → IsSafeStation w n t → (c : ℕ) → ¬ (HasClient s c) → t.at c ≡ stranger
+stranger-is s w n t none safe c nobody = standing-stranger (t.at c) (subst (λ k. IsWithin k (t.at c)) (none c nobody) (safe.owes c).within)
+
 pub stranger-stands : (s : Setting) (chosen : ℕ → Bool) (a : Want) (w : World) (n : ℕ) (t : Station) → Fine s chosen a w → IsSafeStation w n t → (c : ℕ) → ¬ (HasClient s c) → t.at c ≡ stranger
-stranger-stands s chosen a w n t fine safe c nobody = standing-stranger (t.at c) (subst (λ k. IsWithin k (t.at c)) (fine.strangers c nobody) (safe.owes c).within)
+stranger-stands s chosen a w n t fine safe c nobody = stranger-is s w n t fine.strangers safe c nobody
 
 pub few-stand : (s : Setting) (chosen : ℕ → Bool) (a : Want) (w : World) (n : ℕ) (t : Station) → Fine s chosen a w → IsSafeStation w n t → IsFew s.clients t
 few-stand s chosen a w n t fine safe c past = stranger-stands s chosen a w n t fine safe c (λ has. let z : ⊥ = omega (arith, has.1) in z)

@@ -28,10 +28,14 @@ pub mod Nearer
 pub mod FineFacts
 pub mod Puts
 pub mod FinishMoves
+pub mod RestMoves
+pub mod OwnMoves
+pub mod VoteMoves
 pub mod Searches
 pub mod Progress
 pub mod Arrivals
 pub mod Raises
+pub mod WaysIn
 pub mod ExclusionFacts
 pub mod LocalityFacts
 pub mod StayFacts

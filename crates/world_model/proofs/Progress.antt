@@ -1,7 +1,7 @@
 -- Wherever the client is not inside yet there is a next move, which can be made and brings it nearer.
 use Rattle.std.proofs.Common.{◌≡◌, ◌≢◌, ℕ, ◌+◌, ◌<◌, ◌≤◌, ◌==◌, ◌⊎◌, Bool, true, false, cond, not, ◌&&◌, ◌||◌, List, [], ◌∷◌, Option, None, Some, zero, suc, refl, sym, ◌∙◌, ap, subst, inl, inr, arith}
 use Rattle.std.specs.List.{range_with_len, list_any}
-use Rattle.std.proofs.lemmas.Bool.{eq-eqb, eqb-true, cases_Bool, and_parts, cases_lt}
+use Rattle.std.proofs.lemmas.Bool.{eq-eqb, eqb-true, cases_Bool, and_parts}
 use Rattle.std.proofs.lemmas.Slice.Eq.{bytes_eq-Decides}
 use Rattle.std.specs.Str.{bytes_eq}
 use Rattle.lock_messages.specs.declared.ids.Actor.TheVariants as actor
@@ -20,7 +20,7 @@ use Rattle.world_model.specs.ExactWorlds.{actor_of}
 use Rattle.world_model.specs.Advice.{Want, Move, Alone, Hand, HearFrom, search, found, node_numbers, client_numbers, finishing, finishing_in, coming, is_in_way, blocks, resting, resting_in, going, asks_for, is_inside_as, beginning, beginning_in, is_grant, asking_of, entering, only, alone, finish_move, clear_at, clear_move, own_in, own_move, next_move}
 use Rattle.world_model.specs.Ways.{IsGentle, IsUp, IsInsideAs, StandsInWay}
 use Rattle.world_model.proofs.Nearer.{Fine, IsLeft, Goes, Nears, node-among, client-among}
-use Rattle.world_model.proofs.FineFacts.{safe-coming, stranger-stands}
+use Rattle.world_model.proofs.FineFacts.{cases-client, safe-coming, stranger-stands}
 use Rattle.world_model.proofs.FinishMoves.{finishes}
 use Rattle.world_model.proofs.Searches.{found-either, found-none, search-some, search-none, only-some, only-none, numbers-among, among-clients}
 
@@ -133,19 +133,11 @@ module _ (laws : MoveLaws) (s : Setting) (chosen : ℕ → Bool) (a : Want) (w :
 
   known-client : (n d : ℕ) → blocks a (coming (w.nodes n)) d ≡ true → HasClient s d
   known-client n d h =
-      elim (cases_client d) [
+      elim (cases-client s d) [
         | inl has ↦ has
         | inr nobody ↦ absurd (free (stranger-stands s chosen a w n (coming (w.nodes n)) fine (safe-coming s w n fine.safe) d nobody))
       ]
     where
-      cases_client : (c : ℕ) → HasClient s c ⊎ (¬ (HasClient s c))
-      cases_client c = go (cases_lt c 1) (cases_lt s.clients c)
-        where
-          go : (c < 1) ⊎ (1 ≤ c) → (s.clients < c) ⊎ (c ≤ s.clients) → HasClient s c ⊎ (¬ (HasClient s c))
-          go (inl low) past = inr (λ has. let z : ⊥ = omega (arith, has.0) in z)
-          go (inr high) (inl past) = inr (λ has. let z : ⊥ = omega (arith, has.1) in z)
-          go (inr high) (inr within) = inl (high, within)
-
       free : (coming (w.nodes n)).at d ≡ stranger → ⊥
       free e = let z : is_in_way a Free ≡ true = subst (λ (t : Standing). is_in_way a t.claim ≡ true) e (and_parts (not (d == a.client)) (is_in_way a ((coming (w.nodes n)).at d).claim) h).1 in cc
 
