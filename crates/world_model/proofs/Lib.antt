@@ -29,6 +29,7 @@ pub mod FineFacts
 pub mod Puts
 pub mod RestMoves
 pub mod OwnMoves
+pub mod VoteMoves
 pub mod ExclusionFacts
 pub mod LocalityFacts
 pub mod StayFacts
