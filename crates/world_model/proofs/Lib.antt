@@ -26,6 +26,7 @@ pub mod Costs
 pub mod FewClients
 pub mod Nearer
 pub mod FineFacts
+pub mod Puts
 pub mod ExclusionFacts
 pub mod LocalityFacts
 pub mod StayFacts
