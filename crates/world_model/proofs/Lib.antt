@@ -27,6 +27,7 @@ pub mod FewClients
 pub mod Nearer
 pub mod FineFacts
 pub mod Puts
+pub mod InTheWay
 pub mod ExclusionFacts
 pub mod LocalityFacts
 pub mod StayFacts
