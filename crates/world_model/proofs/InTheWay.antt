@@ -7,7 +7,7 @@ use Rattle.lock_messages.specs.declared.tickets.Mode.{Mode}
 use Rattle.lock_messages.specs.declared.tickets.Mode.TheVariants.{Read, Write}
 use Rattle.lock_model.specs.declared.entries.Status.{Status}
 use Rattle.lock_model.specs.declared.entries.Status.TheVariants.{Waiting, Holding, Softened}
-use Rattle.lock_model.specs.Stations.{Claim, Free, Has, Station, IsHolder, Cause}
+use Rattle.lock_model.specs.Stations.{Claim, Free, Has, Standing, Station, IsHolder, Cause, Puts, EndsAt, Ends, Settles, Becomes}
 use Rattle.lock_model.specs.ExactStations.{is_write}
 use Rattle.lock_model.specs.Decisions.{Among}
 use Rattle.world_model.specs.Advice.{Want, is_in_way, blocks}
@@ -42,6 +42,55 @@ pub data Lessens (before after : Claim) : Type 0 where
 -- so does that of each client but for this one
 abbrev pub OthersLessen : ℕ → Station → Station → Type 0
 OthersLessen c s u = (d : ℕ) → d ≢ c → Lessens (s.at d).claim (u.at d).claim
+
+less-further : (p q r : Claim) → Lessens p q → Lessens q r → Lessens p r
+less-further p q r first (stays e) = subst (Lessens p) (sym e) first
+less-further p q r first (goes e) = goes e
+less-further p q r (stays e) (turns m x was now) = turns m x (sym e ∙ was) now
+less-further p q r (goes e) (turns m x was now) = absurd (let z : Free ≡ Has m x Waiting = sym e ∙ was in cc)
+less-further p q r (turns k y old new) (turns m x was now) = absurd (let z : Has k y Holding ≡ Has m x Waiting = sym new ∙ was in cc)
+
+same-lessens : (p q : Standing) → q ≡ p → Lessens p.claim q.claim
+same-lessens p q e = stays (ap (λ (t : Standing). t.claim) e)
+
+-- ending a client's attempts lets claims only get less, and so does settling
+ends-lessen : (s t : Station) (c b : ℕ) → Ends s c b t → (d : ℕ) → Lessens (s.at d).claim (t.at d).claim
+ends-lessen s t c b (after, at, puts) d = go (cases_eq d c) at
+  where
+    here : d ≡ c → t.at d ≡ after
+    here e = ap t.at e ∙ puts.here
+
+    go : (d ≡ c) ⊎ (d ≢ c) → EndsAt b (s.at c) after → Lessens (s.at d).claim (t.at d).claim
+    go (inl e) (inl h) = same-lessens (s.at d) (t.at d) (here e ∙ h.1 ∙ ap s.at (sym e))
+    go (inl e) (inr h) = goes (ap (λ (x : Standing). x.claim) (here e ∙ h.1))
+    go (inr apart) h = same-lessens (s.at d) (t.at d) (puts.others d apart)
+
+settles-lessen : (s t : Station) → Settles s t → (d : ℕ) → Lessens (s.at d).claim (t.at d).claim
+settles-lessen s t settles d = elim (settles.claims d) [
+  | inl e ↦ stays e
+  | inr turn ↦ turns turn.0 turn.1 turn.2.0 turn.2.1
+]
+
+pub settled-lessen : (s ended settled : Station) (c b : ℕ) → Ends s c b ended → Settles ended settled → (d : ℕ) → Lessens (s.at d).claim (settled.at d).claim
+settled-lessen s ended settled c b ends settles d =
+    less-further (s.at d).claim (ended.at d).claim (settled.at d).claim (ends-lessen s ended c b ends d) (settles-lessen ended settled settles d)
+
+-- and putting this one client elsewhere doesn't touch the others
+pub put-lessen : (s settled u : Station) (c : ℕ) (standing : Standing) → ((d : ℕ) → Lessens (s.at d).claim (settled.at d).claim) → Puts settled c standing u → OthersLessen c s u
+put-lessen s settled u c standing less puts d apart =
+    less-further (s.at d).claim (settled.at d).claim (u.at d).claim (less d) (same-lessens (settled.at d) (u.at d) (puts.others d apart))
+
+-- A client whose attempts are ended past its floor has no claim, also once all have settled.
+pub ended-free : (s ended settled : Station) (c b : ℕ) → (s.at c).floor < b → Ends s c b ended → Settles ended settled → (settled.at c).claim ≡ Free
+ended-free s ended settled c b below (after, at, puts) settles = go at (settles.claims c)
+  where
+    gone : EndsAt b (s.at c) after → (ended.at c).claim ≡ Free
+    gone (inl h) = absurd (let past : b ≤ (s.at c).floor = h.0 in omega (arith, past, below))
+    gone (inr h) = ap (λ (x : Standing). x.claim) (puts.here ∙ h.1)
+
+    go : EndsAt b (s.at c) after → ((settled.at c).claim ≡ (ended.at c).claim) ⊎ ((m : Mode) × (x : List ℕ) × Becomes ended settled c m x) → (settled.at c).claim ≡ Free
+    go h (inl e) = e ∙ gone h
+    go h (inr turn) = absurd (let z : Free ≡ Has turn.0 turn.1 Waiting = sym (gone h) ∙ turn.2.0 in cc)
 
 -- what is in the way then was in the way before
 less-in-way : (a : Want) (before after : Claim) → Lessens before after → is_in_way a after ≡ true → is_in_way a before ≡ true

@@ -28,6 +28,7 @@ pub mod Nearer
 pub mod FineFacts
 pub mod Puts
 pub mod InTheWay
+pub mod HandSteps
 pub mod ExclusionFacts
 pub mod LocalityFacts
 pub mod StayFacts
