@@ -197,7 +197,7 @@ hand-goes s a w n d m u replies node client idle tells mine decides = (
     between = put_client w d (w.clients d) (m ∷ [])
 
 -- what asking costs at a node that is idle is the most that it can cost
-idle-asks : (a : Want) (k : ClientPhase) (sent : List Message) (n : ℕ) (phase : NodePhase) → ask_cost a k sent n phase ≤ ask_cost a k sent n NodeIdle
+pub idle-asks : (a : Want) (k : ClientPhase) (sent : List Message) (n : ℕ) (phase : NodePhase) → ask_cost a k sent n phase ≤ ask_cost a k sent n NodeIdle
 idle-asks a ClientDown sent n phase = omega arith
 idle-asks a ClientIdle sent n phase = omega arith
 idle-asks a (Chosen t place) sent n phase = omega arith

@@ -29,6 +29,7 @@ pub mod FineFacts
 pub mod Puts
 pub mod InTheWay
 pub mod HandSteps
+pub mod HandFacts
 pub mod ExclusionFacts
 pub mod LocalityFacts
 pub mod StayFacts
