@@ -1,6 +1,6 @@
 -- The two hands of the way in. A client that stands in the way is at rest and hands in its release: it stands
 -- there no more. The client that wants in hands in its request where nobody stands in the way: it is granted.
-use Rattle.std.proofs.Common.{◌≡◌, ◌≢◌, ℕ, ◌+◌, ◌-◌, ◌<◌, ◌≤◌, ◌==◌, ◌⊎◌, Bool, true, false, not, ◌&&◌, if◌then◌else◌, List, [], ◌∷◌, refl, sym, ◌∙◌, ap, subst, inl, inr, arith}
+use Rattle.std.proofs.Common.{◌≡◌, ℕ, ◌+◌, ◌-◌, ◌<◌, ◌≤◌, ◌==◌, ◌⊎◌, Bool, true, false, not, ◌&&◌, if◌then◌else◌, List, [], ◌∷◌, refl, sym, ◌∙◌, ap, subst, inl, inr, arith}
 use Rattle.std.specs.List.{list_any}
 use Rattle.std.specs.Str.{bytes_eq}
 use Rattle.std.proofs.lemmas.Bool.{cases_lt, eq-eqb, and_from, and_parts, not-true}
@@ -19,16 +19,16 @@ use Rattle.lock_model.specs.ExactDecisions.{same_mode}
 use Rattle.lock_model.specs.Decisions.{Among, Decides, IsNew, taken_up, IsAsked, over, muddled, held, waited, softened, granted, queued, IsReleased}
 use Rattle.lock_model.proofs.EntryFacts.{any-of}
 use Rattle.lock_model.proofs.GrantFacts.{only-reply}
-use Rattle.world_model.specs.Worlds.{NodePhase, NodeIdle, ClientPhase, ClientDown, ClientIdle, Asking, Present, Client, World, Setting, HasClient, Tells}
+use Rattle.world_model.specs.Worlds.{NodePhase, NodeIdle, ClientDown, ClientIdle, Asking, Present, World, Setting, HasClient, Tells}
 use Rattle.world_model.specs.Invariants.{IsPresentIn, IsPresent, IsUnsoftenedIn, IsUnsoftened, Owes, IsSafeStation, IsGranted, IsSafeTicket, IsSafeClient, IsSafe}
 use Rattle.world_model.specs.Advice.{Want, Hand, coming, coming_in, blocks, asks_for, same_ticket, is_grant, client_numbers}
 use Rattle.world_model.specs.Ways.{IsUp}
 use Rattle.world_model.proofs.StandingSteps.{new-cleared, settled-cleared}
 use Rattle.world_model.proofs.FewClients.{released-decides, asked-decides}
 use Rattle.world_model.proofs.Costs.{total_over, block_cost, promises, vote_cost, ask_cost}
-use Rattle.world_model.proofs.Nearer.{Fine, Hands, Goes, Nears, Grows, total-le, client-among, ask-le}
+use Rattle.world_model.proofs.Nearer.{Fine, Goes, Nears, Grows, total-le, client-among, ask-le}
 use Rattle.world_model.proofs.FineFacts.{stranger-stands, few-stand}
-use Rattle.world_model.proofs.InTheWay.{blocks-has, free-blocks-not, less-blocks, Lessens, stays, OthersLessen, settled-lessen, put-lessen, ended-free, total-drops, OnlyWaits, unblocked-free}
+use Rattle.world_model.proofs.InTheWay.{blocks-has, free-blocks-not, less-blocks, stays, OthersLessen, settled-lessen, put-lessen, ended-free, total-drops, OnlyWaits, unblocked-free}
 use Rattle.world_model.proofs.HandSteps.{says-release, says-request, tells-release, tells-request, Pays, hand-grows, hand-nearer, hand-goes, idle-asks}
 
 -- each number is one of the setting's clients, or isn't
@@ -152,10 +152,10 @@ module _ (s : Setting) (chosen : ℕ → Bool) (a : Want) (w : World) (n : ℕ) 
 
   -- what its ticket is like
 
-  abbrev parts : Type 0
-  parts = (p.softened ≡ false) × (t.mode ≡ a.mode) × (t.resource ≡ a.resource)
+  abbrev AsWanted : Type 0
+  AsWanted = (p.softened ≡ false) × (t.mode ≡ a.mode) × (t.resource ≡ a.resource)
 
-  as-wanted : parts
+  as-wanted : AsWanted
   as-wanted =
       let first = and_parts (not p.softened) (same_mode t.mode a.mode && (bytes_eq t.resource a.resource && (p.place == a.place))) wanted in
       let second = and_parts (same_mode t.mode a.mode) (bytes_eq t.resource a.resource && (p.place == a.place)) first.1 in
@@ -182,8 +182,8 @@ module _ (s : Setting) (chosen : ℕ → Bool) (a : Want) (w : World) (n : ℕ) 
   agrees : (m : Mode) (x : List ℕ) (status : Status) → (here.at t.client).claim ≡ Has m x status → t.attempt ≡ (here.at t.client).floor + 1 → (asked_mode m status ≡ t.mode) × (x ≡ t.resource)
   agrees m x status claim at = owes.agrees t m x status claim (inr present) refl at
 
-  hard : (m : Mode) (x : List ℕ) → (here.at t.client).claim ≡ Has m x Softened → t.attempt ≡ (here.at t.client).floor + 1 → ⊥
-  hard m x claim at = owes.softened m x claim (subst (IsUnsoftened w t.client) at unsoftened)
+  never-soft : (m : Mode) (x : List ℕ) → (here.at t.client).claim ≡ Has m x Softened → t.attempt ≡ (here.at t.client).floor + 1 → ⊥
+  never-soft m x claim at = owes.softened m x claim (subst (IsUnsoftened w t.client) at unsoftened)
 
   uncaused : (u : Station) → OthersLessen a.client here u → OnlyWaits a (u.at t.client).claim → Cause u t.mode t.resource → ⊥
   uncaused u less only cause =
@@ -201,7 +201,8 @@ module _ (s : Setting) (chosen : ℕ → Bool) (a : Want) (w : World) (n : ℕ) 
   free-only : (claim : Claim) → claim ≡ Free → OnlyWaits a claim
   free-only claim e m x status k = absurd (let z : Free ≡ Has m x status = sym e ∙ k in cc)
 
-  -- Whatever the node decides, it grants.
+  -- Whatever the node decides, it grants: the attempt is present, so it is not ended; its claim is that of its
+  -- ticket, and not softened; and there is no cause to wait.
   wins : (u : Station) (replies : List Message) → IsAsked n here t u replies → OthersLessen a.client here u × Among (Grant n t) replies
   wins u replies (over below same only) = absurd (omega (arith, owes.present t present, below))
   wins u replies (muddled m x status at claim (inl differs) same only) = absurd (differs (agrees m x status claim at).0)
@@ -209,7 +210,7 @@ module _ (s : Setting) (chosen : ℕ → Bool) (a : Want) (w : World) (n : ℕ) 
   wins u replies (held at claim same only) = (subst (OthersLessen a.client here) (sym same) (λ d apart. stays refl), (only (Grant n t)).1 refl)
   wins u replies (waited at claim same only) =
       absurd (uncaused here (λ d apart. stays refl) (waits-only (here.at t.client).claim claim) ((kept-safe s w n fine.safe).caused.cause t.client t.mode t.resource claim))
-  wins u replies (softened at mode claim same only) = absurd (hard Read t.resource claim at)
+  wins u replies (softened at mode claim same only) = absurd (never-soft Read t.resource claim at)
   wins u replies (granted new ended settled ends settles free puts are) = (
     subst (λ c. OthersLessen c here u) mine (put-lessen here settled u t.client (taken_up t Holding) (settled-lessen here ended settled t.client (t.attempt - 1) ends settles) puts),
     (are (Grant n t)).1 (inl refl),
@@ -232,7 +233,7 @@ module _ (s : Setting) (chosen : ℕ → Bool) (a : Want) (w : World) (n : ℕ) 
       (here, Busy n t ∷ [], waited at (claim ∙ ap (λ k. Has k x Waiting) mode ∙ ap (λ y. Has t.mode y Waiting) resource) refl (only-reply (Busy n t)))
   old-decision m x Holding claim at mode resource =
       (here, Grant n t ∷ [], held at (claim ∙ ap (λ k. Has k x Holding) mode ∙ ap (λ y. Has t.mode y Holding) resource) refl (only-reply (Grant n t)))
-  old-decision m x Softened claim at mode resource = absurd (hard m x claim at)
+  old-decision m x Softened claim at mode resource = absurd (never-soft m x claim at)
 
   decision : Decision
   decision = go (cases_lt ((here.at t.client).floor + 1) t.attempt)

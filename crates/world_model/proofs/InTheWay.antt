@@ -1,12 +1,12 @@
 -- What stands in the way at a station, and what of it is left where the others' claims only get less.
-use Rattle.std.proofs.Common.{◌≡◌, ◌≢◌, ℕ, ◌+◌, ◌<◌, ◌≤◌, ◌==◌, ◌⊎◌, Bool, true, false, not, ◌&&◌, ◌||◌, if◌then◌else◌, List, [], ◌∷◌, refl, sym, ◌∙◌, ap, subst, inl, inr, arith}
+use Rattle.std.proofs.Common.{◌≡◌, ◌≢◌, ℕ, ◌+◌, ◌<◌, ◌≤◌, ◌==◌, ◌⊎◌, Bool, true, false, not, ◌||◌, if◌then◌else◌, List, [], ◌∷◌, refl, sym, ◌∙◌, ap, subst, inl, inr, arith}
 use Rattle.std.specs.Str.{bytes_eq}
 use Rattle.std.proofs.lemmas.Bool.{cases_eq, eq-eqb, ne_eqb, and_from, and_left, and_right, and_parts, or_left, or_right}
 use Rattle.std.proofs.lemmas.Slice.Eq.{bytes_eq-Decides}
 use Rattle.lock_messages.specs.declared.tickets.Mode.{Mode}
 use Rattle.lock_messages.specs.declared.tickets.Mode.TheVariants.{Read, Write}
 use Rattle.lock_model.specs.declared.entries.Status.{Status}
-use Rattle.lock_model.specs.declared.entries.Status.TheVariants.{Waiting, Holding, Softened}
+use Rattle.lock_model.specs.declared.entries.Status.TheVariants.{Waiting, Holding}
 use Rattle.lock_model.specs.Stations.{Claim, Free, Has, Standing, Station, IsHolder, Cause, Puts, EndsAt, Ends, Settles, Becomes}
 use Rattle.lock_model.specs.ExactStations.{is_write}
 use Rattle.lock_model.specs.Decisions.{Among}
