@@ -17,7 +17,7 @@ use Rattle.world_model.specs.Advice.{Want, Move, Alone, Hand, HearFrom, next_mov
 use Rattle.world_model.specs.Ways.{WayIn, IsGentle, IsUp}
 use Rattle.world_model.proofs.Costs.{cost}
 use Rattle.world_model.proofs.Nearer.{Fine, Hands, HearsGrant, Makes}
-use Rattle.world_model.proofs.Progress.{MoveLaws, IsGentleMove, IsNext, Goes-on, progress}
+use Rattle.world_model.proofs.Progress.{IsGentleMove, IsNext, Goes-on, progress}
 
 -- Who does something without rising is up.
 
@@ -122,9 +122,9 @@ move-before s a w v (Hand d n) h gentle way =
 move-before s a w v (HearFrom n) h gentle way = one-before s a w v (event.Hear a.client 0) (Grant n h.present.ticket, h.sent, h.mine, h.heard) (refl, gentle) way
 
 -- the way in, from wherever it is fine
-pub arrives : MoveLaws → (s : Setting) (chosen : ℕ → Bool) (a : Want) (k : ℕ) (w : World) → Fine s chosen a w → cost s chosen a w < k → WayIn s w a (IsGentleHere w a)
-arrives laws s chosen a zero w fine less = absurd (let z : ⊥ = omega (arith, less) in z)
-arrives laws s chosen a (suc k) w fine less = go (next_move s chosen a w) (progress laws s chosen a w fine (next_move s chosen a w) refl) (λ v ok nearer. arrives laws s chosen a k v ok (omega (arith, less, nearer)))
+pub arrives : (s : Setting) (chosen : ℕ → Bool) (a : Want) (k : ℕ) (w : World) → Fine s chosen a w → cost s chosen a w < k → WayIn s w a (IsGentleHere w a)
+arrives s chosen a zero w fine less = absurd (let z : ⊥ = omega (arith, less) in z)
+arrives s chosen a (suc k) w fine less = go (next_move s chosen a w) (progress s chosen a w fine (next_move s chosen a w) refl) (λ v ok nearer. arrives s chosen a k v ok (omega (arith, less, nearer)))
   where
     go : (o : Option Move) → Goes-on s chosen a w o → ((v : World) → Fine s chosen a v → cost s chosen a v < cost s chosen a w → WayIn s v a (IsGentleHere v a)) → WayIn s w a (IsGentleHere w a)
     go None inside more = record { events = []; such = λ e m. absurd m; end = w; run = refl; inside = inside }

@@ -31,6 +31,9 @@ pub mod FinishMoves
 pub mod RestMoves
 pub mod OwnMoves
 pub mod VoteMoves
+pub mod InTheWay
+pub mod HandSteps
+pub mod HandFacts
 pub mod Searches
 pub mod Progress
 pub mod Arrivals

@@ -22,6 +22,10 @@ use Rattle.world_model.specs.Ways.{IsGentle, IsUp, IsInsideAs, StandsInWay}
 use Rattle.world_model.proofs.Nearer.{Fine, IsLeft, Goes, Nears, node-among, client-among}
 use Rattle.world_model.proofs.FineFacts.{cases-client, safe-coming, stranger-stands}
 use Rattle.world_model.proofs.FinishMoves.{finishes}
+use Rattle.world_model.proofs.RestMoves.{rests}
+use Rattle.world_model.proofs.OwnMoves.{begins-own}
+use Rattle.world_model.proofs.VoteMoves.{hears-grant, enters-own}
+use Rattle.world_model.proofs.HandFacts.{hand-away, hand-in}
 use Rattle.world_model.proofs.Searches.{found-either, found-none, search-some, search-none, only-some, only-none, numbers-among, among-clients}
 
 -- nobody is disturbed by the move, and who makes it is up
@@ -49,22 +53,7 @@ alone-none : (o : Option Event) → alone o ≡ None → o ≡ None
 alone-none None h = refl
 alone-none (Some e) h = absurd (let q : Some (Alone e) ≡ None = h in cc)
 
--- STUB-BEGIN
-pub record MoveLaws : Type 1 where
-  pub hand-away : (s : Setting) (chosen : ℕ → Bool) (a : Want) (w : World) (n d : ℕ) → Fine s chosen a w → chosen n ≡ true → HasAnyNode s.ballots n → (w.nodes n).phase ≡ NodeIdle →
-    blocks a (coming (w.nodes n)) d ≡ true → (w.clients d).phase ≡ ClientIdle → Goes s a w (Hand d n) × Nears s chosen a w (Hand d n)
-  pub hand-in : (s : Setting) (chosen : ℕ → Bool) (a : Want) (w : World) (n : ℕ) (p : Present) → Fine s chosen a w → chosen n ≡ true → HasAnyNode s.ballots n → (w.nodes n).phase ≡ NodeIdle →
-    ((d : ℕ) → blocks a (coming (w.nodes n)) d ≡ false) → (w.clients a.client).phase ≡ Asking p → asks_for a p ≡ true → p.granted n ≡ false → list_any (is_grant n p.ticket) w.sent ≡ false →
-    Goes s a w (Hand a.client n) × Nears s chosen a w (Hand a.client n)
-  pub rests : (s : Setting) (chosen : ℕ → Bool) (a : Want) (w : World) (d : ℕ) (e : Event) → Fine s chosen a w → HasClient s d → d ≢ a.client → IsUp w (actor.Client d) → resting d (w.clients d) ≡ Some e →
-    Goes s a w (Alone e) × Nears s chosen a w (Alone e)
-  pub begins-own : (s : Setting) (chosen : ℕ → Bool) (a : Want) (w : World) (e : Event) → Fine s chosen a w → beginning a (w.clients a.client) ≡ Some e → Goes s a w (Alone e) × Nears s chosen a w (Alone e)
-  pub hears-grant : (s : Setting) (chosen : ℕ → Bool) (a : Want) (w : World) (n : ℕ) (p : Present) → Fine s chosen a w → chosen n ≡ true → HasAnyNode s.ballots n → (w.clients a.client).phase ≡ Asking p → asks_for a p ≡ true →
-    p.granted n ≡ false → list_any (is_grant n p.ticket) w.sent ≡ true → Goes s a w (HearFrom n) × Nears s chosen a w (HearFrom n)
-  pub enters-own : (s : Setting) (chosen : ℕ → Bool) (a : Want) (w : World) (p : Present) → Fine s chosen a w → (w.clients a.client).phase ≡ Asking p → asks_for a p ≡ true →
-    ((n : ℕ) → HasAnyNode s.ballots n → chosen n ≡ true → p.granted n ≡ true) → Goes s a w (Alone (event.Enter a.client)) × Nears s chosen a w (Alone (event.Enter a.client))
-
-module _ (laws : MoveLaws) (s : Setting) (chosen : ℕ → Bool) (a : Want) (w : World) (fine : Fine s chosen a w) where
+module _ (s : Setting) (chosen : ℕ → Bool) (a : Want) (w : World) (fine : Fine s chosen a w) where
   -- a chosen node that has nothing to finish is idle
   idle-node : (n : ℕ) → chosen n ≡ true → finishing n (w.nodes n) ≡ None → (w.nodes n).phase ≡ NodeIdle
   idle-node n is next = go (w.nodes n).phase (w.nodes n).tried ((fine.ready n is).up) next
@@ -170,11 +159,11 @@ module _ (laws : MoveLaws) (s : Setting) (chosen : ℕ → Bool) (a : Want) (w :
   clears : (n d : ℕ) (o : Option Event) → chosen n ≡ true → HasAnyNode s.ballots n → (w.nodes n).phase ≡ NodeIdle → blocks a (coming (w.nodes n)) d ≡ true → resting d (w.clients d) ≡ o → IsNext s chosen a w (going n d o)
   clears n d None is known idle h next =
       let up = (fine.ready n is).in_way d (blocks-stands (coming (w.nodes n)) d h) in
-      let both = laws.hand-away s chosen a w n d fine is known idle h (idle-client d up next) in
+      let both = hand-away s chosen a w n d fine is known idle h (idle-client d up next) in
       record { goes = both.0; nears = both.1; gentle = (up, (fine.ready n is).up) }
   clears n d (Some e) is known idle h next =
       let up = (fine.ready n is).in_way d (blocks-stands (coming (w.nodes n)) d h) in
-      let both = laws.rests s chosen a w d e fine (known-client n d h) (other-client (coming (w.nodes n)) d h) up next in
+      let both = rests s chosen a w d e fine (known-client n d h) (other-client (coming (w.nodes n)) d h) up next in
       record { goes = both.0; nears = both.1; gentle = gentle-rest d e up next }
 
   cleared-some : (n d : ℕ) (mv : Move) → clear_at a w n d ≡ Some mv → (blocks a (coming (w.nodes n)) d ≡ true) × (mv ≡ going n d (resting d (w.clients d)))
@@ -261,10 +250,10 @@ module _ (laws : MoveLaws) (s : Setting) (chosen : ℕ → Bool) (a : Want) (w :
   asks-node : (p : Present) (n : ℕ) (b : Bool) → (w.clients a.client).phase ≡ Asking p → asks_for a p ≡ true → finish_move s chosen w ≡ None → clear_move s chosen a w ≡ None → Among n (node_numbers s) → chosen n ≡ true →
       p.granted n ≡ false → list_any (is_grant n p.ticket) w.sent ≡ b → IsNext s chosen a w (cond b (HearFrom n) (Hand a.client n))
   asks-node p n true asking for finished cleared m is ungranted said =
-      let both = laws.hears-grant s chosen a w n p fine is (numbers-among s n m) asking for ungranted said in
+      let both = hears-grant s chosen a w n p fine is (numbers-among s n m) asking for ungranted said in
       record { goes = both.0; nears = both.1; gentle = own-up }
   asks-node p n false asking for finished cleared m is ungranted said =
-      let both = laws.hand-in s chosen a w n p fine is (numbers-among s n m) (all-idle finished n m is) (none-blocks cleared n m is) asking for ungranted said in
+      let both = hand-in s chosen a w n p fine is (numbers-among s n m) (all-idle finished n m is) (none-blocks cleared n m is) asking for ungranted said in
       record { goes = both.0; nears = both.1; gentle = (own-up, (fine.ready n is).up) }
 
   by-asking : (p : Present) (o : Option Move) (mv : Move) → (w.clients a.client).phase ≡ Asking p → asks_for a p ≡ true → finish_move s chosen w ≡ None → clear_move s chosen a w ≡ None →
@@ -279,7 +268,7 @@ module _ (laws : MoveLaws) (s : Setting) (chosen : ℕ → Bool) (a : Want) (w :
       let same : Alone (event.Enter a.client) ≡ mv = cc in
       let all : (n : ℕ) → HasAnyNode s.ballots n → chosen n ≡ true → p.granted n ≡ true =
       λ n known is. asked-none p n (only-none chosen (asking_of a p w.sent) n (search-none (only chosen (asking_of a p w.sent)) (node_numbers s) found n (node-among s n known)) is) in
-      let both = laws.enters-own s chosen a w p fine asking for all in
+      let both = enters-own s chosen a w p fine asking for all in
       subst (IsNext s chosen a w) same (record { goes = both.0; nears = both.1; gentle = (refl, own-up) })
 
   by-own : (mv : Move) → finish_move s chosen w ≡ None → clear_move s chosen a w ≡ None → own_move s chosen a w ≡ Some mv → IsNext s chosen a w mv
@@ -287,7 +276,7 @@ module _ (laws : MoveLaws) (s : Setting) (chosen : ℕ → Bool) (a : Want) (w :
       elim (found-either (alone (beginning a (w.clients a.client))) (own_in s chosen a w (w.clients a.client).phase) mv h) [
         | inl e ↦
           let f = alone-some (beginning a (w.clients a.client)) mv e in
-          let both = laws.begins-own s chosen a w f.0 fine f.1 in
+          let both = begins-own s chosen a w f.0 fine f.1 in
           subst (IsNext s chosen a w) (sym f.2) (record { goes = both.0; nears = both.1; gentle = gentle-own f.0 f.1 })
         | inr e ↦ go (w.clients a.client).phase refl (alone-none (beginning a (w.clients a.client)) e.0) e.1
       ]

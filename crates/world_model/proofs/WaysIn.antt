@@ -25,7 +25,6 @@ use Rattle.world_model.proofs.FineFacts.{cases-client, strangers-stay, stranger-
 use Rattle.world_model.proofs.Puts.{put_client, put-client}
 use Rattle.world_model.proofs.Searches.{numbers-among, among-clients}
 use Rattle.world_model.proofs.VoteMoves.{shorter, no-fewer-votes}
-use Rattle.world_model.proofs.Progress.{MoveLaws}
 use Rattle.world_model.proofs.Arrivals.{IsGentleHere, none-rises, arrives}
 use Rattle.world_model.proofs.Raises.{Raised, Rested, Stays, run-append, raises-nodes, raises-clients, rests-at-once}
 
@@ -54,9 +53,9 @@ left-below a kept (Asking p) below chosen up = inr below
 left-below a kept (IsIn p) below chosen up = inr below
 
 -- the way in of a client that is up
-up-way : MoveLaws → (s : Setting) (w : World) (a : Want) (chosen : ℕ → Bool) → IsReached s w → IsPossible s a → HasKeptBelow w a.client → IsChosenBelow (w.clients a.client).phase → ((n : ℕ) → chosen n ≡ true → IsReady w a n) →
+up-way : (s : Setting) (w : World) (a : Want) (chosen : ℕ → Bool) → IsReached s w → IsPossible s a → HasKeptBelow w a.client → IsChosenBelow (w.clients a.client).phase → ((n : ℕ) → chosen n ≡ true → IsReady w a n) →
     IsEnough (ballot_at s.ballots a.place) a.mode chosen → IsUp w (actor.Client a.client) → WayIn s w a (IsGentleHere w a)
-up-way laws s w a chosen reached possible below chosen_below ready enough up = arrives laws s chosen a (suc (cost s chosen a w)) w fine (omega arith)
+up-way s w a chosen reached possible below chosen_below ready enough up = arrives s chosen a (suc (cost s chosen a w)) w fine (omega arith)
   where
     fine : Fine s chosen a w
     fine = record {
@@ -93,9 +92,9 @@ abbrev OwnOnly : World → Want → Event → Type 0
 OwnOnly w a e = IsGentle (λ who. who ≡ actor.Client a.client) a.client e × (IsUp w (actor_of e) ⊎ (actor_of e ≡ actor.Client a.client))
 
 -- the client rises first
-rising-way : MoveLaws → (s : Setting) (w : World) (a : Want) (chosen : ℕ → Bool) (kept : ℕ) (tried : Option ℕ) → IsReached s w → IsPossible s a → HasKeptBelow w a.client → ((n : ℕ) → chosen n ≡ true → IsReady w a n) →
+rising-way : (s : Setting) (w : World) (a : Want) (chosen : ℕ → Bool) (kept : ℕ) (tried : Option ℕ) → IsReached s w → IsPossible s a → HasKeptBelow w a.client → ((n : ℕ) → chosen n ≡ true → IsReady w a n) →
     IsEnough (ballot_at s.ballots a.place) a.mode chosen → w.clients a.client ≡ record { kept = kept; tried = tried; phase = ClientDown } → WayIn s w a (OwnOnly w a)
-rising-way laws s w a chosen kept tried reached possible below ready enough was =
+rising-way s w a chosen kept tried reached possible below ready enough was =
     record {
       events = rise ∷ way.events;
       such = such;
@@ -136,7 +135,7 @@ rising-way laws s w a chosen kept tried reached possible below ready enough was 
 
     way : WayIn s v a (IsGentleHere v a)
     way =
-        up-way laws s v a chosen (reached-on s w v (rise ∷ []) reached (v, happens, refl)) possible (subst (λ k. k < MAX_ATTEMPT) (ap (λ (k : Client). k.kept) was ∙ sym (ap (λ (k : Client). k.kept) of.is)) below)
+        up-way s v a chosen (reached-on s w v (rise ∷ []) reached (v, happens, refl)) possible (subst (λ k. k < MAX_ATTEMPT) (ap (λ (k : Client). k.kept) was ∙ sym (ap (λ (k : Client). k.kept) of.is)) below)
         (subst IsChosenBelow (sym idle) tt) ready-then enough (λ e. let z : ClientIdle ≡ ClientDown = sym idle ∙ e in cc)
 
     -- who is up there was up here, but for the client itself
@@ -151,16 +150,16 @@ rising-way laws s w a chosen kept tried reached possible below ready enough was 
     such x (inl same) = subst (OwnOnly w a) (sym same) (refl, inr refl)
     such x (inr m) = let g = way.such x m in (gentle-more (λ who. who ≡ actor.Client a.client) a.client x g.0, was-up (actor_of x) g.1)
 
-pub dead-not-needed : MoveLaws → TheDeadAreNotNeeded
-dead-not-needed laws s w a chosen crosses reached possible below chosen_below ready enough = go (w.clients a.client).kept (w.clients a.client).tried (w.clients a.client).phase refl
+pub dead-not-needed : TheDeadAreNotNeeded
+dead-not-needed s w a chosen crosses reached possible below chosen_below ready enough = go (w.clients a.client).kept (w.clients a.client).tried (w.clients a.client).phase refl
   where
     up-now : (phase : ClientPhase) → (w.clients a.client).phase ≡ phase → phase ≢ ClientDown → WayIn s w a (OwnOnly w a)
     up-now phase is up =
         such-more s w a (IsGentleHere w a) (OwnOnly w a) (λ e g. (gentle-more (λ who. who ≡ actor.Client a.client) a.client e g.0, inl g.1))
-        (up-way laws s w a chosen reached possible below chosen_below ready enough (λ e. up (sym is ∙ e)))
+        (up-way s w a chosen reached possible below chosen_below ready enough (λ e. up (sym is ∙ e)))
 
     go : (kept : ℕ) (tried : Option ℕ) (phase : ClientPhase) → w.clients a.client ≡ record { kept = kept; tried = tried; phase = phase } → WayIn s w a (OwnOnly w a)
-    go kept tried ClientDown was = rising-way laws s w a chosen kept tried reached possible below ready enough was
+    go kept tried ClientDown was = rising-way s w a chosen kept tried reached possible below ready enough was
     go kept tried ClientIdle was = up-now ClientIdle (ap (λ (k : Client). k.phase) was) (λ e. let z : ClientIdle ≡ ClientDown = e in cc)
     go kept tried (Chosen t place) was = up-now (Chosen t place) (ap (λ (k : Client). k.phase) was) (λ e. let z : Chosen t place ≡ ClientDown = e in cc)
     go kept tried (Asking p) was = up-now (Asking p) (ap (λ (k : Client). k.phase) was) (λ e. let z : Asking p ≡ ClientDown = e in cc)
@@ -207,15 +206,15 @@ all-ready s w a reached up n is = record { up = up (actor.Node n) (every-known s
         nothing : (coming (w.nodes n)).at d ≡ nobody → ⊥
         nothing e = let it = stands.1 in let z : Free ≡ Has it.0 a.resource it.1 = ap (λ (t : Standing). t.claim) (sym e) ∙ it.2 in cc
 
-pub others-only-go : MoveLaws → OthersOnlyGo
-others-only-go laws s w a crosses reached possible below chosen_below up =
+pub others-only-go : OthersOnlyGo
+others-only-go s w a crosses reached possible below chosen_below up =
     such-more s w a (IsGentleHere w a) (IsGentle (λ who. ⊥) a.client) (λ e g. g.0)
-    (up-way laws s w a (every_node s) reached possible below chosen_below (all-ready s w a reached up) (every-enough s a.place a.mode crosses possible.place) (up (actor.Client a.client) possible.client))
+    (up-way s w a (every_node s) reached possible below chosen_below (all-ready s w a reached up) (every-enough s a.place a.mode crosses possible.place) (up (actor.Client a.client) possible.client))
 
 -- 1. Nobody is locked out: the client comes to rest at once, whoever is down rises, and then there is a way.
 
-pub nobody-locked-out : MoveLaws → NobodyIsLockedOut
-nobody-locked-out laws s w a crosses reached possible below =
+pub nobody-locked-out : NobodyIsLockedOut
+nobody-locked-out s w a crosses reached possible below =
     record {
       events = rested.events ++ (nodes_up.events ++ (clients_up.events ++ way.events));
       such = λ e m. tt;
@@ -250,5 +249,5 @@ nobody-locked-out laws s w a crosses reached possible below =
 
     way : WayIn s clients_up.world a (IsGentle (λ who. ⊥) a.client)
     way =
-        others-only-go laws s clients_up.world a crosses there possible (subst (λ (k : Client). k.kept < MAX_ATTEMPT) (sym same) (subst (λ k. k < MAX_ATTEMPT) (sym rested.kept) below))
+        others-only-go s clients_up.world a crosses there possible (subst (λ (k : Client). k.kept < MAX_ATTEMPT) (sym same) (subst (λ k. k < MAX_ATTEMPT) (sym rested.kept) below))
         (subst (λ (k : Client). IsChosenBelow k.phase) (sym same) (subst IsChosenBelow (sym rested.idle) tt)) all-up
