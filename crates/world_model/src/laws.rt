@@ -6,6 +6,7 @@ ghost use Rattle.world_model.specs.Exclusion.{WritersAreAlone, StationsStaySound
 ghost use Rattle.world_model.specs.Laws.{ExactStepsAreAllowed, StepsKeepSound, AllowedStepsAreTaken, ExactRunsAreRuns, ResumedIsSound, ResumedIsLawful, OnlyWithinIsLawful, OpeningIsResumable, SaidNumbersFit, SoundIsExclusive, InsideIsTheSet, WriterInsideIsOnly, WaitingIsTheSet, HoldingIsTheSet};
 ghost use Rattle.world_model.specs.Locality.{PlacesAreApart, StepsChangeOnePart, OwnRefusalsComeFirst, ListRefusalsComeSecond, FullOnlyWithoutRoom, MemoryIsNoRefusal, EffectsAreOfTheirEvents, MessagesAreAsListed, PartsAreLocal, RefusalsAreLocal, HistoriesAreRuns};
 ghost use Rattle.world_model.specs.Staying.{PartsStayInside, ClientsStayInside, LeavingEndsIt};
+ghost use Rattle.world_model.specs.Ways.{NobodyIsLockedOut, OthersOnlyGo, TheDeadAreNotNeeded};
 
 use crate::MAX_MESSAGES;
 
@@ -21,6 +22,18 @@ pub fn writers_are_alone()
     lock_model::laws::enough_sets_share_a_node_of_both();
     lock_model::laws::any_two_cross();
 }
+
+/// Nobody is locked out. From every world that a run from a lawful opening reaches there is a run that ends
+/// with the client inside, for each client that has an attempt left, each resource, each mode and the ballot of
+/// each place. Where all actors are up it has no fall and no rise in it, and of the other clients nobody begins
+/// or enters: they only go. And where the nodes that can be won have votes enough, no other actor that is down
+/// does anything in it: a node can be won that is up, and at which no ticket of another client that is down
+/// stands in the way.
+pub fn nobody_is_locked_out()
+    ensures way { NobodyIsLockedOut }
+    ensures gently { OthersOnlyGo }
+    ensures without_the_dead { TheDeadAreNotNeeded }
+{}
 
 /// Each step of the exact world, its order and numbers forgotten, is one that may happen, and leaves
 /// a sound world; so does each run. The other way round, what may happen is taken where the number that
