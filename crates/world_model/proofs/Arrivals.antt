@@ -13,7 +13,10 @@ use Rattle.world_model.specs.declared.events.Event.{Event}
 use Rattle.world_model.specs.declared.events.Event.TheVariants as event
 use Rattle.world_model.specs.Worlds.{NodePhase, NodeDown, NodeIdle, Decided, Stored, Node, Present, ClientPhase, ClientDown, ClientIdle, Chosen, Asking, IsIn, Client, World, Setting, OfNode, OfClient, Happens, Run, Begins, begins, TriesAttempt, tries_attempt, TriesStation, tries_station, KeepsAttempt, keeps_attempt, KeepsStation, keeps_station, Tells, asks, asks_inside, tells_softened, releases, Says, says, Takes, takes, takes_same, Hears, counts, counts_inside, passes, passes_inside, passes_softened, passes_idle, passes_chosen, Enters, enters, Leaves, gives_up, leaves}
 use Rattle.world_model.specs.ExactWorlds.{actor_of}
-use Rattle.world_model.specs.Advice.{Want, Move, Alone, Hand, HearFrom, next_move}
+use Rattle.world_model.specs.declared.ways.Move.{Move}
+use Rattle.world_model.specs.declared.ways.Move.TheVariants.{Alone, Hand, HearFrom}
+use Rattle.world_model.specs.declared.ways.Want.{Want}
+use Rattle.world_model.specs.Advice.{next_move}
 use Rattle.world_model.specs.Ways.{WayIn, IsGentle, IsUp}
 use Rattle.world_model.proofs.Costs.{cost}
 use Rattle.world_model.proofs.Nearer.{Fine, Hands, HearsGrant, Makes}

@@ -5,7 +5,8 @@ use Rattle.lock_messages.specs.declared.tickets.Ticket.{Ticket}
 use Rattle.lock_messages.specs.declared.messages.Message.{Message}
 use Rattle.lock_model.specs.Stations.{Station}
 use Rattle.world_model.specs.Worlds.{NodePhase, NodeDown, NodeIdle, Decided, Stored, Node, Present, ClientPhase, ClientDown, ClientIdle, Chosen, Asking, IsIn, Client, World, Setting}
-use Rattle.world_model.specs.Advice.{Want, coming, blocks, is_wanted, asks_for, is_inside_as, is_grant, node_numbers, client_numbers}
+use Rattle.world_model.specs.declared.ways.Want.{Want}
+use Rattle.world_model.specs.Advice.{coming, blocks, is_wanted, asks_for, is_inside_as, is_grant, node_numbers, client_numbers}
 
 -- the sum over some numbers
 abbrev pub total_over : (ℕ → ℕ) → List ℕ → ℕ

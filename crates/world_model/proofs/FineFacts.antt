@@ -9,7 +9,8 @@ use Rattle.world_model.specs.declared.events.Event.{Event}
 use Rattle.world_model.specs.declared.events.Event.TheVariants as event
 use Rattle.world_model.specs.Worlds.{NodePhase, NodeDown, NodeIdle, Decided, Stored, Node, Client, ClientPhase, World, Setting, HasClient, OfNode, OfClient, Sends, Happens, IsWithin, EachStation, IfDecided}
 use Rattle.world_model.specs.Invariants.{Owes, IsSafeStation, IsSafeNode, IsSafe}
-use Rattle.world_model.specs.Advice.{Want, coming, coming_in}
+use Rattle.world_model.specs.declared.ways.Want.{Want}
+use Rattle.world_model.specs.Advice.{coming, coming_in}
 use Rattle.world_model.specs.Ways.{IsReady, IsUp, StandsInWay}
 use Rattle.world_model.proofs.SafeRuns.{happens-safe}
 use Rattle.world_model.proofs.Nearer.{Fine, IsLeft, Grows, OnlyNode, OnlyClient}

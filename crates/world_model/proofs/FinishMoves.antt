@@ -12,7 +12,9 @@ use Rattle.world_model.specs.declared.events.Event.{Event}
 use Rattle.world_model.specs.declared.events.Event.TheVariants as event
 use Rattle.world_model.specs.Worlds.{NodePhase, NodeDown, NodeIdle, Decided, Stored, Node, ClientPhase, ClientDown, ClientIdle, Chosen, Asking, IsIn, Client, World, Setting, OfNode, Happens, TriesStation, tries_station, KeepsStation, keeps_station, Says, says}
 use Rattle.world_model.specs.Invariants.{IsSafePhase, IsSafeNode}
-use Rattle.world_model.specs.Advice.{Want, Alone, coming, finishing, finishing_in, asks_for, is_grant}
+use Rattle.world_model.specs.declared.ways.Move.TheVariants.{Alone}
+use Rattle.world_model.specs.declared.ways.Want.{Want}
+use Rattle.world_model.specs.Advice.{coming, finishing, finishing_in, asks_for, is_grant}
 use Rattle.world_model.specs.Ways.{StandsInWay, IsUp}
 use Rattle.world_model.proofs.Costs.{finish_cost, promises, vote_cost, ask_cost, node_cost, cost}
 use Rattle.world_model.proofs.Nearer.{Fine, Grows, Goes, Nears, costs_at, node-nearer, vote-le, any-grows}

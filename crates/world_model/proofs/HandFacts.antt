@@ -21,7 +21,9 @@ use Rattle.lock_model.proofs.EntryFacts.{any-of}
 use Rattle.lock_model.proofs.GrantFacts.{only-reply}
 use Rattle.world_model.specs.Worlds.{NodePhase, NodeIdle, ClientDown, ClientIdle, Asking, Present, World, Setting, HasClient, Tells}
 use Rattle.world_model.specs.Invariants.{IsPresentIn, IsPresent, IsUnsoftenedIn, IsUnsoftened, Owes, IsSafeStation, IsGranted, IsSafeTicket, IsSafeClient, IsSafe}
-use Rattle.world_model.specs.Advice.{Want, Hand, coming, coming_in, blocks, asks_for, same_ticket, is_grant, client_numbers}
+use Rattle.world_model.specs.declared.ways.Move.TheVariants.{Hand}
+use Rattle.world_model.specs.declared.ways.Want.{Want}
+use Rattle.world_model.specs.Advice.{coming, coming_in, blocks, asks_for, same_ticket, is_grant, client_numbers}
 use Rattle.world_model.specs.Ways.{IsUp}
 use Rattle.world_model.proofs.StandingSteps.{new-cleared, settled-cleared}
 use Rattle.world_model.proofs.FewClients.{released-decides, asked-decides}

@@ -12,7 +12,9 @@ use Rattle.lock_model.specs.Stations.{Station}
 use Rattle.lock_model.specs.Decisions.{Among, Decides}
 use Rattle.world_model.specs.declared.events.Event.TheVariants as event
 use Rattle.world_model.specs.Worlds.{NodePhase, NodeDown, NodeIdle, Decided, Stored, Node, Present, ClientPhase, ClientDown, ClientIdle, Chosen, Asking, IsIn, Client, World, Setting, HasClient, OfNode, Tells, asks, asks_inside, tells_softened, releases, Takes, takes, takes_same}
-use Rattle.world_model.specs.Advice.{Want, Hand, coming, coming_in, asks_for, is_grant, client_numbers}
+use Rattle.world_model.specs.declared.ways.Move.TheVariants.{Hand}
+use Rattle.world_model.specs.declared.ways.Want.{Want}
+use Rattle.world_model.specs.Advice.{coming, coming_in, asks_for, is_grant, client_numbers}
 use Rattle.world_model.specs.Ways.{IsUp, StandsInWay}
 use Rattle.world_model.proofs.Costs.{total_over, finish_cost, block_cost, promises, ask_cost, node_cost, cost}
 use Rattle.world_model.proofs.Nearer.{IsLeft, Fine, Hands, Goes, Grows, OnlyNode, costs_at, node-nearer}

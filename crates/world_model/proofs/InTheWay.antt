@@ -10,7 +10,8 @@ use Rattle.lock_model.specs.declared.entries.Status.TheVariants.{Waiting, Holdin
 use Rattle.lock_model.specs.Stations.{Claim, Free, Has, Standing, Station, IsHolder, Cause, Puts, EndsAt, Ends, Settles, Becomes}
 use Rattle.lock_model.specs.ExactStations.{is_write}
 use Rattle.lock_model.specs.Decisions.{Among}
-use Rattle.world_model.specs.Advice.{Want, is_in_way, blocks}
+use Rattle.world_model.specs.declared.ways.Want.{Want}
+use Rattle.world_model.specs.Advice.{is_in_way, blocks}
 use Rattle.world_model.specs.Ways.{StandsInWay}
 use Rattle.world_model.proofs.Costs.{total_over, block_cost}
 use Rattle.world_model.proofs.Nearer.{total-le}

@@ -14,7 +14,10 @@ use Rattle.lock_model.proofs.EntryFacts.{any-found, any-of}
 use Rattle.world_model.specs.declared.events.Event.{Event}
 use Rattle.world_model.specs.Worlds.{NodePhase, Node, Present, ClientPhase, ClientDown, ClientIdle, Chosen, Asking, IsIn, Client, World, Setting, HasClient, OfNode, OfClient, ByNode, ByClient, Tells, Takes, Hears, Happens}
 use Rattle.world_model.specs.Invariants.{IsSafe}
-use Rattle.world_model.specs.Advice.{Want, Move, Alone, Hand, HearFrom, coming, is_wanted, asks_for, is_inside_as, is_grant, node_numbers, client_numbers}
+use Rattle.world_model.specs.declared.ways.Move.{Move}
+use Rattle.world_model.specs.declared.ways.Move.TheVariants.{Alone, Hand, HearFrom}
+use Rattle.world_model.specs.declared.ways.Want.{Want}
+use Rattle.world_model.specs.Advice.{coming, is_wanted, asks_for, is_inside_as, is_grant, node_numbers, client_numbers}
 use Rattle.world_model.specs.Ways.{IsPossible, IsReady, IsUp}
 use Rattle.world_model.proofs.Costs.{total_over, block_cost, promises, vote_cost, ask_cost, node_cost, client_cost, cost}
 

@@ -16,7 +16,9 @@ use Rattle.world_model.specs.declared.events.Event.{Event}
 use Rattle.world_model.specs.declared.events.Event.TheVariants as event
 use Rattle.world_model.specs.Worlds.{NodePhase, ClientPhase, ClientDown, ClientIdle, Chosen, Asking, IsIn, Client, World, Setting, OfClient, ByClient, Begins, begins, TriesAttempt, tries_attempt, KeepsAttempt, keeps_attempt, first_of, Leaves, gives_up, leaves, Happens}
 use Rattle.world_model.specs.Invariants.{IsSafeClient}
-use Rattle.world_model.specs.Advice.{Want, Alone, is_wanted, asks_for, is_inside_as, is_grant, beginning, beginning_in}
+use Rattle.world_model.specs.declared.ways.Move.TheVariants.{Alone}
+use Rattle.world_model.specs.declared.ways.Want.{Want}
+use Rattle.world_model.specs.Advice.{is_wanted, asks_for, is_inside_as, is_grant, beginning, beginning_in}
 use Rattle.world_model.proofs.Costs.{own_cost, rest_cost, client_cost, cost, promises, ask_cost}
 use Rattle.world_model.proofs.Nearer.{Fine, IsLeft, Nears, Goes, OnlyClient, costs_at, ask-le, client-nearer}
 use Rattle.world_model.proofs.FineFacts.{only-client, fine-of-client}

@@ -17,7 +17,10 @@ use Rattle.world_model.specs.declared.events.Event.{Event}
 use Rattle.world_model.specs.declared.events.Event.TheVariants as event
 use Rattle.world_model.specs.Worlds.{NodePhase, NodeDown, NodeIdle, Decided, Stored, Node, Present, present_mode, ClientPhase, ClientDown, ClientIdle, Chosen, Asking, IsIn, Client, World, Setting, HasClient}
 use Rattle.world_model.specs.ExactWorlds.{actor_of}
-use Rattle.world_model.specs.Advice.{Want, Move, Alone, Hand, HearFrom, search, found, node_numbers, client_numbers, finishing, finishing_in, coming, is_in_way, blocks, resting, resting_in, going, asks_for, is_inside_as, beginning, beginning_in, is_grant, asking_of, entering, only, alone, finish_move, clear_at, clear_move, own_in, own_move, next_move}
+use Rattle.world_model.specs.declared.ways.Move.{Move}
+use Rattle.world_model.specs.declared.ways.Move.TheVariants.{Alone, Hand, HearFrom}
+use Rattle.world_model.specs.declared.ways.Want.{Want}
+use Rattle.world_model.specs.Advice.{search, found, node_numbers, client_numbers, finishing, finishing_in, coming, is_in_way, blocks, resting, resting_in, going, asks_for, is_inside_as, beginning, beginning_in, is_grant, asking_of, entering, only, alone, finish_move, clear_at, clear_move, own_in, own_move, next_move}
 use Rattle.world_model.specs.Ways.{IsGentle, IsUp, IsInsideAs, StandsInWay}
 use Rattle.world_model.proofs.Nearer.{Fine, IsLeft, Goes, Nears, node-among, client-among}
 use Rattle.world_model.proofs.FineFacts.{cases-client, safe-coming, stranger-stands}

@@ -6,7 +6,9 @@ use Rattle.lock_messages.specs.declared.ids.Actor.TheVariants as actor
 use Rattle.world_model.specs.declared.events.Event.{Event}
 use Rattle.world_model.specs.declared.events.Event.TheVariants as event
 use Rattle.world_model.specs.Worlds.{ClientPhase, ClientDown, ClientIdle, Chosen, Asking, IsIn, Client, World, Setting, HasClient, OfClient, ByClient, TriesAttempt, tries_attempt, KeepsAttempt, keeps_attempt, first_of, Leaves, gives_up, leaves, Happens}
-use Rattle.world_model.specs.Advice.{Want, Alone, resting, resting_in}
+use Rattle.world_model.specs.declared.ways.Move.TheVariants.{Alone}
+use Rattle.world_model.specs.declared.ways.Want.{Want}
+use Rattle.world_model.specs.Advice.{resting, resting_in}
 use Rattle.world_model.specs.Ways.{IsUp}
 use Rattle.world_model.proofs.Costs.{own_cost, rest_cost, client_cost, cost}
 use Rattle.world_model.proofs.Nearer.{Fine, Nears, Goes, OnlyClient, other-nearer}

@@ -23,7 +23,9 @@ use Rattle.lock_model.proofs.EntryFacts.{any-found}
 use Rattle.world_model.specs.declared.events.Event.TheVariants as event
 use Rattle.world_model.specs.Worlds.{NodePhase, Present, ClientDown, ClientIdle, Chosen, Asking, IsIn, Client, World, Setting, ByClient, gained, Hears, counts, counts_inside, passes, passes_inside, passes_softened, passes_idle, passes_chosen, Enters, enters}
 use Rattle.world_model.specs.Invariants.{IsGranted, IsSafeTicket}
-use Rattle.world_model.specs.Advice.{Want, Alone, HearFrom, is_wanted, asks_for, is_inside_as, same_ticket, is_grant}
+use Rattle.world_model.specs.declared.ways.Move.TheVariants.{Alone, HearFrom}
+use Rattle.world_model.specs.declared.ways.Want.{Want}
+use Rattle.world_model.specs.Advice.{is_wanted, asks_for, is_inside_as, same_ticket, is_grant}
 use Rattle.world_model.proofs.Costs.{own_cost, client_cost, cost, promises, vote_cost, ask_cost}
 use Rattle.world_model.proofs.Nearer.{Fine, IsLeft, Nears, Goes, OnlyClient, costs_at, vote-le, vote-nearer}
 use Rattle.world_model.proofs.FineFacts.{only-client, fine-of-client}

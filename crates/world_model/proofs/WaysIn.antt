@@ -16,7 +16,8 @@ use Rattle.world_model.specs.declared.events.Event.TheVariants as event
 use Rattle.world_model.specs.Worlds.{Node, ClientPhase, ClientDown, ClientIdle, Chosen, Asking, IsIn, Client, World, Setting, HasClient, OfClient, Happens, Run, IsLawfulOpening, client_rises_old}
 use Rattle.world_model.specs.Invariants.{IsSafe}
 use Rattle.world_model.specs.ExactWorlds.{actor_of}
-use Rattle.world_model.specs.Advice.{Want, node_numbers, client_numbers, coming}
+use Rattle.world_model.specs.declared.ways.Want.{Want}
+use Rattle.world_model.specs.Advice.{node_numbers, client_numbers, coming}
 use Rattle.world_model.specs.Ways.{IsReached, IsPossible, IsInsideAs, WayIn, IsGentle, IsUp, HasActor, HasKeptBelow, IsChosenBelow, StandsInWay, IsReady, NobodyIsLockedOut, OthersOnlyGo, TheDeadAreNotNeeded}
 use Rattle.world_model.proofs.SafeRuns.{opening-safe, run-safe, happens-safe}
 use Rattle.world_model.proofs.Costs.{cost}

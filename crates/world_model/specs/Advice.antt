@@ -20,22 +20,10 @@ use Rattle.lock_model.specs.ExactStations.{is_write}
 use Rattle.lock_model.specs.ExactDecisions.{same_mode}
 use Rattle.world_model.specs.declared.events.Event.{Event}
 use Rattle.world_model.specs.declared.events.Event.TheVariants as event
+use Rattle.world_model.specs.declared.ways.Move.{Move}
+use Rattle.world_model.specs.declared.ways.Move.TheVariants.{Alone, Hand, HearFrom}
+use Rattle.world_model.specs.declared.ways.Want.{Want}
 use Rattle.world_model.specs.Worlds.{NodePhase, NodeDown, NodeIdle, Decided, Stored, Node, Present, present_mode, ClientPhase, ClientDown, ClientIdle, Chosen, Asking, IsIn, Client, World, Setting}
-
--- who wants to be inside: the client, the resource and the mode, and the place of the ballot by which its votes
--- are to count
-pub record Want : Type 0 where
-  pub client : ℕ
-  pub mode : Mode
-  pub resource : List ℕ
-  pub place : ℕ
-
--- A move: one event; or a client says to a node what it has to say, and the node takes that message; or the
--- client that wants in hears the Grant of a node.
-pub data Move : Type 0 where
-  Alone : (e : Event) → Move
-  Hand : (d n : ℕ) → Move
-  HearFrom : (n : ℕ) → Move
 
 -- the first that is found, if one is
 abbrev pub found : {A : Type 0} → Option A → Option A → Option A
@@ -180,3 +168,24 @@ own_move s chosen a w = found (alone (beginning a (w.clients a.client))) (own_in
 -- the next move, if there is one
 abbrev pub next_move : Setting → (ℕ → Bool) → Want → World → Option Move
 next_move s chosen a w = found (finish_move s chosen w) (found (clear_move s chosen a w) (own_move s chosen a w))
+
+-- A node can be won: it is up, and so is each other client whose ticket stands in the way there.
+abbrev pub is_up : NodePhase → Bool
+is_up NodeDown = false
+is_up NodeIdle = true
+is_up (Decided s replies) = true
+is_up (Stored replies) = true
+
+abbrev pub is_client_up : ClientPhase → Bool
+is_client_up ClientDown = false
+is_client_up ClientIdle = true
+is_client_up (Chosen t place) = true
+is_client_up (Asking p) = true
+is_client_up (IsIn p) = true
+
+-- a client whose ticket stands in the way at the station is down
+abbrev pub is_held : Want → World → Station → ℕ → Bool
+is_held a w s d = blocks a s d && not (is_client_up (w.clients d).phase)
+
+abbrev pub can_be_won : Setting → Want → World → ℕ → Bool
+can_be_won s a w n = is_up (w.nodes n).phase && not (list_any (is_held a w (coming (w.nodes n))) (client_numbers s))

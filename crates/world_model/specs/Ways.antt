@@ -16,7 +16,8 @@ use Rattle.world_model.specs.declared.events.Event.{Event}
 use Rattle.world_model.specs.declared.events.Event.TheVariants as event
 use Rattle.world_model.specs.Worlds.{NodeDown, ClientPhase, ClientDown, ClientIdle, Chosen, Asking, IsIn, Present, present_mode, World, Setting, HasClient, Run, IsLawfulOpening}
 use Rattle.world_model.specs.ExactWorlds.{actor_of}
-use Rattle.world_model.specs.Advice.{Want, coming}
+use Rattle.world_model.specs.declared.ways.Want.{Want}
+use Rattle.world_model.specs.Advice.{coming}
 
 -- a run from a lawful opening leads to this world
 pub record IsReached (s : Setting) (w : World) : Type 0 where

@@ -13,7 +13,8 @@
 //!
 //! The crate has the plain data that these speak of and nothing that computes with it. It promises
 //! the laws of the module `laws`: the exclusion theorem, over all runs; that the exact steps are just
-//! those that may happen, and that each leaves a sound world, in which a writer is alone; and
+//! those that may happen, and that each leaves a sound world, in which a writer is alone; that nobody is
+//! locked out (`Ways`): whatever has happened, there is a way in for each client with an attempt left; and
 //! locality, that an actor's part of the world is told by its own events. It stands on
 //! `lock_messages`, `lock_model`, `vote_weights` and `thiserror`.
 #![tactic(auto)]
@@ -21,6 +22,7 @@
 mod events;
 mod exact;
 pub mod laws;
+mod ways;
 
 /// The most messages that a world has. They are numbered from 1.
 pub const MAX_MESSAGES: u32 = 1_048_576;
@@ -29,3 +31,4 @@ pub use events::{Age, Effect, Event, StepFault};
 pub use exact::{
     ExactClient, ExactClientPhase, ExactNode, ExactNodePhase, ExactStation, ExactWorld,
 };
+pub use ways::{Move, Want};
