@@ -103,7 +103,7 @@ inside-hears laws b c m k p = go p.softened refl
         with-ticket laws b c m k exact.Inside (λ q. record { kept = k.kept; tried = k.tried; phase = IsIn q }) (λ q. refl) p
         (counts_inside k.kept k.tried (present_of p) e) (λ h. passes_inside k.kept k.tried (present_of p) h e)
 
-hears-message : HearingLaws → (b : List Ballot) (c : ℕ) (m : Message) (k : ExactClient) → is_down k.phase ≡ false → Hears b c m (client_of k) (client_of (after_hearing (node_count b) c k m))
+pub hears-message : HearingLaws → (b : List Ballot) (c : ℕ) (m : Message) (k : ExactClient) → is_down k.phase ≡ false → Hears b c m (client_of k) (client_of (after_hearing (node_count b) c k m))
 hears-message laws b c m k up = go k.phase up
   where
     go : (p : ExactClientPhase) → is_down p ≡ false → Hears b c m (client_of (client_in k p)) (client_of (after_hearing (node_count b) c (client_in k p) m))

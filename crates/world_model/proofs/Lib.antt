@@ -39,6 +39,7 @@ pub mod Progress
 pub mod Arrivals
 pub mod Raises
 pub mod WaysIn
+pub mod StepShapes
 pub mod ExclusionFacts
 pub mod LocalityFacts
 pub mod StayFacts

@@ -106,11 +106,11 @@ pub record DecisionLaws : Type 1 where
   pub seen : StayingIsSeen
 
 -- a decision is one that the node may take, and leaves it sound
-record DecidesSo (v : ExactNode) (m : Message) (after : ExactNode) : Type 0 where
-  does : Takes m (node_of v) (node_of after)
+pub record DecidesSo (v : ExactNode) (m : Message) (after : ExactNode) : Type 0 where
+  pub does : Takes m (node_of v) (node_of after)
   sound : IsSoundNode after
 
-decides-so : DecisionLaws → (n : ℕ) (m : Message) (v : ExactNode) → is_for_node m n ≡ true → IsSoundNode (node_in v exact.Idle) → DecidesSo (node_in v exact.Idle) m (decided_on (node_in v exact.Idle) m)
+pub decides-so : DecisionLaws → (n : ℕ) (m : Message) (v : ExactNode) → is_for_node m n ≡ true → IsSoundNode (node_in v exact.Idle) → DecidesSo (node_in v exact.Idle) m (decided_on (node_in v exact.Idle) m)
 decides-so laws n m v mine ok = go (changes v.kept.problem v.kept.entries m) refl
   where
     before : ExactNode

@@ -59,7 +59,7 @@ here-or-there {A} P xs k x y was new old d z h = at (d == k) refl
 
 -- clients
 
-of-client : (w : ExactWorld) (c : ℕ) (k after : ExactClient) (says : List Message) → numbered w.clients c ≡ Some k →
+pub of-client : (w : ExactWorld) (c : ℕ) (k after : ExactClient) (says : List Message) → numbered w.clients c ≡ Some k →
     OfClient (setting_of w) c (forget w) (client_of k) (client_of after) says (forget (sending says (with_client_at w c after)))
 of-client w c k after says was = record {
   known = numbered-one w.clients c k was;
@@ -70,7 +70,7 @@ of-client w c k after says was = record {
   sends = λ m. among-append m w.sent says;
 }
 
-same-clients : (w : ExactWorld) (c : ℕ) (after : ExactClient) → setting_of (with_client_at w c after) ≡ setting_of w
+pub same-clients : (w : ExactWorld) (c : ℕ) (after : ExactClient) → setting_of (with_client_at w c after) ≡ setting_of w
 same-clients w c after = ap (λ n. record { ballots = w.ballots; clients = n }) (length-set w.clients (c - 1) after)
 
 client-sound : (w : ExactWorld) (c : ℕ) (k after : ExactClient) (says : List Message) → numbered w.clients c ≡ Some k → (IsSoundClient k → IsSoundClient after) →
@@ -110,7 +110,7 @@ client-done w e c turn k s was ends = subst (DeedDone w e (ClientDoes c turn) s.
 
 -- nodes
 
-of-node : (w : ExactWorld) (n : ℕ) (v after : ExactNode) (says : List Message) → IsSound w → numbered w.nodes n ≡ Some v →
+pub of-node : (w : ExactWorld) (n : ℕ) (v after : ExactNode) (says : List Message) → IsSound w → numbered w.nodes n ≡ Some v →
     OfNode (setting_of w) n (forget w) (node_of v) (node_of after) says (forget (sending says (with_node_at w n after)))
 of-node w n v after says ok was = record {
   known = (let r = numbered-one w.nodes n v was in (r.0, omega (arith, r.1, ok.nodes)));
