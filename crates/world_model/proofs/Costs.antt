@@ -6,12 +6,8 @@ use Rattle.lock_messages.specs.declared.messages.Message.{Message}
 use Rattle.lock_model.specs.Stations.{Station}
 use Rattle.world_model.specs.Worlds.{NodePhase, NodeDown, NodeIdle, Decided, Stored, Node, Present, ClientPhase, ClientDown, ClientIdle, Chosen, Asking, IsIn, Client, World, Setting}
 use Rattle.world_model.specs.declared.ways.Want.{Want}
+use Rattle.world_model.specs.ExactWays.{total_over}
 use Rattle.world_model.specs.Advice.{coming, blocks, is_wanted, asks_for, is_inside_as, is_grant, node_numbers, client_numbers}
-
--- the sum over some numbers
-abbrev pub total_over : (ℕ → ℕ) → List ℕ → ℕ
-total_over f [] = 0
-total_over f (n ∷ ns) = f n + total_over f ns
 
 -- to finish, a node has this many events
 abbrev pub finish_cost : {A : Type 0} → NodePhase → Option A → ℕ

@@ -27,7 +27,8 @@ use Rattle.world_model.specs.Advice.{coming, coming_in, blocks, asks_for, same_t
 use Rattle.world_model.specs.Ways.{IsUp}
 use Rattle.world_model.proofs.StandingSteps.{new-cleared, settled-cleared}
 use Rattle.world_model.proofs.FewClients.{released-decides, asked-decides}
-use Rattle.world_model.proofs.Costs.{total_over, block_cost, promises, vote_cost, ask_cost}
+use Rattle.world_model.specs.ExactWays.{total_over}
+use Rattle.world_model.proofs.Costs.{block_cost, promises, vote_cost, ask_cost}
 use Rattle.world_model.proofs.Nearer.{Fine, Goes, Nears, Grows, total-le, client-among, ask-le}
 use Rattle.world_model.proofs.FineFacts.{stranger-stands, few-stand}
 use Rattle.world_model.proofs.InTheWay.{blocks-has, free-blocks-not, less-blocks, stays, OthersLessen, settled-lessen, put-lessen, ended-free, total-drops, OnlyWaits, unblocked-free}

@@ -16,7 +16,8 @@ use Rattle.world_model.specs.declared.ways.Move.TheVariants.{Hand}
 use Rattle.world_model.specs.declared.ways.Want.{Want}
 use Rattle.world_model.specs.Advice.{coming, coming_in, asks_for, is_grant, client_numbers}
 use Rattle.world_model.specs.Ways.{IsUp, StandsInWay}
-use Rattle.world_model.proofs.Costs.{total_over, finish_cost, block_cost, promises, ask_cost, node_cost, cost}
+use Rattle.world_model.specs.ExactWays.{total_over}
+use Rattle.world_model.proofs.Costs.{finish_cost, block_cost, promises, ask_cost, node_cost, cost}
 use Rattle.world_model.proofs.Nearer.{IsLeft, Fine, Hands, Goes, Grows, OnlyNode, costs_at, node-nearer}
 use Rattle.world_model.proofs.FineFacts.{only-node, only-client, same-clients, fine-of-node, fine-of-client}
 use Rattle.world_model.proofs.Puts.{put_node, put-node, put_client, put-client}

@@ -13,7 +13,8 @@ use Rattle.lock_model.specs.Decisions.{Among}
 use Rattle.world_model.specs.declared.ways.Want.{Want}
 use Rattle.world_model.specs.Advice.{is_in_way, blocks}
 use Rattle.world_model.specs.Ways.{StandsInWay}
-use Rattle.world_model.proofs.Costs.{total_over, block_cost}
+use Rattle.world_model.specs.ExactWays.{total_over}
+use Rattle.world_model.proofs.Costs.{block_cost}
 use Rattle.world_model.proofs.Nearer.{total-le}
 
 -- who stands in the way blocks

@@ -34,12 +34,14 @@ pub mod VoteMoves
 pub mod InTheWay
 pub mod HandSteps
 pub mod HandFacts
+pub mod MoveKinds
 pub mod Searches
 pub mod Progress
 pub mod Arrivals
 pub mod Raises
 pub mod WaysIn
 pub mod StepShapes
+pub mod Owed
 pub mod ExclusionFacts
 pub mod LocalityFacts
 pub mod StayFacts

@@ -19,7 +19,8 @@ use Rattle.world_model.specs.declared.ways.Move.TheVariants.{Alone, Hand, HearFr
 use Rattle.world_model.specs.declared.ways.Want.{Want}
 use Rattle.world_model.specs.Advice.{coming, is_wanted, asks_for, is_inside_as, is_grant, node_numbers, client_numbers}
 use Rattle.world_model.specs.Ways.{IsPossible, IsReady, IsUp}
-use Rattle.world_model.proofs.Costs.{total_over, block_cost, promises, vote_cost, ask_cost, node_cost, client_cost, cost}
+use Rattle.world_model.specs.ExactWays.{total_over}
+use Rattle.world_model.proofs.Costs.{block_cost, promises, vote_cost, ask_cost, node_cost, client_cost, cost}
 
 -- An attempt is left to the client: of what it does now it can still come to the one that is wanted.
 abbrev pub IsLeft : Want → ℕ → ClientPhase → Type 0

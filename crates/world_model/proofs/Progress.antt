@@ -23,6 +23,8 @@ use Rattle.world_model.specs.declared.ways.Want.{Want}
 use Rattle.world_model.specs.Advice.{search, found, node_numbers, client_numbers, finishing, finishing_in, coming, is_in_way, blocks, resting, resting_in, going, asks_for, is_inside_as, beginning, beginning_in, is_grant, asking_of, entering, only, alone, finish_move, clear_at, clear_move, own_in, own_move, next_move}
 use Rattle.world_model.specs.Ways.{IsGentle, IsUp, IsInsideAs, StandsInWay}
 use Rattle.world_model.proofs.Nearer.{Fine, IsLeft, Goes, Nears, node-among, client-among}
+use Rattle.world_model.proofs.MoveKinds as kind
+use Rattle.world_model.proofs.MoveKinds.{MoveKind}
 use Rattle.world_model.proofs.FineFacts.{cases-client, safe-coming, stranger-stands}
 use Rattle.world_model.proofs.FinishMoves.{finishes}
 use Rattle.world_model.proofs.RestMoves.{rests}
@@ -42,6 +44,7 @@ pub record IsNext (s : Setting) (chosen : ℕ → Bool) (a : Want) (w : World) (
   pub goes : Goes s a w mv
   pub nears : Nears s chosen a w mv
   pub gentle : IsGentleMove w a mv
+  pub kind : MoveKind s chosen a w mv
 
 -- the client has arrived, or there is a next move
 abbrev pub Goes-on : Setting → (ℕ → Bool) → Want → World → Option Move → Type 0
@@ -93,7 +96,7 @@ module _ (s : Setting) (chosen : ℕ → Bool) (a : Want) (w : World) (fine : Fi
       let o = only-some chosen (λ n. alone (finishing n (w.nodes n))) f.0 mv f.2 in
       let e = alone-some (finishing f.0 (w.nodes f.0)) mv o.1 in
       let both = finishes s chosen a w f.0 e.0 fine o.0 (numbers-among s f.0 f.1) e.1 in
-      subst (IsNext s chosen a w) (sym e.2) (record { goes = both.0; nears = both.1; gentle = gentle-finish f.0 e.0 o.0 e.1 })
+      subst (IsNext s chosen a w) (sym e.2) (record { goes = both.0; nears = both.1; gentle = gentle-finish f.0 e.0 o.0 e.1; kind = kind.finishes f.0 e.0 o.0 (numbers-among s f.0 f.1) e.1 })
 
   -- the client that wants in is up
   own-up : IsUp w (actor.Client a.client)
@@ -163,11 +166,11 @@ module _ (s : Setting) (chosen : ℕ → Bool) (a : Want) (w : World) (fine : Fi
   clears n d None is known idle h next =
       let up = (fine.ready n is).in_way d (blocks-stands (coming (w.nodes n)) d h) in
       let both = hand-away s chosen a w n d fine is known idle h (idle-client d up next) in
-      record { goes = both.0; nears = both.1; gentle = (up, (fine.ready n is).up) }
+      record { goes = both.0; nears = both.1; gentle = (up, (fine.ready n is).up); kind = kind.hands_away n d is known idle h (idle-client d up next) }
   clears n d (Some e) is known idle h next =
       let up = (fine.ready n is).in_way d (blocks-stands (coming (w.nodes n)) d h) in
       let both = rests s chosen a w d e fine (known-client n d h) (other-client (coming (w.nodes n)) d h) up next in
-      record { goes = both.0; nears = both.1; gentle = gentle-rest d e up next }
+      record { goes = both.0; nears = both.1; gentle = gentle-rest d e up next; kind = kind.rests d e (known-client n d h) (other-client (coming (w.nodes n)) d h) up next }
 
   cleared-some : (n d : ℕ) (mv : Move) → clear_at a w n d ≡ Some mv → (blocks a (coming (w.nodes n)) d ≡ true) × (mv ≡ going n d (resting d (w.clients d)))
   cleared-some n d mv h = go (blocks a (coming (w.nodes n)) d) refl h
@@ -254,10 +257,10 @@ module _ (s : Setting) (chosen : ℕ → Bool) (a : Want) (w : World) (fine : Fi
       p.granted n ≡ false → list_any (is_grant n p.ticket) w.sent ≡ b → IsNext s chosen a w (cond b (HearFrom n) (Hand a.client n))
   asks-node p n true asking for finished cleared m is ungranted said =
       let both = hears-grant s chosen a w n p fine is (numbers-among s n m) asking for ungranted said in
-      record { goes = both.0; nears = both.1; gentle = own-up }
+      record { goes = both.0; nears = both.1; gentle = own-up; kind = kind.hears n p is (numbers-among s n m) asking for ungranted said }
   asks-node p n false asking for finished cleared m is ungranted said =
       let both = hand-in s chosen a w n p fine is (numbers-among s n m) (all-idle finished n m is) (none-blocks cleared n m is) asking for ungranted said in
-      record { goes = both.0; nears = both.1; gentle = (own-up, (fine.ready n is).up) }
+      record { goes = both.0; nears = both.1; gentle = (own-up, (fine.ready n is).up); kind = kind.hands_in n p is (numbers-among s n m) (all-idle finished n m is) (none-blocks cleared n m is) asking for ungranted said }
 
   by-asking : (p : Present) (o : Option Move) (mv : Move) → (w.clients a.client).phase ≡ Asking p → asks_for a p ≡ true → finish_move s chosen w ≡ None → clear_move s chosen a w ≡ None →
       search (only chosen (asking_of a p w.sent)) (node_numbers s) ≡ o → entering a o ≡ Some mv → IsNext s chosen a w mv
@@ -272,7 +275,7 @@ module _ (s : Setting) (chosen : ℕ → Bool) (a : Want) (w : World) (fine : Fi
       let all : (n : ℕ) → HasAnyNode s.ballots n → chosen n ≡ true → p.granted n ≡ true =
       λ n known is. asked-none p n (only-none chosen (asking_of a p w.sent) n (search-none (only chosen (asking_of a p w.sent)) (node_numbers s) found n (node-among s n known)) is) in
       let both = enters-own s chosen a w p fine asking for all in
-      subst (IsNext s chosen a w) same (record { goes = both.0; nears = both.1; gentle = (refl, own-up) })
+      subst (IsNext s chosen a w) same (record { goes = both.0; nears = both.1; gentle = (refl, own-up); kind = kind.enters p asking for all })
 
   by-own : (mv : Move) → finish_move s chosen w ≡ None → clear_move s chosen a w ≡ None → own_move s chosen a w ≡ Some mv → IsNext s chosen a w mv
   by-own mv finished cleared h =
@@ -280,7 +283,7 @@ module _ (s : Setting) (chosen : ℕ → Bool) (a : Want) (w : World) (fine : Fi
         | inl e ↦
           let f = alone-some (beginning a (w.clients a.client)) mv e in
           let both = begins-own s chosen a w f.0 fine f.1 in
-          subst (IsNext s chosen a w) (sym f.2) (record { goes = both.0; nears = both.1; gentle = gentle-own f.0 f.1 })
+          subst (IsNext s chosen a w) (sym f.2) (record { goes = both.0; nears = both.1; gentle = gentle-own f.0 f.1; kind = kind.begins f.0 f.1 })
         | inr e ↦ go (w.clients a.client).phase refl (alone-none (beginning a (w.clients a.client)) e.0) e.1
       ]
     where

@@ -15,6 +15,7 @@ pub mod Parts
 pub mod Laws
 pub mod Advice
 pub mod Ways
+pub mod ExactWays
 pub mod Locality
 pub mod Staying
 pub mod Examples
