@@ -44,7 +44,7 @@ read-free : {A : Type 0} (into : A → ExactWorld) (is_mine : Message → Bool) 
 read-free into is_mine after done found m there mine =
     ap (λ o. refusal_of (read_in into is_mine after done o)) there ∙ ap (λ b. refusal_of {A = Stepped} (cond b (Ok (record { world = into (after m); effect = done m })) (Err fault.NotAddressed))) mine
 
-takes-taken : (w : ExactWorld) (n k : ℕ) (u : World) → IsSound w → Happens (setting_of w) (forget w) (event.Take n k) u → NamesItsMessage w (event.Take n k) → refusal w (event.Take n k) ≡ None
+pub takes-taken : (w : ExactWorld) (n k : ℕ) (u : World) → IsSound w → Happens (setting_of w) (forget w) (event.Take n k) u → NamesItsMessage w (event.Take n k) → refusal w (event.Take n k) ≡ None
 unfolding step
 takes-taken w n k u sound h named =
     let before = h.3 in
@@ -54,7 +54,7 @@ takes-taken w n k u sound h named =
     ∙ ap (λ p. refusal_of (finishes w (with_node_at w n) (takes_in n k v.node p))) idle
     ∙ read-free (with_node_at w n) (λ m. is_for_node m n) (decided_on v.node) (λ m. effect.Took m (changes v.node.kept.problem v.node.kept.entries m)) (numbered w.sent k) named.0 named.1 named.2
 
-hears-taken : (w : ExactWorld) (c k : ℕ) (u : World) → Happens (setting_of w) (forget w) (event.Hear c k) u → NamesItsMessage w (event.Hear c k) → refusal w (event.Hear c k) ≡ None
+pub hears-taken : (w : ExactWorld) (c k : ℕ) (u : World) → Happens (setting_of w) (forget w) (event.Hear c k) u → NamesItsMessage w (event.Hear c k) → refusal w (event.Hear c k) ≡ None
 unfolding step
 hears-taken w c k u h named =
     let before = h.3 in

@@ -31,7 +31,7 @@ pub record TurnEnds (A : Type 0) (q : Kind A) (st : Setting) (e : Event) (w : Ex
   pub said : turn_says turns ≡ says
 
 -- nothing more is sent
-silently : (w : ExactWorld) → w ≡ sending [] w
+pub silently : (w : ExactWorld) → w ≡ sending [] w
 silently w = ap (λ (l : List Message). record { ballots = w.ballots; nodes = w.nodes; clients = w.clients; sent = l }) (sym (append-none w.sent))
 
 still : (w : ExactWorld) → length w.sent ≤ MAX_MESSAGES → length (w.sent ++ []) ≤ MAX_MESSAGES

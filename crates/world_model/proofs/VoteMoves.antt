@@ -50,7 +50,7 @@ ticket-is t u h =
     ∙ ap (λ m. record { client = u.client; attempt = u.attempt; mode = m; resource = t.resource }) (mode-is t.mode u.mode mode.0)
     ∙ ap (λ x. record { client = u.client; attempt = u.attempt; mode = u.mode; resource = x }) ((bytes_eq-Decides t.resource u.resource).0 mode.1)
 
-grant-is : (n : ℕ) (t : Ticket) (m : Message) → is_grant n t m ≡ true → m ≡ Grant n t
+pub grant-is : (n : ℕ) (t : Ticket) (m : Message) → is_grant n t m ≡ true → m ≡ Grant n t
 grant-is n t (Grant k u) h = let parts = and_parts (k == n) (same_ticket u t) h in ap (λ j. Grant j u) (eqb-true k n parts.0) ∙ ap (Grant n) (ticket-is u t parts.1)
 grant-is n t (Request k u) h = cc
 grant-is n t (Release k c b) h = cc
