@@ -43,6 +43,7 @@ pub mod WaysIn
 pub mod StepShapes
 pub mod Owed
 pub mod ExactMoves
+pub mod OnTheWay
 pub mod ExclusionFacts
 pub mod LocalityFacts
 pub mod StayFacts

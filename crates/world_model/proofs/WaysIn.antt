@@ -17,6 +17,7 @@ use Rattle.world_model.specs.Worlds.{Node, ClientPhase, ClientDown, ClientIdle, 
 use Rattle.world_model.specs.Invariants.{IsSafe}
 use Rattle.world_model.specs.ExactWorlds.{actor_of}
 use Rattle.world_model.specs.declared.ways.Want.{Want}
+use Rattle.world_model.specs.ExactWays.{every_node}
 use Rattle.world_model.specs.Advice.{node_numbers, client_numbers, coming}
 use Rattle.world_model.specs.Ways.{IsReached, IsPossible, IsInsideAs, WayIn, IsGentle, IsUp, HasActor, HasKeptBelow, IsChosenBelow, StandsInWay, IsReady, NobodyIsLockedOut, OthersOnlyGo, TheDeadAreNotNeeded}
 use Rattle.world_model.proofs.SafeRuns.{opening-safe, run-safe, happens-safe}
@@ -72,7 +73,7 @@ up-way s w a chosen reached possible below chosen_below ready enough up = arrive
 such-more : (s : Setting) (w : World) (a : Want) (P Q : Event → Type 0) → ((e : Event) → P e → Q e) → WayIn s w a P → WayIn s w a Q
 such-more s w a P Q more way = record { events = way.events; such = λ e m. more e (way.such e m); end = way.end; run = way.run; inside = way.inside }
 
-gentle-more : (May : Actor → Type 0) (c : ℕ) (e : Event) → IsGentle (λ who. ⊥) c e → IsGentle May c e
+pub gentle-more : (May : Actor → Type 0) (c : ℕ) (e : Event) → IsGentle (λ who. ⊥) c e → IsGentle May c e
 gentle-more May c (event.Begin d m x place) g = g
 gentle-more May c (event.Try who) g = g
 gentle-more May c (event.Kept who) g = g
@@ -167,10 +168,6 @@ dead-not-needed s w a chosen crosses reached possible below chosen_below ready e
     go kept tried (IsIn p) was = up-now (IsIn p) (ap (λ (k : Client). k.phase) was) (λ e. let z : IsIn p ≡ ClientDown = e in cc)
 
 -- 2. The others only go.
-
--- all nodes of the setting
-abbrev every_node : Setting → ℕ → Bool
-every_node s n = nat_le 1 n && nat_le n (node_count s.ballots)
 
 every-known : (s : Setting) (n : ℕ) → every_node s n ≡ true → HasAnyNode s.ballots n
 every-known s n h = let both = and_parts (nat_le 1 n) (nat_le n (node_count s.ballots)) h in (leb-true 1 n both.0, leb-true n (node_count s.ballots) both.1)

@@ -1,13 +1,15 @@
 -- Ways in at the exact world, for as long as the list of messages has room for what they say.
-use Rattle.std.specs.Prelude.{◌≡◌, ℕ, ◌+◌, ◌<◌, ◌≤◌, ◌⊎◌, ◌&&◌, nat_le, Bool, true, List, [], ◌∷◌, length, Option, None, Some, if◌then◌else◌}
+use Rattle.std.specs.Prelude.{◌≡◌, ℕ, ◌+◌, ◌<◌, ◌≤◌, ◌⊎◌, ◌&&◌, nat_le, Bool, true, List, [], ◌∷◌, length, Option, None, Some, Ok, Err, if◌then◌else◌}
 use Rattle.lock_messages.specs.declared.ids.TheConstants.{MAX_ATTEMPT}
 use Rattle.lock_messages.specs.declared.ids.Actor.TheVariants as actor
+use Rattle.lock_messages.specs.declared.messages.Message.{Message}
 use Rattle.lock_model.specs.declared.entries.Entry.{Entry}
 use Rattle.lock_model.specs.Ballots.{AllCross, HasPlace, IsEnough, ballot_at, node_count}
 use Rattle.lock_model.specs.Decisions.{Among}
 use Rattle.lock_model.specs.ExactStations.{waits_in}
 use Rattle.world_model.specs.declared.TheConstants.{MAX_MESSAGES}
 use Rattle.world_model.specs.declared.events.Event.{Event}
+use Rattle.world_model.specs.declared.events.Event.TheVariants as event
 use Rattle.world_model.specs.declared.events.StepFault.{StepFault}
 use Rattle.world_model.specs.declared.events.StepFault.TheVariants as fault
 use Rattle.world_model.specs.declared.exact.ExactStation.{ExactStation}
@@ -15,11 +17,13 @@ use Rattle.world_model.specs.declared.exact.ExactNode.{ExactNode}
 use Rattle.world_model.specs.declared.exact.ExactNodePhase.{ExactNodePhase}
 use Rattle.world_model.specs.declared.exact.ExactNodePhase.TheVariants as node
 use Rattle.world_model.specs.declared.exact.ExactWorld.{ExactWorld}
+use Rattle.world_model.specs.declared.ways.Move.{Move}
+use Rattle.world_model.specs.declared.ways.Move.TheVariants.{Alone, Hand, HearFrom}
 use Rattle.world_model.specs.declared.ways.Want.{Want}
-use Rattle.world_model.specs.Worlds.{World, ClientPhase, ClientDown, ClientIdle, Chosen, Asking, IsIn, Setting, HasClient}
-use Rattle.world_model.specs.ExactWorlds.{numbered, actor_of, ran}
+use Rattle.world_model.specs.Worlds.{World, Present, ClientPhase, ClientDown, ClientIdle, Chosen, Asking, IsIn, Setting, HasClient}
+use Rattle.world_model.specs.ExactWorlds.{numbered, next_number, actor_of, Stepped, step, ran}
 use Rattle.world_model.specs.Forgetting.{station_of, forget, setting_of, IsSound}
-use Rattle.world_model.specs.Advice.{blocks, asks_for, is_inside_as, node_numbers, client_numbers, can_be_won}
+use Rattle.world_model.specs.Advice.{blocks, asks_for, is_inside_as, is_grant, node_numbers, client_numbers, can_be_won}
 use Rattle.world_model.specs.Ways.{IsPossible, IsInsideAs, IsGentle, IsUp, HasKeptBelow, IsChosenBelow, IsReady}
 
 -- the sum over some numbers
@@ -117,3 +121,19 @@ IsNoWay w a f =
     ⊎ ((f ≡ fault.NoSuchPlace) × HasClient (setting_of w) a.client × HasAttempt (forget w) a × ¬ (HasPlace w.ballots a.place))
     ⊎ ((f ≡ fault.SentListFull) × IsPossible (setting_of w) a × HasAttempt (forget w) a × ¬ (HasRoomFor (every_node (setting_of w)) a w))
     ⊎ ((f ≡ fault.Memory) × IsPossible (setting_of w) a × HasAttempt (forget w) a)
+
+-- What a move leads to, and the events that it is: a message that is handed over has the next number, and the
+-- Grant that is heard is one that was sent.
+pub data Moved (a : Want) (w : ExactWorld) : Move → List Event → ExactWorld → Type 0 where
+  moved_alone : (e : Event) (t : Stepped) → step w e ≡ Ok t → Moved a w (Alone e) (e ∷ []) t.world
+  moved_hand : (d n : ℕ) (t u : Stepped) → step w (event.SayTo d n) ≡ Ok t → step t.world (event.Take n (next_number w)) ≡ Ok u → Moved a w (Hand d n) (event.SayTo d n ∷ event.Take n (next_number w) ∷ []) u.world
+  moved_hear : (n k : ℕ) (m : Message) (p : Present) (t : Stepped) → ((forget w).clients a.client).phase ≡ Asking p → numbered w.sent k ≡ Some m → is_grant n p.ticket m ≡ true → step w (event.Hear a.client k) ≡ Ok t →
+      Moved a w (HearFrom n) (event.Hear a.client k ∷ []) t.world
+
+-- Why a move is not made: the refusal of its event, or of the second.
+pub data IsStuck (a : Want) (w : ExactWorld) : Move → StepFault → Type 0 where
+  stuck_alone : (e : Event) (f : StepFault) → step w e ≡ Err f → IsStuck a w (Alone e) f
+  stuck_saying : (d n : ℕ) (f : StepFault) → step w (event.SayTo d n) ≡ Err f → IsStuck a w (Hand d n) f
+  stuck_taking : (d n : ℕ) (t : Stepped) (f : StepFault) → step w (event.SayTo d n) ≡ Ok t → step t.world (event.Take n (next_number w)) ≡ Err f → IsStuck a w (Hand d n) f
+  stuck_hearing : (n k : ℕ) (m : Message) (p : Present) (f : StepFault) → ((forget w).clients a.client).phase ≡ Asking p → numbered w.sent k ≡ Some m → is_grant n p.ticket m ≡ true → step w (event.Hear a.client k) ≡ Err f →
+      IsStuck a w (HearFrom n) f
