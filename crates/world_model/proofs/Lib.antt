@@ -44,6 +44,7 @@ pub mod StepShapes
 pub mod Owed
 pub mod ExactMoves
 pub mod OnTheWay
+pub mod Prefixes
 pub mod ExclusionFacts
 pub mod LocalityFacts
 pub mod StayFacts
