@@ -45,6 +45,7 @@ pub mod Owed
 pub mod ExactMoves
 pub mod OnTheWay
 pub mod Prefixes
+pub mod OwnRests
 pub mod ExclusionFacts
 pub mod LocalityFacts
 pub mod StayFacts

@@ -18,20 +18,20 @@ use Rattle.world_model.specs.declared.exact.ExactNodePhase.{ExactNodePhase}
 use Rattle.world_model.specs.declared.exact.ExactNodePhase.TheVariants as node
 use Rattle.world_model.specs.declared.exact.ExactWorld.{ExactWorld}
 use Rattle.world_model.specs.declared.ways.Want.{Want}
-use Rattle.world_model.specs.Worlds.{NodeDown, ClientDown, ClientIdle, Node, Client, World, Setting, Happens}
+use Rattle.world_model.specs.Worlds.{NodeDown, NodeIdle, ClientDown, ClientIdle, Node, Client, World, Setting, Happens}
 use Rattle.world_model.specs.Turns.{acts}
 use Rattle.world_model.specs.Advice.{node_numbers}
 use Rattle.world_model.specs.ExactNodes.{node_rises_in, node_rises_with}
 use Rattle.world_model.specs.ExactClients.{client_in, is_down, client_falls_in, client_rises_in, client_rises_with}
 use Rattle.world_model.specs.ExactWorlds.{numbered, Stepped, with_node_at, with_client_at, finishes, by_actor, step}
-use Rattle.world_model.specs.Forgetting.{forget, setting_of, IsSound}
+use Rattle.world_model.specs.Forgetting.{node_numbered, client_numbered, node_phase_of, client_phase_of, forget, setting_of, IsSound}
 use Rattle.world_model.specs.Numbered.{numbered-one, numbered-set-here, numbered-set-there}
 use Rattle.world_model.specs.Ways.{IsUp}
 use Rattle.world_model.specs.ExactWays.{total_over, load_at, load}
 use Rattle.world_model.proofs.Deeds.{ModelLaws}
 use Rattle.world_model.proofs.StepFacts.{step-done, same-clients}
 use Rattle.world_model.proofs.Nearer.{total-le}
-use Rattle.world_model.proofs.Raises.{Stays}
+use Rattle.world_model.proofs.Raises.{Stays, stays-on, same-world}
 
 -- The steps.
 
@@ -74,7 +74,7 @@ same-load chosen a x y setting le =
         go true = le n
         go false = omega arith
 
-client-load : (chosen : ℕ → Bool) (a : Want) (x : ExactWorld) (c : ℕ) (after : ExactClient) → load chosen a (with_client_at x c after) ≤ load chosen a x
+pub client-load : (chosen : ℕ → Bool) (a : Want) (x : ExactWorld) (c : ℕ) (after : ExactClient) → load chosen a (with_client_at x c after) ≤ load chosen a x
 client-load chosen a x c after = same-load chosen a x (with_client_at x c after) (same-clients x c after) (λ n. omega arith)
 
 node-load : (chosen : ℕ → Bool) (a : Want) (x : ExactWorld) (n : ℕ) (v : ExactNode) → numbered x.nodes n ≡ Some v → v.phase ≡ node.Down → load chosen a (with_node_at x n (record { kept = v.kept; tried = None; phase = node.Idle })) ≤ load chosen a x
@@ -105,3 +105,59 @@ pub record Risen (a : Want) (x y : ExactWorld) : Type 0 where
   pub sent : y.sent ≡ x.sent
   pub load : (chosen : ℕ → Bool) → load chosen a y ≤ load chosen a x
   pub stays : Stays (forget x) (forget y)
+
+pub none-risen : (a : Want) (x : ExactWorld) → IsSound x → Risen a x x
+none-risen a x sound = record { setting = refl; sound = sound; sent = refl; load = λ chosen. omega arith; stays = same-world (forget x) }
+
+pub risen-on : (a : Want) (x y z : ExactWorld) → Risen a x y → Risen a y z → Risen a x z
+risen-on a x y z first second = record {
+  setting = second.setting ∙ first.setting;
+  sound = second.sound;
+  sent = second.sent ∙ first.sent;
+  load = λ chosen. (let one = first.load chosen in let two = second.load chosen in omega (arith, one, two));
+  stays = stays-on (forget x) (forget y) (forget z) first.stays second.stays;
+}
+
+pub client-risen : ModelLaws → (a : Want) (x : ExactWorld) (c : ℕ) (k : ExactClient) → IsSound x → numbered x.clients c ≡ Some k → k.phase ≡ client.Down →
+    Risen a x (with_client_at x c (record { kept = k.kept; tried = None; phase = client.Idle })) × IsUp (forget (with_client_at x c (record { kept = k.kept; tried = None; phase = client.Idle }))) (actor.Client c)
+client-risen laws a x c k sound was down = (
+  record {
+    setting = same-clients x c after;
+    sound = (step-done laws x (event.Rise (actor.Client c) Old) (record { world = with_client_at x c after; effect = effect.Up }) (client-rises-step x c k was down)).sound sound;
+    sent = refl;
+    load = λ chosen. client-load chosen a x c after;
+    stays = record { nodes = λ n up. refl; clients = still };
+  },
+  λ e. let z : ClientIdle ≡ ClientDown = ap (λ o. (client_numbered o).phase) (sym (numbered-set-here x.clients c k after was)) ∙ e in cc,
+)
+  where
+    after : ExactClient
+    after = record { kept = k.kept; tried = None; phase = client.Idle }
+
+    was-down : ((forget x).clients c).phase ≡ ClientDown
+    was-down = ap (λ o. (client_numbered o).phase) was ∙ ap client_phase_of down
+
+    still : (d : ℕ) → IsUp (forget x) (actor.Client d) → (forget (with_client_at x c after)).clients d ≡ (forget x).clients d
+    still d up = ap client_numbered (numbered-set-there x.clients c d after (numbered-one x.clients c k was).0 (λ e. up (ap (λ j. ((forget x).clients j).phase) e ∙ was-down)))
+
+pub node-risen : ModelLaws → (a : Want) (x : ExactWorld) (n : ℕ) (v : ExactNode) → IsSound x → numbered x.nodes n ≡ Some v → v.phase ≡ node.Down →
+    Risen a x (with_node_at x n (record { kept = v.kept; tried = None; phase = node.Idle })) × IsUp (forget (with_node_at x n (record { kept = v.kept; tried = None; phase = node.Idle }))) (actor.Node n)
+node-risen laws a x n v sound was down = (
+  record {
+    setting = refl;
+    sound = (step-done laws x (event.Rise (actor.Node n) Old) (record { world = with_node_at x n after; effect = effect.Up }) (node-rises-step x n v was down)).sound sound;
+    sent = refl;
+    load = λ chosen. node-load chosen a x n v was down;
+    stays = record { nodes = still; clients = λ c up. refl };
+  },
+  λ e. let z : NodeIdle ≡ NodeDown = ap (λ o. (node_numbered o).phase) (sym (numbered-set-here x.nodes n v after was)) ∙ e in cc,
+)
+  where
+    after : ExactNode
+    after = record { kept = v.kept; tried = None; phase = node.Idle }
+
+    was-down : ((forget x).nodes n).phase ≡ NodeDown
+    was-down = ap (λ o. (node_numbered o).phase) was ∙ ap node_phase_of down
+
+    still : (d : ℕ) → IsUp (forget x) (actor.Node d) → (forget (with_node_at x n after)).nodes d ≡ (forget x).nodes d
+    still d up = ap node_numbered (numbered-set-there x.nodes n d after (numbered-one x.nodes n v was).0 (λ e. up (ap (λ j. ((forget x).nodes j).phase) e ∙ was-down)))

@@ -23,11 +23,11 @@ pub record Stays (w v : World) : Type 0 where
   pub nodes : (n : ℕ) → IsUp w (actor.Node n) → v.nodes n ≡ w.nodes n
   pub clients : (c : ℕ) → IsUp w (actor.Client c) → v.clients c ≡ w.clients c
 
-still-up : (w v : World) → Stays w v → (who : Actor) → IsUp w who → IsUp v who
+pub still-up : (w v : World) → Stays w v → (who : Actor) → IsUp w who → IsUp v who
 still-up w v stays (actor.Node n) up = λ e. up (ap (λ (x : Node). x.phase) (sym (stays.nodes n up)) ∙ e)
 still-up w v stays (actor.Client c) up = λ e. up (ap (λ (x : Client). x.phase) (sym (stays.clients c up)) ∙ e)
 
-stays-on : (w v u : World) → Stays w v → Stays v u → Stays w u
+pub stays-on : (w v u : World) → Stays w v → Stays v u → Stays w u
 stays-on w v u first second = record {
   nodes = λ n up. second.nodes n (still-up w v first (actor.Node n) up) ∙ first.nodes n up;
   clients = λ c up. second.clients c (still-up w v first (actor.Client c) up) ∙ first.clients c up;
@@ -41,7 +41,7 @@ pub record Raised (s : Setting) (w : World) (IsRaised : World → Type 0) : Type
   pub stays : Stays w world
   pub raised : IsRaised world
 
-same-world : (w : World) → Stays w w
+pub same-world : (w : World) → Stays w w
 same-world w = record { nodes = λ n up. refl; clients = λ c up. refl }
 
 -- a node

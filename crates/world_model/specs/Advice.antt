@@ -5,9 +5,10 @@
 -- tickets of other clients that stand in the way at them go: their clients come to rest and say their releases.
 -- Then the client itself begins, if it doesn't ask for the same already, asks each chosen node, hears its Grant,
 -- and enters.
-use Rattle.std.specs.Prelude.{ℕ, ◌+◌, ◌==◌, ◌||◌, ◌&&◌, Bool, true, false, not, List, [], ◌∷◌, Option, Some, None, if◌then◌else◌}
+use Rattle.std.specs.Prelude.{ℕ, ◌+◌, ◌==◌, ◌||◌, ◌&&◌, nat_lt, Bool, true, false, not, List, [], ◌∷◌, Option, Some, None, if◌then◌else◌}
 use Rattle.std.specs.List.{range_with_len, list_any}
 use Rattle.std.specs.Str.{bytes_eq}
+use Rattle.lock_messages.specs.declared.ids.TheConstants.{MAX_ATTEMPT}
 use Rattle.lock_messages.specs.declared.ids.Actor.TheVariants as actor
 use Rattle.lock_messages.specs.declared.tickets.Mode.{Mode}
 use Rattle.lock_messages.specs.declared.tickets.Ticket.{Ticket}
@@ -18,6 +19,7 @@ use Rattle.lock_model.specs.Ballots.{node_count}
 use Rattle.lock_model.specs.Stations.{Claim, Free, Has, Station}
 use Rattle.lock_model.specs.ExactStations.{is_write}
 use Rattle.lock_model.specs.ExactDecisions.{same_mode}
+use Rattle.world_model.specs.declared.events.Age.TheVariants.{Old}
 use Rattle.world_model.specs.declared.events.Event.{Event}
 use Rattle.world_model.specs.declared.events.Event.TheVariants as event
 use Rattle.world_model.specs.declared.ways.Move.{Move}
@@ -110,6 +112,15 @@ beginning_in a (IsIn p) tried = if is_inside_as a p then None else Some (event.L
 
 abbrev pub beginning : Want → Client → Option Event
 beginning a k = beginning_in a k.phase k.tried
+
+-- Before that it has to be up, with an attempt left for what is wanted: it rises or, where the attempt that it has
+-- chosen for something else is the greatest, loses that attempt by a fall.
+abbrev pub coming_up : Want → ClientPhase → List Event
+coming_up a ClientDown = event.Rise (actor.Client a.client) Old ∷ []
+coming_up a ClientIdle = []
+coming_up a (Chosen t place) = if is_wanted a t place || nat_lt t.attempt MAX_ATTEMPT then [] else event.Fall (actor.Client a.client) ∷ event.Rise (actor.Client a.client) Old ∷ []
+coming_up a (Asking p) = []
+coming_up a (IsIn p) = []
 
 -- the message is the node's Grant of this ticket
 abbrev pub same_ticket : Ticket → Ticket → Bool
