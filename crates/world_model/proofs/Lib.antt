@@ -46,6 +46,7 @@ pub mod ExactMoves
 pub mod OnTheWay
 pub mod Prefixes
 pub mod OwnRests
+pub mod ExactWaysIn
 pub mod ExclusionFacts
 pub mod LocalityFacts
 pub mod StayFacts

@@ -87,7 +87,7 @@ h-nodes s a w d n t h = let says = h.1 in says.3.nodes n
 refused-err : (s : Steps) (f : StepFault) → s ≡ Err f → refusal_of s ≡ Some f
 refused-err s f h = ap refusal_of h
 
-stepped-ok : (s : Steps) → refusal_of s ≡ None → (t : Stepped) × (s ≡ Ok t)
+pub stepped-ok : (s : Steps) → refusal_of s ≡ None → (t : Stepped) × (s ≡ Ok t)
 stepped-ok (Ok t) h = (t, refl)
 stepped-ok (Err f) h = absurd (let z : Some f ≡ None = h in cc)
 

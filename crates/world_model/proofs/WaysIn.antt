@@ -169,14 +169,14 @@ dead-not-needed s w a chosen crosses reached possible below chosen_below ready e
 
 -- 2. The others only go.
 
-every-known : (s : Setting) (n : ℕ) → every_node s n ≡ true → HasAnyNode s.ballots n
+pub every-known : (s : Setting) (n : ℕ) → every_node s n ≡ true → HasAnyNode s.ballots n
 every-known s n h = let both = and_parts (nat_le 1 n) (nat_le n (node_count s.ballots)) h in (leb-true 1 n both.0, leb-true n (node_count s.ballots) both.1)
 
-known-every : (s : Setting) (n : ℕ) → HasAnyNode s.ballots n → every_node s n ≡ true
+pub known-every : (s : Setting) (n : ℕ) → HasAnyNode s.ballots n → every_node s n ≡ true
 known-every s n known = and_from (nat_le 1 n) (nat_le n (node_count s.ballots)) (le-leb 1 n known.0) (le-leb n (node_count s.ballots) known.1)
 
 -- their votes are enough for each mode, by each ballot
-every-enough : (s : Setting) (place : ℕ) (m : Mode) → AllCross s.ballots → HasPlace s.ballots place → IsEnough (ballot_at s.ballots place) m (every_node s)
+pub every-enough : (s : Setting) (place : ℕ) (m : Mode) → AllCross s.ballots → HasPlace s.ballots place → IsEnough (ballot_at s.ballots place) m (every_node s)
 every-enough s place m crosses has = omega (arith, fits m, all, votes-all b)
   where
     b : Ballot
