@@ -7,6 +7,7 @@ use Rattle.lock_messages.specs.declared.ids.Actor.{Actor}
 use Rattle.lock_messages.specs.declared.ids.Actor.TheVariants as actor
 use Rattle.lock_messages.specs.declared.messages.Message.{Message}
 use Rattle.lock_model.specs.Ballots.{AllCross, HasAnyNode, IsEnough, ballot_at}
+use Rattle.lock_model.specs.Stations.{Free, Has, Standing}
 use Rattle.lock_model.specs.Decisions.{Among}
 use Rattle.lock_model.proofs.EntryFacts.{any-found, any-none}
 use Rattle.world_model.specs.declared.TheConstants.{MAX_MESSAGES}
@@ -25,6 +26,7 @@ use Rattle.world_model.specs.declared.ways.Want.{Want}
 use Rattle.world_model.specs.Worlds.{NodePhase, NodeDown, NodeIdle, Decided, Stored, Node, ClientPhase, ClientDown, ClientIdle, Chosen, Asking, IsIn, Client, World, Setting, HasClient}
 use Rattle.world_model.specs.ExactWorlds.{numbered, next_number, Ran, Stepped, Steps, step, ran_on, ran}
 use Rattle.world_model.specs.Forgetting.{client_phase_of, client_numbered, forget, setting_of, IsSound}
+use Rattle.world_model.specs.Invariants.{IsSafe}
 use Rattle.world_model.specs.Numbered.{numbered-one, numbered-there}
 use Rattle.world_model.specs.Advice.{coming, blocks, is_up, is_client_up, is_held, can_be_won, coming_up, node_numbers, client_numbers, is_grant, next_move}
 use Rattle.world_model.specs.Ways.{IsPossible, IsInsideAs, IsUp, HasActor, IsChosenBelow, StandsInWay, IsReady}
@@ -34,7 +36,7 @@ use Rattle.world_model.proofs.Deeds.{ModelLaws}
 use Rattle.world_model.proofs.StepFacts.{step-done}
 use Rattle.world_model.proofs.Costs.{cost}
 use Rattle.world_model.proofs.Owed.{owed}
-use Rattle.world_model.proofs.Nearer.{Fine, node-among, client-among}
+use Rattle.world_model.proofs.Nearer.{Fine, IsLeft, left-up, node-among, client-among}
 use Rattle.world_model.proofs.FineFacts.{cases-client, stranger-is, safe-coming}
 use Rattle.world_model.proofs.InTheWay.{stands-blocks}
 use Rattle.world_model.proofs.Searches.{numbers-among, among-clients}
@@ -114,3 +116,152 @@ module _ (laws : ModelLaws) (rooms : RoomLaws) (G : Type 0) (chosen : ℕ → Bo
           let on = moves-on laws rooms G chosen a bound x events y mv m.0 m.1 way is m.2 in
           let same : setting_of m.1 ≡ setting_of y = on.0.setting ∙ sym way.setting in
           more (events ++ m.0) m.1 on.0 (subst (λ s. cost s chosen a (forget m.1) < cost (setting_of y) chosen a (forget y)) (sym same) on.1)
+
+-- Where the way begins.
+
+-- a client that isn't there has kept nothing
+pub nothing-kept : (x : ExactWorld) (c : ℕ) → ¬ (HasClient (setting_of x) c) → ((forget x).clients c).kept ≡ 0
+nothing-kept x c stranger = go (numbered x.clients c) refl
+  where
+    go : (o : Option ExactClient) → numbered x.clients c ≡ o → (client_numbered (numbered x.clients c)).kept ≡ 0
+    go None is = ap (λ o. (client_numbered o).kept) is
+    go (Some k) is = absurd (stranger (numbered-one x.clients c k is))
+
+up-true : (phase : NodePhase) → is_up phase ≡ true → phase ≢ NodeDown
+up-true NodeDown h e = let z : false ≡ true = h in cc
+up-true NodeIdle h e = let z : NodeIdle ≡ NodeDown = e in cc
+up-true (Decided st replies) h e = let z : Decided st replies ≡ NodeDown = e in cc
+up-true (Stored replies) h e = let z : Stored replies ≡ NodeDown = e in cc
+
+down-false : (phase : ClientPhase) → phase ≡ ClientDown → is_client_up phase ≡ false
+down-false phase e = ap is_client_up e
+
+-- a node that passes the test can be won
+pub won-ready : (x : ExactWorld) (a : Want) (n : ℕ) → IsSound x → can_be_won (setting_of x) a (forget x) n ≡ true → IsReady (forget x) a n
+won-ready x a n sound h = record { up = up-true ((forget x).nodes n).phase parts.0; in_way = others }
+  where
+    s : Setting
+    s = setting_of x
+
+    held : ℕ → Bool
+    held = is_held a (forget x) (coming ((forget x).nodes n))
+
+    parts : (is_up ((forget x).nodes n).phase ≡ true) × (not (list_any held (client_numbers s)) ≡ true)
+    parts = and_parts (is_up ((forget x).nodes n).phase) (not (list_any held (client_numbers s))) h
+
+    none : list_any held (client_numbers s) ≡ false
+    none = go (list_any held (client_numbers s)) parts.1
+      where
+        go : (b : Bool) → not b ≡ true → b ≡ false
+        go true e = absurd (let z : false ≡ true = e in cc)
+        go false e = refl
+
+    others : (d : ℕ) → StandsInWay a (coming ((forget x).nodes n)) d → IsUp (forget x) (actor.Client d)
+    others d stands down = elim (cases-client s d) [
+      | inl has ↦
+        let not_held : held d ≡ false = any-none held (client_numbers s) d none (client-among s d has) in
+        let is_held : held d ≡ true =
+        ap (λ b. b && not (is_client_up ((forget x).clients d).phase)) (stands-blocks a (coming ((forget x).nodes n)) d stands) ∙ ap not (down-false ((forget x).clients d).phase down) in
+        absurd (let z : false ≡ true = sym not_held ∙ is_held in cc)
+      | inr stranger ↦
+        absurd (let it = stands.1 in
+        let e = stranger-is s (forget x) n (coming ((forget x).nodes n)) (nothing-kept x) (safe-coming s (forget x) n sound.safe) d stranger in
+        let z : Free ≡ Has it.0 a.resource it.1 = ap (λ (t : Standing). t.claim) (sym e) ∙ it.2 in cc)
+    ]
+
+-- the client's coming up makes no other actor less ready
+came-ready : (a : Want) (x : ExactWorld) (events : List Event) (y : ExactWorld) → CameUp a x events y → (n : ℕ) → IsReady (forget x) a n → IsReady (forget y) a n
+came-ready a x events y came n is = record {
+  up = λ e. is.up (ap (λ (v : Node). v.phase) (sym (came.nodes n)) ∙ e);
+  in_way = λ d stands. (let up = is.in_way d (subst (λ v. StandsInWay a (coming v) d) (came.nodes n) stands) in λ e. up (ap (λ (k : Client). k.phase) (sym (came.others d stands.0)) ∙ e));
+}
+
+-- what is needed to set out
+pub record SetsOut (chosen : ℕ → Bool) (a : Want) (y : ExactWorld) : Type 0 where
+  pub possible : IsPossible (setting_of y) a
+  pub enough : IsEnough (ballot_at y.ballots a.place) a.mode chosen
+  pub left : IsLeft a ((forget y).clients a.client).kept ((forget y).clients a.client).phase
+  pub ready : (n : ℕ) → chosen n ≡ true → IsReady (forget y) a n
+
+pub fine-there : (chosen : ℕ → Bool) (a : Want) (y : ExactWorld) → IsSound y → SetsOut chosen a y → Fine (setting_of y) chosen a (forget y)
+fine-there chosen a y sound out = record { possible = out.possible; enough = out.enough; safe = sound.safe; strangers = nothing-kept y; left = out.left; ready = out.ready }
+
+same-possible : (a : Want) (x y : ExactWorld) → setting_of y ≡ setting_of x → IsPossible (setting_of x) a → IsPossible (setting_of y) a
+same-possible a x y same possible = subst (λ s. IsPossible s a) (sym same) possible
+
+-- the client has come up, and the nodes that could be won are won without the dead
+pub sets-out : RoomLaws → (a : Want) (x : ExactWorld) (events : List Event) (y : ExactWorld) → IsSound x → IsPossible (setting_of x) a → IsEnough (ballot_at x.ballots a.place) a.mode (can_be_won (setting_of x) a (forget x)) → CameUp a x events y →
+    OnTheWay (IsChosenBelow ((forget x).clients a.client).phase) (can_be_won (setting_of x) a (forget x)) a (length x.sent + load (can_be_won (setting_of x) a (forget x)) a x) x events y
+sets-out rooms a x events y sound possible enough came = record {
+  run = came.run;
+  setting = came.setting;
+  sound = came.sound;
+  fine = fine-there chosen a y came.sound out;
+  room = (let owes = rooms.owed-load chosen a y in let less = came.load chosen in let same : length y.sent ≡ length x.sent = ap length came.sent in omega (arith, owes, less, same));
+  such = came.such;
+  ups = λ below. ups;
+}
+  where
+    chosen : ℕ → Bool
+    chosen = can_be_won (setting_of x) a (forget x)
+
+    out : SetsOut chosen a y
+    out = record {
+      possible = same-possible a x y came.setting possible;
+      enough = subst (λ (s : Setting). IsEnough (ballot_at s.ballots a.place) a.mode chosen) (sym came.setting) enough;
+      left = came.left;
+      ready = λ n is. came-ready a x events y came n (won-ready x a n sound is);
+    }
+
+    ups : (who : Actor) → IsUp (forget y) who → IsUp (forget x) who ⊎ (who ≡ actor.Client a.client)
+    ups (actor.Node n) up = inl (λ e. up (ap (λ (v : Node). v.phase) (came.nodes n) ∙ e))
+    ups (actor.Client d) up = elim (cases_eq d a.client) [
+      | inl e ↦ inr (ap actor.Client e)
+      | inr apart ↦ inl (λ e. up (ap (λ (k : Client). k.phase) (came.others d apart) ∙ e))
+    ]
+
+-- or all have risen since
+pub sets-out-risen : RoomLaws → (a : Want) (x : ExactWorld) (events : List Event) (y : ExactWorld) (more : List Event) (z : ExactWorld) → IsPossible (setting_of x) a → AllCross x.ballots → CameUp a x events y → HasRun x (events ++ more) z → Risen a y z →
+    ((who : Actor) → HasActor (setting_of x) who → IsUp (forget z) who) → OnTheWay ⊥ (every_node (setting_of x)) a (length x.sent + load (every_node (setting_of x)) a x) x (events ++ more) z
+sets-out-risen rooms a x events y more z possible crosses came run risen up = record {
+  run = run;
+  setting = risen.setting ∙ came.setting;
+  sound = risen.sound;
+  fine = fine-there chosen a z risen.sound out;
+  room =
+    (let owes = rooms.owed-load chosen a z in
+    let less = came.load chosen in
+    let still = risen.load chosen in
+    let same : length z.sent ≡ length x.sent = ap length (risen.sent ∙ came.sent) in omega (arith, owes, less, still, same));
+  such = λ never. absurd never;
+  ups = λ never. absurd never;
+}
+  where
+    s : Setting
+    s = setting_of x
+
+    chosen : ℕ → Bool
+    chosen = every_node s
+
+    same : setting_of z ≡ s
+    same = risen.setting ∙ came.setting
+
+    own : (forget z).clients a.client ≡ (forget y).clients a.client
+    own = risen.stays.clients a.client (left-up a ((forget y).clients a.client).kept ((forget y).clients a.client).phase came.left)
+
+    others : (n d : ℕ) → StandsInWay a (coming ((forget z).nodes n)) d → IsUp (forget z) (actor.Client d)
+    others n d stands = elim (cases-client s d) [
+      | inl has ↦ up (actor.Client d) has
+      | inr stranger ↦
+        absurd (let it = stands.1 in
+        let e = stranger-is s (forget z) n (coming ((forget z).nodes n)) (subst (λ (t : Setting). (c : ℕ) → ¬ (HasClient t c) → ((forget z).clients c).kept ≡ 0) same (nothing-kept z)) (safe-coming s (forget z) n (subst (λ t. IsSafe t (forget z)) same risen.sound.safe)) d stranger in
+        let q : Free ≡ Has it.0 a.resource it.1 = ap (λ (t : Standing). t.claim) (sym e) ∙ it.2 in cc)
+    ]
+
+    out : SetsOut chosen a z
+    out = record {
+      possible = same-possible a x z same possible;
+      enough = subst (λ (t : Setting). IsEnough (ballot_at t.ballots a.place) a.mode chosen) (sym same) (every-enough s a.place a.mode crosses possible.place);
+      left = subst (λ (k : Client). IsLeft a k.kept k.phase) (sym own) came.left;
+      ready = λ n is. record { up = up (actor.Node n) (every-known s n is); in_way = others n };
+    }

@@ -30,6 +30,10 @@ IsLeft a kept (Chosen t place) = (is_wanted a t place ≡ true) ⊎ (t.attempt <
 IsLeft a kept (Asking p) = (asks_for a p ≡ true) ⊎ (kept < MAX_ATTEMPT)
 IsLeft a kept (IsIn p) = (is_inside_as a p ≡ true) ⊎ (kept < MAX_ATTEMPT)
 
+-- who has one is up
+pub left-up : (a : Want) (kept : ℕ) (phase : ClientPhase) → IsLeft a kept phase → phase ≢ ClientDown
+left-up a kept phase left e = subst (IsLeft a kept) e left
+
 -- what holds from the first move to the last
 pub record Fine (s : Setting) (chosen : ℕ → Bool) (a : Want) (w : World) : Type 0 where
   pub possible : IsPossible s a

@@ -18,7 +18,7 @@ use Rattle.world_model.specs.ExactWorlds.{numbered, next_number, actor_of, Stepp
 use Rattle.world_model.specs.Forgetting.{forget, setting_of, IsSound}
 use Rattle.world_model.specs.Advice.{is_grant, next_move}
 use Rattle.world_model.specs.Ways.{IsGentle, IsUp}
-use Rattle.world_model.specs.ExactWays.{IsOwnOrGentle, Moved, moved_alone, moved_hand, moved_hear, IsStuck, stuck_alone, stuck_saying, stuck_taking, stuck_hearing}
+use Rattle.world_model.specs.ExactWays.{load, IsOwnOrGentle, Moved, moved_alone, moved_hand, moved_hear, IsStuck, stuck_alone, stuck_saying, stuck_taking, stuck_hearing}
 use Rattle.world_model.proofs.Deeds.{ModelLaws}
 use Rattle.world_model.proofs.StepFacts.{step-done}
 use Rattle.world_model.proofs.Costs.{cost}
@@ -43,6 +43,7 @@ pub record RoomLaws : Type 1 where
       refusal x (event.SayTo d n) ≡ Some fault.SentListFull → MAX_MESSAGES < length x.sent + owed chosen a x
   pub hear-pays : ModelLaws → (chosen : ℕ → Bool) (a : Want) (x : ExactWorld) (n k : ℕ) (p : Present) (m : Message) (t : Stepped) → IsSound x → Fine (setting_of x) chosen a (forget x) → MoveKind (setting_of x) chosen a (forget x) (HearFrom n) →
       ((forget x).clients a.client).phase ≡ Asking p → numbered x.sent k ≡ Some m → is_grant n p.ticket m ≡ true → step x (event.Hear a.client k) ≡ Ok t → length t.world.sent + owed chosen a t.world ≤ length x.sent + owed chosen a x
+  pub owed-load : (chosen : ℕ → Bool) (a : Want) (x : ExactWorld) → owed chosen a x ≤ load chosen a x
 -- STUB-END
 
 -- A run whose events were all taken.
