@@ -12,20 +12,23 @@ use Rattle.lock_model.specs.Decisions.{Among}
 use Rattle.lock_model.proofs.EntryFacts.{any-found, any-none}
 use Rattle.world_model.specs.declared.TheConstants.{MAX_MESSAGES}
 use Rattle.world_model.specs.declared.events.Age.TheVariants.{Old}
+use Rattle.world_model.specs.declared.events.Effect.TheVariants as effect
 use Rattle.world_model.specs.declared.events.Event.{Event}
 use Rattle.world_model.specs.declared.events.Event.TheVariants as event
 use Rattle.world_model.specs.declared.events.StepFault.TheVariants as fault
 use Rattle.world_model.specs.declared.exact.ExactClient.{ExactClient}
 use Rattle.world_model.specs.declared.exact.ExactClientPhase.{ExactClientPhase}
+use Rattle.world_model.specs.declared.exact.ExactClientPhase.TheVariants as client
 use Rattle.world_model.specs.declared.exact.ExactNode.{ExactNode}
 use Rattle.world_model.specs.declared.exact.ExactNodePhase.{ExactNodePhase}
+use Rattle.world_model.specs.declared.exact.ExactNodePhase.TheVariants as node
 use Rattle.world_model.specs.declared.exact.ExactWorld.{ExactWorld}
 use Rattle.world_model.specs.declared.ways.Move.{Move}
 use Rattle.world_model.specs.declared.ways.Move.TheVariants.{Alone, Hand, HearFrom}
 use Rattle.world_model.specs.declared.ways.Want.{Want}
 use Rattle.world_model.specs.Worlds.{NodePhase, NodeDown, NodeIdle, Decided, Stored, Node, ClientPhase, ClientDown, ClientIdle, Chosen, Asking, IsIn, Client, World, Setting, HasClient}
-use Rattle.world_model.specs.ExactWorlds.{numbered, next_number, Ran, Stepped, Steps, step, ran_on, ran}
-use Rattle.world_model.specs.Forgetting.{client_phase_of, client_numbered, forget, setting_of, IsSound}
+use Rattle.world_model.specs.ExactWorlds.{numbered, next_number, with_node_at, with_client_at, Ran, Stepped, Steps, step, ran_on, ran}
+use Rattle.world_model.specs.Forgetting.{station_of, present_of, node_phase_of, client_phase_of, node_numbered, client_numbered, forget, setting_of, IsSound}
 use Rattle.world_model.specs.Invariants.{IsSafe}
 use Rattle.world_model.specs.Numbered.{numbered-one, numbered-there}
 use Rattle.world_model.specs.Advice.{coming, blocks, is_up, is_client_up, is_held, can_be_won, coming_up, node_numbers, client_numbers, is_grant, next_move}
@@ -265,3 +268,125 @@ sets-out-risen rooms a x events y more z possible crosses came run risen up = re
       left = subst (λ (k : Client). IsLeft a k.kept k.phase) (sym own) came.left;
       ready = λ n is. record { up = up (actor.Node n) (every-known s n is); in_way = others n };
     }
+
+-- All rise.
+
+-- those of some numbers are up at the end of a run in which nothing else has happened
+pub record AllRisen (a : Want) (y : ExactWorld) (IsRaised : World → Type 0) : Type 0 where
+  pub events : List Event
+  pub world : ExactWorld
+  pub run : HasRun y events world
+  pub risen : Risen a y world
+  pub raised : IsRaised (forget world)
+
+raise-node : ModelLaws → (a : Want) (y : ExactWorld) (n : ℕ) → IsSound y → HasAnyNode y.ballots n → AllRisen a y (λ w. IsUp w (actor.Node n))
+raise-node laws a y n sound known = go v.0 v.1 v.0.phase refl
+  where
+    v : (v : ExactNode) × (numbered y.nodes n ≡ Some v)
+    v = numbered-there y.nodes n known.0 (omega (arith, known.1, sound.nodes))
+
+    up-already : (x : ExactNode) → numbered y.nodes n ≡ Some x → node_phase_of x.phase ≢ NodeDown → AllRisen a y (λ w. IsUp w (actor.Node n))
+    up-already x was up = record { events = []; world = y; run = refl; risen = none-risen a y sound; raised = λ e. up (sym (ap (λ o. (node_numbered o).phase) was) ∙ e) }
+
+    go : (x : ExactNode) → numbered y.nodes n ≡ Some x → (p : ExactNodePhase) → x.phase ≡ p → AllRisen a y (λ w. IsUp w (actor.Node n))
+    go x was node.Down is =
+        let r = node-risen laws a y n x sound was is in
+        let t : Stepped = record { world = with_node_at y n (record { kept = x.kept; tried = None; phase = node.Idle }); effect = effect.Up } in
+        record { events = event.Rise (actor.Node n) Old ∷ []; world = t.world; run = run-more y [] y (event.Rise (actor.Node n) Old) t refl (node-rises-step y n x was is); risen = r.0; raised = r.1 }
+    go x was node.Idle is = up-already x was (λ e. let z : NodeIdle ≡ NodeDown = ap node_phase_of (sym is) ∙ e in cc)
+    go x was (node.Decided st replies) is = up-already x was (λ e. let z : Decided (station_of st) replies ≡ NodeDown = ap node_phase_of (sym is) ∙ e in cc)
+    go x was (node.Stored replies) is = up-already x was (λ e. let z : Stored replies ≡ NodeDown = ap node_phase_of (sym is) ∙ e in cc)
+
+raise-client : ModelLaws → (a : Want) (y : ExactWorld) (c : ℕ) → IsSound y → HasClient (setting_of y) c → AllRisen a y (λ w. IsUp w (actor.Client c))
+raise-client laws a y c sound known = go k.0 k.1 k.0.phase refl
+  where
+    k : (k : ExactClient) × (numbered y.clients c ≡ Some k)
+    k = numbered-there y.clients c known.0 known.1
+
+    up-already : (j : ExactClient) → numbered y.clients c ≡ Some j → client_phase_of j.phase ≢ ClientDown → AllRisen a y (λ w. IsUp w (actor.Client c))
+    up-already j was up = record { events = []; world = y; run = refl; risen = none-risen a y sound; raised = λ e. up (sym (ap (λ o. (client_numbered o).phase) was) ∙ e) }
+
+    go : (j : ExactClient) → numbered y.clients c ≡ Some j → (p : ExactClientPhase) → j.phase ≡ p → AllRisen a y (λ w. IsUp w (actor.Client c))
+    go j was client.Down is =
+        let r = client-risen laws a y c j sound was is in
+        let t : Stepped = record { world = with_client_at y c (record { kept = j.kept; tried = None; phase = client.Idle }); effect = effect.Up } in
+        record { events = event.Rise (actor.Client c) Old ∷ []; world = t.world; run = run-more y [] y (event.Rise (actor.Client c) Old) t refl (client-rises-step y c j was is); risen = r.0; raised = r.1 }
+    go j was client.Idle is = up-already j was (λ e. let z : ClientIdle ≡ ClientDown = ap client_phase_of (sym is) ∙ e in cc)
+    go j was (client.Chosen t place) is = up-already j was (λ e. let z : Chosen t place ≡ ClientDown = ap client_phase_of (sym is) ∙ e in cc)
+    go j was (client.Asking p) is = up-already j was (λ e. let z : Asking (present_of p) ≡ ClientDown = ap client_phase_of (sym is) ∙ e in cc)
+    go j was (client.Inside p) is = up-already j was (λ e. let z : IsIn (present_of p) ≡ ClientDown = ap client_phase_of (sym is) ∙ e in cc)
+
+raise-more : (a : Want) (y : ExactWorld) (who : ℕ → Actor) (n : ℕ) (ns : List ℕ) (first : AllRisen a y (λ w. IsUp w (who n))) → AllRisen a first.world (λ w. (k : ℕ) → Among k ns → IsUp w (who k)) →
+    AllRisen a y (λ w. (k : ℕ) → Among k (n ∷ ns) → IsUp w (who k))
+raise-more a y who n ns first rest = record {
+  events = first.events ++ rest.events;
+  world = rest.world;
+  run = run-join y first.events first.world rest.events rest.world first.run rest.run;
+  risen = risen-on a y first.world rest.world first.risen rest.risen;
+  raised = each;
+}
+  where
+    each : (k : ℕ) → Among k (n ∷ ns) → IsUp (forget rest.world) (who k)
+    each k (inl e) = subst (λ j. IsUp (forget rest.world) (who j)) (sym e) (still-up (forget first.world) (forget rest.world) rest.risen.stays (who n) first.raised)
+    each k (inr m) = rest.raised k m
+
+raise-nodes : ModelLaws → (a : Want) (y : ExactWorld) (ns : List ℕ) → IsSound y → ((n : ℕ) → Among n ns → HasAnyNode y.ballots n) → AllRisen a y (λ w. (n : ℕ) → Among n ns → IsUp w (actor.Node n))
+raise-nodes laws a y [] sound known = record { events = []; world = y; run = refl; risen = none-risen a y sound; raised = λ n m. absurd m }
+raise-nodes laws a y (n ∷ ns) sound known =
+    let first = raise-node laws a y n sound (known n (inl refl)) in
+    raise-more a y actor.Node n ns first (raise-nodes laws a first.world ns first.risen.sound (λ k m. subst (λ (s : Setting). HasAnyNode s.ballots k) (sym first.risen.setting) (known k (inr m))))
+
+raise-clients : ModelLaws → (a : Want) (y : ExactWorld) (cs : List ℕ) → IsSound y → ((c : ℕ) → Among c cs → HasClient (setting_of y) c) → AllRisen a y (λ w. (c : ℕ) → Among c cs → IsUp w (actor.Client c))
+raise-clients laws a y [] sound known = record { events = []; world = y; run = refl; risen = none-risen a y sound; raised = λ c m. absurd m }
+raise-clients laws a y (c ∷ cs) sound known =
+    let first = raise-client laws a y c sound (known c (inl refl)) in
+    raise-more a y actor.Client c cs first (raise-clients laws a first.world cs first.risen.sound (λ k m. subst (λ s. HasClient s k) (sym first.risen.setting) (known k (inr m))))
+
+raise-all : ModelLaws → (a : Want) (y : ExactWorld) → IsSound y → AllRisen a y (λ w. (who : Actor) → HasActor (setting_of y) who → IsUp w who)
+raise-all laws a y sound =
+    record {
+      events = nodes.events ++ clients.events;
+      world = clients.world;
+      run = run-join y nodes.events nodes.world clients.events clients.world nodes.run clients.run;
+      risen = risen-on a y nodes.world clients.world nodes.risen clients.risen;
+      raised = all;
+    }
+  where
+    s : Setting
+    s = setting_of y
+
+    nodes : AllRisen a y (λ w. (n : ℕ) → Among n (node_numbers s) → IsUp w (actor.Node n))
+    nodes = raise-nodes laws a y (node_numbers s) sound (numbers-among s)
+
+    clients : AllRisen a nodes.world (λ w. (c : ℕ) → Among c (client_numbers s) → IsUp w (actor.Client c))
+    clients = raise-clients laws a nodes.world (client_numbers s) nodes.risen.sound (λ c m. subst (λ t. HasClient t c) (sym nodes.risen.setting) (among-clients s c m))
+
+    all : (who : Actor) → HasActor s who → IsUp (forget clients.world) who
+    all (actor.Node n) known = still-up (forget nodes.world) (forget clients.world) clients.risen.stays (actor.Node n) (nodes.raised n (node-among s n known))
+    all (actor.Client c) known = clients.raised c (client-among s c known)
+
+-- The laws.
+
+came : ModelLaws → (x : ExactWorld) (a : Want) → IsSound x → HasClient (setting_of x) a.client → HasAttempt (forget x) a → (events : List Event) × (y : ExactWorld) × CameUp a x events y
+came laws x a sound known attempt =
+    let k = numbered-there x.clients a.client known.0 known.1 in
+    let left : k.0.kept < MAX_ATTEMPT ⊎ HasBegun a (client_phase_of k.0.phase) = subst (λ (j : Client). (j.kept < MAX_ATTEMPT) ⊎ HasBegun a j.phase) (ap client_numbered k.1) attempt in
+    let up = came-up laws a x sound k.0 k.1 left in
+    (coming_up a (client_phase_of k.0.phase), up.0, up.1)
+
+pub exact-way : ModelLaws → RoomLaws → ExactWayIn
+exact-way laws rooms x a sound possible attempt room =
+    let c = came laws x a sound possible.client attempt in
+    let all = raise-all laws a c.1 c.2.sound in
+    let way = sets-out-risen rooms a x c.0 c.1 all.events all.world possible sound.crosses c.2 (run-join x c.0 c.1 all.events all.world c.2.run all.run) all.risen
+    (λ who known. all.raised who (subst (λ s. HasActor s who) (sym c.2.setting) known)) in
+    let end = gets-in laws rooms ⊥ (every_node (setting_of x)) a (length x.sent + load (every_node (setting_of x)) a x) room x (suc (cost (setting_of all.world) (every_node (setting_of x)) a (forget all.world))) (c.0 ++ all.events) all.world way (omega arith) in
+    (end.0, leads-in x a end.0 end.1 end.2.run end.3)
+
+pub exact-way-gently : ModelLaws → RoomLaws → ExactWayWithoutTheDead
+exact-way-gently laws rooms x a sound possible attempt below enough room =
+    let chosen = can_be_won (setting_of x) a (forget x) in
+    let c = came laws x a sound possible.client attempt in
+    let way = sets-out rooms a x c.0 c.1 sound possible enough c.2 in
+    let end = gets-in laws rooms (IsChosenBelow ((forget x).clients a.client).phase) chosen a (length x.sent + load chosen a x) room x (suc (cost (setting_of c.1) chosen a (forget c.1))) c.0 c.1 way (omega arith) in
+    (end.0, leads-in x a end.0 end.1 end.2.run end.3, end.2.such below)
