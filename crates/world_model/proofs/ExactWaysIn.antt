@@ -1,7 +1,7 @@
 -- The law of ways in at the exact world, as long as there is room.
 use Rattle.std.proofs.Common.{◌≡◌, ◌≢◌, ℕ, ◌+◌, ◌-◌, ◌<◌, ◌≤◌, ◌⊎◌, not, ◌&&◌, nat_le, Bool, true, false, List, [], ◌∷◌, ◌++◌, length, Option, None, Some, Ok, Err, zero, suc, refl, sym, ◌∙◌, ap, subst, inl, inr, arith, append_assoc, append-nil}
 use Rattle.std.specs.List.{list_any}
-use Rattle.std.proofs.lemmas.Bool.{cases_eq, cases_Bool, and_parts}
+use Rattle.std.proofs.lemmas.Bool.{cases_eq, cases_Bool, and_parts, ltb-true, lt-ltb}
 use Rattle.lock_messages.specs.declared.ids.TheConstants.{MAX_ATTEMPT}
 use Rattle.lock_messages.specs.declared.ids.Actor.{Actor}
 use Rattle.lock_messages.specs.declared.ids.Actor.TheVariants as actor
@@ -33,7 +33,7 @@ use Rattle.world_model.specs.Invariants.{IsSafe}
 use Rattle.world_model.specs.Numbered.{numbered-one, numbered-there}
 use Rattle.world_model.specs.Advice.{coming, blocks, is_up, is_client_up, is_held, can_be_won, coming_up, node_numbers, client_numbers, is_grant, next_move}
 use Rattle.world_model.specs.Ways.{IsPossible, IsInsideAs, IsUp, HasActor, IsChosenBelow, StandsInWay, IsReady}
-use Rattle.world_model.specs.ExactWays.{load, HasRoomFor, every_node, LeadsIn, HasBegun, HasAttempt, IsOwnOrGentle, ExactWayIn, ExactWayWithoutTheDead, Moved, moved_alone, moved_hand, moved_hear}
+use Rattle.world_model.specs.ExactWays.{load, HasRoomFor, every_node, LeadsIn, HasRun, HasBegun, is_chosen_below, HasAttempt, IsOwnOrGentle, ExactWayIn, ExactWayWithoutTheDead, Moved, moved_alone, moved_hand, moved_hear}
 use Rattle.world_model.proofs.ListFacts.{among-append, among-got, got-numbered}
 use Rattle.world_model.proofs.Deeds.{ModelLaws}
 use Rattle.world_model.proofs.StepFacts.{step-done}
@@ -49,7 +49,7 @@ use Rattle.world_model.proofs.Progress.{IsNext, Goes-on, progress}
 use Rattle.world_model.proofs.Raises.{Stays, still-up}
 use Rattle.world_model.proofs.WaysIn.{every-known, known-every, every-enough}
 use Rattle.world_model.proofs.ExactMoves.{alone-goes, hand-goes-first, hand-goes-second, hear-goes}
-use Rattle.world_model.proofs.OnTheWay.{RoomLaws, HasRun, run-more, OnTheWay, stepped-ok, moves-on}
+use Rattle.world_model.proofs.OnTheWay.{RoomLaws, run-more, OnTheWay, stepped-ok, moves-on}
 use Rattle.world_model.proofs.Prefixes.{Risen, none-risen, risen-on, client-risen, node-risen, client-rises-step, node-rises-step}
 use Rattle.world_model.proofs.OwnRests.{CameUp, came-up}
 
@@ -77,7 +77,7 @@ leads-in x a events y run inside = record { taken = ap (λ (r : Ran). r.taken) r
 no-full : {A : Type 0} (bound : ℕ) → bound ≤ MAX_MESSAGES → MAX_MESSAGES < bound → A
 no-full bound fits full = absurd (let z : ⊥ = omega (arith, fits, full) in z)
 
-module _ (laws : ModelLaws) (rooms : RoomLaws) (G : Type 0) (chosen : ℕ → Bool) (a : Want) (bound : ℕ) (fits : bound ≤ MAX_MESSAGES) (x : ExactWorld) where
+module _ (laws : ModelLaws) (rooms : RoomLaws) (G : Bool) (chosen : ℕ → Bool) (a : Want) (bound : ℕ) (fits : bound ≤ MAX_MESSAGES) (x : ExactWorld) where
   alone-made : (y : ExactWorld) (e : Event) → IsSound y → Fine (setting_of y) chosen a (forget y) → length y.sent + owed chosen a y ≤ bound → IsNext (setting_of y) chosen a (forget y) (Alone e) → (t : Stepped) × (step y e ≡ Ok t)
   alone-made y e sound fine room is = elim (alone-goes laws chosen a y e sound is.goes is.kind) [
     | inl none ↦ stepped-ok (step y e) none
@@ -192,16 +192,31 @@ fine-there chosen a y sound out = record { possible = out.possible; enough = out
 same-possible : (a : Want) (x y : ExactWorld) → setting_of y ≡ setting_of x → IsPossible (setting_of x) a → IsPossible (setting_of y) a
 same-possible a x y same possible = subst (λ s. IsPossible s a) (sym same) possible
 
+-- what is chosen is below the greatest attempt, as the test says
+chosen-below : (phase : ClientPhase) → is_chosen_below phase ≡ true → IsChosenBelow phase
+chosen-below ClientDown h = tt
+chosen-below ClientIdle h = tt
+chosen-below (Chosen t place) h = ltb-true t.attempt MAX_ATTEMPT h
+chosen-below (Asking p) h = tt
+chosen-below (IsIn p) h = tt
+
+below-chosen : (phase : ClientPhase) → IsChosenBelow phase → is_chosen_below phase ≡ true
+below-chosen ClientDown h = refl
+below-chosen ClientIdle h = refl
+below-chosen (Chosen t place) h = lt-ltb t.attempt MAX_ATTEMPT h
+below-chosen (Asking p) h = refl
+below-chosen (IsIn p) h = refl
+
 -- the client has come up, and the nodes that could be won are won without the dead
 pub sets-out : RoomLaws → (a : Want) (x : ExactWorld) (events : List Event) (y : ExactWorld) → IsSound x → IsPossible (setting_of x) a → IsEnough (ballot_at x.ballots a.place) a.mode (can_be_won (setting_of x) a (forget x)) → CameUp a x events y →
-    OnTheWay (IsChosenBelow ((forget x).clients a.client).phase) (can_be_won (setting_of x) a (forget x)) a (length x.sent + load (can_be_won (setting_of x) a (forget x)) a x) x events y
+    OnTheWay (is_chosen_below ((forget x).clients a.client).phase) (can_be_won (setting_of x) a (forget x)) a (length x.sent + load (can_be_won (setting_of x) a (forget x)) a x) x events y
 sets-out rooms a x events y sound possible enough came = record {
   run = came.run;
   setting = came.setting;
   sound = came.sound;
   fine = fine-there chosen a y came.sound out;
   room = (let owes = rooms.owed-load chosen a y in let less = came.load chosen in let same : length y.sent ≡ length x.sent = ap length came.sent in omega (arith, owes, less, same));
-  such = came.such;
+  such = λ below. came.such (chosen-below ((forget x).clients a.client).phase below);
   ups = λ below. ups;
 }
   where
@@ -225,7 +240,7 @@ sets-out rooms a x events y sound possible enough came = record {
 
 -- or all have risen since
 pub sets-out-risen : RoomLaws → (a : Want) (x : ExactWorld) (events : List Event) (y : ExactWorld) (more : List Event) (z : ExactWorld) → IsPossible (setting_of x) a → AllCross x.ballots → CameUp a x events y → HasRun x (events ++ more) z → Risen a y z →
-    ((who : Actor) → HasActor (setting_of x) who → IsUp (forget z) who) → OnTheWay ⊥ (every_node (setting_of x)) a (length x.sent + load (every_node (setting_of x)) a x) x (events ++ more) z
+    ((who : Actor) → HasActor (setting_of x) who → IsUp (forget z) who) → OnTheWay false (every_node (setting_of x)) a (length x.sent + load (every_node (setting_of x)) a x) x (events ++ more) z
 sets-out-risen rooms a x events y more z possible crosses came run risen up = record {
   run = run;
   setting = risen.setting ∙ came.setting;
@@ -236,8 +251,8 @@ sets-out-risen rooms a x events y more z possible crosses came run risen up = re
     let less = came.load chosen in
     let still = risen.load chosen in
     let same : length z.sent ≡ length x.sent = ap length (risen.sent ∙ came.sent) in omega (arith, owes, less, still, same));
-  such = λ never. absurd never;
-  ups = λ never. absurd never;
+  such = λ never. absurd (let q : false ≡ true = never in cc);
+  ups = λ never. absurd (let q : false ≡ true = never in cc);
 }
   where
     s : Setting
@@ -380,7 +395,7 @@ exact-way laws rooms x a sound possible attempt room =
     let all = raise-all laws a c.1 c.2.sound in
     let way = sets-out-risen rooms a x c.0 c.1 all.events all.world possible sound.crosses c.2 (run-join x c.0 c.1 all.events all.world c.2.run all.run) all.risen
     (λ who known. all.raised who (subst (λ s. HasActor s who) (sym c.2.setting) known)) in
-    let end = gets-in laws rooms ⊥ (every_node (setting_of x)) a (length x.sent + load (every_node (setting_of x)) a x) room x (suc (cost (setting_of all.world) (every_node (setting_of x)) a (forget all.world))) (c.0 ++ all.events) all.world way (omega arith) in
+    let end = gets-in laws rooms false (every_node (setting_of x)) a (length x.sent + load (every_node (setting_of x)) a x) room x (suc (cost (setting_of all.world) (every_node (setting_of x)) a (forget all.world))) (c.0 ++ all.events) all.world way (omega arith) in
     (end.0, leads-in x a end.0 end.1 end.2.run end.3)
 
 pub exact-way-gently : ModelLaws → RoomLaws → ExactWayWithoutTheDead
@@ -388,5 +403,5 @@ exact-way-gently laws rooms x a sound possible attempt below enough room =
     let chosen = can_be_won (setting_of x) a (forget x) in
     let c = came laws x a sound possible.client attempt in
     let way = sets-out rooms a x c.0 c.1 sound possible enough c.2 in
-    let end = gets-in laws rooms (IsChosenBelow ((forget x).clients a.client).phase) chosen a (length x.sent + load chosen a x) room x (suc (cost (setting_of c.1) chosen a (forget c.1))) c.0 c.1 way (omega arith) in
-    (end.0, leads-in x a end.0 end.1 end.2.run end.3, end.2.such below)
+    let end = gets-in laws rooms (is_chosen_below ((forget x).clients a.client).phase) chosen a (length x.sent + load chosen a x) room x (suc (cost (setting_of c.1) chosen a (forget c.1))) c.0 c.1 way (omega arith) in
+    (end.0, leads-in x a end.0 end.1 end.2.run end.3, end.2.such (below-chosen ((forget x).clients a.client).phase below))

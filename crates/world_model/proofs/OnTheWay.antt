@@ -18,7 +18,7 @@ use Rattle.world_model.specs.ExactWorlds.{numbered, next_number, actor_of, Stepp
 use Rattle.world_model.specs.Forgetting.{forget, setting_of, IsSound}
 use Rattle.world_model.specs.Advice.{is_grant, next_move}
 use Rattle.world_model.specs.Ways.{IsGentle, IsUp}
-use Rattle.world_model.specs.ExactWays.{load, IsOwnOrGentle, Moved, moved_alone, moved_hand, moved_hear, IsStuck, stuck_alone, stuck_saying, stuck_taking, stuck_hearing}
+use Rattle.world_model.specs.ExactWays.{load, HasRun, IsOwnOrGentle, Moved, moved_alone, moved_hand, moved_hear, IsStuck, stuck_alone, stuck_saying, stuck_taking, stuck_hearing}
 use Rattle.world_model.proofs.Deeds.{ModelLaws}
 use Rattle.world_model.proofs.StepFacts.{step-done}
 use Rattle.world_model.proofs.Costs.{cost}
@@ -46,12 +46,7 @@ pub record RoomLaws : Type 1 where
   pub owed-load : (chosen : ℕ → Bool) (a : Want) (x : ExactWorld) → owed chosen a x ≤ load chosen a x
 -- STUB-END
 
--- A run whose events were all taken.
-
-abbrev pub HasRun : ExactWorld → List Event → ExactWorld → Type 0
-HasRun x events y = ran events x ≡ record { taken = length events; world = y; refused = None }
-
--- one more event behind
+-- A run whose events were all taken: one more event behind
 pub run-more : (x : ExactWorld) (events : List Event) (y : ExactWorld) (e : Event) (t : Stepped) → HasRun x events y → step y e ≡ Ok t → HasRun x (events ++ e ∷ []) t.world
 run-more x [] y e t run h =
     let same : x ≡ y = ap (λ (r : Ran). r.world) run in
@@ -69,16 +64,16 @@ run-more x (f ∷ events) y e t run h = go (step x f) refl run (λ v r. run-more
         let one : length (events ++ e ∷ []) + 1 ≡ suc (length (events ++ e ∷ [])) = omega arith in
         ap (λ z. ran_on x z (λ v. ran (events ++ e ∷ []) v)) is ∙ ap one_more after ∙ ap (λ n. record { taken = n; world = t.world; refused = None }) one
 
--- What holds on the way from x, where `bound` messages at most are sent at its end; and, where G holds, nobody else
+-- What holds on the way from x, where `bound` messages at most are sent at its end; and, where G is true, nobody else
 -- was disturbed.
-pub record OnTheWay (G : Type 0) (chosen : ℕ → Bool) (a : Want) (bound : ℕ) (x : ExactWorld) (events : List Event) (y : ExactWorld) : Type 0 where
+pub record OnTheWay (G : Bool) (chosen : ℕ → Bool) (a : Want) (bound : ℕ) (x : ExactWorld) (events : List Event) (y : ExactWorld) : Type 0 where
   pub run : HasRun x events y
   pub setting : setting_of y ≡ setting_of x
   pub sound : IsSound y
   pub fine : Fine (setting_of y) chosen a (forget y)
   pub room : length y.sent + owed chosen a y ≤ bound
-  pub such : G → (e : Event) → Among e events → IsOwnOrGentle x a e
-  pub ups : G → (who : Actor) → IsUp (forget y) who → IsUp (forget x) who ⊎ (who ≡ actor.Client a.client)
+  pub such : G ≡ true → (e : Event) → Among e events → IsOwnOrGentle x a e
+  pub ups : G ≡ true → (who : Actor) → IsUp (forget y) who → IsUp (forget x) who ⊎ (who ≡ actor.Client a.client)
 
 -- the nodes are as they were where a client says something
 h-nodes : (s : Setting) (a : Want) (w : World) (d n : ℕ) (t : ExactWorld) → Happens s w (event.SayTo d n) (forget t) → (forget t).nodes n ≡ w.nodes n
@@ -92,10 +87,10 @@ pub stepped-ok : (s : Steps) → refusal_of s ≡ None → (t : Stepped) × (s �
 stepped-ok (Ok t) h = (t, refl)
 stepped-ok (Err f) h = absurd (let z : Some f ≡ None = h in cc)
 
-module _ (laws : ModelLaws) (rooms : RoomLaws) (G : Type 0) (chosen : ℕ → Bool) (a : Want) (bound : ℕ) (x : ExactWorld) where
+module _ (laws : ModelLaws) (rooms : RoomLaws) (G : Bool) (chosen : ℕ → Bool) (a : Want) (bound : ℕ) (x : ExactWorld) where
   -- one event more
   more-such : (events : List Event) (y : ExactWorld) (e : Event) → OnTheWay G chosen a bound x events y → IsGentle (λ who. ⊥) a.client e → IsUp (forget y) (actor_of e) →
-      ((e : Event) → Among e events → IsOwnOrGentle x a e) → G → (b : Event) → Among b (events ++ e ∷ []) → IsOwnOrGentle x a b
+      ((e : Event) → Among e events → IsOwnOrGentle x a e) → G ≡ true → (b : Event) → Among b (events ++ e ∷ []) → IsOwnOrGentle x a b
   more-such events y e way gentle up old g b m = go ((among-append b events (e ∷ [])).0 m)
     where
       go : Among b events ⊎ Among b (e ∷ []) → IsOwnOrGentle x a b
@@ -152,7 +147,7 @@ module _ (laws : ModelLaws) (rooms : RoomLaws) (G : Type 0) (chosen : ℕ → Bo
         near.1,
       )
     where
-      such : G → IsUp (forget y) (actor.Client d) × IsUp (forget y) (actor.Node n) → (b : Event) → Among b (events ++ event.SayTo d n ∷ event.Take n (next_number y) ∷ []) → IsOwnOrGentle x a b
+      such : G ≡ true → IsUp (forget y) (actor.Client d) × IsUp (forget y) (actor.Node n) → (b : Event) → Among b (events ++ event.SayTo d n ∷ event.Take n (next_number y) ∷ []) → IsOwnOrGentle x a b
       such g up b m = go ((among-append b events (event.SayTo d n ∷ event.Take n (next_number y) ∷ [])).0 m)
         where
           go : Among b events ⊎ Among b (event.SayTo d n ∷ event.Take n (next_number y) ∷ []) → IsOwnOrGentle x a b

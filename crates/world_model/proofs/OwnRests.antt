@@ -22,11 +22,11 @@ use Rattle.world_model.specs.Forgetting.{present_of, client_phase_of, client_of,
 use Rattle.world_model.specs.Numbered.{numbered-one, numbered-there, numbered-set-here, numbered-set-there}
 use Rattle.world_model.specs.Advice.{is_wanted, asks_for, is_inside_as, coming_up}
 use Rattle.world_model.specs.Ways.{IsUp, IsChosenBelow}
-use Rattle.world_model.specs.ExactWays.{load, IsOwnOrGentle, HasBegun, HasAttempt}
+use Rattle.world_model.specs.ExactWays.{load, HasRun, IsOwnOrGentle, HasBegun, HasAttempt}
 use Rattle.world_model.proofs.Deeds.{ModelLaws}
 use Rattle.world_model.proofs.StepFacts.{step-done, same-clients}
 use Rattle.world_model.proofs.Nearer.{IsLeft}
-use Rattle.world_model.proofs.OnTheWay.{HasRun, run-more}
+use Rattle.world_model.proofs.OnTheWay.{run-more}
 use Rattle.world_model.proofs.Prefixes.{client-rises-step, client-falls-step, client-load}
 
 -- the client has come up, by these events

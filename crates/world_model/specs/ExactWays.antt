@@ -1,6 +1,7 @@
 -- Ways in at the exact world, for as long as the list of messages has room for what they say.
-use Rattle.std.specs.Prelude.{◌≡◌, ℕ, ◌+◌, ◌<◌, ◌≤◌, ◌⊎◌, ◌&&◌, nat_le, Bool, true, List, [], ◌∷◌, length, Option, None, Some, Ok, Err, if◌then◌else◌}
+use Rattle.std.specs.Prelude.{◌≡◌, ℕ, ◌+◌, ◌<◌, ◌≤◌, ◌⊎◌, ◌&&◌, nat_le, nat_lt, Bool, true, List, [], ◌∷◌, ◌++◌, length, Option, None, Some, Ok, Err, if◌then◌else◌}
 use Rattle.lock_messages.specs.declared.ids.TheConstants.{MAX_ATTEMPT}
+use Rattle.lock_messages.specs.declared.ids.Actor.{Actor}
 use Rattle.lock_messages.specs.declared.ids.Actor.TheVariants as actor
 use Rattle.lock_messages.specs.declared.messages.Message.{Message}
 use Rattle.lock_model.specs.declared.entries.Entry.{Entry}
@@ -8,6 +9,7 @@ use Rattle.lock_model.specs.Ballots.{AllCross, HasPlace, IsEnough, ballot_at, no
 use Rattle.lock_model.specs.Decisions.{Among}
 use Rattle.lock_model.specs.ExactStations.{waits_in}
 use Rattle.world_model.specs.declared.TheConstants.{MAX_MESSAGES}
+use Rattle.world_model.specs.declared.events.Age.TheVariants.{Old}
 use Rattle.world_model.specs.declared.events.Event.{Event}
 use Rattle.world_model.specs.declared.events.Event.TheVariants as event
 use Rattle.world_model.specs.declared.events.StepFault.{StepFault}
@@ -23,7 +25,7 @@ use Rattle.world_model.specs.declared.ways.Want.{Want}
 use Rattle.world_model.specs.Worlds.{World, Present, ClientPhase, ClientDown, ClientIdle, Chosen, Asking, IsIn, Setting, HasClient}
 use Rattle.world_model.specs.ExactWorlds.{numbered, next_number, actor_of, Stepped, step, ran}
 use Rattle.world_model.specs.Forgetting.{station_of, forget, setting_of, IsSound}
-use Rattle.world_model.specs.Advice.{blocks, asks_for, is_inside_as, is_grant, node_numbers, client_numbers, can_be_won}
+use Rattle.world_model.specs.Advice.{blocks, asks_for, is_inside_as, is_grant, node_numbers, client_numbers, can_be_won, next_move}
 use Rattle.world_model.specs.Ways.{IsPossible, IsInsideAs, IsGentle, IsUp, HasKeptBelow, IsChosenBelow, IsReady}
 
 -- the sum over some numbers
@@ -95,6 +97,14 @@ HasBegun a (IsIn p) = is_inside_as a p ≡ true
 abbrev pub HasAttempt : World → Want → Type 0
 HasAttempt w a = HasKeptBelow w a.client ⊎ HasBegun a (w.clients a.client).phase
 
+-- what the client has chosen is below the greatest attempt, as a test
+abbrev pub is_chosen_below : ClientPhase → Bool
+is_chosen_below ClientDown = true
+is_chosen_below ClientIdle = true
+is_chosen_below (Chosen t place) = nat_lt t.attempt MAX_ATTEMPT
+is_chosen_below (Asking p) = true
+is_chosen_below (IsIn p) = true
+
 -- the event disturbs nobody else and is of an actor that is up, but for the client itself
 abbrev pub IsOwnOrGentle : ExactWorld → Want → Event → Type 0
 IsOwnOrGentle w a e = IsGentle (λ who. who ≡ actor.Client a.client) a.client e × (IsUp (forget w) (actor_of e) ⊎ (actor_of e ≡ actor.Client a.client))
@@ -137,3 +147,29 @@ pub data IsStuck (a : Want) (w : ExactWorld) : Move → StepFault → Type 0 whe
   stuck_taking : (d n : ℕ) (t : Stepped) (f : StepFault) → step w (event.SayTo d n) ≡ Ok t → step t.world (event.Take n (next_number w)) ≡ Err f → IsStuck a w (Hand d n) f
   stuck_hearing : (n k : ℕ) (m : Message) (p : Present) (f : StepFault) → ((forget w).clients a.client).phase ≡ Asking p → numbered w.sent k ≡ Some m → is_grant n p.ticket m ≡ true → step w (event.Hear a.client k) ≡ Err f →
       IsStuck a w (HearFrom n) f
+
+-- A run of which each event is taken leads to this world.
+abbrev pub HasRun : ExactWorld → List Event → ExactWorld → Type 0
+HasRun w events v = ran events w ≡ record { taken = length events; world = v; refused = None }
+
+-- The next moves, one after the other, lead there by these events.
+pub data Follows (chosen : ℕ → Bool) (a : Want) (w : ExactWorld) : List Event → ExactWorld → Type 0 where
+  follows_none : Follows chosen a w [] w
+  follows_more : (events : List Event) (v : ExactWorld) (mv : Move) (added : List Event) (u : ExactWorld) → Follows chosen a w events v → next_move (setting_of v) chosen a (forget v) ≡ Some mv → Moved a v mv added u →
+      Follows chosen a w (events ++ added) u
+
+-- Behind some of them the next one is not made.
+pub record StopsAt (chosen : ℕ → Bool) (a : Want) (w : ExactWorld) (f : StepFault) : Type 0 where
+  pub events : List Event
+  pub world : ExactWorld
+  pub follows : Follows chosen a w events world
+  pub move : Move
+  pub next : next_move (setting_of world) chosen a (forget world) ≡ Some move
+  pub stuck : IsStuck a world move f
+
+-- all are events in which an actor rises with what it has kept
+abbrev pub IsRise : Event → Type 0
+IsRise e = (who : Actor) × (e ≡ event.Rise who Old)
+
+abbrev pub AreRises : List Event → Type 0
+AreRises events = (e : Event) → Among e events → IsRise e
