@@ -200,7 +200,7 @@ chosen-below (Chosen t place) h = ltb-true t.attempt MAX_ATTEMPT h
 chosen-below (Asking p) h = tt
 chosen-below (IsIn p) h = tt
 
-below-chosen : (phase : ClientPhase) → IsChosenBelow phase → is_chosen_below phase ≡ true
+pub below-chosen : (phase : ClientPhase) → IsChosenBelow phase → is_chosen_below phase ≡ true
 below-chosen ClientDown h = refl
 below-chosen ClientIdle h = refl
 below-chosen (Chosen t place) h = lt-ltb t.attempt MAX_ATTEMPT h

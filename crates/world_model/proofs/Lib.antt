@@ -47,6 +47,7 @@ pub mod OnTheWay
 pub mod Prefixes
 pub mod OwnRests
 pub mod ExactWaysIn
+pub mod WayAnswers
 pub mod ExclusionFacts
 pub mod LocalityFacts
 pub mod StayFacts
