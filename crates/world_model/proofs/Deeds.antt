@@ -1,6 +1,11 @@
 -- What is told of each event: the one place where the proofs go over all of them.
 use Rattle.lock_messages.specs.declared.ids.Actor.TheVariants as actor
+use Rattle.lock_model.specs.ExactDecisions.{decision}
 use Rattle.lock_model.specs.Laws.{ExactDecisionIsAllowed, StayingIsSeen, ExactSwitchIsAllowed, SwitchToTheSame, ProblemsAreCompared, HearingOfTicketIsExact, HearingSoftenedIsExact, HearingAtRestIsExact}
+use Rattle.lock_model.proofs.DecisionFacts.{decision-allowed}
+use Rattle.lock_model.proofs.EntryTests.{no-change-iff}
+use Rattle.lock_model.proofs.SwitchFacts.{switch-allowed, switch-to-the-same, problems-are-compared}
+use Rattle.lock_model.proofs.HearingFacts.{of-ticket, once-softened, at-rest}
 use Rattle.world_model.specs.declared.events.Event.{Event}
 use Rattle.world_model.specs.declared.events.Event.TheVariants as event
 use Rattle.world_model.specs.declared.exact.ExactNode.{ExactNode}
@@ -42,3 +47,8 @@ deed-told laws s (event.Switch n p) = switches-told laws.switching s n p
 
 pub laws-of : ExactDecisionIsAllowed → StayingIsSeen → ExactSwitchIsAllowed → SwitchToTheSame → ProblemsAreCompared → HearingOfTicketIsExact → HearingSoftenedIsExact → HearingAtRestIsExact → ModelLaws
 laws-of allowed seen switched same compared of_ticket softened at_rest = record { deciding = record { allowed = allowed; seen = seen }; switching = record { allowed = switched; same = same; compared = compared }; hearing = record { of_ticket = of_ticket; softened = softened; at_rest = at_rest } }
+
+-- They hold.
+pub model-laws : ModelLaws
+model-laws =
+    laws-of decision-allowed (λ p entries message. no-change-iff entries (decision p entries message).entries) switch-allowed switch-to-the-same problems-are-compared of-ticket once-softened at-rest
