@@ -1,5 +1,6 @@
 -- On the way at the exact world: what holds after some moves, how the next keeps it, and why one may stop.
 use Rattle.std.proofs.Common.{◌≡◌, ◌≢◌, ℕ, ◌+◌, ◌<◌, ◌≤◌, ◌⊎◌, Bool, true, false, List, [], ◌∷◌, ◌++◌, length, Option, None, Some, Ok, Err, zero, suc, refl, sym, ◌∙◌, ap, subst, inl, inr, arith, append_assoc}
+use Rattle.std.specs.List.{list_any}
 use Rattle.lock_messages.specs.declared.ids.Actor.{Actor}
 use Rattle.lock_messages.specs.declared.ids.Actor.TheVariants as actor
 use Rattle.lock_messages.specs.declared.messages.Message.{Message}
@@ -18,7 +19,7 @@ use Rattle.world_model.specs.ExactWorlds.{numbered, next_number, actor_of, Stepp
 use Rattle.world_model.specs.Forgetting.{forget, setting_of, IsSound}
 use Rattle.world_model.specs.Advice.{is_grant, next_move}
 use Rattle.world_model.specs.Ways.{IsGentle, IsUp}
-use Rattle.world_model.specs.ExactWays.{load, HasRun, IsOwnOrGentle, Moved, moved_alone, moved_hand, moved_hear, IsStuck, stuck_alone, stuck_saying, stuck_taking, stuck_hearing}
+use Rattle.world_model.specs.ExactWays.{load, HasRun, IsOwnOrGentle, Moved, moved_alone, moved_hand, moved_hear, IsStuck, stuck_alone, stuck_saying, stuck_taking, stuck_hearing, stuck_unheard}
 use Rattle.world_model.proofs.Deeds.{ModelLaws}
 use Rattle.world_model.proofs.StepFacts.{step-done}
 use Rattle.world_model.proofs.Costs.{cost}
@@ -27,6 +28,7 @@ use Rattle.world_model.proofs.Nearer.{Fine, Makes, Goes}
 use Rattle.world_model.proofs.ListFacts.{among-append}
 use Rattle.world_model.proofs.Arrivals.{none-rises}
 use Rattle.world_model.proofs.WaysIn.{gentle-more}
+use Rattle.world_model.proofs.MoveKinds as kind
 use Rattle.world_model.proofs.MoveKinds.{MoveKind}
 use Rattle.world_model.proofs.Progress.{IsNext, Goes-on, progress}
 use Rattle.world_model.proofs.ExactMoves.{alone-goes, alone-makes, hand-goes-first, hand-goes-second, hand-makes, hear-goes, hear-makes}
@@ -187,3 +189,7 @@ module _ (laws : ModelLaws) (rooms : RoomLaws) (G : Bool) (chosen : ℕ → Bool
       let it = next-is events y (HearFrom n) way next in
       let none = hear-goes a y n k p m it.goes asks there is in
       absurd (let z : None ≡ Some f = sym none ∙ refused-err (step y (event.Hear a.client k)) f h in cc)
+  stuck-full events y _ _ way next (stuck_unheard n none) = absurd (unheard n ((next-is events y (HearFrom n) way next).kind) none)
+    where
+      unheard : (n : ℕ) → MoveKind (setting_of y) chosen a (forget y) (HearFrom n) → ((p : Present) → ((forget y).clients a.client).phase ≡ Asking p → list_any (is_grant n p.ticket) y.sent ≡ false) → ⊥
+      unheard _ (kind.hears n p is known asks for ungranted said) none = let z : true ≡ false = sym said ∙ none p asks in cc

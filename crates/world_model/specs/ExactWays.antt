@@ -1,5 +1,6 @@
 -- Ways in at the exact world, for as long as the list of messages has room for what they say.
-use Rattle.std.specs.Prelude.{◌≡◌, ℕ, ◌+◌, ◌<◌, ◌≤◌, ◌⊎◌, ◌&&◌, nat_le, nat_lt, Bool, true, List, [], ◌∷◌, ◌++◌, length, Option, None, Some, Ok, Err, if◌then◌else◌}
+use Rattle.std.specs.Prelude.{◌≡◌, ℕ, ◌+◌, ◌<◌, ◌≤◌, ◌⊎◌, ◌&&◌, nat_le, nat_lt, Bool, true, false, List, [], ◌∷◌, ◌++◌, length, Option, None, Some, Ok, Err, if◌then◌else◌}
+use Rattle.std.specs.List.{list_any}
 use Rattle.lock_messages.specs.declared.ids.TheConstants.{MAX_ATTEMPT}
 use Rattle.lock_messages.specs.declared.ids.Actor.{Actor}
 use Rattle.lock_messages.specs.declared.ids.Actor.TheVariants as actor
@@ -140,13 +141,15 @@ pub data Moved (a : Want) (w : ExactWorld) : Move → List Event → ExactWorld 
   moved_hear : (n k : ℕ) (m : Message) (p : Present) (t : Stepped) → ((forget w).clients a.client).phase ≡ Asking p → numbered w.sent k ≡ Some m → is_grant n p.ticket m ≡ true → step w (event.Hear a.client k) ≡ Ok t →
       Moved a w (HearFrom n) (event.Hear a.client k ∷ []) t.world
 
--- Why a move is not made: the refusal of its event, or of the second.
+-- Why a move is not made: the refusal of its event, or of the second; or there is nothing to hear.
 pub data IsStuck (a : Want) (w : ExactWorld) : Move → StepFault → Type 0 where
   stuck_alone : (e : Event) (f : StepFault) → step w e ≡ Err f → IsStuck a w (Alone e) f
   stuck_saying : (d n : ℕ) (f : StepFault) → step w (event.SayTo d n) ≡ Err f → IsStuck a w (Hand d n) f
   stuck_taking : (d n : ℕ) (t : Stepped) (f : StepFault) → step w (event.SayTo d n) ≡ Ok t → step t.world (event.Take n (next_number w)) ≡ Err f → IsStuck a w (Hand d n) f
   stuck_hearing : (n k : ℕ) (m : Message) (p : Present) (f : StepFault) → ((forget w).clients a.client).phase ≡ Asking p → numbered w.sent k ≡ Some m → is_grant n p.ticket m ≡ true → step w (event.Hear a.client k) ≡ Err f →
       IsStuck a w (HearFrom n) f
+  -- no such Grant was sent
+  stuck_unheard : (n : ℕ) → ((p : Present) → ((forget w).clients a.client).phase ≡ Asking p → list_any (is_grant n p.ticket) w.sent ≡ false) → IsStuck a w (HearFrom n) fault.NoSuchMessage
 
 -- A run of which each event is taken leads to this world.
 abbrev pub HasRun : ExactWorld → List Event → ExactWorld → Type 0
