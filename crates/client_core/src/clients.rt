@@ -76,6 +76,14 @@ impl ClientCore {
         *self = ClientCore::rise(self.client, attempt, self.ballots);
     }
 
+    /// A copy of the client: the same in all that it is, and from then on each of both goes its own way. It
+    /// is a call of its own, so that no core is copied unseen.
+    pub fn copy(&self) -> ClientCore
+        ensures { result ≡ self.now }
+    {
+        ClientCore { ..*self }
+    }
+
     /// The client's number.
     pub fn client(&self) -> ClientId
         ensures { result ≡ self.now.client }

@@ -1,6 +1,6 @@
 // What a node's policies are told.
 
-ghost use Rattle.std.specs.Prelude.{◌≡◌};
+ghost use Rattle.std.specs.Prelude.{◌≡◌, Some, None, IfSome};
 ghost use Rattle.std.specs.DynBox.{dyn_box_with};
 ghost use Rattle.lock_messages.specs.declared.tickets.Mode.{Mode};
 ghost use Rattle.lock_model.specs.declared.problems.Problem.{Problem};
@@ -11,8 +11,10 @@ use lock_model::Problem;
 
 /// Tells the policy of the problem what became of a new ticket: of a reader's once, of a writer's nothing.
 pub(crate) fn note(policies: &mut Pair, problem: Problem, mode: Mode, admitted: bool)
-    ensures first { mode ≡ Mode.Read → problem ≡ Problem.First → (after : _) × notes (policies.old.first.vtable, policies.old.first.value) admitted after × (policies.new ≡ record { first = dyn_box_with policies.old.first policies.old.first.vtable after; second = policies.old.second }) }
-    ensures second { mode ≡ Mode.Read → problem ≡ Problem.Second → (after : _) × notes (policies.old.second.vtable, policies.old.second.value) admitted after × (policies.new ≡ record { first = policies.old.first; second = dyn_box_with policies.old.second policies.old.second.vtable after }) }
+    ensures first { mode ≡ Mode.Read → problem ≡ Problem.First → IfSome policies.old.first (λ p. (after : _) × notes (p.vtable, p.value) admitted after × (policies.new ≡ record { first = Some (dyn_box_with p p.vtable after); second = policies.old.second })) }
+    ensures second { mode ≡ Mode.Read → problem ≡ Problem.Second → IfSome policies.old.second (λ p. (after : _) × notes (p.vtable, p.value) admitted after × (policies.new ≡ record { first = policies.old.first; second = Some (dyn_box_with p p.vtable after) })) }
+    ensures no_first { problem ≡ Problem.First → policies.old.first ≡ None → policies.new ≡ policies.old }
+    ensures no_second { problem ≡ Problem.Second → policies.old.second ≡ None → policies.new ≡ policies.old }
     ensures writer { mode ≡ Mode.Write → policies.new ≡ policies.old }
 {
     match mode {

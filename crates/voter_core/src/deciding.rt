@@ -397,8 +397,10 @@ fn take_up(
     requires indexed { Indexes index.old entries.old }
     ensures entries { entries.new ≡ (if is_ok result then (takes_up node problem entries.old ticket.now).entries else entries.old) }
     ensures replies { OnOk result (replies.new.items ≡ (takes_up node problem entries.old ticket.now).replies) }
-    ensures told_first { OnOk result (problem ≡ Problem.First → (b : Bool) → note_for ticket.now.mode (is_admitted problem entries.old ticket.now) ≡ Some b → (after : _) × notes (policies.old.first.vtable, policies.old.first.value) b after × (policies.new ≡ record { first = dyn_box_with policies.old.first policies.old.first.vtable after; second = policies.old.second })) }
-    ensures told_second { OnOk result (problem ≡ Problem.Second → (b : Bool) → note_for ticket.now.mode (is_admitted problem entries.old ticket.now) ≡ Some b → (after : _) × notes (policies.old.second.vtable, policies.old.second.value) b after × (policies.new ≡ record { first = policies.old.first; second = dyn_box_with policies.old.second policies.old.second.vtable after })) }
+    ensures told_first { OnOk result (problem ≡ Problem.First → (b : Bool) → note_for ticket.now.mode (is_admitted problem entries.old ticket.now) ≡ Some b → IfSome policies.old.first (λ p. (after : _) × notes (p.vtable, p.value) b after × (policies.new ≡ record { first = Some (dyn_box_with p p.vtable after); second = policies.old.second }))) }
+    ensures told_second { OnOk result (problem ≡ Problem.Second → (b : Bool) → note_for ticket.now.mode (is_admitted problem entries.old ticket.now) ≡ Some b → IfSome policies.old.second (λ p. (after : _) × notes (p.vtable, p.value) b after × (policies.new ≡ record { first = policies.old.first; second = Some (dyn_box_with p p.vtable after) }))) }
+    ensures no_first { OnOk result (problem ≡ Problem.First → policies.old.first ≡ None → policies.new ≡ policies.old) }
+    ensures no_second { OnOk result (problem ≡ Problem.Second → policies.old.second ≡ None → policies.new ≡ policies.old) }
     ensures untold { OnOk result (note_for ticket.now.mode (is_admitted problem entries.old ticket.now) ≡ None → policies.new ≡ policies.old) }
     ensures refused { OnErr result (policies.new ≡ policies.old) }
     ensures indexed { Indexes index.new entries.new }
@@ -437,8 +439,10 @@ fn request(
     ensures entries { entries.new ≡ (if is_ok result then (decision problem entries.old (Message.Request node ticket.now)).entries else entries.old) }
     ensures replies { OnOk result (replies.new.items ≡ (decision problem entries.old (Message.Request node ticket.now)).replies) }
     ensures changed { IfOk result (λ b. IsTrue b ↔ Changes problem entries.old (Message.Request node ticket.now)) }
-    ensures told_first { OnOk result (problem ≡ Problem.First → (b : Bool) → note_of problem entries.old (Message.Request node ticket.now) ≡ Some b → (after : _) × notes (policies.old.first.vtable, policies.old.first.value) b after × (policies.new ≡ record { first = dyn_box_with policies.old.first policies.old.first.vtable after; second = policies.old.second })) }
-    ensures told_second { OnOk result (problem ≡ Problem.Second → (b : Bool) → note_of problem entries.old (Message.Request node ticket.now) ≡ Some b → (after : _) × notes (policies.old.second.vtable, policies.old.second.value) b after × (policies.new ≡ record { first = policies.old.first; second = dyn_box_with policies.old.second policies.old.second.vtable after })) }
+    ensures told_first { OnOk result (problem ≡ Problem.First → (b : Bool) → note_of problem entries.old (Message.Request node ticket.now) ≡ Some b → IfSome policies.old.first (λ p. (after : _) × notes (p.vtable, p.value) b after × (policies.new ≡ record { first = Some (dyn_box_with p p.vtable after); second = policies.old.second }))) }
+    ensures told_second { OnOk result (problem ≡ Problem.Second → (b : Bool) → note_of problem entries.old (Message.Request node ticket.now) ≡ Some b → IfSome policies.old.second (λ p. (after : _) × notes (p.vtable, p.value) b after × (policies.new ≡ record { first = policies.old.first; second = Some (dyn_box_with p p.vtable after) }))) }
+    ensures no_first { OnOk result (problem ≡ Problem.First → policies.old.first ≡ None → policies.new ≡ policies.old) }
+    ensures no_second { OnOk result (problem ≡ Problem.Second → policies.old.second ≡ None → policies.new ≡ policies.old) }
     ensures untold { OnOk result (note_of problem entries.old (Message.Request node ticket.now) ≡ None → policies.new ≡ policies.old) }
     ensures refused { OnErr result (policies.new ≡ policies.old) }
     ensures indexed { Indexes index.new entries.new }
@@ -478,8 +482,10 @@ pub(crate) fn decide(
     ensures changed { IfOk result (λ b. IsTrue b ↔ Changes problem entries.old message.now) }
     // The policy of the problem is told once of a new reader's ticket, and of nothing else; the other of
     // nothing.
-    ensures told_first { OnOk result (problem ≡ Problem.First → (b : Bool) → note_of problem entries.old message.now ≡ Some b → (after : _) × notes (policies.old.first.vtable, policies.old.first.value) b after × (policies.new ≡ record { first = dyn_box_with policies.old.first policies.old.first.vtable after; second = policies.old.second })) }
-    ensures told_second { OnOk result (problem ≡ Problem.Second → (b : Bool) → note_of problem entries.old message.now ≡ Some b → (after : _) × notes (policies.old.second.vtable, policies.old.second.value) b after × (policies.new ≡ record { first = policies.old.first; second = dyn_box_with policies.old.second policies.old.second.vtable after })) }
+    ensures told_first { OnOk result (problem ≡ Problem.First → (b : Bool) → note_of problem entries.old message.now ≡ Some b → IfSome policies.old.first (λ p. (after : _) × notes (p.vtable, p.value) b after × (policies.new ≡ record { first = Some (dyn_box_with p p.vtable after); second = policies.old.second }))) }
+    ensures told_second { OnOk result (problem ≡ Problem.Second → (b : Bool) → note_of problem entries.old message.now ≡ Some b → IfSome policies.old.second (λ p. (after : _) × notes (p.vtable, p.value) b after × (policies.new ≡ record { first = policies.old.first; second = Some (dyn_box_with p p.vtable after) }))) }
+    ensures no_first { OnOk result (problem ≡ Problem.First → policies.old.first ≡ None → policies.new ≡ policies.old) }
+    ensures no_second { OnOk result (problem ≡ Problem.Second → policies.old.second ≡ None → policies.new ≡ policies.old) }
     ensures untold { OnOk result (note_of problem entries.old message.now ≡ None → policies.new ≡ policies.old) }
     ensures refused { OnErr result (policies.new ≡ policies.old) }
     ensures indexed { Indexes index.new entries.new }

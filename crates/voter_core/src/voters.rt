@@ -19,7 +19,7 @@ use admission_policy::Pair;
 use lock_messages::{Message, NodeId};
 use lock_model::Problem;
 use stable_record::{IndexedRecord, NodeRecord, ResourceIndex, node_bytes};
-use std::alloc::Global;
+use std::alloc::{AllocError, Global};
 use std::marker::Model;
 use std::mem;
 
@@ -47,6 +47,17 @@ impl Model for NodeCore {
     ghost view = { λ c. record { node = c.id; problem = c.station.policy; entries = c.station.entries; state = state_of c.about c.told.items } };
 
     ghost invariant = { λ c. IsIndexed c.station c.index };
+}
+
+/// A copy of a station, with its index. The only error is want of memory.
+fn indexed_copy(alloc: Global, station: &NodeRecord) -> Result<IndexedRecord, AllocError>
+    ensures { IfOk result (λ copy. copy ≡ station.now) }
+{
+    let copy = station.clone()?;
+    match IndexedRecord::of(alloc, copy) {
+        Ok(copy) => Ok(copy),
+        Err(_) => Err(AllocError),
+    }
 }
 
 impl NodeCore {
@@ -301,6 +312,35 @@ impl NodeCore {
     {
         self.about = Phase::Idle;
         mem::replace(&mut self.told, Vec::new(self.alloc))
+    }
+
+    /// A copy of the node with policies of its own: the same number, station and replies, and it is about
+    /// the same. What it asks and tells are these policies, and no longer those of the node. The only error
+    /// is want of memory (503), and then these are dropped.
+    ///
+    /// It costs what a copy of the record costs, and of its index and the replies.
+    pub fn copy(&self, policies: Pair) -> Result<NodeCore, VoterFault>
+        requires { Unit {0} }
+        ensures same { IfOk result (λ copy. copy ≡ self.now) }
+        ensures memory { IsOkUnless result VoterFault.Memory }
+    {
+        let alloc = self.alloc;
+        let Ok(station) = indexed_copy(alloc, &self.station) else {
+            return Err(VoterFault::Memory);
+        };
+        let Ok(told) = self.told.clone() else {
+            return Err(VoterFault::Memory);
+        };
+        let (station, index) = station.into_parts();
+        Ok(NodeCore {
+            alloc,
+            id: self.id,
+            station,
+            index,
+            policies,
+            about: self.about,
+            told,
+        })
     }
 
     /// The policies, where the node falls: all but its record is lost. It takes no memory.

@@ -65,6 +65,18 @@ impl WorldClient {
         }
     }
 
+    /// A copy of the client: the same number, ballots and part of the world.
+    pub fn copy(&self) -> WorldClient
+        ensures { result ≡ self.now }
+    {
+        WorldClient {
+            core: self.core.copy(),
+            kept: self.kept,
+            tried: self.tried,
+            up: self.up,
+        }
+    }
+
     /// The client's number.
     pub fn number(&self) -> ClientId
         ensures { result ≡ self.now.number }

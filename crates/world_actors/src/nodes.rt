@@ -68,6 +68,16 @@ fn indexed_copy(alloc: Global, station: &NodeRecord) -> Result<IndexedRecord, Al
     }
 }
 
+/// A copy of a record, if there is one. The only error is want of memory.
+fn copy_if_any(station: &Option<NodeRecord>) -> Result<Option<NodeRecord>, AllocError>
+    ensures { IfOk result (λ copy. copy ≡ station.now) }
+{
+    match station {
+        Some(station) => Ok(Some(station.clone()?)),
+        None => Ok(None),
+    }
+}
+
 impl WorldNode {
     /// The node with this number, down, with this record kept and nothing tried. It takes no memory.
     ///
@@ -97,6 +107,24 @@ impl WorldNode {
     {
         let station = empty_record(alloc, problem);
         WorldNode::opened(alloc, id, station, policies)
+    }
+
+    /// A copy of the node with policies of its own: the same number and part of the world. The only error is
+    /// want of memory, and then the policies are dropped.
+    pub fn copy(&self, policies: Pair) -> Result<WorldNode, AllocError>
+        requires { Unit {0} }
+        ensures { IfOk result (λ copy. copy ≡ self.now) }
+    {
+        let Ok(core) = self.core.copy(policies) else {
+            return Err(AllocError);
+        };
+        Ok(WorldNode {
+            alloc: self.alloc,
+            core,
+            kept: self.kept.clone()?,
+            tried: copy_if_any(&self.tried)?,
+            up: self.up,
+        })
     }
 
     /// The node's number.

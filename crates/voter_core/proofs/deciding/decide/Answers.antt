@@ -15,3 +15,11 @@ returns-in-Release-clause-changed g c =
 pub returns-in-Request-clause-untold : goal.returns-in-Request-clause-untold
 returns-in-Request-clause-untold g c =
     on-ok-map c.request.result _ _ (λ f h. f (ap (note_of c.args.problem c.args.entries.now) (sym c.in-Request.is) ∙ h)) c.request.ensures.untold
+
+pub returns-in-Request-clause-told_first : goal.returns-in-Request-clause-told_first
+returns-in-Request-clause-told_first g c =
+    on-ok-map c.request.result _ _ (λ f here b h. f here b (ap (note_of c.args.problem c.args.entries.now) (sym c.in-Request.is) ∙ h)) c.request.ensures.told_first
+
+pub returns-in-Request-clause-told_second : goal.returns-in-Request-clause-told_second
+returns-in-Request-clause-told_second g c =
+    on-ok-map c.request.result _ _ (λ f here b h. f here b (ap (note_of c.args.problem c.args.entries.now) (sym c.in-Request.is) ∙ h)) c.request.ensures.told_second

@@ -18,3 +18,13 @@ returns-in_ok-take_up-in-None-clause-untold g c = λ h.
 
 pub take_up-requires-clause-new : goal.take_up-requires-clause-new
 take_up-requires-clause-new g c = ap (reply_to_known c.args.node c.args.ticket.now) (sym c.entry_of.ensures.found) ∙ sym c.in-None.ensures
+
+pub returns-in_ok-take_up-in-None-clause-told_first : goal.returns-in_ok-take_up-in-None-clause-told_first
+returns-in_ok-take_up-in-None-clause-told_first g c = λ here b h.
+    c.in_ok-take_up-in-None.ensures.told_first here b
+    (sym (ap (λ o. note_unless o c.args.problem c.args.entries.now c.args.ticket.now) (ap (reply_to_known c.args.node c.args.ticket.now) (sym c.entry_of.ensures.found) ∙ sym c.in-None.ensures)) ∙ h)
+
+pub returns-in_ok-take_up-in-None-clause-told_second : goal.returns-in_ok-take_up-in-None-clause-told_second
+returns-in_ok-take_up-in-None-clause-told_second g c = λ here b h.
+    c.in_ok-take_up-in-None.ensures.told_second here b
+    (sym (ap (λ o. note_unless o c.args.problem c.args.entries.now c.args.ticket.now) (ap (reply_to_known c.args.node c.args.ticket.now) (sym c.entry_of.ensures.found) ∙ sym c.in-None.ensures)) ∙ h)

@@ -3,6 +3,7 @@ use Rattle.lock_model.specs.declared.entries.Entry.{Entry}
 use Rattle.lock_model.specs.declared.entries.Live.{Live}
 use Rattle.lock_model.specs.declared.entries.Status.TheVariants.{Waiting, Holding}
 use Rattle.lock_model.specs.ExactStations.{knows, entry_of}
+use Rattle.std.specs.DynBox.{dyn_box_with}
 use Rattle.stable_record.specs.Indexing.{IndexesWith}
 use Rattle.voter_core.specs.Freed.{freed}
 use Rattle.voter_core.proofs.EndFacts.{knows-ended}
@@ -77,8 +78,7 @@ returns-clause-told_first g c = λ here b h.
     let asked = c.admits-admitted.ensures (Some (c.args.ticket.now.client, c.args.ticket.now.resource)) c.settle.new.entries
     (c.settle.ensures.indexed (Some (c.args.ticket.now.client, c.args.ticket.now.resource)) c.in_ok-make_way.ensures.announced) in
     let is = asked-is c.args.problem t c.args.entries.now c.make_way.new.entries c.settle.new.entries c.admits-admitted.result b c.in_ok-make_way.ensures.entries c.settle.ensures.entries asked s.1 in
-    let x = c.note.ensures.first s.0 here in
-    (x.0, subst (λ (k : Bool). (goal.Admission-dyn g (c.args.policies.now.first.vtable, c.args.policies.now.first.value)).notes c.args.policies.now.first.value k x.0) is x.1, x.2)
+    subst (λ (k : Bool). IfSome c.args.policies.now.first (λ p. (after : _) × (goal.Admission-dyn g (p.vtable, p.value)).notes p.value k after × (c.note.new.policies ≡ record { first = Some (dyn_box_with p p.vtable after); second = c.args.policies.now.second }))) is (c.note.ensures.first s.0 here)
 
 pub returns-clause-told_second : goal.returns-clause-told_second
 returns-clause-told_second g c = λ here b h.
@@ -87,8 +87,7 @@ returns-clause-told_second g c = λ here b h.
     let asked = c.admits-admitted.ensures (Some (c.args.ticket.now.client, c.args.ticket.now.resource)) c.settle.new.entries
     (c.settle.ensures.indexed (Some (c.args.ticket.now.client, c.args.ticket.now.resource)) c.in_ok-make_way.ensures.announced) in
     let is = asked-is c.args.problem t c.args.entries.now c.make_way.new.entries c.settle.new.entries c.admits-admitted.result b c.in_ok-make_way.ensures.entries c.settle.ensures.entries asked s.1 in
-    let x = c.note.ensures.second s.0 here in
-    (x.0, subst (λ (k : Bool). (goal.Admission-dyn g (c.args.policies.now.second.vtable, c.args.policies.now.second.value)).notes c.args.policies.now.second.value k x.0) is x.1, x.2)
+    subst (λ (k : Bool). IfSome c.args.policies.now.second (λ p. (after : _) × (goal.Admission-dyn g (p.vtable, p.value)).notes p.value k after × (c.note.new.policies ≡ record { first = c.args.policies.now.first; second = Some (dyn_box_with p p.vtable after) }))) is (c.note.ensures.second s.0 here)
 
 pub returns-clause-untold : goal.returns-clause-untold
 returns-clause-untold g c = λ h. c.note.ensures.writer (note-writer c.args.ticket.now.mode _ h)
