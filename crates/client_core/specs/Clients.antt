@@ -53,6 +53,16 @@ ticket_in (Inside p) = Some (present_ticket p)
 abbrev pub ticket_of : Client → Option Ticket
 ticket_of c = ticket_in c.state
 
+-- the place of the ballot by which the present attempt counts its votes
+abbrev pub place_in : State → Option ℕ
+place_in Idle = None
+place_in (Chosen t place) = Some place
+place_in (Asking p) = Some p.place
+place_in (Inside p) = Some p.place
+
+abbrev pub place_of : Client → Option ℕ
+place_of c = place_in c.state
+
 -- the nodes whose Grant of the present ticket was counted
 abbrev pub granted_in : State → List ℕ
 granted_in Idle = []

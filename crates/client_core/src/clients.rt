@@ -6,7 +6,7 @@ ghost use Rattle.lock_model.specs.ExactHearing.{is_counted};
 ghost use Rattle.lock_messages.specs.Messages.{named_node};
 ghost use Rattle.lock_model.specs.Ballots.{HasAnyNode, HasPlace, node_count};
 ghost use Rattle.vote_weights.specs.Sets.{has_node};
-ghost use Rattle.client_core.specs.Clients.{phase_of, ticket_of, softened_ticket, granted_of, skipped_of, IsLawfulClient};
+ghost use Rattle.client_core.specs.Clients.{phase_of, ticket_of, place_of, softened_ticket, granted_of, skipped_of, IsLawfulClient};
 ghost use Rattle.client_core.specs.Calls.{at_rest, begun, begin_answer, asking, entered, MayEnter, MaySoften, softened, MayLeave, left, release_of, said_inside, message_for, ReleasesAll, SoftensAll, heard_inside, HearsInside, heard_by, counted, AddsVote, after_hearing, Hears, IsOpen, skipping};
 
 use crate::hearing::{heard_at_rest, heard_of_ticket, heard_softened, is_node_of, node_of};
@@ -15,7 +15,7 @@ use crate::{ClientFault, Phase};
 use lock_messages::{Attempt, ClientId, MAX_ATTEMPT, Message, Mode, NodeId, ResourceName, Ticket};
 use lock_model::{Heard, laws};
 use std::marker::Model;
-use vote_weights::BallotList;
+use vote_weights::{BallotList, NodeSet};
 
 /// One client's attempts to use resources, one at a time.
 ///
@@ -124,6 +124,29 @@ impl ClientCore {
         ensures latest { IfSome result (λ t. t.attempt ≡ self.now.attempt) }
     {
         self.state.ticket()
+    }
+
+    /// The place in the list of the ballot by which the present attempt counts its votes. `None` while
+    /// the client is idle.
+    pub fn place(&self) -> Option<u8>
+        ensures { result ≡ place_of self.now }
+    {
+        match self.state {
+            State::Idle => None,
+            State::Chosen(_, place) => Some(place),
+            State::Asking(present) | State::Inside(present) => Some(present.place),
+        }
+    }
+
+    /// The nodes whose Grant of the present ticket was counted: none while the client doesn't ask and is
+    /// not inside.
+    pub fn granted(&self) -> NodeSet
+        ensures { result ≡ granted_of self.now }
+    {
+        match self.state {
+            State::Idle | State::Chosen(..) => NodeSet::empty(),
+            State::Asking(present) | State::Inside(present) => present.granted,
+        }
     }
 
     /// Begins the next attempt, whose number it answers: a new ticket, with nothing granted or

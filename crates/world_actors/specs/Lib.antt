@@ -1,3 +1,4 @@
 pub mod Acting
 pub mod Nodes
 pub mod Clients
+pub mod Asking

@@ -3,18 +3,24 @@
 ghost use Rattle.std.specs.Prelude.{◌≡◌, ◌≤◌, ℕ, Err, false, IfOk, IfErr, OnOk, OnErr};
 ghost use Rattle.lock_model.specs.Ballots.{node_count};
 ghost use Rattle.lock_model.specs.ExactHearing.{is_node_of};
+ghost use Rattle.client_core.specs.Clients.{ticket_of, place_of};
+ghost use Rattle.world_model.specs.Advice.{resting, beginning, is_client_up};
+ghost use Rattle.world_model.specs.Forgetting.{client_of};
 ghost use Rattle.world_model.specs.declared.events.Effect.TheVariants as effect;
 ghost use Rattle.world_model.specs.ExactClients.{begins_in, tries_attempt_in, keeps_attempt_in, tells, says_one, hears, heard_in, after_hearing, is_down, enters_in, leaves_in, softens_in, client_falls_in, client_rises_in};
 ghost use Rattle.world_model.specs.Openings.{down_client};
 ghost use Rattle.world_model.specs.Turns.{acts};
 ghost use Rattle.world_model.specs.Views.{ticket_in};
+ghost use Rattle.world_actors.specs.Asking.{asked_in, is_for};
 
 use client_core::{ClientCore, ClientFault, Phase};
-use lock_messages::{Attempt, ClientId, MAX_ATTEMPT, Message, Mode, NodeId, ResourceName, Ticket};
+use lock_messages::{
+    Actor, Attempt, ClientId, MAX_ATTEMPT, Message, Mode, NodeId, ResourceName, Ticket,
+};
 use lock_model::Heard;
 use std::marker::Model;
-use vote_weights::BallotList;
-use world_model::{Age, StepFault};
+use vote_weights::{BallotList, NodeSet};
+use world_model::{Age, Event, StepFault, Want};
 
 /// One client of the world: the attempt that it has kept (0 for none), the one that it tries to keep,
 /// and its core while it is up.
@@ -45,6 +51,20 @@ fn is_node_of(nodes: u8, node: NodeId) -> bool
 {
     let number = node.get();
     1 <= number && number <= nodes
+}
+
+/// Whether the core's attempt is for what is wanted.
+fn is_for(core: &ClientCore, want: &Want) -> bool
+    ensures { result ≡ is_for want.now (ticket_of core.now) (place_of core.now) }
+{
+    match (core.ticket(), core.place()) {
+        (Some(ticket), Some(place)) => {
+            ticket.mode == want.mode
+                && ticket.resource.bytes() == want.resource.bytes()
+                && place == want.place
+        }
+        (Some(_) | None, _) => false,
+    }
 }
 
 impl WorldClient {
@@ -338,5 +358,61 @@ impl WorldClient {
         self.core.restart(attempt);
         self.up = true;
         Ok(())
+    }
+
+    /// Whether the client is up.
+    pub fn is_up(&self) -> bool
+        ensures { result ≡ is_client_up (client_of self.now.part).phase }
+    {
+        let WorldClient { up, .. } = self;
+        *up
+    }
+
+    /// The event by which the client goes on to be at rest: it keeps the attempt that it has chosen, or
+    /// leaves. `None` where it is at rest or down.
+    pub fn resting(&self) -> Option<Event>
+        ensures { result ≡ resting self.now.number (client_of self.now.part) }
+    {
+        if !self.up {
+            return None;
+        }
+        let id = self.number();
+        match self.core.phase() {
+            Phase::Idle => None,
+            Phase::Chosen if self.tried.is_some() => Some(Event::Kept(Actor::Client(id))),
+            Phase::Chosen => Some(Event::Try(Actor::Client(id))),
+            Phase::Asking | Phase::Inside => Some(Event::Leave(id)),
+        }
+    }
+
+    /// The event by which the client that wants in, which is this one, goes on to ask for it: it begins,
+    /// keeps the attempt that it has chosen, or leaves what it asks for or is inside of. `None` where it
+    /// asks for what is wanted or is inside as is wanted, and where it is down.
+    pub fn beginning(&self, want: &Want) -> Option<Event>
+        ensures { result ≡ beginning want.now (client_of self.now.part) }
+    {
+        if !self.up {
+            return None;
+        }
+        match self.core.phase() {
+            Phase::Idle => Some(Event::Begin(want.client, want.mode, want.resource, want.place)),
+            Phase::Chosen if self.tried.is_some() => Some(Event::Kept(Actor::Client(want.client))),
+            Phase::Chosen => Some(Event::Try(Actor::Client(want.client))),
+            Phase::Asking | Phase::Inside if is_for(&self.core, want) => None,
+            Phase::Asking | Phase::Inside => Some(Event::Leave(want.client)),
+        }
+    }
+
+    /// The ticket with which the client asks, if it does, and the nodes that granted it.
+    pub fn asked(&self) -> Option<(Ticket, NodeSet)>
+        ensures { result ≡ asked_in self.now.part.phase }
+    {
+        if !self.up {
+            return None;
+        }
+        match (self.core.phase(), self.core.ticket()) {
+            (Phase::Asking, Some(ticket)) => Some((ticket, self.core.granted())),
+            (Phase::Idle | Phase::Chosen | Phase::Asking | Phase::Inside, _) => None,
+        }
     }
 }

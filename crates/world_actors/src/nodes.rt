@@ -1,10 +1,13 @@
 // One node of the world.
 
-ghost use Rattle.std.specs.Prelude.{◌≡◌, ℕ, Err, length, true, IsOk, IfOk, IfErr, OnOk, OnErr, IsOkUnless};
+ghost use Rattle.std.specs.Prelude.{◌≡◌, ℕ, Some, Err, length, true, IsOk, IfOk, IfErr, OnOk, OnErr, IsOkUnless};
 ghost use Rattle.lock_messages.specs.Messages.{is_for_node};
 ghost use Rattle.lock_model.specs.declared.problems.Problem.{Problem};
 ghost use Rattle.lock_model.specs.ExactDecisions.{changes};
+ghost use Rattle.lock_model.specs.ExactStations.{claim_of};
 ghost use Rattle.stable_record.specs.Records.{IsNodeRecord};
+ghost use Rattle.world_model.specs.Advice.{is_in_way, coming, blocks, finishing, is_up};
+ghost use Rattle.world_model.specs.Forgetting.{station_of, node_of};
 ghost use Rattle.world_model.specs.declared.events.Effect.TheVariants as effect;
 ghost use Rattle.world_model.specs.declared.exact.ExactNodePhase.TheVariants as phase;
 ghost use Rattle.world_model.specs.ExactNodes.{tries_station_in, keeps_station_in, says_in, takes_in, decided_on, switches_in, node_falls_in, node_rises_in, node_rises_with};
@@ -15,13 +18,13 @@ ghost use Rattle.world_actors.specs.Acting.{IsRefusedTurn, MayTake, IsRefusedTak
 ghost use Rattle.world_actors.specs.Nodes.{station_in};
 
 use admission_policy::Pair;
-use lock_messages::{Message, NodeId};
-use lock_model::{Problem, laws};
+use lock_messages::{Actor, ClientId, Message, Mode, NodeId};
+use lock_model::{Live, Problem, laws};
 use stable_record::{Entries, IndexedRecord, NodeRecord};
 use std::alloc::{AllocError, Global};
 use std::marker::Model;
 use voter_core::{NodeCore, Phase};
-use world_model::{Age, StepFault};
+use world_model::{Age, Event, StepFault, Want};
 
 /// One node of the world: what it has kept, what it tries to keep, and its core while it is up.
 ///
@@ -76,6 +79,14 @@ fn copy_if_any(station: &Option<NodeRecord>) -> Result<Option<NodeRecord>, Alloc
         Some(station) => Ok(Some(station.clone()?)),
         None => Ok(None),
     }
+}
+
+/// Whether a ticket of another client with this claim stands in the way.
+fn is_in_way(want: &Want, live: &Live) -> bool
+    ensures { result ≡ is_in_way want.now (claim_of (Some live.now)) }
+{
+    (want.mode == Mode::Write || live.mode == Mode::Write)
+        && live.resource.bytes() == want.resource.bytes()
 }
 
 impl WorldNode {
@@ -369,6 +380,62 @@ impl WorldNode {
         match age {
             Age::Old => self.rise_old(),
             Age::New => self.rise_new(),
+        }
+    }
+
+    /// Whether the node is up.
+    pub fn is_up(&self) -> bool
+        ensures { result ≡ is_up (node_of self.now.part).phase }
+    {
+        let WorldNode { up, .. } = self;
+        *up
+    }
+
+    /// The event by which the node goes on with what it is about: it keeps what it decided, or says its
+    /// replies. `None` where it is idle or down. It takes no memory.
+    pub fn finishing(&self) -> Option<Event>
+        ensures { result ≡ finishing self.now.number (node_of self.now.part) }
+    {
+        if !self.up {
+            return None;
+        }
+        let id = self.number();
+        match self.core.phase() {
+            Phase::Idle => None,
+            Phase::Decided if self.tried.is_some() => Some(Event::Kept(Actor::Node(id))),
+            Phase::Decided => Some(Event::Try(Actor::Node(id))),
+            Phase::Stored => Some(Event::Say(id)),
+        }
+    }
+
+    /// The record that the node will have kept once it has finished.
+    fn coming(&self) -> &NodeRecord
+        ensures { station_of (station_in result.now) ≡ coming (node_of self.now.part) }
+    {
+        if !self.up {
+            return &self.kept;
+        }
+        match self.core.phase() {
+            Phase::Decided => self.core.record(),
+            Phase::Idle | Phase::Stored => &self.kept,
+        }
+    }
+
+    /// Whether a ticket of this client stands in the way of what another wants, in the record that the
+    /// node will have kept once it has finished: it is for the same resource, and one of the two is a
+    /// writer's. It takes one look-up.
+    pub fn blocks(&self, want: &Want, client: ClientId) -> bool
+        ensures { result ≡ blocks want.now (coming (node_of self.now.part)) client }
+    {
+        if client == want.client {
+            return false;
+        }
+        let Some(entry) = self.coming().entries.entry_of(client) else {
+            return false;
+        };
+        match entry.live {
+            Some(live) => is_in_way(want, &live),
+            None => false,
         }
     }
 }

@@ -1,0 +1,21 @@
+-- What a client has to show of its attempt to whom it tells what it wants.
+use Rattle.std.specs.Prelude.{ℕ, Bool, false, List, Option, Some, None}
+use Rattle.lock_messages.specs.declared.tickets.Ticket.{Ticket}
+use Rattle.world_model.specs.declared.exact.ExactClientPhase.{ExactClientPhase}
+use Rattle.world_model.specs.declared.exact.ExactClientPhase.TheVariants.{Down, Idle, Chosen, Asking, Inside}
+use Rattle.world_model.specs.declared.ways.Want.{Want}
+use Rattle.world_model.specs.Advice.{is_wanted}
+
+-- the ticket with which a client asks, and the nodes that granted it
+abbrev pub asked_in : ExactClientPhase → Option (Ticket × List ℕ)
+asked_in Down = None
+asked_in Idle = None
+asked_in (Chosen t place) = None
+asked_in (Asking p) = Some (p.ticket, p.granted)
+asked_in (Inside p) = None
+
+-- an attempt with this ticket, by the ballot of this place, is for what is wanted
+abbrev pub is_for : Want → Option Ticket → Option ℕ → Bool
+is_for a None place = false
+is_for a (Some t) None = false
+is_for a (Some t) (Some place) = is_wanted a t place
