@@ -42,6 +42,7 @@ pub mod Raises
 pub mod WaysIn
 pub mod StepShapes
 pub mod Owed
+pub mod GrantCounts
 pub mod ExclusionFacts
 pub mod LocalityFacts
 pub mod StayFacts
