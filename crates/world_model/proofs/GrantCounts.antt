@@ -11,7 +11,7 @@ use Rattle.lock_model.specs.declared.entries.Live.{Live}
 use Rattle.lock_model.specs.declared.entries.Status.{Status}
 use Rattle.lock_model.specs.declared.entries.Status.TheVariants.{Waiting, Holding, Softened}
 use Rattle.lock_model.specs.declared.problems.Problem.{Problem}
-use Rattle.lock_model.specs.Stations.{Claim, Free, Has, Standing}
+use Rattle.lock_model.specs.Stations.{Claim, Free, Has, Standing, Station}
 use Rattle.lock_model.specs.Decisions.{Among}
 use Rattle.lock_model.specs.ExactStations.{is_of, knows, entry_of, standing_of, meaning, EachOnce, IsWellFormed, is_waiting, is_holding, admits, promoted, settled_entry, settle, settled, waits_in}
 use Rattle.lock_model.specs.ExactDecisions.{ended_entry, ended, moved_last, grant_of, told, grants, new_entry, takes_up, answered, releases}
@@ -120,3 +120,91 @@ asked-count n p es t None well holds = go (admits p t.mode t.resource after) ref
         length ((if admits p t.mode t.resource after then Grant n t else Busy n t) ∷ grants n before after) + waiting_count (moved_last (new_entry t (admits p t.mode t.resource after)) after) ≤ waiting_count es + 1
     go true is = rw (is) (counts true refl)
     go false is = absurd (let z : Has t.mode t.resource Waiting ≡ Has t.mode t.resource Holding = claims false is in cc)
+
+-- Entries that stand for the same station: as many wait in the one list as in the other.
+
+-- the client's ticket waits in the entries
+abbrev waits_at : List Entry → ℕ → Bool
+waits_at es c = waits_in (entry_of es c)
+
+-- a client that waits has an entry in the middle
+record Found (fs : List Entry) (c : ℕ) : Type 0 where
+  front : List Entry
+  entry : Entry
+  rest : List Entry
+  is : fs ≡ front ++ entry ∷ rest
+  client : entry.client ≡ c
+  waits : waits_in (Some entry) ≡ true
+
+found-waiter : (fs : List Entry) (c : ℕ) → waits_at fs c ≡ true → Found fs c
+found-waiter [] c h = absurd (let z : false ≡ true = h in cc)
+found-waiter (f ∷ fs) c h = go (found-waiter fs c) (is_of c f) refl h
+  where
+    go : (waits_at fs c ≡ true → Found fs c) → (b : Bool) → is_of c f ≡ b → waits_in (cond b (Some f) (entry_of fs c)) ≡ true → Found (f ∷ fs) c
+    go ih true is w = record { front = []; entry = f; rest = fs; is = refl; client = eqb-true f.client c is; waits = w }
+    go ih false is w = let there = ih w in record { front = f ∷ there.front; entry = there.entry; rest = there.rest; is = ap (λ l. f ∷ l) there.is; client = there.client; waits = there.waits }
+
+count-middle : (xs : List Entry) (e : Entry) (ys : List Entry) → waiting_count (xs ++ e ∷ ys) ≡ waits_one e + waiting_count (xs ++ ys)
+count-middle xs e ys = omega (arith, count-append xs (e ∷ ys), count-append xs ys)
+
+-- a client that waits behind the first entry is another than that one's
+behind-apart : (e : Entry) (es : List Entry) (c : ℕ) → knows e.client es ≡ false → waits_at es c ≡ true → c ≢ e.client
+behind-apart e es c new h = go (entry_of es c) refl h
+  where
+    go : (o : Option Entry) → entry_of es c ≡ o → waits_in o ≡ true → c ≢ e.client
+    go None there w = absurd (let z : false ≡ true = w in cc)
+    go (Some f) there w =
+        let found = entry_of-found es c f there in
+        λ same. let z : false ≡ true = sym (any-none (is_of e.client) es f new found.0) ∙ eq-eqb f.client e.client (found.1 ∙ same) in cc
+
+behind-waits : (e : Entry) (es : List Entry) (c : ℕ) → knows e.client es ≡ false → waits_at es c ≡ true → waits_at (e ∷ es) c ≡ true
+behind-waits e es c new h = ap (λ b. waits_in (cond b (Some e) (entry_of es c))) (ne_eqb e.client c (λ same. behind-apart e es c new h (sym same))) ∙ h
+
+waiting-le : (es fs : List Entry) → EachOnce es → EachOnce fs → ((c : ℕ) → waits_at es c ≡ true → waits_at fs c ≡ true) → waiting_count es ≤ waiting_count fs
+waiting-le [] fs once other all = omega arith
+waiting-le (e ∷ es) fs once other all = go (waiting-le es) (waits_in (Some e)) refl
+  where
+    behind : (c : ℕ) → waits_at es c ≡ true → waits_at fs c ≡ true
+    behind c h = all c (behind-waits e es c once.0 h)
+
+    go : ((gs : List Entry) → EachOnce es → EachOnce gs → ((c : ℕ) → waits_at es c ≡ true → waits_at gs c ≡ true) → waiting_count es ≤ waiting_count gs) →
+        (b : Bool) → waits_in (Some e) ≡ b → cond b 1 0 + waiting_count es ≤ waiting_count fs
+    go ih false is = omega (arith, ih fs once.1 other behind)
+    go ih true is = omega (arith, whole, count-middle there.front there.entry there.rest, one, ih (there.front ++ there.rest) once.1 middle.rest less)
+      where
+        there : Found fs e.client
+        there = found-waiter fs e.client (all e.client (ap (λ b. waits_in (cond b (Some e) (entry_of es e.client))) (eq-eqb e.client e.client refl) ∙ is))
+
+        whole : waiting_count fs ≡ waiting_count (there.front ++ there.entry ∷ there.rest)
+        whole = ap waiting_count there.is
+
+        middle : Middle there.front there.entry there.rest
+        middle = once-middle there.front there.entry there.rest (subst EachOnce there.is other)
+
+        one : waits_one there.entry ≡ 1
+        one = ap (λ b. cond b 1 0) there.waits
+
+        less : (c : ℕ) → waits_at es c ≡ true → waits_at (there.front ++ there.rest) c ≡ true
+        less c h =
+            ap waits_in (sym (entry_of-other there.front there.entry there.rest middle c (λ same. behind-apart e es c once.0 h (same ∙ there.client))))
+            ∙ ap (λ l. waits_at l c) (sym there.is) ∙ behind c h
+
+-- whose claim it is that waits, is told by the station
+claim_waits : Claim → Bool
+claim_waits Free = false
+claim_waits (Has m x status) = is_waiting status
+
+waits-claims : (o : Option Entry) → waits_in o ≡ claim_waits (standing_of o).claim
+unfolding claim_waits
+waits-claims None = refl
+waits-claims (Some e) = go e.live
+  where
+    go : (l : Option Live) → waits_in (Some (record e { live = l })) ≡ claim_waits (standing_of (Some (record e { live = l }))).claim
+    go None = refl
+    go (Some l) = refl
+
+pub same-waiting : (p q : Problem) (es fs : List Entry) → EachOnce es → EachOnce fs → meaning p es ≡ meaning q fs → waiting_count es ≤ waiting_count fs
+same-waiting p q es fs once other same = waiting-le es fs once other each
+  where
+    each : (c : ℕ) → waits_at es c ≡ true → waits_at fs c ≡ true
+    each c h = waits-claims (entry_of fs c) ∙ sym (ap (λ (s : Station). claim_waits (s.at c).claim) same) ∙ sym (waits-claims (entry_of es c)) ∙ h

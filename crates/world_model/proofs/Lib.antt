@@ -43,6 +43,8 @@ pub mod WaysIn
 pub mod StepShapes
 pub mod Owed
 pub mod GrantCounts
+pub mod OwedFacts
+pub mod SaidFacts
 pub mod ExclusionFacts
 pub mod LocalityFacts
 pub mod StayFacts
