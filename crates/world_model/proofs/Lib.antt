@@ -45,6 +45,7 @@ pub mod Owed
 pub mod GrantCounts
 pub mod OwedFacts
 pub mod SaidFacts
+pub mod AloneRooms
 pub mod ExclusionFacts
 pub mod LocalityFacts
 pub mod StayFacts
