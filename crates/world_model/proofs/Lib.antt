@@ -46,6 +46,7 @@ pub mod GrantCounts
 pub mod OwedFacts
 pub mod SaidFacts
 pub mod AloneRooms
+pub mod HandRooms
 pub mod ExclusionFacts
 pub mod LocalityFacts
 pub mod StayFacts
