@@ -1,5 +1,5 @@
 -- The two hands pay what they say: one message by the client, and what the node decides to reply.
-use Rattle.std.proofs.Common.{◌≡◌, ◌≢◌, ℕ, ◌+◌, ◌-◌, ◌<◌, ◌≤◌, ◌==◌, Bool, true, false, cond, List, [], ◌∷◌, ◌++◌, length, Option, None, Some, Ok, Err, zero, suc, refl, sym, ◌∙◌, ap, subst, inl, inr, arith}
+use Rattle.std.proofs.Common.{◌≡◌, ◌≢◌, ℕ, ◌+◌, ◌-◌, ◌<◌, ◌≤◌, ◌==◌, Bool, true, false, cond, if◌then◌else◌, List, [], ◌∷◌, ◌++◌, length, Option, None, Some, Ok, Err, zero, suc, refl, sym, ◌∙◌, ap, subst, inl, inr, arith}
 use Rattle.std.specs.Prelude.{slice_get}
 use Rattle.std.specs.List.{list_any}
 use Rattle.std.proofs.lemmas.Bool.{cases_eq, eq-eqb}
@@ -26,7 +26,7 @@ use Rattle.world_model.specs.declared.exact.ExactNodePhase.TheVariants as node
 use Rattle.world_model.specs.declared.exact.ExactClient.{ExactClient}
 use Rattle.world_model.specs.declared.exact.ExactWorld.{ExactWorld}
 use Rattle.world_model.specs.declared.ways.Want.{Want}
-use Rattle.world_model.specs.Worlds.{NodePhase, NodeIdle, Node, Present, ClientPhase, ClientIdle, Asking, Client, Setting, HasClient, Tells}
+use Rattle.world_model.specs.Worlds.{NodePhase, NodeDown, NodeIdle, Node, Present, ClientPhase, ClientIdle, Asking, Client, Setting, HasClient, Tells}
 use Rattle.world_model.specs.ExactNodes.{node_in, decided_on}
 use Rattle.world_model.specs.ExactWorlds.{numbered, Stepped, Steps, next_number, has_room, sending, with_node_at, with_client_at, step}
 use Rattle.world_model.specs.Numbered.{numbered-next, numbered-one, numbered-there, numbered-set-here, numbered-set-there}
@@ -34,7 +34,7 @@ use Rattle.world_model.specs.Forgetting.{station_of, node_phase_of, client_of, c
 use Rattle.world_model.specs.Advice.{coming, blocks, asks_for, is_grant, client_numbers}
 use Rattle.world_model.specs.ExactWays.{total_over, to_say, coming_station, waiting_count, block_load}
 use Rattle.world_model.proofs.Costs.{block_cost, promises, ask_cost}
-use Rattle.world_model.proofs.Nearer.{Fine}
+use Rattle.world_model.proofs.Nearer.{Fine, client-among}
 use Rattle.world_model.proofs.Deeds.{ModelLaws}
 use Rattle.world_model.proofs.StepFacts.{same-clients}
 use Rattle.world_model.proofs.StepShapes.{TookSo, take-shape, says-shape}
@@ -43,7 +43,7 @@ use Rattle.world_model.proofs.HandSteps.{tells-release, tells-request}
 use Rattle.world_model.proofs.HandFacts as Hand
 use Rattle.world_model.proofs.Owed.{vote_owed, node_owed, owed_at, owed}
 use Rattle.world_model.proofs.GrantCounts.{released-count, asked-count}
-use Rattle.world_model.proofs.OwedFacts.{own_phase, vote-owed-le, vote-owed-whole, vote-owed-none, blocks-double, owed-least}
+use Rattle.world_model.proofs.OwedFacts.{own_phase, vote-owed-le, vote-owed-whole, vote-owed-none, blocks-double, total-least, owed-least}
 use Rattle.world_model.proofs.SaidFacts.{NodeDid, said-grows}
 use Rattle.world_model.proofs.AloneRooms.{node-pays}
 
@@ -141,6 +141,12 @@ decides laws {x} {u} {n} {m} h ok =
     let all = laws.deciding.allowed h.taker.kept.problem h.taker.kept.entries m n h.mine sound.kept.well_formed sound.kept.lawful sound.kept.caused in
     all.decides
 
+-- what is owed at an idle node
+idle-owed : (s : Setting) (a : Want) (k : ClientPhase) (sent : List Message) (n : ℕ) (v : ExactNode) → v.phase ≡ node.Idle →
+    node_owed s a k sent n v ≡ 0 + (waiting_count v.kept.entries + (total_over (block_load a v.kept) (client_numbers s) + vote_owed a k sent n NodeIdle))
+idle-owed s a k sent n v idle =
+    ap (λ phase. to_say phase + (waiting_count (coming_station v.kept phase).entries + (total_over (block_load a (coming_station v.kept phase)) (client_numbers s) + vote_owed a k sent n (node_phase_of phase)))) idle
+
 -- The hand pays, where the decision does: what is said, who waits then and who blocks then, against who waits and
 -- blocks now and the vote.
 hand-pays-so : ModelLaws → (chosen : ℕ → Bool) (a : Want) (x u : ExactWorld) (n : ℕ) (m : Message) (h : Handed x u n m) → chosen n ≡ true → HasAnyNode x.ballots n →
@@ -149,7 +155,7 @@ hand-pays-so : ModelLaws → (chosen : ℕ → Bool) (a : Want) (x u : ExactWorl
     ≤ total_over (block_cost a (here h)) (client_numbers (setting_of x)) + (vote_owed a (own_phase a x) x.sent n NodeIdle + vote_owed a (own_phase a x) x.sent n NodeIdle) →
     length u.sent + owed chosen a u ≤ length x.sent + owed chosen a x
 hand-pays-so laws chosen a x u n m h is known counts pays =
-    node-pays chosen a x u n v after (m ∷ []) h.did known is h.was (omega (arith, owed-before, owed-after, counts, pays, blocks-double s a v.kept (here h) refl, blocks-double s a then_at (decided h) refl))
+    node-pays chosen a x u n v after (m ∷ []) h.did known is h.was (omega (arith, idle-owed s a k x.sent n v h.idle, owed-after, counts, pays, blocks-double s a v.kept (here h) refl, blocks-double s a then_at (decided h) refl))
   where
     s : Setting
     s = setting_of x
@@ -171,10 +177,6 @@ hand-pays-so laws chosen a x u n m h is known counts pays =
 
     comes : ComesTo v.kept.problem o after
     comes = comes-to laws v m
-
-    owed-before : node_owed s a k x.sent n v ≡ 0 + (waiting_count v.kept.entries + (total_over (block_load a v.kept) (client_numbers s) + vote_owed a k x.sent n NodeIdle))
-    owed-before =
-        ap (λ phase. to_say phase + (waiting_count (coming_station v.kept phase).entries + (total_over (block_load a (coming_station v.kept phase)) (client_numbers s) + vote_owed a k x.sent n (node_phase_of phase)))) h.idle
 
     owed-after : node_owed s a k u.sent n after ≡ length o.replies + (waiting_count o.entries + (total_over (block_load a then_at) (client_numbers s) + vote_owed a k u.sent n (phase_then h)))
     owed-after =
@@ -227,3 +229,86 @@ module _ (laws : ModelLaws) (chosen : ℕ → Bool) (a : Want) (x : ExactWorld) 
           vote-le =
               vote-owed-le (ask_cost a (own_phase a x) u.world.sent n (phase_then h)) (ask_cost a (own_phase a x) x.sent n NodeIdle)
               (Hand.away-asks s chosen a (forget x) n d fine is node_there idle blocking resting (forget u.world) (said-grows x u.world (m ∷ []) h.did.sent) (phase_then h))
+
+  -- the release and the reply to it are owed for who stands in the way
+  pub away-owed : 2 ≤ owed chosen a x
+  away-owed = go (numbered x.nodes n) refl
+    where
+      there : Station
+      there = ((forget x).nodes n).kept
+
+      blocked : 4 ≤ total_over (block_cost a there) (client_numbers s)
+      blocked =
+          let one : block_cost a there d ≡ 4 = ap (λ b. if b then 4 else 0) (Hand.blocking s chosen a (forget x) n d fine is node_there idle blocking resting) in
+          omega (arith, one, total-least (block_cost a there) (client_numbers s) d (client-among s d client_there))
+
+      go : (o : Option ExactNode) → numbered x.nodes n ≡ o → 2 ≤ owed chosen a x
+      go None none = absurd (let z : NodeDown ≡ NodeIdle = sym (ap (λ o. (node_numbered o).phase) none) ∙ idle in cc)
+      go (Some v) was =
+          let phase : v.phase ≡ node.Idle = node-idle v.phase (ap (λ o. (node_numbered o).phase) (sym was) ∙ idle) in
+          let half = blocks-double s a v.kept (station_of v.kept) refl in
+          let all : 4 ≤ total_over (block_cost a (station_of v.kept)) (client_numbers s) = subst (λ o. 4 ≤ total_over (block_cost a (node_numbered o).kept) (client_numbers s)) was blocked in
+          let least : owed_at s a (own_phase a x) x.sent n (Some v) ≤ owed chosen a x = subst (λ o. owed_at s a (own_phase a x) x.sent n o ≤ owed chosen a x) was (owed-least chosen a x n node_there is) in
+          omega (arith, half, all, least, idle-owed s a (own_phase a x) x.sent n v phase)
+
+-- The client that wants in hands in its request.
+module _ (laws : ModelLaws) (chosen : ℕ → Bool) (a : Want) (x : ExactWorld) (n : ℕ) (q : Present) (ok : IsSound x) (fine : Fine (setting_of x) chosen a (forget x)) (is : chosen n ≡ true) (node_there : HasAnyNode x.ballots n) (idle : ((forget x).nodes n).phase ≡ NodeIdle)
+    (none : (d : ℕ) → blocks a (coming ((forget x).nodes n)) d ≡ false) (asking : own_phase a x ≡ Asking q) (wanted : asks_for a q ≡ true) (ungranted : q.granted n ≡ false) (unsent : list_any (is_grant n q.ticket) x.sent ≡ false) where
+  abbrev settings : Setting
+  settings = setting_of x
+
+  -- the whole vote is owed
+  in-vote : vote_owed a (own_phase a x) x.sent n NodeIdle ≡ 2
+  in-vote = vote-owed-whole a (own_phase a x) x.sent n NodeIdle (Hand.in-before settings chosen a (forget x) n q fine is node_there idle none asking wanted ungranted unsent)
+
+  pub in-pays : (t u : Stepped) → step x (event.SayTo a.client n) ≡ Ok t → step t.world (event.Take n (next_number x)) ≡ Ok u → length u.world.sent + owed chosen a u.world ≤ length x.sent + owed chosen a x
+  in-pays t u said taken = let found = numbered-there x.clients a.client fine.possible.client.0 fine.possible.client.1 in go found.0 found.1
+    where
+      go : (k : ExactClient) → numbered x.clients a.client ≡ Some k → length u.world.sent + owed chosen a u.world ≤ length x.sent + owed chosen a x
+      go k was =
+          hand-pays-so laws chosen a x u.world n m h is node_there
+          (asked-count n h.taker.kept.problem h.taker.kept.entries q.ticket (reply_to_known n q.ticket (entry_of h.taker.kept.entries q.ticket.client)) sound.kept.well_formed won.2)
+          (let same = st-here in let vote = vote-none in let blocked = no-more in omega (arith, blocked, in-vote, vote, same))
+        where
+          m : Message
+          m = Request n q.ticket
+
+          tells : Tells a.client n (client_of k) (m ∷ [])
+          tells = tells-request a.client n (client_of k) q (ap (λ o. (client_numbered o).phase) (sym was) ∙ asking)
+
+          h : Handed x u.world n m
+          h = handed x a.client n k m t u node_there was tells said taken
+
+          sound : IsSoundNode h.taker
+          sound = ok.each_node n h.taker h.was
+
+          asked : IsAsked n ((forget x).nodes n).kept q.ticket (decided h) (outcome h).replies
+          asked = subst (λ st. IsAsked n st q.ticket (decided h) (outcome h).replies) (sym (kept-here h)) (decides laws h ok)
+
+          won : Hand.Wins settings chosen a (forget x) n q fine is node_there idle none asking wanted (decided h) (outcome h).replies
+          won = Hand.wins settings chosen a (forget x) n q fine is node_there idle none asking wanted (decided h) (outcome h).replies asked
+
+          no-more : total_over (block_cost a (decided h)) (client_numbers settings) ≤ total_over (block_cost a ((forget x).nodes n).kept) (client_numbers settings)
+          no-more = Hand.in-blocks settings chosen a (forget x) n q fine is node_there idle none asking wanted (decided h) (outcome h).replies won
+
+          st-here : total_over (block_cost a ((forget x).nodes n).kept) (client_numbers settings) ≡ total_over (block_cost a (here h)) (client_numbers settings)
+          st-here = ap (λ st. total_over (block_cost a st) (client_numbers settings)) (kept-here h)
+
+          comes : ComesTo h.taker.kept.problem (outcome h) (decided_on h.taker m)
+          comes = comes-to laws h.taker m
+
+          -- the Grant is promised then
+          vote-none : vote_owed a (own_phase a x) u.world.sent n (phase_then h) ≡ 0
+          vote-none =
+              vote-owed-none a (own_phase a x) u.world.sent n (phase_then h)
+              (Hand.in-after settings chosen a (forget x) n q fine is node_there idle none asking wanted (forget u.world) (decided h) (outcome h).replies won (phase_then h) (comes.promised n q.ticket))
+
+  pub in-owed : 2 ≤ owed chosen a x
+  in-owed = go (numbered x.nodes n) refl
+    where
+      go : (o : Option ExactNode) → numbered x.nodes n ≡ o → 2 ≤ owed chosen a x
+      go None missing = absurd (let z : NodeDown ≡ NodeIdle = sym (ap (λ o. (node_numbered o).phase) missing) ∙ idle in cc)
+      go (Some v) was =
+          let phase : v.phase ≡ node.Idle = node-idle v.phase (ap (λ o. (node_numbered o).phase) (sym was) ∙ idle) in
+          let least : owed_at settings a (own_phase a x) x.sent n (Some v) ≤ owed chosen a x = subst (λ o. owed_at settings a (own_phase a x) x.sent n o ≤ owed chosen a x) was (owed-least chosen a x n node_there is) in
+          omega (arith, in-vote, least, idle-owed settings a (own_phase a x) x.sent n v phase)
