@@ -50,13 +50,16 @@ abbrev pub EventPaid : (ℕ → Bool) → Want → ExactWorld → Event → Type
 EventPaid chosen a x e = EventPays chosen a x e × EventFits chosen a x e
 
 -- it fits, where what it would say is owed
-pub event-fits : ModelLaws → (chosen : ℕ → Bool) (a : Want) (x : ExactWorld) (e : Event) → length (said_by x.ballots e (part x (actor_of e))) ≤ owed chosen a x → EventFits chosen a x e
+event-fits : ModelLaws → (chosen : ℕ → Bool) (a : Want) (x : ExactWorld) (e : Event) → length (said_by x.ballots e (part x (actor_of e))) ≤ owed chosen a x → EventFits chosen a x e
 event-fits laws chosen a x e le full = omega (arith, full-without-room laws x e full, le)
 
+silent-fits : ModelLaws → (chosen : ℕ → Bool) (a : Want) (x : ExactWorld) (e : Event) → ¬ (IsListFault e fault.SentListFull) → EventFits chosen a x e
+silent-fits laws chosen a x e none = event-fits laws chosen a x e (subst (λ (l : List Message). length l ≤ owed chosen a x) (sym (said-nothing laws x e none)) (omega arith))
+
 -- A client's event that says nothing, and makes no vote cost more.
-pub client-paid : ModelLaws → (chosen : ℕ → Bool) (a : Want) (x : ExactWorld) (e : Event) (c : ℕ) → IsSound x → actor_of e ≡ actor.Client c → ¬ (IsListFault e fault.SentListFull) →
+client-paid : ModelLaws → (chosen : ℕ → Bool) (a : Want) (x : ExactWorld) (e : Event) (c : ℕ) → IsSound x → actor_of e ≡ actor.Client c → ¬ (IsListFault e fault.SentListFull) →
     ((t : Stepped) → step x e ≡ Ok t → (n : ℕ) → HasAnyNode x.ballots n → chosen n ≡ true → (phase : NodePhase) → ask_cost a (own_phase a t.world) x.sent n phase ≤ ask_cost a (own_phase a x) x.sent n phase) → EventPaid chosen a x e
-client-paid laws chosen a x e c ok own none asks = (pays, event-fits laws chosen a x e (subst (λ (l : List Message). length l ≤ owed chosen a x) (sym silent) (omega arith)))
+client-paid laws chosen a x e c ok own none asks = (pays, silent-fits laws chosen a x e none)
   where
     silent : said_by x.ballots e (part x (actor_of e)) ≡ []
     silent = said-nothing laws x e none
@@ -88,7 +91,7 @@ module _ (laws : ModelLaws) (chosen : ℕ → Bool) (a : Want) (x : ExactWorld) 
   s = setting_of x
 
   tries-paid : (kept u : ExactStation) (replies : List Message) → numbered x.nodes n ≡ Some (record { kept = kept; tried = None; phase = node.Decided u replies }) → EventPaid chosen a x (event.Try (actor.Node n))
-  tries-paid kept u replies was = (pays, event-fits laws chosen a x (event.Try (actor.Node n)) (subst (λ (l : List Message). length l ≤ owed chosen a x) (sym (said-nothing laws x (event.Try (actor.Node n)) (λ z. z))) (omega arith)))
+  tries-paid kept u replies was = (pays, silent-fits laws chosen a x (event.Try (actor.Node n)) (λ z. z))
     where
       before : ExactNode
       before = record { kept = kept; tried = None; phase = node.Decided u replies }
@@ -104,7 +107,7 @@ module _ (laws : ModelLaws) (chosen : ℕ → Bool) (a : Want) (x : ExactWorld) 
           node-pays chosen a x t.world n before after [] did known is was (omega (arith, vote))
 
   keeps-paid : (kept u st : ExactStation) (replies : List Message) → numbered x.nodes n ≡ Some (record { kept = kept; tried = Some u; phase = node.Decided st replies }) → EventPaid chosen a x (event.Kept (actor.Node n))
-  keeps-paid kept u st replies was = (pays, event-fits laws chosen a x (event.Kept (actor.Node n)) (subst (λ (l : List Message). length l ≤ owed chosen a x) (sym (said-nothing laws x (event.Kept (actor.Node n)) (λ z. z))) (omega arith)))
+  keeps-paid kept u st replies was = (pays, silent-fits laws chosen a x (event.Kept (actor.Node n)) (λ z. z))
     where
       before : ExactNode
       before = record { kept = kept; tried = Some u; phase = node.Decided st replies }

@@ -49,7 +49,7 @@ finish-nearer : (s : Setting) (chosen : ℕ → Bool) (a : Want) (w v : World) (
     ((t : Ticket) → vote_cost n t v.sent after.phase ≤ vote_cost n t w.sent before.phase) → Fine s chosen a v × (cost s chosen a v < cost s chosen a w)
 finish-nearer s chosen a w v e n before after said fine is h of up less same le = (
   fine-of-node s chosen a w e v n fine h (only-node s n w before after said v of) (subst (λ (x : Node). x.phase ≢ NodeDown) (sym of.is) up)
-  (λ d stands. subst (λ x. StandsInWay a (coming x) d) (sym of.was) (subst (λ st. StandsInWay a st d) same (subst (λ x. StandsInWay a (coming x) d) of.is stands))),
+      (λ d stands. subst (λ x. StandsInWay a (coming x) d) (sym of.was) (subst (λ st. StandsInWay a st d) same (subst (λ x. StandsInWay a (coming x) d) of.is stands))),
   node-nearer s chosen a w v n (only-node s n w before after said v of) is (less-at s a w v n before after said of less same le),
 )
 

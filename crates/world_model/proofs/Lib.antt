@@ -47,6 +47,7 @@ pub mod OwedFacts
 pub mod SaidFacts
 pub mod AloneRooms
 pub mod HandRooms
+pub mod Rooms
 pub mod ExclusionFacts
 pub mod LocalityFacts
 pub mod StayFacts
