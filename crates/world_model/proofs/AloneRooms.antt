@@ -1,6 +1,6 @@
 -- The moves that are one event pay what they say, and the list is full for them only where it lacks room for what
 -- is owed.
-use Rattle.std.proofs.Common.{◌≡◌, ◌≢◌, ℕ, ◌+◌, ◌<◌, ◌≤◌, ◌||◌, Bool, true, false, if◌then◌else◌, List, [], ◌∷◌, ◌++◌, length, Option, None, Some, Ok, refl, sym, ◌∙◌, ap, subst, inl, inr, arith}
+use Rattle.std.proofs.Common.{◌≡◌, ◌≢◌, ℕ, ◌+◌, ◌<◌, ◌≤◌, ◌||◌, Bool, true, false, if◌then◌else◌, List, [], ◌++◌, length, Option, None, Some, Ok, refl, sym, ◌∙◌, ap, subst, inl, inr, arith}
 use Rattle.std.specs.Option.{option_map}
 use Rattle.lock_messages.specs.declared.ids.Actor.TheVariants as actor
 use Rattle.lock_messages.specs.declared.messages.Message.{Message}
@@ -17,23 +17,23 @@ use Rattle.world_model.specs.declared.exact.ExactNodePhase.{ExactNodePhase}
 use Rattle.world_model.specs.declared.exact.ExactNodePhase.TheVariants as node
 use Rattle.world_model.specs.declared.exact.ExactWorld.{ExactWorld}
 use Rattle.world_model.specs.declared.ways.Want.{Want}
-use Rattle.world_model.specs.Worlds.{NodePhase, NodeIdle, Decided, Stored, Node, Present, ClientPhase, ClientDown, ClientIdle, Chosen, Asking, IsIn, Client, World, Setting, OfClient, gained, grants_from, Hears, counts, counts_inside, passes, passes_inside, passes_softened, passes_idle, passes_chosen}
+use Rattle.world_model.specs.Worlds.{NodePhase, NodeIdle, Decided, Stored, Node, Present, ClientPhase, ClientDown, ClientIdle, Chosen, Asking, IsIn, Client, World, Setting, OfClient, grants_from, Hears, counts, counts_inside, passes, passes_inside, passes_softened, passes_idle, passes_chosen}
 use Rattle.world_model.specs.Invariants.{IsSafePhase}
 use Rattle.world_model.specs.ExactNodes.{tries_station_in, keeps_station_in, says_in}
-use Rattle.world_model.specs.ExactWorlds.{numbered, NodeDoes, deed_of, actor_of, Stepped, refusal, step}
+use Rattle.world_model.specs.ExactWorlds.{numbered, NodeDoes, actor_of, Stepped, refusal, step}
 use Rattle.world_model.specs.Forgetting.{station_of, node_phase_of, client_numbered, node_numbered, forget, setting_of, IsSoundNode, IsSound}
 use Rattle.world_model.specs.Parts.{node_part, part, IsListFault, said_in, said_by}
 use Rattle.world_model.specs.Advice.{blocks, asks_for, is_inside_as, client_numbers, finishing, finishing_in, resting, resting_in, beginning, beginning_in}
 use Rattle.world_model.specs.ExactWays.{total_over, waiting_count}
 use Rattle.world_model.proofs.Costs.{vote_cost, ask_cost}
-use Rattle.world_model.proofs.Nearer.{Grows, vote-le, ask-le}
+use Rattle.world_model.proofs.Nearer.{vote-le, ask-le}
 use Rattle.world_model.proofs.FinishMoves.{ask-by-vote, said-le}
 use Rattle.world_model.proofs.OwnMoves.{ask-most}
 use Rattle.world_model.proofs.VoteMoves.{enters-nearer}
 use Rattle.world_model.proofs.RefusalFacts.{full-without-room}
 use Rattle.world_model.proofs.Deeds.{ModelLaws}
-use Rattle.world_model.proofs.StepFacts.{DeedDone, step-done}
-use Rattle.world_model.proofs.Owed.{vote_owed, node_owed, owed_at, owed}
+use Rattle.world_model.proofs.StepFacts.{step-done}
+use Rattle.world_model.proofs.Owed.{node_owed, owed_at, owed}
 use Rattle.world_model.proofs.GrantCounts.{same-waiting}
 use Rattle.world_model.proofs.OwedFacts.{own_phase, vote-owed-le, owed-least, owed-still, owed-drops}
 use Rattle.world_model.proofs.SaidFacts.{said-nothing, same-node, same-client, NodeDid, node-did, said-length, said-grows, nothing-said}

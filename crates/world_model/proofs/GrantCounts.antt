@@ -1,20 +1,19 @@
 -- What a decision tells is paid by those that waited: each Grant is of a ticket that waits no more.
-use Rattle.std.proofs.Common.{◌≡◌, ◌≢◌, ℕ, ◌+◌, ◌-◌, ◌≤◌, ◌⊎◌, Bool, true, false, not, ◌&&◌, cond, if◌then◌else◌, map, filter, length, List, [], ◌∷◌, ◌++◌, Option, None, Some, refl, sym, ◌∙◌, ap, subst, inl, inr, arith}
-use Rattle.std.proofs.lemmas.Bool.{cases_Bool, eq-eqb, ne_eqb, eqb-true}
+use Rattle.std.proofs.Common.{◌≡◌, ◌≢◌, ℕ, ◌+◌, ◌-◌, ◌≤◌, Bool, true, false, not, ◌&&◌, cond, if◌then◌else◌, map, filter, length, List, [], ◌∷◌, ◌++◌, Option, None, Some, refl, sym, ◌∙◌, ap, subst, arith}
+use Rattle.std.proofs.lemmas.Bool.{eq-eqb, ne_eqb, eqb-true}
 use Rattle.std.proofs.Math.ListN.{length-append}
 use Rattle.lock_messages.specs.declared.tickets.Mode.{Mode}
 use Rattle.lock_messages.specs.declared.tickets.Ticket.{Ticket}
 use Rattle.lock_messages.specs.declared.messages.Message.{Message}
-use Rattle.lock_messages.specs.declared.messages.Message.TheVariants.{Request, Grant, Busy}
+use Rattle.lock_messages.specs.declared.messages.Message.TheVariants.{Grant, Busy}
 use Rattle.lock_model.specs.declared.entries.Entry.{Entry}
 use Rattle.lock_model.specs.declared.entries.Live.{Live}
 use Rattle.lock_model.specs.declared.entries.Status.{Status}
 use Rattle.lock_model.specs.declared.entries.Status.TheVariants.{Waiting, Holding, Softened}
 use Rattle.lock_model.specs.declared.problems.Problem.{Problem}
 use Rattle.lock_model.specs.Stations.{Claim, Free, Has, Standing, Station}
-use Rattle.lock_model.specs.Decisions.{Among}
 use Rattle.lock_model.specs.ExactStations.{is_of, knows, entry_of, standing_of, meaning, EachOnce, IsWellFormed, is_waiting, is_holding, admits, promoted, settled_entry, settle, settled, waits_in}
-use Rattle.lock_model.specs.ExactDecisions.{ended_entry, ended, moved_last, grant_of, told, grants, new_entry, takes_up, answered, releases}
+use Rattle.lock_model.specs.ExactDecisions.{ended_entry, ended, moved_last, grant_of, told, grants, new_entry, answered, releases}
 use Rattle.lock_model.proofs.EntryFacts.{any-none, Middle, once-middle, entry_of-found, entry_of-other}
 use Rattle.lock_model.proofs.EntryEdits.{ended-well, settled-well, moved-puts}
 use Rattle.world_model.specs.ExactWays.{waiting_count}

@@ -1,9 +1,8 @@
 -- The two hands pay what they say: one message by the client, and what the node decides to reply.
-use Rattle.std.proofs.Common.{◌≡◌, ◌≢◌, ℕ, ◌+◌, ◌-◌, ◌<◌, ◌≤◌, ◌==◌, Bool, true, false, cond, if◌then◌else◌, List, [], ◌∷◌, ◌++◌, length, Option, None, Some, Ok, Err, zero, suc, refl, sym, ◌∙◌, ap, subst, inl, inr, arith}
+use Rattle.std.proofs.Common.{◌≡◌, ℕ, ◌+◌, ◌≤◌, Bool, true, false, cond, if◌then◌else◌, List, [], ◌∷◌, ◌++◌, length, Option, None, Some, Ok, Err, refl, sym, ◌∙◌, ap, subst, inl, inr, arith}
 use Rattle.std.specs.Prelude.{slice_get}
 use Rattle.std.specs.List.{list_any}
-use Rattle.std.proofs.lemmas.Bool.{cases_eq, eq-eqb}
-use Rattle.std.proofs.Math.ListN.{length-set}
+use Rattle.std.proofs.lemmas.Bool.{cases_eq}
 use Rattle.lock_messages.specs.declared.tickets.Ticket.{Ticket}
 use Rattle.lock_messages.specs.declared.messages.Message.{Message}
 use Rattle.lock_messages.specs.declared.messages.Message.TheVariants.{Request, Release}
@@ -11,7 +10,7 @@ use Rattle.lock_messages.specs.Messages.{is_for_node}
 use Rattle.lock_model.specs.declared.problems.Problem.{Problem}
 use Rattle.lock_model.specs.declared.entries.Entry.{Entry}
 use Rattle.lock_model.specs.Ballots.{HasAnyNode}
-use Rattle.lock_model.specs.Stations.{Has, Station}
+use Rattle.lock_model.specs.Stations.{Station}
 use Rattle.lock_model.specs.Decisions.{Decides, IsReleased, IsAsked}
 use Rattle.lock_model.specs.ExactStations.{entry_of, meaning}
 use Rattle.lock_model.specs.ExactDecisions.{Outcome, decision, changes, reply_to_known}
@@ -21,14 +20,13 @@ use Rattle.world_model.specs.declared.events.StepFault.{StepFault}
 use Rattle.world_model.specs.declared.events.StepFault.TheVariants as fault
 use Rattle.world_model.specs.declared.exact.ExactStation.{ExactStation}
 use Rattle.world_model.specs.declared.exact.ExactNode.{ExactNode}
-use Rattle.world_model.specs.declared.exact.ExactNodePhase.{ExactNodePhase}
 use Rattle.world_model.specs.declared.exact.ExactNodePhase.TheVariants as node
 use Rattle.world_model.specs.declared.exact.ExactClient.{ExactClient}
 use Rattle.world_model.specs.declared.exact.ExactWorld.{ExactWorld}
 use Rattle.world_model.specs.declared.ways.Want.{Want}
-use Rattle.world_model.specs.Worlds.{NodePhase, NodeDown, NodeIdle, Node, Present, ClientPhase, ClientIdle, Asking, Client, Setting, HasClient, Tells}
+use Rattle.world_model.specs.Worlds.{NodePhase, NodeDown, NodeIdle, Present, ClientPhase, ClientIdle, Asking, Setting, HasClient, Tells}
 use Rattle.world_model.specs.ExactNodes.{node_in, decided_on}
-use Rattle.world_model.specs.ExactWorlds.{numbered, Stepped, Steps, next_number, has_room, sending, with_node_at, with_client_at, step}
+use Rattle.world_model.specs.ExactWorlds.{numbered, Stepped, next_number, has_room, sending, with_client_at, step}
 use Rattle.world_model.specs.Numbered.{numbered-next, numbered-one, numbered-there, numbered-set-here, numbered-set-there}
 use Rattle.world_model.specs.Forgetting.{station_of, node_phase_of, client_of, client_numbered, node_numbered, forget, setting_of, IsSoundNode, IsSound}
 use Rattle.world_model.specs.Advice.{coming, blocks, asks_for, is_grant, client_numbers}

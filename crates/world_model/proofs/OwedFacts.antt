@@ -1,5 +1,5 @@
 -- What is owed, as a sum over the nodes: when it is no more than it was, and when it is less.
-use Rattle.std.proofs.Common.{◌≡◌, ◌≢◌, ℕ, ◌+◌, ◌≤◌, ◌⊎◌, nat_le, Bool, true, false, if◌then◌else◌, List, [], ◌∷◌, length, Option, None, Some, refl, sym, ◌∙◌, ap, subst, inl, inr, arith}
+use Rattle.std.proofs.Common.{◌≡◌, ◌≢◌, ℕ, ◌+◌, ◌≤◌, nat_le, Bool, true, false, if◌then◌else◌, List, [], ◌∷◌, Option, None, Some, refl, sym, ◌∙◌, ap, subst, inl, inr, arith}
 use Rattle.std.proofs.lemmas.Bool.{cases_eq, leb-true, le-leb}
 use Rattle.lock_messages.specs.declared.messages.Message.{Message}
 use Rattle.lock_model.specs.Ballots.{HasAnyNode}
@@ -9,16 +9,16 @@ use Rattle.world_model.specs.declared.exact.ExactStation.{ExactStation}
 use Rattle.world_model.specs.declared.exact.ExactNode.{ExactNode}
 use Rattle.world_model.specs.declared.exact.ExactWorld.{ExactWorld}
 use Rattle.world_model.specs.declared.ways.Want.{Want}
-use Rattle.world_model.specs.Worlds.{NodePhase, ClientPhase, World, Setting}
+use Rattle.world_model.specs.Worlds.{NodePhase, ClientPhase, Setting}
 use Rattle.world_model.specs.ExactWorlds.{numbered}
 use Rattle.world_model.specs.Numbered.{numbered-one}
 use Rattle.world_model.specs.Forgetting.{station_of, node_phase_of, forget, setting_of, IsSound}
 use Rattle.world_model.specs.Advice.{blocks, node_numbers, client_numbers}
-use Rattle.world_model.specs.ExactWays.{total_over, to_say, coming_station, waiting_count, block_load, load_at, load}
+use Rattle.world_model.specs.ExactWays.{total_over, block_load, load_at, load}
 use Rattle.world_model.proofs.Costs.{block_cost, ask_cost}
 use Rattle.world_model.proofs.Nearer.{Grows, total-le, node-among, ask-le}
 use Rattle.world_model.proofs.InTheWay.{total-drops}
-use Rattle.world_model.proofs.Owed.{vote_owed, node_owed, owed_at, owed}
+use Rattle.world_model.proofs.Owed.{vote_owed, owed_at, owed}
 
 -- the client's phase, in the world without its order
 abbrev pub own_phase : Want → ExactWorld → ClientPhase

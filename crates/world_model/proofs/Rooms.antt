@@ -1,7 +1,6 @@
 -- Each exact step on the way in pays what it says out of what is owed: with room for what is owed the list of
 -- messages never gets full.
-use Rattle.std.proofs.Common.{◌≡◌, ◌≢◌, ℕ, ◌+◌, ◌<◌, ◌≤◌, ◌==◌, Bool, true, false, if◌then◌else◌, List, [], ◌∷◌, length, Option, None, Some, Ok, Err, refl, ap, subst, arith}
-use Rattle.lock_messages.specs.declared.messages.Message.{Message}
+use Rattle.std.proofs.Common.{◌≡◌, ℕ, ◌+◌, ◌<◌, ◌≤◌, ◌==◌, Bool, true, false, if◌then◌else◌, List, length, Option, None, Some, Ok, Err, arith}
 use Rattle.lock_messages.specs.declared.messages.Message.TheVariants as message
 use Rattle.lock_model.specs.Ballots.{Ballot, node_count}
 use Rattle.lock_model.specs.ExactHearing.{is_node_of}
@@ -16,8 +15,7 @@ use Rattle.world_model.specs.declared.exact.ExactWorld.{ExactWorld}
 use Rattle.world_model.specs.declared.ways.Move.{Move}
 use Rattle.world_model.specs.declared.ways.Move.TheVariants.{Alone, Hand, HearFrom}
 use Rattle.world_model.specs.declared.ways.Want.{Want}
-use Rattle.world_model.specs.Turns.{Turns}
-use Rattle.world_model.specs.ExactClients.{says_one, said_inside, tells_in, tells}
+use Rattle.world_model.specs.ExactClients.{says_one, tells_in, tells}
 use Rattle.world_model.specs.ExactWorlds.{numbered, ClientDoes, Stepped, next_number, refusal, step}
 use Rattle.world_model.specs.Forgetting.{forget, setting_of, IsSound}
 use Rattle.world_model.specs.Parts.{client_part, turn_says, said_in}
@@ -28,7 +26,7 @@ use Rattle.world_model.proofs.RefusalFacts.{full-without-room}
 use Rattle.world_model.proofs.Deeds.{ModelLaws}
 use Rattle.world_model.proofs.Owed.{owed}
 use Rattle.world_model.proofs.OwedFacts as Owed
-use Rattle.world_model.proofs.AloneRooms.{EventPays, EventFits, EventPaid, finishes-paid, rests-paid, begins-paid, enters-paid, hears-paid}
+use Rattle.world_model.proofs.AloneRooms.{EventFits, EventPaid, finishes-paid, rests-paid, begins-paid, enters-paid, hears-paid}
 use Rattle.world_model.proofs.HandRooms.{away-pays, away-owed, in-pays, in-owed}
 
 -- a hand pays what it says: the client says, and the node takes the next number

@@ -1,10 +1,8 @@
 -- What a step that was taken has said, and where it has left the actors.
-use Rattle.std.proofs.Common.{◌≡◌, ◌≢◌, ℕ, ◌+◌, ◌<◌, List, [], ◌∷◌, ◌++◌, length, Option, None, Some, Ok, Err, refl, sym, ◌∙◌, ap, subst, inl, arith}
+use Rattle.std.proofs.Common.{◌≡◌, ◌≢◌, ℕ, ◌+◌, List, [], ◌++◌, length, Option, None, Some, Ok, Err, refl, sym, ◌∙◌, ap, subst, inl}
 use Rattle.std.proofs.Math.ListN.{length-append}
-use Rattle.lock_messages.specs.declared.ids.Actor.{Actor}
 use Rattle.lock_messages.specs.declared.ids.Actor.TheVariants as actor
 use Rattle.lock_messages.specs.declared.messages.Message.{Message}
-use Rattle.lock_model.specs.Ballots.{Ballot}
 use Rattle.lock_model.specs.Decisions.{Among}
 use Rattle.world_model.specs.declared.events.Effect.{Effect}
 use Rattle.world_model.specs.declared.events.Event.{Event}
@@ -13,10 +11,10 @@ use Rattle.world_model.specs.declared.exact.ExactNode.{ExactNode}
 use Rattle.world_model.specs.declared.exact.ExactClient.{ExactClient}
 use Rattle.world_model.specs.declared.exact.ExactWorld.{ExactWorld}
 use Rattle.world_model.specs.Worlds.{Setting}
-use Rattle.world_model.specs.Turns.{Turn, Acts, Speaks, Reads, Turns}
+use Rattle.world_model.specs.Turns.{Acts, Speaks, Reads, Turns}
 use Rattle.world_model.specs.ExactWorlds.{numbered, Deed, NodeDoes, ClientDoes, deed_of, actor_in, actor_of}
 use Rattle.world_model.specs.Forgetting.{forget, setting_of}
-use Rattle.world_model.specs.Parts.{Part, NoPart, NodePart, ClientPart, node_part, client_part, part, IsListFault, after_turn, after_in, turn_says, said_in, said_by}
+use Rattle.world_model.specs.Parts.{NoPart, NodePart, ClientPart, node_part, client_part, part, IsListFault, after_turn, after_in, turn_says, said_in, said_by}
 use Rattle.world_model.proofs.ListFacts.{append-none, among-append}
 use Rattle.world_model.proofs.Nearer.{Grows}
 use Rattle.world_model.proofs.Told.{Kind, Told}
