@@ -39,6 +39,7 @@ use Rattle.world_model.proofs.Deeds.{ModelLaws}
 use Rattle.world_model.proofs.StepFacts.{step-done}
 use Rattle.world_model.proofs.Costs.{cost}
 use Rattle.world_model.proofs.Owed.{owed}
+use Rattle.world_model.proofs.Rooms.{alone-full, hand-full, owed-load}
 use Rattle.world_model.proofs.Nearer.{Fine, IsLeft, left-up, node-among, client-among}
 use Rattle.world_model.proofs.FineFacts.{cases-client, stranger-is, safe-coming}
 use Rattle.world_model.proofs.InTheWay.{stands-blocks}
@@ -49,7 +50,7 @@ use Rattle.world_model.proofs.Progress.{IsNext, Goes-on, progress}
 use Rattle.world_model.proofs.Raises.{Stays, still-up}
 use Rattle.world_model.proofs.WaysIn.{every-known, known-every, every-enough}
 use Rattle.world_model.proofs.ExactMoves.{alone-goes, hand-goes-first, hand-goes-second, hear-goes}
-use Rattle.world_model.proofs.OnTheWay.{RoomLaws, run-more, OnTheWay, stepped-ok, moves-on}
+use Rattle.world_model.proofs.OnTheWay.{run-more, OnTheWay, stepped-ok, moves-on}
 use Rattle.world_model.proofs.Prefixes.{Risen, none-risen, risen-on, client-risen, node-risen, client-rises-step, node-rises-step}
 use Rattle.world_model.proofs.OwnRests.{CameUp, came-up}
 
@@ -77,11 +78,11 @@ leads-in x a events y run inside = record { taken = ap (λ (r : Ran). r.taken) r
 no-full : {A : Type 0} (bound : ℕ) → bound ≤ MAX_MESSAGES → MAX_MESSAGES < bound → A
 no-full bound fits full = absurd (let z : ⊥ = omega (arith, fits, full) in z)
 
-module _ (laws : ModelLaws) (rooms : RoomLaws) (G : Bool) (chosen : ℕ → Bool) (a : Want) (bound : ℕ) (fits : bound ≤ MAX_MESSAGES) (x : ExactWorld) where
+module _ (laws : ModelLaws) (G : Bool) (chosen : ℕ → Bool) (a : Want) (bound : ℕ) (fits : bound ≤ MAX_MESSAGES) (x : ExactWorld) where
   alone-made : (y : ExactWorld) (e : Event) → IsSound y → Fine (setting_of y) chosen a (forget y) → length y.sent + owed chosen a y ≤ bound → IsNext (setting_of y) chosen a (forget y) (Alone e) → (t : Stepped) × (step y e ≡ Ok t)
   alone-made y e sound fine room is = elim (alone-goes laws chosen a y e sound is.goes is.kind) [
     | inl none ↦ stepped-ok (step y e) none
-    | inr full ↦ no-full bound fits (omega (arith, rooms.alone-full laws chosen a y e sound fine is.kind full, room))
+    | inr full ↦ no-full bound fits (omega (arith, alone-full laws chosen a y e sound fine is.kind full, room))
   ]
 
   made : (y : ExactWorld) (mv : Move) → IsSound y → Fine (setting_of y) chosen a (forget y) → length y.sent + owed chosen a y ≤ bound → IsNext (setting_of y) chosen a (forget y) mv → (added : List Event) × (z : ExactWorld) × Moved a y mv added z
@@ -92,7 +93,7 @@ module _ (laws : ModelLaws) (rooms : RoomLaws) (G : Bool) (chosen : ℕ → Bool
           let t = stepped-ok (step y (event.SayTo d n)) none in
           let u = stepped-ok (step t.0.world (event.Take n (next_number y))) (hand-goes-second laws a y d n t.0 sound is.goes t.1) in
           (event.SayTo d n ∷ event.Take n (next_number y) ∷ [], u.0.world, moved_hand d n t.0 u.0 t.1 u.1)
-        | inr full ↦ no-full bound fits (omega (arith, rooms.hand-full laws chosen a y d n sound fine is.kind full, room))
+        | inr full ↦ no-full bound fits (omega (arith, hand-full laws chosen a y d n sound fine is.kind full, room))
       ]
   made y (HearFrom n) sound fine room is = hearing n is is.kind
     where
@@ -116,7 +117,7 @@ module _ (laws : ModelLaws) (rooms : RoomLaws) (G : Bool) (chosen : ℕ → Bool
       go None is inside more = (events, y, way, inside)
       go (Some mv) is next more =
           let m = made y mv way.sound way.fine way.room next in
-          let on = moves-on laws rooms G chosen a bound x events y mv m.0 m.1 way is m.2 in
+          let on = moves-on laws G chosen a bound x events y mv m.0 m.1 way is m.2 in
           let same : setting_of m.1 ≡ setting_of y = on.0.setting ∙ sym way.setting in
           more (events ++ m.0) m.1 on.0 (subst (λ s. cost s chosen a (forget m.1) < cost (setting_of y) chosen a (forget y)) (sym same) on.1)
 
@@ -208,14 +209,14 @@ below-chosen (Asking p) h = refl
 below-chosen (IsIn p) h = refl
 
 -- the client has come up, and the nodes that could be won are won without the dead
-pub sets-out : RoomLaws → (a : Want) (x : ExactWorld) (events : List Event) (y : ExactWorld) → IsSound x → IsPossible (setting_of x) a → IsEnough (ballot_at x.ballots a.place) a.mode (can_be_won (setting_of x) a (forget x)) → CameUp a x events y →
+pub sets-out : (a : Want) (x : ExactWorld) (events : List Event) (y : ExactWorld) → IsSound x → IsPossible (setting_of x) a → IsEnough (ballot_at x.ballots a.place) a.mode (can_be_won (setting_of x) a (forget x)) → CameUp a x events y →
     OnTheWay (is_chosen_below ((forget x).clients a.client).phase) (can_be_won (setting_of x) a (forget x)) a (length x.sent + load (can_be_won (setting_of x) a (forget x)) a x) x events y
-sets-out rooms a x events y sound possible enough came = record {
+sets-out a x events y sound possible enough came = record {
   run = came.run;
   setting = came.setting;
   sound = came.sound;
   fine = fine-there chosen a y came.sound out;
-  room = (let owes = rooms.owed-load chosen a y in let less = came.load chosen in let same : length y.sent ≡ length x.sent = ap length came.sent in omega (arith, owes, less, same));
+  room = (let owes = owed-load chosen a y in let less = came.load chosen in let same : length y.sent ≡ length x.sent = ap length came.sent in omega (arith, owes, less, same));
   such = λ below. came.such (chosen-below ((forget x).clients a.client).phase below);
   ups = λ below. ups;
 }
@@ -239,15 +240,15 @@ sets-out rooms a x events y sound possible enough came = record {
     ]
 
 -- or all have risen since
-pub sets-out-risen : RoomLaws → (a : Want) (x : ExactWorld) (events : List Event) (y : ExactWorld) (more : List Event) (z : ExactWorld) → IsPossible (setting_of x) a → AllCross x.ballots → CameUp a x events y → HasRun x (events ++ more) z → Risen a y z →
+pub sets-out-risen : (a : Want) (x : ExactWorld) (events : List Event) (y : ExactWorld) (more : List Event) (z : ExactWorld) → IsPossible (setting_of x) a → AllCross x.ballots → CameUp a x events y → HasRun x (events ++ more) z → Risen a y z →
     ((who : Actor) → HasActor (setting_of x) who → IsUp (forget z) who) → OnTheWay false (every_node (setting_of x)) a (length x.sent + load (every_node (setting_of x)) a x) x (events ++ more) z
-sets-out-risen rooms a x events y more z possible crosses came run risen up = record {
+sets-out-risen a x events y more z possible crosses came run risen up = record {
   run = run;
   setting = risen.setting ∙ came.setting;
   sound = risen.sound;
   fine = fine-there chosen a z risen.sound out;
   room =
-    (let owes = rooms.owed-load chosen a z in
+    (let owes = owed-load chosen a z in
     let less = came.load chosen in
     let still = risen.load chosen in
     let same : length z.sent ≡ length x.sent = ap length (risen.sent ∙ came.sent) in omega (arith, owes, less, still, same));
@@ -389,19 +390,19 @@ came laws x a sound known attempt =
     let up = came-up laws a x sound k.0 k.1 left in
     (coming_up a (client_phase_of k.0.phase), up.0, up.1)
 
-pub exact-way : ModelLaws → RoomLaws → ExactWayIn
-exact-way laws rooms x a sound possible attempt room =
+pub exact-way : ModelLaws → ExactWayIn
+exact-way laws x a sound possible attempt room =
     let c = came laws x a sound possible.client attempt in
     let all = raise-all laws a c.1 c.2.sound in
-    let way = sets-out-risen rooms a x c.0 c.1 all.events all.world possible sound.crosses c.2 (run-join x c.0 c.1 all.events all.world c.2.run all.run) all.risen
+    let way = sets-out-risen a x c.0 c.1 all.events all.world possible sound.crosses c.2 (run-join x c.0 c.1 all.events all.world c.2.run all.run) all.risen
     (λ who known. all.raised who (subst (λ s. HasActor s who) (sym c.2.setting) known)) in
-    let end = gets-in laws rooms false (every_node (setting_of x)) a (length x.sent + load (every_node (setting_of x)) a x) room x (suc (cost (setting_of all.world) (every_node (setting_of x)) a (forget all.world))) (c.0 ++ all.events) all.world way (omega arith) in
+    let end = gets-in laws false (every_node (setting_of x)) a (length x.sent + load (every_node (setting_of x)) a x) room x (suc (cost (setting_of all.world) (every_node (setting_of x)) a (forget all.world))) (c.0 ++ all.events) all.world way (omega arith) in
     (end.0, leads-in x a end.0 end.1 end.2.run end.3)
 
-pub exact-way-gently : ModelLaws → RoomLaws → ExactWayWithoutTheDead
-exact-way-gently laws rooms x a sound possible attempt below enough room =
+pub exact-way-gently : ModelLaws → ExactWayWithoutTheDead
+exact-way-gently laws x a sound possible attempt below enough room =
     let chosen = can_be_won (setting_of x) a (forget x) in
     let c = came laws x a sound possible.client attempt in
-    let way = sets-out rooms a x c.0 c.1 sound possible enough c.2 in
-    let end = gets-in laws rooms (is_chosen_below ((forget x).clients a.client).phase) chosen a (length x.sent + load chosen a x) room x (suc (cost (setting_of c.1) chosen a (forget c.1))) c.0 c.1 way (omega arith) in
+    let way = sets-out a x c.0 c.1 sound possible enough c.2 in
+    let end = gets-in laws (is_chosen_below ((forget x).clients a.client).phase) chosen a (length x.sent + load chosen a x) room x (suc (cost (setting_of c.1) chosen a (forget c.1))) c.0 c.1 way (omega arith) in
     (end.0, leads-in x a end.0 end.1 end.2.run end.3, end.2.such (below-chosen ((forget x).clients a.client).phase below))

@@ -49,7 +49,7 @@ finish-nearer : (s : Setting) (chosen : ℕ → Bool) (a : Want) (w v : World) (
     ((t : Ticket) → vote_cost n t v.sent after.phase ≤ vote_cost n t w.sent before.phase) → Fine s chosen a v × (cost s chosen a v < cost s chosen a w)
 finish-nearer s chosen a w v e n before after said fine is h of up less same le = (
   fine-of-node s chosen a w e v n fine h (only-node s n w before after said v of) (subst (λ (x : Node). x.phase ≢ NodeDown) (sym of.is) up)
-  (λ d stands. subst (λ x. StandsInWay a (coming x) d) (sym of.was) (subst (λ st. StandsInWay a st d) same (subst (λ x. StandsInWay a (coming x) d) of.is stands))),
+      (λ d stands. subst (λ x. StandsInWay a (coming x) d) (sym of.was) (subst (λ st. StandsInWay a st d) same (subst (λ x. StandsInWay a (coming x) d) of.is stands))),
   node-nearer s chosen a w v n (only-node s n w before after said v of) is (less-at s a w v n before after said of less same le),
 )
 
@@ -92,7 +92,7 @@ vote-seven n t sent phase = go (list_any (is_grant n t) sent) (promises n t phas
 vote-one : (n : ℕ) (t : Ticket) (sent : List Message) (phase : NodePhase) → list_any (is_grant n t) sent ≡ true → vote_cost n t sent phase ≡ 1
 vote-one n t sent phase h = ap (λ b. if b then 1 else (if promises n t phase then 2 else 7)) h
 
-said-le : (n : ℕ) (t : Ticket) (w v : World) (replies : List Message) → Grows w v → ((m : Message) → Among m replies → Among m v.sent) → vote_cost n t v.sent NodeIdle ≤ vote_cost n t w.sent (Stored replies)
+pub said-le : (n : ℕ) (t : Ticket) (w v : World) (replies : List Message) → Grows w v → ((m : Message) → Among m replies → Among m v.sent) → vote_cost n t v.sent NodeIdle ≤ vote_cost n t w.sent (Stored replies)
 said-le n t w v replies grows told = go (list_any (is_grant n t) w.sent) (list_any (is_grant n t) replies) (any-grows (is_grant n t) w.sent v.sent grows) (any-grows (is_grant n t) replies v.sent told)
   where
     go : (b c : Bool) → (b ≡ true → list_any (is_grant n t) v.sent ≡ true) → (c ≡ true → list_any (is_grant n t) v.sent ≡ true) → vote_cost n t v.sent NodeIdle ≤ (if b then 1 else (if c then 2 else 7))

@@ -55,17 +55,17 @@ module _ (s : Setting) (chosen : ℕ → Bool) (a : Want) (w : World) (n d : ℕ
   abbrev last : ℕ
   last = (w.clients d).kept
 
-  blocking : blocks a st d ≡ true
+  pub blocking : blocks a st d ≡ true
   blocking = subst (λ t. blocks a t d ≡ true) (ap (coming_in st) idle) coming_blocks
 
   safe : IsSafeStation w n st
   safe = kept-safe s w n fine.safe
 
   -- its attempt is the last one
-  below : (st.at d).floor + 1 ≤ last
+  pub below : (st.at d).floor + 1 ≤ last
   below = (safe.owes d).within.live (blocks-has a st d blocking)
 
-  known : HasClient s d
+  pub known : HasClient s d
   known = go (client-or-not s d)
     where
       go : HasClient s d ⊎ ¬ (HasClient s d) → HasClient s d
@@ -80,12 +80,13 @@ module _ (s : Setting) (chosen : ℕ → Bool) (a : Want) (w : World) (n d : ℕ
       let r = released-decides s.clients n d last st (few-stand s chosen a w n st fine safe) safe.lawful known.1 in
       hand-goes s a w n d (Release n d last) r.0 r.1 node known idle (tells-release d n (w.clients d) resting (omega (arith, below))) (eq-eqb n n refl) r.2
 
-  away-pays : (v : World) → Grows w v → (u : Station) (replies : List Message) → IsReleased n st d last u replies → Pays s a n w v u replies
-  away-pays v grows u replies r = record { less = less; cheaper = λ phase promised. omega (arith, drop, asking phase) }
-    where
-      less : OthersLessen a.client st u
-      less e apart = settled-lessen st r.ended u d last r.ends r.settles e
+  pub away-lessens : (u : Station) (replies : List Message) → IsReleased n st d last u replies → OthersLessen a.client st u
+  away-lessens u replies r e apart = settled-lessen st r.ended u d last r.ends r.settles e
 
+  -- the client itself blocks no more, and nobody else begins to
+  pub away-drops : (u : Station) (replies : List Message) → IsReleased n st d last u replies → total_over (block_cost a u) (client_numbers s) + 4 ≤ total_over (block_cost a st) (client_numbers s)
+  away-drops u replies r = total-drops (block_cost a u) (block_cost a st) (client_numbers s) (less-blocks a st u (away-lessens u replies r)) 4 d (client-among s d known) one
+    where
       one : block_cost a u d + 4 ≤ block_cost a st d
       one =
           let free = ended-free st r.ended u d last (omega (arith, below)) r.ends r.settles in
@@ -93,11 +94,11 @@ module _ (s : Setting) (chosen : ℕ → Bool) (a : Want) (w : World) (n d : ℕ
           let was : block_cost a st d ≡ 4 = ap (λ b. if b then 4 else 0) blocking in
           omega (arith, now, was)
 
-      drop : total_over (block_cost a u) (client_numbers s) + 4 ≤ total_over (block_cost a st) (client_numbers s)
-      drop = total-drops (block_cost a u) (block_cost a st) (client_numbers s) (less-blocks a st u less) 4 d (client-among s d known) one
+  pub away-asks : (v : World) → Grows w v → (phase : NodePhase) → ask_cost a (w.clients a.client).phase v.sent n phase ≤ ask_cost a (w.clients a.client).phase w.sent n NodeIdle
+  away-asks v grows phase = omega (arith, ask-le a (w.clients a.client).phase n w v phase grows, idle-asks a (w.clients a.client).phase w.sent n phase)
 
-      asking : (phase : NodePhase) → ask_cost a (w.clients a.client).phase v.sent n phase ≤ ask_cost a (w.clients a.client).phase w.sent n NodeIdle
-      asking phase = omega (arith, ask-le a (w.clients a.client).phase n w v phase grows, idle-asks a (w.clients a.client).phase w.sent n phase)
+  away-pays : (v : World) → Grows w v → (u : Station) (replies : List Message) → IsReleased n st d last u replies → Pays s a n w v u replies
+  away-pays v grows u replies r = record { less = away-lessens u replies r; cheaper = λ phase promised. omega (arith, away-drops u replies r, away-asks v grows phase) }
 
   away-nears : Nears s chosen a w (Hand d n)
   away-nears v h = hand-nearer s chosen a w n d v h fine is up idle (λ u replies decides. away-pays v (hand-grows s chosen a w n d v h) u replies (subst (λ m. Decides st m u replies) said decides))
@@ -206,17 +207,21 @@ module _ (s : Setting) (chosen : ℕ → Bool) (a : Want) (w : World) (n : ℕ) 
 
   -- Whatever the node decides, it grants: the attempt is present, so it is not ended; its claim is that of its
   -- ticket, and not softened; and there is no cause to wait.
-  wins : (u : Station) (replies : List Message) → IsAsked n here t u replies → OthersLessen a.client here u × Among (Grant n t) replies
+  abbrev pub Wins : Station → List Message → Type 0
+  Wins u replies = OthersLessen a.client here u × Among (Grant n t) replies × ((u.at t.client).claim ≡ Has t.mode t.resource Holding)
+
+  pub wins : (u : Station) (replies : List Message) → IsAsked n here t u replies → Wins u replies
   wins u replies (over below same only) = absurd (omega (arith, owes.present t present, below))
   wins u replies (muddled m x status at claim (inl differs) same only) = absurd (differs (agrees m x status claim at).0)
   wins u replies (muddled m x status at claim (inr differs) same only) = absurd (differs (agrees m x status claim at).1)
-  wins u replies (held at claim same only) = (subst (OthersLessen a.client here) (sym same) (λ d apart. stays refl), (only (Grant n t)).1 refl)
+  wins u replies (held at claim same only) = (subst (OthersLessen a.client here) (sym same) (λ d apart. stays refl), (only (Grant n t)).1 refl, ap (λ (x : Station). (x.at t.client).claim) same ∙ claim)
   wins u replies (waited at claim same only) =
       absurd (uncaused here (λ d apart. stays refl) (waits-only (here.at t.client).claim claim) ((kept-safe s w n fine.safe).caused.cause t.client t.mode t.resource claim))
   wins u replies (softened at mode claim same only) = absurd (never-soft Read t.resource claim at)
   wins u replies (granted new ended settled ends settles free puts are) = (
     subst (λ c. OthersLessen c here u) mine (put-lessen here settled u t.client (taken_up t Holding) (settled-lessen here ended settled t.client (t.attempt - 1) ends settles) puts),
     (are (Grant n t)).1 (inl refl),
+    ap (λ (x : Standing). x.claim) puts.here,
   )
   wins u replies (queued new ended settled ends settles why puts are) =
       let is_cleared = settled-cleared t (ended.at t.client) (settled.at t.client) (ends.2.here ∙ new-cleared t (here.at t.client) ends.0 new ends.1) (settles.floors t.client) (settles.claims t.client) in
@@ -252,26 +257,26 @@ module _ (s : Setting) (chosen : ℕ → Bool) (a : Want) (w : World) (n : ℕ) 
   in-goes : Goes s a w (Hand a.client n)
   in-goes = hand-goes s a w n a.client (Request n t) decision.0 decision.1 node fine.possible.client idle (tells-request a.client n (w.clients a.client) p asking) (eq-eqb n n refl) decision.2
 
+  -- the vote is owed before, and no more once its Grant is promised
+  pub in-before : p.granted n ≡ false → list_any (is_grant n t) w.sent ≡ false → 7 ≤ ask_cost a (w.clients a.client).phase w.sent n NodeIdle
+  in-before ungranted unsent =
+      subst (λ k. 7 ≤ ask_cost a k w.sent n NodeIdle) (sym asking)
+      (subst (λ b. 7 ≤ (if b then (if p.granted n then 0 else (if list_any (is_grant n t) w.sent then 1 else 7)) else 7)) (sym wanted)
+      (ungranted-cost (p.granted n) (list_any (is_grant n t) w.sent) ungranted unsent))
+
+  pub in-after : (v : World) (u : Station) (replies : List Message) → Wins u replies → (phase : NodePhase) → promises n t phase ≡ list_any (is_grant n t) replies → ask_cost a (w.clients a.client).phase v.sent n phase ≤ 2
+  in-after v u replies won phase promised =
+      subst (λ k. ask_cost a k v.sent n phase ≤ 2) (sym asking)
+      (subst (λ b. (if b then (if p.granted n then 0 else vote_cost n t v.sent phase) else 7) ≤ 2) (sym wanted)
+      (promised-cost (p.granted n) (list_any (is_grant n t) v.sent) (promises n t phase) (promised ∙ grant-found n t replies won.1)))
+
+  pub in-blocks : (u : Station) (replies : List Message) → Wins u replies → total_over (block_cost a u) (client_numbers s) ≤ total_over (block_cost a here) (client_numbers s)
+  in-blocks u replies won = total-le (block_cost a u) (block_cost a here) (client_numbers s) (less-blocks a here u won.0)
+
   in-pays : (v : World) → p.granted n ≡ false → list_any (is_grant n t) w.sent ≡ false → (u : Station) (replies : List Message) → IsAsked n here t u replies → Pays s a n w v u replies
-  in-pays v ungranted unsent u replies h = record { less = won.0; cheaper = λ phase promised. omega (arith, blocked, before, after phase (promised t)) }
-    where
-      won : OthersLessen a.client here u × Among (Grant n t) replies
-      won = wins u replies h
-
-      blocked : total_over (block_cost a u) (client_numbers s) ≤ total_over (block_cost a here) (client_numbers s)
-      blocked = total-le (block_cost a u) (block_cost a here) (client_numbers s) (less-blocks a here u won.0)
-
-      before : 7 ≤ ask_cost a (w.clients a.client).phase w.sent n NodeIdle
-      before =
-          subst (λ k. 7 ≤ ask_cost a k w.sent n NodeIdle) (sym asking)
-          (subst (λ b. 7 ≤ (if b then (if p.granted n then 0 else (if list_any (is_grant n t) w.sent then 1 else 7)) else 7)) (sym wanted)
-          (ungranted-cost (p.granted n) (list_any (is_grant n t) w.sent) ungranted unsent))
-
-      after : (phase : NodePhase) → promises n t phase ≡ list_any (is_grant n t) replies → ask_cost a (w.clients a.client).phase v.sent n phase ≤ 2
-      after phase promised =
-          subst (λ k. ask_cost a k v.sent n phase ≤ 2) (sym asking)
-          (subst (λ b. (if b then (if p.granted n then 0 else vote_cost n t v.sent phase) else 7) ≤ 2) (sym wanted)
-          (promised-cost (p.granted n) (list_any (is_grant n t) v.sent) (promises n t phase) (promised ∙ grant-found n t replies won.1)))
+  in-pays v ungranted unsent u replies h =
+      let won = wins u replies h in
+      record { less = won.0; cheaper = λ phase promised. omega (arith, in-blocks u replies won, in-before ungranted unsent, in-after v u replies won phase (promised t)) }
 
   in-nears : p.granted n ≡ false → list_any (is_grant n t) w.sent ≡ false → Nears s chosen a w (Hand a.client n)
   in-nears ungranted unsent v h = hand-nearer s chosen a w n a.client v h fine is up idle (λ u replies decides. in-pays v ungranted unsent u replies (subst (λ m. Decides here m u replies) said decides))

@@ -42,6 +42,12 @@ pub mod Raises
 pub mod WaysIn
 pub mod StepShapes
 pub mod Owed
+pub mod GrantCounts
+pub mod OwedFacts
+pub mod SaidFacts
+pub mod AloneRooms
+pub mod HandRooms
+pub mod Rooms
 pub mod ExactMoves
 pub mod OnTheWay
 pub mod Prefixes

@@ -24,6 +24,7 @@ use Rattle.world_model.proofs.Deeds.{ModelLaws}
 use Rattle.world_model.proofs.StepFacts.{step-done}
 use Rattle.world_model.proofs.Costs.{cost}
 use Rattle.world_model.proofs.Owed.{owed}
+use Rattle.world_model.proofs.Rooms.{alone-pays, alone-full, hand-pays, hand-full, hear-pays}
 use Rattle.world_model.proofs.Nearer.{Fine, Makes, Goes}
 use Rattle.world_model.proofs.ListFacts.{among-append}
 use Rattle.world_model.proofs.Arrivals.{none-rises}
@@ -32,21 +33,6 @@ use Rattle.world_model.proofs.MoveKinds as kind
 use Rattle.world_model.proofs.MoveKinds.{MoveKind}
 use Rattle.world_model.proofs.Progress.{IsNext, Goes-on, progress}
 use Rattle.world_model.proofs.ExactMoves.{alone-goes, alone-makes, hand-goes-first, hand-goes-second, hand-makes, hear-goes, hear-makes}
-
--- STUB-BEGIN
-pub record RoomLaws : Type 1 where
-  pub alone-pays : ModelLaws → (chosen : ℕ → Bool) (a : Want) (x : ExactWorld) (e : Event) (t : Stepped) → IsSound x → Fine (setting_of x) chosen a (forget x) → MoveKind (setting_of x) chosen a (forget x) (Alone e) →
-      step x e ≡ Ok t → length t.world.sent + owed chosen a t.world ≤ length x.sent + owed chosen a x
-  pub alone-full : ModelLaws → (chosen : ℕ → Bool) (a : Want) (x : ExactWorld) (e : Event) → IsSound x → Fine (setting_of x) chosen a (forget x) → MoveKind (setting_of x) chosen a (forget x) (Alone e) →
-      refusal x e ≡ Some fault.SentListFull → MAX_MESSAGES < length x.sent + owed chosen a x
-  pub hand-pays : ModelLaws → (chosen : ℕ → Bool) (a : Want) (x : ExactWorld) (d n : ℕ) (t u : Stepped) → IsSound x → Fine (setting_of x) chosen a (forget x) → MoveKind (setting_of x) chosen a (forget x) (Hand d n) →
-      step x (event.SayTo d n) ≡ Ok t → step t.world (event.Take n (next_number x)) ≡ Ok u → length u.world.sent + owed chosen a u.world ≤ length x.sent + owed chosen a x
-  pub hand-full : ModelLaws → (chosen : ℕ → Bool) (a : Want) (x : ExactWorld) (d n : ℕ) → IsSound x → Fine (setting_of x) chosen a (forget x) → MoveKind (setting_of x) chosen a (forget x) (Hand d n) →
-      refusal x (event.SayTo d n) ≡ Some fault.SentListFull → MAX_MESSAGES < length x.sent + owed chosen a x
-  pub hear-pays : ModelLaws → (chosen : ℕ → Bool) (a : Want) (x : ExactWorld) (n k : ℕ) (p : Present) (m : Message) (t : Stepped) → IsSound x → Fine (setting_of x) chosen a (forget x) → MoveKind (setting_of x) chosen a (forget x) (HearFrom n) →
-      ((forget x).clients a.client).phase ≡ Asking p → numbered x.sent k ≡ Some m → is_grant n p.ticket m ≡ true → step x (event.Hear a.client k) ≡ Ok t → length t.world.sent + owed chosen a t.world ≤ length x.sent + owed chosen a x
-  pub owed-load : (chosen : ℕ → Bool) (a : Want) (x : ExactWorld) → owed chosen a x ≤ load chosen a x
--- STUB-END
 
 -- A run whose events were all taken: one more event behind
 pub run-more : (x : ExactWorld) (events : List Event) (y : ExactWorld) (e : Event) (t : Stepped) → HasRun x events y → step y e ≡ Ok t → HasRun x (events ++ e ∷ []) t.world
@@ -89,7 +75,7 @@ pub stepped-ok : (s : Steps) → refusal_of s ≡ None → (t : Stepped) × (s �
 stepped-ok (Ok t) h = (t, refl)
 stepped-ok (Err f) h = absurd (let z : Some f ≡ None = h in cc)
 
-module _ (laws : ModelLaws) (rooms : RoomLaws) (G : Bool) (chosen : ℕ → Bool) (a : Want) (bound : ℕ) (x : ExactWorld) where
+module _ (laws : ModelLaws) (G : Bool) (chosen : ℕ → Bool) (a : Want) (bound : ℕ) (x : ExactWorld) where
   -- one event more
   more-such : (events : List Event) (y : ExactWorld) (e : Event) → OnTheWay G chosen a bound x events y → IsGentle (λ who. ⊥) a.client e → IsUp (forget y) (actor_of e) →
       ((e : Event) → Among e events → IsOwnOrGentle x a e) → G ≡ true → (b : Event) → Among b (events ++ e ∷ []) → IsOwnOrGentle x a b
@@ -142,7 +128,7 @@ module _ (laws : ModelLaws) (rooms : RoomLaws) (G : Bool) (chosen : ℕ → Bool
           setting = same ∙ way.setting;
           sound = two.sound (one.sound way.sound);
           fine = subst (λ s. Fine s chosen a (forget u.world)) (sym same) near.0;
-          room = omega (arith, rooms.hand-pays laws chosen a y d n t u way.sound way.fine is.kind first second, way.room);
+          room = omega (arith, hand-pays laws chosen a y d n t u way.sound way.fine is.kind first second, way.room);
           such = λ g. such g is.gentle;
           ups = λ g who up. way.ups g who (says_up who (takes_up who up));
         },
@@ -163,11 +149,11 @@ module _ (laws : ModelLaws) (rooms : RoomLaws) (G : Bool) (chosen : ℕ → Bool
       OnTheWay G chosen a bound x (events ++ added) z × (cost (setting_of y) chosen a (forget z) < cost (setting_of y) chosen a (forget y))
   moves-on events y _ _ _ way next (moved_alone e t h) =
       let is = next-is events y (Alone e) way next in
-      on-alone events y (Alone e) e t way next h (alone-makes laws a y e t way.sound h) is.gentle.0 is.gentle.1 (rooms.alone-pays laws chosen a y e t way.sound way.fine is.kind h)
+      on-alone events y (Alone e) e t way next h (alone-makes laws a y e t way.sound h) is.gentle.0 is.gentle.1 (alone-pays laws chosen a y e t way.sound way.fine is.kind h)
   moves-on events y _ _ _ way next (moved_hand d n t u first second) = on-hand events y d n t u way next first second
   moves-on events y _ _ _ way next (moved_hear n k m p t asks there is h) =
       let it = next-is events y (HearFrom n) way next in
-      on-alone events y (HearFrom n) (event.Hear a.client k) t way next h (hear-makes laws a y n k p m t asks there is h) refl it.gentle (rooms.hear-pays laws chosen a y n k p m t way.sound way.fine it.kind asks there is h)
+      on-alone events y (HearFrom n) (event.Hear a.client k) t way next h (hear-makes laws a y n k p m t asks there is h) refl it.gentle (hear-pays laws chosen a y k t way.sound h)
 
   -- Only a full list of messages stops it, and that it isn't full the bound may say.
   full-only : (y : ExactWorld) (e : Event) (f : StepFault) → ((refusal y e ≡ None) ⊎ (refusal y e ≡ Some fault.SentListFull)) → (refusal y e ≡ Some fault.SentListFull → MAX_MESSAGES < bound) → step y e ≡ Err f → (f ≡ fault.SentListFull) × (MAX_MESSAGES < bound)
@@ -177,10 +163,10 @@ module _ (laws : ModelLaws) (rooms : RoomLaws) (G : Bool) (chosen : ℕ → Bool
   pub stuck-full : (events : List Event) (y : ExactWorld) (mv : Move) (f : StepFault) → OnTheWay G chosen a bound x events y → next_move (setting_of y) chosen a (forget y) ≡ Some mv → IsStuck a y mv f → (f ≡ fault.SentListFull) × (MAX_MESSAGES < bound)
   stuck-full events y _ _ way next (stuck_alone e f h) =
       let is = next-is events y (Alone e) way next in
-      full-only y e f (alone-goes laws chosen a y e way.sound is.goes is.kind) (λ full. omega (arith, rooms.alone-full laws chosen a y e way.sound way.fine is.kind full, way.room)) h
+      full-only y e f (alone-goes laws chosen a y e way.sound is.goes is.kind) (λ full. omega (arith, alone-full laws chosen a y e way.sound way.fine is.kind full, way.room)) h
   stuck-full events y _ _ way next (stuck_saying d n f h) =
       let is = next-is events y (Hand d n) way next in
-      full-only y (event.SayTo d n) f (hand-goes-first laws a y d n way.sound is.goes) (λ full. omega (arith, rooms.hand-full laws chosen a y d n way.sound way.fine is.kind full, way.room)) h
+      full-only y (event.SayTo d n) f (hand-goes-first laws a y d n way.sound is.goes) (λ full. omega (arith, hand-full laws chosen a y d n way.sound way.fine is.kind full, way.room)) h
   stuck-full events y _ _ way next (stuck_taking d n t f first h) =
       let is = next-is events y (Hand d n) way next in
       let none = hand-goes-second laws a y d n t way.sound is.goes first in

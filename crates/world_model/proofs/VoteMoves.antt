@@ -224,7 +224,7 @@ enters-as a p = go p.softened
     go true h = absurd (let z : false ≡ true = h in cc)
     go false h = h
 
-enters-nearer : (s : Setting) (a : Want) (p : Present) (before after : Client) → Enters s.ballots before after → before.phase ≡ Asking p → asks_for a p ≡ true → IsNearerOwn a before after
+pub enters-nearer : (s : Setting) (a : Want) (p : Present) (before after : Client) → Enters s.ballots before after → before.phase ≡ Asking p → asks_for a p ≡ true → IsNearerOwn a before after
 enters-nearer s a p before after (enters kept tried q enough) asks wants =
     let wanted : asks_for a q ≡ true = ap (asks_for a) (same-present q p asks) ∙ wants in
     let inside = enters-as a q wanted in

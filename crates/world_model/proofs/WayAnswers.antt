@@ -36,26 +36,26 @@ use Rattle.world_model.proofs.Nearer.{total-le}
 use Rattle.world_model.proofs.Searches.{numbers-among}
 use Rattle.world_model.proofs.Progress.{progress}
 use Rattle.world_model.proofs.WaysIn.{known-every}
-use Rattle.world_model.proofs.OnTheWay.{RoomLaws, OnTheWay, moves-on, stuck-full}
+use Rattle.world_model.proofs.OnTheWay.{OnTheWay, moves-on, stuck-full}
 use Rattle.world_model.proofs.Prefixes.{Risen, none-risen, risen-on, client-risen, node-risen, client-rises-step, node-rises-step}
 use Rattle.world_model.proofs.OwnRests.{CameUp, came-up}
 use Rattle.world_model.proofs.ExactWaysIn.{run-join, leads-in, below-chosen, sets-out, sets-out-risen}
 
 -- The next moves keep to the way, and only a full list of messages stops them.
 
-followed : ModelLaws → RoomLaws → (G : Bool) (chosen : ℕ → Bool) (a : Want) (bound : ℕ) (x : ExactWorld) (events : List Event) (y : ExactWorld) (es : List Event) (z : ExactWorld) → OnTheWay G chosen a bound x events y → Follows chosen a y es z →
+followed : ModelLaws → (G : Bool) (chosen : ℕ → Bool) (a : Want) (bound : ℕ) (x : ExactWorld) (events : List Event) (y : ExactWorld) (es : List Event) (z : ExactWorld) → OnTheWay G chosen a bound x events y → Follows chosen a y es z →
     OnTheWay G chosen a bound x (events ++ es) z
-followed laws rooms G chosen a bound x events y _ _ way follows_none = subst (λ es. OnTheWay G chosen a bound x es y) (sym (append-nil events)) way
-followed laws rooms G chosen a bound x events y _ _ way (follows_more es v mv added u before next moved) =
+followed laws G chosen a bound x events y _ _ way follows_none = subst (λ es. OnTheWay G chosen a bound x es y) (sym (append-nil events)) way
+followed laws G chosen a bound x events y _ _ way (follows_more es v mv added u before next moved) =
     subst (λ fs. OnTheWay G chosen a bound x fs u) (append_assoc events es added)
-    (moves-on laws rooms G chosen a bound x (events ++ es) v mv added u (followed laws rooms G chosen a bound x events y es v way before) next moved).0
+    (moves-on laws G chosen a bound x (events ++ es) v mv added u (followed laws G chosen a bound x events y es v way before) next moved).0
 
 inside-then : (G : Bool) (chosen : ℕ → Bool) (a : Want) (bound : ℕ) (x : ExactWorld) (events : List Event) (z : ExactWorld) → OnTheWay G chosen a bound x events z → next_move (setting_of z) chosen a (forget z) ≡ None → IsInsideAs (forget z) a
 inside-then G chosen a bound x events z way none = progress (setting_of z) chosen a (forget z) way.fine None none
 
-stopped : ModelLaws → RoomLaws → (G : Bool) (chosen : ℕ → Bool) (a : Want) (bound : ℕ) (x : ExactWorld) (events : List Event) (y : ExactWorld) (f : StepFault) → OnTheWay G chosen a bound x events y → StopsAt chosen a y f → (f ≡ fault.SentListFull) × (MAX_MESSAGES < bound)
-stopped laws rooms G chosen a bound x events y f way stops =
-    stuck-full laws rooms G chosen a bound x (events ++ stops.events) stops.world stops.move f (followed laws rooms G chosen a bound x events y stops.events stops.world way stops.follows) stops.next stops.stuck
+stopped : ModelLaws → (G : Bool) (chosen : ℕ → Bool) (a : Want) (bound : ℕ) (x : ExactWorld) (events : List Event) (y : ExactWorld) (f : StepFault) → OnTheWay G chosen a bound x events y → StopsAt chosen a y f → (f ≡ fault.SentListFull) × (MAX_MESSAGES < bound)
+stopped laws G chosen a bound x events y f way stops =
+    stuck-full laws G chosen a bound x (events ++ stops.events) stops.world stops.move f (followed laws G chosen a bound x events y stops.events stops.world way stops.follows) stops.next stops.stuck
 
 -- Those that rise were down.
 
@@ -152,7 +152,7 @@ came-free laws x a sound known attempt =
 
 -- What is answered where the nodes that can be won are enough.
 
-module _ (laws : ModelLaws) (rooms : RoomLaws) (x : ExactWorld) (a : Want) (sound : IsSound x) (possible : IsPossible (setting_of x) a) (attempt : HasAttempt (forget x) a) (y : ExactWorld)
+module _ (laws : ModelLaws) (x : ExactWorld) (a : Want) (sound : IsSound x) (possible : IsPossible (setting_of x) a) (attempt : HasAttempt (forget x) a) (y : ExactWorld)
   (came : HasRun x (coming_up a ((forget x).clients a.client).phase) y) where
   abbrev first : List Event
   first = coming_up a ((forget x).clients a.client).phase
@@ -164,17 +164,17 @@ module _ (laws : ModelLaws) (rooms : RoomLaws) (x : ExactWorld) (a : Want) (soun
   every = every_node (setting_of x)
 
   gentle-out : IsEnough (ballot_at x.ballots a.place) a.mode won → OnTheWay (is_chosen_below ((forget x).clients a.client).phase) won a (length x.sent + load won a x) x first y
-  gentle-out enough = sets-out rooms a x first y sound possible enough (came-run laws x a y sound possible.client attempt came)
+  gentle-out enough = sets-out a x first y sound possible enough (came-run laws x a y sound possible.client attempt came)
 
   pub leads-gently : IsEnough (ballot_at x.ballots a.place) a.mode won → (es : List Event) (z : ExactWorld) → Follows won a y es z → next_move (setting_of z) won a (forget z) ≡ None →
       LeadsIn x a (first ++ es) × (IsChosenBelow ((forget x).clients a.client).phase → (e : Event) → Among e (first ++ es) → IsOwnOrGentle x a e)
   leads-gently enough es z follows none =
-      let way = followed laws rooms (is_chosen_below ((forget x).clients a.client).phase) won a (length x.sent + load won a x) x first y es z (gentle-out enough) follows in
+      let way = followed laws (is_chosen_below ((forget x).clients a.client).phase) won a (length x.sent + load won a x) x first y es z (gentle-out enough) follows in
       (leads-in x a (first ++ es) z way.run (inside-then (is_chosen_below ((forget x).clients a.client).phase) won a (length x.sent + load won a x) x (first ++ es) z way none), λ below. way.such (below-chosen ((forget x).clients a.client).phase below))
 
   pub stops-gently : IsEnough (ballot_at x.ballots a.place) a.mode won → (f : StepFault) → StopsAt won a y f → (f ≡ fault.SentListFull) × ¬ (HasRoomFor every a x)
   stops-gently enough f stops =
-      let s = stopped laws rooms (is_chosen_below ((forget x).clients a.client).phase) won a (length x.sent + load won a x) x first y f (gentle-out enough) stops in
+      let s = stopped laws (is_chosen_below ((forget x).clients a.client).phase) won a (length x.sent + load won a x) x first y f (gentle-out enough) stops in
       (s.0, λ room. (let less = load-every won a x in let z : ⊥ = omega (arith, s.1, less, room) in z))
 
   -- and where all have to rise
@@ -182,14 +182,14 @@ module _ (laws : ModelLaws) (rooms : RoomLaws) (x : ExactWorld) (a : Want) (soun
     risen-out : OnTheWay false every a (length x.sent + load every a x) x (first ++ rs) u
     risen-out =
         let c = came-run laws x a y sound possible.client attempt came in
-        sets-out-risen rooms a x first y rs u possible sound.crosses c (run-join x first y rs u came rose) (rises-risen laws a rs y u c.sound rose rises) up
+        sets-out-risen a x first y rs u possible sound.crosses c (run-join x first y rs u came rose) (rises-risen laws a rs y u c.sound rose rises) up
 
     pub leads-risen : (es : List Event) (z : ExactWorld) → Follows every a u es z → next_move (setting_of z) every a (forget z) ≡ None → LeadsIn x a ((first ++ rs) ++ es)
     leads-risen es z follows none =
-        let way = followed laws rooms false every a (length x.sent + load every a x) x (first ++ rs) u es z risen-out follows in
+        let way = followed laws false every a (length x.sent + load every a x) x (first ++ rs) u es z risen-out follows in
         leads-in x a ((first ++ rs) ++ es) z way.run (inside-then false every a (length x.sent + load every a x) x ((first ++ rs) ++ es) z way none)
 
     pub stops-risen : (f : StepFault) → StopsAt every a u f → (f ≡ fault.SentListFull) × ¬ (HasRoomFor every a x)
     stops-risen f stops =
-        let s = stopped laws rooms false every a (length x.sent + load every a x) x (first ++ rs) u f risen-out stops in
+        let s = stopped laws false every a (length x.sent + load every a x) x (first ++ rs) u f risen-out stops in
         (s.0, λ room. (let z : ⊥ = omega (arith, s.1, room) in z))

@@ -6,6 +6,7 @@ ghost use Rattle.world_model.specs.Exclusion.{WritersAreAlone, StationsStaySound
 ghost use Rattle.world_model.specs.Laws.{ExactStepsAreAllowed, StepsKeepSound, AllowedStepsAreTaken, ExactRunsAreRuns, ResumedIsSound, ResumedIsLawful, OnlyWithinIsLawful, OpeningIsResumable, SaidNumbersFit, SoundIsExclusive, InsideIsTheSet, WriterInsideIsOnly, WaitingIsTheSet, HoldingIsTheSet};
 ghost use Rattle.world_model.specs.Locality.{PlacesAreApart, StepsChangeOnePart, OwnRefusalsComeFirst, ListRefusalsComeSecond, FullOnlyWithoutRoom, MemoryIsNoRefusal, EffectsAreOfTheirEvents, MessagesAreAsListed, PartsAreLocal, RefusalsAreLocal, HistoriesAreRuns};
 ghost use Rattle.world_model.specs.Staying.{PartsStayInside, ClientsStayInside, LeavingEndsIt};
+ghost use Rattle.world_model.specs.ExactWays.{ExactWayIn, ExactWayWithoutTheDead};
 ghost use Rattle.world_model.specs.Ways.{NobodyIsLockedOut, OthersOnlyGo, TheDeadAreNotNeeded};
 
 use crate::MAX_MESSAGES;
@@ -33,6 +34,14 @@ pub fn nobody_is_locked_out()
     ensures way { NobodyIsLockedOut }
     ensures gently { OthersOnlyGo }
     ensures without_the_dead { TheDeadAreNotNeeded }
+{}
+
+/// The same at the exact world, for as long as the list of messages has room for what the way may say (`load`):
+/// each sound world has events of which each is taken and that end with the client inside; and where the nodes
+/// that can be won have votes enough, nobody else is disturbed by them.
+pub fn ways_in_are_taken()
+    ensures way { ExactWayIn }
+    ensures without_the_dead { ExactWayWithoutTheDead }
 {}
 
 /// Each step of the exact world, its order and numbers forgotten, is one that may happen, and leaves
