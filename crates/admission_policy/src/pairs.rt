@@ -85,6 +85,7 @@ impl Pair {
 
     /// The plain rules of both problems, without a policy. It takes no memory.
     pub fn plain() -> Pair
+        requires { Unit {0} }
         ensures { result ≡ record { first = None; second = None } }
     {
         Pair {
