@@ -25,7 +25,10 @@ fn asks(world: &mut World, from: u32, to: u8, message: u32) -> Outcome {
 fn busy(alloc: Global) -> Result<World, Failure> {
     let (one, other) = (Actor::Node(node(1)?), Actor::Node(node(2)?));
     let mut world = world(alloc, Problem::Second, 2)?;
-    runs(&mut world, &[Event::Rise(one, Age::Old), Event::Rise(other, Age::Old)])?;
+    runs(
+        &mut world,
+        &[Event::Rise(one, Age::Old), Event::Rise(other, Age::Old)],
+    )?;
     begins(&mut world, 1, Mode::Read)?;
     asks(&mut world, 1, 1, 1)?;
     asks(&mut world, 1, 2, 3)?;
@@ -95,7 +98,10 @@ fn what_is_tried_is_copied(rt: HostRuntime) -> Outcome {
     let rise = Event::Rise(Actor::Node(at), Age::New);
     does(&mut copy, rise, Effect::Up)?;
     is_refused(&mut world, Event::Say(at), StepFault::Down)?;
-    let (now, before) = (copy.kept_bytes(Actor::Node(at))?, world.kept_bytes(Actor::Node(at))?);
+    let (now, before) = (
+        copy.kept_bytes(Actor::Node(at))?,
+        world.kept_bytes(Actor::Node(at))?,
+    );
     check(now.len() > before.len())
 }
 
@@ -107,11 +113,27 @@ fn copy_decides_by_the_problem(rt: HostRuntime) -> Outcome {
     let world = busy(rt.alloc())?;
     let mut copy = world.copy()?;
     goes_on(&mut copy)?;
-    does(&mut copy, Event::Switch(at, Problem::Second), Effect::Switched(false))?;
-    does(&mut copy, Event::Say(at), Effect::Said { first: 7, count: 0 })?;
-    does(&mut copy, Event::Switch(at, Problem::First), Effect::Switched(true))?;
+    does(
+        &mut copy,
+        Event::Switch(at, Problem::Second),
+        Effect::Switched(false),
+    )?;
+    does(
+        &mut copy,
+        Event::Say(at),
+        Effect::Said { first: 7, count: 0 },
+    )?;
+    does(
+        &mut copy,
+        Event::Switch(at, Problem::First),
+        Effect::Switched(true),
+    )?;
     runs(&mut copy, &[Event::Try(who), Event::Kept(who)])?;
-    does(&mut copy, Event::Say(at), Effect::Said { first: 7, count: 0 })
+    does(
+        &mut copy,
+        Event::Say(at),
+        Effect::Said { first: 7, count: 0 },
+    )
 }
 
 /// Whether the actor has kept the same in both.
@@ -148,5 +170,9 @@ fn copy_of_nothing(rt: HostRuntime) -> Outcome {
     keep_the_same(&world, &copy, Actor::Node(node(3)?))?;
     keep_the_same(&world, &copy, Actor::Client(client(1)?))?;
     check(copy.sent(1).is_none() && !copy.has(Actor::Client(client(2)?)))?;
-    does(&mut copy, Event::Rise(Actor::Node(node(3)?), Age::Old), Effect::Up)
+    does(
+        &mut copy,
+        Event::Rise(Actor::Node(node(3)?), Age::Old),
+        Effect::Up,
+    )
 }
