@@ -6,7 +6,7 @@
 //! `Box<dyn Admission + Send>` is proved once, for every policy; such a box is a policy too.
 //! `FirstProblem` and `SecondProblem` are the two rules, and `Counted` counts what another policy is
 //! told. A `Pair` has a policy of each problem, and asks and tells the one of the problem that it is
-//! called with; one without policies (`Pair::plain`) goes by the plain rules. No call takes memory.
+//! called with; a half without a policy goes by the plain rule. No call takes memory.
 //!
 //! The crate promises that each policy answers by the rule of its problem, that a note changes no
 //! answer, and that a pair tells one half alone. It stands on `lock_model`, which has the two problems and their rule.

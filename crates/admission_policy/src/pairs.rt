@@ -11,7 +11,9 @@ use lock_model::Problem;
 /// A policy for each of both problems. A node asks the one of its present problem, and tells that one
 /// what became of readers, so a switch of the problem leaves each half what it was told (our own).
 ///
-/// A half without a policy applies the problem's plain rule, and counts nothing.
+/// A half without a policy applies the problem's plain rule, and counts nothing. A pair without any is
+/// written out, and takes no memory: a call that makes one would count, in another crate, as one that may
+/// make a box.
 #[derive(Drop)]
 pub struct Pair {
     /// The policy of problem 1; none for the plain rule.
@@ -80,16 +82,6 @@ impl Pair {
         Pair {
             first: Some(first),
             second: Some(second),
-        }
-    }
-
-    /// The plain rules of both problems, without a policy. It takes no memory.
-    pub fn plain() -> Pair
-        ensures { result ≡ record { first = None; second = None } }
-    {
-        Pair {
-            first: None,
-            second: None,
         }
     }
 

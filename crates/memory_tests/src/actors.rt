@@ -115,3 +115,21 @@ fn rise_with_the_tried_record(rt: HostRuntime) -> Outcome {
     rises(&mut one, Age::New)?;
     check(one.may_take() == Ok(()) && one.kept().entries.len() == 2)
 }
+
+/// A copy tries to keep the same; where memory is refused n1 still tries.
+#[test]
+fn copy_what_is_tried(rt: HostRuntime) -> Outcome {
+    let mut one = trying(rt.alloc())?;
+    match one.copy(told_once(rt.alloc())?) {
+        Ok(copy) => {
+            let mut copy = copy;
+            copy.keep()?;
+            check(copy.replies() == Ok(1) && one.replies() == Err(StepFault::NotStored))
+        }
+        Err(fault) => {
+            one.keep()?;
+            check(one.replies() == Ok(1))?;
+            Err(fault.into())
+        }
+    }
+}

@@ -31,8 +31,10 @@ fn risen(alloc: Global, bytes: &[u8]) -> Result<NodeCore, Failure> {
 
 /// Whether the policies stand in their places, and were told of nothing more.
 fn are_as_made(policies: &Pair) -> bool {
-    let numbers = (policies.first.problem(), policies.second.problem());
-    numbers == (1, 2) && have_let_in(policies, 1, 0)
+    let (Some(first), Some(second)) = (&policies.first, &policies.second) else {
+        return false;
+    };
+    first.problem() == 1 && second.problem() == 2 && have_let_in(policies, 1, 0)
 }
 
 /// Memory may be refused before the record is read, or while it is.
@@ -98,6 +100,24 @@ fn take_a_request(rt: HostRuntime) -> Outcome {
     let core = risen(rt.alloc(), &ONE)?;
     let (core, changed) = takes(rt.alloc(), core, &ONE, &message)?;
     check(changed && core.phase() == Phase::Decided && core.replies() == 1)
+}
+
+/// A copy of n1 has the reply that n1 has to say; where memory is refused n1 still has it.
+#[test]
+fn copy_what_was_decided(rt: HostRuntime) -> Outcome {
+    let message = request(2, Mode::Write)?;
+    let core = risen(rt.alloc(), &ONE)?;
+    let (core, _changed) = takes(rt.alloc(), core, &ONE, &message)?;
+    match core.copy(told_once(rt.alloc())?) {
+        Ok(copy) => {
+            check(copy.phase() == Phase::Decided && copy.replies() == 1)?;
+            check(copy.record().entries.len() == 2 && are_as_made(&copy.fall()))
+        }
+        Err(fault) => {
+            check(core.phase() == Phase::Decided && core.replies() == 1)?;
+            Err(fault.into())
+        }
+    }
 }
 
 /// A reader's new ticket, of which the policy is told.

@@ -307,6 +307,25 @@ fn kept_bytes(rt: HostRuntime) -> Outcome {
     check(of_client.as_slice() == FIRST.as_slice())
 }
 
+/// A copy says what the world has to say; where memory is refused the world says it.
+#[test]
+fn copy_and_say(rt: HostRuntime) -> Outcome {
+    let said = Effect::Said { first: 2, count: 1 };
+    let says = Event::Say(node(1)?);
+    let mut world = answered(rt.alloc())?;
+    match world.copy() {
+        Ok(copy) => {
+            let mut copy = copy;
+            does(&mut copy, &says, said)?;
+            check(copy.sent(2).is_some() && world.sent(2).is_none())
+        }
+        Err(fault) => {
+            does(&mut world, &says, said)?;
+            Err(fault.into())
+        }
+    }
+}
+
 /// A run that was stopped for want of memory goes on where it stopped.
 #[test]
 fn run_to_an_answer(rt: HostRuntime) -> Outcome {

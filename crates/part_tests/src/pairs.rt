@@ -14,6 +14,14 @@ pub(crate) fn plain(alloc: Global) -> Option<Pair> {
     Some(Pair::of(first, second))
 }
 
+/// No policy of either problem.
+fn without() -> Pair {
+    Pair {
+        first: None,
+        second: None,
+    }
+}
+
 /// Counting policies of both problems.
 pub(crate) fn counting(alloc: Global) -> Option<Pair> {
     let first: Box<dyn Admission + Send> = Box::new(alloc, Counted::of(FirstProblem)).ok()?;
@@ -27,11 +35,19 @@ fn counted(word: &str) -> Option<(u64, u64)> {
     Some((admitted.parse().ok()?, waiting.parse().ok()?))
 }
 
+/// Whether a half has counted so much; one without a policy counts nothing.
+fn half_has_counted(half: &Option<Box<dyn Admission + Send>>, tally: (u64, u64)) -> bool {
+    match half {
+        Some(policy) => policy.tally() == tally,
+        None => tally == (0, 0),
+    }
+}
+
 /// Whether the halves have counted what a row as `2,1 0,0` says, the first half's before the second's.
 pub(crate) fn has_counted(pair: &Pair, row: &str) -> Option<bool> {
     let (first, second) = row.split_once(' ')?;
     let (first, second) = (counted(first)?, counted(second)?);
-    let halves = pair.first.tally() == first && pair.second.tally() == second;
+    let halves = half_has_counted(&pair.first, first) && half_has_counted(&pair.second, second);
     Some(halves && pair.tally(Problem::First) == first && pair.tally(Problem::Second) == second)
 }
 
@@ -53,14 +69,17 @@ pub(crate) fn tell_all(pair: &mut Pair, words: &str) -> Option<()> {
     Some(())
 }
 
-/// Whether a counting pair that is told a row's words has then counted what the row says, and a plain one
-/// nothing.
+/// Whether a counting pair that is told a row's words has then counted what the row says, and one of plain
+/// policies or of none nothing.
 pub(crate) fn counts(alloc: Global, row: &str) -> Option<bool> {
     let (words, want) = row.split_once(" > ")?;
     let (mut one, mut other) = (counting(alloc)?, plain(alloc)?);
     tell_all(&mut one, words)?;
     tell_all(&mut other, words)?;
-    Some(has_counted(&one, want)? && has_counted(&other, "0,0 0,0")?)
+    let mut none = without();
+    tell_all(&mut none, words)?;
+    let others = has_counted(&other, "0,0 0,0")? && has_counted(&none, "0,0 0,0")?;
+    Some(has_counted(&one, want)? && others)
 }
 
 const TOLD: &str = "\
@@ -82,10 +101,11 @@ fn is_answered(pair: &Pair, row: &str) -> Option<bool> {
     Some(pair.admits(problem, holds, waits) == admits && has_counted(pair, "0,0 0,0")?)
 }
 
-/// The same of a plain pair, and of one that counts.
+/// The same of a plain pair, of one that counts, and of one without policies.
 pub(crate) fn answers(alloc: Global, row: &str) -> Option<bool> {
     let (one, other) = (plain(alloc)?, counting(alloc)?);
-    Some(is_answered(&one, row)? && is_answered(&other, row)?)
+    let pairs = is_answered(&one, row)? && is_answered(&other, row)?;
+    Some(pairs && is_answered(&without(), row)?)
 }
 
 // The problem, whether a writer holds, whether one waits, and what becomes of a reader.

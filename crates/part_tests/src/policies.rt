@@ -135,8 +135,11 @@ const TOLD_BEFORE: &str = "1+ 1- 1+ 2+ 2- 2+";
 
 /// Whether this is a pair of both problems that has counted so much.
 fn are_both(pair: &Pair, told: &str) -> Option<bool> {
-    let right = is_of(&pair.first, 1, pair.tally(Problem::First))
-        && is_of(&pair.second, 2, pair.tally(Problem::Second));
+    let (Some(first), Some(second)) = (&pair.first, &pair.second) else {
+        return Some(false);
+    };
+    let right = is_of(first, 1, pair.tally(Problem::First))
+        && is_of(second, 2, pair.tally(Problem::Second));
     Some(right && has_counted(pair, told)?)
 }
 

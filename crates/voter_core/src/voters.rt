@@ -325,17 +325,17 @@ impl NodeCore {
         ensures memory { IsOkUnless result VoterFault.Memory }
     {
         let alloc = self.alloc;
-        let Ok(station) = indexed_copy(alloc, &self.station) else {
+        let Ok(copy) = indexed_copy(alloc, &self.station) else {
             return Err(VoterFault::Memory);
         };
         let Ok(told) = self.told.clone() else {
             return Err(VoterFault::Memory);
         };
-        let (station, index) = station.into_parts();
+        let (record, index) = copy.into_parts();
         Ok(NodeCore {
             alloc,
             id: self.id,
-            station,
+            station: record,
             index,
             policies,
             about: self.about,

@@ -53,6 +53,17 @@ fn enters_and_leaves(_rt: HostRuntime) -> Outcome {
     check(one.inside().is_none() && one.message_for(to) == Ok(release))
 }
 
+/// A copy of c1 leaves; c1 itself is still inside.
+#[test]
+fn copy_leaves_alone(_rt: HostRuntime) -> Outcome {
+    let ticket = ticket(1, Mode::Write)?;
+    let one = entered()?;
+    let mut copy = one.copy();
+    check(copy.inside() == Some(ticket))?;
+    copy.leave()?;
+    check(copy.inside().is_none() && one.inside() == Some(ticket))
+}
+
 #[test]
 fn falls_inside(_rt: HostRuntime) -> Outcome {
     let mut one = entered()?;

@@ -2,13 +2,15 @@
 //!
 //! What the contracts say is proved, and is not tried here again. Tried is each cause for which records
 //! are refused, on each kind of actor and two causes at once, with the policies that come back; what a
-//! world is that was opened; and, in small runs, each call of a node and of a client by itself and each
-//! query of a world. The crate has no code but tests; each file is named for what it shows. A test that
+//! world is that was opened; and, in small runs, each call of a node and of a client by itself, each
+//! query of a world, and that a copy of a world and the world itself go on apart. The crate has no code but tests; each file is named for what it shows. A test that
 //! fails names the row of its table, or says that memory was refused.
 #![tactic(auto)]
 
 #[cfg(test)]
 mod clients_alone;
+#[cfg(test)]
+mod copies;
 #[cfg(test)]
 mod generator;
 #[cfg(test)]
