@@ -1,10 +1,10 @@
 -- What is said over the lists of actors is what is said over the numbers of a world.
-use Rattle.std.proofs.Common.{◌≡◌, ◌≢◌, ℕ, ◌+◌, ◌-◌, ◌<◌, ◌≤◌, ◌==◌, ◌||◌, ◌&&◌, Bool, true, false, not, cond, List, [], ◌∷◌, length, map, zero, suc, Option, Some, None, refl, sym, ◌∙◌, ap, subst, arith}
+use Rattle.std.proofs.Common.{◌≡◌, ◌≢◌, ℕ, ◌+◌, ◌-◌, ◌<◌, ◌≤◌, ◌==◌, ◌||◌, ◌&&◌, Bool, true, false, not, cond, List, [], ◌∷◌, length, drop, get_or, map, zero, suc, Option, Some, None, refl, sym, ◌∙◌, ap, subst, inl, inr, arith}
 use Rattle.std.specs.Prelude.{slice_get, is_some, nat_lt}
 use Rattle.std.specs.List.{list_any, range_with_len, position, position_or_len}
 use Rattle.std.specs.Option.{option_map}
-use Rattle.std.proofs.lemmas.Bool.{eq-eqb, ne_eqb}
-use Rattle.std.proofs.lemmas.List.{length-map}
+use Rattle.std.proofs.lemmas.Bool.{eq-eqb, ne_eqb, lt-ltb, le-ltb, cases_lt}
+use Rattle.std.proofs.lemmas.List.{length-map, at_drop_more}
 use Rattle.std.proofs.lemmas.List.Quantifiers.{position-Some}
 use Rattle.std.proofs.lemmas.Option.{get_or_from_slice_get}
 use Rattle.lock_messages.specs.declared.messages.Message.{Message}
@@ -37,6 +37,11 @@ first-is-search g f start (x ∷ xs) same =
     let here : g x ≡ f start = same 0 x refl ∙ ap f (let e : start + 0 ≡ start = omega arith in e) in
     ap (λ o. found o (first_found g xs)) here
     ∙ ap (found (f start)) (first-is-search g f (start + 1) xs (λ i y at. same (suc i) y at ∙ ap f (let e : start + suc i ≡ start + 1 + i = omega arith in e)))
+
+-- where a loop has passed over those that give nothing, what the next one gives is found
+pub found-here : {A B : Type 0} (f : A → Option B) (xs : List A) (i : ℕ) (x : A) (b : B) → i < length xs → x ≡ get_or xs i x → f x ≡ Some b → first_found f (drop i xs) ≡ first_found f xs → Some b ≡ first_found f xs
+found-here f xs i x b within is here passed =
+    sym (sym passed ∙ at_drop_more (first_found f) xs i x within ∙ ap (λ y. first_found f (y ∷ drop (i + 1) xs)) (sym is) ∙ ap (λ o. found o (first_found f (drop (i + 1) xs))) here)
 
 -- so it is of a test that one of them passes
 any-is-any : {A : Type 0} (g : A → Bool) (f : ℕ → Bool) (start : ℕ) (xs : List A) → ((i : ℕ) (x : A) → slice_get xs i ≡ Some x → g x ≡ f (start + i)) →
@@ -199,19 +204,22 @@ some-cond : (b : Bool) (i : ℕ) → is_some (cond b (Some i) None) ≡ b
 some-cond true i = refl
 some-cond false i = refl
 
+one-more-below : (a b : ℕ) → nat_lt (1 + a) (suc b) ≡ nat_lt a b
+one-more-below a b = elim (cases_lt a b) [
+  | inl below ↦ lt-ltb (1 + a) (suc b) (omega (arith, below)) ∙ sym (lt-ltb a b below)
+  | inr past ↦ le-ltb (1 + a) (suc b) (omega (arith, past)) ∙ sym (le-ltb a b past)
+]
+
 passes-below : {A : Type 0} (p : A → Bool) (xs : List A) → nat_lt (position_or_len p xs) (length xs) ≡ list_any p xs
 passes-below p [] = refl
-passes-below {A} p (x ∷ xs) = go (p x)
+passes-below {A} p (x ∷ xs) = go (p x) (one-more-below (position_or_len p xs) (length xs) ∙ passes-below p xs)
   where
     here : ℕ
     here = position_or_len p xs
 
-    below : nat_lt here (length xs) ≡ list_any p xs
-    below = passes-below p xs
-
-    go : (b : Bool) → nat_lt (cond (not b) (1 + here) 0) (suc (length xs)) ≡ (b || list_any p xs)
-    go true = refl
-    go false = below
+    go : (b : Bool) → nat_lt (1 + here) (suc (length xs)) ≡ list_any p xs → nat_lt (cond (not b) (1 + here) 0) (suc (length xs)) ≡ (b || list_any p xs)
+    go true below = lt-ltb 0 (suc (length xs)) (omega arith)
+    go false below = below
 
 pub place-some : {A : Type 0} (p : A → Bool) (xs : List A) → is_some (position p xs) ≡ list_any p xs
 place-some p xs = some-cond (nat_lt (position_or_len p xs) (length xs)) (position_or_len p xs) ∙ passes-below p xs

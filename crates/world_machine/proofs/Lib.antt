@@ -1,6 +1,8 @@
-mod ListFacts
-mod TurnFacts
-mod ActorFacts
-mod RunFacts
-mod ListingFacts
-mod OpeningFacts
+pub mod ListFacts
+pub mod TurnFacts
+pub mod ActorFacts
+pub mod RunFacts
+pub mod ListingFacts
+pub mod OpeningFacts
+pub mod AdvisingFacts
+pub mod GoingFacts

@@ -92,13 +92,3 @@ asking_if (Some k) = asking_in (asked_in k.part.phase)
 abbrev pub grant_if : ℕ → Option Ticket → List Message → Option ℕ
 grant_if n None sent = None
 grant_if n (Some t) sent = number_of_grant n t sent
-
-abbrev pub hears_if : Want → Option ℕ → Option (Event × Option Event)
-hears_if a None = None
-hears_if a (Some k) = Some (event.Hear a.client k, None)
-
--- the events of a move, of which there are one or two; none where the client would hear what nobody has said
-abbrev pub events_of : Want → Option Ticket → List Message → Move → Option (Event × Option Event)
-events_of a t sent (Alone e) = Some (e, None)
-events_of a t sent (Hand d n) = Some (event.SayTo d n, Some (event.Take n (length sent + 1)))
-events_of a t sent (HearFrom n) = hears_if a (grant_if n t sent)

@@ -3,3 +3,5 @@ pub mod Machines
 pub mod Listing
 pub mod Opened
 pub mod Keeping
+pub mod Advising
+pub mod Going

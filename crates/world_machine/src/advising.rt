@@ -9,7 +9,7 @@ ghost use Rattle.world_model.specs.declared.TheConstants.{MAX_MESSAGES};
 ghost use Rattle.world_model.specs.Advice.{is_grant, next_move, can_be_won};
 ghost use Rattle.world_model.specs.ExactWorlds.{numbered};
 ghost use Rattle.world_model.specs.Forgetting.{forget, setting_of};
-ghost use Rattle.world_machine.specs.Advising.{first_found, finish_at, clear_at, clear_node, ask_node, or_enters, own_at, own_if, is_held_by, is_won, wins, number_of_grant, first_move, asking_in, asking_if, grant_if, events_of};
+ghost use Rattle.world_machine.specs.Advising.{first_found, finish_at, clear_at, clear_node, ask_node, or_enters, own_at, own_if, is_held_by, is_won, wins, number_of_grant, first_move, asking_in, asking_if, grant_if};
 ghost use Rattle.world_machine.specs.Machines.{world_view, IsWorld};
 
 use lock_messages::{ClientId, Message, NodeId, Ticket};
@@ -355,35 +355,10 @@ fn asking_by(clients: &[WorldClient], id: ClientId) -> Option<Ticket>
 }
 
 /// The number of the message by which the node granted what the client of this number asks for.
-fn grant_for(clients: &[WorldClient], sent: &[Message], id: ClientId, node: NodeId) -> Option<u32>
+pub(crate) fn grant_for(clients: &[WorldClient], sent: &[Message], id: ClientId, node: NodeId) -> Option<u32>
     requires { length sent.now ≤ MAX_MESSAGES }
     ensures { result ≡ grant_if node (asking_if (numbered clients.now id)) sent.now }
 {
     let ticket = asking_by(clients, id)?;
     first_number(sent, node, &ticket)
-}
-
-/// The events of a move, one or two: a client that hands a message to a node says it, and the node
-/// takes it, as the last that was sent; and the client that asks hears the first message that is the
-/// node's Grant of its ticket. `None` only where there is no such Grant.
-pub(crate) fn events_of(
-    clients: &[WorldClient],
-    sent: &[Message],
-    want: &Want,
-    next: &Move,
-) -> Option<(Event, Option<Event>)>
-    requires { length sent.now ≤ MAX_MESSAGES }
-    ensures { result ≡ events_of want.now (asking_if (numbered clients.now want.now.client)) sent.now next.now }
-{
-    match *next {
-        Move::Alone(event) => Some((event, None)),
-        Move::Hand(client, node) => {
-            let number = sent.len() as u32 + 1;
-            Some((Event::SayTo(client, node), Some(Event::Take(node, number))))
-        }
-        Move::HearFrom(node) => {
-            let number = grant_for(clients, sent, want.client, node)?;
-            Some((Event::Hear(want.client, number), None))
-        }
-    }
 }

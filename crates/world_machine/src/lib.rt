@@ -11,6 +11,7 @@
 //! `lock_model` and `vote_weights`.
 #![tactic(auto)]
 
+mod advising;
 mod copying;
 mod doing;
 mod keeping;
@@ -18,8 +19,9 @@ mod listing;
 mod opening;
 mod stepping;
 mod turns;
+mod ways;
 mod world;
 
 pub use world::World;
-pub use world_model::{Age, Effect, Event, MAX_MESSAGES, StepFault, laws};
+pub use world_model::{Age, Effect, Event, MAX_MESSAGES, StepFault, Want, laws};
 pub use world_opening::OpeningFault;

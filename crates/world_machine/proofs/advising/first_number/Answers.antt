@@ -13,6 +13,14 @@ returns-in-Some-clause-granted c =
     let there : position p c.args.sent.now ≡ Some c.in-Some.place = cc in
     place-passes p c.args.sent.now c.in-Some.place there c.in-Some.ensures.within
 
+pub returns-in-Some-clause-some : goal.returns-in-Some-clause-some
+returns-in-Some-clause-some c =
+    let p = is_grant c.args.node c.args.ticket.now in
+    let is = c.in-Some.is in
+    let first = c.place_of_grant.ensures.first in
+    let there : Some c.in-Some.place ≡ position p c.args.sent.now = cc in
+    ap is_some there ∙ place-some p c.args.sent.now
+
 pub returns-in-None-clause-some : goal.returns-in-None-clause-some
 returns-in-None-clause-some c =
     let p = is_grant c.args.node c.args.ticket.now in
