@@ -4,3 +4,4 @@ mod ActorFacts
 mod RunFacts
 mod ListingFacts
 mod OpeningFacts
+mod AdvisingFacts

@@ -3,3 +3,4 @@ pub mod Machines
 pub mod Listing
 pub mod Opened
 pub mod Keeping
+pub mod Advising

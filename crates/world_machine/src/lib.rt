@@ -11,6 +11,7 @@
 //! and `vote_weights`.
 #![tactic(auto)]
 
+mod advising;
 mod doing;
 mod keeping;
 mod listing;
