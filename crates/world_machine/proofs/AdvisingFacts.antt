@@ -1,5 +1,5 @@
 -- What is said over the lists of actors is what is said over the numbers of a world.
-use Rattle.std.proofs.Common.{◌≡◌, ◌≢◌, ℕ, ◌+◌, ◌-◌, ◌<◌, ◌≤◌, ◌==◌, ◌||◌, ◌&&◌, Bool, true, false, not, cond, List, [], ◌∷◌, length, drop, get_or, map, zero, suc, Option, Some, None, refl, sym, ◌∙◌, ap, subst, inl, inr, arith}
+use Rattle.std.proofs.Common.{◌≡◌, ◌≢◌, ℕ, ◌+◌, ◌-◌, ◌<◌, ◌||◌, ◌&&◌, Bool, true, false, not, cond, List, [], ◌∷◌, length, drop, get_or, map, zero, suc, Option, Some, None, refl, sym, ◌∙◌, ap, inl, inr, arith}
 use Rattle.std.specs.Prelude.{slice_get, is_some, nat_lt}
 use Rattle.std.specs.List.{list_any, range_with_len, position, position_or_len}
 use Rattle.std.specs.Option.{option_map}
@@ -8,25 +8,20 @@ use Rattle.std.proofs.lemmas.List.{length-map, at_drop_more}
 use Rattle.std.proofs.lemmas.List.Quantifiers.{position-Some}
 use Rattle.std.proofs.lemmas.Option.{get_or_from_slice_get}
 use Rattle.lock_messages.specs.declared.messages.Message.{Message}
-use Rattle.lock_messages.specs.declared.tickets.Ticket.{Ticket}
 use Rattle.lock_model.specs.Ballots.{Ballot, node_count}
-use Rattle.vote_weights.specs.Sets.{has_node}
 use Rattle.world_actors.specs.Acting.{ActingNode, ActingClient}
 use Rattle.world_actors.specs.Asking.{asked_in}
-use Rattle.world_model.specs.declared.exact.ExactNode.{ExactNode}
-use Rattle.world_model.specs.declared.exact.ExactClient.{ExactClient}
 use Rattle.world_model.specs.declared.exact.ExactClientPhase.{ExactClientPhase}
 use Rattle.world_model.specs.declared.exact.ExactClientPhase.TheVariants as client
 use Rattle.world_model.specs.declared.exact.ExactWorld.{ExactWorld}
 use Rattle.world_model.specs.declared.ways.Move.{Move}
-use Rattle.world_model.specs.declared.ways.Move.TheVariants.{Alone, Hand, HearFrom}
 use Rattle.world_model.specs.declared.ways.Want.{Want}
-use Rattle.world_model.specs.Advice.{found, search, only, alone, finishing, coming, blocks, going, resting, beginning, is_grant, is_up, is_client_up, asking_of, entering, finish_move, clear_at as cleared_at, clear_move, own_in, own_move, next_move, node_numbers, client_numbers, is_held, can_be_won}
+use Rattle.world_model.specs.Advice.{found, search, only, alone, finishing, coming, blocks, going, resting, beginning, is_up, is_client_up, asking_of, entering, finish_move, clear_at as cleared_at, clear_move, own_in, own_move, next_move, node_numbers, client_numbers, is_held, can_be_won}
 use Rattle.world_model.specs.ExactWorlds.{numbered}
 use Rattle.world_model.specs.Forgetting.{node_of, client_of, client_phase_of, node_numbered, client_numbered, forget, setting_of, present_of}
 use Rattle.world_model.specs.Numbered.{numbered-map, numbered-next, past-zero, numbered-one, numbered-there}
 use Rattle.world_model.specs.Worlds.{Node, Client}
-use Rattle.world_machine.specs.Advising.{first_found, finish_at, clear_at, clear_node, ask_node, hear_or_ask, or_enters, asks, own_at, own_if, first_move, is_held_by, is_won, wins}
+use Rattle.world_machine.specs.Advising.{first_found, finish_at, clear_at, clear_node, ask_node, or_enters, asks, own_if, first_move, is_held_by, is_won, wins}
 use Rattle.world_machine.specs.Machines.{node_part, client_part, AreNodes, AreClients, IsWorld, world_view}
 
 -- what is found first in a list is what the search over the numbers of its places finds

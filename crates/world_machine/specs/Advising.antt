@@ -1,5 +1,5 @@
 -- What has to happen next for a client to get in, said over the lists of actors.
-use Rattle.std.specs.Prelude.{ℕ, ◌+◌, ◌==◌, ◌&&◌, Bool, false, not, List, [], ◌∷◌, length, Option, Some, None, if◌then◌else◌}
+use Rattle.std.specs.Prelude.{ℕ, ◌+◌, ◌==◌, ◌&&◌, Bool, not, List, [], ◌∷◌, length, Option, Some, None, if◌then◌else◌}
 use Rattle.std.specs.List.{list_any, position}
 use Rattle.std.specs.Option.{option_map}
 use Rattle.lock_messages.specs.declared.messages.Message.{Message}
@@ -12,7 +12,7 @@ use Rattle.world_model.specs.declared.events.Event.TheVariants as event
 use Rattle.world_model.specs.declared.ways.Move.{Move}
 use Rattle.world_model.specs.declared.ways.Move.TheVariants.{Alone, Hand, HearFrom}
 use Rattle.world_model.specs.declared.ways.Want.{Want}
-use Rattle.world_model.specs.Advice.{found, only, alone, finishing, coming, blocks, going, resting, beginning, is_grant, is_up, is_client_up}
+use Rattle.world_model.specs.Advice.{found, alone, finishing, coming, blocks, going, resting, beginning, is_grant, is_up, is_client_up}
 use Rattle.world_model.specs.ExactWorlds.{numbered}
 use Rattle.world_model.specs.Forgetting.{node_of, client_of}
 

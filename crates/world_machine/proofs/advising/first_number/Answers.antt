@@ -1,4 +1,4 @@
-use Rattle.std.proofs.Common.{◌≡◌, None, Some, sym, ◌∙◌, ap}
+use Rattle.std.proofs.Common.{◌≡◌, None, Some, ◌∙◌, ap}
 use Rattle.std.specs.Prelude.{is_some}
 use Rattle.std.specs.List.{position}
 use Rattle.world_model.specs.Advice.{is_grant}

@@ -1,7 +1,7 @@
 use Rattle.std.proofs.Common.{◌≡◌, Some, sym, ◌∙◌, ap, subst, arith}
 use Rattle.vote_weights.specs.Sets.{has_node}
 use Rattle.world_model.specs.ExactWorlds.{numbered}
-use Rattle.world_model.specs.Numbered.{numbered-at, numbered-past}
+use Rattle.world_model.specs.Numbered.{numbered-at}
 use Rattle.world_machine.specs.Advising.{own_if}
 use Rattle.world_machine.proofs.advising.own_move.Goals as goal
 
