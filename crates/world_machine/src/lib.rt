@@ -6,9 +6,10 @@
 //! or the lowest refusal that applies, with nothing changed; that what they did is a step, or a run, of
 //! which the exclusion theorem speaks; that every `World` is sound, so that a writer inside a resource is
 //! there alone; that what is asked of it (`inside`, `ticket_inside`, `waiting`, `holding`, `kept_bytes`,
-//! `sent`) is answered as the definitions have it; and that a `copy` is the same world. It stands on
-//! `world_model`, `world_actors`, `world_opening`, `stable_record`, `admission_policy`, `lock_messages`,
-//! `lock_model` and `vote_weights`.
+//! `sent`) is answered as the definitions have it; that nobody is locked out of it: `way_in` answers the
+//! events by which a client gets in, or why there are none, and leaves the world as it is; and that a
+//! `copy` is the same world. It stands on `world_model`, `world_actors`, `world_opening`,
+//! `stable_record`, `admission_policy`, `lock_messages`, `lock_model` and `vote_weights`.
 #![tactic(auto)]
 
 mod advising;

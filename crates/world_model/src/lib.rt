@@ -9,14 +9,16 @@
 //! that wait under it (our own). `ExactWorlds` has it exactly, with entries in order and
 //! messages numbered from 1, and `step` as a function to the world after and the effect, or to the
 //! lowest refusal that applies. `Forgetting` leads from the exact world to the other, `Parts` says
-//! which part of the world is an actor's own.
+//! which part of the world is an actor's own. `Ways` says what a way in is, and which ways there are;
+//! `Advice` which move is the next on one, told by the world alone; `ExactWays` the same of the exact
+//! world, with the room that it takes.
 //!
 //! The crate has the plain data that these speak of and nothing that computes with it. It promises
 //! the laws of the module `laws`: the exclusion theorem, over all runs; that the exact steps are just
 //! those that may happen, and that each leaves a sound world, in which a writer is alone; that nobody is
-//! locked out (`Ways`): whatever has happened, there is a way in for each client with an attempt left; and
-//! locality, that an actor's part of the world is told by its own events. It stands on
-//! `lock_messages`, `lock_model`, `vote_weights` and `thiserror`.
+//! locked out: whatever has happened, there is a way in for each client with an attempt left, though
+//! nothing says that it is gone; and locality, that an actor's part of the world is told by its own
+//! events. It stands on `lock_messages`, `lock_model`, `vote_weights` and `thiserror`.
 #![tactic(auto)]
 
 mod events;
