@@ -1,5 +1,5 @@
 -- What is said over the lists of actors is what is said over the numbers of a world.
-use Rattle.std.proofs.Common.{◌≡◌, ◌≢◌, ℕ, ◌+◌, ◌-◌, ◌<◌, ◌||◌, ◌&&◌, Bool, true, false, not, cond, List, [], ◌∷◌, length, drop, get_or, map, zero, suc, Option, Some, None, refl, sym, ◌∙◌, ap, inl, inr, arith}
+use Rattle.std.proofs.Common.{◌≡◌, ◌≢◌, ℕ, ◌+◌, ◌-◌, ◌<◌, ◌≤◌, ◌⊎◌, ◌||◌, ◌&&◌, Bool, true, false, not, cond, List, [], ◌∷◌, length, drop, get_or, map, zero, suc, Option, Some, None, IfSome, refl, sym, ◌∙◌, ap, inl, inr, arith}
 use Rattle.std.specs.Prelude.{slice_get, is_some, nat_lt}
 use Rattle.std.specs.List.{list_any, range_with_len, position, position_or_len}
 use Rattle.std.specs.Option.{option_map}
@@ -8,20 +8,22 @@ use Rattle.std.proofs.lemmas.List.{length-map, at_drop_more}
 use Rattle.std.proofs.lemmas.List.Quantifiers.{position-Some}
 use Rattle.std.proofs.lemmas.Option.{get_or_from_slice_get}
 use Rattle.lock_messages.specs.declared.messages.Message.{Message}
+use Rattle.lock_messages.specs.declared.tickets.Ticket.{Ticket}
 use Rattle.lock_model.specs.Ballots.{Ballot, node_count}
 use Rattle.world_actors.specs.Acting.{ActingNode, ActingClient}
 use Rattle.world_actors.specs.Asking.{asked_in}
 use Rattle.world_model.specs.declared.exact.ExactClientPhase.{ExactClientPhase}
 use Rattle.world_model.specs.declared.exact.ExactClientPhase.TheVariants as client
+use Rattle.world_model.specs.declared.exact.ExactPresent.{ExactPresent}
 use Rattle.world_model.specs.declared.exact.ExactWorld.{ExactWorld}
 use Rattle.world_model.specs.declared.ways.Move.{Move}
 use Rattle.world_model.specs.declared.ways.Want.{Want}
-use Rattle.world_model.specs.Advice.{found, search, only, alone, finishing, coming, blocks, going, resting, beginning, is_up, is_client_up, asking_of, entering, finish_move, clear_at as cleared_at, clear_move, own_in, own_move, next_move, node_numbers, client_numbers, is_held, can_be_won}
+use Rattle.world_model.specs.Advice.{found, search, only, alone, finishing, coming, blocks, going, resting, beginning, is_up, is_client_up, asking_of, entering, finish_move, clear_at as cleared_at, clear_move, own_in, own_move, next_move, node_numbers, client_numbers, is_held, can_be_won, is_grant}
 use Rattle.world_model.specs.ExactWorlds.{numbered}
 use Rattle.world_model.specs.Forgetting.{node_of, client_of, client_phase_of, node_numbered, client_numbered, forget, setting_of, present_of}
 use Rattle.world_model.specs.Numbered.{numbered-map, numbered-next, past-zero, numbered-one, numbered-there}
-use Rattle.world_model.specs.Worlds.{Node, Client}
-use Rattle.world_machine.specs.Advising.{first_found, finish_at, clear_at, clear_node, ask_node, or_enters, asks, own_if, first_move, is_held_by, is_won, wins}
+use Rattle.world_model.specs.Worlds.{Node, Client, World, Present, ClientDown, ClientIdle, Chosen, Asking, IsIn}
+use Rattle.world_machine.specs.Advising.{first_found, finish_at, clear_at, clear_node, ask_node, or_enters, asks, own_if, first_move, is_held_by, is_won, wins, number_of_grant, asking_in, asking_if, grant_if}
 use Rattle.world_machine.specs.Machines.{node_part, client_part, AreNodes, AreClients, IsWorld, world_view}
 
 -- what is found first in a list is what the search over the numbers of its places finds
@@ -224,3 +226,78 @@ place-passes p xs i is within =
     let at = numbered-there xs (i + 1) (omega arith) (omega (arith, within)) in
     let there = sym (numbered-next xs i) ∙ at.1 in
     (at.0, at.1, ap p (sym (get_or_from_slice_get xs i at.0 at.0 there)) ∙ (position-Some p xs i at.0 is).1)
+
+-- The number of a Grant that the client hears, as the world of sets and maps has the client.
+
+position-within : {A : Type 0} (p : A → Bool) (xs : List A) (i : ℕ) → position p xs ≡ Some i → i < length xs
+position-within p xs i is = go (cases_lt (position_or_len p xs) (length xs))
+  where
+    it : Option ℕ
+    it = cond (nat_lt (position_or_len p xs) (length xs)) (Some (position_or_len p xs)) None
+
+    go : (position_or_len p xs < length xs) ⊎ (length xs ≤ position_or_len p xs) → i < length xs
+    go (inl below) = let q : Some (position_or_len p xs) ≡ Some i = sym (ap (λ b. cond b (Some (position_or_len p xs)) None) (lt-ltb (position_or_len p xs) (length xs) below)) ∙ is in let same : position_or_len p xs ≡ i = cc in omega (arith, below, same)
+    go (inr past) = absurd (let q : None ≡ Some i = sym (ap (λ b. cond b (Some (position_or_len p xs)) None) (le-ltb (position_or_len p xs) (length xs) past)) ∙ is in cc)
+
+if-some : {A : Type 0} (o : Option A) (P Q : A → Type 0) → ((x : A) → P x → Q x) → IfSome o P → IfSome o Q
+if-some None P Q more h = tt
+if-some (Some x) P Q more h = more x h
+
+first-grant : (n : ℕ) (t : Ticket) (sent : List Message) → IfSome (number_of_grant n t sent) (λ k. (m : Message) × (numbered sent k ≡ Some m) × (is_grant n t m ≡ true))
+first-grant n t sent = go (position (is_grant n t) sent) refl
+  where
+    go : (o : Option ℕ) → position (is_grant n t) sent ≡ o → IfSome (option_map (λ i. i + 1) o) (λ k. (m : Message) × (numbered sent k ≡ Some m) × (is_grant n t m ≡ true))
+    go None is = tt
+    go (Some i) is = place-passes (is_grant n t) sent i is (position-within (is_grant n t) sent i is)
+
+no-grant : (n : ℕ) (t : Ticket) (sent : List Message) → number_of_grant n t sent ≡ None → list_any (is_grant n t) sent ≡ false
+no-grant n t sent h = go (position (is_grant n t) sent) refl h
+  where
+    go : (o : Option ℕ) → position (is_grant n t) sent ≡ o → option_map (λ i. i + 1) o ≡ None → list_any (is_grant n t) sent ≡ false
+    go None is q = sym (place-some (is_grant n t) sent) ∙ ap is_some is
+    go (Some i) is q = absurd (let z : Some (i + 1) ≡ None = q in cc)
+
+same-ticket : (p : ExactPresent) (q : Present) → Asking (present_of p) ≡ Asking q → p.ticket ≡ q.ticket
+same-ticket p q e = let same : present_of p ≡ q = cc in ap (λ (x : Present). x.ticket) same
+
+client-numbered : (b : List Ballot) (ns : List ActingNode) (ks : List ActingClient) (sent : List Message) (c : ℕ) → (forget (world_view b ns ks sent)).clients c ≡ client_numbered (option_map client_part (numbered ks c))
+client-numbered b ns ks sent c = ap client_numbered (numbered-map client_part ks c)
+
+pub hears-first : (b : List Ballot) (ns : List ActingNode) (ks : List ActingClient) (sent : List Message) (c n : ℕ) →
+    IfSome (grant_if n (asking_if (numbered ks c)) sent) (λ k. (m : Message) × (p : Present) × (((forget (world_view b ns ks sent)).clients c).phase ≡ Asking p) × (numbered sent k ≡ Some m) × (is_grant n p.ticket m ≡ true))
+hears-first b ns ks sent c n = go (numbered ks c) (client-numbered b ns ks sent c)
+  where
+    w : World
+    w = forget (world_view b ns ks sent)
+
+    asking : (phase : ExactClientPhase) → (w.clients c).phase ≡ client_phase_of phase →
+        IfSome (grant_if n (asking_in (asked_in phase)) sent) (λ k. (m : Message) × (p : Present) × ((w.clients c).phase ≡ Asking p) × (numbered sent k ≡ Some m) × (is_grant n p.ticket m ≡ true))
+    asking client.Down is = tt
+    asking client.Idle is = tt
+    asking (client.Chosen t place) is = tt
+    asking (client.Asking p) is = if-some (number_of_grant n p.ticket sent) (λ k. (m : Message) × (numbered sent k ≡ Some m) × (is_grant n p.ticket m ≡ true))
+        (λ k. (m : Message) × (q : Present) × ((w.clients c).phase ≡ Asking q) × (numbered sent k ≡ Some m) × (is_grant n q.ticket m ≡ true)) (λ k h. (h.0, present_of p, is, h.1, h.2)) (first-grant n p.ticket sent)
+    asking (client.Inside p) is = tt
+
+    go : (o : Option ActingClient) → w.clients c ≡ client_numbered (option_map client_part o) →
+        IfSome (grant_if n (asking_if o) sent) (λ k. (m : Message) × (p : Present) × ((w.clients c).phase ≡ Asking p) × (numbered sent k ≡ Some m) × (is_grant n p.ticket m ≡ true))
+    go None is = tt
+    go (Some k) is = asking k.part.phase (ap (λ (x : Client). x.phase) is)
+
+pub hears-none : (b : List Ballot) (ns : List ActingNode) (ks : List ActingClient) (sent : List Message) (c n : ℕ) → grant_if n (asking_if (numbered ks c)) sent ≡ None →
+    (p : Present) → ((forget (world_view b ns ks sent)).clients c).phase ≡ Asking p → list_any (is_grant n p.ticket) sent ≡ false
+hears-none b ns ks sent c n none p asks = go (numbered ks c) (client-numbered b ns ks sent c) none
+  where
+    w : World
+    w = forget (world_view b ns ks sent)
+
+    asking : (phase : ExactClientPhase) → client_phase_of phase ≡ Asking p → grant_if n (asking_in (asked_in phase)) sent ≡ None → list_any (is_grant n p.ticket) sent ≡ false
+    asking client.Down is q = absurd (let z : ClientDown ≡ Asking p = is in cc)
+    asking client.Idle is q = absurd (let z : ClientIdle ≡ Asking p = is in cc)
+    asking (client.Chosen t place) is q = absurd (let z : Chosen t place ≡ Asking p = is in cc)
+    asking (client.Asking r) is q = subst (λ t. list_any (is_grant n t) sent ≡ false) (same-ticket r p is) (no-grant n r.ticket sent q)
+    asking (client.Inside r) is q = absurd (let z : IsIn (present_of r) ≡ Asking p = is in cc)
+
+    go : (o : Option ActingClient) → w.clients c ≡ client_numbered (option_map client_part o) → grant_if n (asking_if o) sent ≡ None → list_any (is_grant n p.ticket) sent ≡ false
+    go None is q = absurd (let z : ClientDown ≡ Asking p = sym (ap (λ (x : Client). x.phase) is) ∙ asks in cc)
+    go (Some k) is q = asking k.part.phase (sym (ap (λ (x : Client). x.phase) is) ∙ asks) q

@@ -56,14 +56,14 @@ hear-stuck a w n k f heard (inr h) = inr h
 
 -- what a result's value or fault comes to
 
-pub ok-all : {A : Type 0} {E : Type 0} (r : Result A E) (P Q : Type 0) → OnOk r P → (P → Q) → OnOk r Q
-ok-all (Ok a) P Q h more = more h
-ok-all (Err e) P Q h more = tt
+pub ok-all : {A : Type 0} {E : Type 0} (r : Result A E) (P Q : Type 0) → (P → Q) → OnOk r P → OnOk r Q
+ok-all (Ok a) P Q more h = more h
+ok-all (Err e) P Q more h = tt
 
-pub err-all : {A : Type 0} {E : Type 0} (r : Result A E) (P Q : E → Type 0) → IfErr r P → ((e : E) → P e → Q e) → IfErr r Q
-err-all (Ok a) P Q h more = tt
-err-all (Err e) P Q h more = more e h
+pub err-all : {A : Type 0} {E : Type 0} (r : Result A E) (P Q : E → Type 0) → ((e : E) → P e → Q e) → IfErr r P → IfErr r Q
+err-all (Ok a) P Q more h = tt
+err-all (Err e) P Q more h = more e h
 
-pub some-all : {A : Type 0} (o : Option A) (P Q : A → Type 0) → IfSome o P → ((x : A) → P x → Q x) → IfSome o Q
-some-all None P Q h more = tt
-some-all (Some x) P Q h more = more x h
+pub some-all : {A : Type 0} (o : Option A) (P Q : A → Type 0) → ((x : A) → P x → Q x) → IfSome o P → IfSome o Q
+some-all None P Q more h = tt
+some-all (Some x) P Q more h = more x h

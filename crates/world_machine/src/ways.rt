@@ -1,10 +1,10 @@
 // The way in of a client: what has to happen, found by going ahead on a copy of the world.
 
-ghost use Rattle.std.specs.Prelude.{◌≡◌, true, false, ◌∷◌, ◌++◌, [], ◌<◌, ◌≤◌, ◌⊎◌, ℕ, None, Err, IfSome, IfOk, IfErr, OnOk};
+ghost use Rattle.std.specs.Prelude.{◌≡◌, true, false, ◌∷◌, ◌++◌, [], ◌<◌, ◌≤◌, ◌⊎◌, ℕ, None, Err, IfSome, IsSomeAnd, IfOk, IfErr, OnOk};
 ghost use Rattle.std.specs.List.{list_any};
 ghost use Rattle.lock_messages.specs.declared.messages.Message.{Message as MessageValue};
 ghost use Rattle.vote_weights.specs.Sets.{has_node};
-ghost use Rattle.world_model.specs.Advice.{coming_up, is_grant};
+ghost use Rattle.world_model.specs.Advice.{coming_up, is_grant, next_move};
 ghost use Rattle.world_model.specs.ExactWays.{IsStuck, StopsAt, LeadsIn, HasAttempt, IsNoWay, every_node};
 ghost use Rattle.world_model.specs.ExactWorlds.{numbered, next_number, ran, step};
 ghost use Rattle.world_model.specs.Forgetting.{forget, setting_of};
@@ -102,5 +102,46 @@ impl Ahead {
             Move::Hand(client, node) => self.hand(client, node),
             Move::HearFrom(node) => self.hear(want, node),
         }
+    }
+
+    /// Makes the next moves, as long as there is one: then the client is inside, where it can get in by the
+    /// votes of these nodes.
+    fn go_in(&mut self, want: &Want, chosen: NodeSet) -> Result<(), StepFault>
+        ensures arrived { OnOk result (HasArrived (has_node chosen) want.now self.old.world self.old.events.items self.new.world self.new.events.items) }
+        ensures stops { IfErr result (λ f. StopsAt (has_node chosen) want.now self.old.world f ⊎ (f ≡ StepFault.Memory)) }
+    {
+        loop {
+            match self.world.next_move(chosen, want) {
+                Some(next) => self.make(want, &next)?,
+                None => return Ok(()),
+            }
+        }
+    }
+
+    /// Takes these events, one after the other.
+    fn take_all(&mut self, events: &[Event]) -> Result<(), StepFault>
+        ensures taken { OnOk result (HasTakenAll self.old.world self.old.events.items events.now self.new.world self.new.events.items) }
+        ensures refused { IfErr result (λ f. IsSomeAnd (ran events.now self.old.world).refused (λ r. f ≡ r) ⊎ (f ≡ StepFault.Memory)) }
+    {
+        for event in events {
+            self.take(*event)?;
+        }
+        Ok(())
+    }
+}
+
+impl World {
+    /// The next move on the way in, where the votes of these nodes are to be won.
+    fn next_move(&self, chosen: NodeSet, want: &Want) -> Option<Move>
+        ensures { result ≡ next_move (setting_of self.now) (has_node chosen) want.now (forget self.now) }
+    {
+        next_move(
+            &self.ballots,
+            &self.nodes,
+            &self.clients,
+            &self.sent,
+            chosen,
+            want,
+        )
     }
 }

@@ -33,14 +33,15 @@ use Rattle.world_model.specs.Invariants.{IsSafe}
 use Rattle.world_model.specs.Numbered.{numbered-one, numbered-there}
 use Rattle.world_model.specs.Advice.{coming, blocks, is_up, is_client_up, is_held, can_be_won, coming_up, node_numbers, client_numbers, is_grant, next_move}
 use Rattle.world_model.specs.Ways.{IsPossible, IsInsideAs, IsUp, HasActor, IsChosenBelow, StandsInWay, IsReady}
-use Rattle.world_model.specs.ExactWays.{load, HasRoomFor, every_node, LeadsIn, HasRun, HasBegun, is_chosen_below, HasAttempt, IsOwnOrGentle, ExactWayIn, ExactWayWithoutTheDead, Moved, moved_alone, moved_hand, moved_hear}
+use Rattle.world_model.specs.ExactWays.{load, SetsOut, HasRoomFor, every_node, LeadsIn, HasRun, HasBegun, is_chosen_below, HasAttempt, IsOwnOrGentle, ExactWayIn, ExactWayWithoutTheDead, Moved, moved_alone, moved_hand, moved_hear}
 use Rattle.world_model.proofs.ListFacts.{among-append, among-got, got-numbered}
 use Rattle.world_model.proofs.Deeds.{ModelLaws}
 use Rattle.world_model.proofs.StepFacts.{step-done}
 use Rattle.world_model.proofs.Costs.{cost}
 use Rattle.world_model.proofs.Owed.{owed}
 use Rattle.world_model.proofs.Rooms.{alone-full, hand-full, owed-load}
-use Rattle.world_model.proofs.Nearer.{Fine, IsLeft, left-up, node-among, client-among}
+use Rattle.world_model.specs.ExactWays.{IsLeft}
+use Rattle.world_model.proofs.Nearer.{Fine, left-up, node-among, client-among}
 use Rattle.world_model.proofs.FineFacts.{cases-client, stranger-is, safe-coming}
 use Rattle.world_model.proofs.InTheWay.{stands-blocks}
 use Rattle.world_model.proofs.Searches.{numbers-among, among-clients}
@@ -180,13 +181,6 @@ came-ready a x events y came n is = record {
   in_way = λ d stands. (let up = is.in_way d (subst (λ v. StandsInWay a (coming v) d) (came.nodes n) stands) in λ e. up (ap (λ (k : Client). k.phase) (sym (came.others d stands.0)) ∙ e));
 }
 
--- what is needed to set out
-pub record SetsOut (chosen : ℕ → Bool) (a : Want) (y : ExactWorld) : Type 0 where
-  pub possible : IsPossible (setting_of y) a
-  pub enough : IsEnough (ballot_at y.ballots a.place) a.mode chosen
-  pub left : IsLeft a ((forget y).clients a.client).kept ((forget y).clients a.client).phase
-  pub ready : (n : ℕ) → chosen n ≡ true → IsReady (forget y) a n
-
 pub fine-there : (chosen : ℕ → Bool) (a : Want) (y : ExactWorld) → IsSound y → SetsOut chosen a y → Fine (setting_of y) chosen a (forget y)
 fine-there chosen a y sound out = record { possible = out.possible; enough = out.enough; safe = sound.safe; strangers = nothing-kept y; left = out.left; ready = out.ready }
 
@@ -209,13 +203,22 @@ below-chosen (Asking p) h = refl
 below-chosen (IsIn p) h = refl
 
 -- the client has come up, and the nodes that could be won are won without the dead
+pub out-won : (a : Want) (x : ExactWorld) (events : List Event) (y : ExactWorld) → IsSound x → IsPossible (setting_of x) a → IsEnough (ballot_at x.ballots a.place) a.mode (can_be_won (setting_of x) a (forget x)) → CameUp a x events y →
+    SetsOut (can_be_won (setting_of x) a (forget x)) a y
+out-won a x events y sound possible enough came = record {
+  possible = same-possible a x y came.setting possible;
+  enough = subst (λ (s : Setting). IsEnough (ballot_at s.ballots a.place) a.mode (can_be_won (setting_of x) a (forget x))) (sym came.setting) enough;
+  left = came.left;
+  ready = λ n is. came-ready a x events y came n (won-ready x a n sound is);
+}
+
 pub sets-out : (a : Want) (x : ExactWorld) (events : List Event) (y : ExactWorld) → IsSound x → IsPossible (setting_of x) a → IsEnough (ballot_at x.ballots a.place) a.mode (can_be_won (setting_of x) a (forget x)) → CameUp a x events y →
     OnTheWay (is_chosen_below ((forget x).clients a.client).phase) (can_be_won (setting_of x) a (forget x)) a (length x.sent + load (can_be_won (setting_of x) a (forget x)) a x) x events y
 sets-out a x events y sound possible enough came = record {
   run = came.run;
   setting = came.setting;
   sound = came.sound;
-  fine = fine-there chosen a y came.sound out;
+  fine = fine-there chosen a y came.sound (out-won a x events y sound possible enough came);
   room = (let owes = owed-load chosen a y in let less = came.load chosen in let same : length y.sent ≡ length x.sent = ap length came.sent in omega (arith, owes, less, same));
   such = λ below. came.such (chosen-below ((forget x).clients a.client).phase below);
   ups = λ below. ups;
@@ -223,14 +226,6 @@ sets-out a x events y sound possible enough came = record {
   where
     chosen : ℕ → Bool
     chosen = can_be_won (setting_of x) a (forget x)
-
-    out : SetsOut chosen a y
-    out = record {
-      possible = same-possible a x y came.setting possible;
-      enough = subst (λ (s : Setting). IsEnough (ballot_at s.ballots a.place) a.mode chosen) (sym came.setting) enough;
-      left = came.left;
-      ready = λ n is. came-ready a x events y came n (won-ready x a n sound is);
-    }
 
     ups : (who : Actor) → IsUp (forget y) who → IsUp (forget x) who ⊎ (who ≡ actor.Client a.client)
     ups (actor.Node n) up = inl (λ e. up (ap (λ (v : Node). v.phase) (came.nodes n) ∙ e))
@@ -240,50 +235,51 @@ sets-out a x events y sound possible enough came = record {
     ]
 
 -- or all have risen since
-pub sets-out-risen : (a : Want) (x : ExactWorld) (events : List Event) (y : ExactWorld) (more : List Event) (z : ExactWorld) → IsPossible (setting_of x) a → AllCross x.ballots → CameUp a x events y → HasRun x (events ++ more) z → Risen a y z →
-    ((who : Actor) → HasActor (setting_of x) who → IsUp (forget z) who) → OnTheWay false (every_node (setting_of x)) a (length x.sent + load (every_node (setting_of x)) a x) x (events ++ more) z
-sets-out-risen a x events y more z possible crosses came run risen up = record {
-  run = run;
-  setting = risen.setting ∙ came.setting;
-  sound = risen.sound;
-  fine = fine-there chosen a z risen.sound out;
-  room =
-    (let owes = owed-load chosen a z in
-    let less = came.load chosen in
-    let still = risen.load chosen in
-    let same : length z.sent ≡ length x.sent = ap length (risen.sent ∙ came.sent) in omega (arith, owes, less, still, same));
-  such = λ never. absurd (let q : false ≡ true = never in cc);
-  ups = λ never. absurd (let q : false ≡ true = never in cc);
-}
-  where
-    s : Setting
-    s = setting_of x
+module _ (a : Want) (x : ExactWorld) (events : List Event) (y z : ExactWorld) (possible : IsPossible (setting_of x) a) (crosses : AllCross x.ballots) (came : CameUp a x events y) (risen : Risen a y z)
+  (up : (who : Actor) → HasActor (setting_of x) who → IsUp (forget z) who) where
+  abbrev among : Setting
+  among = setting_of x
 
-    chosen : ℕ → Bool
-    chosen = every_node s
+  abbrev all : ℕ → Bool
+  all = every_node (setting_of x)
 
-    same : setting_of z ≡ s
-    same = risen.setting ∙ came.setting
+  same-then : setting_of z ≡ among
+  same-then = risen.setting ∙ came.setting
 
-    own : (forget z).clients a.client ≡ (forget y).clients a.client
-    own = risen.stays.clients a.client (left-up a ((forget y).clients a.client).kept ((forget y).clients a.client).phase came.left)
+  own-then : (forget z).clients a.client ≡ (forget y).clients a.client
+  own-then = risen.stays.clients a.client (left-up a ((forget y).clients a.client).kept ((forget y).clients a.client).phase came.left)
 
-    others : (n d : ℕ) → StandsInWay a (coming ((forget z).nodes n)) d → IsUp (forget z) (actor.Client d)
-    others n d stands = elim (cases-client s d) [
-      | inl has ↦ up (actor.Client d) has
-      | inr stranger ↦
-        absurd (let it = stands.1 in
-        let e = stranger-is s (forget z) n (coming ((forget z).nodes n)) (subst (λ (t : Setting). (c : ℕ) → ¬ (HasClient t c) → ((forget z).clients c).kept ≡ 0) same (nothing-kept z)) (safe-coming s (forget z) n (subst (λ t. IsSafe t (forget z)) same risen.sound.safe)) d stranger in
-        let q : Free ≡ Has it.0 a.resource it.1 = ap (λ (t : Standing). t.claim) (sym e) ∙ it.2 in cc)
-    ]
+  others-then : (n d : ℕ) → StandsInWay a (coming ((forget z).nodes n)) d → IsUp (forget z) (actor.Client d)
+  others-then n d stands = elim (cases-client among d) [
+    | inl has ↦ up (actor.Client d) has
+    | inr stranger ↦
+      absurd (let it = stands.1 in
+      let e = stranger-is among (forget z) n (coming ((forget z).nodes n)) (subst (λ (t : Setting). (c : ℕ) → ¬ (HasClient t c) → ((forget z).clients c).kept ≡ 0) same-then (nothing-kept z)) (safe-coming among (forget z) n (subst (λ t. IsSafe t (forget z)) same-then risen.sound.safe)) d stranger in
+      let q : Free ≡ Has it.0 a.resource it.1 = ap (λ (t : Standing). t.claim) (sym e) ∙ it.2 in cc)
+  ]
 
-    out : SetsOut chosen a z
-    out = record {
-      possible = same-possible a x z same possible;
-      enough = subst (λ (t : Setting). IsEnough (ballot_at t.ballots a.place) a.mode chosen) (sym same) (every-enough s a.place a.mode crosses possible.place);
-      left = subst (λ (k : Client). IsLeft a k.kept k.phase) (sym own) came.left;
-      ready = λ n is. record { up = up (actor.Node n) (every-known s n is); in_way = others n };
-    }
+  pub out-risen : SetsOut all a z
+  out-risen = record {
+    possible = same-possible a x z same-then possible;
+    enough = subst (λ (t : Setting). IsEnough (ballot_at t.ballots a.place) a.mode all) (sym same-then) (every-enough among a.place a.mode crosses possible.place);
+    left = subst (λ (k : Client). IsLeft a k.kept k.phase) (sym own-then) came.left;
+    ready = λ n is. record { up = up (actor.Node n) (every-known among n is); in_way = others-then n };
+  }
+
+  pub sets-out-risen : (more : List Event) → HasRun x (events ++ more) z → OnTheWay false all a (length x.sent + load all a x) x (events ++ more) z
+  sets-out-risen more run = record {
+    run = run;
+    setting = same-then;
+    sound = risen.sound;
+    fine = fine-there all a z risen.sound out-risen;
+    room =
+      (let owes = owed-load all a z in
+      let less = came.load all in
+      let still = risen.load all in
+      let same : length z.sent ≡ length x.sent = ap length (risen.sent ∙ came.sent) in omega (arith, owes, less, still, same));
+    such = λ never. absurd (let q : false ≡ true = never in cc);
+    ups = λ never. absurd (let q : false ≡ true = never in cc);
+  }
 
 -- All rise.
 
@@ -394,8 +390,7 @@ pub exact-way : ModelLaws → ExactWayIn
 exact-way laws x a sound possible attempt room =
     let c = came laws x a sound possible.client attempt in
     let all = raise-all laws a c.1 c.2.sound in
-    let way = sets-out-risen a x c.0 c.1 all.events all.world possible sound.crosses c.2 (run-join x c.0 c.1 all.events all.world c.2.run all.run) all.risen
-    (λ who known. all.raised who (subst (λ s. HasActor s who) (sym c.2.setting) known)) in
+    let way = sets-out-risen a x c.0 c.1 all.world possible sound.crosses c.2 all.risen (λ who known. all.raised who (subst (λ s. HasActor s who) (sym c.2.setting) known)) all.events (run-join x c.0 c.1 all.events all.world c.2.run all.run) in
     let end = gets-in laws false (every_node (setting_of x)) a (length x.sent + load (every_node (setting_of x)) a x) room x (suc (cost (setting_of all.world) (every_node (setting_of x)) a (forget all.world))) (c.0 ++ all.events) all.world way (omega arith) in
     (end.0, leads-in x a end.0 end.1 end.2.run end.3)
 

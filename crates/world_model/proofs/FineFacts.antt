@@ -13,7 +13,8 @@ use Rattle.world_model.specs.declared.ways.Want.{Want}
 use Rattle.world_model.specs.Advice.{coming, coming_in}
 use Rattle.world_model.specs.Ways.{IsReady, IsUp, StandsInWay}
 use Rattle.world_model.proofs.SafeRuns.{happens-safe}
-use Rattle.world_model.proofs.Nearer.{Fine, IsLeft, Grows, OnlyNode, OnlyClient}
+use Rattle.world_model.specs.ExactWays.{IsLeft}
+use Rattle.world_model.proofs.Nearer.{Fine, Grows, OnlyNode, OnlyClient}
 use Rattle.world_model.proofs.FewClients.{IsFew}
 
 -- what is said is only more

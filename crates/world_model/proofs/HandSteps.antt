@@ -18,7 +18,8 @@ use Rattle.world_model.specs.Advice.{coming, coming_in, asks_for, is_grant, clie
 use Rattle.world_model.specs.Ways.{IsUp, StandsInWay}
 use Rattle.world_model.specs.ExactWays.{total_over}
 use Rattle.world_model.proofs.Costs.{finish_cost, block_cost, promises, ask_cost, node_cost, cost}
-use Rattle.world_model.proofs.Nearer.{IsLeft, Fine, Hands, Goes, Grows, OnlyNode, costs_at, node-nearer}
+use Rattle.world_model.specs.ExactWays.{IsLeft}
+use Rattle.world_model.proofs.Nearer.{Fine, Hands, Goes, Grows, OnlyNode, costs_at, node-nearer}
 use Rattle.world_model.proofs.FineFacts.{only-node, only-client, same-clients, fine-of-node, fine-of-client}
 use Rattle.world_model.proofs.Puts.{put_node, put-node, put_client, put-client}
 use Rattle.world_model.proofs.InTheWay.{OthersLessen, less-stands}

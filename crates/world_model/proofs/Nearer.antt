@@ -19,18 +19,10 @@ use Rattle.world_model.specs.declared.ways.Move.TheVariants.{Alone, Hand, HearFr
 use Rattle.world_model.specs.declared.ways.Want.{Want}
 use Rattle.world_model.specs.Advice.{coming, is_wanted, asks_for, is_inside_as, is_grant, node_numbers, client_numbers}
 use Rattle.world_model.specs.Ways.{IsPossible, IsReady, IsUp}
-use Rattle.world_model.specs.ExactWays.{total_over}
+use Rattle.world_model.specs.ExactWays.{IsLeft, total_over}
 use Rattle.world_model.proofs.Costs.{block_cost, promises, vote_cost, ask_cost, node_cost, client_cost, cost}
 
--- An attempt is left to the client: of what it does now it can still come to the one that is wanted.
-abbrev pub IsLeft : Want → ℕ → ClientPhase → Type 0
-IsLeft a kept ClientDown = ⊥
-IsLeft a kept ClientIdle = kept < MAX_ATTEMPT
-IsLeft a kept (Chosen t place) = (is_wanted a t place ≡ true) ⊎ (t.attempt < MAX_ATTEMPT)
-IsLeft a kept (Asking p) = (asks_for a p ≡ true) ⊎ (kept < MAX_ATTEMPT)
-IsLeft a kept (IsIn p) = (is_inside_as a p ≡ true) ⊎ (kept < MAX_ATTEMPT)
-
--- who has one is up
+-- who has an attempt left is up
 pub left-up : (a : Want) (kept : ℕ) (phase : ClientPhase) → IsLeft a kept phase → phase ≢ ClientDown
 left-up a kept phase left e = subst (IsLeft a kept) e left
 

@@ -20,7 +20,8 @@ use Rattle.world_model.specs.declared.ways.Move.TheVariants.{Alone}
 use Rattle.world_model.specs.declared.ways.Want.{Want}
 use Rattle.world_model.specs.Advice.{is_wanted, asks_for, is_inside_as, is_grant, beginning, beginning_in}
 use Rattle.world_model.proofs.Costs.{own_cost, rest_cost, client_cost, cost, promises, ask_cost}
-use Rattle.world_model.proofs.Nearer.{Fine, IsLeft, Nears, Goes, OnlyClient, costs_at, ask-le, client-nearer}
+use Rattle.world_model.specs.ExactWays.{IsLeft}
+use Rattle.world_model.proofs.Nearer.{Fine, Nears, Goes, OnlyClient, costs_at, ask-le, client-nearer}
 use Rattle.world_model.proofs.FineFacts.{only-client, fine-of-client}
 use Rattle.world_model.proofs.RestMoves.{client-goes}
 

@@ -25,7 +25,7 @@ use Rattle.world_model.specs.Ways.{IsUp, IsChosenBelow}
 use Rattle.world_model.specs.ExactWays.{load, HasRun, IsOwnOrGentle, HasBegun, HasAttempt}
 use Rattle.world_model.proofs.Deeds.{ModelLaws}
 use Rattle.world_model.proofs.StepFacts.{step-done, same-clients}
-use Rattle.world_model.proofs.Nearer.{IsLeft}
+use Rattle.world_model.specs.ExactWays.{IsLeft}
 use Rattle.world_model.proofs.OnTheWay.{run-more}
 use Rattle.world_model.proofs.Prefixes.{client-rises-step, client-falls-step, client-load}
 

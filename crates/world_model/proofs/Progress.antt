@@ -22,7 +22,8 @@ use Rattle.world_model.specs.declared.ways.Move.TheVariants.{Alone, Hand, HearFr
 use Rattle.world_model.specs.declared.ways.Want.{Want}
 use Rattle.world_model.specs.Advice.{search, found, node_numbers, client_numbers, finishing, finishing_in, coming, is_in_way, blocks, resting, resting_in, going, asks_for, is_inside_as, beginning, beginning_in, is_grant, asking_of, entering, only, alone, finish_move, clear_at, clear_move, own_in, own_move, next_move}
 use Rattle.world_model.specs.Ways.{IsGentle, IsUp, IsInsideAs, StandsInWay}
-use Rattle.world_model.proofs.Nearer.{Fine, IsLeft, Goes, Nears, node-among, client-among}
+use Rattle.world_model.specs.ExactWays.{IsLeft}
+use Rattle.world_model.proofs.Nearer.{Fine, Goes, Nears, node-among, client-among}
 use Rattle.world_model.proofs.MoveKinds as kind
 use Rattle.world_model.proofs.MoveKinds.{MoveKind}
 use Rattle.world_model.proofs.FineFacts.{cases-client, safe-coming, stranger-stands}

@@ -27,7 +27,8 @@ use Rattle.world_model.specs.declared.ways.Move.TheVariants.{Alone, HearFrom}
 use Rattle.world_model.specs.declared.ways.Want.{Want}
 use Rattle.world_model.specs.Advice.{is_wanted, asks_for, is_inside_as, same_ticket, is_grant}
 use Rattle.world_model.proofs.Costs.{own_cost, client_cost, cost, promises, vote_cost, ask_cost}
-use Rattle.world_model.proofs.Nearer.{Fine, IsLeft, Nears, Goes, OnlyClient, costs_at, vote-le, vote-nearer}
+use Rattle.world_model.specs.ExactWays.{IsLeft}
+use Rattle.world_model.proofs.Nearer.{Fine, Nears, Goes, OnlyClient, costs_at, vote-le, vote-nearer}
 use Rattle.world_model.proofs.FineFacts.{only-client, fine-of-client}
 use Rattle.world_model.proofs.RestMoves.{client-goes}
 use Rattle.world_model.proofs.OwnMoves.{own-client, costs-le, IsNearerOwn, nearer-own}

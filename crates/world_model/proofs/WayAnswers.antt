@@ -21,6 +21,7 @@ use Rattle.world_model.specs.declared.exact.ExactNodePhase.{ExactNodePhase}
 use Rattle.world_model.specs.declared.exact.ExactNodePhase.TheVariants as node
 use Rattle.world_model.specs.declared.exact.ExactStation.{ExactStation}
 use Rattle.world_model.specs.declared.exact.ExactWorld.{ExactWorld}
+use Rattle.world_model.specs.declared.ways.Move.{Move}
 use Rattle.world_model.specs.declared.ways.Want.{Want}
 use Rattle.world_model.specs.Worlds.{Client, World, Setting, HasClient}
 use Rattle.world_model.specs.ExactNodes.{node_rises_in, node_rises_with}
@@ -30,7 +31,7 @@ use Rattle.world_model.specs.Forgetting.{client_phase_of, client_numbered, forge
 use Rattle.world_model.specs.Numbered.{numbered-there}
 use Rattle.world_model.specs.Advice.{can_be_won, coming_up, node_numbers, next_move}
 use Rattle.world_model.specs.Ways.{IsPossible, IsUp, HasActor, IsChosenBelow, IsInsideAs}
-use Rattle.world_model.specs.ExactWays.{total_over, load_at, load, HasRoomFor, every_node, LeadsIn, HasRun, HasBegun, is_chosen_below, HasAttempt, IsOwnOrGentle, Follows, follows_none, follows_more, StopsAt, IsRise, AreRises}
+use Rattle.world_model.specs.ExactWays.{total_over, load_at, load, HasRoomFor, every_node, LeadsIn, HasRun, HasBegun, is_chosen_below, HasAttempt, IsOwnOrGentle, SetsOut, Moved, Follows, follows_none, follows_more, StopsAt, IsRise, AreRises}
 use Rattle.world_model.proofs.Deeds.{ModelLaws}
 use Rattle.world_model.proofs.Nearer.{total-le}
 use Rattle.world_model.proofs.Searches.{numbers-among}
@@ -39,7 +40,9 @@ use Rattle.world_model.proofs.WaysIn.{known-every}
 use Rattle.world_model.proofs.OnTheWay.{OnTheWay, moves-on, stuck-full}
 use Rattle.world_model.proofs.Prefixes.{Risen, none-risen, risen-on, client-risen, node-risen, client-rises-step, node-rises-step}
 use Rattle.world_model.proofs.OwnRests.{CameUp, came-up}
-use Rattle.world_model.proofs.ExactWaysIn.{run-join, leads-in, below-chosen, sets-out, sets-out-risen}
+use Rattle.world_model.proofs.ExactWaysIn.{run-join, leads-in, fine-there, below-chosen, out-won, out-risen, sets-out, sets-out-risen}
+use Rattle.world_model.proofs.Costs.{cost}
+use Rattle.world_model.proofs.Rooms.{owed-load}
 
 -- The next moves keep to the way, and only a full list of messages stops them.
 
@@ -56,6 +59,26 @@ inside-then G chosen a bound x events z way none = progress (setting_of z) chose
 stopped : ModelLaws → (G : Bool) (chosen : ℕ → Bool) (a : Want) (bound : ℕ) (x : ExactWorld) (events : List Event) (y : ExactWorld) (f : StepFault) → OnTheWay G chosen a bound x events y → StopsAt chosen a y f → (f ≡ fault.SentListFull) × (MAX_MESSAGES < bound)
 stopped laws G chosen a bound x events y f way stops =
     stuck-full laws G chosen a bound x (events ++ stops.events) stops.world stops.move f (followed laws G chosen a bound x events y stops.events stops.world way stops.follows) stops.next stops.stuck
+
+-- On the way each move costs something, so that there is an end.
+pub fine-start : (chosen : ℕ → Bool) (a : Want) (y : ExactWorld) → IsSound y → SetsOut chosen a y → OnTheWay false chosen a (length y.sent + load chosen a y) y [] y
+fine-start chosen a y sound out = record {
+  run = refl;
+  setting = refl;
+  sound = sound;
+  fine = fine-there chosen a y sound out;
+  room = (let owes = owed-load chosen a y in omega (arith, owes));
+  such = λ never. absurd (let q : false ≡ true = never in cc);
+  ups = λ never. absurd (let q : false ≡ true = never in cc);
+}
+
+pub step-costs : ModelLaws → (chosen : ℕ → Bool) (a : Want) (y : ExactWorld) (es : List Event) (v : ExactWorld) (mv : Move) (added : List Event) (u : ExactWorld) → IsSound y → SetsOut chosen a y → Follows chosen a y es v →
+    next_move (setting_of v) chosen a (forget v) ≡ Some mv → Moved a v mv added u → cost (setting_of u) chosen a (forget u) < cost (setting_of v) chosen a (forget v)
+step-costs laws chosen a y es v mv added u sound out follows next moved =
+    let bound = length y.sent + load chosen a y in
+    let way = followed laws false chosen a bound y [] y es v (fine-start chosen a y sound out) follows in
+    let on = moves-on laws false chosen a bound y es v mv added u way next moved in
+    subst (λ s. cost s chosen a (forget u) < cost (setting_of v) chosen a (forget v)) (sym (on.0.setting ∙ sym way.setting)) on.1
 
 -- Those that rise were down.
 
@@ -166,6 +189,9 @@ module _ (laws : ModelLaws) (x : ExactWorld) (a : Want) (sound : IsSound x) (pos
   gentle-out : IsEnough (ballot_at x.ballots a.place) a.mode won → OnTheWay (is_chosen_below ((forget x).clients a.client).phase) won a (length x.sent + load won a x) x first y
   gentle-out enough = sets-out a x first y sound possible enough (came-run laws x a y sound possible.client attempt came)
 
+  pub out-gently : IsEnough (ballot_at x.ballots a.place) a.mode won → SetsOut won a y
+  out-gently enough = out-won a x first y sound possible enough (came-run laws x a y sound possible.client attempt came)
+
   pub leads-gently : IsEnough (ballot_at x.ballots a.place) a.mode won → (es : List Event) (z : ExactWorld) → Follows won a y es z → next_move (setting_of z) won a (forget z) ≡ None →
       LeadsIn x a (first ++ es) × (IsChosenBelow ((forget x).clients a.client).phase → (e : Event) → Among e (first ++ es) → IsOwnOrGentle x a e)
   leads-gently enough es z follows none =
@@ -182,7 +208,12 @@ module _ (laws : ModelLaws) (x : ExactWorld) (a : Want) (sound : IsSound x) (pos
     risen-out : OnTheWay false every a (length x.sent + load every a x) x (first ++ rs) u
     risen-out =
         let c = came-run laws x a y sound possible.client attempt came in
-        sets-out-risen a x first y rs u possible sound.crosses c (run-join x first y rs u came rose) (rises-risen laws a rs y u c.sound rose rises) up
+        sets-out-risen a x first y u possible sound.crosses c (rises-risen laws a rs y u c.sound rose rises) up rs (run-join x first y rs u came rose)
+
+    pub out-raised : SetsOut every a u
+    out-raised =
+        let c = came-run laws x a y sound possible.client attempt came in
+        out-risen a x first y u possible sound.crosses c (rises-risen laws a rs y u c.sound rose rises) up
 
     pub leads-risen : (es : List Event) (z : ExactWorld) → Follows every a u es z → next_move (setting_of z) every a (forget z) ≡ None → LeadsIn x a ((first ++ rs) ++ es)
     leads-risen es z follows none =

@@ -22,7 +22,8 @@ use Rattle.world_model.specs.Advice.{node_numbers, client_numbers, coming}
 use Rattle.world_model.specs.Ways.{IsReached, IsPossible, IsInsideAs, WayIn, IsGentle, IsUp, HasActor, HasKeptBelow, IsChosenBelow, StandsInWay, IsReady, NobodyIsLockedOut, OthersOnlyGo, TheDeadAreNotNeeded}
 use Rattle.world_model.proofs.SafeRuns.{opening-safe, run-safe, happens-safe}
 use Rattle.world_model.proofs.Costs.{cost}
-use Rattle.world_model.proofs.Nearer.{Fine, IsLeft, node-among, client-among}
+use Rattle.world_model.specs.ExactWays.{IsLeft}
+use Rattle.world_model.proofs.Nearer.{Fine, node-among, client-among}
 use Rattle.world_model.proofs.FineFacts.{cases-client, strangers-stay, stranger-is, safe-coming}
 use Rattle.world_model.proofs.Puts.{put_client, put-client}
 use Rattle.world_model.proofs.Searches.{numbers-among, among-clients}

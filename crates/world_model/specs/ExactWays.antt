@@ -26,7 +26,7 @@ use Rattle.world_model.specs.declared.ways.Want.{Want}
 use Rattle.world_model.specs.Worlds.{World, Present, ClientPhase, ClientDown, ClientIdle, Chosen, Asking, IsIn, Setting, HasClient}
 use Rattle.world_model.specs.ExactWorlds.{numbered, next_number, actor_of, Stepped, step, ran}
 use Rattle.world_model.specs.Forgetting.{station_of, forget, setting_of, IsSound}
-use Rattle.world_model.specs.Advice.{blocks, asks_for, is_inside_as, is_grant, node_numbers, client_numbers, can_be_won, next_move}
+use Rattle.world_model.specs.Advice.{blocks, is_wanted, asks_for, is_inside_as, is_grant, node_numbers, client_numbers, can_be_won, next_move}
 use Rattle.world_model.specs.Ways.{IsPossible, IsInsideAs, IsGentle, IsUp, HasKeptBelow, IsChosenBelow, IsReady}
 
 -- the sum over some numbers
@@ -154,6 +154,22 @@ pub data IsStuck (a : Want) (w : ExactWorld) : Move → StepFault → Type 0 whe
 -- A run of which each event is taken leads to this world.
 abbrev pub HasRun : ExactWorld → List Event → ExactWorld → Type 0
 HasRun w events v = ran events w ≡ record { taken = length events; world = v; refused = None }
+
+-- Of what the client does now it can still come to be inside as it wants to be.
+abbrev pub IsLeft : Want → ℕ → ClientPhase → Type 0
+IsLeft a kept ClientDown = ⊥
+IsLeft a kept ClientIdle = kept < MAX_ATTEMPT
+IsLeft a kept (Chosen t place) = (is_wanted a t place ≡ true) ⊎ (t.attempt < MAX_ATTEMPT)
+IsLeft a kept (Asking p) = (asks_for a p ≡ true) ⊎ (kept < MAX_ATTEMPT)
+IsLeft a kept (IsIn p) = (is_inside_as a p ≡ true) ⊎ (kept < MAX_ATTEMPT)
+
+-- What is needed to set out: the client and the place are there, the votes of the chosen nodes are enough, the
+-- client has an attempt left, and each chosen node can be won.
+pub record SetsOut (chosen : ℕ → Bool) (a : Want) (w : ExactWorld) : Type 0 where
+  pub possible : IsPossible (setting_of w) a
+  pub enough : IsEnough (ballot_at w.ballots a.place) a.mode chosen
+  pub left : IsLeft a ((forget w).clients a.client).kept ((forget w).clients a.client).phase
+  pub ready : (n : ℕ) → chosen n ≡ true → IsReady (forget w) a n
 
 -- The next moves, one after the other, lead there by these events.
 pub data Follows (chosen : ℕ → Bool) (a : Want) (w : ExactWorld) : List Event → ExactWorld → Type 0 where
