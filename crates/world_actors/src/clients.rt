@@ -11,7 +11,7 @@ ghost use Rattle.world_model.specs.ExactClients.{begins_in, tries_attempt_in, ke
 ghost use Rattle.world_model.specs.Openings.{down_client};
 ghost use Rattle.world_model.specs.Turns.{acts};
 ghost use Rattle.world_model.specs.Views.{ticket_in};
-ghost use Rattle.world_actors.specs.Asking.{asked_in, is_for};
+ghost use Rattle.world_actors.specs.Asking.{asked_in, is_for, must_fall};
 
 use client_core::{ClientCore, ClientFault, Phase};
 use lock_messages::{
@@ -413,6 +413,20 @@ impl WorldClient {
         match (self.core.phase(), self.core.ticket()) {
             (Phase::Asking, Some(ticket)) => Some((ticket, self.core.granted())),
             (Phase::Idle | Phase::Chosen | Phase::Asking | Phase::Inside, _) => None,
+        }
+    }
+
+    /// Whether the attempt that the client has chosen is the greatest, and not for what is wanted: only by a
+    /// fall, which loses it, an attempt is left.
+    pub fn must_fall(&self, want: &Want) -> bool
+        ensures { result ≡ must_fall want.now (client_of self.now.part).phase }
+    {
+        if !self.up {
+            return false;
+        }
+        match self.core.phase() {
+            Phase::Chosen => !(is_for(&self.core, want) || self.core.attempt() < MAX_ATTEMPT),
+            Phase::Idle | Phase::Asking | Phase::Inside => false,
         }
     }
 }

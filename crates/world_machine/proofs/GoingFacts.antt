@@ -1,5 +1,6 @@
 -- What moves made one event after the other come to.
-use Rattle.std.proofs.Common.{◌≡◌, ℕ, ◌+◌, ◌⊎◌, Result, OnOk, IfErr, IfSome, Bool, List, [], ◌∷◌, ◌++◌, length, true, Option, None, Some, Ok, Err, refl, sym, ◌∙◌, ap, subst, inl, inr, append_assoc, append-nil}
+use Rattle.std.proofs.Common.{◌≡◌, ℕ, ◌+◌, ◌<◌, ◌≤◌, ◌⊎◌, arith, Result, OnOk, IfErr, IfSome, Bool, List, [], ◌∷◌, ◌++◌, length, true, Option, None, Some, Ok, Err, refl, sym, ◌∙◌, ap, subst, inl, inr, append_assoc, append-nil}
+use Rattle.std.proofs.lemmas.Bool.{cases_lt}
 use Rattle.lock_messages.specs.declared.messages.Message.{Message}
 use Rattle.world_model.specs.declared.events.Event.{Event}
 use Rattle.world_model.specs.declared.events.Event.TheVariants as event
@@ -9,12 +10,28 @@ use Rattle.world_model.specs.declared.exact.ExactWorld.{ExactWorld}
 use Rattle.world_model.specs.declared.ways.Move.{Move}
 use Rattle.world_model.specs.declared.ways.Move.TheVariants.{Alone, Hand, HearFrom}
 use Rattle.world_model.specs.declared.ways.Want.{Want}
-use Rattle.world_model.specs.Worlds.{Present, Asking}
+use Rattle.lock_messages.specs.declared.ids.Actor.{Actor}
+use Rattle.lock_messages.specs.declared.ids.Actor.TheVariants as actor
+use Rattle.lock_messages.specs.declared.tickets.Mode.TheVariants.{Read}
+use Rattle.lock_model.specs.Decisions.{Among}
+use Rattle.world_model.specs.declared.events.Age.TheVariants.{Old}
+use Rattle.world_model.specs.Worlds.{Present, Asking, Node, Client, NodeIdle, NodeDown, ClientIdle, ClientDown, OfNode, OfClient, NodeRises, node_rises_old, ClientRises, client_rises_old}
 use Rattle.world_model.specs.ExactWorlds.{numbered, next_number, Stepped, step}
-use Rattle.world_model.specs.Forgetting.{forget, setting_of}
+use Rattle.world_model.specs.Forgetting.{forget, setting_of, IsSound}
 use Rattle.world_model.specs.Advice.{is_grant, next_move}
 use Rattle.world_model.specs.ExactWays.{Moved, moved_alone, moved_hand, moved_hear, IsStuck, stuck_alone, stuck_saying, stuck_taking, stuck_hearing, Follows, follows_none, follows_more, StopsAt}
-use Rattle.world_machine.specs.Going.{HasTaken, HasMade, HasArrived}
+use Rattle.world_model.specs.ExactWays.{SetsOut, HasRun, IsRise, AreRises}
+use Rattle.world_model.specs.Ways.{IsUp, HasActor}
+use Rattle.world_model.proofs.ListFacts.{among-append}
+use Rattle.world_model.proofs.Deeds.{model-laws}
+use Rattle.world_model.proofs.StepFacts.{step-done}
+use Rattle.world_model.proofs.Raises.{still-up}
+use Rattle.world_model.proofs.OnTheWay.{run-more}
+use Rattle.world_model.proofs.Prefixes.{Risen, client-rises-step, node-rises-step}
+use Rattle.world_model.proofs.ExactWaysIn.{run-join}
+use Rattle.world_model.proofs.WayAnswers.{rises-risen, step-costs}
+use Rattle.world_model.proofs.Costs.{cost}
+use Rattle.world_machine.specs.Going.{HasTaken, HasMade, HasArrived, HasRaised, IsDownThere}
 
 -- one event
 pub alone-made : (a : Want) (w : ExactWorld) (old : List Event) (e : Event) (v : ExactWorld) (new : List Event) → HasTaken w old e v new → HasMade a w old (Alone e) v new
@@ -67,3 +84,107 @@ err-all (Err e) P Q more h = more e h
 pub some-all : {A : Type 0} (o : Option A) (P Q : A → Type 0) → ((x : A) → P x → Q x) → IfSome o P → IfSome o Q
 some-all None P Q more h = tt
 some-all (Some x) P Q more h = more x h
+
+-- Those that are down rise.
+
+-- whom the load is told for doesn't matter here
+abbrev no_want : Want
+no_want = record { client = 0; mode = Read; resource = []; place = 0 }
+
+pub raised-none : (w : ExactWorld) (old : List Event) (P : Actor → Type 0) → ((who : Actor) → P who → HasActor (setting_of w) who → IsUp (forget w) who) → HasRaised w old w old P
+raised-none w old P up = ([], refl, (λ e m. absurd m), sym (append-nil old), up)
+
+rise-up : (w : ExactWorld) (who : Actor) (t : Stepped) → IsSound w → step w (event.Rise who Old) ≡ Ok t → IsUp (forget t.world) who
+rise-up w (actor.Node n) t sound h = let by = (step-done model-laws w (event.Rise (actor.Node n) Old) t h).happens sound in node by.0 by.1 by.2 by.3
+  where
+    node : (before after : Node) → NodeRises Old before after → OfNode (setting_of w) n (forget w) before after [] (forget t.world) → IsUp (forget t.world) (actor.Node n)
+    node _ _ (node_rises_old kept tried) of e = let q : NodeIdle ≡ NodeDown = sym (ap (λ (x : Node). x.phase) of.is) ∙ e in cc
+rise-up w (actor.Client c) t sound h = let by = (step-done model-laws w (event.Rise (actor.Client c) Old) t h).happens sound in client by.0 by.1 by.2 by.3
+  where
+    client : (before after : Client) → ClientRises Old before after → OfClient (setting_of w) c (forget w) before after [] (forget t.world) → IsUp (forget t.world) (actor.Client c)
+    client _ _ (client_rises_old kept tried) of e = let q : ClientIdle ≡ ClientDown = sym (ap (λ (x : Client). x.phase) of.is) ∙ e in cc
+
+pub raised-one : (w : ExactWorld) (old : List Event) (who : Actor) (v : ExactWorld) (new : List Event) → IsSound w → HasTaken w old (event.Rise who Old) v new → HasRaised w old v new (λ x. x ≡ who)
+raised-one w old who v new sound (t, h, is, joined) = (
+  event.Rise who Old ∷ [],
+  subst (HasRun w (event.Rise who Old ∷ [])) (sym is) (run-more w [] w (event.Rise who Old) t refl h),
+  rises,
+  joined,
+  λ x same known. subst (IsUp (forget v)) (sym same) (subst (λ u. IsUp (forget u) who) (sym is) (rise-up w who t sound h)),
+)
+  where
+    rises : AreRises (event.Rise who Old ∷ [])
+    rises e (inl same) = (who, same)
+    rises e (inr m) = absurd m
+
+pub raised-join : (w : ExactWorld) (old : List Event) (v : ExactWorld) (mid : List Event) (u : ExactWorld) (new : List Event) (P Q : Actor → Type 0) → IsSound w → HasRaised w old v mid P → HasRaised v mid u new Q →
+    HasRaised w old u new (λ who. P who ⊎ Q who)
+raised-join w old v mid u new P Q sound (es, run, rises, joined, up) (fs, more, risen, then_joined, then_up) = (
+  es ++ fs,
+  run-join w es v fs u run more,
+  both,
+  then_joined ∙ ap (λ l. l ++ fs) joined ∙ append_assoc old es fs,
+  each,
+)
+  where
+    first : Risen no_want w v
+    first = rises-risen model-laws no_want es w v sound run rises
+
+    second : Risen no_want v u
+    second = rises-risen model-laws no_want fs v u first.sound more risen
+
+    both : AreRises (es ++ fs)
+    both e m = go ((among-append e es fs).0 m)
+      where
+        go : Among e es ⊎ Among e fs → IsRise e
+        go (inl h) = rises e h
+        go (inr h) = risen e h
+
+    each : (who : Actor) → P who ⊎ Q who → HasActor (setting_of w) who → IsUp (forget u) who
+    each who (inl p) known = still-up (forget v) (forget u) second.stays who (up who p known)
+    each who (inr q) known = then_up who q (subst (λ s. HasActor s who) (sym first.setting) known)
+
+pub raised-weaker : (w : ExactWorld) (old : List Event) (v : ExactWorld) (new : List Event) (P Q : Actor → Type 0) → ((who : Actor) → Q who → HasActor (setting_of w) who → P who) → HasRaised w old v new P → HasRaised w old v new Q
+raised-weaker w old v new P Q weaker (es, run, rises, joined, up) = (es, run, rises, joined, λ who q known. up who (weaker who q known) known)
+
+-- one more of them by number
+pub raised-next : (mk : ℕ → Actor) (w : ExactWorld) (old : List Event) (v : ExactWorld) (mid : List Event) (u : ExactWorld) (new : List Event) (k j : ℕ) → IsSound w → j ≡ k + 1 → HasRaised w old v mid (λ x. (n : ℕ) × (x ≡ mk n) × (n ≤ k)) →
+    HasRaised v mid u new (λ x. x ≡ mk j) → HasRaised w old u new (λ x. (n : ℕ) × (x ≡ mk n) × (n ≤ k + 1))
+raised-next mk w old v mid u new k j sound next first second =
+    raised-weaker w old u new (λ x. ((n : ℕ) × (x ≡ mk n) × (n ≤ k)) ⊎ (x ≡ mk j)) (λ x. (n : ℕ) × (x ≡ mk n) × (n ≤ k + 1)) which
+    (raised-join w old v mid u new (λ x. (n : ℕ) × (x ≡ mk n) × (n ≤ k)) (λ x. x ≡ mk j) sound first second)
+  where
+    which : (x : Actor) → (n : ℕ) × (x ≡ mk n) × (n ≤ k + 1) → HasActor (setting_of w) x → ((n : ℕ) × (x ≡ mk n) × (n ≤ k)) ⊎ (x ≡ mk j)
+    which x (n, is, le) known = go (cases_lt k n)
+      where
+        go : (k < n) ⊎ (n ≤ k) → ((n : ℕ) × (x ≡ mk n) × (n ≤ k)) ⊎ (x ≡ mk j)
+        go (inl past) = let same : n ≡ j = omega (arith, past, le, next) in inr (is ∙ ap mk same)
+        go (inr within) = inl (n, is, within)
+
+-- who is down may rise, so that only memory can be wanting
+
+ok-err : {A : Type 0} {E : Type 0} (a : A) (e : E) → Ok a ≡ Err e → ⊥
+ok-err a e q = cc
+
+pub node-rises-free : (w : ExactWorld) (n : ℕ) (f : StepFault) → IsDownThere w (actor.Node n) → (step w (event.Rise (actor.Node n) Old) ≡ Err f) ⊎ (f ≡ fault.Memory) → f ≡ fault.Memory
+node-rises-free w n f down (inl h) = absurd (ok-err _ f (sym (node-rises-step w n down.0 down.1 down.2) ∙ h))
+node-rises-free w n f down (inr m) = m
+
+pub client-rises-free : (w : ExactWorld) (c : ℕ) (f : StepFault) → IsDownThere w (actor.Client c) → (step w (event.Rise (actor.Client c) Old) ≡ Err f) ⊎ (f ≡ fault.Memory) → f ≡ fault.Memory
+client-rises-free w c f down (inl h) = absurd (ok-err _ f (sym (client-rises-step w c down.0 down.1 down.2) ∙ h))
+client-rises-free w c f down (inr m) = m
+
+-- The moves so far, and one more.
+
+pub made-more : (chosen : ℕ → Bool) (a : Want) (w : ExactWorld) (old : List Event) (v : ExactWorld) (mid : List Event) (mv : Move) (u : ExactWorld) (new : List Event) → ((es : List Event) × Follows chosen a w es v × (mid ≡ old ++ es)) →
+    next_move (setting_of v) chosen a (forget v) ≡ Some mv → HasMade a v mid mv u new → (es : List Event) × Follows chosen a w es u × (new ≡ old ++ es)
+made-more chosen a w old v mid mv u new (es, follows, joined) next (added, moved, more) = (es ++ added, follows_more es v mv added u follows next moved, more ∙ ap (λ l. l ++ added) joined ∙ append_assoc old es added)
+
+pub made-less : (chosen : ℕ → Bool) (a : Want) (w : ExactWorld) (old : List Event) (v : ExactWorld) (mid : List Event) (mv : Move) (u : ExactWorld) (new : List Event) → IsSound w → SetsOut chosen a w → ((es : List Event) × Follows chosen a w es v × (mid ≡ old ++ es)) →
+    next_move (setting_of v) chosen a (forget v) ≡ Some mv → HasMade a v mid mv u new → cost (setting_of u) chosen a (forget u) < cost (setting_of v) chosen a (forget v)
+made-less chosen a w old v mid mv u new sound out (es, follows, joined) next (added, moved, more) = step-costs model-laws chosen a w es v mv added u sound out follows next moved
+
+pub stops-here : (chosen : ℕ → Bool) (a : Want) (w : ExactWorld) (old : List Event) (v : ExactWorld) (mid : List Event) (mv : Move) (f : StepFault) → ((es : List Event) × Follows chosen a w es v × (mid ≡ old ++ es)) →
+    next_move (setting_of v) chosen a (forget v) ≡ Some mv → IsStuck a v mv f ⊎ (f ≡ fault.Memory) → StopsAt chosen a w f ⊎ (f ≡ fault.Memory)
+stops-here chosen a w old v mid mv f (es, follows, joined) next (inl stuck) = inl (record { events = es; world = v; follows = follows; move = mv; next = next; stuck = stuck })
+stops-here chosen a w old v mid mv f so next (inr m) = inr m

@@ -6,3 +6,4 @@ pub mod ListingFacts
 pub mod OpeningFacts
 pub mod AdvisingFacts
 pub mod GoingFacts
+pub mod LeadFacts
