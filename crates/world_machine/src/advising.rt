@@ -355,7 +355,12 @@ fn asking_by(clients: &[WorldClient], id: ClientId) -> Option<Ticket>
 }
 
 /// The number of the message by which the node granted what the client of this number asks for.
-pub(crate) fn grant_for(clients: &[WorldClient], sent: &[Message], id: ClientId, node: NodeId) -> Option<u32>
+pub(crate) fn grant_for(
+    clients: &[WorldClient],
+    sent: &[Message],
+    id: ClientId,
+    node: NodeId,
+) -> Option<u32>
     requires { length sent.now ≤ MAX_MESSAGES }
     ensures { result ≡ grant_if node (asking_if (numbered clients.now id)) sent.now }
 {

@@ -20,8 +20,8 @@ use crate::advising::{grant_for, next_move, nodes_to_win};
 use lock_messages::{Actor, ClientId, MAX_ATTEMPT, NodeId};
 use vote_weights::{Ballot, BallotList, NodeSet};
 use world_actors::WorldClient;
-use world_opening::{client_at, node_at};
 use world_model::{Age, Event, Move, StepFault, Want};
+use world_opening::{client_at, node_at};
 
 /// A copy of a world that goes ahead of it, and the events by which it got there.
 #[derive(Drop)]

@@ -199,7 +199,7 @@ hand-makes laws a x d n t u sound goes first second = record {
     of =
         subst (λ s. OfNode s n (forget t.world) (node_of took.taker) (node_of (decided_on took.taker m)) [] (forget u.world)) (step-done laws x (event.SayTo d n) t first).setting
         (subst (λ v. OfNode (setting_of t.world) n (forget t.world) (node_of took.taker) (node_of (decided_on took.taker m)) [] (forget v)) (sym (took.is ∙ silently (with_node_at t.world n (decided_on took.taker m))))
-          (of-node t.world n took.taker (decided_on took.taker m) [] sound-then took.was))
+        (of-node t.world n took.taker (decided_on took.taker m) [] sound-then took.was))
 
 -- Hearing.
 

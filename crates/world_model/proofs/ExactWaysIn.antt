@@ -91,9 +91,9 @@ module _ (laws : ModelLaws) (G : Bool) (chosen : ℕ → Bool) (a : Want) (bound
   made y (Hand d n) sound fine room is =
       elim (hand-goes-first laws a y d n sound is.goes) [
         | inl none ↦
-          let t = stepped-ok (step y (event.SayTo d n)) none in
-          let u = stepped-ok (step t.0.world (event.Take n (next_number y))) (hand-goes-second laws a y d n t.0 sound is.goes t.1) in
-          (event.SayTo d n ∷ event.Take n (next_number y) ∷ [], u.0.world, moved_hand d n t.0 u.0 t.1 u.1)
+            let t = stepped-ok (step y (event.SayTo d n)) none in
+            let u = stepped-ok (step t.0.world (event.Take n (next_number y))) (hand-goes-second laws a y d n t.0 sound is.goes t.1) in
+            (event.SayTo d n ∷ event.Take n (next_number y) ∷ [], u.0.world, moved_hand d n t.0 u.0 t.1 u.1)
         | inr full ↦ no-full bound fits (omega (arith, hand-full laws chosen a y d n sound fine is.kind full, room))
       ]
   made y (HearFrom n) sound fine room is = hearing n is is.kind
@@ -164,14 +164,14 @@ won-ready x a n sound h = record { up = up-true ((forget x).nodes n).phase parts
     others : (d : ℕ) → StandsInWay a (coming ((forget x).nodes n)) d → IsUp (forget x) (actor.Client d)
     others d stands down = elim (cases-client s d) [
       | inl has ↦
-        let not_held : held d ≡ false = any-none held (client_numbers s) d none (client-among s d has) in
-        let is_held : held d ≡ true =
-        ap (λ b. b && not (is_client_up ((forget x).clients d).phase)) (stands-blocks a (coming ((forget x).nodes n)) d stands) ∙ ap not (down-false ((forget x).clients d).phase down) in
-        absurd (let z : false ≡ true = sym not_held ∙ is_held in cc)
+          let not_held : held d ≡ false = any-none held (client_numbers s) d none (client-among s d has) in
+          let is_held : held d ≡ true =
+          ap (λ b. b && not (is_client_up ((forget x).clients d).phase)) (stands-blocks a (coming ((forget x).nodes n)) d stands) ∙ ap not (down-false ((forget x).clients d).phase down) in
+          absurd (let z : false ≡ true = sym not_held ∙ is_held in cc)
       | inr stranger ↦
-        absurd (let it = stands.1 in
-        let e = stranger-is s (forget x) n (coming ((forget x).nodes n)) (nothing-kept x) (safe-coming s (forget x) n sound.safe) d stranger in
-        let z : Free ≡ Has it.0 a.resource it.1 = ap (λ (t : Standing). t.claim) (sym e) ∙ it.2 in cc)
+          absurd (let it = stands.1 in
+          let e = stranger-is s (forget x) n (coming ((forget x).nodes n)) (nothing-kept x) (safe-coming s (forget x) n sound.safe) d stranger in
+          let z : Free ≡ Has it.0 a.resource it.1 = ap (λ (t : Standing). t.claim) (sym e) ∙ it.2 in cc)
     ]
 
 -- the client's coming up makes no other actor less ready
@@ -236,7 +236,7 @@ sets-out a x events y sound possible enough came = record {
 
 -- or all have risen since
 module _ (a : Want) (x : ExactWorld) (events : List Event) (y z : ExactWorld) (possible : IsPossible (setting_of x) a) (crosses : AllCross x.ballots) (came : CameUp a x events y) (risen : Risen a y z)
-  (up : (who : Actor) → HasActor (setting_of x) who → IsUp (forget z) who) where
+    (up : (who : Actor) → HasActor (setting_of x) who → IsUp (forget z) who) where
   abbrev among : Setting
   among = setting_of x
 
@@ -253,9 +253,9 @@ module _ (a : Want) (x : ExactWorld) (events : List Event) (y z : ExactWorld) (p
   others-then n d stands = elim (cases-client among d) [
     | inl has ↦ up (actor.Client d) has
     | inr stranger ↦
-      absurd (let it = stands.1 in
-      let e = stranger-is among (forget z) n (coming ((forget z).nodes n)) (subst (λ (t : Setting). (c : ℕ) → ¬ (HasClient t c) → ((forget z).clients c).kept ≡ 0) same-then (nothing-kept z)) (safe-coming among (forget z) n (subst (λ t. IsSafe t (forget z)) same-then risen.sound.safe)) d stranger in
-      let q : Free ≡ Has it.0 a.resource it.1 = ap (λ (t : Standing). t.claim) (sym e) ∙ it.2 in cc)
+        absurd (let it = stands.1 in
+        let e = stranger-is among (forget z) n (coming ((forget z).nodes n)) (subst (λ (t : Setting). (c : ℕ) → ¬ (HasClient t c) → ((forget z).clients c).kept ≡ 0) same-then (nothing-kept z)) (safe-coming among (forget z) n (subst (λ t. IsSafe t (forget z)) same-then risen.sound.safe)) d stranger in
+        let q : Free ≡ Has it.0 a.resource it.1 = ap (λ (t : Standing). t.claim) (sym e) ∙ it.2 in cc)
   ]
 
   pub out-risen : SetsOut all a z
@@ -273,10 +273,10 @@ module _ (a : Want) (x : ExactWorld) (events : List Event) (y z : ExactWorld) (p
     sound = risen.sound;
     fine = fine-there all a z risen.sound out-risen;
     room =
-      (let owes = owed-load all a z in
-      let less = came.load all in
-      let still = risen.load all in
-      let same : length z.sent ≡ length x.sent = ap length (risen.sent ∙ came.sent) in omega (arith, owes, less, still, same));
+        (let owes = owed-load all a z in
+        let less = came.load all in
+        let still = risen.load all in
+        let same : length z.sent ≡ length x.sent = ap length (risen.sent ∙ came.sent) in omega (arith, owes, less, still, same));
     such = λ never. absurd (let q : false ≡ true = never in cc);
     ups = λ never. absurd (let q : false ≡ true = never in cc);
   }

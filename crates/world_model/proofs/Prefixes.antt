@@ -90,7 +90,7 @@ node-load chosen a x n v was down = same-load chosen a x y refl each
     here =
         subst (λ o. load_at (setting_of x) a o ≤ load_at (setting_of x) a (numbered x.nodes n)) (sym (numbered-set-here x.nodes n v after was))
         (subst (λ o. load_at (setting_of x) a (Some after) ≤ load_at (setting_of x) a o) (sym was)
-          (subst (λ p. load_at (setting_of x) a (Some after) ≤ load_at (setting_of x) a (Some (record { kept = v.kept; tried = v.tried; phase = p }))) (sym down) (omega arith)))
+        (subst (λ p. load_at (setting_of x) a (Some after) ≤ load_at (setting_of x) a (Some (record { kept = v.kept; tried = v.tried; phase = p }))) (sym down) (omega arith)))
 
     each : (k : ℕ) → load_at (setting_of x) a (numbered y.nodes k) ≤ load_at (setting_of x) a (numbered x.nodes k)
     each k = elim (cases_eq k n) [

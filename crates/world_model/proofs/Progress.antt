@@ -282,9 +282,9 @@ module _ (s : Setting) (chosen : ℕ → Bool) (a : Want) (w : World) (fine : Fi
   by-own mv finished cleared h =
       elim (found-either (alone (beginning a (w.clients a.client))) (own_in s chosen a w (w.clients a.client).phase) mv h) [
         | inl e ↦
-          let f = alone-some (beginning a (w.clients a.client)) mv e in
-          let both = begins-own s chosen a w f.0 fine f.1 in
-          subst (IsNext s chosen a w) (sym f.2) (record { goes = both.0; nears = both.1; gentle = gentle-own f.0 f.1; kind = kind.begins f.0 f.1 })
+            let f = alone-some (beginning a (w.clients a.client)) mv e in
+            let both = begins-own s chosen a w f.0 fine f.1 in
+            subst (IsNext s chosen a w) (sym f.2) (record { goes = both.0; nears = both.1; gentle = gentle-own f.0 f.1; kind = kind.begins f.0 f.1 })
         | inr e ↦ go (w.clients a.client).phase refl (alone-none (beginning a (w.clients a.client)) e.0) e.1
       ]
     where

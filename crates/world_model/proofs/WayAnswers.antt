@@ -176,7 +176,7 @@ came-free laws x a sound known attempt =
 -- What is answered where the nodes that can be won are enough.
 
 module _ (laws : ModelLaws) (x : ExactWorld) (a : Want) (sound : IsSound x) (possible : IsPossible (setting_of x) a) (attempt : HasAttempt (forget x) a) (y : ExactWorld)
-  (came : HasRun x (coming_up a ((forget x).clients a.client).phase) y) where
+    (came : HasRun x (coming_up a ((forget x).clients a.client).phase) y) where
   abbrev first : List Event
   first = coming_up a ((forget x).clients a.client).phase
 

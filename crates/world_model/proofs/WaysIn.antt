@@ -220,7 +220,7 @@ nobody-locked-out s w a crosses reached possible below =
       end = way.end;
       run = run-append s rested.events (nodes_up.events ++ (clients_up.events ++ way.events)) w rested.world way.end rested.run
           (run-append s nodes_up.events (clients_up.events ++ way.events) rested.world nodes_up.world way.end nodes_up.run
-            (run-append s clients_up.events way.events nodes_up.world clients_up.world way.end clients_up.run way.run));
+          (run-append s clients_up.events way.events nodes_up.world clients_up.world way.end clients_up.run way.run));
       inside = way.inside;
     }
   where

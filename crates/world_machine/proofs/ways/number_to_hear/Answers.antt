@@ -21,7 +21,7 @@ returns-clause-some g c =
     c.grant_for.ensures ∙ ap (λ (ks : List ActingClient). grant_if n (asking_if (numbered ks a.client)) c.deref-2.result.now) c.deref.ensures.value ∙ ap (grant_if n (asking_if (numbered s.clients.items a.client))) c.deref-2.ensures.value in
     subst (λ (w : ExactWorld). IfSome c.grant_for.result (λ k. (m : Message) × (p : Present) × (((forget w).clients a.client).phase ≡ Asking p) × (numbered w.sent k ≡ Some m) × (is_grant n p.ticket m ≡ true))) c.world.view_is
     (subst (λ o. IfSome o (λ k. (m : Message) × (p : Present) × (((forget (world_view s.ballots s.nodes.items s.clients.items s.sent.items)).clients a.client).phase ≡ Asking p) × (numbered s.sent.items k ≡ Some m) × (is_grant n p.ticket m ≡ true))) (sym is)
-      (hears-first s.ballots s.nodes.items s.clients.items s.sent.items a.client n))
+    (hears-first s.ballots s.nodes.items s.clients.items s.sent.items a.client n))
 
 pub returns-clause-none : goal.returns-clause-none
 returns-clause-none g c = λ none.

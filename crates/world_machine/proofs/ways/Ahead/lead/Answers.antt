@@ -13,12 +13,12 @@ go_in-requires g c =
 pub returns-in-Ok-clause-inside : goal.returns-in-Ok-clause-inside
 returns-in-Ok-clause-inside g c =
     (lead-inside c.args.self.world c.args.want.now c.soundness.ensures.sound c.requires.may c.come_up.new.self.world c.come_up.new.self.events.items (from-none c.args.self.world _ _ c.come_up.new.self.world c.come_up.new.self.events.items c.requires.start c.in_default.ensures.up)
-      (has_node c.args.chosen) c.requires.won c.requires.enough c.go_in.new.self.world c.go_in.new.self.events.items c.in-Ok.ensures.arrived).0
+    (has_node c.args.chosen) c.requires.won c.requires.enough c.go_in.new.self.world c.go_in.new.self.events.items c.in-Ok.ensures.arrived).0
 
 pub returns-in-Ok-clause-gentle : goal.returns-in-Ok-clause-gentle
 returns-in-Ok-clause-gentle g c =
     (lead-inside c.args.self.world c.args.want.now c.soundness.ensures.sound c.requires.may c.come_up.new.self.world c.come_up.new.self.events.items (from-none c.args.self.world _ _ c.come_up.new.self.world c.come_up.new.self.events.items c.requires.start c.in_default.ensures.up)
-      (has_node c.args.chosen) c.requires.won c.requires.enough c.go_in.new.self.world c.go_in.new.self.events.items c.in-Ok.ensures.arrived).1
+    (has_node c.args.chosen) c.requires.won c.requires.enough c.go_in.new.self.world c.go_in.new.self.events.items c.in-Ok.ensures.arrived).1
 
 pub returns-in-Err-go_in-clause-refused : goal.returns-in-Err-go_in-clause-refused
 returns-in-Err-go_in-clause-refused g c =
