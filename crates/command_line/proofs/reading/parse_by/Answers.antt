@@ -1,4 +1,4 @@
-use Rattle.std.proofs.Common.{◌∙◌, Ok, Option, List, ℕ, map, codes, string_bytes, subst}
+use Rattle.std.proofs.Common.{Ok, Option, List, ℕ, map, codes, string_bytes, subst}
 use Rattle.clap.specs.Walk.{Row, one_of}
 use Rattle.clap.specs.Words.{app_of}
 use Rattle.command_line.specs.CommandLine.{NamesBehind, IsFlag}

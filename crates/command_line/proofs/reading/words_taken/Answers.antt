@@ -1,5 +1,5 @@
 use Rattle.std.proofs.Common.{codes}
-use Rattle.clap.specs.Words.{App, with_subcommand}
+use Rattle.clap.specs.Words.{App}
 use Rattle.command_line.specs.CommandLine.{top_app, with_command, command_shape, run_shape}
 use Rattle.command_line.proofs.NameFacts.{with_sub}
 use Rattle.command_line.proofs.reading.words_taken.Goals as goal
