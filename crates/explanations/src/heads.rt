@@ -29,6 +29,9 @@ fn push_no_document(text: &mut String, alloc: Global, head: &[u8]) -> Result<(),
     let Err(error) = toml::table_from_str(alloc, document) else {
         return Ok(());
     };
+    if error.is_memory() {
+        return Err(AllocError);
+    }
     let line = line_of(head, error.span().map_or(0, |span| span.start));
     let why = error.message();
     write!(text, ": line {line} of the input: {why}")
