@@ -4,9 +4,9 @@ use Rattle.std.specs.Box.{box_value}
 use Rattle.clap.proofs.CallerLemmas.{subcommand_required}
 use Rattle.clap.proofs.OnLiterals.{clap_on_literals}
 use Rattle.clap.proofs.WalkLemmas.{one_text-rows}
-use Rattle.clap.specs.Built.{IsParsedFrom, AddsArg}
-use Rattle.clap.specs.Matches.{subcommand_name_of, one_text}
-use Rattle.clap.specs.Simple.{App, Shape, app_of, shape_of, new_shape, built, entered, rows_at, names_of, argument_words, is_simple, subcommand_of, subcommand_rows, subcommand_rows_of, HasMatchesOf}
+use Rattle.clap.specs.Built.{IsParsedFrom, AddsArg, AddsSubcommand}
+use Rattle.clap.specs.Matches.{found_of, subcommand_name_of, one_text}
+use Rattle.clap.specs.Simple.{App, Shape, app_of, shape_of, with_rule, with_subcommand, matches_of, built, entered, rows_at, names_of, argument_words, is_simple, subcommand_of, subcommand_rows, subcommand_rows_of, HasMatchesOf}
 use Rattle.clap.specs.Walk.{Row, Rule, Text, stop_after, one_of, rows_of, rule_of}
 use Rattle.clap.specs.declared.builder.arg.Arg.{Arg}
 use Rattle.clap.specs.declared.parser.matches.Found.{Found}
@@ -15,8 +15,8 @@ use Rattle.clap.specs.declared.builder.command.Command as clap
 use Rattle.clap.specs.declared.parser.matches.ArgMatches.{ArgMatches}
 use Rattle.clap.specs.declared.parser.matches.ArgMatches.TheViews.{out-ArgMatches, out-SubCommand}
 use Rattle.clap.specs.declared.parser.matches.SubCommand.{SubCommand}
-use Rattle.command_line.specs.CommandLine.{app, journal_rule, run_shape, named_in, IsName, NamesOne, IsFlag, IsCommand, Names}
-use Rattle.operator_cli.specs.declared.orders.Command.{Command}
+use Rattle.command_line.specs.CommandLine.{app, found_in, IsName, NamesOne, IsFlag, AsksBehind, NamesBehind}
+use Rattle.command_line.specs.declared.reading.Asked.{Asked}
 
 -- one of some names
 abbrev pub OneOf : List Text → Text → Type 0
@@ -72,8 +72,8 @@ some_command subs (Some found) n e h k =
     let same : found.0 ≡ n = let s : Some found.0 ≡ Some n = k in cc in
     is_name n (subst (λ (m : Text). OneOf four_names m) same (subst (λ (ns : List Text). OneOf ns found.0) e h))
 
-pub named_is_command : (words : List Text) (n : Text) → option_map (λ p. p.0) (named_in words) ≡ Some n → IsName n
-unfolding named_in
+pub named_is_command : (words : List Text) (n : Text) → option_map (λ p. p.0) (found_in words).named ≡ Some n → IsName n
+unfolding found_in
 named_is_command words n h = some_command (built app).subs (subcommand_of app words) n names_are (entered_one (built app) (stop_after (built app).top.rules (names_of (built app)) (argument_words app words))) h
 
 -- what a parse met
@@ -100,11 +100,15 @@ is_simple_app : is_simple app ≡ true
 unfolding clap_on_literals
 is_simple_app = refl
 
-pub met_rows : (c : clap.Command) (words : List (List ℕ)) (m : ArgMatches) → app_of c ≡ app → HasMatchesOf (app_of c) words m → subcommand_rows_of m ≡ named_in words
-unfolding named_in
+pub met_rows : (c : clap.Command) (words : List (List ℕ)) (m : ArgMatches) → app_of c ≡ app → HasMatchesOf (app_of c) words m → subcommand_rows_of m ≡ (found_in words).named
+unfolding found_in
 met_rows c words m e h = (h (ap is_simple e ∙ is_simple_app)).1 ∙ ap (λ (a : App). subcommand_of a words) e
 
-met_name : (c : clap.Command) (words : List (List ℕ)) (m : ArgMatches) → app_of c ≡ app → HasMatchesOf (app_of c) words m → subcommand_name_of m ≡ option_map (λ p. p.0) (named_in words)
+pub met_front : (c : clap.Command) (words : List (List ℕ)) (m : ArgMatches) → app_of c ≡ app → HasMatchesOf (app_of c) words m → rows_of (found_of m) ≡ (found_in words).front
+unfolding found_in
+met_front c words m e h = (h (ap is_simple e ∙ is_simple_app)).0 ∙ ap (λ (a : App). matches_of a words) e
+
+met_name : (c : clap.Command) (words : List (List ℕ)) (m : ArgMatches) → app_of c ≡ app → HasMatchesOf (app_of c) words m → subcommand_name_of m ≡ option_map (λ p. p.0) (found_in words).named
 met_name c words m e h = name_of_rows (out-ArgMatches m).subcommand ∙ ap (option_map (λ p. p.0)) (met_rows c words m e h)
 
 pub met_one : (c : clap.Command) (words : List (List ℕ)) (m : ArgMatches) → app_of c ≡ app → IsParsedFrom c m → HasMatchesOf (app_of c) words m → NamesOne (subcommand_name_of m)
@@ -123,20 +127,28 @@ is_flag f id set none given absent = record {
 }
 
 -- the command that was found is the one of the words
-pub names_found : (o : Option (Text × List Row)) (name : Text) (rows : List Row) (c : Command) → Some name ≡ option_map (λ p. p.0) o → Some rows ≡ option_map (λ p. p.1) o → IsCommand name rows c → Names o c
+pub names_found : (o : Option (Text × List Row)) (name : Text) (rows : List Row) (c : Asked) → Some name ≡ option_map (λ p. p.0) o → Some rows ≡ option_map (λ p. p.1) o → AsksBehind name rows c → NamesBehind o c
 names_found None name rows c e k h = let clash : Some name ≡ None = e in absurd (cc)
 names_found (Some found) name rows c e k h =
     let same : name ≡ found.0 = some_same name found.0 e in
     let rest : rows ≡ found.1 = some_same rows found.1 k in
-    subst (λ (rs : List Row). IsCommand found.0 rs c) rest (subst (λ (n : Text). IsCommand n rows c) same h)
+    subst (λ (rs : List Row). AsksBehind found.0 rs c) rest (subst (λ (n : Text). AsksBehind n rows c) same h)
 
 pub found_name : (m : ArgMatches) → subcommand_name_of m ≡ option_map (λ p. p.0) (subcommand_rows_of m)
 found_name m = name_of_rows (out-ArgMatches m).subcommand
 
--- a command with the flag
-pub with_journal : (old new : clap.Command) (a : Arg) → AddsArg old a new → shape_of old ≡ new_shape (codes "run") → rule_of a ≡ journal_rule → a.global ≡ false → shape_of new ≡ run_shape
-with_journal old new a adds shape rule local =
-    ap (λ (w : App). w.top) (adds.shape local) ∙ ap (λ (s : Shape). record s { rules = s.rules ++ rule_of a ∷ [] }) shape ∙ ap (λ (r : Rule). record (new_shape (codes "run")) { rules = r ∷ [] }) rule
+-- a command with one more flag
+pub with_flag : (old new : clap.Command) (a : Arg) (b : App) (r : Rule) → AddsArg old a new → app_of old ≡ b → rule_of a ≡ r → a.global ≡ false → app_of new ≡ with_rule b r
+with_flag old new a b r adds before rule local = adds.shape local ∙ ap (λ (x : App). with_rule x (rule_of a)) before ∙ ap (λ (x : Rule). with_rule b x) rule
+
+pub shape_with_flag : (old new : clap.Command) (a : Arg) (s : Shape) (r : Rule) → AddsArg old a new → shape_of old ≡ s → rule_of a ≡ r → a.global ≡ false
+    → shape_of new ≡ record s { rules = s.rules ++ r ∷ [] }
+shape_with_flag old new a s r adds shape rule local =
+    ap (λ (w : App). w.top) (adds.shape local) ∙ ap (λ (x : Shape). record x { rules = x.rules ++ rule_of a ∷ [] }) shape ∙ ap (λ (x : Rule). record s { rules = s.rules ++ x ∷ [] }) rule
+
+-- a command with one more below it
+pub with_sub : (old sub new : clap.Command) (b : App) (s : Shape) → AddsSubcommand old sub new → app_of old ≡ b → shape_of sub ≡ s → (out-Command sub).has_globals ≡ false → app_of new ≡ with_subcommand b s
+with_sub old sub new b s adds before shape local = adds.shape local ∙ ap (λ (x : App). with_subcommand x (shape_of sub)) before ∙ ap (λ (x : Shape). with_subcommand b x) shape
 
 pub still_local : (old new : clap.Command) (a : Arg) → AddsArg old a new → (out-Command old).has_globals ≡ false → a.global ≡ false → (out-Command new).has_globals ≡ false
 still_local old new a adds e k = adds.globals ∙ ap (λ (b : Bool). b || a.global) e ∙ k

@@ -1,9 +1,9 @@
 -- What the program does with its words: the status that it ends with, what it writes, and what it
 -- says on the second writer.
-use Rattle.std.specs.Prelude.{◌≡◌, ◌⊎◌, ℕ, Bool, true, false, List, [], ◌∷◌, ◌++◌, Option, Some, None, Result, Ok, Err, codes}
+use Rattle.std.specs.Prelude.{◌≡◌, ◌⊎◌, ◌||◌, ℕ, Bool, true, false, List, [], ◌∷◌, ◌++◌, Option, Some, None, Result, Ok, Err, codes}
 use Rattle.std.specs.Fmt.{decimal}
 use Rattle.std.specs.Io.KnownBytes.{Keeps, Appends}
-use Rattle.clap.specs.Words.{App, Shape, Rule, Row, new_rule, one_of, with_subcommand, subcommand_of, fault_of, HasKind, IsAmong, Kinds}
+use Rattle.clap.specs.Words.{App, Shape, Rule, Row, new_rule, one_of, with_rule, with_subcommand, subcommand_of, matches_of, fault_of, HasKind, IsAmong, Kinds}
 use Rattle.clap.specs.Simple.{new_shape}
 use Rattle.clap.specs.declared.builder.action.ArgAction.TheVariants.{SetTrue}
 use Rattle.clap.specs.declared.error.Error.{Error}
@@ -18,31 +18,43 @@ use Rattle.operator_cli.specs.Faults.{serve_fault_number}
 use Rattle.operator_cli.specs.Outputs.{Serves}
 use Rattle.run_service.specs.Outputs.{ServesRun}
 use Rattle.command_line.specs.declared.ending.Ended.{Ended}
+use Rattle.command_line.specs.declared.reading.Asked.{Asked}
 use Rattle.command_line.specs.declared.reading.Sort.{Sort}
 use Rattle.command_line.specs.declared.reading.Sort.TheVariants as sort
 use Rattle.command_line.specs.declared.reading.Unserved.{Unserved}
 use Rattle.command_line.specs.declared.reading.Unserved.TheVariants as unserved
 
--- The words that the program takes: one of `script`, `audit` and `ballot` and nothing else, or `run`, which
--- `--journal` may follow; and on either level a request for help, on the upper one also a request for the
--- version.
+-- The words that the program takes: one of `script`, `audit`, `ballot` and `run`; `--explain` in front of it or
+-- behind it, or at both places, and behind `run` also `--journal`; and on either level a request for help, on
+-- the upper one also a request for the version.
 
--- without the commands
-abbrev pub top_app : App
-top_app = record {
+-- the flag of this name
+abbrev pub flag_rule : List ℕ → Rule
+flag_rule name = record (new_rule name) { long = Some name; action = Some SetTrue }
+
+abbrev pub explain_rule : Rule
+explain_rule = flag_rule (codes "explain")
+
+-- without the flag and the commands
+abbrev pub bare_app : App
+bare_app = record {
   top = record (new_shape (codes "rwvote")) { has_version = true; subcommand_required = true; disable_help_subcommand = true };
   subs = [];
 }
 
--- the flag `--journal`
-abbrev pub journal_rule : Rule
-journal_rule = record (new_rule (codes "journal")) { long = Some (codes "journal"); action = Some SetTrue }
+-- without the commands
+abbrev pub top_app : App
+top_app = with_rule bare_app explain_rule
+
+-- a command that takes `--explain` and nothing else
+abbrev pub command_shape : List ℕ → Shape
+command_shape name = record (new_shape name) { rules = explain_rule ∷ [] }
 
 abbrev pub run_shape : Shape
-run_shape = record (new_shape (codes "run")) { rules = journal_rule ∷ [] }
+run_shape = record (new_shape (codes "run")) { rules = explain_rule ∷ flag_rule (codes "journal") ∷ [] }
 
 abbrev pub with_command : App → List ℕ → App
-with_command a name = with_subcommand a (new_shape name)
+with_command a name = with_subcommand a (command_shape name)
 
 abbrev pub app : App
 app = with_subcommand (with_command (with_command (with_command top_app (codes "script")) (codes "audit")) (codes "ballot")) run_shape
@@ -68,13 +80,26 @@ IsCommand name rows command.Audit = name ≡ codes "audit"
 IsCommand name rows command.Ballot = name ≡ codes "ballot"
 IsCommand name rows (command.Run journal) = (name ≡ codes "run") × IsFlag (one_of (codes "journal") rows) journal
 
-abbrev pub Names : Option (List ℕ × List Row) → Command → Type 0
-Names None c = ⊥
-Names (Some found) c = IsCommand found.0 found.1 c
+-- What `clap` finds in the words: what stands in front of a command, and the command, by its name and what
+-- stands behind it.
+pub record FoundWords : Type 0 where
+  pub front : List Row
+  pub named : Option (List ℕ × List Row)
 
--- the command that `clap` finds in the words: its name, and what stands behind it
-unfoldable pub named_in : List (List ℕ) → Option (List ℕ × List Row)
-named_in words = subcommand_of app words
+unfoldable pub found_in : List (List ℕ) → FoundWords
+found_in words = record { front = matches_of app words; named = subcommand_of app words }
+
+-- the command of a name, and whether `--explain` stands behind it
+abbrev pub AsksBehind : List ℕ → List Row → Asked → Type 0
+AsksBehind name rows a = IsCommand name rows a.command × IsFlag (one_of (codes "explain") rows) a.behind
+
+abbrev pub NamesBehind : Option (List ℕ × List Row) → Asked → Type 0
+NamesBehind None a = ⊥
+NamesBehind (Some named) a = AsksBehind named.0 named.1 a
+
+-- the command that was found, and where `--explain` stands
+abbrev pub Names : FoundWords → Asked → Type 0
+Names found a = NamesBehind found.named a × IsFlag (one_of (codes "explain") found.front) a.front
 
 -- What `clap` says of words that name no command: it lacked memory, help or the version is asked
 -- for, or they are wrong.
@@ -94,16 +119,16 @@ IsOfSort s (unserved.Help text) = s ≡ sort.Help
 IsOfSort s (unserved.Wrong text) = s ≡ sort.Wrong
 
 -- How words were parsed that may fail by these kinds, or else name a command.
-abbrev pub Parses : Kinds → Option (List ℕ × List Row) → Result Command Error → Type 0
-Parses kinds named (Ok c) = (kinds ≡ []) × Names named c
-Parses kinds named (Err e) = HasKind kinds e
+abbrev pub Parses : Kinds → FoundWords → Result Asked Error → Type 0
+Parses kinds found (Ok a) = (kinds ≡ []) × Names found a
+Parses kinds found (Err e) = HasKind kinds e
 
 -- The same, and what is to be said where no command is named.
-abbrev pub ReadsWords : Kinds → Option (List ℕ × List Row) → Result Command Unserved → Type 0
-ReadsWords kinds named (Ok c) = (kinds ≡ []) × Names named c
-ReadsWords kinds named (Err unserved.NoMemory) = Unit {0}
-ReadsWords kinds named (Err (unserved.Help text)) = HasSort sort.Help kinds
-ReadsWords kinds named (Err (unserved.Wrong text)) = HasSort sort.Wrong kinds
+abbrev pub ReadsWords : Kinds → FoundWords → Result Asked Unserved → Type 0
+ReadsWords kinds found (Ok a) = (kinds ≡ []) × Names found a
+ReadsWords kinds found (Err unserved.NoMemory) = Unit {0}
+ReadsWords kinds found (Err (unserved.Help text)) = HasSort sort.Help kinds
+ReadsWords kinds found (Err (unserved.Wrong text)) = HasSort sort.Wrong kinds
 
 -- A text went to the second writer: all of it, or a beginning.
 abbrev pub Says : Option (List ℕ) → Option (List ℕ) → List ℕ → Bool → Type 0
@@ -153,6 +178,20 @@ EndsServed (Err f) old new e = TellsFault f old new e
 abbrev pub RunsCommand : Command → Option (List ℕ) → Writers → Ended → Type 0
 RunsCommand c input w e = (r : Result ℕ ServeFault) × ServesFor c input w.old w.new r × EndsServed r w.errors_old w.errors_new e
 
+-- the status of a run that was served, or that a fault ended
+abbrev pub status_of : Result ℕ ServeFault → ℕ
+status_of (Ok status) = status
+status_of (Err f) = 1
+
+-- The same command with `--explain`: what is written and the status are those without it. Of the words on the
+-- second writer nothing is said.
+abbrev pub ExplainsCommand : Command → Option (List ℕ) → Writers → Ended → Type 0
+ExplainsCommand c input w e = (r : Result ℕ ServeFault) × ServesFor c input w.old w.new r × (e.status ≡ status_of r)
+
+abbrev pub RunsAsked : Bool → Command → Option (List ℕ) → Writers → Ended → Type 0
+RunsAsked false c input w e = RunsCommand c input w e
+RunsAsked true c input w e = ExplainsCommand c input w e
+
 -- A text went to the first writer, and the status is 0; or that failed, which is told as such.
 abbrev pub Shows : List ℕ → Writers → Ended → Type 0
 Shows text w e =
@@ -170,15 +209,15 @@ RefusesWords w e = (text : List ℕ) × Keeps w.old w.new × EndsSaying 2 text w
 abbrev pub LacksMemory : Writers → Ended → Type 0
 LacksMemory w e = Keeps w.old w.new × TellsFault fault.Memory w.errors_old w.errors_new e
 
--- the command is the one that is named
-abbrev pub RunsNamed : Option (List ℕ × List Row) → Option (List ℕ) → Writers → Ended → Type 0
-RunsNamed named input w e = (c : Command) × Names named c × RunsCommand c input w e
+-- the command is the one that is named, and it is explained where `--explain` stands anywhere
+abbrev pub RunsNamed : FoundWords → Option (List ℕ) → Writers → Ended → Type 0
+RunsNamed found input w e = (a : Asked) × Names found a × RunsAsked (a.front || a.behind) a.command input w e
 
 -- What a run does with words that were read. `clap` says which are right, and of which kind the
 -- others are: `fault_of` is empty where a command is named.
-abbrev pub RunsBy : Option (List ℕ) → Kinds → Option (List ℕ × List Row) → Writers → Ended → Type 0
-RunsBy input kinds named w e =
-    LacksMemory w e ⊎ (((kinds ≡ []) × RunsNamed named input w e) ⊎ ((HasSort sort.Help kinds × ShowsHelp w e) ⊎ (HasSort sort.Wrong kinds × RefusesWords w e)))
+abbrev pub RunsBy : Option (List ℕ) → Kinds → FoundWords → Writers → Ended → Type 0
+RunsBy input kinds found w e =
+    LacksMemory w e ⊎ (((kinds ≡ []) × RunsNamed found input w e) ⊎ ((HasSort sort.Help kinds × ShowsHelp w e) ⊎ (HasSort sort.Wrong kinds × RefusesWords w e)))
 
 abbrev pub Runs : Option (List ℕ) → List (List ℕ) → Writers → Ended → Type 0
-Runs input words w e = RunsBy input (fault_of app words) (named_in words) w e
+Runs input words w e = RunsBy input (fault_of app words) (found_in words) w e

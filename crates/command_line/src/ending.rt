@@ -9,8 +9,9 @@ ghost use Rattle.lock_messages.specs.declared.ids.TheConstants.{MAX_NODES, MAX_C
 ghost use Rattle.lock_model.specs.declared.problems.Problem.TheVariants.{First, Second};
 ghost use Rattle.run_service.specs.Empty.{empty_node, empty_client};
 ghost use Rattle.operator_cli.specs.declared.faults.ServeFault.TheVariants as fault;
-ghost use Rattle.command_line.specs.CommandLine.{app, Says, EndsSaying, TellsFault, EndsUnread, EndsServed, ServesFor, RunsCommand, Shows, ReadsWords, RunsBy, Runs, no_text_words, fault_text};
+ghost use Rattle.command_line.specs.CommandLine.{app, Says, EndsSaying, TellsFault, EndsUnread, EndsServed, ServesFor, RunsCommand, RunsAsked, Shows, ReadsWords, RunsBy, Runs, no_text_words, fault_text};
 
+use crate::explaining::explain_command;
 use crate::reading::{Unserved, read_words};
 use line_streams::write_text;
 use operator_cli::{AuditFault, Command, Order, Policies, ServeFault, serve};
@@ -122,7 +123,9 @@ where
         Command::Script => serve(alloc, order, reader, output),
         Command::Audit => serve(alloc, order, reader, output),
         Command::Ballot => serve(alloc, order, reader, output),
-        Command::Run { .. } => serve_run(rt, alloc, order, reader, output, threads, records),
+        Command::Run { .. } => serve_run(
+            rt, alloc, order, reader, output, threads, records, &mut None,
+        ),
     }
 }
 
@@ -148,6 +151,34 @@ where
 {
     let came = serve_for(rt, alloc, order, threads, records, reader, output);
     end_served(came, errors)
+}
+
+/// Runs a command, and says in words what it meets where that is asked for.
+fn run_asked<T: Threads + Wait + Copy + Send, R: Read, W: Write, E: Write>(
+    rt: T,
+    alloc: Global,
+    explain: bool,
+    order: Order,
+    threads: Policies,
+    records: Records,
+    reader: R,
+    output: &mut W,
+    errors: &mut E,
+) -> Ended
+where
+    R: Drop,
+    requires policies { length order.policies.pairs.items ≡ MAX_NODES }
+    requires threads { length threads.pairs.items ≡ MAX_NODES }
+    requires records_first { map (λ r. finds (r.vtable, r.value)) records.first.items ≡ replicate MAX_NODES (empty_node First) }
+    requires records_second { map (λ r. finds (r.vtable, r.value)) records.second.items ≡ replicate MAX_NODES (empty_node Second) }
+    requires records_clients { map (λ r. finds (r.vtable, r.value)) records.clients.items ≡ replicate MAX_CLIENTS empty_client }
+    ensures { RunsAsked explain order.command (R.remaining reader) (record { old = W.contents output.old; new = W.contents output.new; errors_old = E.contents errors.old; errors_new = E.contents errors.new }) result }
+{
+    if explain {
+        explain_command(rt, alloc, order, threads, records, reader, output, errors)
+    } else {
+        run_command(rt, alloc, order, threads, records, reader, output, errors)
+    }
 }
 
 /// Shows a text on the first writer.
@@ -186,9 +217,13 @@ where
     ensures { Runs (R.remaining reader) (map string_bytes words.now) (record { old = W.contents output.old; new = W.contents output.new; errors_old = E.contents errors.old; errors_new = E.contents errors.new }) result }
 {
     match read_words(alloc, words) {
-        Ok(command) => {
+        Ok(asked) => {
+            let explain = asked.front || asked.behind;
+            let command = asked.command;
             let order = Order { command, policies };
-            run_command(rt, alloc, order, threads, records, reader, output, errors)
+            run_asked(
+                rt, alloc, explain, order, threads, records, reader, output, errors,
+            )
         }
         Err(Unserved::NoMemory) => tell_fault(ServeFault::Memory, errors),
         Err(Unserved::Help(text)) => show(text.as_str(), output, errors),
@@ -254,6 +289,8 @@ pub fn end_without_memory<E: Write>(errors: &mut E) -> Ended
 /// serve what the reader gives, as `operator_cli::serve` does for the command of this name, onto
 /// `output`, and `run`, which `--journal` may follow, as `run_service::serve_run` does: the status is that
 /// of the call, and nothing goes to `errors`; its fault is told there as `fault N`, with status 1.
+/// With `--explain`, in front of the command or behind it, the same is written to `output` and the status is
+/// the same, and words go to `errors`, a line for each refusal, fault and verdict (`explanations`).
 /// `--help` and `--version`, also `script --help` and the like, go to `output`, with status 0 (`fault 932`
 /// and 1 where that fails). Other words are wrong, and so is one that is not UTF-8: a text on `errors`
 /// says so, and the status is 2. Where memory is refused while words are read, `fault 933` is told, with

@@ -5,14 +5,17 @@
 //!
 //! The crate promises, by the contract of `run`, the status and what is written on both writers:
 //! the status of what is served as it is and nothing on the second; its fault as `fault N` there
-//! and 1; wrong words as 2, by what `clap` says of them; a request for help or for the version as 0.
-//! `specs/CommandLine` says so.
+//! and 1; wrong words as 2, by what `clap` says of them; a request for help or for the version as 0. With
+//! `--explain` output and status are the same, and words go to the second writer, of which nothing is
+//! promised. `specs/CommandLine` says so.
 //!
-//! It stands on `operator_cli`, `run_service`, `line_streams`, `stable_record`, `lock_messages`,
+//! It stands on `operator_cli`, `run_service`, `explanations` for the words, `line_streams`, `stable_record`, `lock_messages`,
 //! `lock_model` and `clap`.
 #![tactic(auto)]
 
 mod ending;
+mod explaining;
+mod following;
 mod reading;
 
 pub use ending::{Ended, end_without_memory, run};

@@ -1,10 +1,10 @@
 // The words that the program takes, and their help.
 
-ghost use Rattle.std.specs.Prelude.{◌≡◌, IfOk, false, map, string_bytes};
-ghost use Rattle.clap.specs.Words.{app_of, shape_of, rule_of, rows_of, found_of, fault_of, kind_of, subcommand_name_of, subcommand_rows_of};
+ghost use Rattle.std.specs.Prelude.{◌≡◌, IfOk, false, map, string_bytes, codes};
+ghost use Rattle.clap.specs.Words.{app_of, shape_of, rule_of, rows_of, one_of, found_of, fault_of, kind_of, subcommand_name_of, subcommand_rows_of};
 ghost use Rattle.clap.specs.Simple.{new_shape};
 ghost use Rattle.clap.specs.declared.builder.command.Command.TheViews.{out-Command};
-ghost use Rattle.command_line.specs.CommandLine.{app, top_app, journal_rule, run_shape, sort_of, named_in, IsName, IsCommand, Names, NamesOne, IsOfSort, Parses, ReadsWords};
+ghost use Rattle.command_line.specs.CommandLine.{app, bare_app, top_app, explain_rule, flag_rule, command_shape, run_shape, sort_of, found_in, IsName, IsCommand, AsksBehind, NamesBehind, IsFlag, Names, NamesOne, IsOfSort, Parses, ReadsWords};
 
 use clap::error::ErrorKind;
 use clap::{Arg, ArgAction, ArgMatches};
@@ -193,9 +193,10 @@ fn below<'a>(alloc: Global, name: &'a str, about: &'a str, help: &'a str) -> cla
         .long_about(help)
 }
 
-/// The program without its commands.
-fn top<'a>(alloc: Global) -> clap::Command<'a>
-    ensures { app_of result ≡ top_app }
+/// The program without its commands and its flag.
+fn bare_top<'a>(alloc: Global) -> clap::Command<'a>
+    ensures app { app_of result ≡ bare_app }
+    ensures local { (out-Command result).has_globals ≡ false }
 {
     clap::Command::new(alloc, "rwvote")
         .version("0.1.0")
@@ -204,15 +205,50 @@ fn top<'a>(alloc: Global) -> clap::Command<'a>
         .disable_help_subcommand(true)
 }
 
-/// The flag that asks for the journal of a run.
-fn journal_flag<'a>(alloc: Global) -> Arg<'a>
-    ensures rule { rule_of result ≡ journal_rule }
+/// The flag of this name.
+fn flag<'a>(alloc: Global, name: &'a str, help: &'a str) -> Arg<'a>
+    ensures rule { rule_of result ≡ flag_rule name.entry.now }
     ensures local { result.global ≡ false }
 {
-    Arg::new(alloc, "journal")
-        .long("journal")
+    Arg::new(alloc, name)
+        .long(name)
         .action(ArgAction::SetTrue)
-        .help("Prints the settings and the journal, for `rwvote audit`")
+        .help(help)
+}
+
+/// The flag that asks for words.
+fn explain_flag<'a>(alloc: Global) -> Arg<'a>
+    ensures rule { rule_of result ≡ explain_rule }
+    ensures local { result.global ≡ false }
+{
+    flag(
+        alloc,
+        "explain",
+        "Says on standard error, in words, what is refused, at fault or found, and where",
+    )
+}
+
+/// The program without its commands.
+fn top<'a>(alloc: Global) -> Result<clap::Command<'a>, AllocError>
+    ensures { IfOk result (λ c. app_of c ≡ top_app) }
+{
+    let with_flag = bare_top(alloc).arg(explain_flag(alloc))?;
+    Ok(with_flag)
+}
+
+/// A command that takes the flag that asks for words.
+fn explained_below<'a>(
+    alloc: Global,
+    name: &'a str,
+    about: &'a str,
+    help: &'a str,
+) -> Result<clap::Command<'a>, AllocError>
+    ensures shape { IfOk result (λ c. shape_of c ≡ command_shape name.entry.now) }
+    ensures local { IfOk result (λ c. (out-Command c).has_globals ≡ false) }
+{
+    let command = below(alloc, name, about, help);
+    let with_flag = command.arg(explain_flag(alloc))?;
+    Ok(with_flag)
 }
 
 /// The command that runs the service.
@@ -220,22 +256,38 @@ fn run_below<'a>(alloc: Global) -> Result<clap::Command<'a>, AllocError>
     ensures shape { IfOk result (λ c. shape_of c ≡ run_shape) }
     ensures local { IfOk result (λ c. (out-Command c).has_globals ≡ false) }
 {
-    let run = below(alloc, "run", "Runs the service", RUN_HELP);
-    let with_flag = run.arg(journal_flag(alloc))?;
-    Ok(with_flag)
+    let run = explained_below(alloc, "run", "Runs the service", RUN_HELP)?;
+    let journal = flag(
+        alloc,
+        "journal",
+        "Prints the settings and the journal, for `rwvote audit`",
+    );
+    let with_flags = run.arg(journal)?;
+    Ok(with_flags)
 }
 
 /// The words that the program takes.
 fn words_taken<'a>(alloc: Global) -> Result<clap::Command<'a>, AllocError>
     ensures { IfOk result (λ c. app_of c ≡ app) }
 {
-    let script = below(alloc, "script", "Runs a script", SCRIPT_HELP);
-    let audit = below(alloc, "audit", "Judges a journal", AUDIT_HELP);
-    let ballot = below(alloc, "ballot", "Says what a ballot is", BALLOT_HELP);
-    let with_script = top(alloc).subcommand(script)?;
+    let script = explained_below(alloc, "script", "Runs a script", SCRIPT_HELP)?;
+    let audit = explained_below(alloc, "audit", "Judges a journal", AUDIT_HELP)?;
+    let ballot = explained_below(alloc, "ballot", "Says what a ballot is", BALLOT_HELP)?;
+    let run = run_below(alloc)?;
+    let bare = top(alloc)?;
+    let with_script = bare.subcommand(script)?;
     let with_audit = with_script.subcommand(audit)?;
     let with_ballot = with_audit.subcommand(ballot)?;
-    with_ballot.subcommand(run_below(alloc)?)
+    let with_run = with_ballot.subcommand(run)?;
+    Ok(with_run)
+}
+
+/// What the words ask for: a command, and whether words are asked for in front of it and behind it.
+#[derive(Clone, Copy, Debug, PartialEq, Eq)]
+pub struct Asked {
+    pub command: Command,
+    pub front: bool,
+    pub behind: bool,
 }
 
 /// What `clap` says of words that name no command.
@@ -284,8 +336,15 @@ fn unserved_by(alloc: Global, error: &clap::Error) -> Unserved
     }
 }
 
-/// The command of this name, and whether a run is asked for its journal.
+/// Whether the flag of this name was found.
 #[tactic(auto, using(crate::proofs::NameFacts::is_flag))]
+fn has_flag(found: &ArgMatches, name: &str) -> bool
+    ensures { IsFlag (one_of name.now (rows_of (found_of found.now))) result }
+{
+    found.get_flag(name)
+}
+
+/// The command of this name, and whether a run is asked for its journal.
 fn command_of(name: &str, found: &ArgMatches) -> Command
     requires { IsName name.now }
     ensures { IsCommand name.now (rows_of (found_of found.now)) result }
@@ -300,35 +359,50 @@ fn command_of(name: &str, found: &ArgMatches) -> Command
         return Command::Ballot;
     }
     Command::Run {
-        journal: found.get_flag("journal"),
+        journal: has_flag(found, "journal"),
     }
 }
 
-/// The command that the words name.
-fn command_in(matches: &ArgMatches) -> Command
-    requires { NamesOne (subcommand_name_of matches.now) }
-    ensures { Names (subcommand_rows_of matches.now) result }
+/// What is asked for by this name and what was found behind it.
+fn asked_of(front: bool, name: &str, found: &ArgMatches) -> Asked
+    requires { IsName name.now }
+    ensures behind { AsksBehind name.now (rows_of (found_of found.now)) result }
+    ensures front { result.front ≡ front }
 {
+    Asked {
+        command: command_of(name, found),
+        front,
+        behind: has_flag(found, "explain"),
+    }
+}
+
+/// What the words ask for.
+fn asked_in(matches: &ArgMatches) -> Asked
+    requires { NamesOne (subcommand_name_of matches.now) }
+    ensures behind { NamesBehind (subcommand_rows_of matches.now) result }
+    ensures front { IsFlag (one_of (codes "explain") (rows_of (found_of matches.now))) result.front }
+{
+    let front = has_flag(matches, "explain");
     let Some((name, found)) = matches.subcommand() else {
         unreachable!()
     };
-    command_of(name, found)
+    asked_of(front, name, found)
 }
 
 /// What `clap` makes of the words by a command.
-fn parse_by<'a>(command: clap::Command<'a>, words: &'a [String]) -> Result<Command, clap::Error>
+fn parse_by<'a>(command: clap::Command<'a>, words: &'a [String]) -> Result<Asked, clap::Error>
     requires { app_of command ≡ app }
-    ensures { Parses (fault_of app (map string_bytes words.now)) (named_in (map string_bytes words.now)) result }
+    ensures { Parses (fault_of app (map string_bytes words.now)) (found_in (map string_bytes words.now)) result }
 {
     match command.try_get_matches_from(words) {
-        Ok(matches) => Ok(command_in(&matches)),
+        Ok(matches) => Ok(asked_in(&matches)),
         Err(error) => Err(error),
     }
 }
 
 /// What `clap` makes of the words.
-fn parse(alloc: Global, words: &[String]) -> Result<Command, clap::Error>
-    ensures { Parses (fault_of app (map string_bytes words.now)) (named_in (map string_bytes words.now)) result }
+fn parse(alloc: Global, words: &[String]) -> Result<Asked, clap::Error>
+    ensures { Parses (fault_of app (map string_bytes words.now)) (found_in (map string_bytes words.now)) result }
 {
     match words_taken(alloc) {
         Ok(command) => parse_by(command, words),
@@ -339,11 +413,11 @@ fn parse(alloc: Global, words: &[String]) -> Result<Command, clap::Error>
 /// Reads the words, of which the first is the program's name. They are right where they name
 /// a command.
 #[tactic(auto, using(crate::proofs::WordFacts::unserved_so))]
-pub fn read_words(alloc: Global, words: &[String]) -> Result<Command, Unserved>
-    ensures { ReadsWords (fault_of app (map string_bytes words.now)) (named_in (map string_bytes words.now)) result }
+pub fn read_words(alloc: Global, words: &[String]) -> Result<Asked, Unserved>
+    ensures { ReadsWords (fault_of app (map string_bytes words.now)) (found_in (map string_bytes words.now)) result }
 {
     match parse(alloc, words) {
-        Ok(command) => Ok(command),
+        Ok(asked) => Ok(asked),
         Err(error) => Err(unserved_by(alloc, &error)),
     }
 }

@@ -15,7 +15,7 @@ pub enum RunFault {
     #[error("too few nodes are left")]
     TooFewNodes,
     /// 913: it gave up after 1,000 nudges in one wish.
-    #[error("gave up after too many nudges")]
+    #[error("gave up after 1000 nudges")]
     GaveUp,
     /// 914: memory was refused, or a thread couldn't be started.
     #[error("out of memory, or no thread could be started")]

@@ -11,7 +11,8 @@
 //! by `operator_cli::serve`. Which actor ends by which fault is not said. The policies and the records are
 //! the caller's.
 //!
-//! It stands on `operator_cli` for settings, `node_threads` for the run, `journal_text`, `journal_audit`
+//! It stands on `operator_cli` for settings, `node_threads` for the run, `explanations` for what is said of it
+//! in words, `journal_text`, `journal_audit`
 //! and `journal_laws` for the journal, `line_streams`, `event_recorders`, `history_book`, `history_check`,
 //! `client_core` and `entry_guard` for the gate, `lossy_link`, `stable_record`, `vote_weights`,
 //! `world_machine`, `world_model`, `lock_messages` and `lock_model`.

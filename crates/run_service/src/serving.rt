@@ -17,6 +17,7 @@ ghost use Rattle.run_service.specs.Parts.{TellsEnd, RunsHead};
 use crate::ends::{push_end, status_of};
 use crate::gates::OpenGate;
 use crate::records::{Records, chosen_records};
+use explanations::RunWords;
 use history_check::Wish;
 use journal_audit::laws::verdicts_are_exact;
 use journal_laws::laws::journals_are_sound;
@@ -154,6 +155,26 @@ fn run<T: Threads + Wait + Copy + Send>(
     Ok(end)
 }
 
+/// Adds in words what a run came to, where that is wanted. Want of memory leaves a part of it.
+fn push_words(
+    alloc: Global,
+    clients: u16,
+    wishes: &Vec<Wish>,
+    end: &RunEnd,
+    words: &mut Option<String>,
+) {
+    let Some(text) = words else {
+        return;
+    };
+    let Ok(mut told) = RunWords::new(alloc, clients) else {
+        return;
+    };
+    if end.book.write_journal(alloc, &mut told).is_err() {
+        return;
+    }
+    let _left_short = told.push(alloc, text, wishes.as_slice(), end.faults.as_slice());
+}
+
 /// Runs the service by what the head says, and tells what it came to.
 fn run_head<T: Threads + Wait + Copy + Send, W: Write>(
     rt: T,
@@ -164,6 +185,7 @@ fn run_head<T: Threads + Wait + Copy + Send, W: Write>(
     for_threads: Policies,
     records: Records,
     writer: &mut W,
+    words: &mut Option<String>,
 ) -> Result<u8, ServeFault>
     requires world { length for_world.pairs.items ≡ MAX_NODES }
     requires threads { length for_threads.pairs.items ≡ MAX_NODES }
@@ -194,6 +216,7 @@ fn run_head<T: Threads + Wait + Copy + Send, W: Write>(
     ) else {
         return Err(ServeFault::Memory);
     };
+    push_words(alloc, settings.clients, &wishes, &end, words);
     tell(alloc, journal, head, &settings, &end, writer)
 }
 
@@ -207,6 +230,10 @@ fn run_head<T: Threads + Wait + Copy + Send, W: Write>(
 /// and for each actor that ended by a fault, nodes first, a line such as `c2 fault 913`. Asked for the
 /// journal, it prints the settings as they were read, `---` and the journal in place of this. The status
 /// is 1 where an actor ended by a fault, else 0.
+///
+/// Where `words` has a text, what the run came to is added to it in words (`explanations`): who entered what
+/// and how often, who ended by a fault and in which wish, which wishes were left. What is printed and answered
+/// is the same with it and without.
 ///
 /// Contracts speak of what the reader has left and of what the writer holds, where these are known. The
 /// caller owes an order for `Run`; sixteen pairs of policies for the world, with the order, and as many for
@@ -227,6 +254,7 @@ pub fn serve_run<T: Threads + Wait + Copy + Send, R: Read, W: Write>(
     writer: &mut W,
     policies: Policies,
     records: Records,
+    words: &mut Option<String>,
 ) -> Result<u8, ServeFault>
 where
     R: Drop,
@@ -261,5 +289,6 @@ where
         policies,
         records,
         writer,
+        words,
     )
 }

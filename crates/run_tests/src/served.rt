@@ -41,6 +41,7 @@ fn served<R: Threads + Wait + Copy + Send>(
         &mut out,
         for_threads,
         records,
+        &mut None,
     );
     match came {
         Ok(status) => Ok((out, status)),

@@ -1,10 +1,12 @@
-use Rattle.command_line.proofs.NameFacts.{with_journal, still_local}
+use Rattle.std.proofs.Common.{codes}
+use Rattle.command_line.specs.CommandLine.{command_shape, flag_rule}
+use Rattle.command_line.proofs.NameFacts.{shape_with_flag, still_local}
 use Rattle.command_line.proofs.reading.run_below.Goals as goal
 
 pub returns : goal.returns
 returns c =
-    let flag = c.journal_flag.result in
+    let flag = c.flag-journal.result in
     record {
-      shape = with_journal c.below-run.result c.in_ok-with_flag.with_flag flag c.in_ok-with_flag.ensures c.below-run.ensures.shape c.journal_flag.ensures.rule c.journal_flag.ensures.local;
-      local = still_local c.below-run.result c.in_ok-with_flag.with_flag flag c.in_ok-with_flag.ensures c.below-run.ensures.local c.journal_flag.ensures.local;
+      shape = shape_with_flag c.in_ok-run.run' c.in_ok-with_flags.with_flags flag (command_shape (codes "run")) (flag_rule (codes "journal")) c.in_ok-with_flags.ensures c.in_ok-run.ensures.shape c.flag-journal.ensures.rule c.flag-journal.ensures.local;
+      local = still_local c.in_ok-run.run' c.in_ok-with_flags.with_flags flag c.in_ok-with_flags.ensures c.in_ok-run.ensures.local c.flag-journal.ensures.local;
     }

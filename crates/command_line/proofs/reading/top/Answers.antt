@@ -1,19 +1,8 @@
-use Rattle.std.proofs.Common.{◌≡◌, ◌∙◌, true, ap}
-use Rattle.clap.specs.Simple.{Shape, app_of, app_of_fields, on_top}
+use Rattle.command_line.specs.CommandLine.{bare_app, explain_rule}
+use Rattle.command_line.proofs.NameFacts.{with_flag}
 use Rattle.command_line.proofs.reading.top.Goals as goal
-
-abbrev with_version : Shape → Shape
-with_version s = record s { has_version = true }
-
-abbrev with_needed : Shape → Shape
-with_needed s = record s { subcommand_required = true }
-
-abbrev without_help : Shape → Shape
-without_help s = record s { disable_help_subcommand = true }
 
 pub returns : goal.returns
 returns c =
-    let a : app_of c.about.result ≡ on_top with_version (app_of c.new.result) = ap app_of_fields c.about.ensures ∙ ap app_of_fields c.version.ensures in
-    let b : app_of c.subcommand_required.result ≡ on_top with_needed (app_of c.about.result) = ap app_of_fields c.subcommand_required.ensures in
-    let d : app_of c.disable_help_subcommand.result ≡ on_top without_help (app_of c.subcommand_required.result) = ap app_of_fields c.disable_help_subcommand.ensures in
-    d ∙ ap (on_top without_help) (b ∙ ap (on_top with_needed) (a ∙ ap (on_top with_version) c.new.ensures.app))
+    with_flag c.bare_top.result c.in_ok-with_flag.with_flag c.explain_flag.result bare_app explain_rule c.in_ok-with_flag.ensures c.bare_top.ensures.app c.explain_flag.ensures.rule
+    c.explain_flag.ensures.local

@@ -1,0 +1,74 @@
+// Hearing what is said of an input.
+
+use admission_policy::{Admission, FirstProblem, Pair, SecondProblem};
+use explanations::Explainer;
+use lock_messages::MAX_NODES;
+use operator_cli::{Command, Policies};
+use std::alloc::Global;
+use test_outcomes::{Failure, Outcome, check_row};
+
+/// Settings of three nodes with a vote each, of which two read and two write, and four clients.
+pub(crate) const SETTINGS: &str =
+    "votes = [1, 1, 1]\nread = 2\nwrite = 2\nproblem = 1\nclients = 4\n---\n";
+
+/// The plain policies of both problems.
+fn pair(alloc: Global) -> Result<Pair, Failure> {
+    let first: Box<dyn Admission + Send> = Box::new(alloc, FirstProblem)?;
+    let second: Box<dyn Admission + Send> = Box::new(alloc, SecondProblem)?;
+    Ok(Pair::of(first, second))
+}
+
+/// As many pairs of policies as there may be nodes.
+fn policies(alloc: Global) -> Result<Policies, Failure> {
+    let mut pairs = Vec::new(alloc);
+    for _ in 0..MAX_NODES {
+        pairs.push(pair(alloc)?)?;
+    }
+    Ok(Policies { pairs })
+}
+
+/// What is said of an input of a command, which comes in pieces of this size.
+fn heard(alloc: Global, command: Command, input: &str, size: usize) -> Result<String, Failure> {
+    if size == 0 {
+        return Err(Failure::Wrong(0));
+    }
+    let mut explainer = Explainer::new(alloc, command, policies(alloc)?);
+    let mut text = String::new(alloc);
+    for piece in input.as_bytes().chunks(size) {
+        explainer.see(&mut text, piece);
+    }
+    explainer.see_end(&mut text);
+    explainer.see_end(&mut text);
+    if explainer.fell_short() {
+        return Err(Failure::Memory);
+    }
+    Ok(text)
+}
+
+/// Hears what is said of an input, and compares it.
+pub(crate) fn says(
+    alloc: Global,
+    row: usize,
+    command: Command,
+    input: &str,
+    words: &str,
+) -> Outcome {
+    for size in [1, 7, 4_096] {
+        let text = heard(alloc, command, input, size)?;
+        check_row(text.as_str() == words, row)?;
+    }
+    Ok(())
+}
+
+/// Hears what is said of lines behind good settings.
+pub(crate) fn says_of_lines(
+    alloc: Global,
+    row: usize,
+    command: Command,
+    lines: &str,
+    words: &str,
+) -> Outcome {
+    let mut input = String::from_str(alloc, SETTINGS)?;
+    input.push_str(lines)?;
+    says(alloc, row, command, input.as_str(), words)
+}
