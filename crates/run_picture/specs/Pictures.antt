@@ -27,6 +27,19 @@ use Rattle.run_picture.specs.declared.marks.Place.{Place}
 use Rattle.run_picture.specs.declared.marks.Step.{Step}
 use Rattle.run_picture.specs.declared.saying.Said.{Said}
 
+-- What is told of one event of a history: its line, the event and its effect, the messages that were said in
+-- it, in the order of their numbers, and what lasts of its actor once it has happened.
+pub record Told : Type 0 where
+  pub line : ℕ
+  pub event : Event
+  pub effect : Effect
+  pub said : List Message
+  pub lasting : List Lasting
+
+-- a step as it is told
+abbrev pub told : Step → Told
+told s = record { line = s.line; event = s.event; effect = s.effect; said = s.said.items; lasting = s.lasting.items }
+
 -- What is alike.
 
 abbrev pub same_actor : Actor → Actor → Bool
@@ -157,7 +170,7 @@ concerns d (event.Rise who age) = true
 concerns d (event.Switch n p) = true
 
 -- the line is drawn
-abbrev pub is_drawn : Drawn → Step → Bool
+abbrev pub is_drawn : Drawn → Told → Bool
 is_drawn d s = in_window d.part s.line && concerns d s.event
 
 -- how many lines more are drawn: 1 or 0
@@ -168,7 +181,7 @@ one_if b = if b then 1 else 0
 abbrev pub place_of : Drawn → ℕ → Bool → Place
 place_of d line drawn = record { line = line; height = d.rows + d.rows + one_if drawn }
 
-abbrev pub here : Drawn → Step → Place
+abbrev pub here : Drawn → Told → Place
 here d s = place_of d s.line (is_drawn d s)
 
 -- The marks of a step.
@@ -181,10 +194,10 @@ abbrev pub is_seen : Place → Place → Bool
 is_seen from upto = nat_lt from.height upto.height
 
 -- What lasts goes on behind a step, unless it is of the step's actor and not among what is told to last.
-abbrev pub goes_on : Step → Since → Bool
-goes_on s o = not (same_actor (actor_of s.event) (whose o.what)) || list_any (same_lasting o.what) s.lasting.items
+abbrev pub goes_on : Told → Since → Bool
+goes_on s o = not (same_actor (actor_of s.event) (whose o.what)) || list_any (same_lasting o.what) s.lasting
 
-abbrev pub ends : Step → Since → Bool
+abbrev pub ends : Told → Since → Bool
 ends s o = not (goes_on s o)
 
 -- It begins to last where it didn't before, and is drawn.
@@ -195,7 +208,7 @@ abbrev pub ended_mark : Place → Since → List Mark
 ended_mark at o = if is_seen o.since at then mark_of (sign.Ended o.what) o.since at ∷ [] else []
 
 -- the bars of what ends here
-abbrev pub ended_marks : Drawn → Step → Place → List Mark
+abbrev pub ended_marks : Drawn → Told → Place → List Mark
 ended_marks d s at = if may_change s.event then flat_map (ended_mark at) (filter (ends s) d.lasts) else []
 
 -- the arrow to where a message is taken or heard
@@ -240,17 +253,17 @@ arrows_by d at None m = []
 arrows_by d at (Some k) None = []
 arrows_by d at (Some k) (Some m) = arrow_of k m (numbered d.said k) at
 
-abbrev pub arrows : Drawn → Step → Place → List Mark
+abbrev pub arrows : Drawn → Told → Place → List Mark
 arrows d s at = arrows_by d at (number_in s.event) (message_in s.effect)
 
-abbrev pub own_mark : Drawn → Step → Place → List Mark
+abbrev pub own_mark : Drawn → Told → Place → List Mark
 own_mark d s at = if is_drawn d s then mark_of (sign.Event s.event s.effect) at at ∷ [] else []
 
-abbrev pub marks_at : Drawn → Step → Place → List Mark
+abbrev pub marks_at : Drawn → Told → Place → List Mark
 marks_at d s at = ended_marks d s at ++ (arrows d s at ++ own_mark d s at)
 
 -- all marks of a step
-unfoldable pub marks_of_step : Drawn → Step → List Mark
+unfoldable pub marks_of_step : Drawn → Told → List Mark
 marks_of_step d s = marks_at d s (here d s)
 
 -- What is known behind a step.
@@ -289,17 +302,17 @@ came (Some k) said = with_came k said (numbered said k)
 abbrev pub newly_said : Part → List Actor → Place → Message → Said
 newly_said p about at m = record { place = at; wanted = wants_message p about m; came = false }
 
-abbrev pub said_after : Drawn → Step → Place → List Said
-said_after d s at = came (number_in s.event) d.said ++ map (newly_said d.part d.about at) s.said.items
+abbrev pub said_after : Drawn → Told → Place → List Said
+said_after d s at = came (number_in s.event) d.said ++ map (newly_said d.part d.about at) s.said
 
 abbrev pub since_here : Place → Lasting → Since
 since_here at what = record { what = what; since = at }
 
-abbrev pub lasts_after : Drawn → Step → Place → List Since
+abbrev pub lasts_after : Drawn → Told → Place → List Since
 lasts_after d s at =
-    if may_change s.event then filter (goes_on s) d.lasts ++ map (since_here at) (filter (begins d.part d.lasts) s.lasting.items) else d.lasts
+    if may_change s.event then filter (goes_on s) d.lasts ++ map (since_here at) (filter (begins d.part d.lasts) s.lasting) else d.lasts
 
-abbrev pub after_at : Drawn → Step → Place → Drawn
+abbrev pub after_at : Drawn → Told → Place → Drawn
 after_at d s at = record {
   part = d.part;
   rows = d.rows + one_if (is_drawn d s);
@@ -308,7 +321,7 @@ after_at d s at = record {
   lasts = lasts_after d s at;
 }
 
-unfoldable pub after_step : Drawn → Step → Drawn
+unfoldable pub after_step : Drawn → Told → Drawn
 after_step d s = after_at d s (here d s)
 
 -- A whole history.
@@ -320,11 +333,11 @@ before_all = record { line = 0; height = 0 }
 abbrev pub opened : Part → List Lasting → Drawn
 opened p what = record { part = p; rows = 0; about = []; said = []; lasts = map (since_here before_all) (filter (wants_lasting p) what) }
 
-abbrev pub marks_behind : Drawn → List Step → List Mark
+abbrev pub marks_behind : Drawn → List Told → List Mark
 marks_behind d [] = []
 marks_behind d (s ∷ steps) = marks_of_step d s ++ marks_behind (after_step d s) steps
 
-abbrev pub drawn_behind : Drawn → List Step → Drawn
+abbrev pub drawn_behind : Drawn → List Told → Drawn
 drawn_behind d [] = d
 drawn_behind d (s ∷ steps) = drawn_behind (after_step d s) steps
 

@@ -2,7 +2,7 @@
 
 ghost use Rattle.std.specs.Prelude.{◌≡◌, ◌≤◌, ◌<◌, ◌+◌, ◌++◌, map, length, IfOk, OnOk, IfErr, IsErrOf};
 ghost use Rattle.std.specs.Option.{option_to_list};
-ghost use Rattle.run_picture.specs.Pictures.{opened, came, one_if, is_about, or_same, after_at, marks_at, wants_message, wants_number, concerns, is_drawn, place_of, here, ended_marks, arrows, own_mark, marks_of_step, about_after, said_after, lasts_after, newly_said, after_step, open_marks, lost_mark};
+ghost use Rattle.run_picture.specs.Pictures.{told, opened, came, one_if, is_about, or_same, after_at, marks_at, wants_message, wants_number, concerns, is_drawn, place_of, here, ended_marks, arrows, own_mark, marks_of_step, about_after, said_after, lasts_after, newly_said, after_step, open_marks, lost_mark};
 
 use crate::asking::may_change;
 use crate::lasting::{Since, add_ended, is_seen, lasting_behind, lasting_first, open_marks};
@@ -108,7 +108,7 @@ impl Drawer {
 
     /// Whether the step's line is drawn.
     fn is_drawn(&self, step: &Step) -> bool
-        ensures { result ≡ is_drawn self.now step.now }
+        ensures { result ≡ is_drawn self.now (told step.now) }
     {
         in_window(&self.shown, step.line) && self.concerns(&step.event)
     }
@@ -126,7 +126,7 @@ impl Drawer {
 
     /// The arrow to where a message is taken or heard.
     fn arrow(&self, step: &Step, at: &Place) -> Option<Mark>
-        ensures { option_to_list result ≡ arrows self.now step.now at.now }
+        ensures { option_to_list result ≡ arrows self.now (told step.now) at.now }
     {
         let number = number_in(&step.event)?;
         let message = message_in(&step.effect)?;
@@ -143,7 +143,7 @@ impl Drawer {
 
     /// The mark of the event itself, where it is drawn.
     fn own_mark(&self, step: &Step, at: &Place) -> Option<Mark>
-        ensures { option_to_list result ≡ own_mark self.now step.now at.now }
+        ensures { option_to_list result ≡ own_mark self.now (told step.now) at.now }
     {
         if !self.is_drawn(step) {
             return None;
@@ -157,7 +157,7 @@ impl Drawer {
 
     /// The marks of the step.
     fn marks(&self, alloc: Global, step: &Step, at: &Place) -> Result<Vec<Mark>, AllocError>
-        ensures { IfOk result (λ v. v.items ≡ marks_at self.now step.now at.now) }
+        ensures { IfOk result (λ v. v.items ≡ marks_at self.now (told step.now) at.now) }
     {
         let mut marks = Vec::new(alloc);
         if may_change(&step.event) {
@@ -239,8 +239,8 @@ impl Drawer {
     /// gone.
     #[tactic(auto, unfolding(crate::specs::Pictures::marks_of_step, crate::specs::Pictures::after_step))]
     pub fn take(self, alloc: Global, step: &Step) -> Result<(Drawer, Vec<Mark>), DrawFault>
-        ensures marks { IfOk result (λ r. r.1.items ≡ marks_of_step self step.now) }
-        ensures after { IfOk result (λ r. r.0 ≡ after_step self step.now) }
+        ensures marks { IfOk result (λ r. r.1.items ≡ marks_of_step self (told step.now)) }
+        ensures after { IfOk result (λ r. r.0 ≡ after_step self (told step.now)) }
         ensures full { IsErrOf result DrawFault.Full → MAX_ROWS ≤ self.rows }
     {
         if self.count >= MAX_ROWS {
@@ -265,9 +265,9 @@ impl Drawer {
         at: &Place,
         drawn: bool,
     ) -> Result<Drawer, AllocError>
-        requires drawn { drawn ≡ is_drawn self step.now }
+        requires drawn { drawn ≡ is_drawn self (told step.now) }
         requires room { self.rows < MAX_ROWS }
-        ensures { IfOk result (λ d. d ≡ after_at self step.now at.now) }
+        ensures { IfOk result (λ d. d ≡ after_at self (told step.now) at.now) }
     {
         let mut drawer = self;
         let actors = drawer.about_behind(alloc, &step.event)?;
@@ -305,7 +305,7 @@ impl Drawer {
 
     /// What lasts behind the step, where it may be other things than before.
     fn lasts_behind(&self, alloc: Global, step: &Step, at: &Place) -> Result<Option<Vec<Since>>, AllocError>
-        ensures { IfOk result (λ v. or_same self.now.lasts v ≡ lasts_after self.now step.now at.now) }
+        ensures { IfOk result (λ v. or_same self.now.lasts v ≡ lasts_after self.now (told step.now) at.now) }
     {
         if !may_change(&step.event) {
             return Ok(None);

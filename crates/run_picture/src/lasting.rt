@@ -3,7 +3,7 @@
 ghost use Rattle.std.specs.Prelude.{◌≡◌, ◌++◌, ◌∷◌, [], map, IfOk, OnOk};
 ghost use Rattle.std.specs.List.{filter, flat_map, list_any};
 ghost use Rattle.std.specs.Option.{option_to_list};
-ghost use Rattle.run_picture.specs.Pictures.{same_lasting, wants_lasting, goes_on, begins, ends, is_seen, ended_mark, open_mark, since_here};
+ghost use Rattle.run_picture.specs.Pictures.{told, same_lasting, wants_lasting, goes_on, begins, ends, is_seen, ended_mark, open_mark, since_here};
 
 use crate::asking::{actor_of, same_actor, same_lasting, whose};
 use crate::marks::put;
@@ -41,7 +41,7 @@ fn is_known(lasts: &[Since], what: &Lasting) -> bool
 
 /// Whether it goes on behind the step.
 fn goes_on(step: &Step, one: &Since) -> bool
-    ensures { result ≡ goes_on step.now one.now }
+    ensures { result ≡ goes_on (told step.now) one.now }
 {
     !same_actor(&actor_of(&step.event), &whose(&one.what))
         || is_told(&one.what, step.lasting.as_slice())
@@ -56,7 +56,7 @@ fn begins(part: &Part, known: &[Since], what: &Lasting) -> bool
 
 /// What goes on behind the step.
 fn going_on(alloc: Global, step: &Step, lasts: &[Since]) -> Result<Vec<Since>, AllocError>
-    ensures { IfOk result (λ v. v.items ≡ filter (goes_on step.now) lasts.now) }
+    ensures { IfOk result (λ v. v.items ≡ filter (goes_on (told step.now)) lasts.now) }
 {
     let mut kept = Vec::new(alloc);
     for one in lasts {
@@ -96,7 +96,7 @@ pub(crate) fn lasting_behind(
     step: &Step,
     at: &Place,
 ) -> Result<Vec<Since>, AllocError>
-    ensures { IfOk result (λ v. v.items ≡ filter (goes_on step.now) lasts.now ++ map (since_here at.now) (filter (begins part.now lasts.now) step.now.lasting.items)) }
+    ensures { IfOk result (λ v. v.items ≡ filter (goes_on (told step.now)) lasts.now ++ map (since_here at.now) (filter (begins part.now lasts.now) (told step.now).lasting)) }
 {
     let mut kept = going_on(alloc, step, lasts)?;
     add_all(&mut kept, part, lasts, step.lasting.as_slice(), at)?;
@@ -126,7 +126,7 @@ pub(crate) fn lasting_first(
 
 /// The bar of what ends with the step, if it does and is seen.
 fn ended_mark(step: &Step, one: &Since, at: &Place) -> Option<Mark>
-    ensures { option_to_list result ≡ flat_map (ended_mark at.now) (filter (ends step.now) (one.now ∷ [])) }
+    ensures { option_to_list result ≡ flat_map (ended_mark at.now) (filter (ends (told step.now)) (one.now ∷ [])) }
 {
     if goes_on(step, one) || !is_seen(&one.since, at) {
         return None;
@@ -145,7 +145,7 @@ pub(crate) fn add_ended(
     lasts: &[Since],
     at: &Place,
 ) -> Result<(), AllocError>
-    ensures { OnOk result (marks.new.items ≡ marks.old.items ++ flat_map (ended_mark at.now) (filter (ends step.now) lasts.now)) }
+    ensures { OnOk result (marks.new.items ≡ marks.old.items ++ flat_map (ended_mark at.now) (filter (ends (told step.now)) lasts.now)) }
 {
     for one in lasts {
         put(marks, ended_mark(step, one, at))?;

@@ -1,0 +1,84 @@
+// A journal, drawn line by line.
+
+use crate::ending::{Drawing, draw_end, draw_step};
+use crate::reading::{end_lines, read_piece};
+use crate::Canvas;
+use history_check::{MAX_LINE_LEN, read_event};
+use journal_audit::{AuditFault, Cause, MAX_LINES, Verdict};
+use line_streams::LineReader;
+use run_picture::{Drawer, Lasting, Part};
+use std::alloc::Global;
+use std::io::Read;
+use world_machine::World;
+use world_model::StepFault;
+
+/// What is found where the line of this number is refused.
+fn refused(number: u32, fault: StepFault) -> Result<Verdict, AuditFault> {
+    match fault {
+        StepFault::Memory => Err(AuditFault::Memory),
+        _ => Ok(Verdict::Unsound(number, Cause::Refused(fault))),
+    }
+}
+
+/// Draws a part of what the lines that are left of an input do from this world on, in which this lasts.
+///
+/// It ends where an audit would, `journal_audit::audit_lines`, with the same verdict: at the end of the lines,
+/// or at the first that is no event or is refused. The lines before that one are drawn, and then what
+/// lasts still, what was said and never taken or heard, and the line that does not go on.
+///
+/// # Errors
+///
+/// `Read` (816) where the reader fails or was asked as often as it may be, `Write` (817) where the canvas
+/// says so, `Memory` (818) where memory was refused, `TooManyLines` (819) where there are more lines than
+/// a journal may have. Then a beginning of the marks was drawn.
+pub fn draw_lines<R: Read, C: Canvas>(
+    alloc: Global,
+    world: World,
+    part: Part,
+    lasting: &[Lasting],
+    source: &mut LineReader<R>,
+    canvas: &mut C,
+) -> Result<Drawing, AuditFault>
+    requires { Unit {0} }
+{
+    let mut world = world;
+    let Ok(mut drawer) = Drawer::new(alloc, part, lasting) else {
+        return Err(AuditFault::Memory);
+    };
+    let Ok(mut piece) = Vec::with_capacity(alloc, MAX_LINE_LEN + 1) else {
+        return Err(AuditFault::Memory);
+    };
+    for taken in 0..MAX_LINES {
+        let end = match read_piece(source, &mut piece) {
+            Ok(end) => end,
+            Err(fault) => return Err(fault),
+        };
+        let line = piece.as_slice();
+        if end.ends_no_line(line) {
+            return draw_end(alloc, &drawer, &world, Verdict::Sound(taken), canvas);
+        }
+        let event = match read_event(line) {
+            Ok(event) => event,
+            Err(fault) => {
+                let verdict = Verdict::Unsound(taken + 1, Cause::Line(fault));
+                return draw_end(alloc, &drawer, &world, verdict, canvas);
+            }
+        };
+        let effect = match world.step(&event) {
+            Ok(effect) => effect,
+            Err(fault) => {
+                let verdict = refused(taken + 1, fault)?;
+                return draw_end(alloc, &drawer, &world, verdict, canvas);
+            }
+        };
+        drawer = match draw_step(alloc, drawer, &world, taken + 1, &event, &effect, canvas) {
+            Ok(drawer) => drawer,
+            Err(fault) => return Err(fault),
+        };
+        if end.is_last() {
+            return draw_end(alloc, &drawer, &world, Verdict::Sound(taken + 1), canvas);
+        }
+    }
+    let verdict = end_lines(source, &mut piece)?;
+    draw_end(alloc, &drawer, &world, verdict, canvas)
+}

@@ -1,0 +1,139 @@
+// The marks of a step and of the end, on a canvas.
+
+use crate::telling::told_of;
+use crate::{Canvas, CanvasFault};
+use history_check::LineFault;
+use journal_audit::{AuditFault, Cause, Verdict};
+use run_picture::{DrawFault, Drawer, Mark, Place, Sign};
+use std::alloc::Global;
+use world_machine::World;
+use world_model::{Effect, Event, StepFault};
+
+/// What was drawn: the verdict on the journal, and where the picture ends.
+#[derive(Clone, Copy, Debug, PartialEq, Eq)]
+pub struct Drawing {
+    pub verdict: Verdict,
+    pub end: Place,
+}
+
+/// The fault of an audit that stands for one of a canvas.
+fn canvas_fault(fault: CanvasFault) -> AuditFault {
+    match fault {
+        CanvasFault::Write => AuditFault::Write,
+        CanvasFault::Memory => AuditFault::Memory,
+    }
+}
+
+/// Draws a mark.
+fn draw<C: Canvas>(canvas: &mut C, mark: &Mark) -> Result<(), AuditFault> {
+    match canvas.draw(mark) {
+        Ok(()) => Ok(()),
+        Err(fault) => Err(canvas_fault(fault)),
+    }
+}
+
+/// Draws marks, one after another.
+fn draw_all<C: Canvas>(canvas: &mut C, marks: &[Mark]) -> Result<(), AuditFault> {
+    for mark in marks {
+        draw(canvas, mark)?;
+    }
+    Ok(())
+}
+
+/// The drawer behind a step, and the step's marks.
+fn take(
+    alloc: Global,
+    drawer: Drawer,
+    world: &World,
+    line: u32,
+    event: &Event,
+    effect: &Effect,
+) -> Result<(Drawer, Vec<Mark>), AuditFault> {
+    let Ok(step) = told_of(alloc, world, line, event, effect) else {
+        return Err(AuditFault::Memory);
+    };
+    match drawer.take(alloc, &step) {
+        Ok(taken) => Ok(taken),
+        Err(DrawFault::Full) => Err(AuditFault::TooManyLines),
+        Err(DrawFault::Memory) => Err(AuditFault::Memory),
+    }
+}
+
+/// Draws what an event did that was taken with this effect, in the world behind it.
+pub(crate) fn draw_step<C: Canvas>(
+    alloc: Global,
+    drawer: Drawer,
+    world: &World,
+    line: u32,
+    event: &Event,
+    effect: &Effect,
+    canvas: &mut C,
+) -> Result<Drawer, AuditFault> {
+    let (drawer, marks) = match take(alloc, drawer, world, line, event, effect) {
+        Ok(taken) => taken,
+        Err(fault) => return Err(fault),
+    };
+    match draw_all(canvas, marks.as_slice()) {
+        Ok(()) => Ok(drawer),
+        Err(fault) => Err(fault),
+    }
+}
+
+/// The mark of the message of this number, if it was lost.
+fn lost_mark(drawer: &Drawer, world: &World, number: u32) -> Option<Mark> {
+    let message = world.sent(number)?;
+    drawer.lost(number, message)
+}
+
+/// Draws the messages that were lost.
+fn draw_lost<C: Canvas>(drawer: &Drawer, world: &World, canvas: &mut C) -> Result<(), AuditFault> {
+    for before in 0..drawer.said().min(u32::MAX as usize - 1) {
+        if let Some(mark) = lost_mark(drawer, world, before as u32 + 1) {
+            draw(canvas, &mark)?;
+        }
+    }
+    Ok(())
+}
+
+/// The number of the last line that a verdict speaks of.
+fn reached(verdict: &Verdict) -> u32 {
+    match *verdict {
+        Verdict::Sound(count) => count,
+        Verdict::Unsound(number, _) => number,
+    }
+}
+
+/// The mark of the line that does not go on, if there is one.
+fn stop_mark(verdict: &Verdict, at: &Place) -> Option<Mark> {
+    let sign = match *verdict {
+        Verdict::Sound(_) => return None,
+        Verdict::Unsound(_, Cause::Line(fault)) => Sign::NoEvent(fault),
+        Verdict::Unsound(_, Cause::Refused(fault)) => Sign::Refused(fault),
+    };
+    Some(Mark {
+        sign,
+        from: *at,
+        upto: *at,
+    })
+}
+
+/// Draws the marks of the end: what lasts still, what was lost, and the line that does not go on.
+pub(crate) fn draw_end<C: Canvas>(
+    alloc: Global,
+    drawer: &Drawer,
+    world: &World,
+    verdict: Verdict,
+    canvas: &mut C,
+) -> Result<Drawing, AuditFault> {
+    let line = reached(&verdict);
+    let Ok(open) = drawer.open_marks(alloc, line) else {
+        return Err(AuditFault::Memory);
+    };
+    draw_all(canvas, open.as_slice())?;
+    draw_lost(drawer, world, canvas)?;
+    let end = drawer.place(line, false);
+    if let Some(mark) = stop_mark(&verdict, &end) {
+        draw(canvas, &mark)?;
+    }
+    Ok(Drawing { verdict, end })
+}
