@@ -1,8 +1,13 @@
 // A journal, drawn line by line.
 
+use crate::Canvas;
+ghost use Rattle.std.specs.Prelude.{◌≡◌};
+ghost use Rattle.journal_audit.specs.Verdicts.{Finds};
+ghost use Rattle.journal_picture.specs.Drawings.{found, EndsAt, EndsMost};
+
 use crate::ending::{Drawing, draw_end, draw_step};
 use crate::reading::{end_lines, read_piece};
-use crate::Canvas;
+use history_check::laws::events_are_spelled_once;
 use history_check::{MAX_LINE_LEN, read_event};
 use journal_audit::{AuditFault, Cause, MAX_LINES, Verdict};
 use line_streams::LineReader;
@@ -12,12 +17,42 @@ use std::io::Read;
 use world_machine::World;
 use world_model::StepFault;
 
-/// What is found where the line of this number is refused.
-fn refused(number: u32, fault: StepFault) -> Result<Verdict, AuditFault> {
+/// Ends the picture where the line of this number is refused.
+fn draw_refused<C: Canvas>(
+    alloc: Global,
+    drawer: &Drawer,
+    world: &World,
+    number: u32,
+    fault: StepFault,
+    canvas: &mut C,
+) -> Result<Drawing, AuditFault>
+    ensures { EndsAt number fault result }
+{
     match fault {
         StepFault::Memory => Err(AuditFault::Memory),
-        _ => Ok(Verdict::Unsound(number, Cause::Refused(fault))),
+        _ => {
+            let verdict = Verdict::Unsound(number, Cause::Refused(fault));
+            draw_end(alloc, drawer, world, verdict, canvas)
+        }
     }
+}
+
+/// Ends the picture where as many lines were taken as a journal may have, if none is left.
+fn draw_most<R: Read, C: Canvas>(
+    alloc: Global,
+    drawer: &Drawer,
+    world: &World,
+    source: &mut LineReader<R>,
+    piece: &mut Vec<u8>,
+    canvas: &mut C,
+) -> Result<Drawing, AuditFault>
+    ensures { EndsMost source.old result }
+{
+    let verdict = match end_lines(source, piece) {
+        Ok(verdict) => verdict,
+        Err(fault) => return Err(fault),
+    };
+    draw_end(alloc, drawer, world, verdict, canvas)
 }
 
 /// Draws a part of what the lines that are left of an input do from this world on, in which this lasts.
@@ -40,7 +75,9 @@ pub fn draw_lines<R: Read, C: Canvas>(
     canvas: &mut C,
 ) -> Result<Drawing, AuditFault>
     requires { Unit {0} }
+    ensures verdict { Finds world source.old (found result) }
 {
+    events_are_spelled_once();
     let mut world = world;
     let Ok(mut drawer) = Drawer::new(alloc, part, lasting) else {
         return Err(AuditFault::Memory);
@@ -67,8 +104,7 @@ pub fn draw_lines<R: Read, C: Canvas>(
         let effect = match world.step(&event) {
             Ok(effect) => effect,
             Err(fault) => {
-                let verdict = refused(taken + 1, fault)?;
-                return draw_end(alloc, &drawer, &world, verdict, canvas);
+                return draw_refused(alloc, &drawer, &world, taken + 1, fault, canvas);
             }
         };
         drawer = match draw_step(alloc, drawer, &world, taken + 1, &event, &effect, canvas) {
@@ -79,6 +115,5 @@ pub fn draw_lines<R: Read, C: Canvas>(
             return draw_end(alloc, &drawer, &world, Verdict::Sound(taken + 1), canvas);
         }
     }
-    let verdict = end_lines(source, &mut piece)?;
-    draw_end(alloc, &drawer, &world, verdict, canvas)
+    draw_most(alloc, &drawer, &world, source, &mut piece, canvas)
 }

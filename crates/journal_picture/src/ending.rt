@@ -1,13 +1,15 @@
 // The marks of a step and of the end, on a canvas.
 
+ghost use Rattle.std.specs.Prelude.{◌≡◌, IfErr};
+ghost use Rattle.journal_picture.specs.Drawings.{StopsShort, EndsWith};
+
 use crate::telling::told_of;
 use crate::{Canvas, CanvasFault};
-use history_check::LineFault;
 use journal_audit::{AuditFault, Cause, Verdict};
 use run_picture::{DrawFault, Drawer, Mark, Place, Sign};
 use std::alloc::Global;
 use world_machine::World;
-use world_model::{Effect, Event, StepFault};
+use world_model::{Effect, Event, MAX_MESSAGES};
 
 /// What was drawn: the verdict on the journal, and where the picture ends.
 #[derive(Clone, Copy, Debug, PartialEq, Eq)]
@@ -17,7 +19,9 @@ pub struct Drawing {
 }
 
 /// The fault of an audit that stands for one of a canvas.
-fn canvas_fault(fault: CanvasFault) -> AuditFault {
+fn canvas_fault(fault: CanvasFault) -> AuditFault
+    ensures { StopsShort result }
+{
     match fault {
         CanvasFault::Write => AuditFault::Write,
         CanvasFault::Memory => AuditFault::Memory,
@@ -25,17 +29,33 @@ fn canvas_fault(fault: CanvasFault) -> AuditFault {
 }
 
 /// Draws a mark.
-fn draw<C: Canvas>(canvas: &mut C, mark: &Mark) -> Result<(), AuditFault> {
+fn draw<C: Canvas>(canvas: &mut C, mark: &Mark) -> Result<(), AuditFault>
+    ensures { IfErr result StopsShort }
+{
     match canvas.draw(mark) {
         Ok(()) => Ok(()),
         Err(fault) => Err(canvas_fault(fault)),
     }
 }
 
+/// Draws a mark, if there is one.
+fn draw_some<C: Canvas>(canvas: &mut C, mark: Option<Mark>) -> Result<(), AuditFault>
+    ensures { IfErr result StopsShort }
+{
+    match &mark {
+        Some(mark) => draw(canvas, mark),
+        None => Ok(()),
+    }
+}
+
 /// Draws marks, one after another.
-fn draw_all<C: Canvas>(canvas: &mut C, marks: &[Mark]) -> Result<(), AuditFault> {
+fn draw_all<C: Canvas>(canvas: &mut C, marks: &[Mark]) -> Result<(), AuditFault>
+    ensures { IfErr result StopsShort }
+{
     for mark in marks {
-        draw(canvas, mark)?;
+        if let Err(fault) = draw(canvas, mark) {
+            return Err(fault);
+        }
     }
     Ok(())
 }
@@ -48,14 +68,16 @@ fn take(
     line: u32,
     event: &Event,
     effect: &Effect,
-) -> Result<(Drawer, Vec<Mark>), AuditFault> {
+) -> Result<(Drawer, Vec<Mark>), AuditFault>
+    ensures { IfErr result StopsShort }
+{
     let Ok(step) = told_of(alloc, world, line, event, effect) else {
         return Err(AuditFault::Memory);
     };
+    // A picture has room for as many lines as a journal may have, so it is never full.
     match drawer.take(alloc, &step) {
         Ok(taken) => Ok(taken),
-        Err(DrawFault::Full) => Err(AuditFault::TooManyLines),
-        Err(DrawFault::Memory) => Err(AuditFault::Memory),
+        Err(DrawFault::Full | DrawFault::Memory) => Err(AuditFault::Memory),
     }
 }
 
@@ -68,7 +90,9 @@ pub(crate) fn draw_step<C: Canvas>(
     event: &Event,
     effect: &Effect,
     canvas: &mut C,
-) -> Result<Drawer, AuditFault> {
+) -> Result<Drawer, AuditFault>
+    ensures { IfErr result StopsShort }
+{
     let (drawer, marks) = match take(alloc, drawer, world, line, event, effect) {
         Ok(taken) => taken,
         Err(fault) => return Err(fault),
@@ -86,10 +110,13 @@ fn lost_mark(drawer: &Drawer, world: &World, number: u32) -> Option<Mark> {
 }
 
 /// Draws the messages that were lost.
-fn draw_lost<C: Canvas>(drawer: &Drawer, world: &World, canvas: &mut C) -> Result<(), AuditFault> {
-    for before in 0..drawer.said().min(u32::MAX as usize - 1) {
-        if let Some(mark) = lost_mark(drawer, world, before as u32 + 1) {
-            draw(canvas, &mark)?;
+fn draw_lost<C: Canvas>(drawer: &Drawer, world: &World, canvas: &mut C) -> Result<(), AuditFault>
+    ensures { IfErr result StopsShort }
+{
+    let count = drawer.said().min(MAX_MESSAGES as usize) as u32;
+    for before in 0..count {
+        if let Err(fault) = draw_some(canvas, lost_mark(drawer, world, before + 1)) {
+            return Err(fault);
         }
     }
     Ok(())
@@ -118,22 +145,44 @@ fn stop_mark(verdict: &Verdict, at: &Place) -> Option<Mark> {
 }
 
 /// Draws the marks of the end: what lasts still, what was lost, and the line that does not go on.
+fn draw_last<C: Canvas>(
+    alloc: Global,
+    drawer: &Drawer,
+    world: &World,
+    verdict: &Verdict,
+    canvas: &mut C,
+) -> Result<Place, AuditFault>
+    ensures { IfErr result StopsShort }
+{
+    let line = reached(verdict);
+    let Ok(open) = drawer.open_marks(alloc, line) else {
+        return Err(AuditFault::Memory);
+    };
+    if let Err(fault) = draw_all(canvas, open.as_slice()) {
+        return Err(fault);
+    }
+    if let Err(fault) = draw_lost(drawer, world, canvas) {
+        return Err(fault);
+    }
+    let end = drawer.place(line, false);
+    match draw_some(canvas, stop_mark(verdict, &end)) {
+        Ok(()) => Ok(end),
+        Err(fault) => Err(fault),
+    }
+}
+
+/// Ends the picture of a journal of which this is found.
 pub(crate) fn draw_end<C: Canvas>(
     alloc: Global,
     drawer: &Drawer,
     world: &World,
     verdict: Verdict,
     canvas: &mut C,
-) -> Result<Drawing, AuditFault> {
-    let line = reached(&verdict);
-    let Ok(open) = drawer.open_marks(alloc, line) else {
-        return Err(AuditFault::Memory);
-    };
-    draw_all(canvas, open.as_slice())?;
-    draw_lost(drawer, world, canvas)?;
-    let end = drawer.place(line, false);
-    if let Some(mark) = stop_mark(&verdict, &end) {
-        draw(canvas, &mark)?;
+) -> Result<Drawing, AuditFault>
+    ensures { EndsWith verdict result }
+{
+    match draw_last(alloc, drawer, world, &verdict, canvas) {
+        Ok(end) => Ok(Drawing { verdict, end }),
+        Err(fault) => Err(fault),
     }
-    Ok(Drawing { verdict, end })
 }

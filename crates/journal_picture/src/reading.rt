@@ -28,7 +28,6 @@ pub(crate) fn read_piece<R: Read>(
 }
 
 /// What is found where as many lines were taken as a journal may have.
-#[tactic(auto, using(journal_audit::proofs::JudgeFacts::none_more, journal_audit::proofs::JudgeFacts::one_more, journal_audit::proofs::JudgeFacts::cuts_end))]
 pub(crate) fn end_lines<R: Read>(
     source: &mut LineReader<R>,
     piece: &mut Vec<u8>,

@@ -106,9 +106,9 @@ fn add_up(
     alloc: Global,
     lasting: &mut Vec<Lasting>,
     world: &World,
-    who: Actor,
+    who: &Actor,
 ) -> Result<(), AllocError> {
-    match who {
+    match *who {
         Actor::Node(node) => add_votes(alloc, lasting, world, node),
         Actor::Client(client) => add_inside(lasting, world, client),
     }
@@ -119,9 +119,9 @@ fn add_down(
     alloc: Global,
     lasting: &mut Vec<Lasting>,
     world: &World,
-    who: Actor,
+    who: &Actor,
 ) -> Result<(), AllocError> {
-    add(lasting, &Lasting::Down(who))?;
+    add(lasting, &Lasting::Down(*who))?;
     add_up(alloc, lasting, world, who)
 }
 
@@ -133,11 +133,11 @@ fn add_lasting(
     event: &Event,
 ) -> Result<(), AllocError> {
     match *event {
-        Event::Kept(who) | Event::Rise(who, _) => add_up(alloc, lasting, world, who),
+        Event::Kept(who) | Event::Rise(who, _) => add_up(alloc, lasting, world, &who),
         Event::Enter(client) | Event::Leave(client) | Event::Soften(client) => {
             add_inside(lasting, world, client)
         }
-        Event::Fall(who) => add_down(alloc, lasting, world, who),
+        Event::Fall(who) => add_down(alloc, lasting, world, &who),
         Event::Begin(..) | Event::Try(_) | Event::SayTo(..) | Event::Say(_) => Ok(()),
         Event::Take(..) | Event::Hear(..) | Event::Switch(..) => Ok(()),
     }

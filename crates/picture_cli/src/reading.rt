@@ -38,9 +38,19 @@ fn option<'a>(alloc: Global, name: &'a str, value: &'a str, help: &'a str) -> Ar
 
 /// The words that the program takes.
 fn words_taken<'a>(alloc: Global) -> Result<clap::Command<'a>, AllocError> {
-    let from = option(alloc, "from", "LINE", "The first line that is drawn, from 1 on");
+    let from = option(
+        alloc,
+        "from",
+        "LINE",
+        "The first line that is drawn, from 1 on",
+    );
     let upto = option(alloc, "to", "LINE", "The last line that is drawn");
-    let resource = option(alloc, "resource", "NAME", "Draws what concerns this resource alone");
+    let resource = option(
+        alloc,
+        "resource",
+        "NAME",
+        "Draws what concerns this resource alone",
+    );
     let program = clap::Command::new(alloc, "rwdraw")
         .version("0.1.0")
         .about(ABOUT)

@@ -8,7 +8,9 @@ use journal_audit::{AuditFault, Verdict};
 use journal_picture::{CanvasFault, Drawing, draw_lines};
 use line_streams::{LineReader, MAX_READS};
 use lock_messages::{Actor, ClientId, NodeId};
-use operator_cli::{Command, Policies, ServeFault, Settings, StartFault, read_head, read_settings, world_down};
+use operator_cli::{
+    Command, Policies, ServeFault, Settings, StartFault, read_head, read_settings, world_down,
+};
 use picture_svg::Frame;
 use run_picture::{Lasting, Part};
 use std::alloc::{AllocError, Global};
@@ -25,10 +27,7 @@ pub enum Shown {
 }
 
 /// The settings that the input begins with.
-fn settings_of<R: Read>(
-    alloc: Global,
-    source: &mut LineReader<R>,
-) -> Result<Settings, StartFault> {
+fn settings_of<R: Read>(alloc: Global, source: &mut LineReader<R>) -> Result<Settings, StartFault> {
     let head = match read_head(alloc, source) {
         Ok(head) => head,
         Err(fault) => return Err(fault),

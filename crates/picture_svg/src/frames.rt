@@ -14,8 +14,11 @@ pub(crate) const HALF_ROW: u64 = 8;
 /// What stands below the last line.
 pub(crate) const BELOW: u64 = 44;
 
-/// The width of the line's number and text.
-pub(crate) const GUTTER: u64 = 390;
+/// The width of the line's number and text, of which `LINE_ROOM` bytes are shown.
+pub(crate) const GUTTER: u64 = 250;
+
+/// The most bytes of a line that are shown.
+pub(crate) const LINE_ROOM: usize = 28;
 
 /// The width of a client's column.
 const CLIENT_WIDTH: u64 = 88;
@@ -59,7 +62,9 @@ impl Frame {
         ensures { result ≤ 65536 }
     {
         let wide = self.votes_width() + NODE_WIDTH;
-        GUTTER.saturating_add(wide.saturating_mul(count as u64)).min(65_536)
+        GUTTER
+            .saturating_add(wide.saturating_mul(count as u64))
+            .min(65_536)
     }
 
     /// Where the columns of so many clients end.
@@ -91,10 +96,11 @@ impl Frame {
         }
     }
 
-    /// Where an actor's marks stand.
+    /// Where an actor's marks stand: at a node's right side, which the clients' columns face, and at a client's
+    /// left one.
     pub(crate) fn axis(&self, who: &Actor) -> u64 {
         let from_left = match who {
-            Actor::Node(_) => self.votes_width() + 12,
+            Actor::Node(_) => self.votes_width() + NODE_WIDTH - 14,
             Actor::Client(_) => 26,
         };
         self.left(who).saturating_add(from_left)

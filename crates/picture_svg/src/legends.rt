@@ -10,7 +10,7 @@ pub(crate) const LEGEND: &str = "\
 <use href='#tr' x='278' y='36'/><text x='302' y='40'>tries to keep it</text>\n\
 <use href='#ke' x='528' y='36'/><text x='552' y='40'>has kept it</text>\n\
 <use href='#ta' x='28' y='53'/><text x='52' y='57'>decides: its record changes</text>\n\
-<use href='#do' x='278' y='53'/><text x='302' y='57'>says, hears, or takes and is as before</text>\n\
+<use href='#do' x='278' y='53'/><text x='302' y='57'>says, hears, takes unchanged</text>\n\
 <use href='#sw' x='528' y='53'/><text x='552' y='57'>takes the other problem</text>\n\
 <use href='#en' x='28' y='70'/><text x='52' y='74'>enters</text>\n\
 <use href='#so' x='278' y='70'/><text x='302' y='74'>softens: a reader from now on</text>\n\
@@ -35,8 +35,11 @@ fn push_column(out: &mut String, frame: &Frame, who: &Actor) -> Result<(), Alloc
     let (base, top, under) = (TOP - 8, TOP - 22, TOP - 2);
     let right = left.saturating_add(width).saturating_sub(4);
     write!(out, "<path class='a' d='M{left} {top}V{under}H{right}'/>")?;
-    write!(out, "<line class='a' x1='{x}' y1='{under}' x2='{x}' y2='100%'/>")?;
-    writeln!(out, "<text class='h' x='{x}' y='{base}'>{who}</text>")
+    write!(
+        out,
+        "<line class='a' x1='{x}' y1='{under}' x2='{x}' y2='100%'/>"
+    )?;
+    writeln!(out, "<text class='h c' x='{x}' y='{base}'>{who}</text>")
 }
 
 /// Adds the heads of all columns.

@@ -9,7 +9,7 @@ use world_model::{Effect, Event};
 /// a shape for each kind of event.
 pub(crate) const SHAPES: &str = "\
 <style>text{fill:#222;font:10px monospace}.h{font-weight:bold;font-size:12px}.n{fill:#777;text-anchor:end}\
-.l{stroke:#eee}.a{stroke:#bbb}.d{fill:#888;fill-opacity:.25}.r{fill:url(#r);stroke:#1a5fb4}.w{fill:#c64600;stroke:#7a2b00}\
+.l{stroke:#eee}.a{stroke:#bbb;fill:none}.e{text-anchor:end}.c{text-anchor:middle}.d{fill:#888;fill-opacity:.25}.r{fill:url(#r);stroke:#1a5fb4}.w{fill:#c64600;stroke:#7a2b00}\
 .m{fill:none;stroke-width:1.3}.q{stroke:#333}.b{stroke:#333;stroke-dasharray:6 3}.g{stroke:#18794e;stroke-width:2}\
 .y{stroke:#c64600;stroke-dasharray:2 3}.s{stroke:#999;stroke-dasharray:6 3}.x{stroke:#c01c28;stroke-width:2;fill:none}\
 .f{fill:#222;stroke:#222}.o{fill:#fff;stroke:#222}.u{fill:#c01c28;font-weight:bold;font-size:12px}</style>

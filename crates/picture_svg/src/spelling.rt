@@ -1,7 +1,7 @@
 // The spelling of a picture: its head, its marks one after another, and its end.
 
 use crate::escaping::push_escaped;
-use crate::frames::{BELOW, Frame, GUTTER, HALF_ROW, LANE, TOP, depth};
+use crate::frames::{BELOW, Frame, GUTTER, HALF_ROW, LANE, LINE_ROOM, TOP, depth};
 use crate::legends::{LEGEND, push_columns};
 use crate::shapes::{SHAPES, arrow_class, bar_class, shape};
 use crate::texts::{push_event, push_label, push_title};
@@ -50,6 +50,16 @@ fn ends_of(message: &Message) -> (Actor, Actor) {
     }
 }
 
+/// Adds a line's text, or what there is room for of it.
+fn push_front(out: &mut String, text: &[u8]) -> Result<(), AllocError> {
+    if text.len() <= LINE_ROOM {
+        return push_escaped(out, text);
+    }
+    let (front, _) = text.split_at(LINE_ROOM);
+    push_escaped(out, front)?;
+    out.push_str("..")
+}
+
 /// Adds the text of a line, left of all columns, and a thin line from there on.
 fn push_row(
     alloc: Global,
@@ -63,9 +73,20 @@ fn push_row(
     let mut text = String::new(alloc);
     push_event(alloc, &mut text, event)?;
     write!(out, "<path class='l' d='M{GUTTER} {y}H{right}'/>")?;
-    write!(out, "<text class='n' x='54' y='{base}'>{line}</text><text x='62' y='{base}'>")?;
-    push_escaped(out, text.as_bytes())?;
+    write!(
+        out,
+        "<text class='n' x='54' y='{base}'>{line}</text><text x='62' y='{base}'>"
+    )?;
+    push_front(out, text.as_bytes())?;
     out.push_str("</text>")
+}
+
+/// Where the letters beside a mark stand, and their class: on the side that no arrow comes to.
+fn label_of(who: &Actor, axis: u64) -> (u64, &'static str) {
+    match who {
+        Actor::Node(_) => (axis.saturating_sub(10), "e"),
+        Actor::Client(_) => (axis.saturating_add(10), "t"),
+    }
 }
 
 /// Adds an event: its line's text, and its mark with a few letters beside it.
@@ -79,13 +100,18 @@ fn push_happened(
 ) -> Result<(), AllocError> {
     let at = &mark.from;
     push_row(alloc, out, frame, at, event)?;
-    let (x, y) = (frame.axis(&whose(event)), depth(at));
-    let (name, beside, base) = (shape(event, effect), x.saturating_add(10), y + 4);
+    let who = whose(event);
+    let (x, y) = (frame.axis(&who), depth(at));
+    let (name, base) = (shape(event, effect), y + 4);
+    let (beside, class) = label_of(&who, x);
     let mut label = String::new(alloc);
     push_label(&mut label, event, effect)?;
     out.push_str("<g>")?;
     push_title_of(alloc, out, mark)?;
-    write!(out, "<use href='#{name}' x='{x}' y='{y}'/><text x='{beside}' y='{base}'>")?;
+    write!(
+        out,
+        "<use href='#{name}' x='{x}' y='{y}'/><text class='{class}' x='{beside}' y='{base}'>"
+    )?;
     push_escaped(out, label.as_bytes())?;
     out.push_str("</text></g>\n")
 }
@@ -110,7 +136,10 @@ fn push_arrow(
     let (x1, x2) = sides(frame.axis(&says), frame.axis(&takes));
     let (y1, y2) = (depth(&mark.from), depth(&mark.upto));
     let (class, head) = arrow_class(message);
-    write!(out, "<path class='m {class}' marker-end='url(#{head})' d='M{x1} {y1}L{x2} {y2}'>")?;
+    write!(
+        out,
+        "<path class='m {class}' marker-end='url(#{head})' d='M{x1} {y1}L{x2} {y2}'>"
+    )?;
     push_title_of(alloc, out, mark)?;
     out.push_str("</path>\n")
 }
@@ -126,7 +155,11 @@ fn push_lost(
     let (says, takes) = ends_of(message);
     let (from, upto) = (frame.axis(&says), frame.axis(&takes));
     let (x1, _) = sides(from, upto);
-    let x2 = if from < upto { x1.saturating_add(34) } else { x1.saturating_sub(34) };
+    let x2 = if from < upto {
+        x1.saturating_add(34)
+    } else {
+        x1.saturating_sub(34)
+    };
     let y1 = depth(&mark.from);
     let y2 = y1 + HALF_ROW;
     let (class, _) = arrow_class(message);
@@ -160,18 +193,29 @@ fn push_bar(
     let y = depth(&mark.from);
     let height = depth(&mark.upto).saturating_sub(y);
     let class = bar_class(what);
-    write!(out, "<rect class='{class}' x='{x}' y='{y}' width='{width}' height='{height}'>")?;
+    write!(
+        out,
+        "<rect class='{class}' x='{x}' y='{y}' width='{width}' height='{height}'>"
+    )?;
     push_title_of(alloc, out, mark)?;
     out.push_str("</rect>\n")
 }
 
 /// Adds the line that does not go on.
-fn push_stop(alloc: Global, out: &mut String, frame: &Frame, mark: &Mark) -> Result<(), AllocError> {
+fn push_stop(
+    alloc: Global,
+    out: &mut String,
+    frame: &Frame,
+    mark: &Mark,
+) -> Result<(), AllocError> {
     let (y, right) = (depth(&mark.from), frame.width());
     let base = y + 16;
     let mut title = String::new(alloc);
     push_title(alloc, &mut title, mark)?;
-    write!(out, "<g><path class='x' d='M0 {y}H{right}'/><text class='u' x='12' y='{base}'>")?;
+    write!(
+        out,
+        "<g><path class='x' d='M0 {y}H{right}'/><text class='u' x='12' y='{base}'>"
+    )?;
     push_escaped(out, title.as_bytes())?;
     out.push_str("</text>")?;
     push_title_of(alloc, out, mark)?;
@@ -211,7 +255,10 @@ pub fn push_head(
     part: &Part,
 ) -> Result<(), AllocError> {
     let width = frame.width();
-    write!(out, "<svg xmlns='http://www.w3.org/2000/svg' id='picture' width='{width}'")?;
+    write!(
+        out,
+        "<svg xmlns='http://www.w3.org/2000/svg' id='picture' width='{width}'"
+    )?;
     if part.last < u32::MAX {
         let rows = part.last.saturating_sub(part.first).saturating_add(1);
         let height = TOP + BELOW + rows as u64 * (2 * HALF_ROW);
@@ -256,5 +303,8 @@ fn push_about(
 /// Memory was refused; then a beginning of it was added.
 pub fn push_end(out: &mut String, end: &Place) -> Result<(), AllocError> {
     let height = depth(end) + BELOW;
-    writeln!(out, "<set href='#picture' attributeName='height' to='{height}'/>\n</svg>")
+    writeln!(
+        out,
+        "<set href='#picture' attributeName='height' to='{height}'/>\n</svg>"
+    )
 }

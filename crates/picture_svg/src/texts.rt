@@ -156,11 +156,17 @@ pub(crate) fn push_title(alloc: Global, text: &mut String, mark: &Mark) -> Resul
         }
         Sign::Message(number, message) => {
             let word = coming_word(message);
-            write!(text, "message {number}, {message}: said at line {from}, {word} at line {upto}")
+            write!(
+                text,
+                "message {number}, {message}: said at line {from}, {word} at line {upto}"
+            )
         }
         Sign::Lost(number, message) => {
             let word = coming_word(message);
-            write!(text, "message {number}, {message}: said at line {from}, never {word}")
+            write!(
+                text,
+                "message {number}, {message}: said at line {from}, never {word}"
+            )
         }
         Sign::Ended(what) => {
             push_lasting(text, what)?;
@@ -176,7 +182,10 @@ pub(crate) fn push_title(alloc: Global, text: &mut String, mark: &Mark) -> Resul
         }
         Sign::Refused(fault) => {
             let number = fault.number();
-            write!(text, "line {from} does not go on: refused {number}, {fault}")
+            write!(
+                text,
+                "line {from} does not go on: refused {number}, {fault}"
+            )
         }
     }
 }

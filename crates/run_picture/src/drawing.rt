@@ -285,12 +285,7 @@ impl Drawer {
     }
 
     /// The drawer with these lists, where they are given, and a line more, where it is drawn.
-    fn with(
-        self,
-        actors: Option<Vec<Actor>>,
-        lasting: Option<Vec<Since>>,
-        drawn: bool,
-    ) -> Drawer
+    fn with(self, actors: Option<Vec<Actor>>, lasting: Option<Vec<Since>>, drawn: bool) -> Drawer
         requires { self.rows < MAX_ROWS }
         ensures { result ≡ record self { rows = self.rows + one_if drawn; about = or_same self.about actors; lasts = or_same self.lasts lasting } }
     {
@@ -304,7 +299,12 @@ impl Drawer {
     }
 
     /// What lasts behind the step, where it may be other things than before.
-    fn lasts_behind(&self, alloc: Global, step: &Step, at: &Place) -> Result<Option<Vec<Since>>, AllocError>
+    fn lasts_behind(
+        &self,
+        alloc: Global,
+        step: &Step,
+        at: &Place,
+    ) -> Result<Option<Vec<Since>>, AllocError>
         ensures { IfOk result (λ v. or_same self.now.lasts v ≡ lasts_after self.now (told step.now) at.now) }
     {
         if !may_change(&step.event) {

@@ -17,8 +17,8 @@
 mod asking;
 mod drawing;
 mod faults;
-pub mod laws;
 mod lasting;
+pub mod laws;
 mod marks;
 mod picking;
 mod saying;
