@@ -284,14 +284,14 @@ fn push_about(
 ) -> Result<(), AllocError> {
     let (nodes, clients, first, last) = (frame.nodes, frame.clients, part.first, part.last);
     let mut text = String::new(alloc);
-    write!(text, "A run: {nodes} nodes, {clients} clients")?;
+    write!(text, "A run. Nodes: {nodes}, clients: {clients}")?;
     if last < u32::MAX {
-        write!(text, ", lines {first} to {last}")?;
+        write!(text, ", lines: {first} to {last}")?;
     } else if first > 1 {
-        write!(text, ", from line {first}")?;
+        write!(text, ", lines: from {first} on")?;
     }
     if let Some(resource) = part.resource {
-        write!(text, ", resource {resource}")?;
+        write!(text, ", resource: {resource}")?;
     }
     push_escaped(out, text.as_bytes())
 }
