@@ -1,1 +1,2 @@
 pub mod DrawFacts
+pub mod TellFacts

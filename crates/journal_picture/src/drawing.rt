@@ -1,10 +1,10 @@
 // A journal, drawn line by line.
 
-use crate::Canvas;
 ghost use Rattle.std.specs.Prelude.{◌≡◌};
 ghost use Rattle.journal_audit.specs.Verdicts.{Finds};
 ghost use Rattle.journal_picture.specs.Drawings.{found, EndsAt, EndsMost};
 
+use crate::Canvas;
 use crate::ending::{Drawing, draw_end, draw_step};
 use crate::reading::{end_lines, read_piece};
 use history_check::laws::events_are_spelled_once;
@@ -16,6 +16,7 @@ use std::alloc::Global;
 use std::io::Read;
 use world_machine::World;
 use world_model::StepFault;
+use world_model::laws::said_numbers_fit;
 
 /// Ends the picture where the line of this number is refused.
 fn draw_refused<C: Canvas>(
@@ -78,6 +79,7 @@ pub fn draw_lines<R: Read, C: Canvas>(
     ensures verdict { Finds world source.old (found result) }
 {
     events_are_spelled_once();
+    said_numbers_fit();
     let mut world = world;
     let Ok(mut drawer) = Drawer::new(alloc, part, lasting) else {
         return Err(AuditFault::Memory);

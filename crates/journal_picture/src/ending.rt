@@ -1,6 +1,8 @@
 // The marks of a step and of the end, on a canvas.
 
-ghost use Rattle.std.specs.Prelude.{◌≡◌, IfErr};
+ghost use Rattle.std.specs.Prelude.{◌≡◌, ◌∷◌, [], IfOk, IfErr, OnOk};
+ghost use Rattle.run_picture.specs.Pictures.{marks_of_step, after_step};
+ghost use Rattle.journal_picture.specs.Histories.{with_more, told_of, SaidFits};
 ghost use Rattle.journal_picture.specs.Drawings.{StopsShort, EndsWith};
 
 use crate::telling::told_of;
@@ -30,7 +32,8 @@ fn canvas_fault(fault: CanvasFault) -> AuditFault
 
 /// Draws a mark.
 fn draw<C: Canvas>(canvas: &mut C, mark: &Mark) -> Result<(), AuditFault>
-    ensures { IfErr result StopsShort }
+    ensures drawn { OnOk result (C.drawn canvas.new ≡ with_more (mark.now ∷ []) (C.drawn canvas.old)) }
+    ensures fault { IfErr result StopsShort }
 {
     match canvas.draw(mark) {
         Ok(()) => Ok(()),
@@ -50,7 +53,8 @@ fn draw_some<C: Canvas>(canvas: &mut C, mark: Option<Mark>) -> Result<(), AuditF
 
 /// Draws marks, one after another.
 fn draw_all<C: Canvas>(canvas: &mut C, marks: &[Mark]) -> Result<(), AuditFault>
-    ensures { IfErr result StopsShort }
+    ensures drawn { OnOk result (C.drawn canvas.new ≡ with_more marks.now (C.drawn canvas.old)) }
+    ensures fault { IfErr result StopsShort }
 {
     for mark in marks {
         if let Err(fault) = draw(canvas, mark) {
@@ -69,7 +73,10 @@ fn take(
     event: &Event,
     effect: &Effect,
 ) -> Result<(Drawer, Vec<Mark>), AuditFault>
-    ensures { IfErr result StopsShort }
+    requires { SaidFits effect.now }
+    ensures marks { IfOk result (λ r. r.1.items ≡ marks_of_step drawer (told_of world.now line event.now effect.now)) }
+    ensures after { IfOk result (λ r. r.0 ≡ after_step drawer (told_of world.now line event.now effect.now)) }
+    ensures fault { IfErr result StopsShort }
 {
     let Ok(step) = told_of(alloc, world, line, event, effect) else {
         return Err(AuditFault::Memory);
@@ -91,7 +98,10 @@ pub(crate) fn draw_step<C: Canvas>(
     effect: &Effect,
     canvas: &mut C,
 ) -> Result<Drawer, AuditFault>
-    ensures { IfErr result StopsShort }
+    requires { SaidFits effect.now }
+    ensures drawn { OnOk result (C.drawn canvas.new ≡ with_more (marks_of_step drawer (told_of world.now line event.now effect.now)) (C.drawn canvas.old)) }
+    ensures after { IfOk result (λ d. d ≡ after_step drawer (told_of world.now line event.now effect.now)) }
+    ensures fault { IfErr result StopsShort }
 {
     let (drawer, marks) = match take(alloc, drawer, world, line, event, effect) {
         Ok(taken) => taken,
