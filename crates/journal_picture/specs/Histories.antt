@@ -1,5 +1,5 @@
 -- What a drawer is told of a step of the world.
-use Rattle.std.specs.Prelude.{◌≡◌, ℕ, ◌+◌, ◌<◌, ◌≤◌, List, [], ◌∷◌, ◌++◌, map, Option, Some, None}
+use Rattle.std.specs.Prelude.{◌≡◌, ℕ, ◌+◌, ◌<◌, ◌≤◌, List, [], ◌∷◌, ◌++◌, map, Option, Some, None, Result, Ok, Err}
 use Rattle.std.specs.List.{flat_map, range_with_len}
 use Rattle.std.specs.Option.{option_to_list}
 use Rattle.lock_messages.specs.declared.ids.Actor.{Actor}
@@ -15,7 +15,9 @@ use Rattle.world_model.specs.declared.events.Event.{Event}
 use Rattle.world_model.specs.declared.events.Event.TheVariants as event
 use Rattle.world_model.specs.declared.exact.ExactNode.{ExactNode}
 use Rattle.world_model.specs.declared.exact.ExactWorld.{ExactWorld}
-use Rattle.world_model.specs.ExactWorlds.{numbered}
+use Rattle.world_model.specs.ExactWorlds.{numbered, Steps, step}
+use Rattle.history_check.specs.declared.faults.LineFault.{LineFault}
+use Rattle.history_check.specs.Events.{event_of}
 use Rattle.world_model.specs.Views.{live_ticket, ticket_inside}
 use Rattle.run_picture.specs.declared.marks.Lasting.{Lasting}
 use Rattle.run_picture.specs.declared.marks.Lasting.TheVariants as lasting
@@ -103,3 +105,21 @@ lasts_in w (event.Switch n p) = []
 -- what is told of an event that was taken with this effect, in the world behind it
 abbrev pub told_of : ExactWorld → ℕ → Event → Effect → Told
 told_of w line e done = record { line = line; event = e; effect = done; said = said_in w done; lasting = lasts_in w e }
+
+-- The history that lines tell from a world on: each line that is an event which the world takes is a step, and
+-- the history ends where they don't go on.
+
+abbrev pub step_told : ℕ → Event → Steps → (ExactWorld → List Told) → List Told
+step_told line e (Err f) rest = []
+step_told line e (Ok s) rest = told_of s.world line e s.effect ∷ rest s.world
+
+abbrev pub line_told : ExactWorld → ℕ → Result Event LineFault → (ExactWorld → List Told) → List Told
+line_told w line (Err f) rest = []
+line_told w line (Ok e) rest = step_told line e (step w e) rest
+
+abbrev pub history_behind : ℕ → ExactWorld → List (List ℕ) → List Told
+history_behind taken w [] = []
+history_behind taken w (l ∷ ls) = line_told w (taken + 1) (event_of l) (λ v. history_behind (taken + 1) v ls)
+
+abbrev pub history_of : ExactWorld → List (List ℕ) → List Told
+history_of w lines = history_behind 0 w lines

@@ -1,8 +1,8 @@
 // A journal, drawn line by line.
 
-ghost use Rattle.std.specs.Prelude.{◌≡◌};
+ghost use Rattle.std.specs.Prelude.{◌≡◌, ◌≢◌, IfOk, IfErr};
 ghost use Rattle.journal_audit.specs.Verdicts.{Finds};
-ghost use Rattle.journal_picture.specs.Drawings.{found, EndsAt, EndsMost};
+ghost use Rattle.journal_picture.specs.Drawings.{found, found_beside, DrawsHistory};
 
 use crate::Canvas;
 use crate::ending::{Drawing, draw_end, draw_step};
@@ -18,42 +18,71 @@ use world_machine::World;
 use world_model::StepFault;
 use world_model::laws::said_numbers_fit;
 
-/// Ends the picture where the line of this number is refused.
-fn draw_refused<C: Canvas>(
-    alloc: Global,
-    drawer: &Drawer,
-    world: &World,
-    number: u32,
-    fault: StepFault,
-    canvas: &mut C,
-) -> Result<Drawing, AuditFault>
-    ensures { EndsAt number fault result }
+/// What is found where the line of this number is refused.
+fn refused(number: u32, fault: StepFault) -> Result<Verdict, AuditFault>
+    ensures verdict { IfOk result (λ v. (v ≡ Verdict.Unsound number (Cause.Refused fault)) × (fault ≢ StepFault.Memory)) }
+    ensures memory { IfErr result (λ e. e ≡ AuditFault.Memory) }
 {
     match fault {
         StepFault::Memory => Err(AuditFault::Memory),
-        _ => {
-            let verdict = Verdict::Unsound(number, Cause::Refused(fault));
-            draw_end(alloc, drawer, world, verdict, canvas)
-        }
+        _ => Ok(Verdict::Unsound(number, Cause::Refused(fault))),
     }
 }
 
-/// Ends the picture where as many lines were taken as a journal may have, if none is left.
-fn draw_most<R: Read, C: Canvas>(
+/// Draws the lines, up to the end or to the first that does not go on, and answers the drawer behind them,
+/// and the verdict.
+fn draw_steps<R: Read, C: Canvas>(
     alloc: Global,
-    drawer: &Drawer,
-    world: &World,
+    world: &mut World,
+    drawer: Drawer,
     source: &mut LineReader<R>,
-    piece: &mut Vec<u8>,
     canvas: &mut C,
-) -> Result<Drawing, AuditFault>
-    ensures { EndsMost source.old result }
+) -> Result<(Drawer, Verdict), AuditFault>
+    requires { Unit {0} }
+    ensures verdict { Finds world.old source.old (found_beside result) }
+    ensures drawn { DrawsHistory world.old drawer source.old (C.drawn canvas.old) (C.drawn canvas.new) result }
 {
-    let verdict = match end_lines(source, piece) {
-        Ok(verdict) => verdict,
-        Err(fault) => return Err(fault),
+    events_are_spelled_once();
+    said_numbers_fit();
+    let mut drawer = drawer;
+    let Ok(mut piece) = Vec::with_capacity(alloc, MAX_LINE_LEN + 1) else {
+        return Err(AuditFault::Memory);
     };
-    draw_end(alloc, drawer, world, verdict, canvas)
+    for taken in 0..MAX_LINES {
+        let end = match read_piece(source, &mut piece) {
+            Ok(end) => end,
+            Err(fault) => return Err(fault),
+        };
+        let line = piece.as_slice();
+        if end.ends_no_line(line) {
+            return Ok((drawer, Verdict::Sound(taken)));
+        }
+        let event = match read_event(line) {
+            Ok(event) => event,
+            Err(fault) => {
+                let verdict = Verdict::Unsound(taken + 1, Cause::Line(fault));
+                return Ok((drawer, verdict));
+            }
+        };
+        let effect = match world.step(&event) {
+            Ok(effect) => effect,
+            Err(fault) => match refused(taken + 1, fault) {
+                Ok(verdict) => return Ok((drawer, verdict)),
+                Err(fault) => return Err(fault),
+            },
+        };
+        drawer = match draw_step(alloc, drawer, world, taken + 1, &event, &effect, canvas) {
+            Ok(drawer) => drawer,
+            Err(fault) => return Err(fault),
+        };
+        if end.is_last() {
+            return Ok((drawer, Verdict::Sound(taken + 1)));
+        }
+    }
+    match end_lines(source, &mut piece) {
+        Ok(verdict) => Ok((drawer, verdict)),
+        Err(fault) => Err(fault),
+    }
 }
 
 /// Draws a part of what the lines that are left of an input do from this world on, in which this lasts.
@@ -78,44 +107,12 @@ pub fn draw_lines<R: Read, C: Canvas>(
     requires { Unit {0} }
     ensures verdict { Finds world source.old (found result) }
 {
-    events_are_spelled_once();
-    said_numbers_fit();
     let mut world = world;
-    let Ok(mut drawer) = Drawer::new(alloc, part, lasting) else {
+    let Ok(drawer) = Drawer::new(alloc, part, lasting) else {
         return Err(AuditFault::Memory);
     };
-    let Ok(mut piece) = Vec::with_capacity(alloc, MAX_LINE_LEN + 1) else {
-        return Err(AuditFault::Memory);
-    };
-    for taken in 0..MAX_LINES {
-        let end = match read_piece(source, &mut piece) {
-            Ok(end) => end,
-            Err(fault) => return Err(fault),
-        };
-        let line = piece.as_slice();
-        if end.ends_no_line(line) {
-            return draw_end(alloc, &drawer, &world, Verdict::Sound(taken), canvas);
-        }
-        let event = match read_event(line) {
-            Ok(event) => event,
-            Err(fault) => {
-                let verdict = Verdict::Unsound(taken + 1, Cause::Line(fault));
-                return draw_end(alloc, &drawer, &world, verdict, canvas);
-            }
-        };
-        let effect = match world.step(&event) {
-            Ok(effect) => effect,
-            Err(fault) => {
-                return draw_refused(alloc, &drawer, &world, taken + 1, fault, canvas);
-            }
-        };
-        drawer = match draw_step(alloc, drawer, &world, taken + 1, &event, &effect, canvas) {
-            Ok(drawer) => drawer,
-            Err(fault) => return Err(fault),
-        };
-        if end.is_last() {
-            return draw_end(alloc, &drawer, &world, Verdict::Sound(taken + 1), canvas);
-        }
+    match draw_steps(alloc, &mut world, drawer, source, canvas) {
+        Ok((drawer, verdict)) => draw_end(alloc, &drawer, &world, verdict, canvas),
+        Err(fault) => Err(fault),
     }
-    draw_most(alloc, &drawer, &world, source, &mut piece, canvas)
 }
