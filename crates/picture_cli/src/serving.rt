@@ -1,7 +1,7 @@
 // A journal and its settings, drawn.
 
-ghost use Rattle.std.specs.Prelude.{◌≡◌, length};
-ghost use Rattle.lock_messages.specs.declared.ids.TheConstants.{MAX_NODES};
+ghost use Rattle.std.specs.Prelude.{◌≡◌, ◌≤◌, length, IfOk};
+ghost use Rattle.lock_messages.specs.declared.ids.TheConstants.{MAX_NODES, MAX_CLIENTS};
 
 use crate::SvgCanvas;
 use journal_audit::{AuditFault, Verdict};
@@ -27,7 +27,9 @@ pub enum Shown {
 }
 
 /// The settings that the input begins with.
-fn settings_of<R: Read>(alloc: Global, source: &mut LineReader<R>) -> Result<Settings, StartFault> {
+fn settings_of<R: Read>(alloc: Global, source: &mut LineReader<R>) -> Result<Settings, StartFault>
+    ensures { IfOk result (λ s. (1 ≤ s.clients) × (s.clients ≤ MAX_CLIENTS)) }
+{
     let head = match read_head(alloc, source) {
         Ok(head) => head,
         Err(fault) => return Err(fault),
