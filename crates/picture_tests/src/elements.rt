@@ -23,8 +23,8 @@ const GREATEST: Frame = Frame {
 
 /// The marks of one message of a ticket, heard and lost, of the event in which it is heard, of the ticket's
 /// vote, and of an actor that is down.
-fn signs(node: NodeId, ticket: Ticket, number: u32) -> [Sign; 6] {
-    let grant = Message::Grant(node, ticket);
+fn signs(node: &NodeId, ticket: &Ticket, number: u32) -> [Sign; 6] {
+    let grant = Message::Grant(*node, *ticket);
     [
         Sign::Event(
             Event::Hear(ticket.client, number),
@@ -32,21 +32,20 @@ fn signs(node: NodeId, ticket: Ticket, number: u32) -> [Sign; 6] {
         ),
         Sign::Message(number, grant),
         Sign::Lost(number, grant),
-        Sign::Ended(Lasting::Holding(node, ticket)),
-        Sign::Open(Lasting::Inside(ticket)),
-        Sign::Ended(Lasting::Down(Actor::Node(node))),
+        Sign::Ended(Lasting::Holding(*node, *ticket)),
+        Sign::Open(Lasting::Inside(*ticket)),
+        Sign::Ended(Lasting::Down(Actor::Node(*node))),
     ]
 }
 
-/// How many of the signs are spelled with a title, which says this and stands right behind a tag's end.
-fn titled(
+/// Whether each of the signs is spelled with a title, right behind a tag's end.
+fn are_titled(
     alloc: Global,
     frame: &Frame,
     signs: &[Sign],
     from: Place,
     upto: Place,
-) -> Result<usize, Failure> {
-    let mut count = 0;
+) -> Result<bool, Failure> {
     for sign in signs {
         let mut out = String::new(alloc);
         let mark = Mark {
@@ -55,11 +54,11 @@ fn titled(
             upto,
         };
         push_mark(alloc, &mut out, frame, &mark)?;
-        if out.as_str().find("><title>").is_some() && out.as_str().find("</title>").is_some() {
-            count += 1;
+        if out.as_str().find("><title>").is_none() || out.as_str().find("</title>").is_none() {
+            return Ok(false);
         }
     }
-    Ok(count)
+    Ok(true)
 }
 
 /// A ticket of this client, attempt and resource.
@@ -89,24 +88,26 @@ fn node(number: u8) -> Result<NodeId, Failure> {
 /// Each mark of the least numbers has a title.
 #[test]
 fn least_marks(rt: HostRuntime) -> Outcome {
-    let signs = signs(node(1)?, ticket(1, 1, b"a")?, 1);
+    let (node, ticket) = (node(1)?, ticket(1, 1, b"a")?);
+    let signs = signs(&node, &ticket, 1);
     let place = Place { line: 1, height: 1 };
-    let count = titled(rt.alloc(), &LEAST, &signs, place, place)?;
-    check(count == 6)
+    let titled = are_titled(rt.alloc(), &LEAST, &signs, place, place)?;
+    check(titled)
 }
 
 /// So has each mark of the greatest.
 #[test]
 fn greatest_marks(rt: HostRuntime) -> Outcome {
     let ticket = ticket(1024, MAX_ATTEMPT, b"abcdefghijklmnopqrstuvwxyz-01234")?;
-    let signs = signs(node(16)?, ticket, 1_048_576);
+    let node = node(16)?;
+    let signs = signs(&node, &ticket, 1_048_576);
     let upto = Place {
         line: 4_194_304,
         height: 8_388_607,
     };
     let from = Place { line: 0, height: 0 };
-    let count = titled(rt.alloc(), &GREATEST, &signs, from, upto)?;
-    check(count == 6)
+    let titled = are_titled(rt.alloc(), &GREATEST, &signs, from, upto)?;
+    check(titled)
 }
 
 /// Rows of a line that does not go on, and what is said of it.
