@@ -8,7 +8,7 @@ use lock_model::Heard;
 use picture_svg::{Frame, push_end, push_head, push_mark};
 use run_picture::{Lasting, Mark, Part, Place, Sign};
 use std::alloc::Global;
-use test_outcomes::{Failure, Outcome, check, check_row};
+use test_outcomes::{Failure, Outcome, check_row};
 use world_model::{Effect, Event, StepFault};
 
 const LEAST: Frame = Frame {
@@ -21,44 +21,30 @@ const GREATEST: Frame = Frame {
     clients: 1024,
 };
 
-/// The marks of one message of a ticket, heard and lost, of the event in which it is heard, of the ticket's
-/// vote, and of an actor that is down.
-fn signs(node: &NodeId, ticket: &Ticket, number: u32) -> [Sign; 6] {
-    let grant = Message::Grant(*node, *ticket);
-    [
-        Sign::Event(
+/// How many signs of a ticket are tried.
+const SIGNS: usize = 6;
+
+/// One of the signs of a ticket: a message of it, heard or lost, the event in which it is heard, the ticket's
+/// vote, that it is inside, and that its node is down.
+fn sign_of(index: usize, node: &NodeId, ticket: &Ticket, number: u32) -> Sign {
+    match index {
+        0 => Sign::Event(
             Event::Hear(ticket.client, number),
-            Effect::Heard(grant, Heard::NotMine),
+            Effect::Heard(Message::Grant(*node, *ticket), Heard::NotMine),
         ),
-        Sign::Message(number, grant),
-        Sign::Lost(number, grant),
-        Sign::Ended(Lasting::Holding(*node, *ticket)),
-        Sign::Open(Lasting::Inside(*ticket)),
-        Sign::Ended(Lasting::Down(Actor::Node(*node))),
-    ]
+        1 => Sign::Message(number, Message::Grant(*node, *ticket)),
+        2 => Sign::Lost(number, Message::Grant(*node, *ticket)),
+        3 => Sign::Ended(Lasting::Holding(*node, *ticket)),
+        4 => Sign::Open(Lasting::Inside(*ticket)),
+        _ => Sign::Ended(Lasting::Down(Actor::Node(*node))),
+    }
 }
 
-/// Whether each of the signs is spelled with a title, right behind a tag's end.
-fn are_titled(
-    alloc: Global,
-    frame: &Frame,
-    signs: &[Sign],
-    from: Place,
-    upto: Place,
-) -> Result<bool, Failure> {
-    for sign in signs {
-        let mut out = String::new(alloc);
-        let mark = Mark {
-            sign: *sign,
-            from,
-            upto,
-        };
-        push_mark(alloc, &mut out, frame, &mark)?;
-        if out.as_str().find("><title>").is_none() || out.as_str().find("</title>").is_none() {
-            return Ok(false);
-        }
-    }
-    Ok(true)
+/// Whether a mark is spelled with a title, right behind a tag's end.
+fn is_titled(alloc: Global, frame: &Frame, mark: &Mark) -> Result<bool, Failure> {
+    let mut out = String::new(alloc);
+    push_mark(alloc, &mut out, frame, mark)?;
+    Ok(out.as_str().find("><title>").is_some() && out.as_str().find("</title>").is_some())
 }
 
 /// A ticket of this client, attempt and resource.
@@ -89,25 +75,38 @@ fn node(number: u8) -> Result<NodeId, Failure> {
 #[test]
 fn least_marks(rt: HostRuntime) -> Outcome {
     let (node, ticket) = (node(1)?, ticket(1, 1, b"a")?);
-    let signs = signs(&node, &ticket, 1);
     let place = Place { line: 1, height: 1 };
-    let titled = are_titled(rt.alloc(), &LEAST, &signs, place, place)?;
-    check(titled)
+    for index in 0..SIGNS {
+        let mark = Mark {
+            sign: sign_of(index, &node, &ticket, 1),
+            from: place,
+            upto: place,
+        };
+        let titled = is_titled(rt.alloc(), &LEAST, &mark)?;
+        check_row(titled, index)?;
+    }
+    Ok(())
 }
 
 /// So has each mark of the greatest.
 #[test]
 fn greatest_marks(rt: HostRuntime) -> Outcome {
-    let ticket = ticket(1024, MAX_ATTEMPT, b"abcdefghijklmnopqrstuvwxyz-01234")?;
     let node = node(16)?;
-    let signs = signs(&node, &ticket, 1_048_576);
+    let ticket = ticket(1024, MAX_ATTEMPT, b"abcdefghijklmnopqrstuvwxyz-01234")?;
     let upto = Place {
         line: 4_194_304,
         height: 8_388_607,
     };
-    let from = Place { line: 0, height: 0 };
-    let titled = are_titled(rt.alloc(), &GREATEST, &signs, from, upto)?;
-    check(titled)
+    for index in 0..SIGNS {
+        let mark = Mark {
+            sign: sign_of(index, &node, &ticket, 1_048_576),
+            from: Place { line: 0, height: 0 },
+            upto,
+        };
+        let titled = is_titled(rt.alloc(), &GREATEST, &mark)?;
+        check_row(titled, index)?;
+    }
+    Ok(())
 }
 
 /// Rows of a line that does not go on, and what is said of it.
