@@ -1,0 +1,2 @@
+pub mod DrawFacts
+pub mod TellFacts

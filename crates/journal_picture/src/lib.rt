@@ -1,0 +1,22 @@
+//! The picture of a journal: each line is taken in the world, and what it did is drawn.
+//!
+//! `draw_lines` reads a journal line by line, as an audit does, and ends where an audit would: at the end, or at
+//! the first line that is no event or that the world refuses. Each step is told to a `Drawer`, and each
+//! mark goes onto a `Canvas`, one after another. It keeps the world, one line, and what a `Drawer` keeps.
+//!
+//! The crate promises that the verdict is the one that an audit of the same lines has to find.
+//!
+//! It stands on `journal_audit` for what a verdict is, `history_check` for lines, `line_streams`,
+//! `run_picture`, `stable_record` for what a node has kept, `world_machine`, `world_model`, `lock_model`,
+//! `lock_messages` and `thiserror`.
+#![tactic(auto)]
+
+mod canvases;
+mod drawing;
+mod ending;
+mod reading;
+mod telling;
+
+pub use canvases::{Canvas, CanvasFault};
+pub use drawing::draw_lines;
+pub use ending::Drawing;

@@ -1,0 +1,25 @@
+//! How a picture of a run is spelled as SVG: a head, a text for each mark, and an end.
+//!
+//! Time goes down, a column for each actor, nodes first. Each mark is one element with a `<title>` of its
+//! own, which a browser shows at the pointer. The texts are made one after another, and none of them is
+//! looked at again: how high the picture is stands in its end, where it isn't known before.
+//!
+//! Between two tags, and in quotes, no text stands but by `push_escaped`, whose contract says what becomes
+//! of each byte: so nothing that a name could have ends a text or an attribute. Beyond that the crate
+//! promises that it is safe and returns; how marks look is tested.
+//!
+//! It stands on `run_picture`, `history_check` for the text of an event, `world_model`, `lock_model` and
+//! `lock_messages`.
+#![tactic(auto)]
+
+mod escaping;
+mod frames;
+pub mod laws;
+mod legends;
+mod shapes;
+mod spelling;
+mod texts;
+
+pub use escaping::push_escaped;
+pub use frames::Frame;
+pub use spelling::{push_end, push_head, push_mark};

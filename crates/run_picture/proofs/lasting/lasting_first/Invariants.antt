@@ -1,0 +1,7 @@
+use Rattle.std.proofs.Common.{◌≡◌, ◌++◌, ◌&&◌, not, map, take, ℕ, List}
+use Rattle.std.specs.List.{filter, flat_map, list_any}
+use Rattle.run_picture.specs.Pictures.{wants_lasting, since_here}
+use Rattle.run_picture.proofs.lasting.lasting_first.Given as goal
+
+abbrev pub invariant-loop-what : goal.invariant-loop-what
+invariant-loop-what l = l.lasts.items ≡ map (since_here l.at) (filter (wants_lasting l.part) (take l.what-index l.told))

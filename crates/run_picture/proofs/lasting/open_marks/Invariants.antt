@@ -1,0 +1,7 @@
+use Rattle.std.proofs.Common.{◌≡◌, ◌++◌, ◌&&◌, not, map, take, ℕ, List}
+use Rattle.std.specs.List.{filter, flat_map, list_any}
+use Rattle.run_picture.specs.Pictures.{open_mark}
+use Rattle.run_picture.proofs.lasting.open_marks.Given as goal
+
+abbrev pub invariant-loop-one : goal.invariant-loop-one
+invariant-loop-one l = l.marks.items ≡ flat_map (open_mark l.at) (take l.one-index l.lasts)

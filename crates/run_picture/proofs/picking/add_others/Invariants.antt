@@ -1,0 +1,7 @@
+use Rattle.std.proofs.Common.{◌≡◌, ◌++◌, ◌&&◌, not, map, take, ℕ, List}
+use Rattle.std.specs.List.{filter, flat_map, list_any}
+use Rattle.run_picture.specs.Pictures.{others}
+use Rattle.run_picture.proofs.picking.add_others.Given as goal
+
+abbrev pub invariant-loop-other : goal.invariant-loop-other
+invariant-loop-other l = l.found.items ≡ l.fn.found.items ++ others l.who (take l.other-index l.actors)

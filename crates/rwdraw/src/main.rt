@@ -1,0 +1,42 @@
+//! The program `rwdraw`: it makes the policies that nodes decide by, and is one call of `picture_cli`, whose root
+//! says what is written and which status comes back. It stands on `picture_cli`, `operator_cli`,
+//! `admission_policy`, `lock_messages` and `lock_model`.
+#![tactic(auto)]
+
+mod supplies;
+
+use crate::supplies::{add_pair, no_policies};
+use admission_policy::{FirstProblem, SecondProblem};
+use lock_messages::MAX_NODES;
+use std::process::ExitCode;
+use std::{env, io};
+
+/// Ends the program where there is no memory for policies.
+fn end_without_memory(rt: &HostRuntime) -> ExitCode {
+    ExitCode::from(picture_cli::end_without_memory(&mut rt.stderr()))
+}
+
+fn main(rt: HostRuntime) -> ExitCode {
+    let alloc = rt.alloc();
+    let mut policies = no_policies(alloc);
+    for _ in 0..MAX_NODES {
+        let Ok(first) = Box::new(alloc, FirstProblem) else {
+            return end_without_memory(&rt);
+        };
+        let Ok(second) = Box::new(alloc, SecondProblem) else {
+            return end_without_memory(&rt);
+        };
+        let Ok(()) = add_pair(&mut policies, first, second) else {
+            return end_without_memory(&rt);
+        };
+    }
+    let status = picture_cli::run(
+        alloc,
+        env::args(&rt),
+        policies,
+        rt.reader(),
+        io::writer(&rt),
+        &mut rt.stderr(),
+    );
+    ExitCode::from(status)
+}
