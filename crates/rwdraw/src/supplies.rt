@@ -1,6 +1,6 @@
 // The list that the program fills with policies.
 
-ghost use Rattle.std.specs.Prelude.{◌≡◌, [], ◌∷◌, ◌++◌, OnOk};
+ghost use Rattle.std.specs.Prelude.{◌≡◌, [], ◌∷◌, ◌++◌, Some, OnOk};
 ghost use Rattle.lock_model.specs.declared.problems.Problem.TheVariants.{First, Second};
 
 use admission_policy::{Admission, Pair};
@@ -24,7 +24,7 @@ pub(crate) fn add_pair(
 ) -> Result<(), AllocError>
     requires first { problem_of first ≡ First }
     requires second { problem_of second ≡ Second }
-    ensures { OnOk result (policies.new.pairs.items ≡ policies.old.pairs.items ++ record { first = first; second = second } ∷ []) }
+    ensures { OnOk result (policies.new.pairs.items ≡ policies.old.pairs.items ++ record { first = Some first; second = Some second } ∷ []) }
 {
     if policies.pairs.push(Pair::of(first, second)).is_err() {
         return Err(AllocError);
