@@ -3,8 +3,9 @@
 //! What the contracts say is proved, and is not tried here again. Tried is each cause for which records
 //! are refused, on each kind of actor and two causes at once, with the policies that come back; what a
 //! world is that was opened; and, in small runs, each call of a node and of a client by itself, each
-//! query of a world, and that a copy of a world and the world itself go on apart. The crate has no code but tests; each file is named for what it shows. A test that
-//! fails names the row of its table, or says that memory was refused.
+//! query of a world, that a copy of a world and the world itself go on apart, and that a way in leads in.
+//! The crate has no code but tests; each file is named for what it shows. A test that fails names the row of
+//! its table, or says that memory was refused.
 #![tactic(auto)]
 
 #[cfg(test)]
@@ -33,3 +34,5 @@ mod steps;
 mod switching;
 #[cfg(test)]
 mod values;
+#[cfg(test)]
+mod ways_in;

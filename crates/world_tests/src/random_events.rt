@@ -14,13 +14,13 @@ use world_machine::World;
 use world_model::{Age, Effect, Event, StepFault};
 
 /// The seed of the events.
-const SEED: u64 = 23;
+pub(crate) const SEED: u64 = 23;
 
 /// The events that are tried; more than 3,000 of them are taken.
 const TURNS: u32 = 14_000;
 
 /// Two ballots of unlike votes, each two of which cross.
-fn ballots() -> Result<BallotList, Failure> {
+pub(crate) fn ballots() -> Result<BallotList, Failure> {
     let Ok(first) = Ballot::of(&[3, 1, 2, 0, 1], 3, 5) else {
         return Err(Failure::Wrong(0));
     };
@@ -34,8 +34,11 @@ fn ballots() -> Result<BallotList, Failure> {
 }
 
 /// A world of nodes with unlike votes, all down under this problem, nothing kept.
-fn new_world(alloc: Global, problem: Problem) -> Result<World, Failure> {
-    let ballots = ballots()?;
+pub(crate) fn new_world(
+    alloc: Global,
+    problem: Problem,
+    ballots: BallotList,
+) -> Result<World, Failure> {
     let pairs = plain_pairs(alloc, NODES)?;
     if pairs.len() != ballots.nodes() as usize {
         return Err(Failure::Wrong(0));
@@ -47,7 +50,7 @@ fn new_world(alloc: Global, problem: Problem) -> Result<World, Failure> {
 }
 
 /// All actors rise.
-fn raise(world: &mut World) -> Outcome {
+pub(crate) fn raise(world: &mut World) -> Outcome {
     for number in 0..NODES as u32 {
         let node = node(number)?;
         world.step(&Event::Rise(Actor::Node(node), Age::Old))?;
@@ -112,8 +115,8 @@ fn is_settled(world: &World, problem: Problem, node: NodeId, number: u32) -> Res
 /// What a run has seen: the messages sent, the events taken, the entries, the writers that softened, and the
 /// nodes that took another problem.
 #[derive(Clone, Copy)]
-struct Seen {
-    sent: u32,
+pub(crate) struct Seen {
+    pub(crate) sent: u32,
     taken: u32,
     entered: u32,
     softened: u32,
@@ -178,27 +181,46 @@ fn seen_after(world: &mut World, event: &Event, seen: Seen) -> Result<Seen, Fail
     }
 }
 
+/// Before the first event.
+pub(crate) const NOTHING: Seen = Seen {
+    sent: 0,
+    taken: 0,
+    entered: 0,
+    softened: 0,
+    switched: 0,
+};
+
+/// Tries the event of a turn: what is seen then, and the node that was to take a message last.
+pub(crate) fn goes_on(
+    words: &mut Pcg32,
+    world: &mut World,
+    turn: u32,
+    last: NodeId,
+    seen: Seen,
+) -> Result<(Seen, NodeId), Failure> {
+    let Ok(event) = event_of_turn(words, world, turn, last, seen.sent) else {
+        return Err(Failure::Wrong(0));
+    };
+    let next = match event {
+        Event::Take(node, _) | Event::Switch(node, _) => node,
+        _ => last,
+    };
+    let after = seen_after(world, &event, seen)?;
+    Ok((after, next))
+}
+
 /// What a run sees that begins under this problem.
 fn run(alloc: Global, problem: Problem) -> Result<Seen, Failure> {
-    let mut world = new_world(alloc, problem)?;
+    let ballots = ballots()?;
+    let mut world = new_world(alloc, problem, ballots)?;
     raise(&mut world)?;
     let mut words = Pcg32::new(SEED, 1);
     let mut last = node(0)?;
-    let mut seen = Seen {
-        sent: 0,
-        taken: 0,
-        entered: 0,
-        softened: 0,
-        switched: 0,
-    };
+    let mut seen = NOTHING;
     for turn in 0..TURNS {
-        let Ok(event) = event_of_turn(&mut words, &world, turn, last, seen.sent) else {
-            return Err(Failure::Wrong(0));
-        };
-        if let Event::Take(node, _) | Event::Switch(node, _) = event {
-            last = node;
-        }
-        seen = seen_after(&mut world, &event, seen)?;
+        let (after, next) = goes_on(&mut words, &mut world, turn, last, seen)?;
+        seen = after;
+        last = next;
         look(&world, last)?;
         look(&world, node(turn)?)?;
     }
