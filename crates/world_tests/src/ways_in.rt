@@ -260,7 +260,11 @@ fn inside_already(rt: HostRuntime) -> Outcome {
 
 /// Whether there is no way in, and this is why.
 fn has_none(world: &World, want: &Want, fault: StepFault) -> Outcome {
-    check(world.way_in(want) == Err(fault))
+    match world.way_in(want) {
+        Err(found) if found == fault => Ok(()),
+        Err(found) => Err(Failure::from(found)),
+        Ok(_) => Err(Failure::Wrong(0)),
+    }
 }
 
 /// No such client, or no such place; of both the client is told.
