@@ -108,18 +108,6 @@ fn first_reader(rt: HostRuntime) -> Outcome {
     check(said.as_slice() == [grant].as_slice() && one.may_take() == Ok(()))
 }
 
-/// A copy of n1 keeps what it tries to keep and says it; n1 itself still tries.
-#[test]
-fn copy_goes_on_alone(rt: HostRuntime) -> Outcome {
-    let grant = Message::Grant(node(1)?, ticket(1, Mode::Read)?);
-    let one = trying(rt.alloc())?;
-    let mut copy = one.copy(plain(rt.alloc())?)?;
-    copy.keep()?;
-    let said = copy.say()?;
-    check(said.as_slice() == [grant].as_slice() && copy.kept().entries.len() == 1)?;
-    check(one.kept().entries.is_empty() && one.replies() == Err(StepFault::NotStored))
-}
-
 #[test]
 fn restart_with_old_record(rt: HostRuntime) -> Outcome {
     let one = restarted(rt.alloc(), Age::Old)?;

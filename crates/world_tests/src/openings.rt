@@ -154,7 +154,11 @@ fn two_causes_at_once(rt: HostRuntime) -> Outcome {
 }
 
 /// The world of these records.
-pub(crate) fn world_of(alloc: Global, nodes: &[Vec<u8>], clients: &[Vec<u8>]) -> Result<World, Failure> {
+pub(crate) fn world_of(
+    alloc: Global,
+    nodes: &[Vec<u8>],
+    clients: &[Vec<u8>],
+) -> Result<World, Failure> {
     match resumed(alloc, nodes, clients)? {
         Ok(world) => Ok(world),
         Err(_) => Err(Failure::Wrong(0)),
