@@ -1,6 +1,6 @@
 // Why an event or a query is refused, in words.
 
-use crate::stages::{Stages, actor_of};
+use crate::stages::Stages;
 use lock_messages::Actor;
 use std::alloc::AllocError;
 use vote_weights::BallotList;
@@ -17,7 +17,7 @@ pub struct Scene<'a> {
 
 /// Adds what the event's actor does, which is why it can't do that.
 fn push_phase(text: &mut String, scene: Scene<'_>, event: &Event) -> Result<(), AllocError> {
-    match actor_of(event) {
+    match event.actor() {
         Actor::Node(id) => match scene.stages.node(id) {
             Some(phase) => write!(text, "{phase}"),
             None => write!(text, "{}", StepFault::WrongPhase),

@@ -165,22 +165,6 @@ impl ClientStage {
     }
 }
 
-/// Whose turn an event is.
-pub fn actor_of(event: &Event) -> Actor {
-    match *event {
-        Event::Begin(client, ..)
-        | Event::SayTo(client, _)
-        | Event::Hear(client, _)
-        | Event::Enter(client)
-        | Event::Leave(client)
-        | Event::Soften(client) => Actor::Client(client),
-        Event::Say(node) | Event::Take(node, _) | Event::Switch(node, _) => Actor::Node(node),
-        Event::Try(actor) | Event::Kept(actor) | Event::Fall(actor) | Event::Rise(actor, _) => {
-            actor
-        }
-    }
-}
-
 /// Where all actors stand, and how many messages were sent.
 #[derive(Drop)]
 pub struct Stages {
@@ -212,7 +196,7 @@ impl Stages {
             Effect::Said { count, .. } => self.sent = self.sent.saturating_add(count),
             _ => {}
         }
-        match actor_of(event) {
+        match event.actor() {
             Actor::Node(id) => {
                 let place = id.get() as usize - 1;
                 if place < self.nodes.len() {

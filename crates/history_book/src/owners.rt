@@ -2,33 +2,11 @@
 
 ghost use Rattle.std.specs.Prelude.{◌≡◌};
 ghost use Rattle.berth_seats.specs.Views.{is_given};
-ghost use Rattle.world_model.specs.ExactWorlds.{actor_of};
 ghost use Rattle.world_model.specs.Parts.{is_own, place};
 ghost use Rattle.history_book.specs.Books.{enters_by};
 
 use lock_messages::Actor;
 use world_model::Event;
-
-/// Whose event it is.
-fn whose(event: Event) -> Actor
-    ensures { result ≡ actor_of event }
-{
-    match event {
-        Event::Begin(c, _, _, _) => Actor::Client(c),
-        Event::Try(who) => who,
-        Event::Kept(who) => who,
-        Event::SayTo(c, _) => Actor::Client(c),
-        Event::Say(n) => Actor::Node(n),
-        Event::Take(n, _) => Actor::Node(n),
-        Event::Hear(c, _) => Actor::Client(c),
-        Event::Enter(c) => Actor::Client(c),
-        Event::Leave(c) => Actor::Client(c),
-        Event::Soften(c) => Actor::Client(c),
-        Event::Fall(who) => who,
-        Event::Rise(who, _) => who,
-        Event::Switch(n, _) => Actor::Node(n),
-    }
-}
 
 /// Whether the actor is among these.
 pub(crate) fn has_given(given: &[Actor], actor: Actor) -> bool
@@ -63,7 +41,7 @@ pub(crate) fn enters_by(event: &Event) -> u32
 pub(crate) fn is_of(actor: Actor, event: Event) -> bool
     ensures { result ≡ is_own actor event }
 {
-    place(whose(event)) == place(actor)
+    place(event.actor()) == place(actor)
 }
 
 /// A number for each actor, of which no other has the same.

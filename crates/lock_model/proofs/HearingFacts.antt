@@ -22,17 +22,19 @@ node-from nodes n h = and_from (leb 1 n) (leb n nodes) (le-leb 1 n h.0) (le-leb 
 node-to : (nodes : ℕ) (n : ℕ) → is_node_of nodes n ≡ true → IsNodeOf nodes n
 node-to nodes n h = let p = and_parts (leb 1 n) (leb n nodes) h in (leb-true 1 n p.0, leb-true n nodes p.1)
 
-mode-to : (a b : Mode) → same_mode a b ≡ true → a ≡ b
+-- the tests of modes and tickets are as they should be
+
+pub mode-to : (a b : Mode) → same_mode a b ≡ true → a ≡ b
 mode-to Read Read h = refl
 mode-to Read Write h = cc
 mode-to Write Read h = cc
 mode-to Write Write h = refl
 
-mode-self : (a : Mode) → same_mode a a ≡ true
+pub mode-self : (a : Mode) → same_mode a a ≡ true
 mode-self Read = refl
 mode-self Write = refl
 
-ticket-to : (t u : Ticket) → same_ticket t u ≡ true → t ≡ u
+pub ticket-to : (t u : Ticket) → same_ticket t u ≡ true → t ≡ u
 ticket-to t u h =
     let p = and_parts (t.client == u.client) ((t.attempt == u.attempt) && (same_mode t.mode u.mode && bytes_eq t.resource u.resource)) h in
     let q = and_parts (t.attempt == u.attempt) (same_mode t.mode u.mode && bytes_eq t.resource u.resource) p.1 in
@@ -42,7 +44,7 @@ ticket-to t u h =
     ∙ ap (λ m. record { client = u.client; attempt = u.attempt; mode = m; resource = t.resource }) (mode-to t.mode u.mode r.0)
     ∙ ap (λ x. record { client = u.client; attempt = u.attempt; mode = u.mode; resource = x }) ((bytes_eq-Decides t.resource u.resource).0 r.1)
 
-ticket-self : (t : Ticket) → same_ticket t t ≡ true
+pub ticket-self : (t : Ticket) → same_ticket t t ≡ true
 ticket-self t =
     and_from (t.client == t.client) ((t.attempt == t.attempt) && (same_mode t.mode t.mode && bytes_eq t.resource t.resource)) ((Decides-eqb t.client t.client).1 refl)
     (and_from (t.attempt == t.attempt) (same_mode t.mode t.mode && bytes_eq t.resource t.resource) ((Decides-eqb t.attempt t.attempt).1 refl)

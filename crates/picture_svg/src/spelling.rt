@@ -19,20 +19,6 @@ fn push_title_of(alloc: Global, out: &mut String, mark: &Mark) -> Result<(), All
     out.push_str("</title>")
 }
 
-/// Whose an event is.
-fn whose(event: &Event) -> Actor {
-    match *event {
-        Event::Begin(client, _, _, _) | Event::SayTo(client, _) | Event::Hear(client, _) => {
-            Actor::Client(client)
-        }
-        Event::Enter(client) | Event::Leave(client) | Event::Soften(client) => {
-            Actor::Client(client)
-        }
-        Event::Try(who) | Event::Kept(who) | Event::Fall(who) | Event::Rise(who, _) => who,
-        Event::Say(node) | Event::Take(node, _) | Event::Switch(node, _) => Actor::Node(node),
-    }
-}
-
 /// Who says a message, and who takes or hears it.
 fn ends_of(message: &Message) -> (Actor, Actor) {
     match *message {
@@ -100,7 +86,7 @@ fn push_happened(
 ) -> Result<(), AllocError> {
     let at = &mark.from;
     push_row(alloc, out, frame, at, event)?;
-    let who = whose(event);
+    let who = event.actor();
     let (x, y) = (frame.axis(&who), depth(at));
     let (name, base) = (shape(event, effect), y + 4);
     let (beside, class) = label_of(&who, x);

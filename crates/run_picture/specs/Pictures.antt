@@ -7,9 +7,8 @@ use Rattle.lock_messages.specs.declared.ids.Actor.{Actor}
 use Rattle.lock_messages.specs.declared.ids.Actor.TheVariants as actor
 use Rattle.lock_messages.specs.declared.messages.Message.{Message}
 use Rattle.lock_messages.specs.declared.messages.Message.TheVariants as message
-use Rattle.lock_messages.specs.declared.tickets.Mode.{Mode}
-use Rattle.lock_messages.specs.declared.tickets.Mode.TheVariants.{Read, Write}
 use Rattle.lock_messages.specs.declared.tickets.Ticket.{Ticket}
+use Rattle.lock_model.specs.ExactHearing.{same_ticket}
 use Rattle.world_model.specs.declared.events.Effect.{Effect}
 use Rattle.world_model.specs.declared.events.Effect.TheVariants as effect
 use Rattle.world_model.specs.declared.events.Event.{Event}
@@ -48,15 +47,6 @@ same_actor a b = place a == place b
 -- the actor is among these
 abbrev pub is_among : List Actor → Actor → Bool
 is_among actors who = list_any (same_actor who) actors
-
-abbrev pub same_mode : Mode → Mode → Bool
-same_mode Read Read = true
-same_mode Read Write = false
-same_mode Write Read = false
-same_mode Write Write = true
-
-abbrev pub same_ticket : Ticket → Ticket → Bool
-same_ticket t u = (t.client == u.client) && ((t.attempt == u.attempt) && (same_mode t.mode u.mode && bytes_eq t.resource u.resource))
 
 -- of whom this lasts
 abbrev pub whose : Lasting → Actor

@@ -1,34 +1,14 @@
-// Whose an event is, and what is alike.
+// What an event may change, and what is alike.
 
 ghost use Rattle.std.specs.Prelude.{◌≡◌};
-ghost use Rattle.world_model.specs.ExactWorlds.{actor_of};
+ghost use Rattle.lock_model.specs.ExactDecisions.{same_mode};
+ghost use Rattle.lock_model.specs.ExactHearing.{same_ticket};
 ghost use Rattle.world_model.specs.Parts.{place};
-ghost use Rattle.run_picture.specs.Pictures.{whose, same_actor, same_mode, same_ticket, same_lasting, may_change};
+ghost use Rattle.run_picture.specs.Pictures.{whose, same_actor, same_lasting, may_change};
 
 use crate::Lasting;
 use lock_messages::{Actor, Mode, Ticket};
 use world_model::Event;
-
-/// Whose event it is.
-pub(crate) fn actor_of(event: &Event) -> Actor
-    ensures { result ≡ actor_of event.now }
-{
-    match *event {
-        Event::Begin(c, _, _, _) => Actor::Client(c),
-        Event::Try(who) => who,
-        Event::Kept(who) => who,
-        Event::SayTo(c, _) => Actor::Client(c),
-        Event::Say(n) => Actor::Node(n),
-        Event::Take(n, _) => Actor::Node(n),
-        Event::Hear(c, _) => Actor::Client(c),
-        Event::Enter(c) => Actor::Client(c),
-        Event::Leave(c) => Actor::Client(c),
-        Event::Soften(c) => Actor::Client(c),
-        Event::Fall(who) => who,
-        Event::Rise(who, _) => who,
-        Event::Switch(n, _) => Actor::Node(n),
-    }
-}
 
 /// Whether what lasts of its actor may be other behind the event.
 pub(crate) fn may_change(event: &Event) -> bool

@@ -5,7 +5,7 @@ ghost use Rattle.std.specs.List.{filter, flat_map, list_any};
 ghost use Rattle.std.specs.Option.{option_to_list};
 ghost use Rattle.run_picture.specs.Pictures.{told, same_lasting, wants_lasting, goes_on, begins, ends, is_seen, ended_mark, open_mark, since_here};
 
-use crate::asking::{actor_of, same_actor, same_lasting, whose};
+use crate::asking::{same_actor, same_lasting, whose};
 use crate::marks::put;
 use crate::picking::wants_lasting;
 use crate::{Lasting, Mark, Part, Place, Sign, Step};
@@ -43,7 +43,7 @@ fn is_known(lasts: &[Since], what: &Lasting) -> bool
 fn goes_on(step: &Step, one: &Since) -> bool
     ensures { result ≡ goes_on (told step.now) one.now }
 {
-    !same_actor(&actor_of(&step.event), &whose(&one.what))
+    !same_actor(&step.event.actor(), &whose(&one.what))
         || is_told(&one.what, step.lasting.as_slice())
 }
 

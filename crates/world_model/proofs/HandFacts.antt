@@ -16,6 +16,8 @@ use Rattle.lock_model.specs.declared.entries.Status.TheVariants.{Waiting, Holdin
 use Rattle.lock_model.specs.Ballots.{HasAnyNode}
 use Rattle.lock_model.specs.Stations.{Claim, Free, Has, Standing, Station, Cause, asked_mode}
 use Rattle.lock_model.specs.ExactDecisions.{same_mode}
+use Rattle.lock_model.specs.ExactHearing.{same_ticket}
+use Rattle.lock_model.proofs.HearingFacts.{mode-to, ticket-self}
 use Rattle.lock_model.specs.Decisions.{Among, Decides, IsNew, taken_up, IsAsked, over, muddled, held, waited, softened, granted, queued, IsReleased}
 use Rattle.lock_model.proofs.EntryFacts.{any-of}
 use Rattle.lock_model.proofs.GrantFacts.{only-reply}
@@ -23,7 +25,7 @@ use Rattle.world_model.specs.Worlds.{NodePhase, NodeIdle, ClientDown, ClientIdle
 use Rattle.world_model.specs.Invariants.{IsPresentIn, IsPresent, IsUnsoftenedIn, IsUnsoftened, Owes, IsSafeStation, IsGranted, IsSafeTicket, IsSafeClient, IsSafe}
 use Rattle.world_model.specs.declared.ways.Move.TheVariants.{Hand}
 use Rattle.world_model.specs.declared.ways.Want.{Want}
-use Rattle.world_model.specs.Advice.{coming, coming_in, blocks, asks_for, same_ticket, is_grant, client_numbers}
+use Rattle.world_model.specs.Advice.{coming, coming_in, blocks, asks_for, is_grant, client_numbers}
 use Rattle.world_model.specs.Ways.{IsUp}
 use Rattle.world_model.proofs.StandingSteps.{new-cleared, settled-cleared}
 use Rattle.world_model.proofs.FewClients.{released-decides, asked-decides}
@@ -112,24 +114,8 @@ hand-away s chosen a w n d fine is node idle blocking resting = (away-goes s cho
 
 -- The Grant of a ticket is found among what is said.
 
-same-mode-self : (m : Mode) → same_mode m m ≡ true
-same-mode-self Read = refl
-same-mode-self Write = refl
-
-same-mode-true : (m k : Mode) → same_mode m k ≡ true → m ≡ k
-same-mode-true Read Read h = refl
-same-mode-true Read Write h = cc
-same-mode-true Write Read h = cc
-same-mode-true Write Write h = refl
-
-same-ticket-self : (t : Ticket) → same_ticket t t ≡ true
-same-ticket-self t =
-    and_from (t.client == t.client) ((t.attempt == t.attempt) && (same_mode t.mode t.mode && bytes_eq t.resource t.resource)) (eq-eqb t.client t.client refl)
-    (and_from (t.attempt == t.attempt) (same_mode t.mode t.mode && bytes_eq t.resource t.resource) (eq-eqb t.attempt t.attempt refl)
-    (and_from (same_mode t.mode t.mode) (bytes_eq t.resource t.resource) (same-mode-self t.mode) ((bytes_eq-Decides t.resource t.resource).1 refl)))
-
 grant-found : (n : ℕ) (t : Ticket) (said : List Message) → Among (Grant n t) said → list_any (is_grant n t) said ≡ true
-grant-found n t said m = any-of (is_grant n t) said (Grant n t) m (and_from (n == n) (same_ticket t t) (eq-eqb n n refl) (same-ticket-self t))
+grant-found n t said m = any-of (is_grant n t) said (Grant n t) m (and_from (n == n) (same_ticket t t) (eq-eqb n n refl) (ticket-self t))
 
 -- what asking costs where nothing is granted, and where the Grant is promised
 ungranted-cost : (c e : Bool) → c ≡ false → e ≡ false → 7 ≤ (if c then 0 else (if e then 1 else 7))
@@ -164,7 +150,7 @@ module _ (s : Setting) (chosen : ℕ → Bool) (a : Want) (w : World) (n : ℕ) 
       let first = and_parts (not p.softened) (same_mode t.mode a.mode && (bytes_eq t.resource a.resource && (p.place == a.place))) wanted in
       let second = and_parts (same_mode t.mode a.mode) (bytes_eq t.resource a.resource && (p.place == a.place)) first.1 in
       let third = and_parts (bytes_eq t.resource a.resource) (p.place == a.place) second.1 in
-      (not-true p.softened first.0, same-mode-true t.mode a.mode second.0, (bytes_eq-Decides t.resource a.resource).0 third.0)
+      (not-true p.softened first.0, mode-to t.mode a.mode second.0, (bytes_eq-Decides t.resource a.resource).0 third.0)
 
   mine : t.client ≡ a.client
   mine =

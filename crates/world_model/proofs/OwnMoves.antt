@@ -7,11 +7,10 @@ use Rattle.std.proofs.lemmas.Bool.{eq-eqb, and_from}
 use Rattle.std.proofs.lemmas.Slice.Eq.{bytes_eq-Decides}
 use Rattle.lock_messages.specs.declared.ids.TheConstants.{MAX_ATTEMPT}
 use Rattle.lock_messages.specs.declared.ids.Actor.TheVariants as actor
-use Rattle.lock_messages.specs.declared.tickets.Mode.{Mode}
-use Rattle.lock_messages.specs.declared.tickets.Mode.TheVariants.{Read, Write}
 use Rattle.lock_messages.specs.declared.tickets.Ticket.{Ticket}
 use Rattle.lock_messages.specs.declared.messages.Message.{Message}
 use Rattle.lock_model.specs.ExactDecisions.{same_mode}
+use Rattle.lock_model.proofs.HearingFacts.{mode-self}
 use Rattle.world_model.specs.declared.events.Event.{Event}
 use Rattle.world_model.specs.declared.events.Event.TheVariants as event
 use Rattle.world_model.specs.Worlds.{NodePhase, ClientPhase, ClientDown, ClientIdle, Chosen, Asking, IsIn, Client, World, Setting, OfClient, ByClient, Begins, begins, TriesAttempt, tries_attempt, KeepsAttempt, keeps_attempt, first_of, Leaves, gives_up, leaves, Happens}
@@ -88,13 +87,9 @@ nearer-own s chosen a w e v before after fine h of own =
 
 -- a ticket like the one that is wanted is the one that is wanted
 
-same-mode-self : (m : Mode) → same_mode m m ≡ true
-same-mode-self Read = refl
-same-mode-self Write = refl
-
 wanted-self : (a : Want) (attempt : ℕ) → is_wanted a (record { client = a.client; attempt = attempt; mode = a.mode; resource = a.resource }) a.place ≡ true
 wanted-self a attempt =
-    and_from (same_mode a.mode a.mode) (bytes_eq a.resource a.resource && (a.place == a.place)) (same-mode-self a.mode)
+    and_from (same_mode a.mode a.mode) (bytes_eq a.resource a.resource && (a.place == a.place)) (mode-self a.mode)
     (and_from (bytes_eq a.resource a.resource) (a.place == a.place) ((bytes_eq-Decides a.resource a.resource).1 refl) (eq-eqb a.place a.place refl))
 
 -- the events of the client

@@ -10,6 +10,7 @@ use Rattle.lock_messages.specs.declared.tickets.Mode.TheVariants.{Read, Write}
 use Rattle.lock_model.specs.declared.entries.Status.{Status}
 use Rattle.lock_model.specs.ExactStations.{is_write}
 use Rattle.lock_model.specs.ExactDecisions.{same_mode}
+use Rattle.lock_model.proofs.HearingFacts.{mode-to}
 use Rattle.lock_model.specs.Ballots.{HasAnyNode, node_count}
 use Rattle.lock_model.specs.Stations.{Claim, Free, Has, Standing, Station, stranger}
 use Rattle.lock_model.specs.Decisions.{Among}
@@ -300,13 +301,7 @@ module _ (s : Setting) (chosen : ℕ → Bool) (a : Want) (w : World) (fine : Fi
   inside-as p is h =
       let first = and_parts (same_mode (present_mode p) a.mode) (bytes_eq p.ticket.resource a.resource && (p.place == a.place)) h in
       let second = and_parts (bytes_eq p.ticket.resource a.resource) (p.place == a.place) first.1 in
-      (p, is, one-mode (present_mode p) a.mode first.0, (bytes_eq-Decides p.ticket.resource a.resource).0 second.0, eqb-true p.place a.place second.1)
-    where
-      one-mode : (m n : Mode) → same_mode m n ≡ true → m ≡ n
-      one-mode Read Read z = refl
-      one-mode Read Write z = absurd (let q : false ≡ true = z in cc)
-      one-mode Write Read z = absurd (let q : false ≡ true = z in cc)
-      one-mode Write Write z = refl
+      (p, is, mode-to (present_mode p) a.mode first.0, (bytes_eq-Decides p.ticket.resource a.resource).0 second.0, eqb-true p.place a.place second.1)
 
   arrived : own_move s chosen a w ≡ None → IsInsideAs w a
   arrived h =

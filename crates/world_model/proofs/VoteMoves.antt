@@ -18,6 +18,8 @@ use Rattle.lock_model.specs.declared.hearing.Heard.TheVariants as heard
 use Rattle.lock_model.specs.Ballots.{Ballot, HasAnyNode, IsEnough, IsNodeOf, ballot_at, no_ballot, node_count, votes_at, votes_of}
 use Rattle.lock_model.specs.Decisions.{Among}
 use Rattle.lock_model.specs.ExactDecisions.{same_mode}
+use Rattle.lock_model.specs.ExactHearing.{same_ticket}
+use Rattle.lock_model.proofs.HearingFacts.{mode-to, ticket-to}
 use Rattle.lock_model.specs.Hearing.{HearsOfTicket}
 use Rattle.lock_model.proofs.EntryFacts.{any-found}
 use Rattle.world_model.specs.declared.events.Event.TheVariants as event
@@ -25,7 +27,7 @@ use Rattle.world_model.specs.Worlds.{NodePhase, Present, ClientDown, ClientIdle,
 use Rattle.world_model.specs.Invariants.{IsGranted, IsSafeTicket}
 use Rattle.world_model.specs.declared.ways.Move.TheVariants.{Alone, HearFrom}
 use Rattle.world_model.specs.declared.ways.Want.{Want}
-use Rattle.world_model.specs.Advice.{is_wanted, asks_for, is_inside_as, same_ticket, is_grant}
+use Rattle.world_model.specs.Advice.{is_wanted, asks_for, is_inside_as, is_grant}
 use Rattle.world_model.proofs.Costs.{own_cost, client_cost, cost, promises, vote_cost, ask_cost}
 use Rattle.world_model.specs.ExactWays.{IsLeft}
 use Rattle.world_model.proofs.Nearer.{Fine, Nears, Goes, OnlyClient, costs_at, vote-le, vote-nearer}
@@ -35,24 +37,8 @@ use Rattle.world_model.proofs.OwnMoves.{own-client, costs-le, IsNearerOwn, neare
 
 -- A message that passes the test is the node's Grant of the ticket.
 
-mode-is : (m k : Mode) → same_mode m k ≡ true → m ≡ k
-mode-is Read Read h = refl
-mode-is Read Write h = cc
-mode-is Write Read h = cc
-mode-is Write Write h = refl
-
-ticket-is : (t u : Ticket) → same_ticket t u ≡ true → t ≡ u
-ticket-is t u h =
-    let client = and_parts (t.client == u.client) ((t.attempt == u.attempt) && (same_mode t.mode u.mode && bytes_eq t.resource u.resource)) h in
-    let attempt = and_parts (t.attempt == u.attempt) (same_mode t.mode u.mode && bytes_eq t.resource u.resource) client.1 in
-    let mode = and_parts (same_mode t.mode u.mode) (bytes_eq t.resource u.resource) attempt.1 in
-    ap (λ c. record { client = c; attempt = t.attempt; mode = t.mode; resource = t.resource }) (eqb-true t.client u.client client.0)
-    ∙ ap (λ b. record { client = u.client; attempt = b; mode = t.mode; resource = t.resource }) (eqb-true t.attempt u.attempt attempt.0)
-    ∙ ap (λ m. record { client = u.client; attempt = u.attempt; mode = m; resource = t.resource }) (mode-is t.mode u.mode mode.0)
-    ∙ ap (λ x. record { client = u.client; attempt = u.attempt; mode = u.mode; resource = x }) ((bytes_eq-Decides t.resource u.resource).0 mode.1)
-
 pub grant-is : (n : ℕ) (t : Ticket) (m : Message) → is_grant n t m ≡ true → m ≡ Grant n t
-grant-is n t (Grant k u) h = let parts = and_parts (k == n) (same_ticket u t) h in ap (λ j. Grant j u) (eqb-true k n parts.0) ∙ ap (Grant n) (ticket-is u t parts.1)
+grant-is n t (Grant k u) h = let parts = and_parts (k == n) (same_ticket u t) h in ap (λ j. Grant j u) (eqb-true k n parts.0) ∙ ap (Grant n) (ticket-to u t parts.1)
 grant-is n t (Request k u) h = cc
 grant-is n t (Release k c b) h = cc
 grant-is n t (Busy k u) h = cc
@@ -80,7 +66,7 @@ as-wanted a p h =
     let mode = and_parts (same_mode p.ticket.mode a.mode) (bytes_eq p.ticket.resource a.resource && (p.place == a.place)) ticket in
     let rest = and_parts (bytes_eq p.ticket.resource a.resource) (p.place == a.place) mode.1 in
     record {
-      mode = mode-is p.ticket.mode a.mode mode.0;
+      mode = mode-to p.ticket.mode a.mode mode.0;
       place = eqb-true p.place a.place rest.1;
     }
 

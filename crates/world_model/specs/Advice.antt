@@ -19,6 +19,7 @@ use Rattle.lock_model.specs.Ballots.{node_count}
 use Rattle.lock_model.specs.Stations.{Claim, Free, Has, Station}
 use Rattle.lock_model.specs.ExactStations.{is_write}
 use Rattle.lock_model.specs.ExactDecisions.{same_mode}
+use Rattle.lock_model.specs.ExactHearing.{same_ticket}
 use Rattle.world_model.specs.declared.events.Age.TheVariants.{Old}
 use Rattle.world_model.specs.declared.events.Event.{Event}
 use Rattle.world_model.specs.declared.events.Event.TheVariants as event
@@ -123,9 +124,6 @@ coming_up a (Asking p) = []
 coming_up a (IsIn p) = []
 
 -- the message is the node's Grant of this ticket
-abbrev pub same_ticket : Ticket → Ticket → Bool
-same_ticket t u = (t.client == u.client) && ((t.attempt == u.attempt) && (same_mode t.mode u.mode && bytes_eq t.resource u.resource))
-
 abbrev pub is_grant : ℕ → Ticket → Message → Bool
 is_grant n t (Grant k u) = (k == n) && same_ticket u t
 is_grant n t (Request k u) = false

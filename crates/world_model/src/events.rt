@@ -1,6 +1,7 @@
 // Events, their effects and their refusals.
 
 ghost use Rattle.std.specs.Prelude.{◌≡◌};
+ghost use Rattle.world_model.specs.ExactWorlds.{actor_of};
 ghost use Rattle.world_model.specs.Faults.{fault_number};
 
 use lock_messages::{Actor, Attempt, ClientId, Message, Mode, NodeId, ResourceName};
@@ -45,6 +46,26 @@ pub enum Event {
     Rise(Actor, Age),
     /// The node takes this problem from now on, and all that wait are settled under it (our own).
     Switch(NodeId, Problem),
+}
+
+impl Event {
+    /// Whose action it is.
+    pub fn actor(&self) -> Actor
+        ensures { result ≡ actor_of self.now }
+    {
+        match *self {
+            Event::Begin(client, ..)
+            | Event::SayTo(client, _)
+            | Event::Hear(client, _)
+            | Event::Enter(client)
+            | Event::Leave(client)
+            | Event::Soften(client) => Actor::Client(client),
+            Event::Say(node) | Event::Take(node, _) | Event::Switch(node, _) => Actor::Node(node),
+            Event::Try(actor) | Event::Kept(actor) | Event::Fall(actor) | Event::Rise(actor, _) => {
+                actor
+            }
+        }
+    }
 }
 
 /// What an event did.
