@@ -145,6 +145,14 @@ impl Book {
         self.world.soundness();
     }
 
+    /// The world as the history leaves it, to be asked: who is inside a resource, who waits, what an actor has
+    /// kept.
+    pub fn world(&self) -> &World
+        ensures { result.now ≡ self.now.world }
+    {
+        &self.world
+    }
+
     /// How many events the history has. One look-up.
     pub fn events(&self) -> u32
         ensures { result ≡ length self.now.history }
