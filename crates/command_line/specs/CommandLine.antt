@@ -1,28 +1,21 @@
 -- What the program does with its words: the status that it ends with, what it writes, and what it
 -- says on the second writer.
 use Rattle.std.specs.Prelude.{◌≡◌, ◌⊎◌, ◌||◌, ℕ, Bool, true, false, List, [], ◌∷◌, ◌++◌, Option, Some, None, Result, Ok, Err, codes}
-use Rattle.std.specs.Fmt.{decimal}
-use Rattle.std.specs.Io.KnownBytes.{Keeps, Appends}
-use Rattle.clap.specs.Words.{App, Shape, Rule, Row, new_rule, one_of, with_rule, with_subcommand, subcommand_of, matches_of, fault_of, HasKind, IsAmong, Kinds}
+use Rattle.std.specs.Io.KnownBytes.{Keeps}
+use Rattle.clap.specs.Words.{App, Shape, Rule, Row, new_rule, one_of, with_rule, with_subcommand, subcommand_of, matches_of, fault_of, HasKind, Kinds}
 use Rattle.clap.specs.Simple.{new_shape}
 use Rattle.clap.specs.declared.builder.action.ArgAction.TheVariants.{SetTrue}
 use Rattle.clap.specs.declared.error.Error.{Error}
-use Rattle.clap.specs.declared.error.kind.ErrorKind.{ErrorKind}
-use Rattle.clap.specs.declared.error.kind.ErrorKind.TheVariants as kind
-use Rattle.line_streams.specs.Streams.{AppendsBeginning}
 use Rattle.operator_cli.specs.declared.faults.ServeFault.{ServeFault}
-use Rattle.operator_cli.specs.declared.faults.ServeFault.TheVariants as fault
 use Rattle.operator_cli.specs.declared.orders.Command.{Command}
 use Rattle.operator_cli.specs.declared.orders.Command.TheVariants as command
-use Rattle.operator_cli.specs.Faults.{serve_fault_number}
 use Rattle.operator_cli.specs.Outputs.{Serves}
 use Rattle.run_service.specs.Outputs.{ServesRun}
-use Rattle.command_line.specs.declared.ending.Ended.{Ended}
+use Rattle.program_ends.specs.declared.ending.Ended.{Ended}
+use Rattle.program_ends.specs.declared.wording.Unserved.{Unserved}
+use Rattle.program_ends.specs.Endings.{Writers, TellsFault, EndsUnserved}
+use Rattle.program_ends.specs.Wordings.{IsUnserved}
 use Rattle.command_line.specs.declared.reading.Asked.{Asked}
-use Rattle.command_line.specs.declared.reading.Sort.{Sort}
-use Rattle.command_line.specs.declared.reading.Sort.TheVariants as sort
-use Rattle.command_line.specs.declared.reading.Unserved.{Unserved}
-use Rattle.command_line.specs.declared.reading.Unserved.TheVariants as unserved
 
 -- The words that the program takes: one of `script`, `audit`, `ballot` and `run`; `--explain` in front of it or
 -- behind it, or at both places, and behind `run` also `--journal`; and on either level a request for help, on
@@ -101,23 +94,6 @@ NamesBehind (Some named) a = AsksBehind named.0 named.1 a
 abbrev pub Names : FoundWords → Asked → Type 0
 Names found a = NamesBehind found.named a × IsFlag (one_of (codes "explain") found.front) a.front
 
--- What `clap` says of words that name no command: it lacked memory, help or the version is asked
--- for, or they are wrong.
-abbrev pub sort_of : ErrorKind → Sort
-sort_of kind.OutOfMemory = sort.NoMemory
-sort_of kind.DisplayHelp = sort.Help
-sort_of kind.DisplayVersion = sort.Help
-sort_of k = sort.Wrong
-
--- one of the kinds is of this sort
-abbrev pub HasSort : Sort → Kinds → Type 0
-HasSort s kinds = (k : ErrorKind) × IsAmong k kinds × (sort_of k ≡ s)
-
-abbrev pub IsOfSort : Sort → Unserved → Type 0
-IsOfSort s unserved.NoMemory = Unit {0}
-IsOfSort s (unserved.Help text) = s ≡ sort.Help
-IsOfSort s (unserved.Wrong text) = s ≡ sort.Wrong
-
 -- How words were parsed that may fail by these kinds, or else name a command.
 abbrev pub Parses : Kinds → FoundWords → Result Asked Error → Type 0
 Parses kinds found (Ok a) = (kinds ≡ []) × Names found a
@@ -126,42 +102,7 @@ Parses kinds found (Err e) = HasKind kinds e
 -- The same, and what is to be said where no command is named.
 abbrev pub ReadsWords : Kinds → FoundWords → Result Asked Unserved → Type 0
 ReadsWords kinds found (Ok a) = (kinds ≡ []) × Names found a
-ReadsWords kinds found (Err unserved.NoMemory) = Unit {0}
-ReadsWords kinds found (Err (unserved.Help text)) = HasSort sort.Help kinds
-ReadsWords kinds found (Err (unserved.Wrong text)) = HasSort sort.Wrong kinds
-
--- A text went to the second writer: all of it, or a beginning.
-abbrev pub Says : Option (List ℕ) → Option (List ℕ) → List ℕ → Bool → Type 0
-Says old new text true = Appends old new text
-Says old new text false = AppendsBeginning old new text
-
--- `fault 933`
-abbrev pub fault_text : ServeFault → List ℕ
-fault_text f = codes "fault " ++ decimal (serve_fault_number f) ++ codes "\n"
-
--- a text was said there, and the run ends with this status
-abbrev pub EndsSaying : ℕ → List ℕ → Option (List ℕ) → Option (List ℕ) → Ended → Type 0
-EndsSaying status text old new e = (e.status ≡ status) × Says old new text e.told
-
--- A fault is told on the second writer, and the status is 1.
-abbrev pub TellsFault : ServeFault → Option (List ℕ) → Option (List ℕ) → Ended → Type 0
-TellsFault f old new e = EndsSaying 1 (fault_text f) old new e
-
--- What is said of a word that is not UTF-8.
-abbrev pub no_text_words : List ℕ
-no_text_words = codes "error: a word is not UTF-8 text\n\nFor more information, try '--help'.\n"
-
--- How a run ends whose words could not be read: memory was refused, or else a word is not UTF-8.
-pub record EndsUnread (IsMemory : Type 0) (old new : Option (List ℕ)) (e : Ended) : Type 0 where
-  pub memory : IsMemory → TellsFault fault.Memory old new e
-  pub words : (IsMemory → ⊥) → EndsSaying 2 no_text_words old new e
-
--- What the first writer had before and has after, and the second.
-pub record Writers : Type 0 where
-  pub old : Option (List ℕ)
-  pub new : Option (List ℕ)
-  pub errors_old : Option (List ℕ)
-  pub errors_new : Option (List ℕ)
+ReadsWords kinds found (Err u) = IsUnserved kinds u
 
 -- What is served for each command.
 abbrev pub ServesFor : Command → Option (List ℕ) → Option (List ℕ) → Option (List ℕ) → Result ℕ ServeFault → Type 0
@@ -192,23 +133,6 @@ abbrev pub RunsAsked : Bool → Command → Option (List ℕ) → Writers → En
 RunsAsked false c input w e = RunsCommand c input w e
 RunsAsked true c input w e = ExplainsCommand c input w e
 
--- A text went to the first writer, and the status is 0; or that failed, which is told as such.
-abbrev pub Shows : List ℕ → Writers → Ended → Type 0
-Shows text w e =
-    (Appends w.old w.new text × (e.status ≡ 0) × (e.told ≡ true) × Keeps w.errors_old w.errors_new)
-    ⊎ (AppendsBeginning w.old w.new text × TellsFault fault.Write w.errors_old w.errors_new e)
-
--- the text is one of `clap`
-abbrev pub ShowsHelp : Writers → Ended → Type 0
-ShowsHelp w e = (text : List ℕ) × Shows text w e
-
-abbrev pub RefusesWords : Writers → Ended → Type 0
-RefusesWords w e = (text : List ℕ) × Keeps w.old w.new × EndsSaying 2 text w.errors_old w.errors_new e
-
--- memory was refused while the words were read
-abbrev pub LacksMemory : Writers → Ended → Type 0
-LacksMemory w e = Keeps w.old w.new × TellsFault fault.Memory w.errors_old w.errors_new e
-
 -- the command is the one that is named, and it is explained where `--explain` stands anywhere
 abbrev pub RunsNamed : FoundWords → Option (List ℕ) → Writers → Ended → Type 0
 RunsNamed found input w e = (a : Asked) × Names found a × RunsAsked (a.front || a.behind) a.command input w e
@@ -216,8 +140,7 @@ RunsNamed found input w e = (a : Asked) × Names found a × RunsAsked (a.front |
 -- What a run does with words that were read. `clap` says which are right, and of which kind the
 -- others are: `fault_of` is empty where a command is named.
 abbrev pub RunsBy : Option (List ℕ) → Kinds → FoundWords → Writers → Ended → Type 0
-RunsBy input kinds found w e =
-    LacksMemory w e ⊎ (((kinds ≡ []) × RunsNamed found input w e) ⊎ ((HasSort sort.Help kinds × ShowsHelp w e) ⊎ (HasSort sort.Wrong kinds × RefusesWords w e)))
+RunsBy input kinds found w e = ((kinds ≡ []) × RunsNamed found input w e) ⊎ EndsUnserved kinds w e
 
 abbrev pub Runs : Option (List ℕ) → List (List ℕ) → Writers → Ended → Type 0
 Runs input words w e = RunsBy input (fault_of app words) (found_in words) w e

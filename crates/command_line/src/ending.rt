@@ -4,91 +4,23 @@ ghost use Rattle.std.specs.Prelude.{◌≡◌, length, map, replicate, string_by
 ghost use Rattle.std.specs.IoError.{error_kind};
 ghost use Rattle.std.specs.Io.KnownBytes.{Keeps};
 ghost use Rattle.std.specs.Vec.Iter.{into_iter_items};
-ghost use Rattle.clap.specs.Words.{fault_of};
 ghost use Rattle.lock_messages.specs.declared.ids.TheConstants.{MAX_NODES, MAX_CLIENTS};
 ghost use Rattle.lock_model.specs.declared.problems.Problem.TheVariants.{First, Second};
 ghost use Rattle.run_service.specs.Empty.{empty_node, empty_client};
-ghost use Rattle.operator_cli.specs.declared.faults.ServeFault.TheVariants as fault;
-ghost use Rattle.command_line.specs.CommandLine.{app, Says, EndsSaying, TellsFault, EndsUnread, EndsServed, ServesFor, RunsCommand, RunsAsked, Shows, ReadsWords, RunsBy, Runs, no_text_words, fault_text};
+ghost use Rattle.program_ends.specs.Endings.{EndsUnread};
+ghost use Rattle.command_line.specs.CommandLine.{EndsServed, ServesFor, RunsCommand, RunsAsked, Runs};
 
 use crate::explaining::explain_command;
-use crate::reading::{Unserved, read_words};
-use line_streams::write_text;
-use operator_cli::{AuditFault, Command, Order, Policies, ServeFault, serve};
+use crate::reading::read_words;
+use operator_cli::{Command, Order, Policies, ServeFault, serve};
+use program_ends::{Ended, collected, end_unserved, tell_fault, tell_unread};
 use run_service::{Records, serve_run};
-use std::alloc::{AllocError, Global};
+use std::alloc::Global;
 use std::env::Args;
 use std::io;
 use std::io::{ErrorKind, Read, Write};
 use std::sync::Wait;
 use std::thread::Threads;
-
-/// How a run ended.
-#[derive(Clone, Copy, Debug, PartialEq, Eq)]
-pub struct Ended {
-    /// What the program ends with: 0, 1 or 2.
-    pub status: u8,
-    /// Whether all that was to be said on the second writer was written there.
-    pub told: bool,
-}
-
-/// Says a text on the second writer.
-fn say<E: Write>(status: u8, text: &str, errors: &mut E) -> Ended
-    ensures { EndsSaying status text.now (E.contents errors.old) (E.contents errors.new) result }
-{
-    match write_text(errors, text.as_bytes()) {
-        Ok(()) => Ended { status, told: true },
-        Err(_) => Ended {
-            status,
-            told: false,
-        },
-    }
-}
-
-/// What is said of a fault of an audit.
-fn audit_fault_text(met: AuditFault) -> &'static str
-    ensures { result.now ≡ fault_text (fault.Audit met) }
-{
-    match met {
-        AuditFault::Read => "fault 816\n",
-        AuditFault::Write => "fault 817\n",
-        AuditFault::Memory => "fault 818\n",
-        AuditFault::TooManyLines => "fault 819\n",
-    }
-}
-
-/// What is said of a fault: a fixed text, so that want of memory can be told without memory.
-fn fault_text(fault: ServeFault) -> &'static str
-    ensures { result.now ≡ fault_text fault }
-{
-    match fault {
-        ServeFault::Read => "fault 931\n",
-        ServeFault::Write => "fault 932\n",
-        ServeFault::Memory => "fault 933\n",
-        ServeFault::Audit(fault) => audit_fault_text(fault),
-    }
-}
-
-/// Tells a fault.
-fn tell_fault<E: Write>(fault: ServeFault, errors: &mut E) -> Ended
-    ensures { TellsFault fault (E.contents errors.old) (E.contents errors.new) result }
-{
-    say(1, fault_text(fault), errors)
-}
-
-/// Tells that the words could not be read.
-fn tell_unread<E: Write>(error: io::Error, errors: &mut E) -> Ended
-    ensures { EndsUnread (error_kind error ≡ ErrorKind.OutOfMemory) (E.contents errors.old) (E.contents errors.new) result }
-{
-    if error.kind() == ErrorKind::OutOfMemory {
-        return tell_fault(ServeFault::Memory, errors);
-    }
-    say(
-        2,
-        "error: a word is not UTF-8 text\n\nFor more information, try '--help'.\n",
-        errors,
-    )
-}
 
 /// Ends a run that was served.
 fn end_served<E: Write>(came: Result<u8, ServeFault>, errors: &mut E) -> Ended
@@ -181,21 +113,8 @@ where
     }
 }
 
-/// Shows a text on the first writer.
-fn show<W: Write, E: Write>(text: &str, output: &mut W, errors: &mut E) -> Ended
-    ensures { Shows text.now (record { old = W.contents output.old; new = W.contents output.new; errors_old = E.contents errors.old; errors_new = E.contents errors.new }) result }
-{
-    match write_text(output, text.as_bytes()) {
-        Ok(()) => Ended {
-            status: 0,
-            told: true,
-        },
-        Err(_) => tell_fault(ServeFault::Write, errors),
-    }
-}
-
 /// Does what the words say.
-#[tactic(auto, using(crate::proofs::WordFacts::runs_lacking, crate::proofs::WordFacts::runs_command, crate::proofs::WordFacts::runs_help, crate::proofs::WordFacts::runs_wrong))]
+#[tactic(auto, using(crate::proofs::WordFacts::runs_command, crate::proofs::WordFacts::runs_unserved))]
 fn run_words<T: Threads + Wait + Copy + Send, R: Read, W: Write, E: Write>(
     rt: T,
     alloc: Global,
@@ -225,17 +144,8 @@ where
                 rt, alloc, explain, order, threads, records, reader, output, errors,
             )
         }
-        Err(Unserved::NoMemory) => tell_fault(ServeFault::Memory, errors),
-        Err(Unserved::Help(text)) => show(text.as_str(), output, errors),
-        Err(Unserved::Wrong(text)) => say(2, text.as_str(), errors),
+        Err(why) => end_unserved(why, output, errors),
     }
-}
-
-/// The words, one behind another.
-fn collected(alloc: Global, words: Args) -> Result<Vec<String>, AllocError>
-    ensures { IfOk result (λ all. all.items ≡ into_iter_items words) }
-{
-    words.collect(alloc)
 }
 
 /// Does what the words say that the program was given.
@@ -274,13 +184,6 @@ where
         output,
         errors,
     )
-}
-
-/// Ends a run that has no memory to begin: tells `fault 933`, with status 1.
-pub fn end_without_memory<E: Write>(errors: &mut E) -> Ended
-    ensures { TellsFault fault.Memory (E.contents errors.old) (E.contents errors.new) result }
-{
-    end_served(Err(ServeFault::Memory), errors)
 }
 
 /// Runs the program: does what the words say with the bytes of the reader, and answers how it ended.

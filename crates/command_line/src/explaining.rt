@@ -8,11 +8,11 @@ ghost use Rattle.run_service.specs.Empty.{empty_node, empty_client};
 ghost use Rattle.run_service.specs.Outputs.{IsRun, ServesRun};
 ghost use Rattle.command_line.specs.CommandLine.{ServesFor, ExplainsCommand, status_of};
 
-use crate::ending::Ended;
 use crate::following::Followed;
 use explanations::Explainer;
 use line_streams::write_text;
 use operator_cli::{Command, Order, Policies, ServeFault, serve};
+use program_ends::Ended;
 use run_service::{Records, serve_run};
 use std::alloc::Global;
 use std::io::{Read, Write};

@@ -9,8 +9,8 @@
 //! `--explain` output and status are the same, and words go to the second writer, of which nothing is
 //! promised. `specs/CommandLine` says so.
 //!
-//! It stands on `operator_cli`, `run_service`, `explanations` for the words, `line_streams`, `stable_record`, `lock_messages`,
-//! `lock_model` and `clap`.
+//! It stands on `program_ends` for what is said of faults and of words, `operator_cli`, `run_service`,
+//! `explanations` for the words, `line_streams`, `stable_record`, `lock_messages`, `lock_model` and `clap`.
 #![tactic(auto)]
 
 mod ending;
@@ -18,4 +18,5 @@ mod explaining;
 mod following;
 mod reading;
 
-pub use ending::{Ended, end_without_memory, run};
+pub use ending::run;
+pub use program_ends::{Ended, end_without_memory};

@@ -1,14 +1,14 @@
 // The words that the program takes, and their help.
 
 ghost use Rattle.std.specs.Prelude.{◌≡◌, IfOk, false, map, string_bytes, codes};
-ghost use Rattle.clap.specs.Words.{app_of, shape_of, rule_of, rows_of, one_of, found_of, fault_of, kind_of, subcommand_name_of, subcommand_rows_of};
+ghost use Rattle.clap.specs.Words.{app_of, shape_of, rule_of, rows_of, one_of, found_of, fault_of, subcommand_name_of, subcommand_rows_of};
 ghost use Rattle.clap.specs.Simple.{new_shape};
 ghost use Rattle.clap.specs.declared.builder.command.Command.TheViews.{out-Command};
-ghost use Rattle.command_line.specs.CommandLine.{app, bare_app, top_app, explain_rule, flag_rule, command_shape, run_shape, sort_of, found_in, IsName, IsCommand, AsksBehind, NamesBehind, IsFlag, Names, NamesOne, IsOfSort, Parses, ReadsWords};
+ghost use Rattle.command_line.specs.CommandLine.{app, bare_app, top_app, explain_rule, flag_rule, command_shape, run_shape, found_in, IsName, IsCommand, AsksBehind, NamesBehind, IsFlag, NamesOne, Parses, ReadsWords};
 
-use clap::error::ErrorKind;
 use clap::{Arg, ArgAction, ArgMatches};
 use operator_cli::Command;
+use program_ends::{Unserved, unserved_by};
 use std::alloc::{AllocError, Global};
 
 const ABOUT: &str = "\
@@ -290,52 +290,6 @@ pub struct Asked {
     pub behind: bool,
 }
 
-/// What `clap` says of words that name no command.
-#[derive(Clone, Copy, Debug, PartialEq, Eq)]
-pub enum Sort {
-    /// Memory was refused while the words were read.
-    NoMemory,
-    /// Help or the version was asked for.
-    Help,
-    /// The words are wrong.
-    Wrong,
-}
-
-/// Why nothing is served.
-#[derive(Debug, Drop)]
-pub enum Unserved {
-    /// Memory was refused.
-    NoMemory,
-    /// Help or the version is asked for: this text.
-    Help(String),
-    /// The words are wrong, as this text says.
-    Wrong(String),
-}
-
-fn sort_of(kind: ErrorKind) -> Sort
-    ensures { result ≡ sort_of kind }
-{
-    match kind {
-        ErrorKind::OutOfMemory => Sort::NoMemory,
-        ErrorKind::DisplayHelp | ErrorKind::DisplayVersion => Sort::Help,
-        _ => Sort::Wrong,
-    }
-}
-
-/// What is to be said of an error.
-fn unserved_by(alloc: Global, error: &clap::Error) -> Unserved
-    ensures { IsOfSort (sort_of (kind_of error.now)) result }
-{
-    let Ok(text) = format!(in alloc; "{error}") else {
-        return Unserved::NoMemory;
-    };
-    match sort_of(error.kind()) {
-        Sort::NoMemory => Unserved::NoMemory,
-        Sort::Help => Unserved::Help(text),
-        Sort::Wrong => Unserved::Wrong(text),
-    }
-}
-
 /// Whether the flag of this name was found.
 #[tactic(auto, using(crate::proofs::NameFacts::is_flag))]
 fn has_flag(found: &ArgMatches, name: &str) -> bool
@@ -412,7 +366,7 @@ fn parse(alloc: Global, words: &[String]) -> Result<Asked, clap::Error>
 
 /// Reads the words, of which the first is the program's name. They are right where they name
 /// a command.
-#[tactic(auto, using(crate::proofs::WordFacts::unserved_so))]
+#[tactic(auto, using(crate::proofs::WordFacts::unread_so))]
 pub fn read_words(alloc: Global, words: &[String]) -> Result<Asked, Unserved>
     ensures { ReadsWords (fault_of app (map string_bytes words.now)) (found_in (map string_bytes words.now)) result }
 {

@@ -21,7 +21,7 @@ const QUERY_HINT: &str =
 
 /// Lines that are played once more, beside the command that serves them: they have a world of their own.
 #[derive(Drop)]
-pub struct Play {
+pub(crate) struct Play {
     alloc: Global,
     kind: Kind,
     settings: Settings,
@@ -96,7 +96,7 @@ fn push_line_hint(text: &mut String, line: &[u8]) -> Result<(), AllocError> {
 impl Play {
     /// Lines of this kind, behind so many lines of the input. The caller owes settings in range and sixteen
     /// pairs of policies.
-    pub fn new(
+    pub(crate) fn new(
         alloc: Global,
         kind: Kind,
         settings: Settings,
@@ -232,7 +232,7 @@ impl Play {
 
     /// Takes a line, given without its line feed, and says what is wrong with it; answers whether the lines
     /// go on.
-    pub fn take_line(&mut self, text: &mut String, line: &[u8]) -> Result<bool, AllocError>
+    pub(crate) fn take_line(&mut self, text: &mut String, line: &[u8]) -> Result<bool, AllocError>
         requires { Unit {0} }
     {
         if self.kind == Kind::Journal && self.read >= u64::from(MAX_LINES) {
@@ -246,7 +246,7 @@ impl Play {
     }
 
     /// Says the verdict on a journal whose lines have all been taken.
-    pub fn end(&self, text: &mut String) -> Result<(), AllocError> {
+    pub(crate) fn end(&self, text: &mut String) -> Result<(), AllocError> {
         let read = self.read;
         match self.kind {
             Kind::Script => Ok(()),

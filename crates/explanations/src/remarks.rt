@@ -8,31 +8,12 @@ ghost use Rattle.operator_cli.specs.PartOutputs.{Finds};
 ghost use Rattle.explanations.specs.Remarks.{step_remark, query_remark, line_in, remark_of, world_behind, goes_on};
 
 use crate::stages::Stages;
-use history_check::{Command, Line, LineFault, Query, read_line};
+use history_check::{Line, LineFault, Query};
 use lock_messages::Ticket;
+use operator_cli::read_line;
 use std::alloc::AllocError;
 use world_machine::World;
 use world_model::{Event, StepFault};
-
-/// The commands that a script reads: all that there are.
-const COMMANDS: [Command; 16] = [
-    Command::Begin,
-    Command::Try,
-    Command::Kept,
-    Command::SayTo,
-    Command::Say,
-    Command::Take,
-    Command::Hear,
-    Command::Enter,
-    Command::Leave,
-    Command::Soften,
-    Command::Fall,
-    Command::Rise,
-    Command::Switch,
-    Command::Inside,
-    Command::Waiting,
-    Command::Holding,
-];
 
 /// What the lines behind the settings are.
 #[derive(Clone, Copy, Debug, PartialEq, Eq)]
@@ -54,18 +35,11 @@ pub enum Remark {
     Bad(LineFault),
 }
 
-/// What a line says in a script, given without its line feed.
-fn script_line(line: &[u8]) -> Result<Line, LineFault>
-    ensures { result ≡ line_of line.now }
-{
-    read_line(&COMMANDS, line)
-}
-
 /// What a line says to a reader of this kind: in a journal a query is none.
 fn line_in(kind: Kind, line: &[u8]) -> Result<Line, LineFault>
     ensures { result ≡ line_in kind (line_of line.now) }
 {
-    match (kind, script_line(line)) {
+    match (kind, read_line(line)) {
         (Kind::Journal, Ok(Line::Query(_))) => Err(LineFault::Word),
         (_, said) => said,
     }
@@ -73,7 +47,7 @@ fn line_in(kind: Kind, line: &[u8]) -> Result<Line, LineFault>
 
 /// Whether the line is a query of a script.
 pub fn is_query(line: &[u8]) -> bool {
-    matches!(script_line(line), Ok(Line::Query(_)))
+    matches!(read_line(line), Ok(Line::Query(_)))
 }
 
 /// The tickets that a query asks for.

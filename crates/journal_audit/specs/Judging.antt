@@ -1,5 +1,5 @@
--- What the private functions of an audit owe one another. Who reads what `audit` promises has no need of
--- them.
+-- What the pieces of an audit do, from which whoever takes a journal's lines may make another one. Who reads
+-- what `audit` promises has no need of them.
 use Rattle.std.specs.Prelude.{◌≡◌, ℕ, ◌≤◌, List, [], ◌∷◌, ◌++◌, length, Option, Some, None, Result, Ok, Err}
 use Rattle.std.specs.Io.KnownBytes.{Consumes}
 use Rattle.history_check.specs.declared.words.TheConstants.{MAX_LINE_LEN}

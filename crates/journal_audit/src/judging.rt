@@ -16,8 +16,17 @@ use std::io::Read;
 use world_machine::World;
 use world_model::StepFault;
 
-/// Reads a line.
-fn read_piece<R: Read>(source: &mut LineReader<R>, piece: &mut Vec<u8>) -> Result<End, AuditFault>
+/// Reads the next line of a journal in place of what `piece` holds, without its line feed, and answers how
+/// it ended. It takes no more than 129 bytes of a line, which show it too long.
+///
+/// # Errors
+///
+/// `Read` (816) where the reader fails or was asked as often as it may be, `Memory` (818). Then what was
+/// taken of the line is in `piece`.
+pub fn read_piece<R: Read>(
+    source: &mut LineReader<R>,
+    piece: &mut Vec<u8>,
+) -> Result<End, AuditFault>
     ensures line { IfOk result (λ end. ReadsPiece MAX_LINE_LEN source.old source.new piece.new.items end) }
     ensures fault { IfErr result CutsShort }
     ensures taken { TakesLine source.old source.new piece.new.items result }
@@ -30,8 +39,12 @@ fn read_piece<R: Read>(source: &mut LineReader<R>, piece: &mut Vec<u8>) -> Resul
     }
 }
 
-/// What is found where the line of this number is refused.
-fn refused(number: u32, fault: StepFault) -> Result<Verdict, AuditFault>
+/// What is found of a journal where the world refuses the line of this number so.
+///
+/// # Errors
+///
+/// `Memory` (818): that memory was refused is no verdict on the line.
+pub fn refused(number: u32, fault: StepFault) -> Result<Verdict, AuditFault>
     ensures verdict { IfOk result (λ v. (v ≡ Verdict.Unsound number (Cause.Refused fault)) × (fault ≢ StepFault.Memory)) }
     ensures memory { IfErr result (λ e. e ≡ AuditFault.Memory) }
 {
@@ -41,8 +54,13 @@ fn refused(number: u32, fault: StepFault) -> Result<Verdict, AuditFault>
     }
 }
 
-/// What is found where as many lines were taken as a journal may have.
-fn end_lines<R: Read>(
+/// What is found of a journal of which `MAX_LINES` lines were taken: it looks for one more, for which it uses
+/// `piece`. Where there is none, they are all.
+///
+/// # Errors
+///
+/// `TooManyLines` (819), and those of `read_piece`.
+pub fn end_lines<R: Read>(
     source: &mut LineReader<R>,
     piece: &mut Vec<u8>,
 ) -> Result<Verdict, AuditFault>

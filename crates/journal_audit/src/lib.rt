@@ -11,6 +11,10 @@
 //! tells its bytes, however it cuts them. `Verdicts` in `specs/` has the words. It keeps the world and
 //! one line, never the journal, and says its verdict without asking for memory.
 //!
+//! Whoever takes a journal's lines on its own way has the pieces: `read_piece` reads a line as an audit
+//! does, `refused` says what is found where the world refuses it, `end_lines` where there may be no more,
+//! and `tell_verdict` writes the verdict's line. `Judging` in `specs/` has their words.
+//!
 //! It stands on `history_check` for lines, `line_streams`, `world_machine`, `world_model`, `itoa`,
 //! `arrayvec` and `thiserror`.
 #![tactic(auto)]
@@ -24,4 +28,6 @@ mod verdicts;
 
 pub use auditing::{audit, audit_lines};
 pub use faults::AuditFault;
+pub use judging::{end_lines, read_piece, refused};
+pub use telling::tell_verdict;
 pub use verdicts::{Cause, MAX_LINES, Verdict};

@@ -62,7 +62,12 @@ fn verdict_line(verdict: Verdict) -> ArrayString<LINE_ROOM>
     line
 }
 
-/// Writes the line of a verdict at once. The only fault is `Write`; then a beginning of it was written.
+/// Writes the line of a verdict at once, as `audit` does: `sound N`, `unsound L fault N` or
+/// `unsound L refused N`. It asks for no memory.
+///
+/// # Errors
+///
+/// `Write` (817). Then a beginning of the line was written.
 pub fn tell_verdict<W: Write>(verdict: Verdict, writer: &mut W) -> Result<(), AuditFault>
     ensures text { Puts (W.contents writer.old) (W.contents writer.new) (verdict_text verdict) result }
     ensures fault { IfErr result (λ e. e ≡ AuditFault.Write) }

@@ -118,3 +118,14 @@ more_marks xs ys (Some zs) = ap Some (append_assoc zs xs ys)
 pub no_marks : (drawn : Option (List Mark)) → drawn ≡ with_more [] drawn
 no_marks None = refl
 no_marks (Some zs) = ap Some (sym (append-nil zs))
+
+-- Messages that were lost.
+
+-- the marks of one number more
+pub lost_more : (f : ℕ → List Mark) (before : ℕ) (old now new : Option (List Mark)) (marks : List Mark) → now ≡ with_more (flat_map f (range_with_len 1 before)) old → new ≡ with_more marks now → marks ≡ f (before + 1)
+    → new ≡ with_more (flat_map f (range_with_len 1 (before + 1))) old
+lost_more f before old now new marks h g e =
+    let at : 1 + before ≡ before + 1 = omega arith in
+    let next : suc before ≡ before + 1 = omega arith in
+    g ∙ ap (with_more marks) h ∙ more_marks (flat_map f (range_with_len 1 before)) marks old ∙ ap (λ ms. with_more (flat_map f (range_with_len 1 before) ++ ms) old) (e ∙ ap f (sym at))
+    ∙ ap (λ ms. with_more ms old) (sym (range_more f 1 before)) ∙ ap (λ k. with_more (flat_map f (range_with_len 1 k)) old) next

@@ -15,7 +15,7 @@ use Rattle.world_model.specs.declared.events.Event.{Event}
 use Rattle.world_model.specs.declared.events.Event.TheVariants as event
 use Rattle.world_model.specs.declared.exact.ExactNode.{ExactNode}
 use Rattle.world_model.specs.declared.exact.ExactWorld.{ExactWorld}
-use Rattle.world_model.specs.ExactWorlds.{numbered, Steps, step}
+use Rattle.world_model.specs.ExactWorlds.{numbered, Steps, step, after}
 use Rattle.history_check.specs.declared.faults.LineFault.{LineFault}
 use Rattle.history_check.specs.Events.{event_of}
 use Rattle.world_model.specs.Views.{live_ticket, ticket_inside}
@@ -123,3 +123,8 @@ history_behind taken w (l ∷ ls) = line_told w (taken + 1) (event_of l) (λ v. 
 
 abbrev pub history_of : ExactWorld → List (List ℕ) → List Told
 history_of w lines = history_behind 0 w lines
+
+-- the world to which the events of a history lead
+abbrev pub world_behind : ExactWorld → List Told → ExactWorld
+world_behind w [] = w
+world_behind w (t ∷ history) = world_behind (after w t.event) history

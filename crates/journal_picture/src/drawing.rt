@@ -1,33 +1,20 @@
 // A journal, drawn line by line.
 
-ghost use Rattle.std.specs.Prelude.{◌≡◌, ◌≢◌, IfOk, IfErr};
 ghost use Rattle.journal_audit.specs.Verdicts.{Finds};
-ghost use Rattle.journal_picture.specs.Drawings.{found, found_beside, DrawsHistory};
+ghost use Rattle.run_picture.specs.Pictures.{opened};
+ghost use Rattle.journal_picture.specs.Drawings.{found, found_beside, DrawsHistory, DrawsJournal};
 
 use crate::Canvas;
 use crate::ending::{Drawing, draw_end, draw_step};
-use crate::reading::{end_lines, read_piece};
 use history_check::laws::events_are_spelled_once;
 use history_check::{MAX_LINE_LEN, read_event};
-use journal_audit::{AuditFault, Cause, MAX_LINES, Verdict};
+use journal_audit::{AuditFault, Cause, MAX_LINES, Verdict, end_lines, read_piece, refused};
 use line_streams::LineReader;
 use run_picture::{Drawer, Lasting, Part};
 use std::alloc::Global;
 use std::io::Read;
 use world_machine::World;
-use world_model::StepFault;
 use world_model::laws::said_numbers_fit;
-
-/// What is found where the line of this number is refused.
-fn refused(number: u32, fault: StepFault) -> Result<Verdict, AuditFault>
-    ensures verdict { IfOk result (λ v. (v ≡ Verdict.Unsound number (Cause.Refused fault)) × (fault ≢ StepFault.Memory)) }
-    ensures memory { IfErr result (λ e. e ≡ AuditFault.Memory) }
-{
-    match fault {
-        StepFault::Memory => Err(AuditFault::Memory),
-        _ => Ok(Verdict::Unsound(number, Cause::Refused(fault))),
-    }
-}
 
 /// Draws the lines, up to the end or to the first that does not go on, and answers the drawer behind them,
 /// and the verdict.
@@ -40,7 +27,7 @@ fn draw_steps<R: Read, C: Canvas>(
 ) -> Result<(Drawer, Verdict), AuditFault>
     requires { Unit {0} }
     ensures verdict { Finds world.old source.old (found_beside result) }
-    ensures drawn { DrawsHistory world.old drawer source.old (C.drawn canvas.old) (C.drawn canvas.new) result }
+    ensures drawn { DrawsHistory world.old drawer source.old (C.drawn canvas.old) (C.drawn canvas.new) world.new result }
 {
     events_are_spelled_once();
     said_numbers_fit();
@@ -106,6 +93,7 @@ pub fn draw_lines<R: Read, C: Canvas>(
 ) -> Result<Drawing, AuditFault>
     requires { Unit {0} }
     ensures verdict { Finds world source.old (found result) }
+    ensures drawn { DrawsJournal world (opened part lasting.now) source.old (C.drawn canvas.old) (C.drawn canvas.new) result }
 {
     let mut world = world;
     let Ok(drawer) = Drawer::new(alloc, part, lasting) else {

@@ -1,9 +1,11 @@
 // The marks of a step and of the end, on a canvas.
 
 ghost use Rattle.std.specs.Prelude.{◌≡◌, ◌∷◌, [], IfOk, IfErr, OnOk};
-ghost use Rattle.run_picture.specs.Pictures.{marks_of_step, after_step};
+ghost use Rattle.std.specs.Option.{option_to_list};
+ghost use Rattle.journal_audit.specs.Verdicts.{reaches};
+ghost use Rattle.run_picture.specs.Pictures.{marks_of_step, after_step, end_place};
 ghost use Rattle.journal_picture.specs.Histories.{with_more, told_of, SaidFits};
-ghost use Rattle.journal_picture.specs.Drawings.{StopsShort, EndsWith};
+ghost use Rattle.journal_picture.specs.Drawings.{StopsShort, EndsWith, lost_marks, stop_marks, end_marks};
 
 use crate::telling::told_of;
 use crate::{Canvas, CanvasFault};
@@ -43,7 +45,8 @@ fn draw<C: Canvas>(canvas: &mut C, mark: &Mark) -> Result<(), AuditFault>
 
 /// Draws a mark, if there is one.
 fn draw_some<C: Canvas>(canvas: &mut C, mark: Option<Mark>) -> Result<(), AuditFault>
-    ensures { IfErr result StopsShort }
+    ensures drawn { OnOk result (C.drawn canvas.new ≡ with_more (option_to_list mark) (C.drawn canvas.old)) }
+    ensures fault { IfErr result StopsShort }
 {
     match &mark {
         Some(mark) => draw(canvas, mark),
@@ -113,19 +116,19 @@ pub(crate) fn draw_step<C: Canvas>(
     }
 }
 
-/// The mark of the message of this number, if it was lost.
-fn lost_mark(drawer: &Drawer, world: &World, number: u32) -> Option<Mark> {
-    let message = world.sent(number)?;
-    drawer.lost(number, message)
-}
-
 /// Draws the messages that were lost.
 fn draw_lost<C: Canvas>(drawer: &Drawer, world: &World, canvas: &mut C) -> Result<(), AuditFault>
-    ensures { IfErr result StopsShort }
+    ensures drawn { OnOk result (C.drawn canvas.new ≡ with_more (lost_marks drawer.now world.now.sent) (C.drawn canvas.old)) }
+    ensures fault { IfErr result StopsShort }
 {
-    let count = drawer.said().min(MAX_MESSAGES as usize) as u32;
-    for before in 0..count {
-        if let Err(fault) = draw_some(canvas, lost_mark(drawer, world, before + 1)) {
+    // A world has no messages behind these numbers.
+    world.soundness();
+    for before in 0..MAX_MESSAGES {
+        let number = before + 1;
+        let Some(message) = world.sent(number) else {
+            return Ok(());
+        };
+        if let Err(fault) = draw_some(canvas, drawer.lost(number, message)) {
             return Err(fault);
         }
     }
@@ -133,7 +136,9 @@ fn draw_lost<C: Canvas>(drawer: &Drawer, world: &World, canvas: &mut C) -> Resul
 }
 
 /// The number of the last line that a verdict speaks of.
-fn reached(verdict: &Verdict) -> u32 {
+fn reached(verdict: &Verdict) -> u32
+    ensures { result ≡ reaches verdict.now }
+{
     match *verdict {
         Verdict::Sound(count) => count,
         Verdict::Unsound(number, _) => number,
@@ -141,7 +146,9 @@ fn reached(verdict: &Verdict) -> u32 {
 }
 
 /// The mark of the line that does not go on, if there is one.
-fn stop_mark(verdict: &Verdict, at: &Place) -> Option<Mark> {
+fn stop_mark(verdict: &Verdict, at: &Place) -> Option<Mark>
+    ensures { option_to_list result ≡ stop_marks verdict.now at.now }
+{
     let sign = match *verdict {
         Verdict::Sound(_) => return None,
         Verdict::Unsound(_, Cause::Line(fault)) => Sign::NoEvent(fault),
@@ -162,7 +169,9 @@ fn draw_last<C: Canvas>(
     verdict: &Verdict,
     canvas: &mut C,
 ) -> Result<Place, AuditFault>
-    ensures { IfErr result StopsShort }
+    ensures drawn { OnOk result (C.drawn canvas.new ≡ with_more (end_marks drawer.now world.now.sent verdict.now) (C.drawn canvas.old)) }
+    ensures end { IfOk result (λ p. p ≡ end_place drawer.now (reaches verdict.now)) }
+    ensures fault { IfErr result StopsShort }
 {
     let line = reached(verdict);
     let Ok(open) = drawer.open_marks(alloc, line) else {
@@ -189,7 +198,9 @@ pub(crate) fn draw_end<C: Canvas>(
     verdict: Verdict,
     canvas: &mut C,
 ) -> Result<Drawing, AuditFault>
-    ensures { EndsWith verdict result }
+    ensures found { EndsWith verdict result }
+    ensures drawn { OnOk result (C.drawn canvas.new ≡ with_more (end_marks drawer.now world.now.sent verdict) (C.drawn canvas.old)) }
+    ensures end { IfOk result (λ d. d.end ≡ end_place drawer.now (reaches verdict)) }
 {
     match draw_last(alloc, drawer, world, &verdict, canvas) {
         Ok(end) => Ok(Drawing { verdict, end }),

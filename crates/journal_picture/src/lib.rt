@@ -4,9 +4,11 @@
 //! the first line that is no event or that the world refuses. Each step is told to a `Drawer`, and each
 //! mark goes onto a `Canvas`, one after another. It keeps the world, one line, and what a `Drawer` keeps.
 //!
-//! The crate promises that the verdict is the one that an audit of the same lines has to find.
+//! The crate promises that the verdict is the one that an audit of the same lines has to find, and which marks
+//! are drawn, all of them and in order: those of the history that the lines tell, and behind it those of its
+//! end. `Drawings` in `specs/` says so.
 //!
-//! It stands on `journal_audit` for what a verdict is, `history_check` for lines, `line_streams`,
+//! It stands on `journal_audit` for verdicts and for how lines are read, `history_check` for lines, `line_streams`,
 //! `run_picture`, `stable_record` for what a node has kept, `world_machine`, `world_model`, `lock_model`,
 //! `lock_messages` and `thiserror`.
 #![tactic(auto)]
@@ -14,7 +16,6 @@
 mod canvases;
 mod drawing;
 mod ending;
-mod reading;
 mod telling;
 
 pub use canvases::{Canvas, CanvasFault};

@@ -88,7 +88,12 @@ pub fn read_head<R: Read>(alloc: Global, source: &mut LineReader<R>) -> Result<V
     Err(StartFault::Settings(SettingsFault::NoEnd))
 }
 
-/// Reads the settings of a command.
+/// Reads the settings that an input of this command begins with, up to the line of dashes and over it, and
+/// judges them.
+///
+/// # Errors
+///
+/// Those of `read_head`, and what is wrong with the settings, as `serve` tells it for the command.
 pub fn read_start<R: Read>(
     alloc: Global,
     command: Command,

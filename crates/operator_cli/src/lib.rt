@@ -36,9 +36,10 @@ mod settings;
 mod texts;
 
 pub use faults::{ServeFault, SettingsFault};
-pub use heads::{StartFault, read_head};
+pub use heads::{StartFault, read_head, read_start};
 pub use history_check::LineFault;
 pub use journal_audit::AuditFault;
+pub use lines::read_line;
 pub use lossy_link::WeatherFault;
 pub use orders::{Command, Order, Policies, chosen};
 pub use serving::{refuse_start, serve, world_down};

@@ -26,7 +26,7 @@ const COMMANDS: [Command; 16] = [
     Command::Holding,
 ];
 
-/// What a line says, given without its line feed.
+/// What a line of a script says, given without its line feed: an event or a query.
 ///
 /// # Errors
 ///

@@ -9,16 +9,16 @@ use std::io::Write;
 
 /// A canvas that writes each mark as SVG, and gathers what it writes.
 #[derive(Drop)]
-pub struct SvgCanvas<W: Write> {
+pub struct SvgCanvas<'a, W> {
     alloc: Global,
     frame: Frame,
     gathered: Gathered,
-    writer: W,
+    writer: &'a mut W,
 }
 
-impl<W: Write> SvgCanvas<W> {
+impl<'a, W: Write> SvgCanvas<'a, W> {
     /// Nothing is drawn yet.
-    pub fn new(alloc: Global, frame: Frame, writer: W) -> SvgCanvas<W> {
+    pub fn new(alloc: Global, frame: Frame, writer: &'a mut W) -> SvgCanvas<'a, W> {
         SvgCanvas {
             alloc,
             frame,
@@ -29,7 +29,7 @@ impl<W: Write> SvgCanvas<W> {
 
     /// Writes a text behind what was written.
     fn put(&mut self, text: &String) -> Result<(), CanvasFault> {
-        match self.gathered.put(&mut self.writer, text.as_bytes()) {
+        match self.gathered.put(self.writer, text.as_bytes()) {
             Ok(()) => Ok(()),
             Err(_) => Err(CanvasFault::Write),
         }
@@ -51,14 +51,14 @@ impl<W: Write> SvgCanvas<W> {
             return Err(CanvasFault::Memory);
         }
         self.put(&text)?;
-        match self.gathered.let_out(&mut self.writer) {
+        match self.gathered.let_out(self.writer) {
             Ok(()) => Ok(()),
             Err(_) => Err(CanvasFault::Write),
         }
     }
 }
 
-impl<W: Write> Canvas for SvgCanvas<W> {
+impl<W: Write> Canvas for SvgCanvas<'_, W> {
     ghost use Rattle.std.specs.Prelude.{None};
 
     // It forgets what it has drawn.

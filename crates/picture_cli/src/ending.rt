@@ -1,188 +1,159 @@
 // A whole run of the program, from its words to its status.
 
-ghost use Rattle.std.specs.Prelude.{◌≡◌, length};
+ghost use Rattle.std.specs.Prelude.{◌≡◌, length, map, string_bytes, IfOk, IfErr};
+ghost use Rattle.std.specs.IoError.{error_kind};
+ghost use Rattle.std.specs.Io.KnownBytes.{Keeps};
+ghost use Rattle.std.specs.Vec.Iter.{into_iter_items};
 ghost use Rattle.lock_messages.specs.declared.ids.TheConstants.{MAX_NODES};
+ghost use Rattle.operator_cli.specs.Outputs.{refusal_output};
+ghost use Rattle.program_ends.specs.Endings.{EndsUnread};
+ghost use Rattle.picture_cli.specs.Drawing.{EndsTelling, told_verdict, told_shown, DrawsInput, Runs};
 
 use crate::reading::{Undrawn, read_words};
 use crate::serving::{Shown, draw_journal};
-use journal_audit::{AuditFault, Cause, Verdict};
-use line_streams::write_text;
-use operator_cli::{Command, Policies, ServeFault, StartFault, refuse_start};
+use journal_audit::{Verdict, tell_verdict};
+use operator_cli::{Command, Policies, SettingsFault, StartFault, refuse_start};
+use program_ends::{
+    Ended, collected, end_unserved, end_without_memory, say, tell_fault, tell_unread,
+};
 use run_picture::Part;
-use std::alloc::{AllocError, Global};
+use std::alloc::Global;
 use std::env::Args;
 use std::io;
 use std::io::{ErrorKind, Read, Write};
 
-/// What is said of a fault: a fixed text, so that want of memory can be told without memory.
-fn fault_text(fault: ServeFault) -> &'static str {
-    match fault {
-        ServeFault::Read => "fault 931\n",
-        ServeFault::Write => "fault 932\n",
-        ServeFault::Memory => "fault 933\n",
-        ServeFault::Audit(AuditFault::Read) => "fault 816\n",
-        ServeFault::Audit(AuditFault::Write) => "fault 817\n",
-        ServeFault::Audit(AuditFault::Memory) => "fault 818\n",
-        ServeFault::Audit(AuditFault::TooManyLines) => "fault 819\n",
-    }
-}
-
-/// Says a text on the second writer, and answers the status that goes with it.
-fn say<E: Write>(status: u8, text: &str, errors: &mut E) -> u8
-    ensures { result ≡ status }
+/// Tells a verdict; a journal that is sound needs no word.
+fn tell_found<E: Write>(verdict: Verdict, errors: &mut E) -> Ended
+    ensures { EndsTelling (told_verdict verdict) (E.contents errors.old) (E.contents errors.new) result }
 {
-    let _told = write_text(errors, text.as_bytes());
-    status
-}
-
-/// Tells a fault.
-fn tell_fault<E: Write>(fault: ServeFault, errors: &mut E) -> u8
-    ensures { result ≡ 1 }
-{
-    say(1, fault_text(fault), errors)
-}
-
-/// The line of a verdict, as an audit prints it.
-fn verdict_line(alloc: Global, number: u32, cause: Cause) -> Result<String, AllocError> {
-    match cause {
-        Cause::Line(fault) => {
-            let why = fault.number();
-            format!(in alloc; "unsound {number} fault {why}\n")
+    let told = match verdict {
+        Verdict::Sound(_) => {
+            return Ended {
+                status: 0,
+                told: true,
+            };
         }
-        Cause::Refused(fault) => {
-            let why = fault.number();
-            format!(in alloc; "unsound {number} refused {why}\n")
-        }
-    }
-}
-
-/// Tells that a journal is not sound.
-fn tell_unsound<E: Write>(alloc: Global, number: u32, cause: Cause, errors: &mut E) -> u8
-    ensures { result ≡ 1 }
-{
-    match verdict_line(alloc, number, cause) {
-        Ok(line) => say(1, line.as_str(), errors),
-        Err(_) => tell_fault(ServeFault::Memory, errors),
-    }
+        Verdict::Unsound(..) => tell_verdict(verdict, errors).is_ok(),
+    };
+    Ended { status: 1, told }
 }
 
 /// Tells that the settings are refused.
-fn tell_refused<E: Write>(fault: StartFault, errors: &mut E) -> u8 {
-    match refuse_start(Command::Audit, fault, errors) {
-        Ok(status) => status,
-        Err(fault) => tell_fault(fault, errors),
+fn tell_refused<E: Write>(fault: SettingsFault, errors: &mut E) -> Ended
+    ensures { EndsTelling (refusal_output fault) (E.contents errors.old) (E.contents errors.new) result }
+{
+    match refuse_start(Command::Audit, StartFault::Settings(fault), errors) {
+        Ok(status) => Ended { status, told: true },
+        Err(_) => Ended {
+            status: 2,
+            told: false,
+        },
     }
 }
 
-/// Draws a part of a journal, and answers the status.
+/// Tells what came of a journal.
+fn tell_shown<E: Write>(shown: Shown, errors: &mut E) -> Ended
+    ensures { EndsTelling (told_shown shown) (E.contents errors.old) (E.contents errors.new) result }
+{
+    match shown {
+        Shown::Drawn(verdict) => tell_found(verdict, errors),
+        Shown::Refused(fault) => tell_refused(fault, errors),
+    }
+}
+
+/// Draws a part of a journal, and tells what came of it.
 fn draw<R: Read, W: Write, E: Write>(
     alloc: Global,
     policies: Policies,
     part: Part,
     reader: R,
-    output: W,
+    output: &mut W,
     errors: &mut E,
-) -> u8
+) -> Ended
 where
     R: Drop,
-    W: Drop,
-    requires { length policies.pairs.items ≡ MAX_NODES }
+    requires policies { length policies.pairs.items ≡ MAX_NODES }
+    ensures { DrawsInput (R.remaining reader) (record { old = W.contents output.old; new = W.contents output.new; errors_old = E.contents errors.old; errors_new = E.contents errors.new }) result }
 {
     match draw_journal(alloc, policies, part, reader, output) {
-        Ok(Shown::Drawn(Verdict::Sound(_))) => 0,
-        Ok(Shown::Drawn(Verdict::Unsound(number, cause))) => {
-            tell_unsound(alloc, number, cause, errors)
-        }
-        Ok(Shown::Refused(fault)) => tell_refused(fault, errors),
+        Ok(shown) => tell_shown(shown, errors),
         Err(fault) => tell_fault(fault, errors),
     }
 }
 
-/// Shows a text on the first writer.
-fn show<W: Write, E: Write>(text: &str, output: W, errors: &mut E) -> u8
-where
-    W: Drop,
-{
-    let mut output = output;
-    match write_text(&mut output, text.as_bytes()) {
-        Ok(()) => 0,
-        Err(_) => tell_fault(ServeFault::Write, errors),
-    }
-}
-
-/// Says what is wrong with the value of an option.
-fn say_value<E: Write>(text: &str, errors: &mut E) -> u8
-    ensures { result ≡ 2 }
-{
-    let _told = say(2, "error: ", errors);
-    let _more = say(2, text, errors);
-    say(2, "\n\nFor more information, try '--help'.\n", errors)
-}
-
 /// Does what the words say.
+#[tactic(auto, using(crate::proofs::WordFacts::runs_part))]
 fn run_words<R: Read, W: Write, E: Write>(
     alloc: Global,
     words: &[String],
     policies: Policies,
     reader: R,
-    output: W,
+    output: &mut W,
     errors: &mut E,
-) -> u8
+) -> Ended
 where
     R: Drop,
-    W: Drop,
-    requires { length policies.pairs.items ≡ MAX_NODES }
+    requires policies { length policies.pairs.items ≡ MAX_NODES }
+    ensures { Runs (R.remaining reader) (map string_bytes words.now) (record { old = W.contents output.old; new = W.contents output.new; errors_old = E.contents errors.old; errors_new = E.contents errors.new }) result }
 {
     match read_words(alloc, words) {
         Ok(part) => draw(alloc, policies, part, reader, output, errors),
-        Err(Undrawn::NoMemory) => tell_fault(ServeFault::Memory, errors),
-        Err(Undrawn::Help(text)) => show(text.as_str(), output, errors),
-        Err(Undrawn::Wrong(text)) => say(2, text.as_str(), errors),
-        Err(Undrawn::Value(text)) => say_value(text, errors),
+        Err(Undrawn::Unserved(why)) => end_unserved(why, output, errors),
+        Err(Undrawn::Value(text)) => say(2, text, errors),
     }
 }
 
-/// Tells that the words could not be read.
-fn tell_unread<E: Write>(error: io::Error, errors: &mut E) -> u8 {
-    if error.kind() == ErrorKind::OutOfMemory {
-        return tell_fault(ServeFault::Memory, errors);
-    }
-    say_value("a word is not UTF-8 text", errors)
-}
-
-/// Ends a run that has no memory to begin: tells `fault 933`, with status 1.
-pub fn end_without_memory<E: Write>(errors: &mut E) -> u8
-    ensures { result ≡ 1 }
+/// Does what the words say that the program was given.
+#[tactic(auto, using(crate::proofs::WordFacts::runs_lacking))]
+fn run_given<R: Read, W: Write, E: Write>(
+    alloc: Global,
+    given: Args,
+    policies: Policies,
+    reader: R,
+    output: &mut W,
+    errors: &mut E,
+) -> Ended
+where
+    R: Drop,
+    requires policies { length policies.pairs.items ≡ MAX_NODES }
+    ensures { Runs (R.remaining reader) (map string_bytes (into_iter_items given)) (record { old = W.contents output.old; new = W.contents output.new; errors_old = E.contents errors.old; errors_new = E.contents errors.new }) result }
 {
-    tell_fault(ServeFault::Memory, errors)
+    let Ok(all) = collected(alloc, given) else {
+        return end_without_memory(errors);
+    };
+    run_words(alloc, all.as_slice(), policies, reader, output, errors)
 }
 
-/// Runs the program: draws what the words say of the journal that the reader gives, and answers the status.
+/// Runs the program: draws what the words say of the journal that the reader gives, and answers how it ended.
 ///
 /// The words are those of `std::env::args`, the program's name first: `--from L`, `--to L` and `--resource NAME`,
-/// each of which may be left out. The picture goes onto `output` alone; the verdict on a journal that is not
-/// sound, refused settings, faults and wrong words are told on `errors`. Help and the version go to `output`.
+/// each of which may be left out. The picture goes onto `output` alone. The status is 0 where the journal is
+/// sound; 1 where it isn't, and `errors` gets the verdict's line, as `rwvote audit` prints it; 2 where the
+/// settings are refused: then nothing is written to `output`, and `settings fault N` is told on `errors`. A fault
+/// is told there as `fault N`, with status 1. Help and the version go to `output`, with status 0 (`fault 932` and
+/// 1 where that fails). Other words are wrong, and so is one that is not UTF-8, and a value that its option
+/// doesn't take: a text on `errors` says so, and the status is 2. Where memory is refused while words are read,
+/// `fault 933` is told, with status 1.
 ///
-/// The caller owes sixteen pairs of policies.
+/// Contracts speak of what the reader has left and of what the writers hold, where these are known. Of the
+/// picture they say nothing. The caller owes sixteen pairs of policies.
 pub fn run<R: Read, W: Write, E: Write>(
     alloc: Global,
     words: io::Result<Args>,
     policies: Policies,
     reader: R,
-    output: W,
+    output: &mut W,
     errors: &mut E,
-) -> u8
+) -> Ended
 where
     R: Drop,
-    W: Drop,
-    requires { length policies.pairs.items ≡ MAX_NODES }
+    requires policies { length policies.pairs.items ≡ MAX_NODES }
+    ensures runs { IfOk words (λ all. Runs (R.remaining reader) (map string_bytes (into_iter_items all)) (record { old = W.contents output.old; new = W.contents output.new; errors_old = E.contents errors.old; errors_new = E.contents errors.new }) result) }
+    ensures unread { IfErr words (λ error. EndsUnread (error_kind error ≡ ErrorKind.OutOfMemory) (E.contents errors.old) (E.contents errors.new) result) }
+    ensures unread_keeps { IfErr words (λ error. Keeps (W.contents output.old) (W.contents output.new)) }
 {
-    let given = match words {
-        Ok(given) => given,
-        Err(error) => return tell_unread(error, errors),
-    };
-    match given.collect::<Vec<String>>(alloc) {
-        Ok(all) => run_words(alloc, all.as_slice(), policies, reader, output, errors),
-        Err(_) => tell_fault(ServeFault::Memory, errors),
+    match words {
+        Ok(given) => run_given(alloc, given, policies, reader, output, errors),
+        Err(error) => tell_unread(error, errors),
     }
 }

@@ -1,8 +1,12 @@
 // The words that the program takes, and their help.
 
-use clap::error::ErrorKind;
+ghost use Rattle.std.specs.Prelude.{◌≡◌, IfOk, SomeIff, false, map, string_bytes, codes};
+ghost use Rattle.clap.specs.Words.{app_of, rule_of, rows_of, found_of, first_of, fault_of};
+ghost use Rattle.picture_cli.specs.Words.{app, bare_app, option_rule, rows_in, IsLine, line_number, TellsLine, TellsName, TellsPart, ReadsPart};
+
 use clap::{Arg, ArgAction, ArgMatches};
 use lock_messages::ResourceName;
+use program_ends::{Unserved, unserved_by};
 use run_picture::Part;
 use std::alloc::{AllocError, Global};
 
@@ -27,8 +31,35 @@ The status is that of `rwvote audit`: 0; 1 where the journal is not sound, or wh
 standard error (816 or 931 the input failed, 817 the output, 818 or 933 no memory, 819 too many lines);
 2 where the settings (`settings fault N` on standard error) or the words were refused.";
 
+const WRONG_FROM: &str = "\
+error: --from takes the number of a line, from 1 on
+
+For more information, try '--help'.
+";
+
+const WRONG_TO: &str = "\
+error: --to takes the number of a line, from 1 on
+
+For more information, try '--help'.
+";
+
+const WRONG_ORDER: &str = "\
+error: --to is before --from
+
+For more information, try '--help'.
+";
+
+const WRONG_RESOURCE: &str = "\
+error: --resource takes a name of 1 to 32 letters a-z, digits and dashes
+
+For more information, try '--help'.
+";
+
 /// An option that takes a value.
-fn option<'a>(alloc: Global, name: &'a str, value: &'a str, help: &'a str) -> Arg<'a> {
+fn option<'a>(alloc: Global, name: &'a str, value: &'a str, help: &'a str) -> Arg<'a>
+    ensures rule { rule_of result ≡ option_rule name.entry.now }
+    ensures local { result.global ≡ false }
+{
     Arg::new(alloc, name)
         .long(name)
         .value_name(value)
@@ -36,8 +67,20 @@ fn option<'a>(alloc: Global, name: &'a str, value: &'a str, help: &'a str) -> Ar
         .help(help)
 }
 
+/// The program without its options.
+fn bare<'a>(alloc: Global) -> clap::Command<'a>
+    ensures { app_of result ≡ bare_app }
+{
+    clap::Command::new(alloc, "rwdraw")
+        .version("0.1.0")
+        .about(ABOUT)
+        .long_about(HELP)
+}
+
 /// The words that the program takes.
-fn words_taken<'a>(alloc: Global) -> Result<clap::Command<'a>, AllocError> {
+fn words_taken<'a>(alloc: Global) -> Result<clap::Command<'a>, AllocError>
+    ensures { IfOk result (λ c. app_of c ≡ app) }
+{
     let from = option(
         alloc,
         "from",
@@ -51,42 +94,25 @@ fn words_taken<'a>(alloc: Global) -> Result<clap::Command<'a>, AllocError> {
         "NAME",
         "Draws what concerns this resource alone",
     );
-    let program = clap::Command::new(alloc, "rwdraw")
-        .version("0.1.0")
-        .about(ABOUT)
-        .long_about(HELP);
-    let with_from = program.arg(from)?;
+    let with_from = bare(alloc).arg(from)?;
     let with_both = with_from.arg(upto)?;
-    with_both.arg(resource)
+    let with_all = with_both.arg(resource)?;
+    Ok(with_all)
 }
 
 /// Why nothing is drawn.
 #[derive(Debug, Drop)]
-pub(crate) enum Undrawn {
-    /// Memory was refused.
-    NoMemory,
-    /// Help or the version is asked for: this text.
-    Help(String),
-    /// The words are wrong, as this text says.
-    Wrong(String),
-    /// A value is none that the option takes.
+pub enum Undrawn {
+    /// The words name nothing to draw.
+    Unserved(Unserved),
+    /// A value is none that its option takes, as this text says.
     Value(&'static str),
 }
 
-/// What is to be said of an error.
-fn undrawn_by(alloc: Global, error: &clap::Error) -> Undrawn {
-    let Ok(text) = format!(in alloc; "{error}") else {
-        return Undrawn::NoMemory;
-    };
-    match error.kind() {
-        ErrorKind::OutOfMemory => Undrawn::NoMemory,
-        ErrorKind::DisplayHelp | ErrorKind::DisplayVersion => Undrawn::Help(text),
-        _ => Undrawn::Wrong(text),
-    }
-}
-
 /// The number of a line that a text is.
-fn line_in(text: &str) -> Option<u32> {
+fn line_in(text: &str) -> Option<u32>
+    ensures { SomeIff result (IsLine text.now) (line_number text.now) }
+{
     match text.parse::<u32>() {
         Ok(number) if number > 0 => Some(number),
         _ => None,
@@ -94,7 +120,9 @@ fn line_in(text: &str) -> Option<u32> {
 }
 
 /// The number of the line at an option, or another one where it isn't given.
-fn line_at(found: &ArgMatches, name: &str, absent: u32) -> Option<u32> {
+fn line_at(found: &ArgMatches, name: &str, absent: u32) -> Option<u32>
+    ensures { TellsLine absent (first_of name.now (rows_of (found_of found.now))) result }
+{
     match found.get_str(name) {
         Some(text) => line_in(text),
         None => Some(absent),
@@ -102,23 +130,30 @@ fn line_at(found: &ArgMatches, name: &str, absent: u32) -> Option<u32> {
 }
 
 /// The resource that is drawn, if one is named; no answer where what is named is none.
-fn resource_at(found: &ArgMatches) -> Option<Option<ResourceName>> {
+fn resource_at(found: &ArgMatches) -> Option<Option<ResourceName>>
+    ensures { TellsName (first_of (codes "resource") (rows_of (found_of found.now))) result }
+{
     match found.get_str("resource") {
-        Some(text) => Some(Some(ResourceName::of(text.as_bytes())?)),
+        Some(text) => match ResourceName::of(text.as_bytes()) {
+            Some(name) => Some(Some(name)),
+            None => None,
+        },
         None => Some(None),
     }
 }
 
 /// Which part of a journal the options name.
-fn part_in(found: &ArgMatches) -> Result<Part, Undrawn> {
+fn part_in(found: &ArgMatches) -> Result<Part, Undrawn>
+    ensures { TellsPart (rows_of (found_of found.now)) result }
+{
     let Some(first) = line_at(found, "from", 1) else {
-        return Err(Undrawn::Value("--from takes the number of a line, from 1 on"));
+        return Err(Undrawn::Value(WRONG_FROM));
     };
     let Some(last) = line_at(found, "to", u32::MAX) else {
-        return Err(Undrawn::Value("--to takes the number of a line, from 1 on"));
+        return Err(Undrawn::Value(WRONG_TO));
     };
     if last < first {
-        return Err(Undrawn::Value("--to is before --from"));
+        return Err(Undrawn::Value(WRONG_ORDER));
     }
     match resource_at(found) {
         Some(resource) => Ok(Part {
@@ -126,19 +161,31 @@ fn part_in(found: &ArgMatches) -> Result<Part, Undrawn> {
             last,
             resource,
         }),
-        None => Err(Undrawn::Value(
-            "--resource takes a name of 1 to 32 letters a-z, digits and dashes",
-        )),
+        None => Err(Undrawn::Value(WRONG_RESOURCE)),
+    }
+}
+
+/// Which part the words name by this command.
+fn parse_by<'a>(
+    alloc: Global,
+    command: clap::Command<'a>,
+    words: &'a [String],
+) -> Result<Part, Undrawn>
+    requires { app_of command ≡ app }
+    ensures { ReadsPart (fault_of app (map string_bytes words.now)) (rows_in (map string_bytes words.now)) result }
+{
+    match command.try_get_matches_from(words) {
+        Ok(found) => part_in(&found),
+        Err(error) => Err(Undrawn::Unserved(unserved_by(alloc, &error))),
     }
 }
 
 /// Reads the words, of which the first is the program's name.
-pub(crate) fn read_words(alloc: Global, words: &[String]) -> Result<Part, Undrawn> {
-    let Ok(command) = words_taken(alloc) else {
-        return Err(Undrawn::NoMemory);
-    };
-    match command.try_get_matches_from(words) {
-        Ok(found) => part_in(&found),
-        Err(error) => Err(undrawn_by(alloc, &error)),
+pub(crate) fn read_words(alloc: Global, words: &[String]) -> Result<Part, Undrawn>
+    ensures { ReadsPart (fault_of app (map string_bytes words.now)) (rows_in (map string_bytes words.now)) result }
+{
+    match words_taken(alloc) {
+        Ok(command) => parse_by(alloc, command, words),
+        Err(_) => Err(Undrawn::Unserved(Unserved::NoMemory)),
     }
 }

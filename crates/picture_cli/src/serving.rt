@@ -1,15 +1,18 @@
 // A journal and its settings, drawn.
 
-ghost use Rattle.std.specs.Prelude.{◌≡◌, ◌≤◌, length, IfOk};
-ghost use Rattle.lock_messages.specs.declared.ids.TheConstants.{MAX_NODES, MAX_CLIENTS};
+ghost use Rattle.std.specs.Prelude.{◌≡◌, ℕ, List, Option, Err, length};
+ghost use Rattle.lock_messages.specs.declared.ids.TheConstants.{MAX_NODES};
+ghost use Rattle.world_model.specs.declared.exact.ExactWorld.{ExactWorld};
+ghost use Rattle.picture_cli.specs.Drawing.{FindsBehind, RefusesStart, ShowsInput, KeepsRefused};
 
 use crate::SvgCanvas;
+use history_check::laws::events_are_spelled_once;
 use journal_audit::{AuditFault, Verdict};
 use journal_picture::{CanvasFault, Drawing, draw_lines};
 use line_streams::{LineReader, MAX_READS};
 use lock_messages::{Actor, ClientId, NodeId};
 use operator_cli::{
-    Command, Policies, ServeFault, Settings, StartFault, read_head, read_settings, world_down,
+    Command, Policies, ServeFault, Settings, SettingsFault, StartFault, read_start, world_down,
 };
 use picture_svg::Frame;
 use run_picture::{Lasting, Part};
@@ -23,21 +26,7 @@ pub enum Shown {
     /// It was drawn, and this is found of it.
     Drawn(Verdict),
     /// Its settings are refused, and nothing was drawn.
-    Refused(StartFault),
-}
-
-/// The settings that the input begins with.
-fn settings_of<R: Read>(alloc: Global, source: &mut LineReader<R>) -> Result<Settings, StartFault>
-    ensures { IfOk result (λ s. (1 ≤ s.clients) × (s.clients ≤ MAX_CLIENTS)) }
-{
-    let head = match read_head(alloc, source) {
-        Ok(head) => head,
-        Err(fault) => return Err(fault),
-    };
-    match read_settings(alloc, Command::Audit, head.as_slice()) {
-        Ok(start) => Ok(start.settings),
-        Err(fault) => Err(StartFault::Settings(fault)),
-    }
+    Refused(SettingsFault),
 }
 
 /// Adds that an actor is down.
@@ -68,7 +57,9 @@ fn all_down(alloc: Global, nodes: u8, clients: u16) -> Result<Vec<Lasting>, Allo
 }
 
 /// A canvas's fault, as one of an audit.
-fn told(fault: CanvasFault) -> ServeFault {
+fn told(fault: CanvasFault) -> ServeFault
+    ensures { (w : ExactWorld) (left : Option (List ℕ)) → FindsBehind w left (Err result) }
+{
     match fault {
         CanvasFault::Write => ServeFault::Audit(AuditFault::Write),
         CanvasFault::Memory => ServeFault::Audit(AuditFault::Memory),
@@ -82,9 +73,10 @@ fn draw_world<R: Read, W: Write>(
     settings: &Settings,
     part: Part,
     source: &mut LineReader<R>,
-    canvas: &mut SvgCanvas<W>,
+    canvas: &mut SvgCanvas<'_, W>,
 ) -> Result<Verdict, ServeFault>
     requires { Unit {0} }
+    ensures { FindsBehind world source.old result }
 {
     let Ok(lasting) = all_down(alloc, settings.ballots.nodes(), settings.clients) else {
         return Err(ServeFault::Memory);
@@ -101,10 +93,23 @@ fn draw_world<R: Read, W: Write>(
     }
 }
 
+/// Ends without settings.
+fn refused(fault: StartFault) -> Result<Shown, ServeFault>
+    ensures { RefusesStart fault result }
+{
+    match fault {
+        StartFault::Read => Err(ServeFault::Read),
+        StartFault::Settings(fault) => Ok(Shown::Refused(fault)),
+    }
+}
+
 /// Draws a part of a journal, in front of which its settings stand, as SVG.
 ///
 /// What is found of the journal is what an audit of it finds. Where its settings are refused, nothing is
 /// written.
+///
+/// Contracts speak of what the reader has left and of what the writer holds, where these are known. The
+/// caller owes sixteen pairs of policies.
 ///
 /// # Errors
 ///
@@ -115,17 +120,19 @@ pub fn draw_journal<R: Read, W: Write>(
     policies: Policies,
     part: Part,
     reader: R,
-    writer: W,
+    writer: &mut W,
 ) -> Result<Shown, ServeFault>
 where
     R: Drop,
-    W: Drop,
-    requires { length policies.pairs.items ≡ MAX_NODES }
+    requires policies { length policies.pairs.items ≡ MAX_NODES }
+    ensures shown { ShowsInput (R.remaining reader) result }
+    ensures kept { KeepsRefused result (W.contents writer.old) (W.contents writer.new) }
 {
+    events_are_spelled_once();
     let mut source = LineReader::new(reader, MAX_READS);
-    let settings = match settings_of(alloc, &mut source) {
-        Ok(settings) => settings,
-        Err(fault) => return Ok(Shown::Refused(fault)),
+    let settings = match read_start(alloc, Command::Audit, &mut source) {
+        Ok(start) => start.settings,
+        Err(fault) => return refused(fault),
     };
     let Ok(world) = world_down(alloc, &settings, policies) else {
         return Err(ServeFault::Memory);

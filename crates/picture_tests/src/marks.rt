@@ -1,15 +1,9 @@
 // Which marks a journal has.
 
-use crate::playing::marks;
+use crate::playing::{WHOLE, marks};
 use lock_messages::ResourceName;
 use run_picture::Part;
 use test_outcomes::{Outcome, check_row};
-
-const WHOLE: Part = Part {
-    first: 1,
-    last: u32::MAX,
-    resource: None,
-};
 
 /// Client 1 reads `a`.
 const READER: &str =

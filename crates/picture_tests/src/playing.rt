@@ -3,18 +3,26 @@
 use crate::listing::Listing;
 use admission_policy::{Admission, FirstProblem, Pair, SecondProblem};
 use journal_audit::AuditFault;
-use journal_picture::draw_lines;
+use journal_picture::{Drawing, draw_lines};
 use line_streams::{LineReader, MAX_READS};
 use lock_messages::{Actor, ClientId, NodeId};
 use lock_model::Problem;
 use run_picture::{Lasting, Part};
 use std::alloc::Global;
+use std::io::Read;
 use test_outcomes::Failure;
 use vote_weights::{Ballot, BallotList};
 use world_machine::World;
 
+/// The whole of a journal.
+pub(crate) const WHOLE: Part = Part {
+    first: 1,
+    last: u32::MAX,
+    resource: None,
+};
+
 /// The plain policies of both problems.
-fn pair(alloc: Global) -> Result<Pair, Failure> {
+pub(crate) fn pair(alloc: Global) -> Result<Pair, Failure> {
     let first: Box<dyn Admission + Send> = Box::new(alloc, FirstProblem)?;
     let second: Box<dyn Admission + Send> = Box::new(alloc, SecondProblem)?;
     Ok(Pair::of(first, second))
@@ -39,23 +47,41 @@ fn world(alloc: Global) -> Result<World, Failure> {
     }
 }
 
-/// The marks of a part of a journal.
-pub(crate) fn marks(alloc: Global, journal: &str, part: Part) -> Result<String, Failure> {
+/// The world's actors, all of them down.
+fn all_down() -> Result<[Lasting; 3], Failure> {
     let (Some(node), Some(one), Some(two)) = (NodeId::of(1), ClientId::of(1), ClientId::of(2))
     else {
         return Err(Failure::Wrong(0));
     };
-    let down = [
+    Ok([
         Lasting::Down(Actor::Node(node)),
         Lasting::Down(Actor::Client(one)),
         Lasting::Down(Actor::Client(two)),
-    ];
+    ])
+}
+
+/// What comes of drawing a part of the journal that a reader gives, and its marks.
+pub(crate) fn draw<R: Read>(
+    alloc: Global,
+    reader: R,
+    part: Part,
+) -> Result<(Result<Drawing, AuditFault>, String), Failure>
+where
+    R: Drop,
+{
+    let down = all_down()?;
     let world = world(alloc)?;
-    let mut source = LineReader::new(journal.as_bytes(), MAX_READS);
+    let mut source = LineReader::new(reader, MAX_READS);
     let mut canvas = Listing::new(alloc);
-    match draw_lines(alloc, world, part, &down, &mut source, &mut canvas) {
-        Ok(_) => Ok(canvas.text),
-        Err(AuditFault::Memory) => Err(Failure::Memory),
-        Err(_) => Err(Failure::Wrong(0)),
+    let came = draw_lines(alloc, world, part, &down, &mut source, &mut canvas);
+    Ok((came, canvas.text))
+}
+
+/// The marks of a part of a journal.
+pub(crate) fn marks(alloc: Global, journal: &str, part: Part) -> Result<String, Failure> {
+    match draw(alloc, journal.as_bytes(), part)? {
+        (Ok(_), text) => Ok(text),
+        (Err(AuditFault::Memory), _) => Err(Failure::Memory),
+        (Err(_), _) => Err(Failure::Wrong(0)),
     }
 }

@@ -1,6 +1,6 @@
 // The drawer: it takes one step after another, and hands out marks.
 
-ghost use Rattle.std.specs.Prelude.{◌≡◌, ◌≤◌, ◌<◌, ◌+◌, ◌++◌, map, length, IfOk, OnOk, IfErr, IsErrOf};
+ghost use Rattle.std.specs.Prelude.{◌≡◌, ◌≤◌, ◌<◌, ◌+◌, ◌++◌, map, IfOk, OnOk, IfErr, IsErrOf};
 ghost use Rattle.std.specs.Option.{option_to_list};
 ghost use Rattle.run_picture.specs.Pictures.{told, opened, came, one_if, is_about, or_same, after_at, marks_at, wants_message, wants_number, concerns, is_drawn, place_of, here, ended_marks, arrows, own_mark, marks_of_step, about_after, said_after, lasts_after, newly_said, after_step, open_marks, lost_mark};
 
@@ -208,13 +208,6 @@ impl Drawer {
         ensures { IfOk result (λ v. v.items ≡ open_marks self.now line) }
     {
         open_marks(alloc, self.lasting.as_slice(), &self.place(line, false))
-    }
-
-    /// How many messages were said.
-    pub fn said(&self) -> usize
-        ensures { result ≡ length self.now.said }
-    {
-        self.places.len()
     }
 
     /// The mark of the message of this number where it was said in what is drawn, and was never taken or

@@ -13,7 +13,7 @@ use std::{env, io};
 
 /// Ends the program where there is no memory for policies.
 fn end_without_memory(rt: &HostRuntime) -> ExitCode {
-    ExitCode::from(picture_cli::end_without_memory(&mut rt.stderr()))
+    ExitCode::from(picture_cli::end_without_memory(&mut rt.stderr()).status)
 }
 
 fn main(rt: HostRuntime) -> ExitCode {
@@ -30,13 +30,13 @@ fn main(rt: HostRuntime) -> ExitCode {
             return end_without_memory(&rt);
         };
     }
-    let status = picture_cli::run(
+    let ended = picture_cli::run(
         alloc,
         env::args(&rt),
         policies,
         rt.reader(),
-        io::writer(&rt),
+        &mut io::writer(&rt),
         &mut rt.stderr(),
     );
-    ExitCode::from(status)
+    ExitCode::from(ended.status)
 }

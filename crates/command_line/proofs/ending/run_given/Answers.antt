@@ -1,5 +1,6 @@
 use Rattle.std.proofs.Common.{◌∙◌, List, ℕ, map, string_bytes, ap, subst}
-use Rattle.command_line.specs.CommandLine.{Writers, Runs}
+use Rattle.program_ends.specs.Endings.{Writers}
+use Rattle.command_line.specs.CommandLine.{Runs}
 use Rattle.command_line.proofs.ending.run_given.Goals as goal
 
 pub returns : goal.returns

@@ -1,14 +1,17 @@
 use Rattle.std.proofs.Common.{map, string_bytes}
 use Rattle.clap.specs.Words.{fault_of}
-use Rattle.command_line.specs.CommandLine.{app, found_in, Writers}
-use Rattle.command_line.proofs.WordFacts.{reads_so, runs_wrong, keeps_same}
+use Rattle.program_ends.specs.Endings.{Writers}
+use Rattle.command_line.specs.CommandLine.{app, found_in}
+use Rattle.command_line.proofs.WordFacts.{runs_unserved}
 use Rattle.command_line.proofs.ending.run_words.Goals as goal
 
-pub returns : goal.returns
-returns g c =
-    let o = g.W.Write.contents c.args.output.now in
-    let kinds = fault_of app (map string_bytes c.args.words.now) in
-    let named = found_in (map string_bytes c.args.words.now) in
-    let w : Writers = record { old = o; new = o; errors_old = g.E.Write.contents c.args.errors.now; errors_new = g.E.Write.contents c.say.new.errors } in
-    let wrong = reads_so kinds named c.in-Err-Wrong.field-0 _ c.in-Err-Wrong.ensures c.in-Err-Wrong.field-0-is in
-    runs_wrong (g.R.Read.remaining c.args.reader) kinds named w c.say.result wrong (c.as_str-in-Err-Wrong.result.now, keeps_same o, c.say.ensures)
+pub returns-in-Err : goal.returns-in-Err
+returns-in-Err g c =
+    let words = map string_bytes c.args.words.now in
+    let w : Writers = record {
+      old = g.W.Write.contents c.args.output.now;
+      new = g.W.Write.contents c.end_unserved.new.output;
+      errors_old = g.E.Write.contents c.args.errors.now;
+      errors_new = g.E.Write.contents c.end_unserved.new.errors;
+    } in
+    runs_unserved (g.R.Read.remaining c.args.reader) (fault_of app words) (found_in words) w c.end_unserved.result c.in-Err.why c.in-Err.ensures c.end_unserved.ensures

@@ -27,7 +27,7 @@ returns-in-Err-read_event g c = record {
 pub returns-in-Ok-refused : goal.returns-in-Ok-refused
 returns-in-Ok-refused g c = record {
   verdict = is_refused c.events_are_spelled_once.ensures c.args.world.now c.loop-taken.world c.args.source.now c.loop-taken.source c.read_piece.new.source c.loop-taken.taken (c.loop-taken.taken + 1) c.read_piece.new.piece.items c.in-Ok-read_piece.end c.in-Ok-read_event.event c.in-Err-step.fault (Ok c.in-Ok-refused.verdict) c.loop-taken.invariant.so_far refl c.loop-taken-test.true c.in-Ok-read_piece.ensures.line (same_line c.in-Ok-read_piece.end c.read_piece.new.piece.items c.as_slice-line.result.now _ c.as_slice-line.ensures.value (sym c.ends_no_line.ensures ∙ c.if-ends_no_line.false)) (same_said c.read_piece.new.piece.items c.as_slice-line.result.now _ c.as_slice-line.ensures.value (sym c.in-Ok-read_event.ensures)) c.in-Err-step.ensures.exact.0 c.in-Ok-refused.ensures.verdict tt;
-  drawn = drawn_refused c.args.world.now c.loop-taken.world c.args.source.now c.loop-taken.source c.read_piece.new.source c.loop-taken.taken c.read_piece.new.piece.items c.in-Ok-read_piece.end c.in-Ok-read_event.event c.in-Err-step.fault c.args.drawer c.loop-taken.drawer (g.C.Canvas.drawn c.args.canvas.now) (g.C.Canvas.drawn c.loop-taken.canvas) _ c.loop-taken.invariant.drawn c.in-Ok-read_piece.ensures.line (same_line c.in-Ok-read_piece.end c.read_piece.new.piece.items c.as_slice-line.result.now _ c.as_slice-line.ensures.value (sym c.ends_no_line.ensures ∙ c.if-ends_no_line.false)) (same_said c.read_piece.new.piece.items c.as_slice-line.result.now _ c.as_slice-line.ensures.value (sym c.in-Ok-read_event.ensures)) c.in-Err-step.ensures.exact.0 c.in-Ok-refused.ensures.verdict.1;
+  drawn = drawn_refused c.args.world.now c.loop-taken.world c.step.new.self c.args.source.now c.loop-taken.source c.read_piece.new.source c.loop-taken.taken c.read_piece.new.piece.items c.in-Ok-read_piece.end c.in-Ok-read_event.event c.in-Err-step.fault c.args.drawer c.loop-taken.drawer (g.C.Canvas.drawn c.args.canvas.now) (g.C.Canvas.drawn c.loop-taken.canvas) _ c.loop-taken.invariant.drawn c.in-Ok-read_piece.ensures.line (same_line c.in-Ok-read_piece.end c.read_piece.new.piece.items c.as_slice-line.result.now _ c.as_slice-line.ensures.value (sym c.ends_no_line.ensures ∙ c.if-ends_no_line.false)) (same_said c.read_piece.new.piece.items c.as_slice-line.result.now _ c.as_slice-line.ensures.value (sym c.in-Ok-read_event.ensures)) c.in-Err-step.ensures.exact c.in-Ok-refused.ensures.verdict.1;
 }
 
 pub returns-then-is_last : goal.returns-then-is_last

@@ -1,0 +1,139 @@
+// Journals behind their settings, drawn as SVG: what is found, and how much is written.
+
+use crate::failing::{Breaks, Full};
+use crate::playing::{WHOLE, pair};
+use history_check::LineFault;
+use journal_audit::{AuditFault, Cause, Verdict};
+use lock_messages::MAX_NODES;
+use operator_cli::{Policies, ServeFault, SettingsFault};
+use picture_cli::{Shown, draw_journal};
+use std::alloc::Global;
+use std::io::{Read, Write};
+use test_outcomes::{Failure, Outcome, check_row};
+use world_model::StepFault;
+
+/// Policies for as many nodes as there may be.
+fn policies(alloc: Global) -> Result<Policies, Failure> {
+    let mut pairs = Vec::new(alloc);
+    for _ in 0..MAX_NODES {
+        let next = pair(alloc)?;
+        pairs.push(next)?;
+    }
+    Ok(Policies { pairs })
+}
+
+/// What comes of drawing what a reader gives.
+fn draw<R: Read, W: Write>(alloc: Global, reader: R, out: &mut W) -> Result<Shown, Failure>
+where
+    R: Drop,
+{
+    let policies = policies(alloc)?;
+    if policies.pairs.len() != MAX_NODES as usize {
+        return Err(Failure::Wrong(0));
+    }
+    match draw_journal(alloc, policies, WHOLE, reader, out) {
+        Ok(Shown::Refused(SettingsFault::Memory)) => Err(Failure::Memory),
+        Ok(shown) => Ok(shown),
+        Err(ServeFault::Memory | ServeFault::Audit(AuditFault::Memory)) => Err(Failure::Memory),
+        Err(ServeFault::Read) => Err(Failure::NoAnswer(931)),
+        Err(ServeFault::Write) => Err(Failure::NoAnswer(932)),
+        Err(ServeFault::Audit(fault)) => Err(Failure::NoAnswer(usize::from(fault.number()))),
+    }
+}
+
+const HEAD: &str = "votes = [1]\nread = 1\nwrite = 1\nproblem = 1\nclients = 2\n---\n";
+
+/// Rows of what stands behind the settings, and what is found.
+const ROWS: [(&str, Verdict); 4] = [
+    ("", Verdict::Sound(0)),
+    ("rise n1 old\nrise c1 old\n", Verdict::Sound(2)),
+    (
+        "rise n1 old\nrise n1 old\n",
+        Verdict::Unsound(2, Cause::Refused(StepFault::Up)),
+    ),
+    ("\n", Verdict::Unsound(1, Cause::Line(LineFault::Word))),
+];
+
+/// Whether this is found of what stands behind the settings, and a whole picture is written.
+fn is_drawn(alloc: Global, lines: &str, found: Verdict) -> Result<bool, Failure> {
+    let mut input = String::new(alloc);
+    input.push_str(HEAD)?;
+    input.push_str(lines)?;
+    let mut out = Vec::new(alloc);
+    let shown = draw(alloc, input.as_bytes(), &mut out)?;
+    let begun = out.starts_with(b"<svg ".as_slice());
+    let ended = out.ends_with(b"</svg>\n".as_slice());
+    Ok(shown == Shown::Drawn(found) && begun && ended)
+}
+
+#[test]
+fn journals_as_svg(rt: HostRuntime) -> Outcome {
+    for (row, (lines, found)) in ROWS.iter().enumerate() {
+        let right = is_drawn(rt.alloc(), *lines, *found)?;
+        check_row(right, row)?;
+    }
+    Ok(())
+}
+
+/// One alone, of which `tools/sweep` refuses each request for memory.
+#[test]
+fn one_journal(rt: HostRuntime) -> Outcome {
+    let right = is_drawn(rt.alloc(), "rise n1 old\n", Verdict::Sound(1))?;
+    check_row(right, 0)
+}
+
+/// Rows of settings that are refused, and their fault.
+const REFUSED: [(&str, SettingsFault); 3] = [
+    ("", SettingsFault::NoEnd),
+    (
+        "votes = [1]\nread = 1\nwrite = 1\nclients = 2\n---\n",
+        SettingsFault::Value,
+    ),
+    ("vote = [1]\n---\n", SettingsFault::UnknownKey),
+];
+
+/// Nothing is written then.
+#[test]
+fn refused_settings(rt: HostRuntime) -> Outcome {
+    for (row, (input, fault)) in REFUSED.iter().enumerate() {
+        let mut out = Vec::new(rt.alloc());
+        let shown = draw(rt.alloc(), input.as_bytes(), &mut out)?;
+        check_row(shown == Shown::Refused(*fault), row)?;
+        check_row(out.is_empty(), row)?;
+    }
+    Ok(())
+}
+
+/// What is answered where something fails: want of memory, or the fault by its number.
+fn failed<R: Read, W: Write>(alloc: Global, reader: R, out: &mut W) -> Result<usize, Failure>
+where
+    R: Drop,
+{
+    match draw(alloc, reader, out) {
+        Err(Failure::NoAnswer(number)) => Ok(number),
+        Err(failure) => Err(failure),
+        Ok(_) => Err(Failure::Wrong(0)),
+    }
+}
+
+/// In the settings nothing is written yet, behind them the picture has begun.
+#[test]
+fn readers_that_fail(rt: HostRuntime) -> Outcome {
+    let mut out = Vec::new(rt.alloc());
+    let in_head = Breaks {
+        bytes: b"votes = [1]\n".as_slice(),
+    };
+    let number = failed(rt.alloc(), in_head, &mut out)?;
+    check_row(number == 931 && out.is_empty(), 0)?;
+    let behind = Breaks {
+        bytes: HEAD.as_bytes(),
+    };
+    let number = failed(rt.alloc(), behind, &mut out)?;
+    check_row(number == 816, 1)
+}
+
+#[test]
+fn full_writer(rt: HostRuntime) -> Outcome {
+    let number = failed(rt.alloc(), HEAD.as_bytes(), &mut Full)?;
+    check_row(number == 817, 0)
+}

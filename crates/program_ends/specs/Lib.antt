@@ -1,0 +1,2 @@
+pub mod Wordings
+pub mod Endings
