@@ -1,3 +1,4 @@
 pub mod Between
 pub mod Logging
 pub mod Sending
+pub mod MeetingFacts

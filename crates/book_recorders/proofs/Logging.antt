@@ -32,7 +32,7 @@ own_grows k between e done others own =
 abbrev with_events : BerthValue → List (Event × Effect) → OwnLog
 with_events k l = record { actor = k.actor; ballots = k.opening.ballots; opening = part k.opening k.actor; events = l }
 
-log_after : (k k' : BerthValue) (seen own : List (Event × Effect)) → k' ≡ after_seeing k seen → own_events k.actor seen ≡ own → log_of k' ≡ with_events k own
+pub log_after : (k k' : BerthValue) (seen own : List (Event × Effect)) → k' ≡ after_seeing k seen → own_events k.actor seen ≡ own → log_of k' ≡ with_events k own
 log_after k k' seen own is same = ap log_of is ∙ ap (with_events k) same
 
 pub is_added : EffectsAreOfTheirEvents → (k : BerthValue) (e : Event) (done : Effect) (k' : BerthValue) → HasLogged k e done k' → IsAdded (log_of k) e done (log_of k')

@@ -6,15 +6,18 @@
 //! what a `Recorder` is, and of what is logged through the lock how the berth goes on: from all that it
 //! had seen, by what others logged, and then by its own event; and all of it is a run. It stands on
 //! `history_book`, `event_recorders`, `stable_record`, `berth_seats`, `world_machine`, `world_model` and
-//! `lock_messages`.
+//! `lock_messages`. A `SharedRecorder` can be asked who is inside a resource, and whether
+//! its client and another one are inside the same; where they are, both are readers.
 #![tactic(auto)]
 
 mod alone;
 mod logs;
+mod meeting;
 mod named;
 mod shared;
 
 pub use alone::{ListRecorder, open_alone};
 pub use logs::Logs;
+pub use meeting::SharedRecorder;
 pub use named::{BookName, Named};
 pub use shared::BookRecorder;

@@ -1,12 +1,14 @@
 // A book under a lock.
 
-ghost use Rattle.std.specs.Prelude.{◌≡◌, IfOk, IfErr};
+ghost use Rattle.std.specs.Prelude.{◌≡◌, ◌⊎◌, IfOk, IfErr};
 ghost use Rattle.berth_seats.specs.Views.{TableId};
 ghost use Rattle.history_book.specs.Books.{BookValue};
-ghost use Rattle.book_recorders.specs.Sharing.{HasLogged, MayRefuse, no_table};
+ghost use Rattle.book_recorders.specs.Meeting.{HaveMet, HasSeenInside};
+ghost use Rattle.book_recorders.specs.Sharing.{HasLogged, MayRefuse, log_of, no_table};
 
 use crate::Logs;
 use history_book::{Berth, BookFault};
+use lock_messages::{ResourceName, Ticket};
 use std::marker::{Brand, Model, PhantomData};
 use world_model::{Effect, Event};
 
@@ -72,5 +74,39 @@ impl<B: BookName, K: Logs> Named<B, K> {
         ensures refused { IfErr result (λ f. MayRefuse f berth.old event berth.new) }
     {
         self.book.log(berth, event)
+    }
+
+    /// Whether the berths are of two clients inside one resource; then both read. Their own logs stay as they are,
+    /// and both have seen the history.
+    ///
+    /// The only error is that one of them has another book's number (815), which changes nothing. The caller owes
+    /// that both are of the book of this name.
+    #[tactic(auto, using(crate::proofs::MeetingFacts::met_if))]
+    pub(crate) fn meet(&mut self, one: &mut Berth, other: &mut Berth) -> Result<bool, BookFault>
+        requires one { one.old.table ≡ B.table }
+        requires other { other.old.table ≡ B.table }
+        ensures met { IfOk result (λ met. HaveMet met (log_of one.old) (log_of other.old) (log_of one.new) (log_of other.new)) }
+        ensures tables { (one.new.table ≡ B.table) × (other.new.table ≡ B.table) }
+        ensures err { IfErr result (λ f. (f ≡ BookFault.OtherBook) × (one.new ≡ one.old) × (other.new ≡ other.old)) }
+    {
+        self.book.meet(one, other)
+    }
+    /// The tickets of the clients that are inside the resource, in the order of the clients; a writer among them is
+    /// the only one. The berth's own log stays as it is.
+    ///
+    /// The errors: the berth has another book's number (815), or memory was refused (813). The caller owes that the
+    /// berth is of the book of this name.
+    #[tactic(auto, using(crate::proofs::MeetingFacts::seen_if, crate::proofs::MeetingFacts::log_seen))]
+    pub(crate) fn inside(
+        &mut self,
+        berth: &mut Berth,
+        resource: &ResourceName,
+    ) -> Result<Vec<Ticket>, BookFault>
+        requires { berth.old.table ≡ B.table }
+        ensures seen { IfOk result (λ tickets. HasSeenInside (log_of berth.old) resource.now tickets.items (log_of berth.new)) }
+        ensures table { berth.new.table ≡ B.table }
+        ensures err { IfErr result (λ f. ((f ≡ BookFault.OtherBook) ⊎ (f ≡ BookFault.Memory)) × (log_of berth.new ≡ log_of berth.old)) }
+    {
+        self.book.inside(berth, resource)
     }
 }

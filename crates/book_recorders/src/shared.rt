@@ -4,9 +4,10 @@ ghost use Rattle.std.specs.Prelude.{◌≡◌, IfOk, IfErr};
 ghost use Rattle.history_book.specs.Books.{BerthValue};
 ghost use Rattle.book_recorders.specs.Sharing.{HasLogged, MayRefuse, log_of};
 
-use crate::{BookName, Logs, Named};
+use crate::{BookName, Logs, Named, SharedRecorder};
 use event_recorders::Recorder;
 use history_book::{Berth, BookFault};
+use lock_messages::{ResourceName, Ticket};
 use stable_record::StableRecord;
 use std::marker::Model;
 use std::sync::{Mutex, Wait};
@@ -76,5 +77,18 @@ impl<'a, B: BookName, K: Logs, R: Wait + Copy> Recorder for BookRecorder<'a, B, 
         let _ = stable;
         steps_change_one_part();
         self.log_event(event)
+    }
+}
+
+impl<'a, B: BookName, K: Logs, R: Wait + Copy> SharedRecorder for BookRecorder<'a, B, K, R> {
+    /// Asks the book, under its lock, for which it may wait.
+    fn meet(&mut self, other: &mut BookRecorder<'a, B, K, R>) -> Result<bool, BookFault> {
+        self.book
+            .lock(&self.rt)
+            .meet(&mut self.berth, &mut other.berth)
+    }
+    /// Asks the book, under its lock, for which it may wait.
+    fn inside(&mut self, resource: &ResourceName) -> Result<Vec<Ticket>, BookFault> {
+        self.book.lock(&self.rt).inside(&mut self.berth, resource)
     }
 }

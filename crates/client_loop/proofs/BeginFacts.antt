@@ -10,8 +10,8 @@ use Rattle.world_model.specs.declared.events.Event.{Event}
 use Rattle.world_model.specs.declared.events.Event.TheVariants as event
 use Rattle.history_check.specs.declared.wishes.Wish.{Wish}
 use Rattle.event_recorders.specs.OwnLogs.{OwnLog}
-use Rattle.client_loop.specs.Standing.{Stands}
-use Rattle.client_loop.specs.Visits.{Use, Visits, AreWished, BeginsOnly, BeginsNothing, HasBegun, ArePlaced, use_of, visits_after, visits_from, visits_of, visits_entering, visits_beginning}
+use Rattle.client_loop.specs.Standing.{Stands, IsSameClient}
+use Rattle.client_loop.specs.Visits.{Use, Visits, AreWished, BeginsOnly, BeginsNothing, HasBegun, ArePlaced, use_of, visits_after, visits_from, visits_of, visits_entering, visits_softening, visits_beginning}
 
 pub begins_none : (u : Use) (a b : Visits) → b ≡ a → BeginsOnly u a b
 begins_none u a b same = record { whose = ap (λ (v : Visits). v.whose) same; ballots = ap (λ (v : Visits). v.ballots) same; only = λ wished is before. subst (λ (v : Visits). AreWished wished v.begins) (sym same) before }
@@ -133,3 +133,23 @@ wish_begun who wishes i w other l l' few at only before = record {
   whose = sym (whose_of l') ∙ only.whose ∙ whose_of l ∙ before.whose;
   each = only.only (map (λ (x : Wish). use_of x) wishes) (is_wished wishes i w other few at) before.each;
 }
+
+-- nothing, and then an Enter
+pub nothing_after : (a b c : Visits) → BeginsNothing b c → b ≡ a → BeginsNothing a c
+nothing_after a b c then same = record { whose = then.whose ∙ ap (λ (v : Visits). v.whose) same; ballots = then.ballots ∙ ap (λ (v : Visits). v.ballots) same; none = then.none ∙ ap (λ (v : Visits). v.begins) same }
+
+-- so the client is the same
+same_client : (l l' : OwnLog) → (visits_of l').whose ≡ (visits_of l).whose → (visits_of l').ballots ≡ (visits_of l).ballots → IsSameClient l l'
+same_client l l' whose ballots = record { actor = sym (whose_of l') ∙ whose ∙ whose_of l; ballots = same_ballots l l' ballots }
+
+pub beginning_client : (u : Use) (l l' : OwnLog) → BeginsOnly u (visits_of l) (visits_of l') → IsSameClient l l'
+beginning_client u l l' only = same_client l l' only.whose only.ballots
+
+pub still_client : (l l' : OwnLog) → visits_of l' ≡ visits_of l → IsSameClient l l'
+still_client l l' same = same_client l l' (ap (λ (v : Visits). v.whose) same) (ap (λ (v : Visits). v.ballots) same)
+
+pub softening_client : (l l' : OwnLog) → visits_of l' ≡ visits_softening (visits_of l) → IsSameClient l l'
+softening_client l l' more = same_client l l' (ap (λ (v : Visits). v.whose) more) (ap (λ (v : Visits). v.ballots) more)
+
+pub risen_client : (l l' : OwnLog) → (visits_of l').whose ≡ l.actor → (visits_of l').ballots ≡ l.ballots → IsSameClient l l'
+risen_client l l' whose ballots = record { actor = sym (whose_of l') ∙ whose; ballots = sym (ballots_of l') ∙ ballots }

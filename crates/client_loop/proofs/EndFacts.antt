@@ -16,7 +16,7 @@ use Rattle.actor_steps.specs.Steps.{HasFailed, IsBookFault}
 use Rattle.actor_steps.specs.Endings.{falls_of, FailuresFollow, EndsBy, EndsFrom}
 use Rattle.actor_steps.proofs.EndFacts.{none_fallen, failures_stay}
 use Rattle.client_loop.specs.Standing.{Stands, part_of}
-use Rattle.client_loop.specs.Endings.{IsOutside, HasSpentAttempts, EndsAsking, ClientEndsBy, ClientEndsFrom, ClientEndsSomehow}
+use Rattle.client_loop.specs.Endings.{IsOutside, HasSpentAttempts, EndsAsking, EndsOneAttempt, IsAttemptFault, ClientEndsBy, ClientEndsFrom, ClientEndsSomehow}
 
 -- a client ends as any actor does
 ends-too : (f : RunFault) (l : OwnLog) (stuck spent : Bool) (before now : ℕ) → EndsBy f l stuck spent before now → ClientEndsBy f l stuck spent before now
@@ -82,3 +82,14 @@ pub is_outside : (l : OwnLog) (finds : List (List ℕ)) (c : Client) → Stands 
 is_outside l finds c h rests =
     let so : IsOutside (ClientPart (part_of c)) = (idle-part c.state rests, refl) in
     subst IsOutside (sym h.part) so
+
+-- a fault of making an attempt is none after which the client may make another
+pub attempt_ends_all : (f : RunFault) → IsAttemptFault f → EndsOneAttempt f → ⊥
+attempt_ends_all f (inl is) (inl few) = cc
+attempt_ends_all f (inl is) (inr gave) = cc
+attempt_ends_all f (inr (inl is)) (inl few) = cc
+attempt_ends_all f (inr (inl is)) (inr gave) = cc
+attempt_ends_all f (inr (inr (inl is))) (inl few) = cc
+attempt_ends_all f (inr (inr (inl is))) (inr gave) = cc
+attempt_ends_all f (inr (inr (inr is))) (inl few) = cc
+attempt_ends_all f (inr (inr (inr is))) (inr gave) = cc

@@ -18,7 +18,7 @@ use Rattle.world_model.specs.Parts.{Part, ClientPart, after_own, after_turn}
 use Rattle.world_actors.specs.Clients.{phase_of as part_phase}
 use Rattle.event_recorders.specs.OwnLogs.{OwnLog, IsAdded, FindsPart}
 use Rattle.client_loop.specs.declared.progress.Progress.{Progress}
-use Rattle.client_loop.specs.Hearing.{HearsOf, HearsNothing, TakesParcel, granted_after, released_after}
+use Rattle.client_loop.specs.Hearing.{HearsOf, HearsNothing, TakesParcel, granted_after, released_after, busy_after}
 use Rattle.client_loop.specs.Standing.{Stands, part_of}
 
 -- a client that is up makes the same of a message as its part
@@ -76,7 +76,7 @@ hear_stands l l' finds c who number m told h same added =
 
 -- what was heard is remembered
 pub remembers : (number : ℕ) (l l' : OwnLog) (before after : Progress) (core : Client) (node : ℕ) (answer : Heard) → HearsOf number l l' before.core core node answer →
-    after ≡ record before { core = core; granted = granted_after answer node before.granted; released = released_after answer node before.released } → TakesParcel number l l' before after
+    after ≡ record before { core = core; granted = granted_after answer node before.granted; released = released_after answer node before.released; busy = busy_after answer before.busy } → TakesParcel number l l' before after
 remembers number l l' before after core node answer h a = inr (record { node = node; answer = answer; hears = rw a h; kept = rw a refl })
 
 -- where nothing was heard, all is as it was

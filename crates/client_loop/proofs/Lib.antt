@@ -8,3 +8,4 @@ pub mod SentFacts
 pub mod EndFacts
 pub mod BeginFacts
 pub mod SoftenedFacts
+pub mod TallyFacts

@@ -1,6 +1,8 @@
 -- How a client ends by a fault, as its own log and its record tell.
-use Rattle.std.specs.Prelude.{◌≡◌, ◌⊎◌, ℕ, Bool, None}
+use Rattle.std.specs.Prelude.{◌≡◌, ◌⊎◌, ℕ, Bool, false, List, None}
 use Rattle.lock_messages.specs.declared.ids.TheConstants.{MAX_ATTEMPT}
+use Rattle.client_core.specs.declared.phases.Phase.TheVariants as phase
+use Rattle.client_core.specs.Clients.{Client, phase_of}
 use Rattle.world_model.specs.declared.exact.ExactClientPhase.TheVariants as client
 use Rattle.world_model.specs.Parts.{Part, NoPart, NodePart, ClientPart}
 use Rattle.event_recorders.specs.declared.faults.RunFault.{RunFault}
@@ -8,6 +10,7 @@ use Rattle.event_recorders.specs.declared.faults.RunFault.TheVariants as fault
 use Rattle.event_recorders.specs.OwnLogs.{OwnLog, part_now}
 use Rattle.actor_steps.specs.Steps.{HasFailed, IsBookFault}
 use Rattle.actor_steps.specs.Endings.{HasNotRisen, IsRefusedEvent, IsSpentRecord}
+use Rattle.client_loop.specs.Standing.{Stands}
 
 -- the faults of taking a post, and of asking
 abbrev pub IsPostFault : RunFault → Type 0
@@ -15,6 +18,10 @@ IsPostFault f = (f ≡ fault.GaveUp) ⊎ IsBookFault f
 
 abbrev pub IsAskFault : RunFault → Type 0
 IsAskFault f = (f ≡ fault.TooFewNodes) ⊎ IsPostFault f
+
+-- the faults of making an attempt
+abbrev pub IsAttemptFault : RunFault → Type 0
+IsAttemptFault f = (f ≡ fault.NotReopened) ⊎ ((f ≡ fault.Spent) ⊎ IsBookFault f)
 
 -- the client is up, asks for nothing, is inside nothing and tries to keep nothing
 abbrev pub IsOutside : Part → Type 0
@@ -56,3 +63,13 @@ pub record ClientEndsSomehow (f : RunFault) (l : OwnLog) : Type 0 where
   pub before : ℕ
   pub now : ℕ
   pub ends : ClientEndsBy f l stuck spent before now
+
+-- the faults that end one attempt, after which the client may make another
+abbrev pub EndsOneAttempt : RunFault → Type 0
+EndsOneAttempt f = (f ≡ fault.TooFewNodes) ⊎ (f ≡ fault.GaveUp)
+
+-- The client rests by its own log, as its core does, and its record isn't stuck: it may make an attempt.
+pub record IsAtRest (l : OwnLog) (finds : List (List ℕ)) (stuck : Bool) (core : Client) : Type 0 where
+  pub stands : Stands l finds core
+  pub idle : phase_of core ≡ phase.Idle
+  pub free : stuck ≡ false

@@ -1,5 +1,5 @@
 -- What a client hears, and what it remembers of it.
-use Rattle.std.specs.Prelude.{◌≡◌, ◌⊎◌, ℕ, true, List}
+use Rattle.std.specs.Prelude.{◌≡◌, ◌⊎◌, ℕ, Bool, true, List}
 use Rattle.lock_messages.specs.declared.messages.Message.{Message}
 use Rattle.lock_messages.specs.Frames.{frame_of}
 use Rattle.lock_messages.specs.Messages.{IsMessage, is_for_client, named_node}
@@ -56,12 +56,21 @@ released_after heard.Done n released = with_node released n
 released_after heard.Softened n released = released
 released_after heard.NotMine n released = released
 
--- what was heard is remembered: a vote that was counted, and a release that was answered
+-- whether a node let it wait, once this was made of a message
+abbrev pub busy_after : Heard → Bool → Bool
+busy_after heard.Counted busy = busy
+busy_after heard.Known busy = busy
+busy_after heard.Busy busy = true
+busy_after heard.Done busy = busy
+busy_after heard.Softened busy = busy
+busy_after heard.NotMine busy = busy
+
+-- what was heard is remembered: a vote that was counted, a release that was answered, and that it is to wait
 pub record Remembers (number : ℕ) (l l' : OwnLog) (before after : Progress) : Type 0 where
   pub node : ℕ
   pub answer : Heard
   pub hears : HearsOf number l l' before.core after.core node answer
-  pub kept : after ≡ record before { core = after.core; granted = granted_after answer node before.granted; released = released_after answer node before.released }
+  pub kept : after ≡ record before { core = after.core; granted = granted_after answer node before.granted; released = released_after answer node before.released; busy = busy_after answer before.busy }
 
 -- the client heard nothing, or it remembers what it heard
 abbrev pub TakesParcel : ℕ → OwnLog → OwnLog → Progress → Progress → Type 0

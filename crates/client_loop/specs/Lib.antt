@@ -2,5 +2,6 @@ pub mod Standing
 pub mod Visits
 pub mod Nodes
 pub mod Hearing
+pub mod Remembering
 pub mod Sendings
 pub mod Endings

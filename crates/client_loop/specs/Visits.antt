@@ -3,6 +3,7 @@ use Rattle.std.specs.Prelude.{◌≡◌, ℕ, ◌+◌, ◌-◌, ◌≤◌, ◌�
 use Rattle.std.specs.List.{All}
 use Rattle.lock_messages.specs.declared.ids.Actor.{Actor}
 use Rattle.lock_messages.specs.declared.tickets.Mode.{Mode}
+use Rattle.lock_messages.specs.declared.tickets.Ticket.{Ticket}
 use Rattle.lock_model.specs.Ballots.{Ballot, HasPlace}
 use Rattle.lock_model.specs.Decisions.{Among}
 use Rattle.lock_model.specs.ExactStations.{is_write}
@@ -18,6 +19,11 @@ pub record Use : Type 0 where
   pub mode : Mode
   pub resource : List ℕ
   pub place : ℕ
+
+-- a ticket asks for this use
+pub record AsksFor (u : Use) (t : Ticket) : Type 0 where
+  pub mode : t.mode ≡ u.mode
+  pub resource : t.resource ≡ u.resource
 
 -- whose events they are, and the ballots that there are; the use that was begun last, if one was; for each
 -- Enter, in order, the use that was begun last before it, and for each Soften the same; and the use of each

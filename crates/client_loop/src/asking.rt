@@ -1,6 +1,6 @@
 // Asking nodes for their votes.
 
-ghost use Rattle.std.specs.Prelude.{◌≡◌, OnOk, IfErr, Err};
+ghost use Rattle.std.specs.Prelude.{◌≡◌, true, false, Ok, Err, OnOk, IfErr};
 ghost use Rattle.lock_model.specs.Ballots.{HasPlace};
 ghost use Rattle.client_core.specs.Calls.{MayEnter};
 ghost use Rattle.client_loop.specs.Sendings.{SentFollows, SentUnlessMemory};
@@ -52,21 +52,25 @@ fn ask_on<R: Recorder, L: Link>(
     Ok(())
 }
 
-/// Asks one node after another until the votes are enough for the wish. 912: the nodes that granted and
-/// those that aren't gone are not enough.
+/// Asks one node after another until the votes are enough for the wish, or, where it isn't to wait, until a
+/// node lets it wait; whether they are enough. 912: the nodes that granted and those that aren't gone are not
+/// enough.
 #[tactic(auto, using(crate::proofs::SentFacts::follows_none, crate::proofs::SentFacts::follows_on, crate::proofs::SentFacts::unless_on, crate::proofs::SentFacts::unless_follows))]
 pub(crate) fn ask<W: Wait, R: Recorder, L: Link>(
     rt: &W,
     alloc: Global,
     wish: &Wish,
+    waits: bool,
     progress: &mut Progress,
     stable: &dyn StableRecord,
     recorder: &mut R,
     link: &mut L,
-) -> Result<(), RunFault>
+) -> Result<bool, RunFault>
     requires stands { Stands (R.own_log recorder.old) (finds stable.now) progress.old.core }
     requires placed { HasPlace (R.own_log recorder.old).ballots wish.now.place }
-    ensures may_enter { OnOk result (MayEnter progress.new.core) }
+    ensures may_enter { result ≡ Ok true → MayEnter progress.new.core }
+    // A wish is taken back only where it isn't to wait, and a node let it.
+    ensures busy { result ≡ Ok false → (waits ≡ false) × (progress.new.busy ≡ true) }
     ensures sent { OnOk result (SentFollows (R.own_log recorder.old) (R.own_log recorder.new) (L.given link.old) (L.given link.new)) }
     ensures faulted { IfErr result (λ f. SentUnlessMemory f (R.own_log recorder.old) (R.own_log recorder.new) (L.given link.old) (L.given link.new)) }
     ensures stands { Stands (R.own_log recorder.new) (finds stable.now) progress.new.core }
@@ -80,7 +84,10 @@ pub(crate) fn ask<W: Wait, R: Recorder, L: Link>(
 {
     for _ in rt.forever() {
         if progress.core.may_enter() {
-            return Ok(());
+            return Ok(true);
+        }
+        if progress.busy && !waits {
+            return Ok(false);
         }
         if !progress.can_suffice(wish.place, wish.mode) {
             return Err(RunFault::TooFewNodes);

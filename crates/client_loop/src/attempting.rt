@@ -7,8 +7,8 @@ ghost use Rattle.client_core.specs.declared.phases.Phase.TheVariants as phase;
 ghost use Rattle.client_loop.specs.Sendings.{sent_of};
 ghost use Rattle.client_loop.specs.Standing.{Stands, HasChosen, HasTried};
 ghost use Rattle.actor_steps.specs.Endings.{falls_of, FailuresFollow};
-ghost use Rattle.client_loop.specs.Endings.{ClientEndsFrom};
-ghost use Rattle.client_loop.specs.Visits.{visits_of, use_of, BeginsOnly};
+ghost use Rattle.client_loop.specs.Endings.{ClientEndsFrom, IsAttemptFault};
+ghost use Rattle.client_loop.specs.Visits.{visits_of, use_of, AsksFor, BeginsOnly};
 
 use crate::progress::Progress;
 use actor_steps::{Keeping, keep_next, log_plain, rise_again};
@@ -35,12 +35,13 @@ fn begin<R: Recorder>(
     requires placed { HasPlace (R.own_log recorder.old).ballots wish.now.place }
     ensures silent { sent_of (R.own_log recorder.new) ≡ sent_of (R.own_log recorder.old) }
     ensures chosen { OnOk result (HasChosen (R.own_log recorder.new) (finds stable.now) core.new) }
-    ensures asks { OnOk result (IfSome (ticket_of core.new) (λ t. t.mode ≡ wish.now.mode)) }
+    ensures asks { OnOk result (IfSome (ticket_of core.new) (AsksFor (use_of wish.now))) }
     ensures begun { OnOk result ((visits_of (R.own_log recorder.new)).begun ≡ Some (use_of wish.now)) }
     ensures entered { (visits_of (R.own_log recorder.new)).entered ≡ (visits_of (R.own_log recorder.old)).entered }
     ensures softened { (visits_of (R.own_log recorder.new)).softened ≡ (visits_of (R.own_log recorder.old)).softened }
     ensures falls { falls_of (R.own_log recorder.new) ≡ falls_of (R.own_log recorder.old) }
     ensures ended { IfErr result (λ fault. ClientEndsFrom fault (falls_of (R.own_log recorder.old)) (R.own_log recorder.new) (stuck_of stable.now) (spent_of stable.now) (failures_of stable.now) (failures_of stable.now)) }
+    ensures faults { IfErr result IsAttemptFault }
     ensures begins { BeginsOnly (use_of wish.now) (visits_of (R.own_log recorder.old)) (visits_of (R.own_log recorder.new)) }
 {
     let Wish {
@@ -77,6 +78,7 @@ fn rise_anew<R: Recorder>(
     ensures silent { sent_of (R.own_log recorder.new) ≡ sent_of (R.own_log recorder.old) }
     ensures visits { visits_of (R.own_log recorder.new) ≡ visits_of (R.own_log recorder.old) }
     ensures ended { IfErr result (λ fault. ClientEndsFrom fault (falls_of (R.own_log recorder.old) + 1) (R.own_log recorder.new) (stuck_of stable.new) (spent_of stable.new) (failures_of stable.old) (failures_of stable.new)) }
+    ensures faults { IfErr result IsAttemptFault }
     ensures falls { FailuresFollow (falls_of (R.own_log recorder.old) + 1) (falls_of (R.own_log recorder.new)) (failures_of stable.old) (failures_of stable.new) }
 {
     let bytes = client_bytes(core.attempt());
@@ -107,6 +109,7 @@ fn keep_chosen<R: Recorder, G: Gate>(
     ensures asking { result ≡ Ok true → phase_of core.new ≡ phase.Asking }
     ensures ticket { result ≡ Ok true → ticket_of core.new ≡ ticket_of core.old }
     ensures ended { IfErr result (λ fault. ClientEndsFrom fault (falls_of (R.own_log recorder.old)) (R.own_log recorder.new) (stuck_of stable.new) (spent_of stable.new) (failures_of stable.old) (failures_of stable.new)) }
+    ensures faults { IfErr result IsAttemptFault }
     ensures falls { FailuresFollow (falls_of (R.own_log recorder.old)) (falls_of (R.own_log recorder.new)) (failures_of stable.old) (failures_of stable.new) }
 {
     records_fit();
@@ -146,8 +149,9 @@ pub(crate) fn attempt<W: Wait, R: Recorder, G: Gate>(
     ensures entered { (visits_of (R.own_log recorder.new)).entered ≡ (visits_of (R.own_log recorder.old)).entered }
     ensures softened { (visits_of (R.own_log recorder.new)).softened ≡ (visits_of (R.own_log recorder.old)).softened }
     ensures asking { OnOk result (phase_of progress.new.core ≡ phase.Asking) }
-    ensures asks { OnOk result (IfSome (ticket_of progress.new.core) (λ t. t.mode ≡ wish.now.mode)) }
+    ensures asks { OnOk result (IfSome (ticket_of progress.new.core) (AsksFor (use_of wish.now))) }
     ensures ended { IfErr result (λ fault. ClientEndsFrom fault (falls_of (R.own_log recorder.old)) (R.own_log recorder.new) (stuck_of stable.new) (spent_of stable.new) (failures_of stable.old) (failures_of stable.new)) }
+    ensures faults { IfErr result IsAttemptFault }
     ensures falls { FailuresFollow (falls_of (R.own_log recorder.old)) (falls_of (R.own_log recorder.new)) (failures_of stable.old) (failures_of stable.new) }
     ensures begins { BeginsOnly (use_of wish.now) (visits_of (R.own_log recorder.old)) (visits_of (R.own_log recorder.new)) }
 {

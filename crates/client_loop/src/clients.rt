@@ -13,64 +13,32 @@ ghost use Rattle.client_loop.specs.Endings.{ClientEndsFrom, ClientEndsBy, Client
 ghost use Rattle.client_loop.specs.Visits.{visits_of, HasEntered, HasBegun, SoftensAsWished, ArePlaced, entries_of};
 
 use crate::progress::Progress;
+use crate::rising::rise;
 use crate::wishing::fulfil;
-use actor_steps::rise_first;
-use client_core::ClientCore;
 use event_recorders::{Gate, Recorder, RunFault};
 use history_check::{MAX_WISHES, Wish};
 use lock_messages::{Actor, ClientId};
 use lossy_link::Link;
-use stable_record::{StableRecord, read_client};
+use stable_record::StableRecord;
 use std::alloc::Global;
 use std::sync::Wait;
 use vote_weights::BallotList;
-
-/// The client's core as it first rises, with the attempt that its record holds.
-#[tactic(auto, using(crate::proofs::SentFacts::first_rise_sends_nothing, crate::proofs::SentFacts::unused_sends_nothing, crate::proofs::EndFacts::client_ends, actor_steps::proofs::EndFacts::failures_stay))]
-fn rise<R: Recorder>(
-    client: ClientId,
-    ballots: BallotList,
-    stable: &mut dyn StableRecord,
-    recorder: &mut R,
-) -> Result<ClientCore, RunFault>
-    requires unused { IsUnused (R.own_log recorder.old) (Actor.Client client) }
-    requires ballots { (R.own_log recorder.old).ballots ≡ ballots }
-    requires found { FindsPart (R.own_log recorder.old).opening (finds stable.old) }
-    requires kept { KeepsAttempt (R.own_log recorder.old).opening }
-    ensures stands { IfOk result (λ core. Stands (R.own_log recorder.new) (finds stable.new) core) }
-    ensures free { OnOk result (stuck_of stable.new ≡ false) }
-    ensures idle { IfOk result (λ core. phase_of core ≡ phase.Idle) }
-    ensures silent { sent_of (R.own_log recorder.new) ≡ [] }
-    ensures visits { (visits_of (R.own_log recorder.new)).entered ≡ [] }
-    ensures softened { (visits_of (R.own_log recorder.new)).softened ≡ [] }
-    ensures begins { (visits_of (R.own_log recorder.new)).begins ≡ [] }
-    ensures whose { (visits_of (R.own_log recorder.new)).whose ≡ (R.own_log recorder.old).actor }
-    ensures ballots { (visits_of (R.own_log recorder.new)).ballots ≡ (R.own_log recorder.old).ballots }
-    ensures ended { IfErr result (λ fault. ClientEndsFrom fault (falls_of (R.own_log recorder.old)) (R.own_log recorder.new) (stuck_of stable.new) (spent_of stable.new) (failures_of stable.old) (failures_of stable.new)) }
-    ensures falls { FailuresFollow (falls_of (R.own_log recorder.old)) (falls_of (R.own_log recorder.new)) (failures_of stable.old) (failures_of stable.new) }
-{
-    let bytes = rise_first(Actor::Client(client), stable, recorder)?;
-    let Ok(attempt) = read_client(bytes.as_slice()) else {
-        unreachable!()
-    };
-    Ok(ClientCore::rise(client, attempt, ballots))
-}
 
 /// Fulfils the wishes in order.
 #[tactic(auto, using(crate::proofs::SentFacts::follows_on, crate::proofs::SentFacts::unless_on, crate::proofs::EndFacts::client_ends_on, actor_steps::proofs::EndFacts::failures_on))]
 fn fulfil_all<W: Wait, R: Recorder, L: Link, G: Gate>(
     rt: &W,
     alloc: Global,
-    core: ClientCore,
+    progress: Progress,
     wishes: &[Wish],
     stable: &mut dyn StableRecord,
     recorder: &mut R,
     link: &mut L,
     gate: &G,
 ) -> Result<u32, (u32, RunFault)>
-    requires stands { Stands (R.own_log recorder.old) (finds stable.old) core }
+    requires stands { Stands (R.own_log recorder.old) (finds stable.old) progress.core }
     requires free { stuck_of stable.old ≡ false }
-    requires idle { phase_of core ≡ phase.Idle }
+    requires idle { phase_of progress.core ≡ phase.Idle }
     requires few { length wishes.now ≤ MAX_WISHES }
     requires placed { ArePlaced (R.own_log recorder.old).ballots wishes.now }
     requires fresh { (visits_of (R.own_log recorder.old)).entered ≡ [] }
@@ -85,7 +53,7 @@ fn fulfil_all<W: Wait, R: Recorder, L: Link, G: Gate>(
     ensures falls { FailuresFollow (falls_of (R.own_log recorder.old)) (falls_of (R.own_log recorder.new)) (failures_of stable.old) (failures_of stable.new) }
     ensures begun { HasBegun (R.own_log recorder.old).actor wishes.now (R.own_log recorder.new) }
 {
-    let mut progress = Progress::of(core);
+    let mut progress = progress;
     let mut entered = 0;
     for wish in wishes {
         let fulfilled = fulfil(
@@ -138,11 +106,11 @@ pub fn run_client_over<W: Wait, R: Recorder, L: Link, G: Gate>(
     ensures falls { HasFailed (falls_of (R.own_log recorder.new)) (failures_of stable.old) (failures_of stable.new) }
     ensures begun { HasBegun (R.own_log recorder.old).actor wishes.now (R.own_log recorder.new) }
 {
-    let core = match rise(client, ballots, stable, recorder) {
-        Ok(core) => core,
+    let progress = match rise(client, ballots, stable, recorder) {
+        Ok(progress) => progress,
         Err(fault) => return Err((0, fault)),
     };
-    fulfil_all(rt, alloc, core, wishes, stable, recorder, link, gate)
+    fulfil_all(rt, alloc, progress, wishes, stable, recorder, link, gate)
 }
 
 /// Runs a client: it rises with what its record holds, also where it has no wish, and fulfils its wishes

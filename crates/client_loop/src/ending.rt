@@ -7,11 +7,11 @@ ghost use Rattle.client_loop.specs.Visits.{visits_of};
 ghost use Rattle.client_core.specs.Clients.{phase_of};
 ghost use Rattle.client_core.specs.declared.phases.Phase.TheVariants as phase;
 ghost use Rattle.event_recorders.specs.OwnLogs.{part_now};
-ghost use Rattle.client_loop.specs.Endings.{IsAskFault, IsOutside, EndsAsking};
+ghost use Rattle.client_loop.specs.Endings.{IsAskFault, IsOutside, EndsAsking, EndsOneAttempt};
 ghost use Rattle.actor_steps.specs.Steps.{IsBookFault};
 ghost use Rattle.actor_steps.specs.Endings.{falls_of};
 
-use crate::entering::log_leave;
+use crate::leaving::log_leave;
 use crate::progress::Progress;
 use crate::releasing::tell_releases;
 use client_core::Phase;
@@ -37,6 +37,7 @@ fn give_up<R: Recorder, L: Link>(
     ensures falls { falls_of (R.own_log recorder.new) ≡ falls_of (R.own_log recorder.old) }
     ensures faults { IfErr result IsBookFault }
     ensures outside { OnOk result (IsOutside (part_now (R.own_log recorder.new))) }
+    ensures rests { OnOk result (Stands (R.own_log recorder.new) (finds stable.now) progress.new.core × (phase_of progress.new.core ≡ phase.Idle)) }
 {
     if let Phase::Asking = progress.core.phase() {
         progress.core.leave();
@@ -45,8 +46,8 @@ fn give_up<R: Recorder, L: Link>(
     tell_releases(alloc, progress, stable, recorder, link)
 }
 
-/// Ends the client by the fault: one that has too few nodes left, or gave up, takes back what it asked
-/// for. Should that fail, the client ends by the later fault.
+/// Ends the attempt by the fault: a client that has too few nodes left, or gave up, takes back what it asked
+/// for, and rests. Should that fail, it ends by the later fault.
 #[tactic(auto, using(crate::proofs::SentFacts::unless_follows, crate::proofs::SentFacts::unless_none))]
 pub(crate) fn end<R: Recorder, L: Link>(
     alloc: Global,
@@ -65,6 +66,7 @@ pub(crate) fn end<R: Recorder, L: Link>(
     ensures falls { falls_of (R.own_log recorder.new) ≡ falls_of (R.own_log recorder.old) }
     ensures ended { EndsAsking result (R.own_log recorder.new) }
     ensures told { (result ≡ fault) ⊎ IsBookFault result }
+    ensures again { EndsOneAttempt result → Stands (R.own_log recorder.new) (finds stable.now) progress.new.core × (phase_of progress.new.core ≡ phase.Idle) }
 {
     match fault {
         RunFault::TooFewNodes | RunFault::GaveUp => {

@@ -1,33 +1,36 @@
-// Being inside.
+// Entering: an attempt is made, its number kept, the nodes are asked, and the Enter is logged.
 
-ghost use Rattle.std.specs.Prelude.{◌≡◌, ◌<◌, ◌⊎◌, OnOk, OnErr, IfErr, IfSome};
+ghost use Rattle.std.specs.Prelude.{◌≡◌, ◌++◌, ◌∷◌, [], true, false, Ok, Some, OnOk, OnErr, IfErr, IfSome};
+ghost use Rattle.lock_model.specs.Ballots.{HasPlace};
 ghost use Rattle.client_core.specs.Clients.{phase_of, ticket_of};
 ghost use Rattle.client_core.specs.declared.phases.Phase.TheVariants as phase;
 ghost use Rattle.client_core.specs.Calls.{MayEnter, entered as inside_of};
-ghost use Rattle.client_loop.specs.Sendings.{sent_of, SentFollows, SentUnlessMemory, TellsSoftenedIf};
-ghost use Rattle.client_loop.specs.Standing.{Stands, HasLeft};
+ghost use Rattle.client_loop.specs.Sendings.{sent_of, SentFollows, SentUnlessMemory};
+ghost use Rattle.client_loop.specs.Standing.{Stands, IsSameClient};
+ghost use Rattle.client_loop.specs.Remembering.{core_of};
+ghost use Rattle.client_loop.specs.Endings.{ClientEndsFrom, EndsAsking, EndsOneAttempt, IsAtRest};
 ghost use Rattle.actor_steps.specs.Steps.{IsBookFault};
-ghost use Rattle.actor_steps.specs.Endings.{falls_of};
-ghost use Rattle.client_loop.specs.Visits.{visits_of, softens, visits_entering, visits_softening_if, tally, AddsUse, AddsAtMost, BeginsNothing};
+ghost use Rattle.actor_steps.specs.Endings.{falls_of, FailuresFollow};
+ghost use Rattle.client_loop.specs.Visits.{visits_of, use_of, AsksFor, visits_entering, BeginsNothing, BeginsOnly};
 
-use crate::progress::Progress;
-use crate::softening::soften;
+use crate::asking::ask;
+use crate::attempting::attempt;
+use crate::ending::end;
+use crate::leaving::leave;
+use crate::progress::{Patience, Progress};
 use actor_steps::log_plain;
 use client_core::ClientCore;
-use entry_guard::enter_client;
 use event_recorders::{Gate, Recorder, RunFault};
-use history_check::{MAX_WISHES, Wish};
-use lock_messages::Mode;
+use history_check::Wish;
 use lossy_link::Link;
 use stable_record::StableRecord;
 use std::alloc::Global;
-use std::mem::drop;
-use vote_weights::NodeSet;
+use std::sync::Wait;
 use world_model::Event;
 
 /// Logs that the client enters.
 #[tactic(auto, using(crate::proofs::SentFacts::enter_sends_nothing, crate::proofs::BeginFacts::nothing_begun))]
-fn enter<R: Recorder>(
+fn log_enter<R: Recorder>(
     core: &ClientCore,
     stable: &dyn StableRecord,
     recorder: &mut R,
@@ -46,102 +49,130 @@ fn enter<R: Recorder>(
     Ok(())
 }
 
-/// Logs that the client has left, or has given up asking.
-#[tactic(auto, using(crate::proofs::SentFacts::leave_sends_nothing))]
-pub(crate) fn log_leave<R: Recorder>(
-    core: &ClientCore,
-    stable: &dyn StableRecord,
-    recorder: &mut R,
-) -> Result<(), RunFault>
-    requires { HasLeft (R.own_log recorder.old) (finds stable.now) core.now }
-    ensures outside { OnOk result (Stands (R.own_log recorder.new) (finds stable.now) core.now) }
-    ensures silent { sent_of (R.own_log recorder.new) ≡ sent_of (R.own_log recorder.old) }
-    ensures visits { visits_of (R.own_log recorder.new) ≡ visits_of (R.own_log recorder.old) }
-    ensures falls { falls_of (R.own_log recorder.new) ≡ falls_of (R.own_log recorder.old) }
-    ensures faults { IfErr result IsBookFault }
-{
-    log_plain(recorder, Event::Leave(core.client()), stable)?;
-    Ok(())
-}
-
-/// Whether the client softens while it is inside: so it wishes, and enters as a writer.
-fn does_soften(wish: &Wish) -> bool
-    ensures { result ≡ softens wish.now }
-{
-    match wish.mode {
-        Mode::Read => false,
-        Mode::Write => wish.soften,
-    }
-}
-
-/// Is inside by a guard for as long as the gate keeps it. Where the wish softens, it then does, and is inside
-/// as a reader for as long as the gate keeps it again. The entering is logged already.
-fn stay<R: Recorder, L: Link, G: Gate>(
+/// Takes back what the client asks for: it leaves, and each node that it asked has answered its release or is
+/// gone.
+fn take_back<W: Wait, R: Recorder, L: Link>(
+    rt: &W,
     alloc: Global,
-    wish: &Wish,
-    granted: NodeSet,
-    core: &mut ClientCore,
+    progress: &mut Progress,
     stable: &dyn StableRecord,
     recorder: &mut R,
     link: &mut L,
-    gate: &G,
 ) -> Result<(), RunFault>
-    requires may { MayEnter core.old }
-    requires asked { IfSome (ticket_of core.old) (λ t. t.mode ≡ wish.now.mode) }
-    requires stands { Stands (R.own_log recorder.old) (finds stable.now) (inside_of core.old) }
-    ensures told { OnOk result (TellsSoftenedIf (softens wish.now) core.old granted (R.own_log recorder.old) (R.own_log recorder.new)) }
-    ensures left { OnOk result (HasLeft (R.own_log recorder.new) (finds stable.now) core.new) }
+    requires stands { Stands (R.own_log recorder.old) (finds stable.now) progress.old.core }
+    requires asking { phase_of progress.old.core ≡ phase.Asking }
     ensures sent { OnOk result (SentFollows (R.own_log recorder.old) (R.own_log recorder.new) (L.given link.old) (L.given link.new)) }
     ensures faulted { IfErr result (λ f. SentUnlessMemory f (R.own_log recorder.old) (R.own_log recorder.new) (L.given link.old) (L.given link.new)) }
-    ensures visits { OnOk result (visits_of (R.own_log recorder.new) ≡ visits_softening_if (softens wish.now) (visits_of (R.own_log recorder.old))) }
-    ensures fewer { OnErr result ((visits_of (R.own_log recorder.new) ≡ visits_of (R.own_log recorder.old)) ⊎ (visits_of (R.own_log recorder.new) ≡ visits_softening_if (softens wish.now) (visits_of (R.own_log recorder.old)))) }
-    ensures falls { falls_of (R.own_log recorder.new) ≡ falls_of (R.own_log recorder.old) }
-    ensures faults { IfErr result IsBookFault }
-{
-    let Some(mut guard) = enter_client(core) else {
-        unreachable!()
-    };
-    gate.while_inside(recorder, &guard);
-    if does_soften(wish) {
-        soften(alloc, granted, &mut guard, stable, recorder, link)?;
-        gate.while_inside(recorder, &guard);
-    }
-    drop(guard);
-    Ok(())
-}
-
-/// Enters, is inside for as long as the gate keeps it, and leaves; the entering is counted. Where the wish
-/// softens, it softens in between, and is inside as a reader too.
-#[tactic(auto, using(crate::proofs::BeginFacts::nothing_on))]
-pub(crate) fn visit<R: Recorder, L: Link, G: Gate>(
-    alloc: Global,
-    wish: &Wish,
-    progress: &mut Progress,
-    entered: &mut u32,
-    stable: &dyn StableRecord,
-    recorder: &mut R,
-    link: &mut L,
-    gate: &G,
-) -> Result<(), RunFault>
-    requires may { MayEnter progress.old.core }
-    requires asked { IfSome (ticket_of progress.old.core) (λ t. t.mode ≡ wish.now.mode) }
-    requires stands { Stands (R.own_log recorder.old) (finds stable.now) progress.old.core }
-    requires room { entered.old < MAX_WISHES }
-    ensures told { OnOk result (TellsSoftenedIf (softens wish.now) progress.old.core progress.old.granted (R.own_log recorder.old) (R.own_log recorder.new)) }
     ensures stands { OnOk result (Stands (R.own_log recorder.new) (finds stable.now) progress.new.core) }
     ensures idle { OnOk result (phase_of progress.new.core ≡ phase.Idle) }
+    ensures again { IfErr result (λ f. EndsOneAttempt f → Stands (R.own_log recorder.new) (finds stable.now) progress.new.core × (phase_of progress.new.core ≡ phase.Idle)) }
+    ensures visits { visits_of (R.own_log recorder.new) ≡ visits_of (R.own_log recorder.old) }
+    ensures falls { falls_of (R.own_log recorder.new) ≡ falls_of (R.own_log recorder.old) }
+    ensures ended { IfErr result (λ f. EndsAsking f (R.own_log recorder.new)) }
+{
+    progress.core.leave();
+    leave(rt, alloc, progress, stable, recorder, link)
+}
+
+/// Asks for what is wished and, once the votes are enough, logs the Enter; whether it did.
+#[tactic(auto, using(crate::proofs::SentFacts::follows_from, crate::proofs::SentFacts::follows_on, crate::proofs::SentFacts::follows_none, crate::proofs::SentFacts::unless_none, crate::proofs::SentFacts::unless_on, crate::proofs::SentFacts::unless_both, crate::proofs::BeginFacts::nothing_begun, crate::proofs::BeginFacts::nothing_after))]
+fn ask_and_enter<W: Wait, R: Recorder, L: Link>(
+    rt: &W,
+    alloc: Global,
+    wish: &Wish,
+    waits: bool,
+    progress: &mut Progress,
+    stable: &dyn StableRecord,
+    recorder: &mut R,
+    link: &mut L,
+) -> Result<bool, RunFault>
+    requires stands { Stands (R.own_log recorder.old) (finds stable.now) progress.old.core }
+    requires asking { phase_of progress.old.core ≡ phase.Asking }
+    requires placed { HasPlace (R.own_log recorder.old).ballots wish.now.place }
     ensures sent { OnOk result (SentFollows (R.own_log recorder.old) (R.own_log recorder.new) (L.given link.old) (L.given link.new)) }
     ensures faulted { IfErr result (λ f. SentUnlessMemory f (R.own_log recorder.old) (R.own_log recorder.new) (L.given link.old) (L.given link.new)) }
-    ensures entered { OnOk result (AddsUse (visits_of (R.own_log recorder.old)).begun (softens wish.now) (tally entered.old (R.own_log recorder.old)) (tally entered.new (R.own_log recorder.new))) }
-    ensures counted { AddsAtMost (visits_of (R.own_log recorder.old)).begun (softens wish.now) (tally entered.old (R.own_log recorder.old)) (tally entered.new (R.own_log recorder.new)) }
+    ensures may_enter { result ≡ Ok true → MayEnter progress.new.core }
+    ensures ticket { result ≡ Ok true → ticket_of progress.new.core ≡ ticket_of progress.old.core }
+    ensures inside { result ≡ Ok true → Stands (R.own_log recorder.new) (finds stable.now) (inside_of progress.new.core) }
+    ensures entered { result ≡ Ok true → visits_of (R.own_log recorder.new) ≡ visits_entering (visits_of (R.own_log recorder.old)) }
+    ensures outside { (result ≡ Ok true → ⊥) → visits_of (R.own_log recorder.new) ≡ visits_of (R.own_log recorder.old) }
+    ensures waits { result ≡ Ok false → waits ≡ false }
+    ensures back { result ≡ Ok false → Stands (R.own_log recorder.new) (finds stable.now) progress.new.core × (phase_of progress.new.core ≡ phase.Idle) }
+    ensures again { IfErr result (λ f. EndsOneAttempt f → Stands (R.own_log recorder.new) (finds stable.now) progress.new.core × (phase_of progress.new.core ≡ phase.Idle)) }
     ensures falls { falls_of (R.own_log recorder.new) ≡ falls_of (R.own_log recorder.old) }
-    ensures faults { IfErr result IsBookFault }
+    ensures ended { IfErr result (λ f. EndsAsking f (R.own_log recorder.new)) }
     ensures begins { BeginsNothing (visits_of (R.own_log recorder.old)) (visits_of (R.own_log recorder.new)) }
 {
-    let granted = progress.granted;
-    let core = &mut progress.core;
-    enter(core, stable, recorder)?;
-    *entered += 1;
-    stay(alloc, wish, granted, core, stable, recorder, link, gate)?;
-    log_leave(core, stable, recorder)
+    match ask(rt, alloc, wish, waits, progress, stable, recorder, link) {
+        Ok(true) => {
+            log_enter(&progress.core, stable, recorder)?;
+            Ok(true)
+        }
+        Ok(false) => {
+            take_back(rt, alloc, progress, stable, recorder, link)?;
+            Ok(false)
+        }
+        Err(fault) => Err(end(alloc, fault, progress, stable, recorder, link)),
+    }
+}
+
+/// Enters what is wished: makes an attempt, whose number it keeps before it is used, asks the nodes one after
+/// another for their votes, and logs the Enter once they are enough. Whether it did: `false` only where it
+/// isn't to wait and a node let it, and then it has left, and each node that it asked has answered its release
+/// or is gone.
+///
+/// After `true` the client is inside by its own log, and its core may enter, which the caller does: by a guard
+/// over the core, or by `Progress::go_in`. Where its record fails before that, it falls, rises with what the
+/// record holds, and makes the attempt anew. Of the wish the mode, the resource and the place are read.
+///
+/// The caller owes a client that rests, by its own log and its core; a record that isn't stuck, in which a
+/// restart finds what the client keeps; and a place that the ballots have.
+///
+/// # Errors
+///
+/// Nothing is entered then. The nodes that granted and those that aren't gone are too few (912), or the
+/// attempt had its last nudge (913): the client has left, has said its release once to each asked node that
+/// isn't gone, and rests, so that it may enter anew. Three reopens of the record failed in a row (911); memory
+/// was refused (914); the book is full or another's (915); no change of the record can be numbered any more,
+/// or no attempt is left (916).
+#[tactic(auto, using(crate::proofs::SentFacts::follows_from, crate::proofs::SentFacts::follows_on, crate::proofs::SentFacts::follows_none, crate::proofs::SentFacts::unless_none, crate::proofs::SentFacts::unless_on, crate::proofs::SentFacts::unless_from, crate::proofs::SentFacts::unless_both, crate::proofs::EndFacts::client_ends_on, crate::proofs::EndFacts::asking_ends, crate::proofs::EndFacts::book_ends, crate::proofs::EndFacts::failures_same, actor_steps::proofs::EndFacts::failures_on, crate::proofs::BeginFacts::begins_still, crate::proofs::BeginFacts::begins_no_more))]
+pub fn enter<W: Wait, R: Recorder, L: Link, G: Gate>(
+    rt: &W,
+    alloc: Global,
+    wish: &Wish,
+    patience: Patience,
+    progress: &mut Progress,
+    stable: &mut dyn StableRecord,
+    recorder: &mut R,
+    link: &mut L,
+    gate: &G,
+) -> Result<bool, RunFault>
+    requires stands { Stands (R.own_log recorder.old) (finds stable.old) (core_of progress.old) }
+    requires free { stuck_of stable.old ≡ false }
+    requires idle { phase_of (core_of progress.old) ≡ phase.Idle }
+    requires placed { HasPlace (R.own_log recorder.old).ballots wish.now.place }
+    ensures sent { OnOk result (SentFollows (R.own_log recorder.old) (R.own_log recorder.new) (L.given link.old) (L.given link.new)) }
+    ensures faulted { IfErr result (λ f. SentUnlessMemory f (R.own_log recorder.old) (R.own_log recorder.new) (L.given link.old) (L.given link.new)) }
+    ensures client { IsSameClient (R.own_log recorder.old) (R.own_log recorder.new) }
+    // The own log has the client inside, with a ticket for what is wished.
+    ensures may_enter { result ≡ Ok true → MayEnter (core_of progress.new) }
+    ensures asked { result ≡ Ok true → IfSome (ticket_of (core_of progress.new)) (AsksFor (use_of wish.now)) }
+    ensures inside { result ≡ Ok true → Stands (R.own_log recorder.new) (finds stable.new) (inside_of (core_of progress.new)) }
+    ensures entered { result ≡ Ok true → (visits_of (R.own_log recorder.new)).entered ≡ (visits_of (R.own_log recorder.old)).entered ++ Some (use_of wish.now) ∷ [] }
+    ensures begun { result ≡ Ok true → (visits_of (R.own_log recorder.new)).begun ≡ Some (use_of wish.now) }
+    ensures outside { (result ≡ Ok true → ⊥) → (visits_of (R.own_log recorder.new)).entered ≡ (visits_of (R.own_log recorder.old)).entered }
+    ensures softened { (visits_of (R.own_log recorder.new)).softened ≡ (visits_of (R.own_log recorder.old)).softened }
+    ensures free { OnOk result (stuck_of stable.new ≡ false) }
+    // It waits where it is to, and rests where it took the wish back, or gave up.
+    ensures waits { result ≡ Ok false → patience.waits ≡ false }
+    ensures back { result ≡ Ok false → IsAtRest (R.own_log recorder.new) (finds stable.new) (stuck_of stable.new) (core_of progress.new) }
+    ensures again { IfErr result (λ f. EndsOneAttempt f → IsAtRest (R.own_log recorder.new) (finds stable.new) (stuck_of stable.new) (core_of progress.new)) }
+    ensures ended { IfErr result (λ fault. ClientEndsFrom fault (falls_of (R.own_log recorder.old)) (R.own_log recorder.new) (stuck_of stable.new) (spent_of stable.new) (failures_of stable.old) (failures_of stable.new)) }
+    ensures falls { FailuresFollow (falls_of (R.own_log recorder.old)) (falls_of (R.own_log recorder.new)) (failures_of stable.old) (failures_of stable.new) }
+    ensures begins { BeginsOnly (use_of wish.now) (visits_of (R.own_log recorder.old)) (visits_of (R.own_log recorder.new)) }
+{
+    progress.begin_wish(patience.nudges);
+    attempt(rt, wish, progress, stable, recorder, gate)?;
+    let waits = patience.waits;
+    ask_and_enter(rt, alloc, wish, waits, progress, &*stable, recorder, link)
 }

@@ -11,7 +11,7 @@ ghost use Rattle.vote_weights.specs.Sets.{has_node};
 ghost use Rattle.actor_steps.specs.Steps.{IsBookFault};
 ghost use Rattle.actor_steps.specs.Endings.{falls_of};
 
-use crate::progress::{MAX_NUDGES, Progress};
+use crate::progress::Progress;
 use crate::talking::{hear, tell};
 use event_recorders::{Recorder, RunFault};
 use lock_messages::NodeId;
@@ -19,7 +19,7 @@ use lossy_link::{Link, Parcel, Post};
 use stable_record::StableRecord;
 use std::alloc::Global;
 
-/// Hears a parcel, and remembers a vote that was counted and a release that was answered.
+/// Hears a parcel, and remembers a vote that was counted, a release that was answered, and that it is to wait.
 #[tactic(auto, using(crate::proofs::HearFacts::remembers, crate::proofs::HearFacts::takes_nothing, crate::proofs::HearFacts::stays))]
 fn take_parcel<R: Recorder>(
     progress: &mut Progress,
@@ -70,13 +70,13 @@ fn take_nudge<R: Recorder, L: Link>(
     // A nudge of a node to which it has sent something is counted, and nothing else changes.
     ensures counted { progress.new ≡ (if has_node progress.old.asked node then record progress.old { nudges = min (progress.old.nudges + 1) (2 ^ 32 - 1) } else progress.old) }
     // 913: exactly at the last nudge that a wish may have, of a node to which it has sent something.
-    ensures gave_up { (result ≡ Err RunFault.GaveUp) ↔ ((has_node progress.old.asked node ≡ true) × (MAX_NUDGES ≤ progress.old.nudges + 1)) }
+    ensures gave_up { (result ≡ Err RunFault.GaveUp) ↔ ((has_node progress.old.asked node ≡ true) × (progress.old.most_nudges ≤ progress.old.nudges + 1)) }
 {
     if !progress.asked.has(node) {
         return Ok(());
     }
     progress.nudges = progress.nudges.saturating_add(1);
-    if progress.nudges >= MAX_NUDGES {
+    if progress.nudges >= progress.most_nudges {
         return Err(RunFault::GaveUp);
     }
     if progress.gone.has(node) {

@@ -1,11 +1,12 @@
 // What a client remembers from post to post.
 
-ghost use Rattle.std.specs.Prelude.{◌≡◌, ◌↔◌, ◌||◌, ℕ, [], IsTrue, if◌then◌else◌};
+ghost use Rattle.std.specs.Prelude.{◌≡◌, ◌↔◌, ◌||◌, ℕ, [], false, IsTrue, if◌then◌else◌};
 ghost use Rattle.lock_model.specs.Ballots.{HasPlace};
 ghost use Rattle.vote_weights.specs.Sets.{has_node, with_node};
-ghost use Rattle.client_core.specs.Calls.{skipping};
-ghost use Rattle.client_loop.specs.Hearing.{granted_after, released_after};
+ghost use Rattle.client_core.specs.Calls.{MayEnter, MayLeave, entered, left, skipping};
+ghost use Rattle.client_loop.specs.Hearing.{granted_after, released_after, busy_after};
 ghost use Rattle.client_loop.specs.Standing.{IsAlike};
+ghost use Rattle.client_loop.specs.Remembering.{core_of, with_core};
 ghost use Rattle.client_loop.specs.Nodes.{CanSuffice, IsReleased, Owes, Skips, is_among, is_gone_among};
 
 use client_core::ClientCore;
@@ -15,15 +16,26 @@ use vote_weights::NodeSet;
 
 /// What a client remembers from post to post: its core, the nodes that are gone, and of the present
 /// wish the nodes to which it has sent something, those whose vote was counted, those that answered its
-/// release, and the number of nudges.
+/// release, the number of nudges and how many it may have, and whether a node let it wait.
 #[derive(Drop)]
-pub(crate) struct Progress {
+pub struct Progress {
     pub(crate) core: ClientCore,
     pub(crate) gone: NodeSet,
     pub(crate) asked: NodeSet,
     pub(crate) granted: NodeSet,
     pub(crate) released: NodeSet,
     pub(crate) nudges: u32,
+    pub(crate) most_nudges: u32,
+    pub(crate) busy: bool,
+}
+
+/// How long a client goes on asking for one wish.
+#[derive(Clone, Copy, Debug, PartialEq, Eq)]
+pub struct Patience {
+    /// It gives up at this nudge (913), and at the first where it is 0.
+    pub nudges: u32,
+    /// Whether it waits where a node answers that others go before it; else it takes the wish back then.
+    pub waits: bool,
 }
 
 /// The most nudges of one wish.
@@ -32,7 +44,7 @@ pub const MAX_NUDGES: u32 = 1000;
 impl Progress {
     /// Nothing is known yet but the core.
     pub(crate) fn of(core: ClientCore) -> Progress
-        ensures { result ≡ record { core = core; gone = []; asked = []; granted = []; released = []; nudges = 0 } }
+        ensures { result ≡ record { core = core; gone = []; asked = []; granted = []; released = []; nudges = 0; most_nudges = MAX_NUDGES; busy = false } }
     {
         Progress {
             core,
@@ -41,29 +53,61 @@ impl Progress {
             granted: NodeSet::empty(),
             released: NodeSet::empty(),
             nudges: 0,
+            most_nudges: MAX_NUDGES,
+            busy: false,
         }
     }
 
-    /// Forgets what was of the last wish: whom it asked, who granted and who was released, and its nudges.
-    /// The core and the nodes that are gone stay.
-    pub(crate) fn begin_wish(&mut self)
-        ensures { self.new ≡ record self.old { asked = []; granted = []; released = []; nudges = 0 } }
+    /// The client's core, to be looked at.
+    pub fn core(&self) -> &ClientCore
+        ensures { result.now ≡ core_of self.now }
+    {
+        &self.core
+    }
+
+    /// The client is inside, as its own log has it already.
+    ///
+    /// The caller owes that the core may enter.
+    pub fn go_in(&mut self)
+        requires { MayEnter (core_of self.old) }
+        ensures { self.new ≡ with_core self.old (entered (core_of self.old)) }
+    {
+        self.core.enter();
+    }
+
+    /// The client is outside; its own log has yet to say so.
+    ///
+    /// The caller owes that the core asks or is inside.
+    pub fn go_out(&mut self)
+        requires { MayLeave (core_of self.old) }
+        ensures { self.new ≡ with_core self.old (left (core_of self.old)) }
+    {
+        self.core.leave();
+    }
+
+    /// Forgets what was of the last wish: whom it asked, who granted and who was released, its nudges, and
+    /// that it was to wait. This one may have so many nudges. The core and the nodes that are gone stay.
+    pub(crate) fn begin_wish(&mut self, most_nudges: u32)
+        ensures { self.new ≡ record self.old { asked = []; granted = []; released = []; nudges = 0; most_nudges = most_nudges; busy = false } }
     {
         self.asked = NodeSet::empty();
         self.granted = NodeSet::empty();
         self.released = NodeSet::empty();
         self.nudges = 0;
+        self.most_nudges = most_nudges;
+        self.busy = false;
     }
 
-    /// Remembers what was made of a message of the node: a vote that was counted, and a release that was
-    /// answered. Else nothing changes.
+    /// Remembers what was made of a message of the node: a vote that was counted, a release that was
+    /// answered, and that it is to wait. Else nothing changes.
     pub(crate) fn remember(&mut self, node: NodeId, heard: Heard)
-        ensures { self.new ≡ record self.old { granted = granted_after heard node self.old.granted; released = released_after heard node self.old.released } }
+        ensures { self.new ≡ record self.old { granted = granted_after heard node self.old.granted; released = released_after heard node self.old.released; busy = busy_after heard self.old.busy } }
     {
         match heard {
             Heard::Counted => self.granted = self.granted.with(node),
             Heard::Done => self.released = self.released.with(node),
-            Heard::Known | Heard::Busy | Heard::Softened | Heard::NotMine => {}
+            Heard::Busy => self.busy = true,
+            Heard::Known | Heard::Softened | Heard::NotMine => {}
         }
     }
 

@@ -8,11 +8,13 @@ ghost use Rattle.client_core.specs.Calls.{MaySoften, softened, SoftensAll, messa
 ghost use Rattle.entry_guard.specs.Doors.{is_client_inside};
 ghost use Rattle.entry_guard.specs.Guards.{door_of, lender_of, guard_ticket, IsHeld};
 ghost use Rattle.client_loop.specs.Sendings.{sent_of, SentFollows, SentUnlessMemory, Tells, TellsSoftened};
-ghost use Rattle.client_loop.specs.Standing.{Stands};
+ghost use Rattle.client_loop.specs.Standing.{Stands, IsSameClient};
+ghost use Rattle.client_loop.specs.Remembering.{core_of, with_core, granted_of};
 ghost use Rattle.actor_steps.specs.Steps.{IsBookFault};
 ghost use Rattle.actor_steps.specs.Endings.{falls_of};
 ghost use Rattle.client_loop.specs.Visits.{visits_of, visits_softening};
 
+use crate::progress::Progress;
 use crate::talking::tell;
 use actor_steps::log_plain;
 use client_core::ClientCore;
@@ -100,8 +102,46 @@ fn log_soften<R: Recorder>(
     Ok(())
 }
 
+/// Softens: logs that the client that is inside as a writer is a reader from now on, and says it once to each
+/// node whose vote was counted. It waits for no answer.
+///
+/// The caller owes a core that is inside as a writer, as the client's own log has it, and that a restart finds
+/// in the record what the client keeps.
+///
+/// # Errors
+///
+/// Memory was refused (914), or the book is full or another's (915). The client is still inside then, as its
+/// core is: as a reader where the Soften was logged, else as a writer.
+#[tactic(auto, using(crate::proofs::BeginFacts::still_client, crate::proofs::BeginFacts::softening_client))]
+pub fn soften<R: Recorder, L: Link>(
+    alloc: Global,
+    progress: &mut Progress,
+    stable: &dyn StableRecord,
+    recorder: &mut R,
+    link: &mut L,
+) -> Result<(), RunFault>
+    requires may { MaySoften (core_of progress.old) }
+    requires stands { Stands (R.own_log recorder.old) (finds stable.now) (core_of progress.old) }
+    ensures client { IsSameClient (R.own_log recorder.old) (R.own_log recorder.new) }
+    ensures told { OnOk result (TellsSoftened (core_of progress.old) (granted_of progress.old) (R.own_log recorder.old) (R.own_log recorder.new)) }
+    ensures core { OnOk result (progress.new ≡ with_core progress.old (softened (core_of progress.old))) }
+    ensures kept { OnErr result ((progress.new ≡ progress.old) ⊎ (progress.new ≡ with_core progress.old (softened (core_of progress.old)))) }
+    ensures stands { Stands (R.own_log recorder.new) (finds stable.now) (core_of progress.new) }
+    ensures sent { OnOk result (SentFollows (R.own_log recorder.old) (R.own_log recorder.new) (L.given link.old) (L.given link.new)) }
+    ensures faulted { IfErr result (λ f. SentUnlessMemory f (R.own_log recorder.old) (R.own_log recorder.new) (L.given link.old) (L.given link.new)) }
+    ensures visits { OnOk result (visits_of (R.own_log recorder.new) ≡ visits_softening (visits_of (R.own_log recorder.old))) }
+    ensures fewer { OnErr result ((visits_of (R.own_log recorder.new) ≡ visits_of (R.own_log recorder.old)) ⊎ (visits_of (R.own_log recorder.new) ≡ visits_softening (visits_of (R.own_log recorder.old)))) }
+    ensures falls { falls_of (R.own_log recorder.new) ≡ falls_of (R.own_log recorder.old) }
+    ensures faults { IfErr result IsBookFault }
+{
+    log_soften(&progress.core, stable, recorder)?;
+    progress.core.soften();
+    let granted = progress.granted;
+    tell_granted(alloc, &progress.core, granted, stable, recorder, link)
+}
+
 /// Softens what the guard has entered: logs it, softens the guard, and says it to each node of the set.
-pub(crate) fn soften<R: Recorder, L: Link>(
+pub(crate) fn soften_guard<R: Recorder, L: Link>(
     alloc: Global,
     granted: NodeSet,
     guard: &mut EntryGuard<'_, ClientCore>,

@@ -10,12 +10,10 @@ ghost use Rattle.actor_steps.specs.Endings.{falls_of, FailuresFollow};
 ghost use Rattle.client_loop.specs.Endings.{ClientEndsFrom};
 ghost use Rattle.client_loop.specs.Visits.{visits_of, tally, AddsUse, AddsAtMost, BeginsOnly, softens, use_of};
 
-use crate::asking::ask;
-use crate::attempting::attempt;
-use crate::ending::end;
-use crate::entering::visit;
-use crate::progress::Progress;
-use crate::releasing::release;
+use crate::entering::enter;
+use crate::leaving::leave;
+use crate::progress::{MAX_NUDGES, Patience, Progress};
+use crate::staying::stay;
 use event_recorders::{Gate, Recorder, RunFault};
 use history_check::{MAX_WISHES, Wish};
 use lossy_link::Link;
@@ -23,9 +21,9 @@ use stable_record::StableRecord;
 use std::alloc::Global;
 use std::sync::Wait;
 
-/// Fulfils the wish: attempts, asks, enters and leaves, and releases the nodes that it asked. The
-/// entering is counted, also where the client ends by a fault after it.
-#[tactic(auto, using(crate::proofs::SentFacts::follows_from, crate::proofs::SentFacts::follows_on, crate::proofs::SentFacts::follows_none, crate::proofs::SentFacts::unless_none, crate::proofs::SentFacts::unless_on, crate::proofs::SentFacts::unless_from, crate::proofs::SentFacts::unless_both, crate::proofs::EndFacts::client_ends_on, crate::proofs::EndFacts::asking_ends, crate::proofs::EndFacts::book_ends, crate::proofs::EndFacts::failures_same, actor_steps::proofs::EndFacts::failures_on, crate::proofs::BeginFacts::begins_still, crate::proofs::BeginFacts::begins_no_more))]
+/// Fulfils the wish: enters, is inside by a guard for as long as the gate keeps it, and leaves. The entering is
+/// counted, also where the client ends by a fault after it.
+#[tactic(auto, using(crate::proofs::SentFacts::follows_from, crate::proofs::SentFacts::follows_on, crate::proofs::SentFacts::follows_none, crate::proofs::SentFacts::unless_none, crate::proofs::SentFacts::unless_on, crate::proofs::SentFacts::unless_from, crate::proofs::SentFacts::unless_both, crate::proofs::EndFacts::client_ends_on, crate::proofs::EndFacts::asking_ends, crate::proofs::EndFacts::book_ends, crate::proofs::EndFacts::failures_same, actor_steps::proofs::EndFacts::failures_on, crate::proofs::BeginFacts::begins_still, crate::proofs::BeginFacts::begins_no_more, crate::proofs::TallyFacts::adds_nothing, crate::proofs::TallyFacts::adds_use, crate::proofs::TallyFacts::adds_half))]
 pub(crate) fn fulfil<W: Wait, R: Recorder, L: Link, G: Gate>(
     rt: &W,
     alloc: Global,
@@ -53,15 +51,27 @@ pub(crate) fn fulfil<W: Wait, R: Recorder, L: Link, G: Gate>(
     ensures falls { FailuresFollow (falls_of (R.own_log recorder.old)) (falls_of (R.own_log recorder.new)) (failures_of stable.old) (failures_of stable.new) }
     ensures begins { BeginsOnly (use_of wish.now) (visits_of (R.own_log recorder.old)) (visits_of (R.own_log recorder.new)) }
 {
-    progress.begin_wish();
-    attempt(rt, wish, progress, stable, recorder, gate)?;
+    let patience = Patience {
+        nudges: MAX_NUDGES,
+        waits: true,
+    };
+    if !enter(
+        rt, alloc, wish, patience, progress, stable, recorder, link, gate,
+    )? {
+        unreachable!()
+    }
+    *entered += 1;
     let stable = &*stable;
-    if let Err(fault) = ask(rt, alloc, wish, progress, stable, recorder, link) {
-        return Err(end(alloc, fault, progress, stable, recorder, link));
-    }
-    visit(alloc, wish, progress, entered, stable, recorder, link, gate)?;
-    if let Err(fault) = release(rt, alloc, progress, stable, recorder, link) {
-        return Err(end(alloc, fault, progress, stable, recorder, link));
-    }
-    Ok(())
+    let granted = progress.granted;
+    stay(
+        alloc,
+        wish,
+        granted,
+        &mut progress.core,
+        stable,
+        recorder,
+        link,
+        gate,
+    )?;
+    leave(rt, alloc, progress, stable, recorder, link)
 }

@@ -1,16 +1,20 @@
-use Rattle.client_loop.proofs.BeginFacts.{entering_begins}
-use Rattle.client_loop.proofs.Logs.{visits-adds}
-use Rattle.client_loop.proofs.EnterFacts.{enter_allowed, enter_stands}
+use Rattle.std.proofs.lemmas.Result.{err_from_is_err_and}
+use Rattle.client_loop.specs.Visits.{use_of}
+use Rattle.client_loop.proofs.BeginFacts.{placed_on, beginning_client, begins_no_more}
+use Rattle.client_loop.proofs.EndFacts.{attempt_ends_all}
 use Rattle.client_loop.proofs.entering.enter.Goals as goal
 
-pub returns-clause-entered : goal.returns-clause-entered
-returns-clause-entered g c = visits-adds _ _ _ _ c.in_ok-log_plain.ensures.logged
+pub returns-in_err-attempt-clause-again : goal.returns-in_err-attempt-clause-again
+returns-in_err-attempt-clause-again g c =
+    let p = err_from_is_err_and c.from_residual.result c.from_residual.ensures.1 in
+    rw (p.1, p.2) (λ one. absurd (attempt_ends_all _ c.in_err-attempt.ensures.faults one))
 
-pub log_plain-requires-clause-allowed : goal.log_plain-requires-clause-allowed
-log_plain-requires-clause-allowed g c = enter_allowed _ _ c.args.core.now c.client.result c.requires.may c.requires.stands
+pub ask_and_enter-requires-clause-placed : goal.ask_and_enter-requires-clause-placed
+ask_and_enter-requires-clause-placed g c =
+    placed_on (use_of c.args.wish.now) c.args.wish.now.place (g.R.Recorder.own_log c.args.recorder.now) (g.R.Recorder.own_log c.attempt.new.recorder) c.attempt.ensures.begins c.requires.placed
 
-pub returns-clause-inside : goal.returns-clause-inside
-returns-clause-inside g c = enter_stands _ _ _ c.args.core.now _ _ c.requires.may c.requires.stands c.in_ok-log_plain.ensures.logged
+pub returns-in_err-attempt-clause-client : goal.returns-in_err-attempt-clause-client
+returns-in_err-attempt-clause-client g c = beginning_client (use_of c.args.wish.now) _ _ c.attempt.ensures.begins
 
-pub returns-clause-begins : goal.returns-clause-begins
-returns-clause-begins g c = entering_begins _ _ (visits-adds _ _ _ _ c.in_ok-log_plain.ensures.logged)
+pub returns-clause-client : goal.returns-clause-client
+returns-clause-client g c = beginning_client (use_of c.args.wish.now) _ _ (begins_no_more _ _ _ _ c.attempt.ensures.begins c.ask_and_enter.ensures.begins)

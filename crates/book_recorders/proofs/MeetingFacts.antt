@@ -1,0 +1,39 @@
+-- What a book tells of two berths is what their own logs tell, and whom it has inside was so where it was asked.
+use Rattle.std.proofs.Common.{◌≡◌, ℕ, Bool, true, List, Result, Ok, Err}
+use Rattle.std.specs.Prelude.{Vec, IfOk}
+use Rattle.std.specs.Global.{Global}
+use Rattle.lock_messages.specs.declared.tickets.Ticket.{Ticket}
+use Rattle.history_book.specs.declared.faults.BookFault.{BookFault}
+use Rattle.history_book.specs.Books.{BookValue, BerthValue, Known, sees, own_part, inside_ticket, IsMet, Reads}
+use Rattle.book_recorders.specs.Meeting.{HaveMet, TellsInside, HasSeenInside}
+use Rattle.book_recorders.specs.Sharing.{log_of}
+use Rattle.book_recorders.proofs.Logging.{log_after}
+
+-- a berth that sees all of the history has its own log still
+pub log_seen : (b : BookValue) (k k' : BerthValue) → Known b k → k' ≡ sees b k → log_of k' ≡ log_of k
+log_seen b k k' known is = log_after k k' b.history _ is known.own
+
+have_met : (answer : Bool) (b : BookValue) (k l k' l' : BerthValue) → IsMet answer b k l k' l' → (answer ≡ true → Reads (inside_ticket (own_part k)) × Reads (inside_ticket (own_part l))) → HaveMet answer (log_of k) (log_of l) (log_of k') (log_of l')
+have_met answer b k l k' l' met readers = record {
+  told = met.told;
+  readers = readers;
+  one = log_seen b k k' met.one met.one_sees;
+  other = log_seen b l l' met.other met.other_sees;
+}
+
+pub met_if : (r : Result Bool BookFault) (b : BookValue) (k l k' l' : BerthValue) → IfOk r (λ met. IsMet met b k l k' l') → IfOk r (λ met. met ≡ true → Reads (inside_ticket (own_part k)) × Reads (inside_ticket (own_part l))) → IfOk r (λ met. HaveMet met (log_of k) (log_of l) (log_of k') (log_of l'))
+met_if (Ok met) b k l k' l' is readers = have_met met b k l k' l' is readers
+met_if (Err f) b k l k' l' is readers = tt
+
+has_seen : (b : BookValue) (k : BerthValue) (x : List ℕ) (tickets : List Ticket) (k' : BerthValue) → TellsInside b k x tickets k' → HasSeenInside (log_of k) x tickets (log_of k')
+has_seen b k x tickets k' told = record {
+  world = b.world;
+  own = told.known.part;
+  inside = told.inside;
+  alone = told.alone;
+  log = log_seen b k k' told.known told.seen;
+}
+
+pub seen_if : (r : Result (Vec Ticket Global) BookFault) (b : BookValue) (k : BerthValue) (x : List ℕ) (k' : BerthValue) → IfOk r (λ tickets. TellsInside b k x tickets.items k') → IfOk r (λ tickets. HasSeenInside (log_of k) x tickets.items (log_of k'))
+seen_if (Ok tickets) b k x k' told = has_seen b k x tickets.items k' told
+seen_if (Err f) b k x k' told = tt

@@ -1,0 +1,40 @@
+-- What a recorder over a shared book is told of others: whether two are inside one resource, and who is inside.
+use Rattle.std.specs.Prelude.{◌≡◌, ℕ, Bool, true, List, [], ◌∷◌}
+use Rattle.lock_messages.specs.declared.tickets.Mode.TheVariants.{Write}
+use Rattle.lock_messages.specs.declared.tickets.Ticket.{Ticket}
+use Rattle.lock_model.specs.Decisions.{Among}
+use Rattle.world_model.specs.declared.exact.ExactWorld.{ExactWorld}
+use Rattle.world_model.specs.Forgetting.{forget}
+use Rattle.world_model.specs.Parts.{part}
+use Rattle.world_machine.specs.Listing.{AreInside}
+use Rattle.event_recorders.specs.OwnLogs.{OwnLog, part_now}
+use Rattle.history_book.specs.Books.{BookValue, BerthValue, Known, sees, are_together, inside_ticket, Reads}
+
+-- The answer is whether the two own logs leave tickets of two clients for one resource; then both read. Neither log
+-- has changed.
+pub record HaveMet (answer : Bool) (l m l' m' : OwnLog) : Type 0 where
+  pub told : answer ≡ are_together (inside_ticket (part_now l)) (inside_ticket (part_now m))
+  pub readers : answer ≡ true → Reads (inside_ticket (part_now l)) × Reads (inside_ticket (part_now m))
+  pub one : l' ≡ l
+  pub other : m' ≡ m
+
+-- a writer among the tickets is the only one
+abbrev pub IsAloneIn : List Ticket → Type 0
+IsAloneIn tickets = (t : Ticket) → Among t tickets → t.mode ≡ Write → tickets ≡ t ∷ []
+
+-- These are the tickets of those whom the book's world has inside the resource. The berth has seen all of the
+-- history, and nothing else changed.
+pub record TellsInside (b : BookValue) (k : BerthValue) (x : List ℕ) (tickets : List Ticket) (k' : BerthValue) : Type 0 where
+  pub known : Known b k
+  pub seen : k' ≡ sees b k
+  pub inside : AreInside (forget b.world) x tickets
+  pub alone : IsAloneIn tickets
+
+-- These are the tickets of those who were inside the resource in a world that the one history had come to, which
+-- has the actor as its own log does. The log has not changed.
+pub record HasSeenInside (l : OwnLog) (x : List ℕ) (tickets : List Ticket) (l' : OwnLog) : Type 0 where
+  pub world : ExactWorld
+  pub own : part world l.actor ≡ part_now l
+  pub inside : AreInside (forget world) x tickets
+  pub alone : IsAloneIn tickets
+  pub log : l' ≡ l

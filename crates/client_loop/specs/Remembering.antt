@@ -1,0 +1,32 @@
+-- What a client remembers from post to post, to those who hold it.
+use Rattle.std.specs.Prelude.{ℕ, List}
+use Rattle.client_core.specs.Clients.{Client}
+use Rattle.client_loop.specs.declared.progress.Progress.{Progress}
+use Rattle.client_loop.specs.Nodes.{IsReleased}
+
+-- the client's core
+abbrev pub core_of : Progress → Client
+core_of p = p.core
+
+-- the same with this core
+abbrev pub with_core : Progress → Client → Progress
+with_core p core = record p { core = core }
+
+-- the nodes whose vote was counted in the present wish
+abbrev pub granted_of : Progress → List ℕ
+granted_of p = p.granted
+
+-- the nodes to which something was sent in the present wish, those that answered its release, and those that
+-- are gone
+abbrev pub asked_of : Progress → List ℕ
+asked_of p = p.asked
+
+abbrev pub released_of : Progress → List ℕ
+released_of p = p.released
+
+abbrev pub gone_of : Progress → List ℕ
+gone_of p = p.gone
+
+-- each node to which something was sent in the present wish has answered the release, or is gone
+abbrev pub HasReleased : Progress → Type 0
+HasReleased p = IsReleased p.core.ballots p.asked p.released p.gone

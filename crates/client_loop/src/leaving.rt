@@ -1,0 +1,83 @@
+// Leaving: it is logged, and the nodes that were asked are told, until each has answered or is gone.
+
+ghost use Rattle.std.specs.Prelude.{◌≡◌, ◌⊎◌, OnOk, OnErr, IfErr};
+ghost use Rattle.client_core.specs.Clients.{phase_of};
+ghost use Rattle.client_core.specs.declared.phases.Phase.TheVariants as phase;
+ghost use Rattle.client_loop.specs.Sendings.{sent_of, SentFollows, SentUnlessMemory};
+ghost use Rattle.client_loop.specs.Standing.{Stands, HasLeft, IsSameClient};
+ghost use Rattle.client_loop.specs.Remembering.{core_of, HasReleased};
+ghost use Rattle.client_loop.specs.Endings.{EndsAsking, IsAskFault};
+ghost use Rattle.client_loop.specs.Visits.{visits_of};
+ghost use Rattle.actor_steps.specs.Steps.{IsBookFault};
+ghost use Rattle.actor_steps.specs.Endings.{falls_of};
+
+use crate::ending::end;
+use crate::progress::Progress;
+use crate::releasing::release;
+use actor_steps::log_plain;
+use client_core::ClientCore;
+use event_recorders::{Recorder, RunFault};
+use lossy_link::Link;
+use stable_record::StableRecord;
+use std::alloc::Global;
+use std::sync::Wait;
+use world_model::Event;
+
+/// Logs that the client has left, or has given up asking.
+#[tactic(auto, using(crate::proofs::SentFacts::leave_sends_nothing))]
+pub(crate) fn log_leave<R: Recorder>(
+    core: &ClientCore,
+    stable: &dyn StableRecord,
+    recorder: &mut R,
+) -> Result<(), RunFault>
+    requires { HasLeft (R.own_log recorder.old) (finds stable.now) core.now }
+    ensures outside { OnOk result (Stands (R.own_log recorder.new) (finds stable.now) core.now) }
+    ensures silent { sent_of (R.own_log recorder.new) ≡ sent_of (R.own_log recorder.old) }
+    ensures visits { visits_of (R.own_log recorder.new) ≡ visits_of (R.own_log recorder.old) }
+    ensures falls { falls_of (R.own_log recorder.new) ≡ falls_of (R.own_log recorder.old) }
+    ensures refused { OnErr result (R.own_log recorder.new ≡ R.own_log recorder.old) }
+    ensures faults { IfErr result IsBookFault }
+{
+    log_plain(recorder, Event::Leave(core.client()), stable)?;
+    Ok(())
+}
+
+/// Leaves: logs that the client has left, and says its release to each node that it asked, until each has
+/// answered or is gone. On a nudge of such a node it says it again.
+///
+/// The caller owes a core that has left, where the client's own log has it asking or inside still, and that a
+/// restart finds in the record what the client keeps.
+///
+/// # Errors
+///
+/// The attempt had its last nudge (913), and then the client has said its release once more to each asked
+/// node that isn't gone, and rests; memory was refused (914), or the book is full or another's (915).
+#[tactic(auto, using(crate::proofs::SentFacts::follows_from, crate::proofs::SentFacts::unless_none, crate::proofs::SentFacts::unless_from, crate::proofs::SentFacts::unless_both, crate::proofs::BeginFacts::still_client))]
+pub fn leave<W: Wait, R: Recorder, L: Link>(
+    rt: &W,
+    alloc: Global,
+    progress: &mut Progress,
+    stable: &dyn StableRecord,
+    recorder: &mut R,
+    link: &mut L,
+) -> Result<(), RunFault>
+    requires { HasLeft (R.own_log recorder.old) (finds stable.now) (core_of progress.old) }
+    ensures sent { OnOk result (SentFollows (R.own_log recorder.old) (R.own_log recorder.new) (L.given link.old) (L.given link.new)) }
+    ensures faulted { IfErr result (λ f. SentUnlessMemory f (R.own_log recorder.old) (R.own_log recorder.new) (L.given link.old) (L.given link.new)) }
+    ensures client { IsSameClient (R.own_log recorder.old) (R.own_log recorder.new) }
+    // It rests by its own log, and each node that it asked has answered, or is gone.
+    ensures stands { OnOk result (Stands (R.own_log recorder.new) (finds stable.now) (core_of progress.new)) }
+    ensures idle { OnOk result (phase_of (core_of progress.new) ≡ phase.Idle) }
+    ensures released { OnOk result (HasReleased progress.new) }
+    ensures again { IfErr result (λ f. f ≡ RunFault.GaveUp → Stands (R.own_log recorder.new) (finds stable.now) (core_of progress.new) × (phase_of (core_of progress.new) ≡ phase.Idle)) }
+    ensures visits { visits_of (R.own_log recorder.new) ≡ visits_of (R.own_log recorder.old) }
+    ensures falls { falls_of (R.own_log recorder.new) ≡ falls_of (R.own_log recorder.old) }
+    ensures faults { IfErr result (λ f. (f ≡ RunFault.GaveUp) ⊎ IsBookFault f) }
+    ensures ended { IfErr result (λ f. EndsAsking f (R.own_log recorder.new)) }
+{
+    log_leave(&progress.core, stable, recorder)?;
+    match release(rt, alloc, progress, stable, recorder, link) {
+        Ok(()) => Ok(()),
+        Err(fault) => Err(end(alloc, fault, progress, stable, recorder, link)),
+    }
+}

@@ -1,0 +1,61 @@
+// Rising, before all else.
+
+ghost use Rattle.std.specs.Prelude.{◌≡◌, [], OnOk, IfOk, false, IfErr};
+ghost use Rattle.client_core.specs.Clients.{phase_of};
+ghost use Rattle.client_core.specs.declared.phases.Phase.TheVariants as phase;
+ghost use Rattle.event_recorders.specs.OwnLogs.{IsUnused, FindsPart};
+ghost use Rattle.client_loop.specs.Sendings.{sent_of};
+ghost use Rattle.client_loop.specs.Standing.{Stands, KeepsAttempt, IsSameClient};
+ghost use Rattle.client_loop.specs.Remembering.{core_of};
+ghost use Rattle.actor_steps.specs.Endings.{falls_of, FailuresFollow};
+ghost use Rattle.client_loop.specs.Endings.{ClientEndsFrom};
+ghost use Rattle.client_loop.specs.Visits.{visits_of};
+
+use crate::progress::Progress;
+use actor_steps::rise_first;
+use client_core::ClientCore;
+use event_recorders::{Recorder, RunFault};
+use lock_messages::{Actor, ClientId};
+use stable_record::{StableRecord, read_client};
+use vote_weights::BallotList;
+
+/// The client rises, once, with the attempt that its record holds, and rests.
+///
+/// The caller owes what it owes `run_client`: a recorder of this client, with these ballots, that has logged
+/// nothing, and whose opening has the client down, with an attempt of at most `MAX_ATTEMPT` kept and nothing
+/// tried; and a record in which a restart finds just that attempt.
+///
+/// # Errors
+///
+/// The client has not risen, and nothing is logged: three reopens of the record failed (911), memory was
+/// refused (914), or the book is full or another's (915).
+#[tactic(auto, using(crate::proofs::SentFacts::first_rise_sends_nothing, crate::proofs::SentFacts::unused_sends_nothing, crate::proofs::EndFacts::client_ends, actor_steps::proofs::EndFacts::failures_stay, crate::proofs::BeginFacts::risen_client))]
+pub fn rise<R: Recorder>(
+    client: ClientId,
+    ballots: BallotList,
+    stable: &mut dyn StableRecord,
+    recorder: &mut R,
+) -> Result<Progress, RunFault>
+    requires unused { IsUnused (R.own_log recorder.old) (Actor.Client client) }
+    requires ballots { (R.own_log recorder.old).ballots ≡ ballots }
+    requires found { FindsPart (R.own_log recorder.old).opening (finds stable.old) }
+    requires kept { KeepsAttempt (R.own_log recorder.old).opening }
+    ensures stands { IfOk result (λ p. Stands (R.own_log recorder.new) (finds stable.new) (core_of p)) }
+    ensures free { OnOk result (stuck_of stable.new ≡ false) }
+    ensures idle { IfOk result (λ p. phase_of (core_of p) ≡ phase.Idle) }
+    ensures client { IsSameClient (R.own_log recorder.old) (R.own_log recorder.new) }
+    ensures silent { sent_of (R.own_log recorder.new) ≡ [] }
+    ensures visits { (visits_of (R.own_log recorder.new)).entered ≡ [] }
+    ensures softened { (visits_of (R.own_log recorder.new)).softened ≡ [] }
+    ensures begins { (visits_of (R.own_log recorder.new)).begins ≡ [] }
+    ensures whose { (visits_of (R.own_log recorder.new)).whose ≡ (R.own_log recorder.old).actor }
+    ensures ballots { (visits_of (R.own_log recorder.new)).ballots ≡ (R.own_log recorder.old).ballots }
+    ensures ended { IfErr result (λ fault. ClientEndsFrom fault (falls_of (R.own_log recorder.old)) (R.own_log recorder.new) (stuck_of stable.new) (spent_of stable.new) (failures_of stable.old) (failures_of stable.new)) }
+    ensures falls { FailuresFollow (falls_of (R.own_log recorder.old)) (falls_of (R.own_log recorder.new)) (failures_of stable.old) (failures_of stable.new) }
+{
+    let bytes = rise_first(Actor::Client(client), stable, recorder)?;
+    let Ok(attempt) = read_client(bytes.as_slice()) else {
+        unreachable!()
+    };
+    Ok(Progress::of(ClientCore::rise(client, attempt, ballots)))
+}

@@ -1,0 +1,225 @@
+-- A session, as contracts see it.
+use Rattle.std.specs.Prelude.{◌≡◌, ◌⊎◌, ◌++◌, ◌∷◌, [], ℕ, Bool, true, false, List, Option, None, Some}
+use Rattle.lock_messages.specs.declared.ids.Actor.TheVariants as actor
+use Rattle.lock_messages.specs.declared.tickets.Mode.{Mode}
+use Rattle.lock_messages.specs.declared.tickets.Ticket.{Ticket}
+use Rattle.lock_model.specs.Ballots.{Ballot}
+use Rattle.lossy_link.specs.declared.parcels.Sending.{Sending}
+use Rattle.client_core.specs.declared.phases.Phase.TheVariants as phase
+use Rattle.client_core.specs.Calls.{left as core_left}
+use Rattle.client_core.specs.Clients.{Client, phase_of, ticket_of, softened_ticket}
+use Rattle.history_book.specs.Books.{inside_ticket}
+use Rattle.event_recorders.specs.declared.faults.RunFault.{RunFault}
+use Rattle.event_recorders.specs.declared.faults.RunFault.TheVariants as fault
+use Rattle.event_recorders.specs.OwnLogs.{OwnLog, part_now}
+use Rattle.actor_steps.specs.Steps.{IsBookFault}
+use Rattle.actor_steps.specs.Endings.{falls_of, FailuresFollow}
+use Rattle.client_loop.specs.declared.progress.Progress.{Progress}
+use Rattle.client_loop.specs.Remembering.{core_of, granted_of, asked_of, released_of, gone_of}
+use Rattle.client_loop.specs.Sendings.{SentFollows, SentUnlessMemory, TellsSoftened}
+use Rattle.client_loop.specs.Standing.{Stands, HasLeft}
+use Rattle.client_loop.specs.Endings.{ClientEndsFrom, EndsAsking, IsAtRest}
+use Rattle.client_loop.specs.Nodes.{IsReleased}
+use Rattle.client_loop.specs.Visits.{Use, AsksFor, BeginsOnly, visits_of, visits_softening}
+use Rattle.lock_session.specs.declared.faults.TryFault.{TryFault}
+use Rattle.lock_session.specs.declared.faults.TryFault.TheVariants as trying
+
+-- The client and its ballots; its core; the nodes whose vote was counted in the present attempt, those to which
+-- something was sent in it, those that answered its release, and those that are gone; the client's own log; what
+-- a restart finds of its record, whether that is stuck and spent, and how often its device has failed; what was
+-- given to its link; whether it has left and its log has yet to say so; and the fault by which it is over, if
+-- it is.
+pub record SessionValue : Type 0 where
+  pub client : ℕ
+  pub ballots : List Ballot
+  pub core : Client
+  pub granted : List ℕ
+  pub asked : List ℕ
+  pub released : List ℕ
+  pub gone : List ℕ
+  pub log : OwnLog
+  pub finds : List (List ℕ)
+  pub stuck : Bool
+  pub spent : Bool
+  pub failures : ℕ
+  pub given : Option (List Sending)
+  pub left : Bool
+  pub over : Option RunFault
+
+-- a session of these parts
+abbrev pub session_of_parts : ℕ → List Ballot → Progress → OwnLog → List (List ℕ) → Bool → Bool → ℕ → Option (List Sending) → Bool → Option RunFault → SessionValue
+session_of_parts client ballots p log finds stuck spent failures given left over = record {
+  client = client;
+  ballots = ballots;
+  core = core_of p;
+  granted = granted_of p;
+  asked = asked_of p;
+  released = released_of p;
+  gone = gone_of p;
+  log = log;
+  finds = finds;
+  stuck = stuck;
+  spent = spent;
+  failures = failures;
+  given = given;
+  left = left;
+  over = over;
+}
+
+-- The core stands for what the own log tells: the client rests, or is inside.
+pub record MayGoOn (l : OwnLog) (finds : List (List ℕ)) (stuck : Bool) (core : Client) : Type 0 where
+  pub stands : Stands l finds core
+  pub still : (phase_of core ≡ phase.Idle) ⊎ (phase_of core ≡ phase.Inside)
+  pub free : stuck ≡ false
+
+-- The core has left, and the own log has the client inside still.
+pub record HasYetToLeave (l : OwnLog) (finds : List (List ℕ)) (stuck : Bool) (core : Client) : Type 0 where
+  pub left : HasLeft l finds core
+  pub free : stuck ≡ false
+
+-- the fault by which a session is over, where it is one that ends more than an attempt
+abbrev pub over_by : RunFault → Option RunFault
+over_by fault.TooFewNodes = None
+over_by fault.GaveUp = None
+over_by fault.NotReopened = Some fault.NotReopened
+over_by fault.Memory = Some fault.Memory
+over_by fault.Book = Some fault.Book
+over_by fault.Spent = Some fault.Spent
+
+-- what holds of a session, by whether it is over, and has left: it is over by no fault that ends an attempt alone
+abbrev pub GoesOn : Option RunFault → Bool → OwnLog → List (List ℕ) → Bool → Client → Type 0
+GoesOn (Some f) left l finds stuck core = over_by f ≡ Some f
+GoesOn None true l finds stuck core = HasYetToLeave l finds stuck core
+GoesOn None false l finds stuck core = MayGoOn l finds stuck core
+
+-- what holds of each session: its log is its client's, with its ballots
+pub record IsSession (v : SessionValue) : Type 0 where
+  pub actor : v.log.actor ≡ actor.Client v.client
+  pub ballots : v.log.ballots ≡ v.ballots
+  pub goes_on : GoesOn v.over v.left v.log v.finds v.stuck v.core
+
+-- of the same client, with the same ballots
+pub record IsSameSession (v v' : SessionValue) : Type 0 where
+  pub client : v'.client ≡ v.client
+  pub ballots : v'.ballots ≡ v.ballots
+
+-- The session goes on, and rests: its own log has the client outside, and says nothing more.
+pub record IsResting (v : SessionValue) : Type 0 where
+  pub on : v.over ≡ None
+  pub settled : v.left ≡ false
+  pub rests : IsAtRest v.log v.finds v.stuck v.core
+
+-- The session's own log has the client inside with this ticket, and so has its core.
+pub record IsInside (v : SessionValue) (t : Ticket) : Type 0 where
+  pub settled : v.left ≡ false
+  pub stands : Stands v.log v.finds v.core
+  pub inside : phase_of v.core ≡ phase.Inside
+  pub ticket : ticket_of v.core ≡ Some t
+  pub logged : inside_ticket (part_now v.log) ≡ Some t
+
+-- What stands after a fault: after one that ends an attempt alone the session rests, after any other it is over.
+abbrev pub StandsAfter : RunFault → SessionValue → Type 0
+StandsAfter fault.TooFewNodes v = IsResting v
+StandsAfter fault.GaveUp v = IsResting v
+StandsAfter fault.NotReopened v = v.over ≡ Some fault.NotReopened
+StandsAfter fault.Memory v = v.over ≡ Some fault.Memory
+StandsAfter fault.Book v = v.over ≡ Some fault.Book
+StandsAfter fault.Spent v = v.over ≡ Some fault.Spent
+
+-- Why a call ended: the session was over before, by the same fault, and nothing has changed; or leaving ended so, or
+-- entering did.
+abbrev pub EndsBy : RunFault → SessionValue → SessionValue → Type 0
+EndsBy f v v' = ((v.over ≡ Some f) × (v' ≡ v)) ⊎ (EndsAsking f v'.log ⊎ ClientEndsFrom f (falls_of v.log) v'.log v'.stuck v'.spent v.failures v'.failures)
+
+-- what the session did on its way, for this use: it began none but this, softened nothing, and fell as often as its
+-- record's device failed
+pub record Attempts (u : Use) (v v' : SessionValue) : Type 0 where
+  pub same : IsSameSession v v'
+  pub begins : BeginsOnly u (visits_of v.log) (visits_of v'.log)
+  pub softened : (visits_of v'.log).softened ≡ (visits_of v.log).softened
+  pub falls : FailuresFollow (falls_of v.log) (falls_of v'.log) v.failures v'.failures
+
+-- This use was entered, once; and what was sent is what the log tells.
+pub record Enters (u : Use) (v v' : SessionValue) : Type 0 where
+  pub attempts : Attempts u v v'
+  pub entered : (visits_of v'.log).entered ≡ (visits_of v.log).entered ++ Some u ∷ []
+  pub sent : SentFollows v.log v'.log v.given v'.given
+
+-- Nothing was entered, and the session rests.
+pub record TakesBack (u : Use) (v v' : SessionValue) : Type 0 where
+  pub attempts : Attempts u v v'
+  pub entered : (visits_of v'.log).entered ≡ (visits_of v.log).entered
+  pub sent : SentFollows v.log v'.log v.given v'.given
+  pub rests : IsResting v'
+
+-- Nothing was entered, and the call ended by this fault.
+pub record EndsEntering (u : Use) (f : RunFault) (v v' : SessionValue) : Type 0 where
+  pub attempts : Attempts u v v'
+  pub entered : (visits_of v'.log).entered ≡ (visits_of v.log).entered
+  pub sent : SentUnlessMemory f v.log v'.log v.given v'.given
+  pub after : StandsAfter f v'
+  pub ended : EndsBy f v v'
+
+-- each node to which something was sent in the present attempt has answered its release, or is gone
+abbrev pub HasReleased : SessionValue → Type 0
+HasReleased v = IsReleased v.core.ballots v.asked v.released v.gone
+
+-- a use, by its parts
+abbrev pub use_by : Mode → List ℕ → ℕ → Use
+use_by mode resource place = record { mode = mode; resource = resource; place = place }
+
+-- The core has left, where it was inside; the own log has yet to say so. Nothing else has changed.
+pub record GoesOut (v v' : SessionValue) : Type 0 where
+  pub others : v' ≡ record v { core = v'.core; left = v'.left }
+  pub outside : phase_of v'.core ≡ phase.Inside → ⊥
+  pub left : phase_of v.core ≡ phase.Inside → (v'.core ≡ core_left v.core) × (v'.left ≡ true)
+  pub kept : (phase_of v.core ≡ phase.Inside → ⊥) → v' ≡ v
+
+-- Why settling ended: the session was over before, by the same fault, and nothing has changed; or leaving ended so.
+abbrev pub EndsSettling : RunFault → SessionValue → SessionValue → Type 0
+EndsSettling f v v' = ((v.over ≡ Some f) × (v' ≡ v)) ⊎ EndsAsking f v'.log
+
+-- What the session had left open is said: its log has nothing new begun, entered or softened, and it has not
+-- fallen.
+pub record Settles (v v' : SessionValue) : Type 0 where
+  pub same : IsSameSession v v'
+  pub visits : visits_of v'.log ≡ visits_of v.log
+  pub falls : falls_of v'.log ≡ falls_of v.log
+  pub failures : v'.failures ≡ v.failures
+
+-- The session's own log has the client inside, with a ticket for this use.
+pub record IsInsideFor (u : Use) (v : SessionValue) : Type 0 where
+  pub ticket : Ticket
+  pub inside : IsInside v ticket
+  pub asked : AsksFor u ticket
+
+-- The session softened: its log has one Soften more, of the use that was begun last, and each node whose vote was
+-- counted was told so, once.
+pub record Softens (v v' : SessionValue) : Type 0 where
+  pub same : IsSameSession v v'
+  pub visits : visits_of v'.log ≡ visits_softening (visits_of v.log)
+  pub told : TellsSoftened v.core v.granted v.log v'.log
+  pub sent : SentFollows v.log v'.log v.given v'.given
+
+-- softening failed, by want of memory or by the book, before its Soften was logged or after that
+pub record FailsToSoften (f : RunFault) (v v' : SessionValue) : Type 0 where
+  pub cause : IsBookFault f
+  pub over : v'.over ≡ Some f
+  pub same : IsSameSession v v'
+  pub visits : (visits_of v'.log ≡ visits_of v.log) ⊎ (visits_of v'.log ≡ visits_softening (visits_of v.log))
+  pub sent : SentUnlessMemory f v.log v'.log v.given v'.given
+
+-- Why softening ended: the session was over before, by the same fault, and nothing has changed; or it failed.
+abbrev pub EndsSoftening : RunFault → SessionValue → SessionValue → Type 0
+EndsSoftening f v v' = ((v.over ≡ Some f) × (v' ≡ v)) ⊎ FailsToSoften f v v'
+
+-- the ticket with which a client is inside still: the same, or that as a reader's
+pub record IsInsideStill (t : Ticket) (v : SessionValue) : Type 0 where
+  pub ticket : Ticket
+  pub inside : IsInside v ticket
+  pub same : (ticket ≡ t) ⊎ (ticket ≡ softened_ticket t)
+
+-- Why nothing was entered that isn't to wait: a node let it, and it was taken back; or it ended as entering does.
+abbrev pub EndsTrying : Use → TryFault → SessionValue → SessionValue → Type 0
+EndsTrying u trying.Busy v v' = TakesBack u v v'
+EndsTrying u (trying.Ended f) v v' = EndsEntering u f v v'

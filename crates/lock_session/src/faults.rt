@@ -1,0 +1,15 @@
+// Why nothing was entered.
+
+use event_recorders::RunFault;
+use thiserror::Error;
+
+/// Why a session did not enter that isn't to wait.
+#[derive(Clone, Copy, Debug, PartialEq, Eq, Hash, Error)]
+pub enum TryFault {
+    /// A node let it wait, and it has taken back what it asked for.
+    #[error("others go before it")]
+    Busy,
+    /// The attempt ended by this fault, or the session is over by it.
+    #[error("{0}")]
+    Ended(RunFault),
+}

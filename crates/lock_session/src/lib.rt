@@ -1,0 +1,25 @@
+//! Locks when a program wants them: a client's session, in which it enters, softens and leaves by calls.
+//!
+//! A `Session` owns a client's record, recorder and link. `enter` makes an attempt, asks for it, and answers a
+//! `SessionGuard`, which is alive only while the session's own log has the client inside with the guard's
+//! ticket. `leave` takes the guard, logs the Leave and says the releases; a guard that is dropped instead is
+//! outside at once, and the session's next call logs it and says the releases before anything else. Where an
+//! attempt ends by too few nodes (912) or too many nudges (913) the session goes on; every other fault ends it.
+//!
+//! The crate promises what `client_loop` promises of each of its calls, whose parts a session is: what is
+//! logged and sent, and by which fault a call ends; and that each holds of a session as it stands, whatever
+//! was called before. It stands on `client_loop`, `actor_steps`, `event_recorders`, `entry_guard`,
+//! `client_core`, `lossy_link`, `stable_record`, `history_check` for wishes, `history_book`,
+//! `world_actors`, `world_model`, `vote_weights`, `lock_messages`, `lock_model` and `thiserror`.
+#![tactic(auto)]
+
+mod faults;
+mod gates;
+mod guards;
+mod records;
+mod sessions;
+
+pub use faults::TryFault;
+pub use guards::SessionGuard;
+pub use records::OwnRecord;
+pub use sessions::Session;

@@ -1,0 +1,343 @@
+// A session.
+
+ghost use Rattle.std.specs.Prelude.{◌≡◌, ◌⊎◌, [], true, false, None, Some, Ok, OnOk, OnErr, IfOk, IfErr, IfSome};
+ghost use Rattle.lock_model.specs.Ballots.{HasPlace};
+ghost use Rattle.lock_messages.specs.declared.tickets.Mode.TheVariants.{Write};
+ghost use Rattle.lock_messages.specs.declared.tickets.Ticket.{Ticket as TicketValue};
+ghost use Rattle.client_core.specs.Clients.{ticket_of, softened_ticket};
+ghost use Rattle.event_recorders.specs.OwnLogs.{IsUnused, FindsPart};
+ghost use Rattle.actor_steps.specs.Endings.{falls_of, FailuresFollow};
+ghost use Rattle.book_recorders.specs.Meeting.{HaveMet, HasSeenInside};
+ghost use Rattle.client_loop.specs.Sendings.{sent_of, SentFollows, SentUnlessMemory};
+ghost use Rattle.client_loop.specs.Standing.{KeepsAttempt};
+ghost use Rattle.client_loop.specs.Endings.{ClientEndsFrom};
+ghost use Rattle.client_loop.specs.Visits.{visits_of};
+ghost use Rattle.lock_session.specs.Sessions.{IsResting, IsInside, IsInsideStill, IsInsideFor, Softens, EndsSoftening, GoesOut, Settles, StandsAfter, EndsSettling, Enters, TakesBack, EndsEntering, HasReleased, use_by, over_by};
+
+use crate::OwnRecord;
+use crate::gates::OpenGate;
+use book_recorders::SharedRecorder;
+use client_core::Phase;
+use client_loop::{Patience, Progress};
+use event_recorders::{Recorder, RunFault};
+use history_book::BookFault;
+use history_check::Wish;
+use lock_messages::{Actor, ClientId, Mode, ResourceName, Ticket};
+use lossy_link::Link;
+use std::alloc::Global;
+use std::marker::Model;
+use std::sync::Wait;
+use vote_weights::BallotList;
+
+/// A client's session: its record, its recorder and its link, and what it remembers between two calls.
+///
+/// It rests, or is inside by a guard that borrows it. A guard that was dropped, or forgotten, has left it
+/// something to say, which the next call does first.
+#[derive(Drop)]
+pub struct Session<S: OwnRecord, R: Recorder, L: Link> {
+    client: ClientId,
+    ballots: BallotList,
+    progress: Progress,
+    stable: S,
+    recorder: R,
+    link: L,
+    is_left: bool,
+    ended: Option<RunFault>,
+}
+
+impl<S: OwnRecord, R: Recorder, L: Link> Model for Session<S, R, L> {
+    ghost use Rattle.lock_session.specs.Sessions.{SessionValue, IsSession, session_of_parts};
+
+    ghost Value = { SessionValue };
+
+    ghost view = { λ s. session_of_parts s.client s.ballots s.progress (R.own_log s.recorder) (S.StableRecord.finds s.stable) (S.StableRecord.stuck_of s.stable) (S.StableRecord.spent_of s.stable) (S.StableRecord.failures_of s.stable) (L.given s.link) s.is_left s.ended };
+
+    ghost invariant = { λ s. IsSession (session_of_parts s.client s.ballots s.progress (R.own_log s.recorder) (S.StableRecord.finds s.stable) (S.StableRecord.stuck_of s.stable) (S.StableRecord.spent_of s.stable) (S.StableRecord.failures_of s.stable) (L.given s.link) s.is_left s.ended) };
+}
+
+/// The fault by which a session is over, where it is one that ends more than an attempt.
+fn over_by(fault: RunFault) -> Option<RunFault>
+    ensures { result ≡ over_by fault }
+{
+    match fault {
+        RunFault::TooFewNodes | RunFault::GaveUp => None,
+        RunFault::NotReopened | RunFault::Memory | RunFault::Book | RunFault::Spent => Some(fault),
+    }
+}
+
+impl<S: OwnRecord, R: Recorder, L: Link> Session<S, R, L> {
+    /// The client rises with what its record holds, and rests.
+    ///
+    /// The caller owes a recorder of this client, with these ballots, that has logged nothing, and whose
+    /// opening has the client down, with an attempt of at most `MAX_ATTEMPT` kept and nothing tried; and a
+    /// record in which a restart finds just that attempt.
+    ///
+    /// # Errors
+    ///
+    /// With what was handed in: the client has not risen, and nothing is logged: three reopens of the record
+    /// failed (911), memory was refused (914), or the book is full or another's (915).
+    pub fn rise(
+        client: ClientId,
+        ballots: BallotList,
+        stable: S,
+        recorder: R,
+        link: L,
+    ) -> Result<Session<S, R, L>, (RunFault, S, R, L)>
+        requires unused { IsUnused (R.own_log recorder) (Actor.Client client) }
+        requires ballots { (R.own_log recorder).ballots ≡ ballots }
+        requires found { FindsPart (R.own_log recorder).opening (S.StableRecord.finds stable) }
+        requires kept { KeepsAttempt (R.own_log recorder).opening }
+        ensures client { IfOk result (λ s. s.client ≡ client) }
+        ensures ballots { IfOk result (λ s. s.ballots ≡ ballots) }
+        ensures rests { IfOk result IsResting }
+        ensures silent { IfOk result (λ s. (sent_of s.log ≡ []) × (s.given ≡ L.given link)) }
+        ensures visits { IfOk result (λ s. ((visits_of s.log).begins ≡ []) × ((visits_of s.log).entered ≡ []) × ((visits_of s.log).softened ≡ [])) }
+        ensures falls { IfOk result (λ s. FailuresFollow 0 (falls_of s.log) (S.StableRecord.failures_of stable) s.failures) }
+        ensures ended { IfErr result (λ e. ClientEndsFrom e.0 0 (R.own_log e.2) (S.StableRecord.stuck_of e.1) (S.StableRecord.spent_of e.1) (S.StableRecord.failures_of stable) (S.StableRecord.failures_of e.1)) }
+    {
+        let (mut stable, mut recorder) = (stable, recorder);
+        match stable.rise(client, ballots, &mut recorder) {
+            Ok(progress) => Ok(Session {
+                client,
+                ballots,
+                progress,
+                stable,
+                recorder,
+                link,
+                is_left: false,
+                ended: None,
+            }),
+            Err(fault) => Err((fault, stable, recorder, link)),
+        }
+    }
+
+    /// The session's client, whose own log it is.
+    pub fn client(&self) -> ClientId
+        ensures client { result ≡ self.now.client }
+        ensures whose { self.now.log.actor ≡ Actor.Client result }
+    {
+        self.client
+    }
+
+    /// The ballots by whose places it may enter.
+    pub fn ballots(&self) -> BallotList
+        ensures { result ≡ self.now.ballots }
+    {
+        self.ballots
+    }
+
+    /// The ticket with which it is inside, if it is: so it is while a guard of it lives.
+    pub fn ticket(&self) -> Option<Ticket>
+        ensures { result ≡ ticket_of self.now.core }
+    {
+        self.progress.core().ticket()
+    }
+
+    /// The fault by which the session is over, if it is.
+    pub fn ended(&self) -> Option<RunFault>
+        ensures { result ≡ self.now.over }
+    {
+        self.ended
+    }
+
+    /// The core leaves, where it is inside.
+    pub(crate) fn go_out(&mut self)
+        ensures { GoesOut self.old self.new }
+    {
+        if let Phase::Inside = self.progress.core().phase() {
+            self.progress.go_out();
+            self.is_left = true;
+        }
+    }
+
+    /// Says that the core has left.
+    fn say_leave<W: Wait>(&mut self, rt: &W, alloc: Global) -> Result<(), RunFault>
+        requires on { self.old.over ≡ None }
+        requires left { self.old.left ≡ true }
+        ensures settles { Settles self.old self.new }
+        ensures rests { OnOk result (IsResting self.new) }
+        ensures released { OnOk result (HasReleased self.new) }
+        ensures sent { OnOk result (SentFollows self.old.log self.new.log self.old.given self.new.given) }
+        ensures faulted { IfErr result (λ f. SentUnlessMemory f self.old.log self.new.log self.old.given self.new.given) }
+        ensures after { IfErr result (λ f. StandsAfter f self.new) }
+        ensures ended { IfErr result (λ f. EndsSettling f self.old self.new) }
+    {
+        let told = self.stable.leave(
+            rt,
+            alloc,
+            &mut self.progress,
+            &mut self.recorder,
+            &mut self.link,
+        );
+        self.is_left = false;
+        if let Err(fault) = told {
+            self.ended = over_by(fault);
+        }
+        told
+    }
+
+    /// Says what a dropped guard has left to say, if there is anything: logs that the client has left, and says
+    /// its release to each node that it asked, until each has answered or is gone. Each call that enters begins
+    /// with it.
+    ///
+    /// # Errors
+    ///
+    /// The attempt had its last nudge (913), and then the session has left, and rests; the session was over by
+    /// this fault, and nothing is done; memory was refused (914), or the book is full or another's (915), and
+    /// then it is over.
+    pub fn settle<W: Wait>(&mut self, rt: &W, alloc: Global) -> Result<(), RunFault>
+        ensures settles { Settles self.old self.new }
+        ensures rests { OnOk result (IsResting self.new) }
+        ensures released { OnOk result (self.old.left ≡ true → HasReleased self.new) }
+        ensures sent { OnOk result (SentFollows self.old.log self.new.log self.old.given self.new.given) }
+        ensures faulted { IfErr result (λ f. SentUnlessMemory f self.old.log self.new.log self.old.given self.new.given) }
+        ensures after { IfErr result (λ f. StandsAfter f self.new) }
+        ensures ended { IfErr result (λ f. EndsSettling f self.old self.new) }
+    {
+        if let Some(fault) = self.ended {
+            return Err(fault);
+        }
+        self.go_out();
+        if !self.is_left {
+            return Ok(());
+        }
+        self.say_leave(rt, alloc)
+    }
+
+    /// Asks for a use and is inside; whether it is.
+    fn ask<W: Wait>(
+        &mut self,
+        rt: &W,
+        alloc: Global,
+        mode: Mode,
+        resource: ResourceName,
+        place: u8,
+        patience: Patience,
+    ) -> Result<bool, RunFault>
+        requires rests { IsResting self.old }
+        requires placed { HasPlace self.old.ballots place }
+        ensures entered { result ≡ Ok true → Enters (use_by mode resource place) self.old self.new }
+        ensures inside { result ≡ Ok true → IsInsideFor (use_by mode resource place) self.new }
+        ensures back { result ≡ Ok false → TakesBack (use_by mode resource place) self.old self.new }
+        ensures waits { result ≡ Ok false → patience.waits ≡ false }
+        ensures ended { IfErr result (λ f. EndsEntering (use_by mode resource place) f self.old self.new) }
+    {
+        let wish = Wish {
+            client: self.client,
+            mode,
+            resource,
+            place,
+            soften: false,
+        };
+        let asked = self.stable.enter(
+            rt,
+            alloc,
+            &wish,
+            patience,
+            &mut self.progress,
+            &mut self.recorder,
+            &mut self.link,
+            &OpenGate,
+        );
+        match asked {
+            Ok(true) => {
+                self.progress.go_in();
+                Ok(true)
+            }
+            Ok(false) => Ok(false),
+            Err(fault) => {
+                self.ended = over_by(fault);
+                Err(fault)
+            }
+        }
+    }
+
+    /// Says what is left to say, asks for a use and is inside; whether it is.
+    pub(crate) fn come_in<W: Wait>(
+        &mut self,
+        rt: &W,
+        alloc: Global,
+        mode: Mode,
+        resource: ResourceName,
+        place: u8,
+        patience: Patience,
+    ) -> Result<bool, RunFault>
+        requires placed { HasPlace self.old.ballots place }
+        ensures entered { result ≡ Ok true → Enters (use_by mode resource place) self.old self.new }
+        ensures inside { result ≡ Ok true → IsInsideFor (use_by mode resource place) self.new }
+        ensures back { result ≡ Ok false → TakesBack (use_by mode resource place) self.old self.new }
+        ensures waits { result ≡ Ok false → patience.waits ≡ false }
+        ensures ended { IfErr result (λ f. EndsEntering (use_by mode resource place) f self.old self.new) }
+    {
+        self.settle(rt, alloc)?;
+        self.ask(rt, alloc, mode, resource, place, patience)
+    }
+
+    /// Goes on inside as a reader, where it is inside as a writer.
+    pub(crate) fn soften(&mut self, alloc: Global) -> Result<(), RunFault>
+        ensures still { (t : TicketValue) → IsInside self.old t → IsInsideStill t self.new }
+        ensures softened { OnOk result ((t : TicketValue) → IsInside self.old t → t.mode ≡ Write → IsInside self.new (softened_ticket t) × Softens self.old self.new) }
+        ensures ended { IfErr result (λ f. EndsSoftening f self.old self.new) }
+    {
+        if let Some(fault) = self.ended {
+            return Err(fault);
+        }
+        if self.is_left || !self.progress.core().may_soften() {
+            return Ok(());
+        }
+        let told = self.stable.soften(
+            alloc,
+            &mut self.progress,
+            &mut self.recorder,
+            &mut self.link,
+        );
+        match told {
+            Ok(()) => Ok(()),
+            Err(fault) => {
+                self.ended = over_by(fault);
+                Err(fault)
+            }
+        }
+    }
+
+    /// What the session owned. It has to be at rest, or over, for its log to be told whole.
+    pub fn into_parts(self) -> (S, R, L)
+        ensures log { R.own_log result.1 ≡ self.log }
+        ensures finds { S.StableRecord.finds result.0 ≡ self.finds }
+        ensures given { L.given result.2 ≡ self.given }
+    {
+        let Session {
+            stable,
+            recorder,
+            link,
+            ..
+        } = self;
+        (stable, recorder, link)
+    }
+}
+
+impl<S: OwnRecord, R: SharedRecorder, L: Link> Session<S, R, L> {
+    /// Whether the clients of both sessions are inside one resource, as their own logs tell it.
+    pub(crate) fn meet(&mut self, other: &mut Session<S, R, L>) -> Result<bool, BookFault>
+        ensures one { self.new ≡ self.old }
+        ensures other { other.new ≡ other.old }
+        ensures met { IfOk result (λ met. HaveMet met self.old.log other.old.log self.new.log other.new.log) }
+        ensures err { IfErr result (λ f. f ≡ BookFault.OtherBook) }
+    {
+        self.recorder.meet(&mut other.recorder)
+    }
+    /// The tickets of the clients that are inside the resource, in the order of the clients, as the one history of
+    /// all has it when it is asked; a writer among them is the only one. Nothing of the session changes. It waits
+    /// for the lock of the book.
+    ///
+    /// # Errors
+    ///
+    /// The session's berth is another book's (815), or memory was refused (813).
+    pub fn inside(&mut self, resource: &ResourceName) -> Result<Vec<Ticket>, BookFault>
+        ensures same { self.new ≡ self.old }
+        ensures seen { IfOk result (λ tickets. HasSeenInside self.old.log resource.now tickets.items self.new.log) }
+        ensures err { IfErr result (λ f. (f ≡ BookFault.OtherBook) ⊎ (f ≡ BookFault.Memory)) }
+    {
+        self.recorder.inside(resource)
+    }
+}
