@@ -1,8 +1,13 @@
+pub mod Amongst
 pub mod Lists
 pub mod Openings
+pub mod Orders
 pub mod Places
 pub mod Promises
 pub mod Ready
+pub mod Returned
+pub mod Sorting
 pub mod Taking
 pub mod Telling
 pub mod Wishing
+pub mod ResumeFacts

@@ -4,7 +4,8 @@ use Rattle.std.specs.Option.{option_map}
 use Rattle.std.proofs.lemmas.Bool.{ne_eqb}
 use Rattle.std.proofs.Math.Seq.{take-append_seam, drop-append_seam}
 use Rattle.std.proofs.lemmas.List.{take-map, length-map}
-use Rattle.std.specs.List.{drop-map}
+use Rattle.std.proofs.lemmas.List.FromFn.{length-range_with_len}
+use Rattle.std.specs.List.{drop-map, range_with_len}
 use Rattle.std.proofs.Math.ListN.{length-append}
 use Rattle.std.proofs.lemmas.Option.{slice_get-map, slice_get_within, get_or_from_slice_get}
 use Rattle.lock_messages.specs.declared.ids.TheConstants.{MAX_NODES, MAX_CLIENTS}
@@ -19,7 +20,7 @@ use Rattle.world_model.specs.Forgetting.{IsSound}
 use Rattle.world_model.specs.Openings.{down_node, down_client, resumed}
 use Rattle.world_model.specs.Parts.{node_part, client_part}
 use Rattle.node_threads.specs.Actors.{IsNodeReady, IsClientReady, AreNodesReady, AreClientsReady}
-use Rattle.node_threads.specs.Conditions.{finds_station, finds_attempt}
+use Rattle.node_threads.specs.Conditions.{MayRun, finds_station, finds_attempt}
 
 -- what stands at a place, counted from 0, has the next number
 at_place : {A : Type 0} (xs : List A) (i : ℕ) (x : A) → slice_get xs i ≡ Some x → numbered xs (i + 0 + 1) ≡ Some x
@@ -95,6 +96,22 @@ front f xs ys zs n is count = sym (take-map f n xs) ∙ ap (take n) is ∙ ap (�
 pub back : {X Y : Type 0} (f : X → Y) (xs : List X) (ys zs : List Y) (n : ℕ) → map f xs ≡ ys ++ zs → n ≡ length ys → map f (drop n xs) ≡ zs
 back f xs ys zs n is count = sym (drop-map f n xs) ∙ ap (drop n) is ∙ ap (λ k. drop k (ys ++ zs)) count ∙ drop-append_seam ys zs
 
+-- the first of two lists that are joined, and the second
+pub same_front : {X : Type 0} (xs ys zs ws : List X) → xs ++ ys ≡ zs ++ ws → length xs ≡ length zs → xs ≡ zs
+same_front xs ys zs ws is long = sym (take-append_seam xs ys) ∙ ap (take (length xs)) is ∙ ap (λ n. take n (zs ++ ws)) long ∙ take-append_seam zs ws
+
+pub same_back : {X : Type 0} (xs ys zs ws : List X) → xs ++ ys ≡ zs ++ ws → length xs ≡ length zs → ys ≡ ws
+same_back xs ys zs ws is long = sym (drop-append_seam xs ys) ∙ ap (drop (length xs)) is ∙ ap (λ n. drop n (zs ++ ws)) long ∙ drop-append_seam zs ws
+
+-- what the records of nodes find, and what those of clients do, where they are handed in apart
+pub both_found : {X Y : Type 0} (f : X → List (List ℕ)) (h : Y → List (List ℕ)) (w : ExactWorld) (votes : List Ballot) (pairs : ℕ) (xs : List X) (ys : List Y) (may : MayRun w votes pairs (map f xs ++ map h ys)) → length xs ≡ pairs
+    → (map f xs ≡ map finds_station may.stations) × (map h ys ≡ map finds_attempt may.attempts)
+both_found f h w votes pairs xs ys may paired =
+    let long : length (map f xs) ≡ length (map finds_station may.stations) = length-map xs f ∙ paired ∙ may.paired ∙ sym (length-map may.stations finds_station) in (
+      same_front (map f xs) (map h ys) (map finds_station may.stations) (map finds_attempt may.attempts) may.records long,
+      same_back (map f xs) (map h ys) (map finds_station may.stations) (map finds_attempt may.attempts) may.records long,
+    )
+
 -- as many as these, and as many as the stations with the attempts
 pub as_many : {X Y Z : Type 0} (f : X → Y) (h : Z → Y) (xs : List X) (zs : List Z) → map f xs ≡ map h zs → length xs ≡ length zs
 as_many f h xs zs is = sym (length-map xs f) ∙ ap length is ∙ length-map zs h
@@ -122,3 +139,7 @@ many_clients w votes stations attempts is = ap (λ (v : ExactWorld). length v.cl
 -- the place behind the stations' records
 pub at_stations : (n count : ℕ) (stations : List ExactStation) → n ≡ count → count ≡ length stations → n ≡ length (map finds_station stations)
 at_stations n count stations is many = is ∙ many ∙ sym (length-map stations finds_station)
+
+-- as many as were counted
+pub as_counted : {X : Type 0} (num : X → ℕ) (xs : List X) (count : ℕ) → map num xs ≡ range_with_len 1 count → length xs ≡ count
+as_counted num xs count is = sym (length-map xs num) ∙ ap length is ∙ length-range_with_len 1 count

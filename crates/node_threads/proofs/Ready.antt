@@ -16,7 +16,7 @@ use Rattle.history_check.specs.declared.wishes.TheConstants.{MAX_WISHES}
 use Rattle.client_loop.specs.Standing.{KeepsAttempt}
 use Rattle.client_loop.specs.Visits.{ArePlaced}
 use Rattle.node_threads.specs.Actors.{IsNodeReady, IsClientReady}
-use Rattle.node_threads.specs.Tasks.{IsNodeTask, IsClientTask, own_wishes}
+use Rattle.node_threads.specs.Tasks.{IsNodeTask, IsClientBerth, IsClientTask, own_wishes}
 
 -- the part of the world that the berth tells is that of its actor in the book's opening
 opens : (who : Actor) (b b' : BookValue) (k : BerthValue) → IsGiven who b k b' → part k.opening k.actor ≡ part b.opening who
@@ -44,16 +44,21 @@ own_within c all = omega (arith, length-filter (λ w. w.client == c) all, count_
 each_placed : (ballots : List Ballot) (c : ℕ) (all : List Wish) → ArePlaced ballots all → ArePlaced ballots (own_wishes c all)
 each_placed ballots c all placed = All-filter (λ w. w.client == c) (λ w. HasPlace ballots w.place) all placed
 
-pub client_ready : (c : ℕ) (ballots : List Ballot) (wishes : List Wish) (strings : List (List ℕ)) (b b' : BookValue) (k : BerthValue) → IsClientReady b.opening c strings → IsGiven (actor.Client c) b k b' → b.opening.ballots ≡ ballots
-    → (all : List Wish) → wishes ≡ own_wishes c all → length all ≤ MAX_WISHES → ArePlaced ballots all → IsClientTask b.table c ballots wishes k strings
-client_ready c ballots wishes strings b b' k ready given same all own few placed =
+pub client_berth : (c : ℕ) (strings : List (List ℕ)) (b b' : BookValue) (k : BerthValue) → IsClientReady b.opening c strings → IsGiven (actor.Client c) b k b' → IsClientBerth b.table c b.opening.ballots k strings
+client_berth c strings b b' k ready given =
     let at : (log_of k).opening ≡ ClientPart (down_client ready.attempt) = opens (actor.Client c) b b' k given ∙ ready.part in record {
       table = given.table;
       unused = record { actor = given.actor; events = given.own; down = subst (IsDownAtRest (actor.Client c)) (sym at) (refl, refl) };
-      ballots = ap (λ w. w.ballots) given.opening ∙ same;
+      ballots = ap (λ w. w.ballots) given.opening;
       found = subst (λ (q : Part). FindsPart q strings) (sym at) ready.finds;
       kept = subst KeepsAttempt (sym at) ready.range;
-      own = subst (All (λ w. w.client ≡ c)) (sym own) (each_own c all);
-      few = subst (λ ws. length ws ≤ MAX_WISHES) (sym own) (le_trans (own_within c all) few);
-      placed = subst (ArePlaced ballots) (sym own) (each_placed ballots c all placed);
     }
+
+pub client_ready : (c : ℕ) (ballots : List Ballot) (wishes : List Wish) (strings : List (List ℕ)) (b b' : BookValue) (k : BerthValue) → IsClientReady b.opening c strings → IsGiven (actor.Client c) b k b' → b.opening.ballots ≡ ballots
+    → (all : List Wish) → wishes ≡ own_wishes c all → length all ≤ MAX_WISHES → ArePlaced ballots all → IsClientTask b.table c ballots wishes k strings
+client_ready c ballots wishes strings b b' k ready given same all own few placed = record {
+  berth = subst (λ (l : List Ballot). IsClientBerth b.table c l k strings) same (client_berth c strings b b' k ready given);
+  own = subst (All (λ w. w.client ≡ c)) (sym own) (each_own c all);
+  few = subst (λ ws. length ws ≤ MAX_WISHES) (sym own) (le_trans (own_within c all) few);
+  placed = subst (ArePlaced ballots) (sym own) (each_placed ballots c all placed);
+}

@@ -1,5 +1,5 @@
 -- What each client's berth tells of the history, once its thread has ended.
-use Rattle.std.proofs.Common.{◌≡◌, ◌⊎◌, inl, inr, ℕ, ◌+◌, ◌<◌, ◌≤◌, Bool, true, false, nat_eq, List, [], ◌∷◌, ◌++◌, length, map, Option, Some, None, zero, suc, refl, sym, ◌∙◌, ap, subst, arith}
+use Rattle.std.proofs.Common.{◌≡◌, inl, inr, ℕ, ◌+◌, ◌<◌, ◌≤◌, Bool, true, false, nat_eq, List, [], ◌∷◌, ◌++◌, length, map, Option, Some, None, zero, suc, refl, sym, ◌∙◌, ap, subst, arith}
 use Rattle.std.specs.List.{All, filter_map, range_with_len}
 use Rattle.std.specs.Prelude.{IfNone}
 use Rattle.std.proofs.lemmas.Bool.Decides.{nat_tests}
@@ -19,18 +19,12 @@ use Rattle.event_recorders.specs.declared.faults.RunFault.{RunFault}
 use Rattle.event_recorders.specs.OwnLogs.{OwnLog}
 use Rattle.book_recorders.specs.Sharing.{log_of}
 use Rattle.client_loop.specs.Visits.{HasBegun, HasEntered, HasSoftened}
-use Rattle.node_threads.specs.declared.ends.NodeEnd.{NodeEnd}
 use Rattle.node_threads.specs.declared.ends.ClientEnd.{ClientEnd}
-use Rattle.node_threads.specs.Ends.{IsClientEnd, AreClientEnds, with_wishes, client_in, node_fault, client_fault}
+use Rattle.node_threads.specs.Ends.{IsClientEnd, AreClientEnds, with_wishes, client_in, client_fault}
 use Rattle.node_threads.specs.Tasks.{own_wishes}
 use Rattle.node_threads.specs.Wishes.{log_in, DidAsWished, AllDidAsWished}
-use Rattle.node_threads.proofs.Telling.{same_parts}
-
--- of each of a list, and of one in it
-all_among : {X : Type 0} (P : X → Type 0) (x : X) (xs : List X) → Among x xs → All P xs → P x
-all_among P x [] there each = absurd there
-all_among P x (y ∷ xs) (inl same) each = subst P (sym same) (All-head P y xs each)
-all_among P x (y ∷ xs) (inr there) each = all_among P x xs there (All-tail P y xs each)
+use Rattle.node_threads.proofs.Amongst.{all_among, among_behind}
+use Rattle.node_threads.proofs.Telling.{same_parts, told_among}
 
 -- what holds of the ones holds of the others, by what they have in common
 pub carried : {X Y A : Type 0} (f : X → A) (h : Y → A) (P : A → Type 0) (xs : List X) (ys : List Y) → map f xs ≡ map h ys → All (λ y. P (h y)) ys → All (λ x. P (f x)) xs
@@ -64,23 +58,6 @@ numbered_so num (x ∷ xs) low (suc count) c at from to =
     let behind : map num xs ≡ range_with_len (low + 1) count = cc in
     first_or_behind num x xs low count c here from to (nat_eq low c) refl (λ above below. numbered_so num xs (low + 1) count c behind above below)
 
--- a client that ended by a fault is told with it
-told_among : (e : ClientEnd) (f : RunFault) (xs : List ClientEnd) → Among e xs → e.fault ≡ Some f → Among (actor.Client e.client, f) (filter_map client_fault xs)
-told_among e f [] there is = absurd there
-told_among e f (x ∷ xs) (inl same) is = here x.fault (ap (λ (y : ClientEnd). y.fault) (sym same) ∙ is)
-  where
-    here : (o : Option RunFault) → x.fault ≡ Some f → Among (actor.Client e.client, f) (filter_map client_fault (x ∷ xs))
-    here o faulty = rw faulty (inl (ap (λ (y : ClientEnd). (actor.Client y.client, f)) same))
-told_among e f (x ∷ xs) (inr there) is = behind x.fault refl (told_among e f xs there is)
-  where
-    behind : (o : Option RunFault) → x.fault ≡ o → Among (actor.Client e.client, f) (filter_map client_fault xs) → Among (actor.Client e.client, f) (filter_map client_fault (x ∷ xs))
-    behind None faulty among = rw faulty among
-    behind (Some g) faulty among = rw faulty (inr among)
-
-among_behind : {X : Type 0} (x : X) (xs ys : List X) → Among x ys → Among x (xs ++ ys)
-among_behind x [] ys there = there
-among_behind x (y ∷ xs) ys there = inr (among_behind x xs ys there)
-
 -- the berth's log is the actor's own of the history
 same_log : (k : BerthValue) (w : ExactWorld) (history : List (Event × Effect)) (who : Actor) → k.actor ≡ who → k.opening ≡ w → own_events k.actor history ≡ own_of k → log_of k ≡ log_in w history who
 same_log k w history who is opening own =
@@ -112,7 +89,7 @@ did w b wishes faults clients before e c opening told there num ends known own =
     so : ((f : RunFault) → Among (actor.Client c, f) faults → ⊥) → (P : Type 0) → IfNone e.fault P → (o : Option RunFault) → e.fault ≡ o → P
     so none P well None is = subst (λ (o : Option RunFault). IfNone o P) is well
     so none P well (Some f) is =
-        let among : Among (actor.Client e.client, f) faults = subst (λ (ps : List (Actor × RunFault)). Among (actor.Client e.client, f) ps) (sym told) (among_behind (actor.Client e.client, f) before (filter_map client_fault clients) (told_among e f clients there is)) in
+        let among : Among (actor.Client e.client, f) faults = subst (λ (ps : List (Actor × RunFault)). Among (actor.Client e.client, f) ps) (sym told) (among_behind (actor.Client e.client, f) before (filter_map client_fault clients) (told_among (λ (x : ClientEnd). x.client) (λ x. x.fault) e f clients there is)) in
         absurd (none f (subst (λ n. Among (actor.Client n, f) faults) num among))
 
 -- the ends of all clients' tasks

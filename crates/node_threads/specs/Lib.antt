@@ -2,5 +2,8 @@ pub mod Actors
 pub mod Conditions
 pub mod Ends
 pub mod Faults
+pub mod SessionEnds
+pub mod Sessions
 pub mod Tasks
 pub mod Wishes
+pub mod Laws

@@ -23,14 +23,18 @@ pub record IsNodeTask (book : TableId) (n : ℕ) (k : BerthValue) (strings : Lis
 abbrev pub own_wishes : ℕ → List Wish → List Wish
 own_wishes c wishes = filter (λ w. w.client == c) wishes
 
--- The client's berth is of the book of this table, its record finds the attempt that it has kept, and the
--- wishes are its own, by places that the ballots have.
-pub record IsClientTask (book : TableId) (c : ℕ) (list : List Ballot) (wishes : List Wish) (k : BerthValue) (strings : List (List ℕ)) : Type 0 where
+-- The client's berth is of the book of this table and was not used, and its record finds the attempt that the
+-- client has kept.
+pub record IsClientBerth (book : TableId) (c : ℕ) (list : List Ballot) (k : BerthValue) (strings : List (List ℕ)) : Type 0 where
   pub table : k.table ≡ book
   pub unused : IsUnused (log_of k) (actor.Client c)
   pub ballots : (log_of k).ballots ≡ list
   pub found : FindsPart (log_of k).opening strings
   pub kept : KeepsAttempt (log_of k).opening
+
+-- That, and the wishes are its own, by places that the ballots have.
+pub record IsClientTask (book : TableId) (c : ℕ) (list : List Ballot) (wishes : List Wish) (k : BerthValue) (strings : List (List ℕ)) : Type 0 where
+  pub berth : IsClientBerth book c list k strings
   pub own : All (λ w. w.client ≡ c) wishes
   pub few : length wishes ≤ MAX_WISHES
   pub placed : ArePlaced list wishes

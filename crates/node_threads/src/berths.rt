@@ -21,7 +21,7 @@ use std::sync::Wait;
 use vote_weights::BallotList;
 
 /// The berth of an actor of the book's world that has none yet; of another one there is none.
-fn berth_of(book: &mut Book, actor: Actor) -> Result<Berth, RunFault>
+pub(crate) fn berth_of(book: &mut Book, actor: Actor) -> Result<Berth, RunFault>
     requires { Unit {0} }
     ensures given { IfOk result (λ k. IsGiven actor book.old k book.new) }
     ensures err { IfErr result (λ f. f ≡ RunFault.Memory) }

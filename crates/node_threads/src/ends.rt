@@ -36,7 +36,10 @@ pub(crate) struct Ends {
 }
 
 /// The nodes that ended by faults, with these, in order.
-fn node_faults(alloc: Global, ends: &[NodeEnd]) -> Result<Vec<(Actor, RunFault)>, AllocError>
+pub(crate) fn node_faults(
+    alloc: Global,
+    ends: &[NodeEnd],
+) -> Result<Vec<(Actor, RunFault)>, AllocError>
     ensures { IfOk result (λ faults. faults.items ≡ filter_map node_fault ends.now) }
 {
     ends.iter()

@@ -6,6 +6,7 @@ ghost use Rattle.history_book.specs.Books.{BookValue};
 use berth_seats::OpenedWith;
 use book_recorders::Logs;
 use history_book::{Berth, BookFault};
+use lock_messages::{ResourceName, Ticket};
 use std::marker::{Model, PhantomData};
 use world_model::{Effect, Event};
 
@@ -57,5 +58,17 @@ impl<O: OpenedWith, K: Logs> Logs for Opened<O, K> {
 
     fn observe(&mut self, berth: &mut Berth) -> Result<(), BookFault> {
         self.book.observe(berth)
+    }
+
+    fn meet(&mut self, one: &mut Berth, other: &mut Berth) -> Result<bool, BookFault> {
+        self.book.meet(one, other)
+    }
+
+    fn inside(
+        &mut self,
+        berth: &mut Berth,
+        resource: &ResourceName,
+    ) -> Result<Vec<Ticket>, BookFault> {
+        self.book.inside(berth, resource)
     }
 }

@@ -24,7 +24,7 @@ use book_recorders::Logs;
 use event_recorders::{Gate, RunFault};
 use history_book::{Berth, Book, BookFault};
 use history_check::{MAX_WISHES, Wish};
-use lock_messages::Actor;
+use lock_messages::{Actor, ResourceName, Ticket};
 use lossy_link::{ChannelLink, Weather};
 use stable_record::StableRecord;
 use std::alloc::Global;
@@ -36,7 +36,7 @@ use world_machine::World;
 use world_model::{Effect, Event};
 
 /// The number of a run's book. A program makes one book at a time, so any number names it.
-const BOOK: u64 = 1;
+pub(crate) const BOOK: u64 = 1;
 
 /// What a run leaves: the book with the whole history, how many entries it has, and the actors whose
 /// threads ended by a fault, nodes first.
@@ -50,8 +50,8 @@ pub struct RunEnd {
 /// A run's book, to the recorders of its threads. It is a type of this crate, since a function that is
 /// handed boxes can't name an impl of another crate for a type that has boxes, as `Book` has.
 #[derive(Drop)]
-struct SharedBook {
-    book: Book,
+pub(crate) struct SharedBook {
+    pub(crate) book: Book,
 }
 
 impl Logs for SharedBook {
@@ -64,6 +64,25 @@ impl Logs for SharedBook {
     fn observe(&mut self, berth: &mut Berth) -> Result<(), BookFault> {
         self.book.observe(berth)
     }
+
+    fn meet(&mut self, one: &mut Berth, other: &mut Berth) -> Result<bool, BookFault> {
+        self.book.meet(one, other)
+    }
+
+    fn inside(
+        &mut self,
+        berth: &mut Berth,
+        resource: &ResourceName,
+    ) -> Result<Vec<Ticket>, BookFault> {
+        match self.book.observe(berth) {
+            Ok(()) => {}
+            Err(fault) => return Err(fault),
+        }
+        match self.book.world().inside(resource) {
+            Ok(tickets) => Ok(tickets),
+            Err(_) => Err(BookFault::Memory),
+        }
+    }
 }
 
 /// What all threads are given.
@@ -74,7 +93,7 @@ struct Tasks<R: Wait + Copy> {
 }
 
 /// The links of so many nodes, and of so many clients, each with the weather at its own place, nodes first.
-fn links_of<R: Wait + Copy>(
+pub(crate) fn links_of<R: Wait + Copy>(
     rt: R,
     alloc: Global,
     nodes: usize,

@@ -20,7 +20,7 @@ use std::thread::{Promise, PromisedHandle, Scope, Threads};
 
 /// What is promised of a node's thread: that it gives an end of this node.
 #[derive(Drop)]
-struct OfNode {
+pub(crate) struct OfNode {
     node: NodeId,
 }
 
@@ -42,7 +42,7 @@ impl Promise<ClientEnd> for OfClient {
 }
 
 /// Starts a thread for each node's task.
-fn start_nodes<
+pub(crate) fn start_nodes<
     's,
     E,
     B: BookName + Send,
@@ -130,7 +130,7 @@ fn start_clients<
 }
 
 /// Waits for the threads of nodes, in order.
-fn join_nodes<R: Threads>(
+pub(crate) fn join_nodes<R: Threads>(
     rt: &R,
     threads: Vec<PromisedHandle<NodeEnd, OfNode>>,
 ) -> Result<Vec<NodeEnd>, RunFault>

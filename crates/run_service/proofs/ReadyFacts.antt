@@ -50,6 +50,13 @@ may_run s w n pairs found is_world count all_pairs all_records =
           ∙ ap (λ rs. map (λ (t : ExactStation). station_bytes t ∷ []) (stations_of votes p) ++ rs) (clients_are s.clients);
     }
 
+-- what empty records find, by how many nodes there are
+pub found_both : (s : Settings) (n : ℕ) (nodes clients : List (List (List ℕ))) → n ≡ node_count s.ballots → nodes ≡ replicate (node_count s.ballots) (empty_node s.problem) → clients ≡ replicate s.clients empty_client
+    → nodes ++ clients ≡ replicate n (empty_node s.problem) ++ replicate s.clients empty_client
+found_both s n nodes clients count of_nodes of_clients =
+    ap (λ xs. xs ++ clients) (of_nodes ∙ ap (λ m. replicate m (empty_node s.problem)) (sym count))
+    ∙ ap (λ xs. replicate n (empty_node s.problem) ++ xs) of_clients
+
 -- each wish is of a client of the world
 client_count : (s : Settings) → length (all_down s).clients ≡ s.clients
 client_count s = ap length (map_same down_client s.clients 0) ∙ length-replicate s.clients (down_client 0)

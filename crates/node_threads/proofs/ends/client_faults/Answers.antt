@@ -1,4 +1,4 @@
-use Rattle.std.proofs.Common.{◌≡◌, ◌∙◌, ◌++◌, ◌∷◌, [], List, sym, ap}
+use Rattle.std.proofs.Common.{◌∙◌, ◌++◌, ◌∷◌, [], List, sym, ap}
 use Rattle.lock_messages.specs.declared.ids.Actor.{Actor}
 use Rattle.lock_messages.specs.declared.ids.Actor.TheVariants as actor
 use Rattle.event_recorders.specs.declared.faults.RunFault.{RunFault}
@@ -15,7 +15,7 @@ loop-end-preserved c =
       | in-Some+in-Ok w ↦
           ap (λ v. v.items) w.faults-is ∙ w.in-Ok.ensures.items
           ∙ ap (λ (ps : List (Actor × RunFault)). ps ++ (actor.Client e.client, w.in-Some.fault) ∷ []) c.loop-end.invariant
-          ∙ sym (faulty_seen ends i e e w.in-Some.fault c.loop-end-test.true c.end-item.is w.in-Some.is)
+          ∙ sym (faulty_seen (λ x. x.client) (λ x. x.fault) ends i e e w.in-Some.fault c.loop-end-test.true c.end-item.is w.in-Some.is)
       | in_default w ↦
-          ap (λ v. v.items) w.faults-is ∙ c.loop-end.invariant ∙ sym (well_seen ends i e e c.loop-end-test.true c.end-item.is w.in_default.is)
+          ap (λ v. v.items) w.faults-is ∙ c.loop-end.invariant ∙ sym (well_seen (λ x. x.client) (λ x. x.fault) ends i e e c.loop-end-test.true c.end-item.is w.in_default.is)
     ]

@@ -31,7 +31,7 @@ tie_all-requires g c =
     tables_are (λ t. t.client) (λ t. t.wishes.items) (λ t. t.berth.table) c.opened-shared.result.0.book.table tasks.clients.items ends.clients.items of_clients
     (tasks_of_book (λ t. t.berth.table) _ c.opened-shared.result.0.book.table
     (λ b t. IsClientTask b t.client t.ballots t.wishes.items t.berth ((goal.StableRecord-dyn g (t.stable.vtable, t.stable.value)).finds t.stable.value)) tasks.clients.items
-    (λ t is. is.table) c.opened-shared.ensures.table c.in-Ok-tasks_of.ensures.clients)
+    (λ t is. is.berth.table) c.opened-shared.ensures.table c.in-Ok-tasks_of.ensures.clients)
 
 pub returns-clause-wished : goal.returns-clause-wished
 returns-clause-wished g c =

@@ -1,4 +1,4 @@
-use Rattle.std.proofs.Common.{◌≡◌, ◌<◌, length, vec_len, sym, ◌∙◌, arith}
+use Rattle.std.proofs.Common.{◌≡◌, length, vec_len, sym, ◌∙◌, arith}
 use Rattle.node_threads.proofs.Promises.{same_by_place}
 use Rattle.node_threads.proofs.threads.join_nodes.Goals as goal
 

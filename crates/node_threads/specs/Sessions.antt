@@ -1,0 +1,52 @@
+-- Sessions beside the threads of nodes: what each is made of, how it ends, and which records come back.
+use Rattle.std.specs.Prelude.{◌≡◌, ◌⊎◌, ℕ, ◌<◌, List, [], ◌∷◌, All, AllPairs, Option, None, IfNone}
+use Rattle.lock_messages.specs.declared.ids.Actor.{Actor}
+use Rattle.lock_messages.specs.declared.ids.Actor.TheVariants as actor
+use Rattle.lock_model.specs.Decisions.{Among}
+use Rattle.stable_record.specs.Records.{client_record_of}
+use Rattle.world_model.specs.declared.exact.ExactClient.{ExactClient}
+use Rattle.world_model.specs.declared.exact.ExactClientPhase.TheVariants as client
+use Rattle.world_model.specs.declared.exact.ExactWorld.{ExactWorld}
+use Rattle.world_model.specs.Parts.{Part, ClientPart, part}
+use Rattle.event_recorders.specs.declared.faults.RunFault.{RunFault}
+use Rattle.history_book.specs.Books.{BerthValue, own_part}
+use Rattle.node_threads.specs.Faults.{IsActorOf}
+
+-- each number is smaller than all behind it
+abbrev pub InOrder : List ℕ → Type 0
+InOrder numbers = AllPairs (λ m n. m < n) numbers
+
+-- each of these is in one of the two lists
+abbrev pub AreDivided : List ℕ → List ℕ → List ℕ → Type 0
+AreDivided numbers xs ys = All (λ n. Among n xs ⊎ Among n ys) numbers
+
+-- a client that is up and outside, has kept this attempt, and tries to keep nothing
+abbrev pub resting_client : ℕ → ExactClient
+resting_client attempt = record { kept = attempt; tried = None; phase = client.Idle }
+
+-- It is the part of a client that rests, and a restart finds just the attempt that the client has kept.
+pub record RestsWith (p : Part) (strings : List (List ℕ)) : Type 0 where
+  pub attempt : ℕ
+  pub part : p ≡ ClientPart (resting_client attempt)
+  pub finds : strings ≡ client_record_of attempt ∷ []
+
+-- The berth is the client's, by whose own list it rests.
+pub record RestsBy (c : ℕ) (k : BerthValue) (strings : List (List ℕ)) : Type 0 where
+  pub actor : k.actor ≡ actor.Client c
+  pub rests : RestsWith (own_part k) strings
+
+-- a session that ended without a fault rests
+abbrev pub IsSessionEnd : ℕ → Option RunFault → BerthValue → List (List ℕ) → Type 0
+IsSessionEnd c fault k strings = IfNone fault (RestsBy c k strings)
+
+-- the actor is not among those that ended by faults
+abbrev pub IsUntold : List (Actor × RunFault) → Actor → Type 0
+IsUntold faults who = (f : RunFault) → Among (who, f) faults → ⊥
+
+-- The records of clients that come back, by what a restart finds of each: they stand in the order of their
+-- clients, none twice, and each client is one of the opening's. One that isn't told rests in this world, which the
+-- history leaves.
+pub record AreRecords (opening world : ExactWorld) (faults : List (Actor × RunFault)) (records : List (ℕ × List (List ℕ))) : Type 0 where
+  pub ordered : AllPairs (λ p q. p.0 < q.0) records
+  pub theirs : All (λ p. IsActorOf opening (actor.Client p.0)) records
+  pub rest : All (λ p. IsUntold faults (actor.Client p.0) → RestsWith (part world (actor.Client p.0)) p.1) records

@@ -1,0 +1,24 @@
+// What a program does while its service runs.
+
+use book_recorders::SharedRecorder;
+use lock_session::{OwnRecord, Session};
+use lossy_link::Link;
+use std::alloc::Global;
+use std::sync::Wait;
+
+/// What a program does while its service runs: with the session of each client, in a thread of its own.
+///
+/// The type of a session names the service's book, which a program can't name; so the program hands in a value
+/// of a type of its own, whose method is generic over the session, and no closure. The threads are the service's,
+/// since a method can't send to a thread what the bounds of its own parameters are about.
+pub trait Work {
+    /// Works with the session of a client, which has risen and rests. `Session::client` tells whose it is.
+    ///
+    /// When it returns, the service says what the session has left to say, and takes it apart.
+    fn work<W: Wait, S: OwnRecord, R: SharedRecorder, L: Link>(
+        &self,
+        rt: &W,
+        alloc: Global,
+        session: &mut Session<S, R, L>,
+    );
+}

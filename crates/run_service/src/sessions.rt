@@ -1,0 +1,85 @@
+// A new service with the caller inside, by its settings.
+
+ghost use Rattle.std.specs.Prelude.{◌≡◌, ◌≤◌, ◌∷◌, [], length, map, replicate, IfOk, IfErr};
+ghost use Rattle.lock_messages.specs.declared.ids.TheConstants.{MAX_NODES, MAX_CLIENTS};
+ghost use Rattle.lock_model.specs.Ballots.{node_count};
+ghost use Rattle.history_book.specs.Books.{enters};
+ghost use Rattle.world_model.specs.Locality.{IsHistory};
+ghost use Rattle.operator_cli.specs.Openings.{all_down};
+ghost use Rattle.node_threads.specs.Faults.{AreFaults};
+ghost use Rattle.node_threads.specs.Sessions.{AreRecords};
+ghost use Rattle.run_service.specs.Empty.{empty_node, empty_client};
+
+use crate::records::empty_client_record;
+use event_recorders::RunFault;
+use lock_session::OwnRecord;
+use lossy_link::Weather;
+use node_threads::{ServiceEnd, Work, with_sessions};
+use operator_cli::{Policies, Settings, chosen, world_down};
+use stable_record::{MemoryRecord, StableRecord};
+use std::alloc::{AllocError, Global};
+use std::sync::Wait;
+use std::thread::Threads;
+
+/// Records in memory of so many clients that made no attempt yet. The only error is want of memory.
+pub fn empty_client_records(alloc: Global, clients: u16) -> Result<Vec<MemoryRecord>, AllocError>
+    ensures { IfOk result (λ all. map (λ m. m ∷ []) all.items ≡ replicate clients empty_client) }
+{
+    let mut all = Vec::new(alloc);
+    for _ in 0..clients {
+        all.push(empty_client_record(alloc)?)?;
+    }
+    Ok(all)
+}
+
+/// Runs a new service with the caller inside, as `with_sessions` does: its ballots, its problem and its clients are
+/// those of the settings, and nobody has kept anything yet.
+///
+/// The caller owes settings in range; sixteen pairs of policies for the world beside the log, and as many for the
+/// nodes; and one record in which nothing was ever written for each node, of the settings' problem, and for each
+/// client.
+///
+/// The only error is that memory was refused or a thread couldn't be started (914). Then the threads that were
+/// started have ended, and what was handed in is dropped.
+pub fn run_sessions<T: Threads + Wait + Copy + Send + Sync, S: OwnRecord + Send, J: Work + Sync>(
+    rt: T,
+    alloc: Global,
+    settings: &Settings,
+    weather: Weather,
+    for_world: Policies,
+    for_threads: Policies,
+    node_records: Vec<Box<dyn StableRecord + Send>>,
+    client_records: Vec<S>,
+    work: &J,
+) -> Result<ServiceEnd<S>, RunFault>
+    requires some_client { 1 ≤ settings.now.clients }
+    requires few_clients { settings.now.clients ≤ MAX_CLIENTS }
+    requires world { length for_world.pairs.items ≡ MAX_NODES }
+    requires threads { length for_threads.pairs.items ≡ MAX_NODES }
+    requires nodes { map (λ r. (StableRecord-box r).finds r.value) node_records.items ≡ replicate (node_count settings.now.ballots) (empty_node settings.now.problem) }
+    requires clients { map (λ r. S.StableRecord.finds r) client_records.items ≡ replicate settings.now.clients empty_client }
+    ensures opening { IfOk result (λ end. end.book.opening ≡ all_down settings.now) }
+    ensures history { IfOk result (λ end. IsHistory (all_down settings.now) end.book.history end.book.world) }
+    ensures entered { IfOk result (λ end. end.entered ≡ enters end.book.history) }
+    ensures faults { IfOk result (λ end. AreFaults (all_down settings.now) end.faults.items) }
+    ensures records { IfOk result (λ end. AreRecords (all_down settings.now) end.book.world end.faults.items (map (λ r. (r.0, S.StableRecord.finds r.1)) end.records.items)) }
+    ensures err { IfErr result (λ f. f ≡ RunFault.Memory) }
+{
+    let nodes = settings.ballots.nodes();
+    let Ok(world) = world_down(alloc, settings, for_world) else {
+        return Err(RunFault::Memory);
+    };
+    let pairs = chosen(for_threads, nodes);
+    let ballots = settings.ballots;
+    with_sessions(
+        rt,
+        alloc,
+        ballots,
+        node_records,
+        client_records,
+        world,
+        pairs,
+        weather,
+        work,
+    )
+}

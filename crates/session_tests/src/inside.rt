@@ -1,0 +1,233 @@
+// Programs whose sessions work in threads of their own, inside a service.
+
+use crate::programs::{Ended, run_program};
+use crate::worlds::resource;
+use book_recorders::SharedRecorder;
+use event_recorders::Recorder;
+use lock_messages::{Mode, ResourceName};
+use lock_session::{OwnRecord, Session};
+use lossy_link::Link;
+use node_threads::Work;
+use std::alloc::Global;
+use std::mem::drop;
+use std::sync::atomic::AtomicU32;
+use std::sync::atomic::Ordering::SeqCst;
+use std::sync::{Barrier, Wait};
+use std::thread;
+use test_outcomes::{Failure, Outcome, check_row};
+
+/// At which nudge a session gives up; no nudge comes in this weather.
+const NUDGES: u32 = 1_000;
+
+/// How often one looks whether the other has come in, who has to wait.
+const LOOKS: u32 = 1_000;
+
+/// Each session reads, and waits inside for the other one. The first leaves, and the other drops its guard.
+#[derive(Drop)]
+struct ReadTogether {
+    name: ResourceName,
+    meet: Barrier,
+    inside: AtomicU32,
+    seen: AtomicU32,
+}
+
+impl ReadTogether {
+    /// Reads, and is inside until each session's thread has come here; whether it was inside.
+    fn read<W: Wait, S: OwnRecord, R: Recorder, L: Link>(
+        &self,
+        rt: &W,
+        alloc: Global,
+        session: &mut Session<S, R, L>,
+    ) -> bool {
+        let leaves = session.client().get() == 1;
+        if session.ballots().count() < 1 {
+            self.meet.wait(rt);
+            return false;
+        }
+        match session.enter(rt, alloc, Mode::Read, self.name, 1, NUDGES) {
+            Ok(guard) => {
+                self.meet.wait(rt);
+                if leaves {
+                    return guard.leave(rt, alloc).is_ok();
+                }
+                drop(guard);
+                true
+            }
+            Err(_) => {
+                self.meet.wait(rt);
+                false
+            }
+        }
+    }
+}
+
+impl Work for ReadTogether {
+    fn work<W: Wait, S: OwnRecord, R: SharedRecorder, L: Link>(
+        &self,
+        rt: &W,
+        alloc: Global,
+        session: &mut Session<S, R, L>,
+    ) {
+        if let Ok(tickets) = session.inside(&self.name) {
+            if !tickets.is_empty() {
+                self.seen.fetch_add(1, SeqCst);
+            }
+        }
+        if self.read(rt, alloc, session) {
+            self.inside.fetch_add(1, SeqCst);
+        }
+    }
+}
+
+/// Which line of the journal this is, from 0 on; it stands there once.
+fn place_of(journal: &[u8], wanted: &str) -> Result<usize, Failure> {
+    let Ok(journal) = str::from_utf8(journal) else {
+        return Err(Failure::Wrong(0));
+    };
+    if journal.lines().filter(|line| *line == wanted).count() != 1 {
+        return Err(Failure::Wrong(0));
+    }
+    match journal.lines().position(|line| line == wanted) {
+        Some(place) => Ok(place),
+        None => Err(Failure::Wrong(0)),
+    }
+}
+
+/// Ends the test unless so many entered, nobody ended by a fault, and both records came back in order.
+fn have_ended(end: &Ended, entered: u32) -> Outcome {
+    check_row(end.entered == entered && end.faults.is_empty(), 1)?;
+    check_row(end.clients.len() == 2, 2)?;
+    for place in 0..end.clients.len() {
+        check_row(end.clients[place].get() as usize == place + 1, 3)?;
+    }
+    Ok(())
+}
+
+/// Two sessions in two threads hold read locks at once. One leaves; for the other, whose guard is dropped, the
+/// service says so.
+#[test]
+fn two_readers_at_once(rt: HostRuntime) -> Outcome {
+    let work = ReadTogether {
+        name: resource(b"a")?,
+        meet: Barrier::new(2),
+        inside: AtomicU32::new(0),
+        seen: AtomicU32::new(0),
+    };
+    let end = run_program(rt, rt.alloc(), &work)?;
+    have_ended(&end, 2)?;
+    check_row(
+        work.inside.load(SeqCst) == 2 && work.seen.load(SeqCst) < 2,
+        4,
+    )?;
+    let journal = end.journal.as_slice();
+    let (first, second) = (
+        place_of(journal, "enter c1")?,
+        place_of(journal, "enter c2")?,
+    );
+    let (left, other) = (
+        place_of(journal, "leave c1")?,
+        place_of(journal, "leave c2")?,
+    );
+    check_row(first.max(second) < left.min(other), 5)
+}
+
+/// The first session reads, and the second one wants to write beside it.
+#[derive(Drop)]
+struct ReadAndWrite {
+    name: ResourceName,
+    begun: Barrier,
+    wrote: AtomicU32,
+    early: AtomicU32,
+}
+
+impl ReadAndWrite {
+    /// Looks so often whether the writer has come in, and counts it if it has.
+    fn look(&self) {
+        for _ in 0..LOOKS {
+            thread::yield_now();
+        }
+        if self.wrote.load(SeqCst) > 0 {
+            self.early.fetch_add(1, SeqCst);
+        }
+    }
+
+    /// Reads, lets the writer begin, and looks whether it comes in: while the guard lives, and once it is dropped.
+    /// Then the session calls again.
+    fn read_first<W: Wait, S: OwnRecord, R: Recorder, L: Link>(
+        &self,
+        rt: &W,
+        alloc: Global,
+        session: &mut Session<S, R, L>,
+    ) {
+        if session.ballots().count() < 1 {
+            self.begun.wait(rt);
+            return;
+        }
+        match session.enter(rt, alloc, Mode::Read, self.name, 1, NUDGES) {
+            Ok(guard) => {
+                self.begun.wait(rt);
+                self.look();
+                drop(guard);
+                self.look();
+            }
+            Err(_) => {
+                self.begun.wait(rt);
+            }
+        }
+        let _ = session.settle(rt, alloc);
+    }
+
+    /// Writes, once the reader is inside.
+    fn write_then<W: Wait, S: OwnRecord, R: Recorder, L: Link>(
+        &self,
+        rt: &W,
+        alloc: Global,
+        session: &mut Session<S, R, L>,
+    ) {
+        self.begun.wait(rt);
+        if session.ballots().count() < 1 {
+            return;
+        }
+        if let Ok(guard) = session.enter(rt, alloc, Mode::Write, self.name, 1, NUDGES) {
+            self.wrote.fetch_add(1, SeqCst);
+            let _ = guard.leave(rt, alloc);
+        }
+    }
+}
+
+impl Work for ReadAndWrite {
+    fn work<W: Wait, S: OwnRecord, R: SharedRecorder, L: Link>(
+        &self,
+        rt: &W,
+        alloc: Global,
+        session: &mut Session<S, R, L>,
+    ) {
+        if session.client().get() == 1 {
+            self.read_first(rt, alloc, session);
+        } else {
+            self.write_then(rt, alloc, session);
+        }
+    }
+}
+
+/// A writer waits until the reader's guard is dropped and its session calls again, which says the Leave.
+#[test]
+fn writer_waits_for_the_next_call(rt: HostRuntime) -> Outcome {
+    let work = ReadAndWrite {
+        name: resource(b"a")?,
+        begun: Barrier::new(2),
+        wrote: AtomicU32::new(0),
+        early: AtomicU32::new(0),
+    };
+    let end = run_program(rt, rt.alloc(), &work)?;
+    have_ended(&end, 2)?;
+    check_row(
+        work.wrote.load(SeqCst) == 1 && work.early.load(SeqCst) == 0,
+        4,
+    )?;
+    let journal = end.journal.as_slice();
+    let read = place_of(journal, "enter c1")?;
+    let left = place_of(journal, "leave c1")?;
+    let wrote = place_of(journal, "enter c2")?;
+    check_row(read < left && left < wrote, 5)
+}

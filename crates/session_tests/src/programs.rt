@@ -1,0 +1,127 @@
+// A service of one node and two clients with a program's work inside, and what is seen of its end.
+
+ghost use Rattle.std.specs.Prelude.{◌≡◌, ◌∷◌, [], map, length, IfOk};
+ghost use Rattle.session_tests.specs.Fresh.{one_node};
+ghost use Rattle.session_tests.specs.Programs.{node_found, clients_found};
+
+use crate::audits::journal_of;
+use crate::worlds::{ballots, pair, world};
+use admission_policy::Pair;
+use event_recorders::RunFault;
+use lock_messages::{Actor, ClientId};
+use lossy_link::Weather;
+use node_threads::{ServiceEnd, Work, with_sessions};
+use stable_record::{MemoryRecord, StableRecord, client_bytes};
+use std::alloc::Global;
+use std::sync::Wait;
+use std::thread::Threads;
+use test_outcomes::Failure;
+use vote_weights::BallotList;
+
+/// The record of a node for problem 1 that has kept nothing.
+const NOTHING: [u8; 4] = [1, 1, 0, 0];
+
+/// What is seen of a service's end: how many entries, the faults, whose records came back, and the journal.
+#[derive(Drop)]
+pub(crate) struct Ended {
+    pub(crate) entered: u32,
+    pub(crate) faults: Vec<(Actor, RunFault)>,
+    pub(crate) clients: Vec<ClientId>,
+    pub(crate) journal: Vec<u8>,
+}
+
+/// A pair of policies for the node.
+pub(crate) fn pairs(alloc: Global) -> Result<Vec<Pair>, Failure>
+    ensures { IfOk result (λ v. length v.items ≡ 1) }
+{
+    let mut pairs = Vec::new(alloc);
+    pairs.push(pair(alloc)?)?;
+    Ok(pairs)
+}
+
+/// A record in memory that has these bytes.
+pub(crate) fn in_memory(alloc: Global, bytes: &[u8]) -> Result<MemoryRecord, Failure>
+    ensures { IfOk result (λ r. r ≡ bytes.now) }
+{
+    match MemoryRecord::holding(alloc, bytes) {
+        Ok(record) => Ok(record),
+        Err(_) => Err(Failure::Memory),
+    }
+}
+
+/// The record of the node, which has kept nothing.
+fn node_records(alloc: Global) -> Result<Vec<Box<dyn StableRecord + Send>>, Failure>
+    ensures { IfOk result (λ v. map (λ r. finds r) v.items ≡ node_found) }
+{
+    let record = in_memory(alloc, &NOTHING)?;
+    let record: Box<dyn StableRecord + Send> = Box::new(alloc, record)?;
+    let mut records: Vec<Box<dyn StableRecord + Send>> = Vec::new(alloc);
+    records.push(record)?;
+    Ok(records)
+}
+
+/// The records of the clients, which have made no attempt.
+fn client_records(alloc: Global) -> Result<Vec<MemoryRecord>, Failure>
+    ensures { IfOk result (λ v. map (λ r. r ∷ []) v.items ≡ clients_found) }
+{
+    let mut records = Vec::new(alloc);
+    records.push(in_memory(alloc, &client_bytes(0))?)?;
+    records.push(in_memory(alloc, &client_bytes(0))?)?;
+    Ok(records)
+}
+
+/// Runs the service with the work inside, in fair weather.
+pub(crate) fn end_of<R: Threads + Wait + Copy + Send + Sync, J: Work + Sync>(
+    rt: R,
+    alloc: Global,
+    ballots: BallotList,
+    work: &J,
+) -> Result<ServiceEnd<MemoryRecord>, Failure>
+    requires { ballots ≡ one_node }
+{
+    let Ok(weather) = Weather::of(1, 0, 0, 0) else {
+        return Err(Failure::Wrong(0));
+    };
+    let of_nodes = node_records(alloc)?;
+    let of_clients = client_records(alloc)?;
+    let pairs = pairs(alloc)?;
+    let world = world(alloc, ballots)?;
+    match with_sessions(
+        rt, alloc, ballots, of_nodes, of_clients, world, pairs, weather, work,
+    ) {
+        Ok(end) => Ok(end),
+        Err(_) => Err(Failure::Memory),
+    }
+}
+
+/// Whose records these are.
+fn clients_of(
+    alloc: Global,
+    records: &[(ClientId, MemoryRecord)],
+) -> Result<Vec<ClientId>, Failure> {
+    let mut clients = Vec::new(alloc);
+    for (client, _) in records {
+        clients.push(*client)?;
+    }
+    Ok(clients)
+}
+
+/// Runs the service with the work inside, and audits its journal. One for which memory was refused ends the test by
+/// that.
+pub(crate) fn run_program<R: Threads + Wait + Copy + Send + Sync, J: Work + Sync>(
+    rt: R,
+    alloc: Global,
+    work: &J,
+) -> Result<Ended, Failure> {
+    let ballots = ballots()?;
+    let end = end_of(rt, alloc, ballots, work)?;
+    let again = world(alloc, ballots)?;
+    let journal = journal_of(alloc, &end.book, again)?;
+    let clients = clients_of(alloc, end.records.as_slice())?;
+    Ok(Ended {
+        entered: end.entered,
+        faults: end.faults,
+        clients,
+        journal,
+    })
+}
