@@ -6,12 +6,12 @@ ghost use Rattle.session_tests.specs.Fresh.{one_node};
 
 use crate::audits::journal_of;
 use crate::kept::{client_records_of, kept_in, node_records_of, resumed};
-use crate::programs::{end_of, pairs};
+use crate::programs::{FAIR, end_of, pairs, weather};
 use crate::worlds::{ballots, resource, world};
 use book_recorders::SharedRecorder;
 use lock_messages::{Mode, ResourceName};
 use lock_session::{OwnRecord, Session};
-use lossy_link::{Link, Weather};
+use lossy_link::Link;
 use node_threads::laws::resumed_worlds_may_run;
 use node_threads::{ServiceEnd, Work, with_sessions};
 use stable_record::{MemoryRecord, client_bytes};
@@ -56,9 +56,7 @@ fn go_on<R: Threads + Wait + Copy + Send + Sync, J: Work + Sync>(
     requires node { length of_nodes.now ≡ 1 }
     requires clients { length of_clients.now ≡ 2 }
 {
-    let Ok(weather) = Weather::of(1, 0, 0, 0) else {
-        return Err(Failure::Wrong(0));
-    };
+    let weather = weather(FAIR)?;
     let nodes = node_records_of(alloc, of_nodes)?;
     let clients = client_records_of(alloc, of_clients)?;
     let pairs = pairs(alloc)?;
@@ -91,7 +89,7 @@ fn goes_on_from_what_was_kept(rt: HostRuntime) -> Outcome {
         name: resource(b"a")?,
     };
     let ballots = ballots()?;
-    let first = end_of(rt, alloc, ballots, &work)?;
+    let first = end_of(rt, alloc, ballots, weather(FAIR)?, &work)?;
     check_row(first.entered == 2 && first.faults.is_empty(), 1)?;
     journal_of(alloc, &first.book, world(alloc, ballots)?)?;
     let (nodes, clients) = kept_in(alloc, &first.book)?;

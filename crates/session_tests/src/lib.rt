@@ -23,4 +23,6 @@ mod neighbours;
 #[cfg(test)]
 mod programs;
 #[cfg(test)]
+mod storms;
+#[cfg(test)]
 mod worlds;

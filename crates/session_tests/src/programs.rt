@@ -21,6 +21,9 @@ use vote_weights::BallotList;
 /// The record of a node for problem 1 that has kept nothing.
 const NOTHING: [u8; 4] = [1, 1, 0, 0];
 
+/// Nothing is lost, repeated or delayed.
+pub(crate) const FAIR: (u64, u16, u16, u16) = (1, 0, 0, 0);
+
 /// What is seen of a service's end: how many entries, the faults, whose records came back, and the journal.
 #[derive(Drop)]
 pub(crate) struct Ended {
@@ -70,18 +73,25 @@ fn client_records(alloc: Global) -> Result<Vec<MemoryRecord>, Failure>
     Ok(records)
 }
 
-/// Runs the service with the work inside, in fair weather.
+/// Weather by a seed and the odds of loss, repeats and delays, of a thousand.
+pub(crate) fn weather(of: (u64, u16, u16, u16)) -> Result<Weather, Failure> {
+    let (seed, lose, twice, late) = of;
+    match Weather::of(seed, lose, twice, late) {
+        Ok(weather) => Ok(weather),
+        Err(_) => Err(Failure::Wrong(0)),
+    }
+}
+
+/// Runs the service with the work inside, in this weather.
 pub(crate) fn end_of<R: Threads + Wait + Copy + Send + Sync, J: Work + Sync>(
     rt: R,
     alloc: Global,
     ballots: BallotList,
+    weather: Weather,
     work: &J,
 ) -> Result<ServiceEnd<MemoryRecord>, Failure>
     requires { ballots ≡ one_node }
 {
-    let Ok(weather) = Weather::of(1, 0, 0, 0) else {
-        return Err(Failure::Wrong(0));
-    };
     let of_nodes = node_records(alloc)?;
     let of_clients = client_records(alloc)?;
     let pairs = pairs(alloc)?;
@@ -106,15 +116,16 @@ fn clients_of(
     Ok(clients)
 }
 
-/// Runs the service with the work inside, and audits its journal. One for which memory was refused ends the test by
-/// that.
-pub(crate) fn run_program<R: Threads + Wait + Copy + Send + Sync, J: Work + Sync>(
+/// Runs the service with the work inside, in this weather, and audits its journal. One for which memory was refused
+/// ends the test by that.
+pub(crate) fn run_in<R: Threads + Wait + Copy + Send + Sync, J: Work + Sync>(
     rt: R,
     alloc: Global,
+    of: (u64, u16, u16, u16),
     work: &J,
 ) -> Result<Ended, Failure> {
     let ballots = ballots()?;
-    let end = end_of(rt, alloc, ballots, work)?;
+    let end = end_of(rt, alloc, ballots, weather(of)?, work)?;
     let again = world(alloc, ballots)?;
     let journal = journal_of(alloc, &end.book, again)?;
     let clients = clients_of(alloc, end.records.as_slice())?;
@@ -124,4 +135,13 @@ pub(crate) fn run_program<R: Threads + Wait + Copy + Send + Sync, J: Work + Sync
         clients,
         journal,
     })
+}
+
+/// The same in fair weather.
+pub(crate) fn run_program<R: Threads + Wait + Copy + Send + Sync, J: Work + Sync>(
+    rt: R,
+    alloc: Global,
+    work: &J,
+) -> Result<Ended, Failure> {
+    run_in(rt, alloc, FAIR, work)
 }

@@ -1,0 +1,78 @@
+// Services over links that lose, repeat and delay, whose sessions come in again and again.
+
+use crate::programs::run_in;
+use crate::worlds::resource;
+use book_recorders::SharedRecorder;
+use event_recorders::Recorder;
+use lock_messages::{Mode, ResourceName};
+use lock_session::{OwnRecord, Session};
+use lossy_link::Link;
+use node_threads::Work;
+use std::alloc::Global;
+use std::sync::Wait;
+use std::sync::atomic::AtomicU32;
+use std::sync::atomic::Ordering::SeqCst;
+use test_outcomes::{Outcome, check_row};
+
+/// How often each session comes in.
+const VISITS: u32 = 12;
+
+/// Each session comes in so often, every third time to write.
+#[derive(Drop)]
+struct InAndOut {
+    name: ResourceName,
+    entered: AtomicU32,
+}
+
+impl InAndOut {
+    /// Comes in and leaves, and counts that.
+    fn visit<W: Wait, S: OwnRecord, R: Recorder, L: Link>(
+        &self,
+        rt: &W,
+        alloc: Global,
+        session: &mut Session<S, R, L>,
+        mode: Mode,
+    ) {
+        if session.ballots().count() < 1 {
+            return;
+        }
+        if let Ok(guard) = session.enter(rt, alloc, mode, self.name, 1, 1_000) {
+            self.entered.fetch_add(1, SeqCst);
+            let _ = guard.leave(rt, alloc);
+        }
+    }
+}
+
+impl Work for InAndOut {
+    fn work<W: Wait, S: OwnRecord, R: SharedRecorder, L: Link>(
+        &self,
+        rt: &W,
+        alloc: Global,
+        session: &mut Session<S, R, L>,
+    ) {
+        for visit in 0..VISITS {
+            let mode = if visit % 3 == 0 {
+                Mode::Write
+            } else {
+                Mode::Read
+            };
+            self.visit(rt, alloc, session, mode);
+        }
+    }
+}
+
+/// By five seeds: each session comes in as often as it wants, nobody ends by a fault, and the journal is sound.
+#[test]
+fn five_storms(rt: HostRuntime) -> Outcome {
+    for seed in 1..6u64 {
+        let work = InAndOut {
+            name: resource(b"a")?,
+            entered: AtomicU32::new(0),
+        };
+        let end = run_in(rt, rt.alloc(), (seed, 200, 100, 100), &work)?;
+        let all = 2 * VISITS;
+        check_row(work.entered.load(SeqCst) == all, 1)?;
+        check_row(end.entered == all && end.faults.is_empty(), 2)?;
+    }
+    Ok(())
+}
