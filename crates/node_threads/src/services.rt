@@ -234,11 +234,10 @@ fn told<S: OwnRecord>(
 /// and `entered` is how many Enters it has.
 ///
 /// Each client's session rises before the work begins. One that doesn't is told in `faults`, and the work has no
-/// session for it. When the work with all sessions has returned, each is settled and taken apart: its client says
-/// what a guard that was dropped, or forgotten, has left to say. Then nodes learn that it is gone, and they end
-/// once all are. A session that ended by a fault, also one that came while it was settled, is told in `faults`,
-/// behind nodes. Each record comes back with its client; a client that isn't told is up and outside, and a restart
-/// finds just the attempt that it has kept.
+/// session for it. When the work with a session returns, its client says what a guard that was dropped, or
+/// forgotten, has left to say. When all have returned, each session is taken apart: nodes learn that it is gone, and
+/// they end once all are. A session that is over by a fault is told in `faults`, behind nodes. Each record comes back
+/// with its client; a client that isn't told is up and outside, and a restart finds just the attempt that it has kept.
 ///
 /// Links have the weather, each at its own place, nodes first. Between two events no lock is held.
 ///

@@ -46,6 +46,8 @@ fn work_each<
     if count > 0 {
         let one = move |_place: usize, session: &mut Session<S, R, L>| {
             work.work(&rt, alloc, session);
+            // Others may wait for what a dropped guard holds. The session keeps the fault if it is over by one.
+            let _ = session.settle(&rt, alloc);
         };
         thread::for_each_mut(&rt, sessions, count, &one);
     }

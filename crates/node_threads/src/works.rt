@@ -14,7 +14,8 @@ use std::sync::Wait;
 pub trait Work {
     /// Works with the session of a client, which has risen and rests. `Session::client` tells whose it is.
     ///
-    /// When it returns, the service says what the session has left to say, and takes it apart.
+    /// When it returns, the service says at once what the session has left to say, so nobody waits for a guard that
+    /// was dropped; and takes it apart when all have returned.
     fn work<W: Wait, S: OwnRecord, R: SharedRecorder, L: Link>(
         &self,
         rt: &W,

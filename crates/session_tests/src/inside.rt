@@ -14,6 +14,7 @@ use std::sync::atomic::AtomicU32;
 use std::sync::atomic::Ordering::SeqCst;
 use std::sync::{Barrier, Wait};
 use std::thread;
+use std::thread::Threads;
 use test_outcomes::{Failure, Outcome, check_row};
 
 /// At which nudge a session gives up; no nudge comes in this weather.
@@ -138,9 +139,22 @@ struct ReadAndWrite {
     begun: Barrier,
     wrote: AtomicU32,
     early: AtomicU32,
+    /// Whether the reader's session calls again before its work is done.
+    calls: bool,
 }
 
 impl ReadAndWrite {
+    /// Nothing has happened yet.
+    fn new(name: ResourceName, calls: bool) -> ReadAndWrite {
+        ReadAndWrite {
+            name,
+            begun: Barrier::new(2),
+            wrote: AtomicU32::new(0),
+            early: AtomicU32::new(0),
+            calls,
+        }
+    }
+
     /// Looks so often whether the writer has come in, and counts it if it has.
     fn look(&self) {
         for _ in 0..LOOKS {
@@ -152,7 +166,7 @@ impl ReadAndWrite {
     }
 
     /// Reads, lets the writer begin, and looks whether it comes in: while the guard lives, and once it is dropped.
-    /// Then the session calls again.
+    /// Then the session calls again, or its work is done.
     fn read_first<W: Wait, S: OwnRecord, R: Recorder, L: Link>(
         &self,
         rt: &W,
@@ -174,7 +188,9 @@ impl ReadAndWrite {
                 self.begun.wait(rt);
             }
         }
-        let _ = session.settle(rt, alloc);
+        if self.calls {
+            let _ = session.settle(rt, alloc);
+        }
     }
 
     /// Writes, once the reader is inside.
@@ -210,16 +226,13 @@ impl Work for ReadAndWrite {
     }
 }
 
-/// A writer waits until the reader's guard is dropped and its session calls again, which says the Leave.
-#[test]
-fn writer_waits_for_the_next_call(rt: HostRuntime) -> Outcome {
-    let work = ReadAndWrite {
-        name: resource(b"a")?,
-        begun: Barrier::new(2),
-        wrote: AtomicU32::new(0),
-        early: AtomicU32::new(0),
-    };
-    let end = run_program(rt, rt.alloc(), &work)?;
+/// The reader comes in first, and the writer when the reader is out.
+fn come_in_turn<R: Threads + Wait + Copy + Send + Sync>(
+    rt: R,
+    alloc: Global,
+    work: &ReadAndWrite,
+) -> Outcome {
+    let end = run_program(rt, alloc, work)?;
     have_ended(&end, 2)?;
     check_row(
         work.wrote.load(SeqCst) == 1 && work.early.load(SeqCst) == 0,
@@ -230,4 +243,16 @@ fn writer_waits_for_the_next_call(rt: HostRuntime) -> Outcome {
     let left = place_of(journal, "leave c1")?;
     let wrote = place_of(journal, "enter c2")?;
     check_row(read < left && left < wrote, 5)
+}
+
+/// A writer waits until the reader's guard is dropped and its session calls again, which says the Leave.
+#[test]
+fn writer_waits_for_the_next_call(rt: HostRuntime) -> Outcome {
+    come_in_turn(rt, rt.alloc(), &ReadAndWrite::new(resource(b"a")?, true))
+}
+
+/// A reader whose work is done with a guard dropped keeps nobody waiting: its service says the Leave.
+#[test]
+fn writer_waits_for_the_end_of_a_work(rt: HostRuntime) -> Outcome {
+    come_in_turn(rt, rt.alloc(), &ReadAndWrite::new(resource(b"a")?, false))
 }
