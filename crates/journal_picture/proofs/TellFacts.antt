@@ -3,9 +3,7 @@ use Rattle.std.proofs.Common.{◌≡◌, ◌⊎◌, ℕ, zero, suc, ◌+◌, ◌
 use Rattle.std.specs.List.{flat_map, range_with_len, All}
 use Rattle.std.specs.Option.{option_map, option_to_list}
 use Rattle.std.proofs.lemmas.List.{append-nil}
-use Rattle.std.proofs.Math.Seq.{take-suc}
-use Rattle.std.proofs.lemmas.Grind.{flat_map-append}
-use Rattle.std.proofs.lemmas.Option.{slice_get_within, slice_get-get_or, get_or_from_slice_get}
+use Rattle.std.proofs.lemmas.Option.{slice_get_within, get_or_from_slice_get}
 use Rattle.lock_messages.specs.declared.ids.Actor.TheVariants as actor
 use Rattle.stable_record.specs.declared.faults.RecordFault.{RecordFault}
 use Rattle.stable_record.specs.declared.faults.RecordFault.TheVariants as bad
@@ -22,24 +20,6 @@ use Rattle.world_machine.specs.Listing.{kept_bytes, station_bytes}
 use Rattle.run_picture.specs.declared.marks.Lasting.{Lasting}
 use Rattle.run_picture.specs.declared.marks.Mark.{Mark}
 use Rattle.journal_picture.specs.Histories.{votes_in, votes_at, SaidFits, with_more}
-
-flat_map-next : {A B : Type 0} (f : A → List B) (xs : List A) (i : ℕ) (x : A) → slice_get xs i ≡ Some x → flat_map f (take (i + 1) xs) ≡ flat_map f (take i xs) ++ f x
-flat_map-next f xs i x h =
-    ap (λ n. flat_map f (take n xs)) (let e : i + 1 ≡ suc i = omega arith in e)
-    ∙ ap (flat_map f) (take-suc xs i x (slice_get_within xs i x h) ∙ ap (λ y. take i xs ++ y ∷ []) (get_or_from_slice_get xs i x x h))
-    ∙ flat_map-append f (take i xs) (x ∷ []) ∙ ap (λ ys. flat_map f (take i xs) ++ ys) (append-nil (f x))
-
--- each place within a list has something
-there : {A : Type 0} (xs : List A) (i : ℕ) → i < length xs → (x : A) × (slice_get xs i ≡ Some x)
-there [] i within = absurd (omega (arith, within))
-there (x ∷ xs) i within = (get_or (x ∷ xs) i x, slice_get-get_or (x ∷ xs) i x within)
-
--- what the element at a place gives is what comes behind that of those before it
-pub flat_map-more : {A B : Type 0} (f : A → List B) (xs : List A) (i : ℕ) (ys : List B) → i < length xs → ((x : A) → slice_get xs i ≡ Some x → ys ≡ f x) →
-    flat_map f (take i xs) ++ ys ≡ flat_map f (take (i + 1) xs)
-flat_map-more f xs i ys within gives =
-    let at = there xs i within in
-    ap (λ zs. flat_map f (take i xs) ++ zs) (gives at.0 at.1) ∙ sym (flat_map-next f xs i at.0 at.1)
 
 range_more : {A : Type 0} (f : ℕ → List A) (a n : ℕ) → flat_map f (range_with_len a (suc n)) ≡ flat_map f (range_with_len a n) ++ f (a + n)
 range_more f a zero = let e : a ≡ a + 0 = omega arith in append-nil (f a) ∙ ap f e

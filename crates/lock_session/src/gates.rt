@@ -1,12 +1,12 @@
-// A gate that lets pass: a session is inside for as long as its guard lives.
+// A gate that lets pass.
 
 use client_core::ClientCore;
 use entry_guard::EntryGuard;
 use event_recorders::{Gate, Recorder};
 use lock_messages::Actor;
 
-/// A gate that lets pass at once.
-pub(crate) struct OpenGate;
+/// A gate that lets pass at once: nobody waits at it, and a client that is inside does nothing there.
+pub struct OpenGate;
 
 impl Gate for OpenGate {
     fn before_keep(&self, actor: Actor) {

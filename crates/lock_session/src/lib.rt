@@ -20,6 +20,7 @@ mod records;
 mod sessions;
 
 pub use faults::TryFault;
+pub use gates::OpenGate;
 pub use guards::SessionGuard;
 pub use records::OwnRecord;
 pub use sessions::Session;

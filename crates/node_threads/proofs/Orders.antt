@@ -1,9 +1,14 @@
 -- Numbers in order.
-use Rattle.std.proofs.Common.{ℕ, ◌+◌, ◌<◌, ◌≤◌, List, [], ◌∷◌, ◌++◌, zero, suc, arith}
-use Rattle.std.specs.List.{All, range_with_len}
-use Rattle.std.proofs.lemmas.List.Elements.{All-nil, All-cons, All-head, All-tail, All-append, All-weaker}
+use Rattle.std.proofs.Common.{◌≡◌, ◌⊎◌, inl, inr, ℕ, ◌+◌, ◌<◌, ◌≤◌, List, [], ◌∷◌, ◌++◌, zero, suc, arith}
+use Rattle.std.proofs.lemmas.Bool.{cases_order}
+use Rattle.std.specs.List.{All, AllPairs, range_with_len}
+use Rattle.std.proofs.lemmas.List.Elements.{All-nil, All-cons, All-weaker}
 use Rattle.std.proofs.lemmas.List.Kept.{AllPairs-cons}
-use Rattle.node_threads.specs.Sessions.{InOrder}
+use Rattle.lock_model.specs.Decisions.{Among}
+
+-- each number is smaller than all behind it
+abbrev pub InOrder : List ℕ → Type 0
+InOrder numbers = AllPairs (λ m n. m < n) numbers
 
 -- those behind the first are above it, and in order
 pub all_above : (n : ℕ) (ns : List ℕ) → InOrder (n ∷ ns) → All (λ m. n < m) ns
@@ -17,31 +22,6 @@ one_more n ns above order = AllPairs-cons (λ m k. m < k) n ns above order
 
 pub none_in_order : InOrder []
 none_in_order = λ i j d lower within. absurd (omega arith)
-
--- what holds of each of two lists holds of both, and the other way round
-front_of : {X : Type 0} (P : X → Type 0) (xs ys : List X) → All P (xs ++ ys) → All P xs
-front_of P [] ys each = All-nil P
-front_of P (x ∷ xs) ys each = All-cons P x xs (All-head P x (xs ++ ys) each) (front_of P xs ys (All-tail P x (xs ++ ys) each))
-
-back_of : {X : Type 0} (P : X → Type 0) (xs ys : List X) → All P (xs ++ ys) → All P ys
-back_of P [] ys each = each
-back_of P (x ∷ xs) ys each = back_of P xs ys (All-tail P x (xs ++ ys) each)
-
--- without one in the middle
-pub without : (ms ns : List ℕ) (n : ℕ) → InOrder (ms ++ n ∷ ns) → InOrder (ms ++ ns)
-without [] ns n order = rest_in_order n ns order
-without (m ∷ ms) ns n order =
-    let P : ℕ → Type 0 = λ k. m < k in
-    let above = all_above m (ms ++ n ∷ ns) order in
-    one_more m (ms ++ ns) (All-append P ms ns (front_of P ms (n ∷ ns) above) (All-tail P n ns (back_of P ms (n ∷ ns) above))) (without ms ns n (rest_in_order m (ms ++ n ∷ ns) order))
-
--- one more at the end, above all
-pub above_all : (ms : List ℕ) (n : ℕ) → InOrder ms → All (λ m. m < n) ms → InOrder (ms ++ n ∷ [])
-above_all [] n order below = one_more n [] (All-nil (λ m. n < m)) none_in_order
-above_all (m ∷ ms) n order below =
-    let P : ℕ → Type 0 = λ k. m < k in
-    one_more m (ms ++ n ∷ []) (All-append P ms (n ∷ []) (all_above m ms order) (All-cons P n [] (All-head (λ k. k < n) m ms below) (All-nil P)))
-    (above_all ms n (rest_in_order m ms order) (All-tail (λ k. k < n) m ms below))
 
 -- the numbers of a range
 pub range_within : (low count : ℕ) → All (λ n. (low ≤ n) × (n < low + count)) (range_with_len low count)
@@ -57,3 +37,16 @@ range_in_order low (suc count) =
     let above : (n : ℕ) → (low + 1 ≤ n) × (n < low + 1 + count) → low < n = λ n h. omega (arith, h.0) in
     one_more low (range_with_len (low + 1) count) (All-weaker (λ n. (low + 1 ≤ n) × (n < low + 1 + count)) (λ n. low < n) above (range_with_len (low + 1) count) (range_within (low + 1) count))
     (range_in_order (low + 1) count)
+
+-- a number of a range is among it
+first_or_behind : (n low : ℕ) (ns : List ℕ) → low ≤ n → (low + 1 ≤ n → Among n ns) → Among n (low ∷ ns)
+first_or_behind n low ns above behind = go (cases_order n low)
+  where
+    go : (n ≡ low) ⊎ ((n < low) ⊎ (low < n)) → Among n (low ∷ ns)
+    go (inl same) = inl same
+    go (inr (inl under)) = absurd (omega (arith, above, under))
+    go (inr (inr over)) = inr (behind (omega (arith, over)))
+
+pub range_among : (n low count : ℕ) → low ≤ n → n < low + count → Among n (range_with_len low count)
+range_among n low zero above below = absurd (omega (arith, above, below))
+range_among n low (suc count) above below = first_or_behind n low (range_with_len (low + 1) count) above (λ over. range_among n (low + 1) count over (omega (arith, below)))

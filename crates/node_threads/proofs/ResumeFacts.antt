@@ -14,6 +14,7 @@ use Rattle.world_opening.specs.Openings.{IsEach, NodeFinds, ClientFinds, station
 use Rattle.world_machine.specs.Opened.{IsResumed}
 use Rattle.node_threads.specs.Conditions.{MayRun, finds_station, finds_attempt}
 use Rattle.node_threads.specs.Laws.{ResumedMayRun, finds_each}
+use Rattle.node_threads.proofs.Returned.{image_of_image}
 
 -- what has the next number stands at a place, counted from 0
 number_at : {A : Type 0} (xs : List A) (i : ℕ) → numbered xs (i + 1) ≡ slice_get xs i
@@ -44,17 +45,12 @@ nodes_spell found records is = spelled_each node_record_of (NodeFinds found) fou
 clients_spell : (found : List (List ℕ)) (attempts : List ℕ) → IsEach (length found) (ClientFinds found) attempts → found ≡ map client_record_of attempts
 clients_spell found attempts is = spelled_each client_record_of (ClientFinds found) found attempts is (λ n a finds. finds.finds ∙ ap Some finds.reads.spelled)
 
--- an image of an image is one image
-map_twice : {A B C : Type 0} (f : A → B) (h : B → C) (xs : List A) → map h (map f xs) ≡ map (λ x. h (f x)) xs
-map_twice f h [] = refl
-map_twice f h (x ∷ xs) = ap (λ ys. h (f x) ∷ ys) (map_twice f h xs)
-
 stations_find : (found : List (List ℕ)) (records : List NodeRecord) → found ≡ map node_record_of records → finds_each found ≡ map finds_station (stations_in records)
 stations_find found records is =
-    ap finds_each is ∙ map_twice node_record_of (λ (bytes : List ℕ). bytes ∷ []) records ∙ sym (map_twice station_in finds_station records)
+    ap finds_each is ∙ image_of_image node_record_of (λ (bytes : List ℕ). bytes ∷ []) records ∙ sym (image_of_image station_in finds_station records)
 
 attempts_find : (found : List (List ℕ)) (attempts : List ℕ) → found ≡ map client_record_of attempts → finds_each found ≡ map finds_attempt attempts
-attempts_find found attempts is = ap finds_each is ∙ map_twice client_record_of (λ (bytes : List ℕ). bytes ∷ []) attempts
+attempts_find found attempts is = ap finds_each is ∙ image_of_image client_record_of (λ (bytes : List ℕ). bytes ∷ []) attempts
 
 pub resumed_runs : ResumedMayRun
 resumed_runs b nodes clients w h = record {

@@ -1,23 +1,13 @@
 -- Sessions that begin, and ends that are put in order, one after the other.
 use Rattle.std.proofs.Common.{◌≡◌, ◌≢◌, ◌⊎◌, inl, inr, ℕ, ◌+◌, ◌<◌, ◌≤◌, List, [], ◌∷◌, ◌++◌, length, map, refl, sym, ◌∙◌, ap, subst, arith}
-use Rattle.std.proofs.lemmas.Bool.{cases_order}
-use Rattle.std.specs.List.{All}
+use Rattle.std.specs.List.{All, range_with_len}
 use Rattle.std.proofs.lemmas.List.{map-append}
-use Rattle.std.proofs.lemmas.List.Elements.{All-nil, All-push, All-map, All-weaker}
+use Rattle.std.proofs.lemmas.List.Elements.{All-nil, All-push, All-head, All-tail, All-weaker}
 use Rattle.lock_model.specs.Decisions.{Among}
-use Rattle.node_threads.specs.Sessions.{InOrder, AreDivided}
-use Rattle.node_threads.proofs.Amongst.{all_among, from_among, among_behind, among_front}
-use Rattle.node_threads.proofs.Orders.{above_all, none_in_order, without}
-use Rattle.node_threads.proofs.Promises.{one_more_started, all_started}
-
--- a number is up to another or above it
-either_side : (n place : ℕ) → (n ≤ place) ⊎ (place < n)
-either_side n place = go (cases_order n place)
-  where
-    go : (n ≡ place) ⊎ ((n < place) ⊎ (place < n)) → (n ≤ place) ⊎ (place < n)
-    go (inl same) = inl (omega (arith, same))
-    go (inr (inl below)) = inl (omega (arith, below))
-    go (inr (inr above)) = inr above
+use Rattle.node_threads.specs.Sessions.{AreDivided}
+use Rattle.node_threads.proofs.Amongst.{all_among, from_among, among_map, among_behind, among_front}
+use Rattle.node_threads.proofs.Orders.{range_among}
+use Rattle.node_threads.proofs.Places.{one_more_named}
 
 -- one more at the end of a list of numbers
 more : {X : Type 0} (f : X → ℕ) (xs xs' : List X) (x : X) → xs' ≡ xs ++ x ∷ [] → map f xs' ≡ map f xs ++ f x ∷ []
@@ -28,21 +18,6 @@ grown f xs xs' x n is there = subst (λ l. Among n l) (sym (more f xs xs' x is))
 
 joined : {X : Type 0} (f : X → ℕ) (xs xs' : List X) (x : X) (n : ℕ) → xs' ≡ xs ++ x ∷ [] → n ≡ f x → Among n (map f xs')
 joined f xs xs' x n is same = subst (λ l. Among n l) (sym (more f xs xs' x is)) (among_behind n (map f xs) (f x ∷ []) (inl same))
-
--- The clients of sessions that were begun, and of tasks that are left, are in order: at first, with a session more,
--- without a task, and in the end.
-module _ {X T : Type 0} (f : X → ℕ) (h : T → ℕ) where
-  pub begins_in_order : (xs : List X) (ts ts' : List T) → xs ≡ [] → ts' ≡ ts → InOrder (map h ts) → InOrder (map f xs ++ map h ts')
-  begins_in_order xs ts ts' none gives order = subst (λ ys. InOrder (map f ys ++ map h ts')) (sym none) (subst (λ us. InOrder (map h us)) (sym gives) order)
-
-  pub goes_on_in_order : (xs xs' : List X) (x : X) (ts ts' : List T) (t : T) → ts ≡ t ∷ ts' → xs' ≡ xs ++ x ∷ [] → f x ≡ h t → InOrder (map f xs ++ map h ts) → InOrder (map f xs' ++ map h ts')
-  goes_on_in_order xs xs' x ts ts' t at is same before = subst InOrder (sym (one_more_started f h xs xs' ts ts' x t (map f xs ++ map h ts) refl at is same)) before
-
-  pub passes_in_order : (xs : List X) (ts ts' : List T) (t : T) → ts ≡ t ∷ ts' → InOrder (map f xs ++ map h ts) → InOrder (map f xs ++ map h ts')
-  passes_in_order xs ts ts' t at before = without (map f xs) (map h ts') (h t) (subst (λ us. InOrder (map f xs ++ map h us)) at before)
-
-  pub ends_in_order : (xs : List X) (ts : List T) → length ts ≡ 0 → InOrder (map f xs ++ map h ts) → InOrder (map f xs)
-  ends_in_order xs ts none before = subst InOrder (sym (all_started f h xs ts (map f xs ++ map h ts) refl none)) before
 
 -- each number is one of a session, of an end, or of a task that is left
 abbrev pub Spread : List ℕ → List ℕ → List ℕ → List ℕ → Type 0
@@ -85,67 +60,42 @@ spread all xs ys left none before = from_among (λ n. Among n xs ⊎ Among n ys)
     go n (inr (inl other)) = inr other
     go n (inr (inr rest)) = absurd (subst (λ l. Among n l) none rest)
 
--- So far the ends of the first clients are in order, and the others are left.
-pub record Sorting {X : Type 0} (f : X → ℕ) (all : List X) (place : ℕ) (ordered left : List X) : Type 0 where
-  pub order : InOrder (map f ordered)
-  pub theirs : All (λ x. (1 ≤ f x) × (f x ≤ place)) ordered
+-- So far the ends of the first clients are in order, and those of the others are left.
+pub record Sorting {X : Type 0} (f : X → ℕ) (all : List X) (place count : ℕ) (ordered left : List X) : Type 0 where
+  pub firsts : map f ordered ≡ range_with_len 1 place
   pub those : All (λ x. Among x all) ordered
   pub behind : All (λ x. Among x all) left
-  pub seen : All (λ x. 1 ≤ f x → f x ≤ place → Among (f x) (map f ordered)) all
-  pub unseen : All (λ x. place < f x → Among x left) all
+  pub rest : (n : ℕ) → place < n → n ≤ count → Among n (map f left)
 
-pub sorting_begins : {X : Type 0} (f : X → ℕ) (all ordered : List X) → ordered ≡ [] → Sorting f all 0 ordered all
-sorting_begins f all ordered none = subst (λ os. Sorting f all 0 os all) (sym none) (record {
-  order = none_in_order;
-  theirs = All-nil (λ x. (1 ≤ f x) × (f x ≤ 0));
+pub sorting_begins : {X : Type 0} (f : X → ℕ) (all ordered : List X) (count : ℕ) → ordered ≡ [] → All (λ n. Among n (map f all)) (range_with_len 1 count) → Sorting f all 0 count ordered all
+sorting_begins f all ordered count none whole = subst (λ os. Sorting f all 0 count os all) (sym none) (record {
+  firsts = refl;
   those = All-nil (λ x. Among x all);
   behind = from_among (λ x. Among x all) all (λ x there. there);
-  seen = from_among (λ x. 1 ≤ f x → f x ≤ 0 → Among (f x) []) all (λ x there some low. absurd (omega (arith, some, low)));
-  unseen = from_among (λ x. 0 < f x → Among x all) all (λ x there above. there);
+  rest = λ n above few. all_among (λ k. Among k (map f all)) n (range_with_len 1 count) (range_among n 1 count above (omega (arith, few))) whole;
 })
 
--- what is left of the rest
-still_behind : {X : Type 0} (all left left' : List X) → All (λ x. Among x all) left → All (λ x. Among x left) left' → All (λ x. Among x all) left'
-still_behind all left left' before fewer = All-weaker (λ x. Among x left) (λ x. Among x all) (λ x there. all_among (λ y. Among y all) x left there before) left' fewer
+-- a number that none of these has is none of theirs
+pub none_named : {X : Type 0} (f : X → ℕ) (n : ℕ) (xs : List X) → All (λ x. f x ≢ n) xs → Among n (map f xs) → ⊥
+none_named f n [] none there = there
+none_named f n (x ∷ xs) none (inl here) = All-head (λ y. f y ≢ n) x xs none (sym here)
+none_named f n (x ∷ xs) none (inr behind) = none_named f n xs (All-tail (λ y. f y ≢ n) x xs none) behind
 
-pub sorting_takes : {X : Type 0} (f : X → ℕ) (all : List X) (place : ℕ) (ordered ordered' left left' : List X) (x : X) → Sorting f all place ordered left → f x ≡ place + 1 → Among x left → ordered' ≡ ordered ++ x ∷ []
-    → All (λ y. Among y left) left' → All (λ y. (f y ≡ place + 1) ⊎ Among y left') left → Sorting f all (place + 1) ordered' left'
-sorting_takes f all place ordered ordered' left left' x s num there is fewer others = record {
-  order = subst InOrder (sym (more f ordered ordered' x is)) (above_all (map f ordered) (f x) s.order
-      (All-map (λ n. n < f x) f ordered (All-weaker (λ y. (1 ≤ f y) × (f y ≤ place)) (λ y. f y < f x) (λ y h. omega (arith, h.1, num)) ordered s.theirs)));
-  theirs = subst (All (λ y. (1 ≤ f y) × (f y ≤ place + 1))) (sym is)
-      (All-push (λ y. (1 ≤ f y) × (f y ≤ place + 1)) ordered x (All-weaker (λ y. (1 ≤ f y) × (f y ≤ place)) (λ y. (1 ≤ f y) × (f y ≤ place + 1)) (λ y h. (h.0, omega (arith, h.1))) ordered s.theirs) (omega (arith, num), omega (arith, num)));
+-- a number is still there where those with another were taken
+still_there : {X : Type 0} (f : X → ℕ) (m n : ℕ) (left left' : List X) → m < n → All (λ y. (f y ≡ m) ⊎ Among y left') left → Among n (map f left) → Among n (map f left')
+still_there f m n [] left' other others there = absurd there
+still_there f m n (y ∷ left) left' other others (inl here) = go (All-head (λ z. (f z ≡ m) ⊎ Among z left') y left others)
+  where
+    go : (f y ≡ m) ⊎ Among y left' → Among n (map f left')
+    go (inl same) = absurd (omega (arith, other, same, here))
+    go (inr stays) = subst (λ k. Among k (map f left')) (sym here) (among_map f y left' stays)
+still_there f m n (y ∷ left) left' other others (inr behind) = still_there f m n left left' other (All-tail (λ z. (f z ≡ m) ⊎ Among z left') y left others) behind
+
+pub sorting_takes : {X : Type 0} (f : X → ℕ) (all : List X) (place count : ℕ) (ordered ordered' left left' : List X) (x : X) → Sorting f all place count ordered left → f x ≡ place + 1 → Among x left
+    → ordered' ≡ ordered ++ x ∷ [] → All (λ y. Among y left) left' → All (λ y. (f y ≡ place + 1) ⊎ Among y left') left → Sorting f all (place + 1) count ordered' left'
+sorting_takes f all place count ordered ordered' left left' x s num there is fewer others = record {
+  firsts = one_more_named f ordered ordered' x place s.firsts is num;
   those = subst (All (λ y. Among y all)) (sym is) (All-push (λ y. Among y all) ordered x s.those (all_among (λ y. Among y all) x left there s.behind));
-  behind = still_behind all left left' s.behind fewer;
-  seen = from_among (λ y. 1 ≤ f y → f y ≤ place + 1 → Among (f y) (map f ordered')) all (λ y in_all some low. go y in_all some low (either_side (f y) place));
-  unseen = from_among (λ y. place + 1 < f y → Among y left') all (λ y in_all above. stays y above (all_among (λ z. (f z ≡ place + 1) ⊎ Among z left') y left (all_among (λ z. place < f z → Among z left) y all in_all s.unseen (omega (arith, above))) others));
+  behind = All-weaker (λ y. Among y left) (λ y. Among y all) (λ y within. all_among (λ z. Among z all) y left within s.behind) left' fewer;
+  rest = λ n above few. still_there f (place + 1) n left left' above others (s.rest n (omega (arith, above)) few);
 }
-  where
-    go : (y : _) → Among y all → 1 ≤ f y → f y ≤ place + 1 → (f y ≤ place) ⊎ (place < f y) → Among (f y) (map f ordered')
-    go y in_all some low (inl before) = grown f ordered ordered' x (f y) is (all_among (λ z. 1 ≤ f z → f z ≤ place → Among (f z) (map f ordered)) y all in_all s.seen some before)
-    go y in_all some low (inr now) = joined f ordered ordered' x (f y) is (omega (arith, low, now, num))
-
-    stays : (y : _) → place + 1 < f y → (f y ≡ place + 1) ⊎ Among y left' → Among y left'
-    stays y above (inl same) = absurd (omega (arith, above, same))
-    stays y above (inr rest) = rest
-
-pub sorting_passes : {X : Type 0} (f : X → ℕ) (all : List X) (place : ℕ) (ordered left left' : List X) → Sorting f all place ordered left → All (λ y. f y ≢ place + 1) left
-    → All (λ y. Among y left) left' → All (λ y. (f y ≡ place + 1) ⊎ Among y left') left → Sorting f all (place + 1) ordered left'
-sorting_passes f all place ordered left left' s none fewer others = record {
-  order = s.order;
-  theirs = All-weaker (λ y. (1 ≤ f y) × (f y ≤ place)) (λ y. (1 ≤ f y) × (f y ≤ place + 1)) (λ y h. (h.0, omega (arith, h.1))) ordered s.theirs;
-  those = s.those;
-  behind = still_behind all left left' s.behind fewer;
-  seen = from_among (λ y. 1 ≤ f y → f y ≤ place + 1 → Among (f y) (map f ordered)) all (λ y in_all some low. go y in_all some low (either_side (f y) place));
-  unseen = from_among (λ y. place + 1 < f y → Among y left') all (λ y in_all above. stays y above (all_among (λ z. (f z ≡ place + 1) ⊎ Among z left') y left (all_among (λ z. place < f z → Among z left) y all in_all s.unseen (omega (arith, above))) others));
-}
-  where
-    go : (y : _) → Among y all → 1 ≤ f y → f y ≤ place + 1 → (f y ≤ place) ⊎ (place < f y) → Among (f y) (map f ordered)
-    go y in_all some low (inl before) = all_among (λ z. 1 ≤ f z → f z ≤ place → Among (f z) (map f ordered)) y all in_all s.seen some before
-    go y in_all some low (inr now) =
-        let same : f y ≡ place + 1 = omega (arith, low, now) in
-        absurd (all_among (λ z. f z ≢ place + 1) y left (all_among (λ z. place < f z → Among z left) y all in_all s.unseen now) none same)
-
-    stays : (y : _) → place + 1 < f y → (f y ≡ place + 1) ⊎ Among y left' → Among y left'
-    stays y above (inl same) = absurd (omega (arith, above, same))
-    stays y above (inr rest) = rest

@@ -17,8 +17,7 @@ use Rattle.node_threads.specs.declared.ends.NodeEnd.{NodeEnd}
 use Rattle.node_threads.specs.declared.ends.ClientEnd.{ClientEnd}
 use Rattle.node_threads.specs.Ends.{IsNodeEnd, AreNodeEnds, AreClientEnds, with_wishes, client_in, node_fault, client_fault}
 use Rattle.node_threads.specs.Faults.{ComesBefore, IsActorOf, MayEndBy, AreFaults}
-use Rattle.node_threads.specs.Sessions.{InOrder}
-use Rattle.node_threads.proofs.Orders.{all_above, rest_in_order, range_in_order, range_within}
+use Rattle.node_threads.proofs.Orders.{InOrder, all_above, rest_in_order, range_in_order, range_within}
 
 -- the actor with its fault
 abbrev pub Told : Type 0

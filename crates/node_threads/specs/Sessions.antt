@@ -1,5 +1,6 @@
 -- Sessions beside the threads of nodes: what each is made of, how it ends, and which records come back.
-use Rattle.std.specs.Prelude.{◌≡◌, ◌⊎◌, ℕ, ◌<◌, List, [], ◌∷◌, All, AllPairs, Option, None, IfNone}
+use Rattle.std.specs.Prelude.{◌≡◌, ◌⊎◌, ℕ, List, [], ◌∷◌, length, map, All, Option, None, IfNone}
+use Rattle.std.specs.List.{range_with_len}
 use Rattle.lock_messages.specs.declared.ids.Actor.{Actor}
 use Rattle.lock_messages.specs.declared.ids.Actor.TheVariants as actor
 use Rattle.lock_model.specs.Decisions.{Among}
@@ -10,11 +11,6 @@ use Rattle.world_model.specs.declared.exact.ExactWorld.{ExactWorld}
 use Rattle.world_model.specs.Parts.{Part, ClientPart, part}
 use Rattle.event_recorders.specs.declared.faults.RunFault.{RunFault}
 use Rattle.history_book.specs.Books.{BerthValue, own_part}
-use Rattle.node_threads.specs.Faults.{IsActorOf}
-
--- each number is smaller than all behind it
-abbrev pub InOrder : List ℕ → Type 0
-InOrder numbers = AllPairs (λ m n. m < n) numbers
 
 -- each of these is in one of the two lists
 abbrev pub AreDivided : List ℕ → List ℕ → List ℕ → Type 0
@@ -43,10 +39,8 @@ IsSessionEnd c fault k strings = IfNone fault (RestsBy c k strings)
 abbrev pub IsUntold : List (Actor × RunFault) → Actor → Type 0
 IsUntold faults who = (f : RunFault) → Among (who, f) faults → ⊥
 
--- The records of clients that come back, by what a restart finds of each: they stand in the order of their
--- clients, none twice, and each client is one of the opening's. One that isn't told rests in this world, which the
--- history leaves.
+-- The records of clients that come back, by what a restart finds of each: one of each client of the opening, in
+-- order. A client that isn't told rests in this world, which the history leaves.
 pub record AreRecords (opening world : ExactWorld) (faults : List (Actor × RunFault)) (records : List (ℕ × List (List ℕ))) : Type 0 where
-  pub ordered : AllPairs (λ p q. p.0 < q.0) records
-  pub theirs : All (λ p. IsActorOf opening (actor.Client p.0)) records
+  pub clients : map (λ p. p.0) records ≡ range_with_len 1 (length opening.clients)
   pub rest : All (λ p. IsUntold faults (actor.Client p.0) → RestsWith (part world (actor.Client p.0)) p.1) records

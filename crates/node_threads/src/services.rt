@@ -17,7 +17,6 @@ ghost use Rattle.node_threads.specs.Tasks.{IsNodeTask, IsClientBerth};
 
 use crate::berths::node_tasks;
 use crate::ends::node_faults;
-use crate::gates::OpenGate;
 use crate::opened::Opened;
 use crate::running::{BOOK, SharedBook, links_of};
 use crate::serving::{Served, serve_threads};
@@ -32,7 +31,7 @@ use book_recorders::{BookName, Logs, Named};
 use event_recorders::RunFault;
 use history_book::{Berth, Book};
 use lock_messages::{Actor, ClientId};
-use lock_session::OwnRecord;
+use lock_session::{OpenGate, OwnRecord};
 use lossy_link::Weather;
 use stable_record::StableRecord;
 use std::alloc::Global;
@@ -270,7 +269,7 @@ pub fn with_sessions<S: OwnRecord + Send, R: Threads + Wait + Copy + Send + Sync
     ensures entered { IfOk result (λ end. end.entered ≡ enters end.book.history) }
     // Each actor that ended by a fault is told once, in order, with a fault that it may have.
     ensures faults { IfOk result (λ end. AreFaults world end.faults.items) }
-    // Records come back in the order of clients; a client that isn't told rests, with just its attempt in its record.
+    // The record of each client comes back, in order; one that isn't told rests, with just its attempt in its record.
     ensures records { IfOk result (λ end. AreRecords world end.book.world end.faults.items (map (λ r. (r.0, S.StableRecord.finds r.1)) end.records.items)) }
     ensures err { IfErr result (λ f. f ≡ RunFault.Memory) }
 {

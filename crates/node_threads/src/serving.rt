@@ -9,7 +9,6 @@ ghost use Rattle.node_threads.specs.SessionEnds.{AreSessionEnds};
 ghost use Rattle.node_threads.specs.Tasks.{IsNodeTask, IsClientBerth};
 
 use crate::ends::NodeEnd;
-use crate::gates::OpenGate;
 use crate::session_ends::SessionEnd;
 use crate::session_lists::{begin_all, end_all, in_order};
 use crate::session_tasks::SessionTask;
@@ -18,7 +17,7 @@ use crate::threads::{join_nodes, start_nodes};
 use crate::works::Work;
 use book_recorders::{BookName, Logs, Named, SharedRecorder};
 use event_recorders::RunFault;
-use lock_session::{OwnRecord, Session};
+use lock_session::{OpenGate, OwnRecord, Session};
 use lossy_link::Link;
 use std::alloc::Global;
 use std::sync::{Mutex, Wait};
@@ -34,17 +33,21 @@ pub(crate) struct Served<S> {
 }
 
 /// Does the work with each of these sessions, in a thread of its own. Where a thread can't be started, the work with
-/// its session comes after that with the one before.
+/// its session comes after that with the one before. Each session stays its client's.
 fn work_each<
     W: Threads + Wait + Copy + Send + Sync,
     S: OwnRecord + Send,
     R: SharedRecorder + Send,
     L: Link + Send,
     J: Work + Sync,
->(rt: W, alloc: Global, sessions: &mut [Session<S, R, L>], work: &J) {
+>(rt: W, alloc: Global, sessions: &mut [Session<S, R, L>], work: &J)
+    ensures { map (λ s. s.client) sessions.new ≡ map (λ s. s.client) sessions.old }
+{
     let count = sessions.len();
     if count > 0 {
-        let one = move |_place: usize, session: &mut Session<S, R, L>| {
+        let one = move |_place: usize, session: &mut Session<S, R, L>|
+            ensures { session.new.client ≡ session.old.client }
+        {
             work.work(&rt, alloc, session);
             // Others may wait for what a dropped guard holds. The session keeps the fault if it is over by one.
             let _ = session.settle(&rt, alloc);

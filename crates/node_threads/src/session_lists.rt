@@ -1,12 +1,12 @@
 // The sessions of all clients, and how they ended, in order.
 
 ghost use Rattle.std.specs.Prelude.{◌≡◌, ◌≢◌, ◌≤◌, ◌⊎◌, ◌++◌, map, All, IfOk, IfErr, IfNone, IfSome};
-ghost use Rattle.std.specs.List.{filter_map};
+ghost use Rattle.std.specs.List.{filter_map, range_with_len};
 ghost use Rattle.lock_messages.specs.declared.ids.TheConstants.{MAX_CLIENTS};
 ghost use Rattle.lock_model.specs.Decisions.{Among};
 ghost use Rattle.lock_session.specs.Sessions.{IsResting};
 ghost use Rattle.node_threads.specs.SessionEnds.{session_fault};
-ghost use Rattle.node_threads.specs.Sessions.{InOrder, AreDivided, IsSessionEnd};
+ghost use Rattle.node_threads.specs.Sessions.{AreDivided, IsSessionEnd};
 ghost use Rattle.node_threads.specs.Tasks.{IsClientBerth};
 
 use crate::session_ends::{BookSession, SessionEnd, begin_session, end_session};
@@ -29,10 +29,8 @@ pub(crate) fn begin_all<'a, B: BookName, K: Logs, S: OwnRecord, R: Wait + Copy>(
     book: &'a Mutex<Named<B, K>>,
 ) -> Result<(Vec<BookSession<'a, B, K, S, R>>, Vec<SessionEnd<S>>), RunFault>
     requires tasks { All (λ t. IsClientBerth B.table t.client ballots t.berth (S.StableRecord.finds t.stable)) tasks.items }
-    requires order { InOrder (map (λ t. t.client) tasks.items) }
     ensures rest { IfOk result (λ r. All IsResting r.0.items) }
     ensures ballots { IfOk result (λ r. All (λ s. s.ballots ≡ ballots) r.0.items) }
-    ensures order { IfOk result (λ r. InOrder (map (λ s. s.client) r.0.items)) }
     // Each client has a session, or ended by a fault.
     ensures all { IfOk result (λ r. AreDivided (map (λ t. t.client) tasks.items) (map (λ s. s.client) r.0.items) (map (λ e. e.client) r.1.items)) }
     ensures told { IfOk result (λ r. All (λ e. IfNone e.fault ⊥) r.1.items) }
@@ -96,17 +94,16 @@ fn take_end<S: Drop>(ends: &mut Vec<SessionEnd<S>>, client: ClientId) -> Option<
     None
 }
 
-/// The ends of so many clients, one of each that has one here, in the order of clients.
+/// The ends of so many clients, one of each, in the order of clients. There is one of each here.
 pub(crate) fn in_order<S: Drop>(
     alloc: Global,
     clients: u32,
     ends: Vec<SessionEnd<S>>,
 ) -> Result<Vec<SessionEnd<S>>, RunFault>
     requires few { clients ≤ MAX_CLIENTS }
-    ensures order { IfOk result (λ ordered. InOrder (map (λ e. e.client) ordered.items)) }
-    ensures theirs { IfOk result (λ ordered. All (λ e. (1 ≤ e.client) × (e.client ≤ clients)) ordered.items) }
+    requires whole { All (λ n. Among n (map (λ e. e.client) ends.items)) (range_with_len 1 clients) }
+    ensures clients { IfOk result (λ ordered. map (λ e. e.client) ordered.items ≡ range_with_len 1 clients) }
     ensures those { IfOk result (λ ordered. All (λ e. Among e ends.items) ordered.items) }
-    ensures whole { IfOk result (λ ordered. All (λ e. 1 ≤ e.client → e.client ≤ clients → Among e.client (map (λ o. o.client) ordered.items)) ends.items) }
     ensures err { IfErr result (λ f. f ≡ RunFault.Memory) }
 {
     let mut left = ends;
@@ -115,11 +112,12 @@ pub(crate) fn in_order<S: Drop>(
         let Some(client) = ClientId::of(place + 1) else {
             unreachable!()
         };
-        if let Some(end) = take_end(&mut left, client) {
-            let Ok(()) = ordered.push(end) else {
-                return Err(RunFault::Memory);
-            };
-        }
+        let Some(end) = take_end(&mut left, client) else {
+            unreachable!()
+        };
+        let Ok(()) = ordered.push(end) else {
+            return Err(RunFault::Memory);
+        };
     }
     Ok(ordered)
 }

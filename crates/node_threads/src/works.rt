@@ -1,5 +1,7 @@
 // What a program does while its service runs.
 
+ghost use Rattle.std.specs.Prelude.{◌≡◌};
+
 use book_recorders::SharedRecorder;
 use lock_session::{OwnRecord, Session};
 use lossy_link::Link;
@@ -12,7 +14,8 @@ use std::sync::Wait;
 /// of a type of its own, whose method is generic over the session, and no closure. The threads are the service's,
 /// since a method can't send to a thread what the bounds of its own parameters are about.
 pub trait Work {
-    /// Works with the session of a client, which has risen and rests. `Session::client` tells whose it is.
+    /// Works with the session of a client, which has risen and rests. `Session::client` tells whose it is. The session
+    /// stays where it is: it isn't taken for another one's.
     ///
     /// When it returns, the service says at once what the session has left to say, so nobody waits for a guard that
     /// was dropped; and takes it apart when all have returned.
@@ -21,5 +24,6 @@ pub trait Work {
         rt: &W,
         alloc: Global,
         session: &mut Session<S, R, L>,
-    );
+    )
+        ensures { session.new.client ≡ session.old.client };
 }

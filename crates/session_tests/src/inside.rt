@@ -1,5 +1,7 @@
 // Programs whose sessions work in threads of their own, inside a service.
 
+ghost use Rattle.std.specs.Prelude.{◌≡◌};
+
 use crate::programs::{Ended, run_program};
 use crate::worlds::resource;
 use book_recorders::SharedRecorder;
@@ -39,7 +41,9 @@ impl ReadTogether {
         rt: &W,
         alloc: Global,
         session: &mut Session<S, R, L>,
-    ) -> bool {
+    ) -> bool
+        ensures { session.new.client ≡ session.old.client }
+    {
         let leaves = session.client().get() == 1;
         if session.ballots().count() < 1 {
             self.meet.wait(rt);
@@ -172,7 +176,9 @@ impl ReadAndWrite {
         rt: &W,
         alloc: Global,
         session: &mut Session<S, R, L>,
-    ) {
+    )
+        ensures { session.new.client ≡ session.old.client }
+    {
         if session.ballots().count() < 1 {
             self.begun.wait(rt);
             return;
@@ -199,7 +205,9 @@ impl ReadAndWrite {
         rt: &W,
         alloc: Global,
         session: &mut Session<S, R, L>,
-    ) {
+    )
+        ensures { session.new.client ≡ session.old.client }
+    {
         self.begun.wait(rt);
         if session.ballots().count() < 1 {
             return;

@@ -1,5 +1,7 @@
 // Services over links that lose, repeat and delay, whose sessions come in again and again.
 
+ghost use Rattle.std.specs.Prelude.{◌≡◌};
+
 use crate::programs::run_in;
 use crate::worlds::resource;
 use book_recorders::SharedRecorder;
@@ -32,7 +34,9 @@ impl InAndOut {
         alloc: Global,
         session: &mut Session<S, R, L>,
         mode: Mode,
-    ) {
+    )
+        ensures { session.new.client ≡ session.old.client }
+    {
         if session.ballots().count() < 1 {
             return;
         }

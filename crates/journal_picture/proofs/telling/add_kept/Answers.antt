@@ -1,7 +1,7 @@
 use Rattle.std.proofs.Common.{◌<◌, ◌++◌, length, take, ◌∙◌, ap, arith, append_assoc}
 use Rattle.std.specs.Option.{option_to_list}
 use Rattle.journal_picture.specs.Histories.{vote_of, votes_in}
-use Rattle.journal_picture.proofs.TellFacts.{flat_map-more}
+use Rattle.world_machine.proofs.ListingFacts.{flat_map-more}
 use Rattle.journal_picture.proofs.telling.add_kept.Goals as goal
 
 pub loop-place-preserved : goal.loop-place-preserved

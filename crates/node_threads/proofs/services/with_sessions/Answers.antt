@@ -1,6 +1,5 @@
 use Rattle.std.proofs.Common.{◌≡◌, ◌+◌, ◌<◌, ◌≤◌, length, map, sym, ◌∙◌, ap, subst, arith, All}
 use Rattle.std.specs.List.{filter_map, range_with_len}
-use Rattle.std.proofs.lemmas.List.Elements.{All-map, All-weaker}
 use Rattle.std.specs.Prelude.{IfOk}
 use denote.Param.Send.{sendable}
 use denote.Param.Sent.{Sends}
@@ -12,6 +11,7 @@ use Rattle.node_threads.specs.SessionEnds.{AreSessionEnds}
 use Rattle.node_threads.specs.Sessions.{AreRecords}
 use Rattle.node_threads.specs.Tasks.{IsClientBerth}
 use Rattle.node_threads.proofs.Openings.{as_counted}
+use Rattle.node_threads.proofs.Orders.{InOrder, range_in_order, range_within}
 use Rattle.node_threads.proofs.Returned.{image_of_image, are_records}
 use Rattle.node_threads.proofs.Telling.{faults_in_order}
 use Rattle.node_threads.proofs.services.with_sessions.Goals as goal
@@ -55,11 +55,11 @@ returns-clause-faults g c =
     let opening = c.in-Ok.ensures.ok.opening in
     let many : length tasks.clients.items ≡ length w.clients =
     as_counted (λ t. t.client) tasks.clients.items (length c.in-Ok.book.opening.clients) c.in-Ok-service_tasks.ensures.all_clients ∙ ap (λ (v : ExactWorld). length v.clients) opening in
-    let within : All (λ n. (1 ≤ n) × (n < 1 + length w.clients)) (map (λ e. e.client) ends) =
-    All-map (λ n. (1 ≤ n) × (n < 1 + length w.clients)) (λ e. e.client) ends
-    (All-weaker (λ e. (1 ≤ e.client) × (e.client ≤ length tasks.clients.items)) (λ e. (1 ≤ e.client) × (e.client < 1 + length w.clients)) (λ e h. (h.0, omega (arith, h.1, many))) ends of_clients.theirs) in
+    let named = of_clients.clients ∙ ap (range_with_len 1) many in
+    let order = subst InOrder (sym named) (range_in_order 1 (length w.clients)) in
+    let within = subst (All (λ n. (1 ≤ n) × (n < 1 + length w.clients))) (sym named) (range_within 1 (length w.clients)) in
     faults_in_order (λ e. e.client) (λ e. e.fault) w nodes ends c.in-Ok-told.end.faults.items
-    (of_nodes.named ∙ c.in-Ok-service_tasks.ensures.all_nodes ∙ ap (λ (v : ExactWorld). range_with_len 1 (length v.nodes)) opening) of_nodes.each of_clients.ordered within c.in-Ok-told.ensures.faults
+    (of_nodes.named ∙ c.in-Ok-service_tasks.ensures.all_nodes ∙ ap (λ (v : ExactWorld). range_with_len 1 (length v.nodes)) opening) of_nodes.each order within c.in-Ok-told.ensures.faults
 
 pub returns-clause-records : goal.returns-clause-records
 returns-clause-records g c =
@@ -76,4 +76,4 @@ returns-clause-records g c =
     subst (λ (b : BookValue). AreRecords w b.world faults (map (λ r. (r.0, g.S.StableRecord.finds r.1)) c.in-Ok-told.end.records.items)) (sym c.in-Ok-told.ensures.book)
     (subst (λ rs. AreRecords w book.world faults rs) (sym back)
     (are_records (λ e. e.client) (λ e. e.fault) (λ e. e.berth) (λ e. g.S.StableRecord.finds e.stable) w book ends faults (filter_map node_fault nodes) (length tasks.clients.items) (sym many)
-    of_clients.ordered of_clients.theirs of_clients.each c.in-Ok-told.ensures.tied c.in-Ok-told.ensures.faults))
+    of_clients.clients of_clients.each c.in-Ok-told.ensures.tied c.in-Ok-told.ensures.faults))

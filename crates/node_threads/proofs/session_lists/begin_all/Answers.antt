@@ -6,7 +6,7 @@ use Rattle.std.proofs.lemmas.List.Elements.{All-nil}
 use Rattle.lock_session.specs.Sessions.{IsResting}
 use Rattle.node_threads.specs.Tasks.{IsClientBerth}
 use Rattle.node_threads.proofs.Lists.{all_and_one}
-use Rattle.node_threads.proofs.Sorting.{begins_in_order, goes_on_in_order, passes_in_order, ends_in_order, spread_first, to_sessions, to_ends, spread}
+use Rattle.node_threads.proofs.Sorting.{spread_first, to_sessions, to_ends, spread}
 use Rattle.node_threads.proofs.Taking.{first_of, rest_of}
 use Rattle.node_threads.proofs.session_lists.begin_all.Goals as goal
 
@@ -20,7 +20,6 @@ loop-task-init g c =
       tasks = subst (All (λ t. IsClientBerth g.B.BookName.table t.client c.args.ballots t.berth (g.S.StableRecord.finds t.stable))) (sym gives) c.requires.tasks;
       rest = subst (All IsResting) (sym none) (All-nil IsResting);
       ballots = subst (All (λ s. s.ballots ≡ c.args.ballots)) (sym none) (All-nil (λ s. s.ballots ≡ c.args.ballots));
-      order = begins_in_order (λ s. s.client) (λ t. t.client) c.new-sessions.result.items _ _ none gives c.requires.order;
       all = spread_first (λ t. t.client) _ _ _ _ gives;
       told = subst (All (λ e. IfNone e.fault ⊥)) (sym no_ends) (All-nil (λ e. IfNone e.fault ⊥));
       tables = subst (All (λ e. e.berth.table ≡ g.B.BookName.table)) (sym no_ends) (All-nil (λ e. e.berth.table ≡ g.B.BookName.table));
@@ -40,7 +39,6 @@ loop-task-preserved-in-Ok-push g c =
       tasks = rest_of c.in-Some.task (λ t. IsClientBerth g.B.BookName.table t.client c.args.ballots t.berth (g.S.StableRecord.finds t.stable)) _ _ at before.tasks;
       rest = all_and_one IsResting c.loop-task.sessions.items c.push.new.self.items c.in-Ok.session before.rest c.in-Ok.ensures.rests is;
       ballots = all_and_one (λ s. s.ballots ≡ c.args.ballots) c.loop-task.sessions.items c.push.new.self.items c.in-Ok.session before.ballots c.in-Ok.ensures.ballots is;
-      order = goes_on_in_order (λ s. s.client) (λ t. t.client) c.loop-task.sessions.items c.push.new.self.items c.in-Ok.session _ _ c.in-Some.task at is c.in-Ok.ensures.client before.order;
       all = to_sessions (λ s. s.client) (λ t. t.client) c.loop-task.sessions.items c.push.new.self.items c.in-Ok.session _ _ _ c.in-Some.task _ is at c.in-Ok.ensures.client before.all;
       told = before.told;
       tables = before.tables;
@@ -56,16 +54,10 @@ loop-task-preserved g c =
       tasks = rest_of c.in-Some.task (λ t. IsClientBerth g.B.BookName.table t.client c.args.ballots t.berth (g.S.StableRecord.finds t.stable)) _ _ at before.tasks;
       rest = before.rest;
       ballots = before.ballots;
-      order = passes_in_order (λ s. s.client) (λ t. t.client) c.loop-task.sessions.items _ _ c.in-Some.task at before.order;
       all = to_ends (λ e. e.client) (λ t. t.client) _ c.loop-task.ends.items c.push-in-Err.new.self.items c.in-Err.end _ _ c.in-Some.task _ is at c.in-Err.ensures.same before.all;
       told = all_and_one (λ e. IfNone e.fault ⊥) c.loop-task.ends.items c.push-in-Err.new.self.items c.in-Err.end before.told c.in-Err.ensures.told is;
       tables = all_and_one (λ e. e.berth.table ≡ g.B.BookName.table) c.loop-task.ends.items c.push-in-Err.new.self.items c.in-Err.end before.tables c.in-Err.ensures.table is;
     }
-
-pub returns-clause-order : goal.returns-clause-order
-returns-clause-order g c =
-    let none : length (into_iter_items c.loop-task.task-iterator) ≡ 0 = sym c.loop-task.task-iterator.rest.ok.0 ∙ c.in-None.ensures.steps.0 in
-    ends_in_order (λ s. s.client) (λ t. t.client) c.loop-task.sessions.items _ none c.loop-task.invariant.order
 
 pub returns-clause-all : goal.returns-clause-all
 returns-clause-all g c =
