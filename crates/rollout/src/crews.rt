@@ -1,13 +1,15 @@
-// Workers and watchers, each with the session of a client.
+// The work of the service's clients: workers and watchers.
 
-ghost use Rattle.std.specs.Prelude.{◌≡◌, ◌<◌};
+ghost use Rattle.std.specs.Prelude.{◌≡◌};
 ghost use Rattle.lock_model.specs.Ballots.{HasPlace};
 
 use crate::sites::{STEPS, Site, TARGETS};
-use event_recorders::{Recorder, RunFault};
+use book_recorders::SharedRecorder;
+use event_recorders::RunFault;
 use lock_messages::{Mode, ResourceName};
 use lock_session::{OwnRecord, Session};
 use lossy_link::Link;
+use node_threads::Work;
 use std::alloc::Global;
 use std::sync::{Mutex, Wait};
 use std::thread;
@@ -15,174 +17,114 @@ use std::thread;
 /// How many nudges an attempt may have.
 const NUDGES: u32 = 1_000;
 
-/// The lock of a target.
-fn lock_of(target: usize) -> Result<ResourceName, RunFault> {
-    match TARGETS
-        .get(target)
-        .and_then(|name| ResourceName::of(name.as_bytes()))
-    {
-        Some(name) => Ok(name),
-        None => Err(RunFault::Spent),
-    }
+/// The rollout. Its site goes from thread to thread under a mutex of its own, for no longer than one looks or notes
+/// something; who may work on a target is said by the service's locks.
+#[derive(Drop)]
+pub(crate) struct Rollout {
+    pub(crate) site: Mutex<Site>,
 }
 
-/// Does one step at one target, under the target's write lock; whether the steps before it were done.
-fn try_step<W: Wait, S: OwnRecord, R: Recorder, L: Link>(
+/// What a client does at a target.
+#[derive(Clone, Copy)]
+enum Task {
+    /// A worker does this step, where the steps before it are done.
+    Step(usize),
+    /// A watcher looks whether every step is done.
+    Watch,
+}
+
+/// Does a task at one target, under the target's lock; whether it is done there.
+fn visit<W: Wait, S: OwnRecord, R: SharedRecorder, L: Link>(
     rt: &W,
     alloc: Global,
     session: &mut Session<S, R, L>,
     site: &Mutex<Site>,
     target: usize,
-    step: usize,
+    task: Task,
 ) -> Result<bool, RunFault>
     requires { HasPlace session.old.ballots 1 }
-    ensures { session.new.ballots ≡ session.old.ballots }
+    ensures ballots { session.new.ballots ≡ session.old.ballots }
+    ensures client { session.new.client ≡ session.old.client }
 {
-    let name = lock_of(target)?;
-    match session.enter(rt, alloc, Mode::Write, name, 1, NUDGES) {
-        Ok(guard) => {
-            let begun = site.lock(rt).begin(target, step);
-            if begun {
-                // Here the work is done, for as long as it takes.
-                thread::yield_now();
-                site.lock(rt).finish(target);
-            }
-            guard.leave(rt, alloc)?;
-            Ok(begun)
-        }
-        Err(fault) => Err(fault),
-    }
-}
-
-/// Looks at one target under its read lock; how many steps are done at it.
-fn look<W: Wait, S: OwnRecord, R: Recorder, L: Link>(
-    rt: &W,
-    alloc: Global,
-    session: &mut Session<S, R, L>,
-    site: &Mutex<Site>,
-    target: usize,
-) -> Result<usize, RunFault>
-    requires { HasPlace session.old.ballots 1 }
-    ensures { session.new.ballots ≡ session.old.ballots }
-{
-    let name = lock_of(target)?;
-    match session.enter(rt, alloc, Mode::Read, name, 1, NUDGES) {
-        Ok(guard) => {
-            let done = site.lock(rt).look(target);
-            guard.leave(rt, alloc)?;
-            Ok(done)
-        }
-        Err(fault) => Err(fault),
-    }
-}
-
-/// Goes round the targets once, and does the step where it isn't done and can be; how often it couldn't.
-fn go_round<W: Wait, S: OwnRecord, R: Recorder, L: Link>(
-    rt: &W,
-    alloc: Global,
-    session: &mut Session<S, R, L>,
-    site: &Mutex<Site>,
-    step: usize,
-    did: &mut [bool; TARGETS.len()],
-) -> Result<u32, RunFault>
-    requires { HasPlace session.old.ballots 1 }
-    ensures { session.new.ballots ≡ session.old.ballots }
-{
-    let mut failed = 0u32;
-    for target in 0..TARGETS.len() {
-        if !did[target] {
-            did[target] = try_step(rt, alloc, session, site, target, step)?;
-            if !did[target] {
-                failed = failed.saturating_add(1);
-            }
-        }
-    }
-    Ok(failed)
-}
-
-/// A worker: does the step at every target. Where it fails since the steps before it aren't done, it tries again
-/// later.
-fn work<W: Wait, S: OwnRecord, R: Recorder, L: Link>(
-    rt: &W,
-    alloc: Global,
-    session: &mut Session<S, R, L>,
-    site: &Mutex<Site>,
-    step: usize,
-) -> Result<(), RunFault>
-    requires { HasPlace session.old.ballots 1 }
-{
-    let mut did = [false; TARGETS.len()];
-    for _ in rt.forever() {
-        let failed = go_round(rt, alloc, session, site, step, &mut did)?;
-        if failed == 0 || site.lock(rt).gave_up > 0 {
-            break;
-        }
-        thread::yield_now();
-    }
-    Ok(())
-}
-
-/// How many targets have every step done, as a watcher sees it that looks at one after the other.
-fn look_round<W: Wait, S: OwnRecord, R: Recorder, L: Link>(
-    rt: &W,
-    alloc: Global,
-    session: &mut Session<S, R, L>,
-    site: &Mutex<Site>,
-) -> Result<usize, RunFault>
-    requires { HasPlace session.old.ballots 1 }
-    ensures { session.new.ballots ≡ session.old.ballots }
-{
-    let mut whole = 0usize;
-    for target in 0..TARGETS.len() {
-        if look(rt, alloc, session, site, target)? == STEPS.len() {
-            whole = whole.saturating_add(1);
-        }
-    }
-    Ok(whole)
-}
-
-/// A watcher: looks at the targets until every step is done at each.
-fn watch<W: Wait, S: OwnRecord, R: Recorder, L: Link>(
-    rt: &W,
-    alloc: Global,
-    session: &mut Session<S, R, L>,
-    site: &Mutex<Site>,
-) -> Result<(), RunFault>
-    requires { HasPlace session.old.ballots 1 }
-{
-    for _ in rt.forever() {
-        let whole = look_round(rt, alloc, session, site)?;
-        let mut site = site.lock(rt);
-        if whole == TARGETS.len() {
-            site.content = site.content.saturating_add(1);
-            break;
-        }
-        if site.gave_up > 0 {
-            break;
-        }
-    }
-    Ok(())
-}
-
-/// What a client does: the first ones are workers, each with a step of its own, and the others watch.
-pub(crate) fn act<W: Wait, S: OwnRecord, R: Recorder, L: Link>(
-    rt: &W,
-    alloc: Global,
-    session: &mut Session<S, R, L>,
-    site: &Mutex<Site>,
-) {
-    // By the first ballot, which there always is.
-    if session.ballots().count() < 1 {
-        return;
-    }
-    let step = session.client().get() as usize - 1;
-    let acted = if step < STEPS.len() {
-        work(rt, alloc, session, site, step)
-    } else {
-        watch(rt, alloc, session, site)
+    let Some(name) = TARGETS
+        .get(target)
+        .and_then(|name| ResourceName::of(name.as_bytes()))
+    else {
+        return Err(RunFault::Spent);
     };
-    if acted.is_err() {
-        let mut site = site.lock(rt);
-        site.gave_up = site.gave_up.saturating_add(1);
+    let mode = match task {
+        Task::Step(_) => Mode::Write,
+        Task::Watch => Mode::Read,
+    };
+    match session.enter(rt, alloc, mode, name, 1, NUDGES) {
+        Ok(guard) => {
+            let is_done = match task {
+                Task::Step(step) => do_step(rt, site, target, step),
+                Task::Watch => site.lock(rt).look(target) == STEPS.len(),
+            };
+            guard.leave(rt, alloc)?;
+            Ok(is_done)
+        }
+        Err(fault) => Err(fault),
+    }
+}
+
+/// Does a step at a target where the steps before it are done; whether they were.
+fn do_step<W: Wait>(rt: &W, site: &Mutex<Site>, target: usize, step: usize) -> bool {
+    if !site.lock(rt).begin(target, step) {
+        return false;
+    }
+    // Here the work is done, for as long as it takes, with no mutex.
+    thread::yield_now();
+    site.lock(rt).finish(target);
+    true
+}
+
+/// Does a task at one target after the other. Where one can't be done yet it is tried again later, unless somebody
+/// has given up; whether it was done at all targets.
+fn go_round<W: Wait, S: OwnRecord, R: SharedRecorder, L: Link>(
+    rt: &W,
+    alloc: Global,
+    session: &mut Session<S, R, L>,
+    site: &Mutex<Site>,
+    task: Task,
+) -> Result<bool, RunFault>
+    requires { HasPlace session.old.ballots 1 }
+    ensures { session.new.client ≡ session.old.client }
+{
+    let mut target = 0;
+    for _ in rt.forever() {
+        if target >= TARGETS.len() || site.lock(rt).gave_up > 0 {
+            break;
+        }
+        if visit(rt, alloc, session, site, target, task)? {
+            target += 1;
+        } else {
+            thread::yield_now();
+        }
+    }
+    Ok(target >= TARGETS.len())
+}
+
+impl Work for Rollout {
+    /// The first clients are workers, each with a step of its own, and the others watch.
+    fn work<W: Wait, S: OwnRecord, R: SharedRecorder, L: Link>(
+        &self,
+        rt: &W,
+        alloc: Global,
+        session: &mut Session<S, R, L>,
+    ) {
+        // By the first ballot, which there always is.
+        if session.ballots().count() < 1 {
+            return;
+        }
+        let place = session.client().get() as usize - 1;
+        let task = if place < STEPS.len() {
+            Task::Step(place)
+        } else {
+            Task::Watch
+        };
+        let ended = go_round(rt, alloc, session, &self.site, task);
+        self.site.lock(rt).note(ended.ok(), place < STEPS.len());
     }
 }

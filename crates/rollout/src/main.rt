@@ -6,23 +6,19 @@
 //! locks is audited, and the program says what each did.
 //!
 //! `docs/EMBEDDING.md` goes through it part by part. It stands on `run_service` and `node_threads` for the service,
-//! `lock_session` for its sessions, `operator_cli` for settings, `journal_audit`, `line_streams`, `history_book`,
-//! `event_recorders`, `lossy_link`, `stable_record`, `admission_policy`, `vote_weights`, `world_machine`,
-//! `lock_messages` and `lock_model`.
+//! `lock_session` and `book_recorders` for its sessions, `operator_cli` for settings, `journal_audit`,
+//! `line_streams`, `history_book`, `event_recorders`, `lossy_link`, `stable_record`, `lock_messages` and `lock_model`.
 #![tactic(auto)]
 
 mod crews;
 mod sites;
-mod supplies;
 mod telling;
-mod working;
 
+use crate::crews::Rollout;
 use crate::sites::Site;
-use crate::supplies::{add_record, plain_policies};
 use crate::telling::{end_without_memory, tell};
-use crate::working::Rollout;
 use operator_cli::{Command, read_settings};
-use run_service::{empty_client_records, empty_node_record, run_sessions};
+use run_service::run_in_memory;
 use std::process::ExitCode;
 use std::sync::Mutex;
 
@@ -35,41 +31,10 @@ fn main(rt: HostRuntime) -> ExitCode {
         return end_without_memory(&rt);
     };
     let settings = start.settings;
-    let Ok(for_world) = plain_policies(alloc) else {
-        return end_without_memory(&rt);
-    };
-    let Ok(for_nodes) = plain_policies(alloc) else {
-        return end_without_memory(&rt);
-    };
-    let mut records = Vec::new(alloc);
-    for _ in 0..settings.ballots.nodes() {
-        let Ok(record) = empty_node_record(alloc, settings.problem) else {
-            return end_without_memory(&rt);
-        };
-        let Ok(record) = Box::new(alloc, record) else {
-            return end_without_memory(&rt);
-        };
-        let Ok(()) = add_record(&mut records, record) else {
-            return end_without_memory(&rt);
-        };
-    }
-    let Ok(clients) = empty_client_records(alloc, settings.clients) else {
-        return end_without_memory(&rt);
-    };
     let rollout = Rollout {
         site: Mutex::new(Site::new()),
     };
-    let ended = run_sessions(
-        rt,
-        alloc,
-        &settings,
-        start.weather,
-        for_world,
-        for_nodes,
-        records,
-        clients,
-        &rollout,
-    );
+    let ended = run_in_memory(rt, alloc, &settings, start.weather, &rollout);
     let site = rollout.site.into_inner();
     match ended {
         Ok(end) => tell(&rt, alloc, &settings, &end, &site),

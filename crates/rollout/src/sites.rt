@@ -57,6 +57,19 @@ impl Site {
         }
     }
 
+    /// How a client ended: whether it did all that it had to, or nothing where a fault stopped it; and whether it is a
+    /// worker, of whom nothing is counted.
+    pub(crate) fn note(&mut self, did: Option<bool>, is_worker: bool) {
+        match did {
+            Some(did) => {
+                if did && !is_worker {
+                    self.content = self.content.saturating_add(1);
+                }
+            }
+            None => self.gave_up = self.gave_up.saturating_add(1),
+        }
+    }
+
     /// How many steps are done at a target.
     pub(crate) fn look(&mut self, target: usize) -> usize {
         if target >= TARGETS.len() {

@@ -4,12 +4,12 @@ ghost use Rattle.std.specs.Prelude.{◌≡◌, ◌≤◌};
 ghost use Rattle.lock_messages.specs.declared.ids.TheConstants.{MAX_CLIENTS};
 
 use crate::sites::{STEPS, Site, TARGETS};
-use crate::supplies::plain_policies;
 use history_book::Book;
 use journal_audit::{Verdict, audit};
 use line_streams::write_text;
 use node_threads::ServiceEnd;
 use operator_cli::{Settings, world_down};
+use run_service::plain_policies;
 use stable_record::MemoryRecord;
 use std::alloc::{AllocError, Global};
 use std::io;

@@ -12,21 +12,20 @@
 //! the caller's.
 //!
 //! `run_sessions` opens the same world, and has the caller's own work done in it, by a session for each client, in
-//! place of wishes; it promises what `node_threads::with_sessions` does.
+//! place of wishes; it promises what `node_threads::with_sessions` does. `run_in_memory` brings policies and records
+//! itself.
 //!
 //! It stands on `operator_cli` for settings, `node_threads` for the run, `explanations` for what is said of it
-//! in words, `journal_text`, `journal_audit`
-//! and `journal_laws` for the journal, `line_streams`, `event_recorders`, `history_book`, `history_check`,
-//! `client_core` and `entry_guard` for the gate, `lock_session`, `lossy_link`, `stable_record`,
+//! in words, `journal_text`, `journal_audit` and `journal_laws` for the journal, `line_streams`, `event_recorders`,
+//! `history_book`, `history_check`, `lock_session`, `lossy_link`, `stable_record`, `admission_policy`,
 //! `vote_weights`, `world_machine`, `world_model`, `lock_messages` and `lock_model`.
 #![tactic(auto)]
 
 mod ends;
-mod gates;
 mod records;
 mod serving;
 mod sessions;
 
-pub use records::{Records, empty_client_record, empty_node_record};
+pub use records::{Records, empty_client_record, empty_node_record, empty_node_records};
 pub use serving::serve_run;
-pub use sessions::{empty_client_records, run_sessions};
+pub use sessions::{empty_client_records, plain_policies, run_in_memory, run_sessions};

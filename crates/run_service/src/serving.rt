@@ -15,7 +15,6 @@ ghost use Rattle.run_service.specs.Outputs.{IsRun, ServesRun};
 ghost use Rattle.run_service.specs.Parts.{TellsEnd, RunsHead};
 
 use crate::ends::{push_end, status_of};
-use crate::gates::OpenGate;
 use crate::records::{Records, chosen_records};
 use explanations::RunWords;
 use history_check::Wish;
@@ -23,6 +22,7 @@ use journal_audit::laws::verdicts_are_exact;
 use journal_laws::laws::journals_are_sound;
 use journal_text::JournalFault;
 use line_streams::{LineReader, MAX_READS, write_text};
+use lock_session::OpenGate;
 use lossy_link::Weather;
 use node_threads::{RunEnd, run_all};
 use operator_cli::{

@@ -10,8 +10,10 @@ ghost use Rattle.node_threads.specs.Faults.{AreFaults};
 ghost use Rattle.node_threads.specs.Sessions.{AreRecords};
 ghost use Rattle.run_service.specs.Empty.{empty_node, empty_client};
 
-use crate::records::empty_client_record;
+use crate::records::{empty_client_record, empty_node_records};
+use admission_policy::Pair;
 use event_recorders::RunFault;
+use lock_messages::MAX_NODES;
 use lock_session::OwnRecord;
 use lossy_link::Weather;
 use node_threads::{ServiceEnd, Work, with_sessions};
@@ -30,6 +32,20 @@ pub fn empty_client_records(alloc: Global, clients: u16) -> Result<Vec<MemoryRec
         all.push(empty_client_record(alloc)?)?;
     }
     Ok(all)
+}
+
+/// The plain rule of each problem, for as many nodes as there may be. The only error is want of memory.
+pub fn plain_policies(alloc: Global) -> Result<Policies, AllocError>
+    ensures { IfOk result (λ policies. length policies.pairs.items ≡ MAX_NODES) }
+{
+    let mut pairs = Vec::new(alloc);
+    for _ in 0..MAX_NODES {
+        pairs.push(Pair {
+            first: None,
+            second: None,
+        })?;
+    }
+    Ok(Policies { pairs })
 }
 
 /// Runs a new service with the caller inside, as `with_sessions` does: its ballots, its problem and its clients are
@@ -80,6 +96,49 @@ pub fn run_sessions<T: Threads + Wait + Copy + Send + Sync, S: OwnRecord + Send,
         world,
         pairs,
         weather,
+        work,
+    )
+}
+
+/// Runs a new service as `run_sessions` does, by the plain rules, with records that live as long as the program.
+///
+/// The caller owes settings in range. The only error is that memory was refused or a thread couldn't be started
+/// (914).
+pub fn run_in_memory<T: Threads + Wait + Copy + Send + Sync, J: Work + Sync>(
+    rt: T,
+    alloc: Global,
+    settings: &Settings,
+    weather: Weather,
+    work: &J,
+) -> Result<ServiceEnd<MemoryRecord>, RunFault>
+    requires some_client { 1 ≤ settings.now.clients }
+    requires few_clients { settings.now.clients ≤ MAX_CLIENTS }
+    ensures opening { IfOk result (λ end. end.book.opening ≡ all_down settings.now) }
+    ensures history { IfOk result (λ end. IsHistory (all_down settings.now) end.book.history end.book.world) }
+    ensures entered { IfOk result (λ end. end.entered ≡ enters end.book.history) }
+    ensures faults { IfOk result (λ end. AreFaults (all_down settings.now) end.faults.items) }
+    ensures records { IfOk result (λ end. AreRecords (all_down settings.now) end.book.world end.faults.items (map (λ r. (r.0, r.1 ∷ [])) end.records.items)) }
+    ensures err { IfErr result (λ f. f ≡ RunFault.Memory) }
+{
+    let (Ok(for_world), Ok(for_threads)) = (plain_policies(alloc), plain_policies(alloc)) else {
+        return Err(RunFault::Memory);
+    };
+    let nodes = empty_node_records(alloc, settings.problem, settings.ballots.nodes());
+    let Ok(node_records) = nodes else {
+        return Err(RunFault::Memory);
+    };
+    let Ok(client_records) = empty_client_records(alloc, settings.clients) else {
+        return Err(RunFault::Memory);
+    };
+    run_sessions(
+        rt,
+        alloc,
+        settings,
+        weather,
+        for_world,
+        for_threads,
+        node_records,
+        client_records,
         work,
     )
 }

@@ -1,5 +1,5 @@
 use Rattle.std.proofs.Common.{◌≡◌, length}
-use Rattle.rollout.proofs.supplies.plain_policies.Given as goal
+use Rattle.run_service.proofs.sessions.plain_policies.Given as goal
 
 abbrev pub invariant-loop : goal.invariant-loop
 invariant-loop g l = length l.pairs.items ≡ l.counter
