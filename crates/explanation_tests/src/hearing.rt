@@ -27,12 +27,17 @@ fn policies(alloc: Global) -> Result<Policies, Failure> {
     Ok(Policies { pairs })
 }
 
+/// An explainer of an input of this command.
+pub(crate) fn explainer(alloc: Global, command: Command) -> Result<Explainer, Failure> {
+    Ok(Explainer::new(alloc, command, policies(alloc)?))
+}
+
 /// What is said of an input of a command, which comes in pieces of this size.
 fn heard(alloc: Global, command: Command, input: &str, size: usize) -> Result<String, Failure> {
     if size == 0 {
         return Err(Failure::Wrong(0));
     }
-    let mut explainer = Explainer::new(alloc, command, policies(alloc)?);
+    let mut explainer = explainer(alloc, command)?;
     let mut text = String::new(alloc);
     for piece in input.as_bytes().chunks(size) {
         explainer.see(&mut text, piece);

@@ -9,6 +9,8 @@ mod hearing;
 #[cfg(test)]
 mod journals;
 #[cfg(test)]
+mod limits;
+#[cfg(test)]
 mod runs;
 #[cfg(test)]
 mod scripts;

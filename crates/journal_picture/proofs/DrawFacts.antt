@@ -1,5 +1,5 @@
 -- Drawing line after line: what is found, and which marks were drawn.
-use Rattle.std.proofs.Common.{◌≡◌, ◌≢◌, ◌⊎◌, inl, inr, ℕ, ◌+◌, ◌<◌, ◌≤◌, Bool, true, false, List, [], ◌∷◌, ◌++◌, Option, Some, None, Result, Ok, Err, IfOk, OnOk, refl, sym, ap, subst, ◌∙◌, arith}
+use Rattle.std.proofs.Common.{◌≡◌, ◌≢◌, inl, inr, ℕ, ◌+◌, true, false, List, [], ◌∷◌, ◌++◌, Option, Some, None, Result, Ok, Err, IfOk, OnOk, refl, sym, ap, subst, ◌∙◌}
 use Rattle.world_model.specs.declared.events.Event.{Event}
 use Rattle.world_model.specs.declared.events.Effect.{Effect}
 use Rattle.world_model.specs.declared.events.StepFault.{StepFault}
@@ -16,16 +16,14 @@ use Rattle.line_streams.specs.Streams.{is_last, ends_no_line, KnownLeft, ReadsPi
 use Rattle.line_streams.proofs.LineFacts.{no_line_left}
 use Rattle.journal_audit.specs.declared.faults.AuditFault.{AuditFault}
 use Rattle.journal_audit.specs.declared.faults.AuditFault.TheVariants as fault
-use Rattle.journal_audit.specs.declared.verdicts.TheConstants.{MAX_LINES}
 use Rattle.journal_audit.specs.declared.verdicts.Verdict.{Verdict}
-use Rattle.journal_audit.specs.declared.verdicts.Verdict.TheVariants.{Sound}
-use Rattle.journal_audit.specs.Judging.{CutsShort, EndsIn, EndsLines}
+use Rattle.journal_audit.specs.Judging.{CutsShort, EndsLines}
 use Rattle.journal_audit.specs.Verdicts.{Finds, reaches, text_lines}
 use Rattle.journal_audit.proofs.LineFacts.{line_comes, never_long}
-use Rattle.run_picture.specs.declared.marks.Mark.{Mark}
 use Rattle.run_picture.specs.Pictures.{Drawn, Told, marks_of_step, after_step, marks_behind, drawn_behind, end_place}
 use Rattle.journal_picture.specs.declared.ending.Drawing.{Drawing}
 use Rattle.journal_picture.specs.Drawings.{found, StopsShort, EndsWith, DrawsHistory, DrawsJournal, all_marks, end_marks}
+use Rattle.journal_picture.specs.Strokes.{Stroke}
 use Rattle.journal_picture.specs.Histories.{with_more, told_of, line_told, step_told, history_behind, history_of, world_behind}
 use Rattle.journal_picture.proofs.TellFacts.{more_marks, no_marks}
 
@@ -52,21 +50,21 @@ ends_so w text v (Ok d) h e = subst (λ (x : Verdict). Finds w text (Ok x)) (sym
 ends_so w text v (Err e) h s = short w text e s
 
 -- What was drawn so far and what the rest has are what the whole history has.
-pub record Same (w v : ExactWorld) (hist rest : List Told) (first d : Drawn) (old new : Option (List Mark)) : Type 0 where
+pub record Same (w v : ExactWorld) (hist rest : List Told) (first d : Drawn) (old new : Option (List Stroke)) : Type 0 where
   pub marks : with_more (marks_behind d rest) new ≡ with_more (marks_behind first hist) old
   pub drawer : drawn_behind d rest ≡ drawn_behind first hist
   pub world : world_behind v rest ≡ world_behind w hist
 
-abbrev pub DrawnSoFar : ExactWorld → ExactWorld → Option (List ℕ) → Option (List ℕ) → ℕ → Drawn → Drawn → Option (List Mark) → Option (List Mark) → Type 0
+abbrev pub DrawnSoFar : ExactWorld → ExactWorld → Option (List ℕ) → Option (List ℕ) → ℕ → Drawn → Drawn → Option (List Stroke) → Option (List Stroke) → Type 0
 DrawnSoFar w v None left taken first d old new = Unit {0}
 DrawnSoFar w v (Some xs) left taken first d old new = KnownLeft left (λ ys. Same w v (history_of w (text_lines xs)) (history_behind taken v (text_lines ys)) first d old new)
 
-pub nothing_yet : (w : ExactWorld) (text : Option (List ℕ)) (d : Drawn) (old : Option (List Mark)) → DrawnSoFar w w text text 0 d d old old
+pub nothing_yet : (w : ExactWorld) (text : Option (List ℕ)) (d : Drawn) (old : Option (List Stroke)) → DrawnSoFar w w text text 0 d d old old
 nothing_yet w None d old = tt
 nothing_yet w (Some xs) d old = record { marks = refl; drawer = refl; world = refl }
 
 -- no rest
-all_drawn : (w v : ExactWorld) (hist rest : List Told) (first d : Drawn) (old new : Option (List Mark)) → Same w v hist rest first d old new → rest ≡ []
+all_drawn : (w v : ExactWorld) (hist rest : List Told) (first d : Drawn) (old new : Option (List Stroke)) → Same w v hist rest first d old new → rest ≡ []
     → (new ≡ with_more (marks_behind first hist) old) × (d ≡ drawn_behind first hist) × (v ≡ world_behind w hist)
 all_drawn w v hist rest first d old new h e = (
   no_marks new ∙ ap (λ (r : List Told). with_more (marks_behind d r) new) (sym e) ∙ h.marks,
@@ -75,7 +73,7 @@ all_drawn w v hist rest first d old new h e = (
 )
 
 -- a step more
-step_drawn : (w v u : ExactWorld) (hist rest more : List Told) (t : Told) (first d next : Drawn) (old new newer : Option (List Mark)) → Same w v hist rest first d old new → rest ≡ t ∷ more → newer ≡ with_more (marks_of_step d t) new → next ≡ after_step d t
+step_drawn : (w v u : ExactWorld) (hist rest more : List Told) (t : Told) (first d next : Drawn) (old new newer : Option (List Stroke)) → Same w v hist rest first d old new → rest ≡ t ∷ more → newer ≡ with_more (marks_of_step d t) new → next ≡ after_step d t
     → u ≡ after v t.event → Same w u hist more first next old newer
 step_drawn w v u hist rest more t first d next old new newer h e m a s = record {
   marks = ap (λ (x : Drawn). with_more (marks_behind x more) newer) a ∙ ap (with_more (marks_behind (after_step d t) more)) m
@@ -104,13 +102,13 @@ told_no_step v taken lines l more x f e k s =
     ap (history_behind taken v) e ∙ ap (λ (r : Result Event LineFault). line_told v (taken + 1) r (λ z. history_behind (taken + 1) z more)) k
     ∙ ap (λ (r : Steps). step_told (taken + 1) x r (λ z. history_behind (taken + 1) z more)) s
 
-pub drawn_over : (w v : ExactWorld) (text left next : Option (List ℕ)) (taken : ℕ) (piece : List ℕ) (end : End) (first d : Drawn) (old new : Option (List Mark)) (u : Verdict)
+pub drawn_over : (w v : ExactWorld) (text left next : Option (List ℕ)) (taken : ℕ) (piece : List ℕ) (end : End) (first d : Drawn) (old new : Option (List Stroke)) (u : Verdict)
     → DrawnSoFar w v text left taken first d old new → ReadsPiece MAX_LINE_LEN left next piece end → ends_no_line end piece ≡ true → DrawsHistory w first text old new v (Ok (d, u))
 drawn_over w v None left next taken piece end first d old new u h r j = tt
 drawn_over w v (Some xs) None next taken piece end first d old new u h r j = absurd h
 drawn_over w v (Some xs) (Some ys) next taken piece end first d old new u h r j = all_drawn _ _ _ _ first d old new h (ap (history_behind taken v) (no_line_left MAX_LINE_LEN ys next piece end r j))
 
-pub drawn_bad : (w v : ExactWorld) (text left next : Option (List ℕ)) (taken : ℕ) (piece : List ℕ) (end : End) (f : LineFault) (first d : Drawn) (old new : Option (List Mark)) (u : Verdict)
+pub drawn_bad : (w v : ExactWorld) (text left next : Option (List ℕ)) (taken : ℕ) (piece : List ℕ) (end : End) (f : LineFault) (first d : Drawn) (old new : Option (List Stroke)) (u : Verdict)
     → DrawnSoFar w v text left taken first d old new → ReadsPiece MAX_LINE_LEN left next piece end → ends_no_line end piece ≡ false → event_of piece ≡ Err f → DrawsHistory w first text old new v (Ok (d, u))
 drawn_bad w v None left next taken piece end f first d old new u h r j q = tt
 drawn_bad w v (Some xs) None next taken piece end f first d old new u h r j q = absurd h
@@ -123,7 +121,7 @@ refused_so : (e : Event) (s : Steps) (f : StepFault) → IsRefused e s f → f �
 refused_so e s f (inl h) n = h
 refused_so e s f (inr h) n = absurd (n h.0)
 
-pub drawn_refused : (w v z : ExactWorld) (text left next : Option (List ℕ)) (taken : ℕ) (piece : List ℕ) (end : End) (x : Event) (f : StepFault) (first d : Drawn) (old new : Option (List Mark)) (u : Verdict)
+pub drawn_refused : (w v z : ExactWorld) (text left next : Option (List ℕ)) (taken : ℕ) (piece : List ℕ) (end : End) (x : Event) (f : StepFault) (first d : Drawn) (old new : Option (List Stroke)) (u : Verdict)
     → DrawnSoFar w v text left taken first d old new → ReadsPiece MAX_LINE_LEN left next piece end → ends_no_line end piece ≡ false → event_of piece ≡ Ok x → Does x (step v x) v (Err f) z → f ≢ refusal.Memory → DrawsHistory w first text old new z (Ok (d, u))
 drawn_refused w v z None left next taken piece end x f first d old new u h r j q bars n = tt
 drawn_refused w v z (Some xs) None next taken piece end x f first d old new u h r j q bars n = absurd h
@@ -132,7 +130,7 @@ drawn_refused w v z (Some xs) (Some ys) next taken piece end x f first d old new
     let (marks, drawer, world) = all_drawn _ _ _ _ first d old new h (told_no_step v taken (text_lines ys) l more x f e k (refused_so x (step v x) f bars.0 n)) in
     (marks, drawer, bars.1 ∙ world)
 
-pub drawn_on : (w v u : ExactWorld) (text left next : Option (List ℕ)) (taken : ℕ) (piece : List ℕ) (end : End) (x : Event) (o : Effect) (first d after : Drawn) (old new newer : Option (List Mark))
+pub drawn_on : (w v u : ExactWorld) (text left next : Option (List ℕ)) (taken : ℕ) (piece : List ℕ) (end : End) (x : Event) (o : Effect) (first d after : Drawn) (old new newer : Option (List Stroke))
     → DrawnSoFar w v text left taken first d old new → ReadsPiece MAX_LINE_LEN left next piece end → ends_no_line end piece ≡ false → event_of piece ≡ Ok x → Does x (step v x) v (Ok o) u → is_last end ≡ false
     → newer ≡ with_more (marks_of_step d (told_of u (taken + 1) x o)) new → after ≡ after_step d (told_of u (taken + 1) x o) → DrawnSoFar w u text next (taken + 1) first after old newer
 drawn_on w v u None left next taken piece end x o first d after old new newer h r j said s z m a = tt
@@ -145,7 +143,7 @@ drawn_on w v u (Some xs) (Some ys) (Some zs) taken piece LineFeed x o first d af
 drawn_on w v u (Some xs) (Some ys) next taken piece Input x o first d after old new newer h r j said s z m a = let clash : true ≡ false = z in absurd (cc)
 drawn_on w v u (Some xs) (Some ys) next taken piece Limit x o first d after old new newer h r j said s z m a = absurd (never_long ys next piece x r said)
 
-pub drawn_last : (w v u : ExactWorld) (text left next : Option (List ℕ)) (taken : ℕ) (piece : List ℕ) (end : End) (x : Event) (o : Effect) (first d after : Drawn) (old new newer : Option (List Mark)) (q : Verdict)
+pub drawn_last : (w v u : ExactWorld) (text left next : Option (List ℕ)) (taken : ℕ) (piece : List ℕ) (end : End) (x : Event) (o : Effect) (first d after : Drawn) (old new newer : Option (List Stroke)) (q : Verdict)
     → DrawnSoFar w v text left taken first d old new → ReadsPiece MAX_LINE_LEN left next piece end → ends_no_line end piece ≡ false → event_of piece ≡ Ok x → Does x (step v x) v (Ok o) u → is_last end ≡ true
     → newer ≡ with_more (marks_of_step d (told_of u (taken + 1) x o)) new → after ≡ after_step d (told_of u (taken + 1) x o) → DrawsHistory w first text old newer u (Ok (after, q))
 drawn_last w v u None left next taken piece end x o first d after old new newer q h r j said s z m a = tt
@@ -158,18 +156,18 @@ drawn_last w v u (Some xs) (Some ys) next taken piece Input x o first d after ol
     (step_drawn _ _ _ _ _ (history_behind (taken + 1) u more) (told_of u (taken + 1) x o) first d after old new newer h (told_next v u taken (text_lines ys) l more x o e k s) m a (taken_to v u x o s))
     (ap (history_behind (taken + 1) u) b)
 
-pub drawn_most : (w v : ExactWorld) (text left : Option (List ℕ)) (taken : ℕ) (first d : Drawn) (old new : Option (List Mark)) (u : Verdict)
+pub drawn_most : (w v : ExactWorld) (text left : Option (List ℕ)) (taken : ℕ) (first d : Drawn) (old new : Option (List Stroke)) (u : Verdict)
     → DrawnSoFar w v text left taken first d old new → EndsLines left (Ok u) → DrawsHistory w first text old new v (Ok (d, u))
 drawn_most w v None left taken first d old new u h r = tt
 drawn_most w v (Some xs) None taken first d old new u h r = absurd h
 drawn_most w v (Some xs) (Some ys) taken first d old new u h r = all_drawn _ _ _ _ first d old new h (ap (history_behind taken v) r.1)
 
-pub drawn_short : (w v : ExactWorld) (text : Option (List ℕ)) (first : Drawn) (old new : Option (List Mark)) (e : AuditFault) → DrawsHistory w first text old new v (Err e)
+pub drawn_short : (w v : ExactWorld) (text : Option (List ℕ)) (first : Drawn) (old new : Option (List Stroke)) (e : AuditFault) → DrawsHistory w first text old new v (Err e)
 drawn_short w v None first old new e = tt
 drawn_short w v (Some xs) first old new e = tt
 
 -- the marks of the end behind those of the history
-pub journal_drawn : (w v : ExactWorld) (text : Option (List ℕ)) (first d : Drawn) (old new newer : Option (List Mark)) (u : Verdict) (r : Result Drawing AuditFault) → DrawsHistory w first text old new v (Ok (d, u)) → EndsWith u r
+pub journal_drawn : (w v : ExactWorld) (text : Option (List ℕ)) (first d : Drawn) (old new newer : Option (List Stroke)) (u : Verdict) (r : Result Drawing AuditFault) → DrawsHistory w first text old new v (Ok (d, u)) → EndsWith u r
     → OnOk r (newer ≡ with_more (end_marks d v.sent u) new) → IfOk r (λ x. x.end ≡ end_place d (reaches u)) → DrawsJournal w first text old newer r
 journal_drawn w v None first d old new newer u r h e m p = tt
 journal_drawn w v (Some xs) first d old new newer u (Err f) h e m p = tt
@@ -182,6 +180,6 @@ journal_drawn w v (Some xs) first d old new newer u (Ok x) h e m p =
       p ∙ ap (λ (z : Drawn). end_place z (reaches u)) h.1 ∙ ap (λ (q : Verdict). end_place (drawn_behind first history) (reaches q)) (sym e),
     )
 
-pub journal_short : (w : ExactWorld) (text : Option (List ℕ)) (first : Drawn) (old new : Option (List Mark)) (e : AuditFault) → DrawsJournal w first text old new (Err e)
+pub journal_short : (w : ExactWorld) (text : Option (List ℕ)) (first : Drawn) (old new : Option (List Stroke)) (e : AuditFault) → DrawsJournal w first text old new (Err e)
 journal_short w None first old new e = tt
 journal_short w (Some xs) first old new e = tt

@@ -1,8 +1,8 @@
 -- What is told of the world.
-use Rattle.std.proofs.Common.{◌≡◌, ◌⊎◌, ℕ, zero, suc, ◌+◌, ◌-◌, ◌==◌, ◌<◌, ◌≤◌, Bool, true, false, List, [], ◌∷◌, ◌++◌, length, take, get_or, slice_get, Option, Some, None, Result, Ok, Err, OnOk, inl, inr, refl, sym, ap, subst, ◌∙◌, arith, append_assoc}
+use Rattle.std.proofs.Common.{◌≡◌, ◌⊎◌, ℕ, zero, suc, ◌+◌, ◌-◌, ◌==◌, ◌<◌, ◌≤◌, Bool, true, false, List, [], ◌∷◌, ◌++◌, length, slice_get, map, Option, Some, None, Result, Ok, Err, OnOk, inl, inr, refl, sym, ap, subst, ◌∙◌, arith, append_assoc}
 use Rattle.std.specs.List.{flat_map, range_with_len, All}
-use Rattle.std.specs.Option.{option_map, option_to_list}
-use Rattle.std.proofs.lemmas.List.{append-nil}
+use Rattle.std.specs.Option.{option_map}
+use Rattle.std.proofs.lemmas.List.{append-nil, map-append}
 use Rattle.std.proofs.lemmas.Option.{slice_get_within, get_or_from_slice_get}
 use Rattle.lock_messages.specs.declared.ids.Actor.TheVariants as actor
 use Rattle.stable_record.specs.declared.faults.RecordFault.{RecordFault}
@@ -20,6 +20,7 @@ use Rattle.world_machine.specs.Listing.{kept_bytes, station_bytes}
 use Rattle.run_picture.specs.declared.marks.Lasting.{Lasting}
 use Rattle.run_picture.specs.declared.marks.Mark.{Mark}
 use Rattle.journal_picture.specs.Histories.{votes_in, votes_at, SaidFits, with_more}
+use Rattle.journal_picture.specs.Strokes.{Stroke, Marked}
 
 range_more : {A : Type 0} (f : ℕ → List A) (a n : ℕ) → flat_map f (range_with_len a (suc n)) ≡ flat_map f (range_with_len a n) ++ f (a + n)
 range_more f a zero = let e : a ≡ a + 0 = omega arith in append-nil (f a) ∙ ap f e
@@ -91,18 +92,18 @@ fits w effect.Up h = tt
 fits w (effect.Switched changed) h = tt
 
 -- marks behind marks
-pub more_marks : (xs ys : List Mark) (drawn : Option (List Mark)) → with_more ys (with_more xs drawn) ≡ with_more (xs ++ ys) drawn
+pub more_marks : (xs ys : List Mark) (drawn : Option (List Stroke)) → with_more ys (with_more xs drawn) ≡ with_more (xs ++ ys) drawn
 more_marks xs ys None = refl
-more_marks xs ys (Some zs) = ap Some (append_assoc zs xs ys)
+more_marks xs ys (Some zs) = ap Some (append_assoc zs (map Marked xs) (map Marked ys) ∙ ap (λ (ss : List Stroke). zs ++ ss) (sym (map-append Marked xs ys)))
 
-pub no_marks : (drawn : Option (List Mark)) → drawn ≡ with_more [] drawn
+pub no_marks : (drawn : Option (List Stroke)) → drawn ≡ with_more [] drawn
 no_marks None = refl
 no_marks (Some zs) = ap Some (sym (append-nil zs))
 
 -- Messages that were lost.
 
 -- the marks of one number more
-pub lost_more : (f : ℕ → List Mark) (before : ℕ) (old now new : Option (List Mark)) (marks : List Mark) → now ≡ with_more (flat_map f (range_with_len 1 before)) old → new ≡ with_more marks now → marks ≡ f (before + 1)
+pub lost_more : (f : ℕ → List Mark) (before : ℕ) (old now new : Option (List Stroke)) (marks : List Mark) → now ≡ with_more (flat_map f (range_with_len 1 before)) old → new ≡ with_more marks now → marks ≡ f (before + 1)
     → new ≡ with_more (flat_map f (range_with_len 1 (before + 1))) old
 lost_more f before old now new marks h g e =
     let at : 1 + before ≡ before + 1 = omega arith in

@@ -19,6 +19,7 @@ use Rattle.run_picture.specs.declared.marks.Sign.TheVariants as sign
 use Rattle.run_picture.specs.Pictures.{Told, Drawn, mark_of, marks_behind, drawn_behind, end_place, open_marks, lost_mark}
 use Rattle.journal_picture.specs.declared.ending.Drawing.{Drawing}
 use Rattle.journal_picture.specs.Histories.{with_more, history_of, world_behind}
+use Rattle.journal_picture.specs.Strokes.{Stroke}
 
 -- what was found, as an audit tells it
 abbrev pub found : Result Drawing AuditFault → Result Verdict AuditFault
@@ -68,7 +69,7 @@ end_marks d sent v = open_marks d (reaches v) ++ (lost_marks d sent ++ stop_mark
 -- The marks of the history that the lines tell were drawn, all of them and in order, the drawer is the one
 -- behind it, and the world the one to which it leads; so where the text is known, and the picture was not cut
 -- short.
-abbrev pub DrawsHistory : ExactWorld → Drawn → Option (List ℕ) → Option (List Mark) → Option (List Mark) → ExactWorld → Result (Drawn × Verdict) AuditFault → Type 0
+abbrev pub DrawsHistory : ExactWorld → Drawn → Option (List ℕ) → Option (List Stroke) → Option (List Stroke) → ExactWorld → Result (Drawn × Verdict) AuditFault → Type 0
 DrawsHistory w d None old new v r = Unit {0}
 DrawsHistory w d (Some text) old new v (Err e) = Unit {0}
 DrawsHistory w d (Some text) old new v (Ok r) =
@@ -81,7 +82,7 @@ all_marks w d history v = marks_behind d history ++ end_marks (drawn_behind d hi
 
 -- All marks of the picture of what the lines tell were drawn, in order, and it ends where the history does; so
 -- where the text is known, and the picture was not cut short.
-abbrev pub DrawsJournal : ExactWorld → Drawn → Option (List ℕ) → Option (List Mark) → Option (List Mark) → Result Drawing AuditFault → Type 0
+abbrev pub DrawsJournal : ExactWorld → Drawn → Option (List ℕ) → Option (List Stroke) → Option (List Stroke) → Result Drawing AuditFault → Type 0
 DrawsJournal w d None old new r = Unit {0}
 DrawsJournal w d (Some text) old new (Err e) = Unit {0}
 DrawsJournal w d (Some text) old new (Ok r) =

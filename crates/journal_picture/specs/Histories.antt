@@ -1,5 +1,5 @@
 -- What a drawer is told of a step of the world.
-use Rattle.std.specs.Prelude.{◌≡◌, ℕ, ◌+◌, ◌<◌, ◌≤◌, List, [], ◌∷◌, ◌++◌, map, Option, Some, None, Result, Ok, Err}
+use Rattle.std.specs.Prelude.{ℕ, ◌+◌, ◌<◌, ◌≤◌, List, [], ◌∷◌, map, Option, Some, None, Result, Ok, Err}
 use Rattle.std.specs.List.{flat_map, range_with_len}
 use Rattle.std.specs.Option.{option_to_list}
 use Rattle.lock_messages.specs.declared.ids.Actor.{Actor}
@@ -23,11 +23,11 @@ use Rattle.run_picture.specs.declared.marks.Lasting.{Lasting}
 use Rattle.run_picture.specs.declared.marks.Lasting.TheVariants as lasting
 use Rattle.run_picture.specs.declared.marks.Mark.{Mark}
 use Rattle.run_picture.specs.Pictures.{Told}
+use Rattle.journal_picture.specs.Strokes.{Stroke, Marked, with_strokes}
 
--- what was drawn, where it is known, and these marks behind it
-abbrev pub with_more : List Mark → Option (List Mark) → Option (List Mark)
-with_more marks None = None
-with_more marks (Some drawn) = Some (drawn ++ marks)
+-- what was done on a canvas, where it is known, and these marks behind it
+abbrev pub with_more : List Mark → Option (List Stroke) → Option (List Stroke)
+with_more marks drawn = with_strokes (map Marked marks) drawn
 
 -- the messages of so many numbers, from the first one on
 abbrev pub said_from : List Message → ℕ → ℕ → List Message

@@ -1,2 +1,3 @@
+pub mod Strokes
 pub mod Histories
 pub mod Drawings

@@ -1,13 +1,13 @@
-// Where marks go.
+// Where pictures go.
 
 ghost use Rattle.std.specs.Prelude.{◌≡◌, [], ◌∷◌, List, Option, OnOk};
-ghost use Rattle.run_picture.specs.declared.marks.Mark.{Mark as MarkValue};
 ghost use Rattle.journal_picture.specs.Histories.{with_more};
+ghost use Rattle.journal_picture.specs.Strokes.{Stroke, Begun, Ended, with_strokes};
 
-use run_picture::Mark;
+use run_picture::{Mark, Part, Place};
 use thiserror::Error;
 
-/// Why a mark wasn't drawn.
+/// Why something wasn't drawn.
 #[derive(Clone, Copy, Debug, PartialEq, Eq, Hash, Error)]
 pub enum CanvasFault {
     /// What it is drawn on failed.
@@ -18,12 +18,22 @@ pub enum CanvasFault {
     Memory,
 }
 
-/// Where marks go, one after another.
+/// Where pictures go: each is begun, gets its marks one after another, and is ended.
+///
+/// After a fault nothing is drawn any more.
 pub trait Canvas {
-    /// The marks that were drawn on it, in order, where it knows them.
-    ghost drawn: { Self → Option (List MarkValue) };
+    /// What was done on it, in order, where it knows it.
+    ghost drawn: { Self → Option (List Stroke) };
 
-    /// Draws a mark behind the others. After a fault no mark is drawn any more.
+    /// Begins the picture of a part, with a column for each of so many nodes and of so many clients.
+    fn begin(&mut self, nodes: u8, clients: u16, part: &Part) -> Result<(), CanvasFault>
+        ensures { OnOk result (drawn self.new ≡ with_strokes (Begun nodes clients part.now ∷ []) (drawn self.old)) };
+
+    /// Draws a mark behind the others.
     fn draw(&mut self, mark: &Mark) -> Result<(), CanvasFault>
         ensures { OnOk result (drawn self.new ≡ with_more (mark.now ∷ []) (drawn self.old)) };
+
+    /// Ends the picture at this place.
+    fn end(&mut self, at: &Place) -> Result<(), CanvasFault>
+        ensures { OnOk result (drawn self.new ≡ with_strokes (Ended at.now ∷ []) (drawn self.old)) };
 }

@@ -2,7 +2,8 @@
 //!
 //! `draw_lines` reads a journal line by line, as an audit does, and ends where an audit would: at the end, or at
 //! the first line that is no event or that the world refuses. Each step is told to a `Drawer`, and each
-//! mark goes onto a `Canvas`, one after another. It keeps the world, one line, and what a `Drawer` keeps.
+//! mark goes onto a `Canvas`, one after another. It keeps the world, one line, and what a `Drawer` keeps. Whoever
+//! calls it begins the picture on the canvas before, and ends it behind, where `draw_lines` says.
 //!
 //! The crate promises that the verdict is the one that an audit of the same lines has to find, and which marks
 //! are drawn, all of them and in order: those of the history that the lines tell, and behind it those of its

@@ -1,5 +1,8 @@
 -- What is found of an input, and what is told of it.
-use Rattle.std.proofs.Common.{◌≡◌, ◌⊎◌, inl, inr, ℕ, List, Option, Some, None, Result, Ok, Err, refl, sym, ap, subst, ◌∙◌}
+use Rattle.std.proofs.Common.{◌≡◌, ◌⊎◌, inl, inr, ℕ, ◌+◌, List, [], ◌∷◌, ◌++◌, map, Option, Some, None, Result, Ok, Err, refl, sym, ap, subst, ◌∙◌, append_assoc, arith}
+use Rattle.std.specs.List.{range_with_len}
+use Rattle.std.proofs.lemmas.List.FromFn.{map-range_with_len_more}
+use Rattle.lock_model.specs.Ballots.{node_count}
 use Rattle.world_model.specs.declared.exact.ExactWorld.{ExactWorld}
 use Rattle.history_check.specs.Laws.{EventsAreSpelledOnce}
 use Rattle.line_streams.specs.Streams.{pieces, lines_in}
@@ -7,7 +10,7 @@ use Rattle.journal_audit.specs.declared.faults.AuditFault.{AuditFault}
 use Rattle.journal_audit.specs.declared.faults.AuditFault.TheVariants as audit
 use Rattle.journal_audit.specs.declared.verdicts.Verdict.{Verdict}
 use Rattle.journal_audit.specs.declared.verdicts.Verdict.TheVariants.{Sound, Unsound}
-use Rattle.journal_audit.specs.Verdicts.{text_lines}
+use Rattle.journal_audit.specs.Verdicts.{text_lines, reaches}
 use Rattle.journal_audit.specs.Audits.{found_in, IsFound}
 use Rattle.journal_audit.proofs.AuditFacts.{verdict_found, length_found}
 use Rattle.operator_cli.specs.declared.faults.ServeFault.{ServeFault}
@@ -21,9 +24,18 @@ use Rattle.operator_cli.specs.Outputs.{opened, output_of, command_output, verdic
 use Rattle.operator_cli.specs.PartOutputs.{Starts}
 use Rattle.operator_cli.specs.Settings.{Given, Refuses, given}
 use Rattle.operator_cli.proofs.ServeFacts.{is_verdict}
+use Rattle.run_picture.specs.declared.marks.Lasting.{Lasting}
+use Rattle.run_picture.specs.declared.marks.Part.{Part}
+use Rattle.run_picture.specs.declared.marks.Place.{Place}
+use Rattle.run_picture.specs.Pictures.{drawn_behind, end_place, opened as opened_drawer}
+use Rattle.journal_picture.specs.declared.ending.Drawing.{Drawing}
+use Rattle.journal_picture.specs.Drawings.{DrawsJournal, all_marks}
+use Rattle.journal_picture.specs.Histories.{history_of}
+use Rattle.journal_picture.specs.Strokes.{Stroke, with_strokes}
+use Rattle.journal_picture.specs.Strokes as stroke
 use Rattle.picture_cli.specs.declared.serving.Shown.{Shown}
 use Rattle.picture_cli.specs.declared.serving.Shown.TheVariants as shown
-use Rattle.picture_cli.specs.Drawing.{IsFoundBehind, ShowsOpened, ShowsInput, FindsBehind, TellsAsAnAudit, told_verdict, told_shown, unless_sound}
+use Rattle.picture_cli.specs.Drawing.{IsFoundBehind, ShowsOpened, ShowsInput, FindsBehind, DrawsBehind, DrawsOpened, DrawsPart, TellsAsAnAudit, down_at_first, picture_behind, told_verdict, told_shown, unless_sound}
 
 -- the world is that of the settings
 behind_so : (s : Start) (ys : List ℕ) (w : ExactWorld) (opening : Result (Given × List (List ℕ)) SettingsFault) (r : Result Verdict AuditFault) → opening ≡ Ok (given s, lines_in (pieces ys)) → w ≡ all_down s.settings → IsFound w (Some ys) r → IsFoundBehind opening r
@@ -45,6 +57,44 @@ fault_shown spelled s w (Some xs) (Some ys) (serving.Audit audit.Read) h e k = t
 fault_shown spelled s w (Some xs) (Some ys) (serving.Audit audit.Write) h e k = tt
 fault_shown spelled s w (Some xs) (Some ys) (serving.Audit audit.Memory) h e k = tt
 fault_shown spelled s w (Some xs) (Some ys) (serving.Audit audit.TooManyLines) h e k = behind_so s ys w (opened command.Audit xs) (Err audit.TooManyLines) h e (length_found spelled w (Some ys) k)
+
+-- What is drawn.
+
+-- one actor more is down
+pub down_more : (f : ℕ → Lasting) (before number : ℕ) (first now new : List Lasting) → now ≡ first ++ map f (range_with_len 1 before) → number ≡ before + 1 → new ≡ now ++ f number ∷ []
+    → new ≡ first ++ map f (range_with_len 1 (before + 1))
+down_more f before number first now new h e g =
+    let at : 1 + before ≡ number = omega (arith, e) in
+    g ∙ ap (λ (xs : List Lasting). xs ++ f number ∷ []) h ∙ append_assoc first (map f (range_with_len 1 before)) (f number ∷ [])
+    ∙ ap (λ (xs : List Lasting). first ++ xs) (sym (map-range_with_len_more f 1 before number at))
+
+strokes_more : (xs ys : List Stroke) (o : Option (List Stroke)) → with_strokes ys (with_strokes xs o) ≡ with_strokes (xs ++ ys) o
+strokes_more xs ys None = refl
+strokes_more xs ys (Some zs) = ap Some (append_assoc zs xs ys)
+
+-- a beginning, marks and an end are a picture
+pub picture_drawn : (w : ExactWorld) (nodes clients : ℕ) (p : Part) (first what : List Lasting) (text : Option (List ℕ)) (old begun marked ended : Option (List Stroke)) (d : Drawing)
+    → first ≡ down_at_first nodes clients → what ≡ first → begun ≡ with_strokes (stroke.Begun nodes clients p ∷ []) old → DrawsJournal w (opened_drawer p what) text begun marked (Ok d)
+    → ended ≡ with_strokes (stroke.Ended d.end ∷ []) marked → DrawsBehind w nodes clients p text old ended (Ok d.verdict)
+picture_drawn w nodes clients p first what None old begun marked ended d down same b m e = tt
+picture_drawn w nodes clients p first what (Some xs) old begun marked ended d down same b m e =
+    let all : DrawsJournal w (opened_drawer p (down_at_first nodes clients)) (Some xs) begun marked (Ok d) =
+    subst (λ (ls : List Lasting). DrawsJournal w (opened_drawer p ls) (Some xs) begun marked (Ok d)) (same ∙ down) m in
+    let drawer = opened_drawer p (down_at_first nodes clients) in
+    let history = history_of w (text_lines xs) in
+    let marks : List Stroke = map stroke.Marked (all_marks w drawer history d.verdict) in
+    let end : List Stroke = stroke.Ended (end_place (drawn_behind drawer history) (reaches d.verdict)) ∷ [] in
+    e ∙ ap (λ (at : Place). with_strokes (stroke.Ended at ∷ []) marked) all.1 ∙ ap (with_strokes end) (all.0 ∙ ap (with_strokes marks) b)
+    ∙ strokes_more marks end (with_strokes (stroke.Begun nodes clients p ∷ []) old) ∙ strokes_more (stroke.Begun nodes clients p ∷ []) (marks ++ end) old
+
+-- the picture is that of the input
+pub picture_shown : (s : Start) (w : ExactWorld) (input left : Option (List ℕ)) (p : Part) (old new : Option (List Stroke)) (v : Verdict) → Starts command.Audit input left (Ok s) → w ≡ all_down s.settings
+    → DrawsBehind w (node_count s.settings.ballots) s.settings.clients p left old new (Ok v) → DrawsPart input p old new (Ok (shown.Drawn v))
+picture_shown s w None left p old new v h e d = tt
+picture_shown s w (Some xs) None p old new v h e d = absurd h
+picture_shown s w (Some xs) (Some ys) p old new v h e d =
+    subst (λ (o : Result (Given × List (List ℕ)) SettingsFault). DrawsOpened o p old new v) (sym h)
+    (d ∙ ap (λ (u : ExactWorld). with_strokes (picture_behind u (node_count s.settings.ballots) s.settings.clients p (text_lines ys) v) old) e)
 
 -- What is told is what an audit prints.
 

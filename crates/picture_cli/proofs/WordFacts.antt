@@ -18,7 +18,7 @@ use Rattle.program_ends.specs.Wordings.{IsUnserved}
 use Rattle.picture_cli.specs.declared.reading.Undrawn.{Undrawn}
 use Rattle.picture_cli.specs.declared.reading.Undrawn.TheVariants as undrawn
 use Rattle.picture_cli.specs.Words.{app, rows_in, IsLine, line_number, TellsLine, TellsName, NamesPart, NamesNone, TellsPart, ReadsPart, last_number}
-use Rattle.picture_cli.specs.Drawing.{DrawsInput, RunsBy}
+use Rattle.picture_cli.specs.Drawing.{Page, DrawsInput, RunsBy}
 
 is_simple_app : is_simple_and_free app ≡ true
 unfolding clap_on_literals
@@ -103,14 +103,14 @@ read_same kinds rows u v h e = subst (λ (x : Undrawn). ReadsPart kinds rows (Er
 
 -- what a run comes to
 
-pub runs_lacking : (input : Option (List ℕ)) (kinds : Kinds) (rows : List Row) (w : Writers) (e : Ended) → LacksMemory w e → RunsBy input kinds rows w e
-runs_lacking input kinds rows w e h = inr (inl h)
+pub runs_lacking : (input : Option (List ℕ)) (kinds : Kinds) (rows : List Row) (page : Page) (w : Writers) (e : Ended) → LacksMemory w e → RunsBy input kinds rows page w e
+runs_lacking input kinds rows page w e h = inr (inl h)
 
-pub runs_part : (input : Option (List ℕ)) (kinds : Kinds) (rows : List Row) (w : Writers) (e : Ended) (p : Part) → kinds ≡ [] → NamesPart rows p → DrawsInput input w e → RunsBy input kinds rows w e
-runs_part input kinds rows w e p n m h = inl (n, inl (p, m, h))
+pub runs_part : (input : Option (List ℕ)) (kinds : Kinds) (rows : List Row) (page : Page) (w : Writers) (e : Ended) (p : Part) → kinds ≡ [] → NamesPart rows p → DrawsInput input p page w e → RunsBy input kinds rows page w e
+runs_part input kinds rows page w e p n m h = inl (n, inl (p, m, h))
 
-pub runs_value : (input : Option (List ℕ)) (kinds : Kinds) (rows : List Row) (w : Writers) (e : Ended) → kinds ≡ [] → NamesNone rows → RefusesWords w e → RunsBy input kinds rows w e
-runs_value input kinds rows w e n m h = inl (n, inr (m, h))
+pub runs_value : (input : Option (List ℕ)) (kinds : Kinds) (rows : List Row) (page : Page) (w : Writers) (e : Ended) → kinds ≡ [] → NamesNone rows → page.new ≡ page.old → RefusesWords w e → RunsBy input kinds rows page w e
+runs_value input kinds rows page w e n m k h = inl (n, inr (m, k, h))
 
-pub runs_unserved : (input : Option (List ℕ)) (kinds : Kinds) (rows : List Row) (w : Writers) (e : Ended) (u : Unserved) → IsUnserved kinds u → ((ks : Kinds) → IsUnserved ks u → EndsUnserved ks w e) → RunsBy input kinds rows w e
-runs_unserved input kinds rows w e u h f = inr (f kinds h)
+pub runs_unserved : (input : Option (List ℕ)) (kinds : Kinds) (rows : List Row) (page : Page) (w : Writers) (e : Ended) (u : Unserved) → IsUnserved kinds u → ((ks : Kinds) → IsUnserved ks u → EndsUnserved ks w e) → RunsBy input kinds rows page w e
+runs_unserved input kinds rows page w e u h f = inr (f kinds h)

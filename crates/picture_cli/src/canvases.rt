@@ -5,9 +5,14 @@ use line_streams::Gathered;
 use picture_svg::{Frame, push_end, push_head, push_mark};
 use run_picture::{Mark, Part, Place};
 use std::alloc::Global;
+use std::io;
 use std::io::Write;
 
-/// A canvas that writes each mark as SVG, and gathers what it writes.
+/// A canvas that writes what is drawn on it as SVG, and gathers what it writes. It lets out what is gathered
+/// where a picture ends.
+///
+/// It is a writer too, for a text that goes where the picture would: that is written at once, in front of what
+/// is still gathered.
 #[derive(Drop)]
 pub struct SvgCanvas<'a, W> {
     alloc: Global,
@@ -18,10 +23,13 @@ pub struct SvgCanvas<'a, W> {
 
 impl<'a, W: Write> SvgCanvas<'a, W> {
     /// Nothing is drawn yet.
-    pub fn new(alloc: Global, frame: Frame, writer: &'a mut W) -> SvgCanvas<'a, W> {
+    pub fn new(alloc: Global, writer: &'a mut W) -> SvgCanvas<'a, W> {
         SvgCanvas {
             alloc,
-            frame,
+            frame: Frame {
+                nodes: 0,
+                clients: 0,
+            },
             gathered: Gathered::new(),
             writer,
         }
@@ -34,9 +42,16 @@ impl<'a, W: Write> SvgCanvas<'a, W> {
             Err(_) => Err(CanvasFault::Write),
         }
     }
+}
 
-    /// Begins a picture of this part.
-    pub fn begin(&mut self, part: &Part) -> Result<(), CanvasFault> {
+impl<W: Write> Canvas for SvgCanvas<'_, W> {
+    ghost use Rattle.std.specs.Prelude.{None};
+
+    // It forgets what was drawn: how that is spelled is tested, and no contract says it.
+    ghost drawn = { λ _. None };
+
+    fn begin(&mut self, nodes: u8, clients: u16, part: &Part) -> Result<(), CanvasFault> {
+        self.frame = Frame { nodes, clients };
         let mut text = String::new(self.alloc);
         if push_head(self.alloc, &mut text, &self.frame, part).is_err() {
             return Err(CanvasFault::Memory);
@@ -44,10 +59,17 @@ impl<'a, W: Write> SvgCanvas<'a, W> {
         self.put(&text)
     }
 
-    /// Ends the picture here, and lets out what is gathered.
-    pub fn end(&mut self, end: &Place) -> Result<(), CanvasFault> {
+    fn draw(&mut self, mark: &Mark) -> Result<(), CanvasFault> {
         let mut text = String::new(self.alloc);
-        if push_end(&mut text, end).is_err() {
+        if push_mark(self.alloc, &mut text, &self.frame, mark).is_err() {
+            return Err(CanvasFault::Memory);
+        }
+        self.put(&text)
+    }
+
+    fn end(&mut self, at: &Place) -> Result<(), CanvasFault> {
+        let mut text = String::new(self.alloc);
+        if push_end(&mut text, at).is_err() {
             return Err(CanvasFault::Memory);
         }
         self.put(&text)?;
@@ -58,17 +80,14 @@ impl<'a, W: Write> SvgCanvas<'a, W> {
     }
 }
 
-impl<W: Write> Canvas for SvgCanvas<'_, W> {
-    ghost use Rattle.std.specs.Prelude.{None};
+impl<W: Write> Write for SvgCanvas<'_, W> {
+    ghost contents = { λ c. W.contents c.writer.now };
 
-    // It forgets what it has drawn.
-    ghost drawn = { λ _. None };
+    fn write(&mut self, bytes: &[u8]) -> io::Result<usize> {
+        Write::write(&mut *self.writer, bytes)
+    }
 
-    fn draw(&mut self, mark: &Mark) -> Result<(), CanvasFault> {
-        let mut text = String::new(self.alloc);
-        if push_mark(self.alloc, &mut text, &self.frame, mark).is_err() {
-            return Err(CanvasFault::Memory);
-        }
-        self.put(&text)
+    fn flush(&mut self) -> io::Result<()> {
+        Write::flush(&mut *self.writer)
     }
 }

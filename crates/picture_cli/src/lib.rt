@@ -1,17 +1,19 @@
-//! The drawing program's edge: from its words to the picture that is written and the status that it ends with.
+//! The drawing program's edge: from its words to the picture that is drawn and the status that it ends with.
 //!
 //! `run` reads the words by `clap`, and the settings in front of a journal as `rwvote audit` does; then it draws
-//! the journal's lines as SVG, one after another. The picture goes to the first writer, and nothing else does;
-//! what else there is to say goes to the second, in the words of `rwvote`.
+//! the journal's lines, one after another. The picture goes onto a page, which is a canvas and a writer, and nothing
+//! else does but help and the version; what else there is to say goes to a second writer, in the words of
+//! `rwvote`. `SvgCanvas` is the page that writes SVG.
 //!
 //! The crate promises the status and what is said, by the contract of `run`: those of an audit of the same
-//! input, but that a sound journal needs no word (`laws`). Refused settings write nothing to the first writer. Which
-//! words are right, and which part of a journal they name, is what `clap` finds in them. `Drawing` and `Words`
-//! in `specs/` say so. Of the picture itself no contract speaks.
+//! input, but that a sound journal needs no word (`laws`). Which words are right, and which part of a journal they
+//! name, is what `clap` finds in them; and what is drawn is the picture of that part, begun, with all marks that
+//! `journal_picture` has of it and no others, and ended. Refused settings leave the page as it is. `Drawing` and
+//! `Words` in `specs/` say so, for every page: how `SvgCanvas` spells what is drawn on it is tested.
 //!
 //! It stands on `operator_cli` for settings and the world that they open, `program_ends` for what is said of
 //! faults and of words, `journal_picture`, `picture_svg`, `run_picture`, `journal_audit`, `history_check`,
-//! `line_streams`, `world_machine`, `world_model`, `vote_weights`, `lock_messages` and `clap`.
+//! `line_streams`, `world_machine`, `world_model`, `vote_weights`, `lock_model`, `lock_messages` and `clap`.
 #![tactic(auto)]
 
 mod canvases;

@@ -1,14 +1,18 @@
-// Journals behind their settings, drawn as SVG: what is found, and how much is written.
+// Journals behind their settings, drawn as SVG and listed: what is found, and how much is written.
 
 use crate::failing::{Breaks, Full};
+use crate::listing::Listing;
 use crate::playing::{WHOLE, pair};
 use history_check::LineFault;
 use journal_audit::{AuditFault, Cause, Verdict};
+use journal_picture::Canvas;
 use lock_messages::MAX_NODES;
 use operator_cli::{Policies, ServeFault, SettingsFault};
-use picture_cli::{Shown, draw_journal};
+use picture_cli::{Shown, SvgCanvas, draw_journal};
+use run_picture::Part;
 use std::alloc::Global;
 use std::io::{Read, Write};
+use std::str;
 use test_outcomes::{Failure, Outcome, check_row};
 use world_model::StepFault;
 
@@ -22,8 +26,13 @@ fn policies(alloc: Global) -> Result<Policies, Failure> {
     Ok(Policies { pairs })
 }
 
-/// What comes of drawing what a reader gives.
-fn draw<R: Read, W: Write>(alloc: Global, reader: R, out: &mut W) -> Result<Shown, Failure>
+/// What comes of drawing a part of what a reader gives on a canvas.
+fn draw_on<R: Read, C: Canvas>(
+    alloc: Global,
+    part: Part,
+    reader: R,
+    canvas: &mut C,
+) -> Result<Shown, Failure>
 where
     R: Drop,
 {
@@ -31,7 +40,7 @@ where
     if policies.pairs.len() != MAX_NODES as usize {
         return Err(Failure::Wrong(0));
     }
-    match draw_journal(alloc, policies, WHOLE, reader, out) {
+    match draw_journal(alloc, policies, part, reader, canvas) {
         Ok(Shown::Refused(SettingsFault::Memory)) => Err(Failure::Memory),
         Ok(shown) => Ok(shown),
         Err(ServeFault::Memory | ServeFault::Audit(AuditFault::Memory)) => Err(Failure::Memory),
@@ -39,6 +48,14 @@ where
         Err(ServeFault::Write) => Err(Failure::NoAnswer(932)),
         Err(ServeFault::Audit(fault)) => Err(Failure::NoAnswer(usize::from(fault.number()))),
     }
+}
+
+/// The same of all of it, as SVG.
+fn draw<R: Read, W: Write>(alloc: Global, reader: R, out: &mut W) -> Result<Shown, Failure>
+where
+    R: Drop,
+{
+    draw_on(alloc, WHOLE, reader, &mut SvgCanvas::new(alloc, out))
 }
 
 const HEAD: &str = "votes = [1]\nread = 1\nwrite = 1\nproblem = 1\nclients = 2\n---\n";
@@ -80,6 +97,55 @@ fn journals_as_svg(rt: HostRuntime) -> Outcome {
 fn one_journal(rt: HostRuntime) -> Outcome {
     let right = is_drawn(rt.alloc(), "rise n1 old\n", Verdict::Sound(1))?;
     check_row(right, 0)
+}
+
+/// The second line of two.
+const SECOND: Part = Part {
+    first: 2,
+    last: 2,
+    resource: None,
+};
+
+fn two_lines(alloc: Global) -> Result<String, Failure> {
+    Ok(format!(in alloc; "{HEAD}rise n1 old\nrise c1 old\n")?)
+}
+
+/// The head of a part tells its lines, and the number of its actors.
+#[test]
+fn part_as_svg(rt: HostRuntime) -> Outcome {
+    let input = two_lines(rt.alloc())?;
+    let mut out = Vec::new(rt.alloc());
+    let mut canvas = SvgCanvas::new(rt.alloc(), &mut out);
+    let shown = draw_on(rt.alloc(), SECOND, input.as_bytes(), &mut canvas)?;
+    check_row(shown == Shown::Drawn(Verdict::Sound(2)), 0)?;
+    let Ok(text) = str::from_utf8(out.as_slice()) else {
+        return Err(Failure::Wrong(1));
+    };
+    let told = ">A run. Nodes: 1, clients: 2, lines: 2 to 2<";
+    check_row(text.find(told).is_some(), 2)
+}
+
+/// A picture is begun, gets its marks, and is ended.
+#[test]
+fn part_as_a_list(rt: HostRuntime) -> Outcome {
+    let input = two_lines(rt.alloc())?;
+    let mut canvas = Listing::new(rt.alloc());
+    let shown = draw_on(rt.alloc(), SECOND, input.as_bytes(), &mut canvas)?;
+    check_row(shown == Shown::Drawn(Verdict::Sound(2)), 0)?;
+    let told = "n1 c2 2-2:down c1 0-2;2;down c2 0-;end 2 2;";
+    check_row(canvas.text.as_str() == told, 1)
+}
+
+/// A text goes out as it is.
+#[test]
+fn text_on_a_canvas(rt: HostRuntime) -> Outcome {
+    let mut out = Vec::new(rt.alloc());
+    let mut canvas = SvgCanvas::new(rt.alloc(), &mut out);
+    let Ok(count) = canvas.write(b"<help>".as_slice()) else {
+        return Err(Failure::Memory);
+    };
+    check_row(count == 6 && canvas.flush().is_ok(), 0)?;
+    check_row(out.as_slice() == b"<help>".as_slice(), 1)
 }
 
 /// Rows of settings that are refused, and their fault.

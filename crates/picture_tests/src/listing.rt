@@ -1,10 +1,10 @@
-// A canvas that lists the marks which are drawn on it.
+// A canvas that lists what is drawn on it.
 
 use journal_picture::{Canvas, CanvasFault};
-use run_picture::{Lasting, Mark, Sign};
+use run_picture::{Lasting, Mark, Part, Place, Sign};
 use std::alloc::{AllocError, Global};
 
-/// The marks, in few words.
+/// The pictures, in few words.
 #[derive(Drop)]
 pub(crate) struct Listing {
     pub(crate) text: String,
@@ -57,6 +57,22 @@ impl Canvas for Listing {
     ghost use Rattle.std.specs.Prelude.{None};
 
     ghost drawn = { λ _. None };
+
+    fn begin(&mut self, nodes: u8, clients: u16, part: &Part) -> Result<(), CanvasFault> {
+        let (first, last) = (part.first, part.last);
+        match write!(self.text, "n{nodes} c{clients} {first}-{last}:") {
+            Ok(()) => Ok(()),
+            Err(_) => Err(CanvasFault::Memory),
+        }
+    }
+
+    fn end(&mut self, at: &Place) -> Result<(), CanvasFault> {
+        let (line, height) = (at.line, at.height);
+        match write!(self.text, "end {line} {height};") {
+            Ok(()) => Ok(()),
+            Err(_) => Err(CanvasFault::Memory),
+        }
+    }
 
     fn draw(&mut self, mark: &Mark) -> Result<(), CanvasFault> {
         match push(&mut self.text, mark) {

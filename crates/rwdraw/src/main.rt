@@ -1,6 +1,6 @@
-//! The program `rwdraw`: it makes the policies that nodes decide by, and is one call of `picture_cli`, whose root
-//! says what is written and which status comes back. It stands on `picture_cli`, `operator_cli`,
-//! `admission_policy`, `lock_messages` and `lock_model`.
+//! The program `rwdraw`: it makes the policies that nodes decide by, and a canvas over standard output, and is one
+//! call of `picture_cli`, whose root says what is drawn and said, and which status comes back. It stands on
+//! `picture_cli`, `operator_cli`, `admission_policy`, `lock_messages` and `lock_model`.
 #![tactic(auto)]
 
 mod supplies;
@@ -8,6 +8,7 @@ mod supplies;
 use crate::supplies::{add_pair, no_policies};
 use admission_policy::{FirstProblem, SecondProblem};
 use lock_messages::MAX_NODES;
+use picture_cli::SvgCanvas;
 use std::process::ExitCode;
 use std::{env, io};
 
@@ -30,12 +31,14 @@ fn main(rt: HostRuntime) -> ExitCode {
             return end_without_memory(&rt);
         };
     }
+    let mut output = io::writer(&rt);
+    let mut page = SvgCanvas::new(alloc, &mut output);
     let ended = picture_cli::run(
         alloc,
         env::args(&rt),
         policies,
         rt.reader(),
-        &mut io::writer(&rt),
+        &mut page,
         &mut rt.stderr(),
     );
     ExitCode::from(ended.status)

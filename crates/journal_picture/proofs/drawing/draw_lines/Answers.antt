@@ -1,5 +1,5 @@
-use Rattle.std.proofs.Common.{◌∙◌, ◌≡◌, ap, subst}
-use Rattle.run_picture.specs.Pictures.{opened, Drawn}
+use Rattle.std.proofs.Common.{subst}
+use Rattle.run_picture.specs.Pictures.{Drawn}
 use Rattle.journal_picture.specs.Drawings.{DrawsJournal}
 use Rattle.journal_picture.proofs.DrawFacts.{journal_drawn}
 use Rattle.journal_picture.proofs.drawing.draw_lines.Goals as goal

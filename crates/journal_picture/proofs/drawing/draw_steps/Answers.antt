@@ -1,9 +1,8 @@
-use Rattle.std.proofs.Common.{◌≡◌, ◌∙◌, ℕ, ◌+◌, ◌≤◌, Ok, refl, sym, subst, arith}
+use Rattle.std.proofs.Common.{◌≡◌, ◌∙◌, ◌+◌, ◌≤◌, Ok, refl, sym, subst, arith}
 use Rattle.journal_audit.specs.declared.verdicts.TheConstants.{MAX_LINES}
-use Rattle.journal_audit.specs.declared.verdicts.Cause.TheVariants as cause
-use Rattle.journal_audit.specs.declared.verdicts.Verdict.TheVariants.{Sound, Unsound}
-use Rattle.journal_audit.proofs.JudgeFacts.{SoFar, begins, is_over, is_bad, is_refused, is_over_now, goes_on, ends, same_said, same_line, memory_cuts}
-use Rattle.journal_picture.proofs.DrawFacts.{short, cuts, nothing_yet, drawn_over, drawn_bad, drawn_refused, drawn_on, drawn_last, drawn_most, drawn_short}
+use Rattle.journal_audit.specs.declared.verdicts.Verdict.TheVariants.{Sound}
+use Rattle.journal_audit.proofs.JudgeFacts.{SoFar, is_over, is_bad, is_refused, is_over_now, goes_on, ends, same_said, same_line}
+use Rattle.journal_picture.proofs.DrawFacts.{drawn_over, drawn_bad, drawn_refused, drawn_on, drawn_last}
 use Rattle.journal_picture.proofs.TellFacts.{fits}
 use Rattle.journal_picture.proofs.drawing.draw_steps.Goals as goal
 
