@@ -14,6 +14,7 @@
 #![tactic(auto)]
 
 mod faults;
+mod faulty_records;
 mod gates;
 mod guards;
 mod records;
