@@ -9,6 +9,14 @@
 #[cfg(test)]
 mod audits;
 #[cfg(test)]
+mod broken_links;
+#[cfg(test)]
+mod calls;
+#[cfg(test)]
+mod devices;
+#[cfg(test)]
+mod failing_records;
+#[cfg(test)]
 mod faults;
 #[cfg(test)]
 mod going_on;
@@ -21,7 +29,17 @@ mod kept;
 #[cfg(test)]
 mod neighbours;
 #[cfg(test)]
+mod nudges;
+#[cfg(test)]
+mod plates;
+#[cfg(test)]
 mod programs;
+#[cfg(test)]
+mod refused_events;
+#[cfg(test)]
+mod refusing;
+#[cfg(test)]
+mod rows;
 #[cfg(test)]
 mod storms;
 #[cfg(test)]

@@ -14,12 +14,15 @@ use test_outcomes::{Failure, Outcome};
 use world_model::{Age, Effect, Event};
 
 /// What is brought beside a node's answers: these posts before them all, so many nudges before the answer
-/// to each message that changes what the node keeps, and whether the node is gone behind its first answer.
+/// to each message that changes what the node keeps, and whether the node is gone behind its first answer. And
+/// which parcel, by its number from 1 on, is not taken: for want of memory (903) it is refused, and else it goes
+/// nowhere, so that nothing comes any more (902).
 #[derive(Drop)]
 pub(crate) struct Coming {
     pub(crate) posts: Vec<Post>,
     pub(crate) nudges: u32,
     pub(crate) goes: bool,
+    pub(crate) lost: Option<(u32, LinkFault)>,
 }
 
 impl Coming {
@@ -34,6 +37,7 @@ impl Coming {
             posts,
             nudges: 0,
             goes: false,
+            lost: None,
         }
     }
 }
@@ -41,7 +45,7 @@ impl Coming {
 /// A link that brings given posts and, behind them, the answers of a node. The node is beside the
 /// client, in the same thread: it takes what is sent as soon as it is sent, and keeps and says what
 /// follows; where it has kept something it may nudge first. A parcel's frame is always the same, since who
-/// hears it goes by its number. Who sends to another node is told that a node is gone.
+/// hears it goes by its number. Who sends to another node is told that a node is gone. One parcel may be lost.
 #[derive(Drop)]
 pub(crate) struct Neighbour<'a, B: BookName, K: Logs, R: Copy> {
     node: NodeId,
@@ -52,6 +56,7 @@ pub(crate) struct Neighbour<'a, B: BookName, K: Logs, R: Copy> {
     nudges: u32,
     due: u32,
     goes: bool,
+    lost: Option<(u32, LinkFault)>,
 }
 
 impl<'a, B: BookName, K: Logs, R: Wait + Copy> Neighbour<'a, B, K, R> {
@@ -68,6 +73,7 @@ impl<'a, B: BookName, K: Logs, R: Wait + Copy> Neighbour<'a, B, K, R> {
             posts,
             nudges,
             goes,
+            lost,
         } = coming;
         let mut recorder = recorder;
         match recorder.log_event(Event::Rise(Actor::Node(node), Age::Old)) {
@@ -80,6 +86,7 @@ impl<'a, B: BookName, K: Logs, R: Wait + Copy> Neighbour<'a, B, K, R> {
                 nudges,
                 due: 0,
                 goes,
+                lost,
             }),
             Err(fault) => Err(of_book(fault)),
         }
@@ -161,6 +168,17 @@ impl<'a, B: BookName, K: Logs, R: Wait + Copy> Neighbour<'a, B, K, R> {
         }
     }
 
+    /// The fault by which the next parcel is lost, if it is.
+    fn lose(&mut self) -> Option<LinkFault> {
+        let (number, fault) = self.lost?;
+        if number <= 1 {
+            self.lost = None;
+            return Some(fault);
+        }
+        self.lost = Some((number - 1, fault));
+        None
+    }
+
     /// Whether this is another node than the one beside.
     fn is_other(&self, to: &Actor) -> bool {
         match to {
@@ -177,8 +195,14 @@ impl<'a, B: BookName, K: Logs, R: Wait + Copy> Link for Neighbour<'a, B, K, R> {
 
     ghost given = { λ _. None };
 
-    /// Brings what the node answers or, where it goes to another, that a node is gone.
+    /// Brings what the node answers or, where it goes to another, that a node is gone. Of a parcel that is lost
+    /// the node sees nothing.
     fn send(&mut self, to: Actor, parcel: Parcel) -> Result<(), LinkFault> {
+        match self.lose() {
+            Some(LinkFault::Memory) => return Err(LinkFault::Memory),
+            Some(LinkFault::Closed) => return Ok(()),
+            None => {}
+        }
         if self.is_other(&to) {
             return self.bring(Post::Gone(self.gone));
         }

@@ -1,0 +1,55 @@
+// A recorder that refuses one event.
+
+use book_recorders::SharedRecorder;
+use event_recorders::Recorder;
+use history_book::BookFault;
+use lock_messages::{ResourceName, Ticket};
+use stable_record::StableRecord;
+use world_model::{Effect, Event};
+
+/// Why an event is refused.
+#[derive(Clone, Copy, Debug, PartialEq, Eq)]
+pub(crate) enum Refusal {
+    /// 813: memory was refused.
+    Memory,
+    /// 812: the book is full.
+    Full,
+    /// 815: the berth is another book's.
+    OtherBook,
+}
+
+/// A recorder that refuses the event of this number, counted from 1 on, and logs all others. With no number it
+/// refuses none.
+#[derive(Drop)]
+pub(crate) struct Refusing<R: Recorder> {
+    pub(crate) inner: R,
+    pub(crate) number: u32,
+    pub(crate) refusal: Refusal,
+}
+
+impl<R: Recorder> Recorder for Refusing<R> {
+    ghost own_log = { λ r. R.own_log r.inner };
+
+    fn log(&mut self, event: Event, stable: &dyn StableRecord) -> Result<Effect, BookFault> {
+        let is_refused = self.number == 1;
+        self.number = self.number.saturating_sub(1);
+        if !is_refused {
+            return self.inner.log(event, stable);
+        }
+        match self.refusal {
+            Refusal::Memory => Err(BookFault::Memory),
+            Refusal::Full => Err(BookFault::Full),
+            Refusal::OtherBook => Err(BookFault::OtherBook),
+        }
+    }
+}
+
+impl<R: SharedRecorder> SharedRecorder for Refusing<R> {
+    fn meet(&mut self, other: &mut Refusing<R>) -> Result<bool, BookFault> {
+        self.inner.meet(&mut other.inner)
+    }
+
+    fn inside(&mut self, resource: &ResourceName) -> Result<Vec<Ticket>, BookFault> {
+        self.inner.inside(resource)
+    }
+}
