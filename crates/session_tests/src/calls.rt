@@ -258,7 +258,7 @@ fn without_memory<W: Wait, S: OwnRecord, R: Recorder, L: Link>(
     session: &mut Session<S, R, L>,
 ) -> Failure {
     let over = Some(RunFault::Memory);
-    let is_over = session.ended() == over && session.ticket().is_none();
+    let is_over = session.ended() == over;
     if is_over && told(session.settle(rt, alloc)) == NO_MEMORY && session.ended() == over {
         Failure::Memory
     } else {

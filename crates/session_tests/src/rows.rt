@@ -43,7 +43,7 @@ pub(crate) struct Row<'a> {
     pub(crate) gone: bool,
     /// Whether c2 is inside `a` to write.
     pub(crate) beside: bool,
-    /// The fault by which c1 doesn't rise.
+    /// Whether c1 rises, or by which fault it doesn't.
     pub(crate) rises: Result<(), RunFault>,
     pub(crate) calls: &'a [(Call, Answer)],
     /// How many are inside `a` in the end, as the session itself tells.
@@ -79,7 +79,8 @@ impl Row<'_> {
             || matches!(self.lost, Some((_, LinkFault::Memory)))
     }
 
-    /// What else stands is wrong, unless more memory was refused than the row's: one can't be told from the other.
+    /// Ends the test unless this holds: as wrong or, in a row that wants memory itself, by want of memory, since there
+    /// more may have been refused, and the same was answered.
     fn or_memory(&self, holds: bool, number: usize) -> Outcome {
         if !holds && self.wants_memory() {
             return Err(Failure::Memory);
@@ -262,7 +263,7 @@ fn run_over<B: BookName, K: Logs, R: Wait + Copy>(
         refusal,
     };
     let (ended, recorder, link) = begin_on(&rt, alloc, ballots, recorder, link, row)?;
-    if ended.risen.is_err() {
+    if ended.risen.is_err() && row.rises.is_err() {
         are_as_handed_in(recorder, link)?;
     }
     Ok(ended)
@@ -287,8 +288,7 @@ fn run<B: BookName, K: Logs + Drop, R: Wait + Copy>(
     Ok((lock.into_inner().into_book(), ended))
 }
 
-/// Ends the test unless the record was found as the row says. A plate in memory fails too where memory is refused
-/// to it, so that it has failed more often then.
+/// Ends the test unless the record was found as the row says.
 fn is_found(ended: &Ended, row: &Row<'_>) -> Outcome {
     let is_right = match (&ended.found, row.found) {
         (None, None) => true,
@@ -302,20 +302,28 @@ fn is_found(ended: &Ended, row: &Row<'_>) -> Outcome {
     row.or_memory(is_right, 103)
 }
 
-/// Ends the test unless c1's session goes as a row says, and the journal is sound, and just the row's.
+/// Ends the test unless a session ended, and logged, as the row says.
+fn is_right(ended: &Ended, journal: &[u8], row: &Row<'_>) -> Outcome {
+    if ended.risen != row.rises && ended.risen == Err(RunFault::Memory) {
+        return Err(Failure::Memory);
+    }
+    check_row(ended.risen == row.rises, 99)?;
+    ended.played?;
+    check_row(row.journal.starts_with(journal), 100)?;
+    row.or_memory(journal.len() == row.journal.len(), 101)?;
+    is_found(ended, row)
+}
+
+/// Ends the test unless c1's session goes as a row says, and the journal is sound, and just the row's. A plate in
+/// memory fails too where memory is refused to it, which can't be told from its own failing.
 pub(crate) fn goes<R: Wait + Copy>(rt: R, alloc: Global, row: &Row<'_>) -> Outcome {
     let ballots = ballots()?;
     let (book, node, one, two) = opened(alloc, ballots)?;
     let berths = (node, one, two);
     let (book, ended) = run::<Brand, Book, R>(rt, alloc, ballots, book, berths, row)?;
     let journal = journal_of(alloc, &book, world(alloc, ballots)?)?;
-    let without_memory = ended.risen == Err(RunFault::Memory) && row.rises.is_ok();
-    if without_memory || ended.failures > row.failures {
-        return Err(Failure::Memory);
+    match (is_right(&ended, &journal, row), row.device) {
+        (Err(_), Device::Plate(_)) => Err(Failure::Memory),
+        (judged, _) => judged,
     }
-    check_row(ended.risen == row.rises, 99)?;
-    ended.played?;
-    check_row(row.journal.starts_with(&journal), 100)?;
-    row.or_memory(journal.len() == row.journal.len(), 101)?;
-    is_found(&ended, row)
 }
