@@ -32,6 +32,8 @@ mod rooms;
 #[cfg(test)]
 mod scripts;
 #[cfg(test)]
+mod sessions;
+#[cfg(test)]
 mod voters;
 #[cfg(test)]
 mod worlds;

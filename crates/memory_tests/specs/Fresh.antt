@@ -1,0 +1,21 @@
+-- A world of one node in which nothing has happened, and the own log of its client.
+use Rattle.std.specs.Prelude.{◌≡◌, List, [], ◌∷◌}
+use Rattle.lock_messages.specs.declared.ids.Actor.TheVariants as actor
+use Rattle.lock_model.specs.declared.problems.Problem.TheVariants.{First}
+use Rattle.lock_model.specs.Ballots.{Ballot}
+use Rattle.world_model.specs.declared.exact.ExactWorld.{ExactWorld}
+use Rattle.world_model.specs.Openings.{opening, down_client}
+use Rattle.world_model.specs.Parts.{ClientPart}
+use Rattle.event_recorders.specs.OwnLogs.{OwnLog}
+
+-- one ballot, of one node, whose vote is enough
+abbrev pub one_node : List Ballot
+one_node = record { votes = 1 ∷ []; read = 1; write = 1 } ∷ []
+
+-- a world of that node and of one client, in which nothing has happened
+abbrev pub new_world : List Ballot → ExactWorld
+new_world b = opening b (First ∷ []) 1
+
+-- the log of c1, which has logged nothing, and has made no attempt
+abbrev pub IsNewClient : List Ballot → OwnLog → Type 0
+IsNewClient b l = l ≡ record { actor = actor.Client 1; ballots = b; opening = ClientPart (down_client 0); events = [] }
