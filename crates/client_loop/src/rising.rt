@@ -52,6 +52,7 @@ pub fn rise<R: Recorder>(
     ensures ballots { (visits_of (R.own_log recorder.new)).ballots ≡ (R.own_log recorder.old).ballots }
     ensures ended { IfErr result (λ fault. ClientEndsFrom fault (falls_of (R.own_log recorder.old)) (R.own_log recorder.new) (stuck_of stable.new) (spent_of stable.new) (failures_of stable.old) (failures_of stable.new)) }
     ensures falls { FailuresFollow (falls_of (R.own_log recorder.old)) (falls_of (R.own_log recorder.new)) (failures_of stable.old) (failures_of stable.new) }
+    ensures unlogged { IfErr result (λ _. R.own_log recorder.new ≡ R.own_log recorder.old) }
 {
     let bytes = rise_first(Actor::Client(client), stable, recorder)?;
     let Ok(attempt) = read_client(bytes.as_slice()) else {

@@ -52,7 +52,8 @@ pub trait OwnRecord: StableRecord {
         ensures whose { (visits_of (R.own_log recorder.new)).whose ≡ (R.own_log recorder.old).actor }
         ensures ballots { (visits_of (R.own_log recorder.new)).ballots ≡ (R.own_log recorder.old).ballots }
         ensures ended { IfErr result (λ fault. ClientEndsFrom fault (falls_of (R.own_log recorder.old)) (R.own_log recorder.new) (Self.stuck_of self.new) (Self.spent_of self.new) (Self.failures_of self.old) (Self.failures_of self.new)) }
-        ensures falls { FailuresFollow (falls_of (R.own_log recorder.old)) (falls_of (R.own_log recorder.new)) (Self.failures_of self.old) (Self.failures_of self.new) };
+        ensures falls { FailuresFollow (falls_of (R.own_log recorder.old)) (falls_of (R.own_log recorder.new)) (Self.failures_of self.old) (Self.failures_of self.new) }
+        ensures unlogged { IfErr result (λ _. R.own_log recorder.new ≡ R.own_log recorder.old) };
 
     /// `client_loop::enter` over this record.
     fn enter<W: Wait, R: Recorder, L: Link, G: Gate>(

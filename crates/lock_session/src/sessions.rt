@@ -4,7 +4,8 @@ ghost use Rattle.std.specs.Prelude.{◌≡◌, ◌⊎◌, [], true, false, None,
 ghost use Rattle.lock_model.specs.Ballots.{HasPlace};
 ghost use Rattle.lock_messages.specs.declared.tickets.Mode.TheVariants.{Write};
 ghost use Rattle.lock_messages.specs.declared.tickets.Ticket.{Ticket as TicketValue};
-ghost use Rattle.client_core.specs.Clients.{ticket_of, softened_ticket};
+ghost use Rattle.client_core.specs.Clients.{phase_of, ticket_of, softened_ticket};
+ghost use Rattle.client_core.specs.declared.phases.Phase.TheVariants as phase;
 ghost use Rattle.event_recorders.specs.OwnLogs.{IsUnused, FindsPart};
 ghost use Rattle.actor_steps.specs.Endings.{falls_of, FailuresFollow};
 ghost use Rattle.book_recorders.specs.Meeting.{HaveMet, HasSeenInside};
@@ -94,6 +95,7 @@ impl<S: OwnRecord, R: Recorder, L: Link> Session<S, R, L> {
         ensures visits { IfOk result (λ s. ((visits_of s.log).begins ≡ []) × ((visits_of s.log).entered ≡ []) × ((visits_of s.log).softened ≡ [])) }
         ensures falls { IfOk result (λ s. FailuresFollow 0 (falls_of s.log) (S.StableRecord.failures_of stable) s.failures) }
         ensures ended { IfErr result (λ e. ClientEndsFrom e.0 0 (R.own_log e.2) (S.StableRecord.stuck_of e.1) (S.StableRecord.spent_of e.1) (S.StableRecord.failures_of stable) (S.StableRecord.failures_of e.1)) }
+        ensures back { IfErr result (λ e. (R.own_log e.2 ≡ R.own_log recorder) × (e.3 ≡ link)) }
     {
         let (mut stable, mut recorder) = (stable, recorder);
         match stable.rise(client, ballots, &mut recorder) {
@@ -126,11 +128,16 @@ impl<S: OwnRecord, R: Recorder, L: Link> Session<S, R, L> {
         self.ballots
     }
 
-    /// The ticket with which it is inside, if it is: so it is while a guard of it lives.
+    /// The ticket with which it is inside, if it is: so it is while a guard of it lives. A session that is over in
+    /// the middle of an attempt has none.
     pub fn ticket(&self) -> Option<Ticket>
-        ensures { result ≡ ticket_of self.now.core }
+        ensures inside { phase_of self.now.core ≡ phase.Inside → result ≡ ticket_of self.now.core }
+        ensures outside { (phase_of self.now.core ≡ phase.Inside → ⊥) → result ≡ None }
     {
-        self.progress.core().ticket()
+        match self.progress.core().phase() {
+            Phase::Inside => self.progress.core().ticket(),
+            Phase::Idle | Phase::Chosen | Phase::Asking => None,
+        }
     }
 
     /// The fault by which the session is over, if it is.
