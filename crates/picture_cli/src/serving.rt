@@ -155,7 +155,7 @@ fn refused(fault: StartFault) -> Result<Shown, ServeFault>
 /// # Errors
 ///
 /// Those of `rwvote audit`: 816 to 819 where the journal is read, 931 where the settings are, 933 where
-/// there is no memory for a world. Then a beginning of the picture was drawn.
+/// there is no memory for a world. Then at most a beginning of the picture was drawn.
 pub fn draw_journal<R: Read, C: Canvas>(
     alloc: Global,
     policies: Policies,

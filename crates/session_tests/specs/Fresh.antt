@@ -1,5 +1,5 @@
 -- A book over a world of one node in which nothing has happened, and the own logs of its actors.
-use Rattle.std.specs.Prelude.{◌≡◌, List, [], ◌∷◌}
+use Rattle.std.specs.Prelude.{◌≡◌, ℕ, List, [], ◌∷◌}
 use Rattle.lock_messages.specs.declared.ids.Actor.{Actor}
 use Rattle.lock_messages.specs.declared.ids.Actor.TheVariants as actor
 use Rattle.lock_model.specs.declared.problems.Problem.TheVariants.{First}
@@ -29,6 +29,10 @@ pub record IsUnlogged (b : List Ballot) (who : Actor) (k : BerthValue) (book : B
   pub table : k.table ≡ book.table
   pub log : log_of k ≡ record { actor = who; ballots = b; opening = part (new_world b) who; events = [] }
 
--- the log of c1, which has logged nothing, and has made no attempt
+-- the log of this client, which has logged nothing, and has made no attempt
+abbrev pub IsNew : ℕ → List Ballot → OwnLog → Type 0
+IsNew c b l = l ≡ record { actor = actor.Client c; ballots = b; opening = ClientPart (down_client 0); events = [] }
+
+-- the same of c1
 abbrev pub IsNewClient : List Ballot → OwnLog → Type 0
-IsNewClient b l = l ≡ record { actor = actor.Client 1; ballots = b; opening = ClientPart (down_client 0); events = [] }
+IsNewClient b l = IsNew 1 b l

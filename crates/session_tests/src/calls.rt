@@ -237,13 +237,14 @@ fn step<W: Wait, S: OwnRecord, R: Recorder, L: Link>(
     }
 }
 
-/// Ends the test unless the session is over just where the call before this place says so; a dropped guard
-/// says nothing.
+/// Ends the test unless the session is inside by no ticket, since no guard of it lives, and is over just where the
+/// call before this place says so; a dropped guard says nothing.
 fn is_over<S: OwnRecord, R: Recorder, L: Link>(
     session: &Session<S, R, L>,
     calls: &[(Call, Answer)],
     at: usize,
 ) -> Outcome {
+    check_row(session.ticket().is_none(), at)?;
     match calls.get(at.saturating_sub(1)) {
         None | Some((Call::Drop, _)) => Ok(()),
         Some((_, expected)) => check_row(session.ended() == over_by(*expected), at),
