@@ -24,70 +24,51 @@ pub(crate) struct Rollout {
     pub(crate) site: Mutex<Site>,
 }
 
-/// What a client does at a target.
-#[derive(Clone, Copy)]
-enum Task {
-    /// A worker does this step, where the steps before it are done.
-    Step(usize),
-    /// A watcher looks whether every step is done.
-    Watch,
-}
-
-/// Does a task at one target, under the target's lock; whether it is done there.
+/// Comes to a target, under the target's lock; whether just these steps are done there. If they are, and there is a
+/// next one, that is done by who comes.
 fn visit<W: Wait, S: OwnRecord, R: SharedRecorder, L: Link>(
     rt: &W,
     alloc: Global,
     session: &mut Session<S, R, L>,
     site: &Mutex<Site>,
     target: usize,
-    task: Task,
+    steps: usize,
 ) -> Result<bool, RunFault>
     requires { HasPlace session.old.ballots 1 }
     ensures ballots { session.new.ballots ≡ session.old.ballots }
     ensures client { session.new.client ≡ session.old.client }
 {
-    let Some(name) = TARGETS
+    let name = TARGETS
         .get(target)
-        .and_then(|name| ResourceName::of(name.as_bytes()))
-    else {
+        .and_then(|it| ResourceName::of(it.as_bytes()));
+    let Some(name) = name else {
         return Err(RunFault::Spent);
     };
-    let mode = match task {
-        Task::Step(_) => Mode::Write,
-        Task::Watch => Mode::Read,
-    };
+    let works = steps < STEPS.len();
+    let mode = if works { Mode::Write } else { Mode::Read };
     match session.enter(rt, alloc, mode, name, 1, NUDGES) {
         Ok(guard) => {
-            let is_done = match task {
-                Task::Step(step) => do_step(rt, site, target, step),
-                Task::Watch => site.lock(rt).look(target) == STEPS.len(),
-            };
+            let are_done = site.lock(rt).come(target, steps);
+            if are_done && works {
+                // Here the step is done, for as long as it takes, with no mutex.
+                thread::yield_now();
+                site.lock(rt).finish(target);
+            }
             guard.leave(rt, alloc)?;
-            Ok(is_done)
+            Ok(are_done)
         }
         Err(fault) => Err(fault),
     }
 }
 
-/// Does a step at a target where the steps before it are done; whether they were.
-fn do_step<W: Wait>(rt: &W, site: &Mutex<Site>, target: usize, step: usize) -> bool {
-    if !site.lock(rt).begin(target, step) {
-        return false;
-    }
-    // Here the work is done, for as long as it takes, with no mutex.
-    thread::yield_now();
-    site.lock(rt).finish(target);
-    true
-}
-
-/// Does a task at one target after the other. Where one can't be done yet it is tried again later, unless somebody
-/// has given up; whether it was done at all targets.
+/// Comes to one target after the other, again to one at which these steps aren't done yet, unless somebody has given
+/// up; whether it came to an end.
 fn go_round<W: Wait, S: OwnRecord, R: SharedRecorder, L: Link>(
     rt: &W,
     alloc: Global,
     session: &mut Session<S, R, L>,
     site: &Mutex<Site>,
-    task: Task,
+    steps: usize,
 ) -> Result<bool, RunFault>
     requires { HasPlace session.old.ballots 1 }
     ensures { session.new.client ≡ session.old.client }
@@ -97,7 +78,7 @@ fn go_round<W: Wait, S: OwnRecord, R: SharedRecorder, L: Link>(
         if target >= TARGETS.len() || site.lock(rt).gave_up > 0 {
             break;
         }
-        if visit(rt, alloc, session, site, target, task)? {
+        if visit(rt, alloc, session, site, target, steps)? {
             target += 1;
         } else {
             thread::yield_now();
@@ -107,7 +88,8 @@ fn go_round<W: Wait, S: OwnRecord, R: SharedRecorder, L: Link>(
 }
 
 impl Work for Rollout {
-    /// The first clients are workers, each with a step of its own, and the others watch.
+    /// The first clients are workers: each does the step of its number, behind those before it. The others watch, and
+    /// wait for all steps.
     fn work<W: Wait, S: OwnRecord, R: SharedRecorder, L: Link>(
         &self,
         rt: &W,
@@ -118,13 +100,8 @@ impl Work for Rollout {
         if session.ballots().count() < 1 {
             return;
         }
-        let place = session.client().get() as usize - 1;
-        let task = if place < STEPS.len() {
-            Task::Step(place)
-        } else {
-            Task::Watch
-        };
-        let ended = go_round(rt, alloc, session, &self.site, task);
-        self.site.lock(rt).note(ended.ok(), place < STEPS.len());
+        let steps = STEPS.len().min(session.client().get() as usize - 1);
+        let ended = go_round(rt, alloc, session, &self.site, steps);
+        self.site.lock(rt).note(ended.ok(), steps);
     }
 }

@@ -6,17 +6,12 @@ pub(crate) const TARGETS: [&str; 4] = ["alpha", "beta", "delta", "gamma"];
 /// What is done to each target, in this order: each worker does one of these steps to all of them.
 pub(crate) const STEPS: [&str; 3] = ["installed", "restarted", "verified"];
 
-/// One target: how many steps are done to it, and whether one is at work on it.
-#[derive(Clone, Copy)]
-struct Target {
-    done: usize,
-    at_work: bool,
-}
-
-/// All targets, and what came of the work on them. Whoever works on a target, or looks at one, has its lock.
+/// What came of the work on all targets. Whoever works on a target, or looks at one, has its lock.
 #[derive(Clone, Copy)]
 pub(crate) struct Site {
-    targets: [Target; TARGETS.len()],
+    /// How many steps are done at each target, and whether one is at work on it.
+    done: [usize; TARGETS.len()],
+    at_work: [bool; TARGETS.len()],
     /// How often one came to a target while another was at work on it: never, by the locks.
     pub(crate) clashes: u32,
     /// How many watchers saw every step done at every target.
@@ -29,40 +24,39 @@ impl Site {
     /// Nothing is done yet.
     pub(crate) fn new() -> Site {
         Site {
-            targets: [Target {
-                done: 0,
-                at_work: false,
-            }; TARGETS.len()],
+            done: [0; TARGETS.len()],
+            at_work: [false; TARGETS.len()],
             clashes: 0,
             content: 0,
             gave_up: 0,
         }
     }
 
-    /// Begins a step at a target, where the steps before it are done; whether they are.
-    pub(crate) fn begin(&mut self, target: usize, step: usize) -> bool {
-        self.look(target);
-        if target >= TARGETS.len() || self.targets[target].done != step {
+    /// Whether just these steps are done at a target. Then who comes there begins the next one, if there is one.
+    pub(crate) fn come(&mut self, target: usize, steps: usize) -> bool {
+        if target >= TARGETS.len() {
             return false;
         }
-        self.targets[target].at_work = true;
-        true
+        if self.at_work[target] {
+            self.clashes = self.clashes.saturating_add(1);
+        }
+        self.at_work[target] = self.done[target] == steps && steps < STEPS.len();
+        self.done[target] == steps
     }
 
     /// The step that was begun at a target is done.
     pub(crate) fn finish(&mut self, target: usize) {
         if target < TARGETS.len() {
-            self.targets[target].at_work = false;
-            self.targets[target].done = self.targets[target].done.saturating_add(1);
+            self.at_work[target] = false;
+            self.done[target] = self.done[target].saturating_add(1);
         }
     }
 
-    /// How a client ended: whether it did all that it had to, or nothing where a fault stopped it; and whether it is a
-    /// worker, of whom nothing is counted.
-    pub(crate) fn note(&mut self, did: Option<bool>, is_worker: bool) {
+    /// How a client ended that waited for these steps: whether it came to an end, or nothing where a fault stopped it.
+    pub(crate) fn note(&mut self, did: Option<bool>, steps: usize) {
         match did {
             Some(did) => {
-                if did && !is_worker {
+                if did && steps >= STEPS.len() {
                     self.content = self.content.saturating_add(1);
                 }
             }
@@ -70,22 +64,8 @@ impl Site {
         }
     }
 
-    /// How many steps are done at a target.
-    pub(crate) fn look(&mut self, target: usize) -> usize {
-        if target >= TARGETS.len() {
-            return 0;
-        }
-        if self.targets[target].at_work {
-            self.clashes = self.clashes.saturating_add(1);
-        }
-        self.targets[target].done
-    }
-
-    /// Whether this step is done at a target.
+    /// Whether the step of this number, from 0 on, is done at a target.
     pub(crate) fn has_done(&self, target: usize, step: usize) -> bool {
-        match self.targets.get(target) {
-            Some(target) => target.done > step,
-            None => false,
-        }
+        self.done.get(target).is_some_and(|done| *done > step)
     }
 }

@@ -45,21 +45,21 @@ fn is_sound(alloc: Global, settings: &Settings, book: &Book) -> Result<bool, All
     }
 }
 
-/// Adds a line for each worker: the targets to which it did its step.
-fn push_workers(text: &mut String, site: &Site) -> Result<(), AllocError> {
-    for (place, step) in STEPS.iter().enumerate() {
-        write!(text, "worker {} {step}", place + 1)?;
-        push_targets(text, site, place)?;
-        text.push_str("\n")?;
-    }
-    Ok(())
-}
-
+/// Adds the targets at which the step of this number is done.
 fn push_targets(text: &mut String, site: &Site, step: usize) -> Result<(), AllocError> {
     for (target, name) in TARGETS.iter().enumerate() {
         if site.has_done(target, step) {
             write!(text, " {name}")?;
         }
+    }
+    text.push_str("\n")
+}
+
+/// Adds a line for each worker: the targets to which it did its step.
+fn push_workers(text: &mut String, site: &Site) -> Result<(), AllocError> {
+    for (place, step) in STEPS.iter().enumerate() {
+        write!(text, "worker {} {step}", place + 1)?;
+        push_targets(text, site, place)?;
     }
     Ok(())
 }
