@@ -26,6 +26,6 @@ mod records;
 mod serving;
 mod sessions;
 
-pub use records::{Records, empty_client_record, empty_node_record, empty_node_records};
+pub use records::{Records, empty_client_record, empty_node_record};
 pub use serving::serve_run;
 pub use sessions::{empty_client_records, plain_policies, run_in_memory, run_sessions};

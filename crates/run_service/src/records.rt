@@ -47,34 +47,6 @@ pub fn empty_client_record(alloc: Global) -> Result<MemoryRecord, AllocError>
     Ok(record)
 }
 
-/// A record of a node, as its thread owns it.
-fn boxed_node_record(
-    alloc: Global,
-    problem: Problem,
-) -> Result<Box<dyn StableRecord + Send>, AllocError>
-    ensures { IfOk result (λ r. finds r ≡ empty_node problem) }
-{
-    let record = empty_node_record(alloc, problem)?;
-    let record: Box<dyn StableRecord + Send> = Box::new(alloc, record)?;
-    Ok(record)
-}
-
-/// Records in memory of so many nodes that solve the problem, in which nothing was ever written, as their threads
-/// own them. The only error is want of memory.
-pub fn empty_node_records(
-    alloc: Global,
-    problem: Problem,
-    nodes: u8,
-) -> Result<Vec<Box<dyn StableRecord + Send>>, AllocError>
-    ensures { IfOk result (λ all. map (λ r. finds r) all.items ≡ replicate nodes (empty_node problem)) }
-{
-    let mut all: Vec<Box<dyn StableRecord + Send>> = Vec::new(alloc);
-    for _ in 0..nodes {
-        all.push(boxed_node_record(alloc, problem)?)?;
-    }
-    Ok(all)
-}
-
 /// So many of the records, the first ones first.
 fn front(
     records: Vec<Box<dyn StableRecord + Send>>,

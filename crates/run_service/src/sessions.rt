@@ -1,6 +1,6 @@
 // A new service with the caller inside, by its settings.
 
-ghost use Rattle.std.specs.Prelude.{◌≡◌, ◌≤◌, ◌∷◌, [], length, map, replicate, IfOk, IfErr};
+ghost use Rattle.std.specs.Prelude.{◌≡◌, ◌≤◌, ◌∷◌, ◌++◌, [], length, map, replicate, IfOk, OnOk, IfErr};
 ghost use Rattle.lock_messages.specs.declared.ids.TheConstants.{MAX_NODES, MAX_CLIENTS};
 ghost use Rattle.lock_model.specs.Ballots.{node_count};
 ghost use Rattle.history_book.specs.Books.{enters};
@@ -10,7 +10,7 @@ ghost use Rattle.node_threads.specs.Faults.{AreFaults};
 ghost use Rattle.node_threads.specs.Sessions.{AreRecords};
 ghost use Rattle.run_service.specs.Empty.{empty_node, empty_client};
 
-use crate::records::{empty_client_record, empty_node_records};
+use crate::records::{empty_client_record, empty_node_record};
 use admission_policy::Pair;
 use event_recorders::RunFault;
 use lock_messages::MAX_NODES;
@@ -100,6 +100,19 @@ pub fn run_sessions<T: Threads + Wait + Copy + Send + Sync, S: OwnRecord + Send,
     )
 }
 
+/// Adds a node's record.
+fn add_record(
+    records: &mut Vec<Box<dyn StableRecord + Send>>,
+    kept: Box<dyn StableRecord + Send>,
+) -> Result<(), AllocError>
+    ensures { OnOk result (records.new.items ≡ records.old.items ++ kept ∷ []) }
+{
+    match records.push(kept) {
+        Ok(()) => Ok(()),
+        Err(_) => Err(AllocError),
+    }
+}
+
 /// Runs a new service as `run_sessions` does, by the plain rules, with records that live as long as the program.
 ///
 /// The caller owes settings in range. The only error is that memory was refused or a thread couldn't be started
@@ -123,11 +136,20 @@ pub fn run_in_memory<T: Threads + Wait + Copy + Send + Sync, J: Work + Sync>(
     let (Ok(for_world), Ok(for_threads)) = (plain_policies(alloc), plain_policies(alloc)) else {
         return Err(RunFault::Memory);
     };
-    let nodes = empty_node_records(alloc, settings.problem, settings.ballots.nodes());
-    let Ok(node_records) = nodes else {
-        return Err(RunFault::Memory);
-    };
-    let Ok(client_records) = empty_client_records(alloc, settings.clients) else {
+    // Boxes are made here, since who hands one out hides what is in it from its callers.
+    let mut nodes = Vec::new(alloc);
+    for _ in 0..settings.ballots.nodes() {
+        let Ok(record) = empty_node_record(alloc, settings.problem) else {
+            return Err(RunFault::Memory);
+        };
+        let Ok(record) = Box::new(alloc, record) else {
+            return Err(RunFault::Memory);
+        };
+        let Ok(()) = add_record(&mut nodes, record) else {
+            return Err(RunFault::Memory);
+        };
+    }
+    let Ok(clients) = empty_client_records(alloc, settings.clients) else {
         return Err(RunFault::Memory);
     };
     run_sessions(
@@ -137,8 +159,8 @@ pub fn run_in_memory<T: Threads + Wait + Copy + Send + Sync, J: Work + Sync>(
         weather,
         for_world,
         for_threads,
-        node_records,
-        client_records,
+        nodes,
+        clients,
         work,
     )
 }
