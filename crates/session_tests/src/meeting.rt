@@ -1,6 +1,6 @@
 //! Two sessions over one book and one node, in one thread, whose guards are asked whether they meet.
 
-ghost use Rattle.std.specs.Prelude.{◌≡◌, IfOk};
+ghost use Rattle.std.specs.Prelude.{◌≡◌, IfOk, IsOkUnless};
 ghost use Rattle.book_recorders.specs.Sharing.{log_of};
 ghost use Rattle.session_tests.specs.Fresh.{IsNew};
 
@@ -8,8 +8,9 @@ use crate::audits::journal_of;
 use crate::faults::of_book;
 use crate::neighbours::{Coming, Neighbour};
 use crate::programs::in_memory;
-use crate::worlds::{ballots, client_id, frame, node_id, opened, resource, world};
+use crate::worlds::{ballots, client_id, frame_for, node_id, opened, resource, world};
 use book_recorders::{BookName, BookRecorder, Logs, Named, SharedRecorder};
+use bytes::Bytes;
 use event_recorders::Recorder;
 use history_book::{Berth, Book};
 use lock_messages::{Actor, Mode};
@@ -26,11 +27,24 @@ use vote_weights::BallotList;
 const NUDGES: u32 = 1_000;
 
 /// A link to the node beside, which another session's link leads to too. Each session is answered before the other
-/// one sends.
+/// one sends; what comes to it has this frame, of a message for its client.
 #[derive(Drop)]
 struct Shared<'v, 'a, B: BookName, K: Logs, R: Wait + Copy> {
     rt: R,
     inner: &'v Mutex<Neighbour<'a, B, K, R>>,
+    frame: Bytes,
+}
+
+impl<B: BookName, K: Logs, R: Wait + Copy> Shared<'_, '_, B, K, R> {
+    /// The parcel of this number, in the frame. Where there is no memory for it nothing comes any more.
+    fn framed(&self, number: u32) -> Result<Post, LinkFault>
+        ensures { IsOkUnless result LinkFault.Closed }
+    {
+        let Ok(frame) = self.frame.clone() else {
+            return Err(LinkFault::Closed);
+        };
+        Ok(Post::Parcel(Parcel { number, frame }))
+    }
 }
 
 impl<B: BookName, K: Logs, R: Wait + Copy> Link for Shared<'_, '_, B, K, R> {
@@ -49,7 +63,10 @@ impl<B: BookName, K: Logs, R: Wait + Copy> Link for Shared<'_, '_, B, K, R> {
     }
 
     fn receive(&mut self) -> Result<Post, LinkFault> {
-        self.inner.lock(&self.rt).receive()
+        match self.inner.lock(&self.rt).receive() {
+            Ok(Post::Parcel(parcel)) => self.framed(parcel.number),
+            other => other,
+        }
     }
 }
 
@@ -115,11 +132,20 @@ fn meet_over<B: BookName, K: Logs, R: Wait + Copy>(
     let (node, one, two) = berths;
     let nodes = (node_id(1)?, node_id(2)?);
     let beside = BookRecorder::of(rt, lock, node);
-    let inner = Neighbour::rising(nodes, beside, Coming::answers(alloc), frame(alloc)?)?;
-    let inner = Mutex::new(inner);
-    let link = Shared { rt, inner: &inner };
+    let (of_one, of_two) = (frame_for(alloc, 1)?, frame_for(alloc, 2)?);
+    let none = frame_for(alloc, 1)?;
+    let inner = Mutex::new(Neighbour::rising(nodes, beside, Coming::answers(alloc), none)?);
+    let link = Shared {
+        rt,
+        inner: &inner,
+        frame: of_one,
+    };
     let mut first = risen(alloc, ballots, 1, BookRecorder::of(rt, lock, one), link)?;
-    let link = Shared { rt, inner: &inner };
+    let link = Shared {
+        rt,
+        inner: &inner,
+        frame: of_two,
+    };
     let mut second = risen(alloc, ballots, 2, BookRecorder::of(rt, lock, two), link)?;
     meet(&rt, alloc, &mut first, &mut second, other)
 }

@@ -108,13 +108,18 @@ pub(crate) fn opened(
     Ok((book, node, one, two))
 }
 
-/// The frame of some message for c1: who hears goes by the number.
+/// The frame of some message for c1.
 pub(crate) fn frame(alloc: Global) -> Result<Bytes, Failure> {
+    frame_for(alloc, 1)
+}
+
+/// The frame of some message for this client: which message is heard goes by the number.
+pub(crate) fn frame_for(alloc: Global, client: u32) -> Result<Bytes, Failure> {
     let Some(attempt) = Attempt::of(1) else {
         return Err(Failure::Wrong(0));
     };
     let ticket = Ticket {
-        client: client_id(1)?,
+        client: client_id(client)?,
         attempt,
         mode: Mode::Read,
         resource: resource(b"a")?,
