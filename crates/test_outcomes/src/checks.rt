@@ -1,6 +1,6 @@
 // What ends a test.
 
-ghost use Rattle.std.specs.Prelude.{◌≡◌, ◌⊎◌, true, false, Some, None, OnOk, IfErr};
+ghost use Rattle.std.specs.Prelude.{◌≡◌, ◌⊎◌, true, false, Some, None, All, OnOk, IfErr};
 
 use crate::{Failure, Outcome};
 
@@ -34,4 +34,16 @@ pub fn check_answer(answer: Option<bool>, row: usize) -> Outcome
         Some(false) => Err(Failure::Wrong(row)),
         None => Err(Failure::NoAnswer(row)),
     }
+}
+
+/// Ends the test at the first of these answers, each to its row, that is wrong or isn't there. (One call with all
+/// answers is cheaper to prove than an exit behind each.)
+pub fn check_answers(answers: &[Option<bool>]) -> Outcome
+    ensures passes { OnOk result (All (λ answer. answer ≡ Some true) answers.now) }
+    ensures fails { IfErr result (λ failure. All (λ answer. answer ≡ Some true) answers.now → ⊥) }
+{
+    for (row, answer) in answers.iter().enumerate() {
+        check_answer(*answer, row)?;
+    }
+    Ok(())
 }

@@ -10,5 +10,5 @@
 mod checks;
 mod failures;
 
-pub use checks::{check, check_answer, check_row};
+pub use checks::{check, check_answer, check_answers, check_row};
 pub use failures::{Failure, Outcome};
