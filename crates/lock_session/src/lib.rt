@@ -17,11 +17,13 @@ mod faults;
 mod faulty_records;
 mod gates;
 mod guards;
+mod lent_records;
 mod records;
 mod sessions;
 
 pub use faults::TryFault;
 pub use gates::OpenGate;
 pub use guards::SessionGuard;
+pub use lent_records::LentRecord;
 pub use records::OwnRecord;
 pub use sessions::Session;

@@ -27,6 +27,8 @@ mod inside;
 #[cfg(test)]
 mod kept;
 #[cfg(test)]
+mod lending;
+#[cfg(test)]
 mod meeting;
 #[cfg(test)]
 mod neighbours;

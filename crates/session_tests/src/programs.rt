@@ -53,7 +53,7 @@ pub(crate) fn in_memory(alloc: Global, bytes: &[u8]) -> Result<MemoryRecord, Fai
 }
 
 /// The record of the node, which has kept nothing.
-fn node_records(alloc: Global) -> Result<Vec<Box<dyn StableRecord + Send>>, Failure>
+pub(crate) fn node_records(alloc: Global) -> Result<Vec<Box<dyn StableRecord + Send>>, Failure>
     ensures { IfOk result (λ v. map (λ r. finds r) v.items ≡ node_found) }
 {
     let record = in_memory(alloc, &NOTHING)?;
