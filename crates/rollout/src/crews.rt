@@ -3,7 +3,7 @@
 ghost use Rattle.std.specs.Prelude.{◌≡◌};
 ghost use Rattle.lock_model.specs.Ballots.{HasPlace};
 
-use crate::sites::{STEPS, Site, TARGETS};
+use crate::sites::{AT_WORK, STEPS, Site, TARGETS};
 use book_recorders::SharedRecorder;
 use event_recorders::RunFault;
 use lock_messages::{Mode, ResourceName};
@@ -38,21 +38,20 @@ fn visit<W: Wait, S: OwnRecord, R: SharedRecorder, L: Link>(
     ensures ballots { session.new.ballots ≡ session.old.ballots }
     ensures client { session.new.client ≡ session.old.client }
 {
-    let name = TARGETS
-        .get(target)
-        .and_then(|it| ResourceName::of(it.as_bytes()));
-    let Some(name) = name else {
-        return Err(RunFault::Spent);
+    let name = TARGETS.get(target).copied().unwrap_or("");
+    let Some(name) = ResourceName::of(name.as_bytes()) else {
+        return Ok(false);
     };
     let works = steps < STEPS.len();
     let mode = if works { Mode::Write } else { Mode::Read };
     match session.enter(rt, alloc, mode, name, 1, NUDGES) {
         Ok(guard) => {
-            let are_done = site.lock(rt).come(target, steps);
+            let are_done = site.lock(rt).has(target, steps);
             if are_done && works {
+                site.lock(rt).set(target, AT_WORK);
                 // Here the step is done, for as long as it takes, with no mutex.
                 thread::yield_now();
-                site.lock(rt).finish(target);
+                site.lock(rt).set(target, steps + 1);
             }
             guard.leave(rt, alloc)?;
             Ok(are_done)
@@ -102,6 +101,6 @@ impl Work for Rollout {
         }
         let steps = STEPS.len().min(session.client().get() as usize - 1);
         let ended = go_round(rt, alloc, session, &self.site, steps);
-        self.site.lock(rt).note(ended.ok(), steps);
+        self.site.lock(rt).note(ended == Ok(true));
     }
 }

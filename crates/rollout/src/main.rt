@@ -7,37 +7,57 @@
 //!
 //! `docs/EMBEDDING.md` goes through it part by part. It stands on `run_service` and `node_threads` for the service,
 //! `lock_session` and `book_recorders` for its sessions, `operator_cli` for settings, `journal_audit`,
-//! `line_streams`, `history_book`, `event_recorders`, `lossy_link`, `stable_record`, `lock_messages` and `lock_model`.
+//! `line_streams`, `event_recorders`, `lossy_link` and `lock_messages`.
 #![tactic(auto)]
 
 mod crews;
 mod sites;
-mod telling;
 
 use crate::crews::Rollout;
 use crate::sites::Site;
-use crate::telling::{end_without_memory, tell};
+use journal_audit::Verdict;
+use line_streams::write_text;
 use operator_cli::{Command, read_settings};
-use run_service::run_in_memory;
+use run_service::{audit_book, run_in_memory};
+use std::alloc::Global;
+use std::io;
 use std::process::ExitCode;
-use std::sync::Mutex;
+use std::sync::{Mutex, Wait};
+use std::thread::Threads;
 
 /// Three nodes with a vote each, any two of which are enough; writers first; three workers and two watchers.
 const SETTINGS: &[u8] = b"votes = [1, 1, 1]\nread = 2\nwrite = 2\nproblem = 2\nclients = 5\n";
 
-fn main(rt: HostRuntime) -> ExitCode {
-    let alloc = rt.alloc();
-    let Ok(start) = read_settings(alloc, Command::Run { journal: false }, SETTINGS) else {
-        return end_without_memory(&rt);
-    };
+/// Runs the service with the rollout inside, audits its journal, and says what came of it. Nothing where memory was
+/// refused, or a thread couldn't be started.
+fn roll_out<T: Threads + Wait + Copy + Send + Sync>(
+    rt: T,
+    alloc: Global,
+    rollout: &Rollout,
+) -> Option<String> {
+    let start = read_settings(alloc, Command::Run { journal: false }, SETTINGS).ok()?;
     let settings = start.settings;
+    let end = run_in_memory(rt, alloc, &settings, start.weather, rollout).ok()?;
+    let verdict = audit_book(alloc, &settings, &end.book).ok()?;
+    let mut text = rollout.site.lock(&rt).report(alloc).ok()?;
+    for (actor, fault) in &end.faults {
+        writeln!(text, "{actor} fault {}", fault.number()).ok()?;
+    }
+    let is_sound = matches!(verdict, Verdict::Sound(_));
+    writeln!(text, "the journal is sound: {is_sound}").ok()?;
+    Some(text)
+}
+
+fn main(rt: HostRuntime) -> ExitCode {
     let rollout = Rollout {
         site: Mutex::new(Site::new()),
     };
-    let ended = run_in_memory(rt, alloc, &settings, start.weather, &rollout);
-    let site = rollout.site.into_inner();
-    match ended {
-        Ok(end) => tell(&rt, alloc, &settings, &end, &site),
-        Err(_) => end_without_memory(&rt),
+    let Some(text) = roll_out(rt, rt.alloc(), &rollout) else {
+        let _unsaid = write_text(&mut rt.stderr(), b"no memory, or no thread\n");
+        return ExitCode::from(2);
+    };
+    match write_text(&mut io::writer(&rt), text.as_bytes()) {
+        Ok(()) => ExitCode::from(u8::from(rollout.site.into_inner().gave_up > 0)),
+        Err(_) => ExitCode::from(2),
     }
 }

@@ -13,7 +13,7 @@
 //!
 //! `run_sessions` opens the same world, and has the caller's own work done in it, by a session for each client, in
 //! place of wishes; it promises what `node_threads::with_sessions` does. `run_in_memory` brings policies and records
-//! itself.
+//! itself, and `audit_book` audits what is in the book in the end.
 //!
 //! It stands on `operator_cli` for settings, `node_threads` for the run, `explanations` for what is said of it
 //! in words, `journal_text`, `journal_audit` and `journal_laws` for the journal, `line_streams`, `event_recorders`,
@@ -21,11 +21,13 @@
 //! `vote_weights`, `world_machine`, `world_model`, `lock_messages` and `lock_model`.
 #![tactic(auto)]
 
+mod audits;
 mod ends;
 mod records;
 mod serving;
 mod sessions;
 
+pub use audits::audit_book;
 pub use records::{Records, empty_client_record, empty_node_record};
 pub use serving::serve_run;
 pub use sessions::{empty_client_records, plain_policies, run_in_memory, run_sessions};
