@@ -1,50 +1,78 @@
 // What a book answers, and the journal that it writes.
 
+ghost use Rattle.std.specs.Prelude.{◌≡◌, ◌≢◌};
+
 use crate::journals::{is_sound, journal_of};
-use crate::logging::{berth_of, logs, opened};
+use crate::logging::{berth_of, is_given, logs, opened};
 use crate::worlds::{attempt, client, node, three_nodes};
-use history_book::BookFault;
-use test_outcomes::{Failure, Outcome, check};
+use history_book::{Berth, Book, BookFault};
+use std::alloc::Global;
+use test_outcomes::{Outcome, check, check_row};
+use world_machine::World;
 use world_model::{Effect, StepFault};
+
+/// c1 and c2 log with berths of the first book; the other one has its own number.
+fn fails(book: &mut Book, other: &mut Book, one: &mut Berth, two: &mut Berth) -> Outcome
+    requires one { one.old.table ≡ book.old.table }
+    requires two { two.old.table ≡ book.old.table }
+    requires other { one.old.number ≢ other.old.number }
+{
+    let chosen = Effect::Chose(attempt(1)?);
+    let not_now = Err(BookFault::NotAStep(StepFault::WrongPhase));
+    logs(book, one, "rise c1 old", Ok(Effect::Up))?;
+    logs(book, one, "begin c1 read a", Ok(chosen))?;
+    logs(book, two, "enter c1", Err(BookFault::OtherActor))?;
+    logs(other, one, "enter c1", Err(BookFault::OtherBook))?;
+    logs(book, one, "enter c1", not_now)?;
+    check(book.events() == 2 && book.entered() == 0 && other.events() == 0)
+}
+
+/// Of two books each has its own berths.
+fn fails_with(book: &mut Book, other: &mut Book) -> Outcome
+    requires { book.old.number ≢ other.old.number }
+{
+    let mut one = berth_of(book, client(1)?)?;
+    let mut two = berth_of(book, client(2)?)?;
+    fails(book, other, &mut one, &mut two)
+}
+
+/// The journal of the book has its two events, and is sound from this world.
+fn is_short(alloc: Global, book: &Book, world: World) -> Outcome
+    requires { Unit {0} }
+{
+    let journal = journal_of(book, alloc)?;
+    check(journal.as_slice() == b"rise c1 old\nbegin c1 read a\n".as_slice())?;
+    is_sound(alloc, world, journal.as_slice(), 2)
+}
 
 #[test]
 fn book_faults(rt: HostRuntime) -> Outcome {
     let alloc = rt.alloc();
-    let chosen = Effect::Chose(attempt(1)?);
-    let not_now = Err(BookFault::NotAStep(StepFault::WrongPhase));
     let mut book = opened(alloc, 7, three_nodes(alloc)?)?;
     let mut other = opened(alloc, 8, three_nodes(alloc)?)?;
-    let mut one = berth_of(&mut book, client(1)?)?;
-    let mut two = berth_of(&mut book, client(2)?)?;
-    logs(&mut book, &mut one, "rise c1 old", Ok(Effect::Up))?;
-    logs(&mut book, &mut one, "begin c1 read a", Ok(chosen))?;
-    logs(&mut book, &mut two, "enter c1", Err(BookFault::OtherActor))?;
-    logs(&mut other, &mut one, "enter c1", Err(BookFault::OtherBook))?;
-    logs(&mut book, &mut one, "enter c1", not_now)?;
-    check(book.events() == 2 && book.entered() == 0 && other.events() == 0)?;
-    let journal = journal_of(&book, alloc)?;
-    check(journal.as_slice() == b"rise c1 old\nbegin c1 read a\n".as_slice())?;
-    is_sound(alloc, three_nodes(alloc)?, journal.as_slice(), 2)
+    fails_with(&mut book, &mut other)?;
+    is_short(alloc, &book, three_nodes(alloc)?)
+}
+
+/// n1 and c4 have a berth each; n1 gets no other one, and who isn't there gets none.
+fn have_one_each(book: &mut Book) -> Outcome
+    requires { Unit {0} }
+{
+    let (first, last) = (node(1)?, client(4)?);
+    let (no_node, no_client) = (node(4)?, client(5)?);
+    let _one = berth_of(book, first)?;
+    let again = is_given(book, first);
+    let strangers = is_given(book, no_client) || is_given(book, no_node);
+    check(!again && !strangers)?;
+    let _last = berth_of(book, last)?;
+    Ok(())
 }
 
 #[test]
 fn one_berth_each(rt: HostRuntime) -> Outcome {
     let alloc = rt.alloc();
     let mut book = opened(alloc, 7, three_nodes(alloc)?)?;
-    let one = berth_of(&mut book, node(1)?)?;
-    let again = book.berth(node(1)?);
-    check(matches!(again, Ok(None)))?;
-    let no_client = book.berth(client(5)?);
-    check(matches!(no_client, Ok(None)))?;
-    let no_node = book.berth(node(4)?);
-    check(matches!(no_node, Ok(None)))?;
-    let last = book.berth(client(4)?);
-    drop(one);
-    match last {
-        Ok(Some(_)) => Ok(()),
-        Ok(None) => Err(Failure::Wrong(0)),
-        Err(_) => Err(Failure::Memory),
-    }
+    have_one_each(&mut book)
 }
 
 const NUMBERS: [(BookFault, u16); 5] = [
@@ -57,8 +85,8 @@ const NUMBERS: [(BookFault, u16); 5] = [
 
 #[test]
 fn numbers_of_faults(_rt: HostRuntime) -> Outcome {
-    for (fault, number) in NUMBERS {
-        check(fault.number() == number)?;
+    for (row, (fault, number)) in NUMBERS.iter().enumerate() {
+        check_row(fault.number() == *number, row)?;
     }
     Ok(())
 }

@@ -26,3 +26,11 @@ pub(crate) fn is_sound(alloc: Global, world: World, journal: &[u8], lines: u32) 
         Err(_) => Err(Failure::Memory),
     }
 }
+
+/// Whether an audit from the world finds the journal of the book sound.
+pub(crate) fn is_recorded(alloc: Global, book: &Book, world: World) -> Outcome
+    requires { Unit {0} }
+{
+    let journal = journal_of(book, alloc)?;
+    is_sound(alloc, world, journal.as_slice(), book.events())
+}

@@ -23,6 +23,8 @@ mod meetings;
 #[cfg(test)]
 mod random_events;
 #[cfg(test)]
+mod scripts;
+#[cfg(test)]
 mod switches;
 #[cfg(test)]
 mod worlds;

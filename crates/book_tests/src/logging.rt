@@ -36,6 +36,14 @@ pub(crate) fn berth_of(book: &mut Book, actor: Actor) -> Result<Berth, Failure>
     }
 }
 
+/// Whether the actor is given a berth, or can't be told for want of memory.
+pub(crate) fn is_given(book: &mut Book, actor: Actor) -> bool
+    requires { Unit {0} }
+    ensures { (book.new.number ≡ book.old.number) × (book.new.table ≡ book.old.table) }
+{
+    berth_of(book, actor).err() != Some(Failure::Wrong(0))
+}
+
 /// Logs an event; the book and the berth are still those of one another.
 pub(crate) fn log(book: &mut Book, berth: &mut Berth, event: Event) -> Result<Effect, BookFault>
     requires { berth.old.number ≡ book.old.number → berth.old.table ≡ book.old.table }

@@ -2,11 +2,15 @@
 
 ghost use Rattle.std.specs.Prelude.{◌≡◌, ◌≢◌};
 
-use crate::logging::{berth_of, logs, meets, opened, takes_all};
-use crate::worlds::{client, node, one_node};
-use history_book::{Berth, Book, BookFault};
+use crate::logging::{berth_of, is_given, meets, opened};
+use crate::scripts::{Answer, Place, Turn, play};
+use crate::worlds::{Who, client, one_node};
+use history_book::{Book, BookFault};
 use test_outcomes::{Outcome, check};
-use world_model::{Effect, StepFault};
+use world_model::StepFault;
+
+/// The berths of a script are those of n1, c1 and c2.
+const CREW: [Who; 3] = [Who::Node(1), Who::Client(1), Who::Client(2)];
 
 const FIRST_ASKS: &str = "rise c1 old\nbegin c1 read a\ntry c1\nkept c1\nsayto c1 n1";
 
@@ -26,158 +30,86 @@ try n1
 kept n1
 say n1";
 
-/// c1 and c2 ask, are granted by n1, and enter.
-fn enter_both(
-    book: &mut Book,
-    voter: &mut Berth,
-    one: &mut Berth,
-    two: &mut Berth,
-    second_asks: &str,
-) -> Outcome
-    requires voter { voter.old.number ≡ book.old.number → voter.old.table ≡ book.old.table }
-    requires one { one.old.number ≡ book.old.number → one.old.table ≡ book.old.table }
-    requires two { two.old.number ≡ book.old.number → two.old.table ≡ book.old.table }
-    ensures book { (book.new.number ≡ book.old.number) × (book.new.table ≡ book.old.table) }
-    ensures voter { (voter.new.number ≡ voter.old.number) × (voter.new.table ≡ voter.old.table) }
-    ensures one { (one.new.number ≡ one.old.number) × (one.new.table ≡ one.old.table) }
-    ensures two { (two.new.number ≡ two.old.number) × (two.new.table ≡ two.old.table) }
-{
-    takes_all(book, one, FIRST_ASKS)?;
-    takes_all(book, two, second_asks)?;
-    takes_all(book, voter, ANSWERS)?;
-    takes_all(book, one, "hear c1 3\nenter c1")?;
-    takes_all(book, two, "hear c2 4\nenter c2")
-}
-
-/// c1 meets c2 inside, and not the node; and nobody once it has left.
-fn meets_the_second(book: &mut Book, voter: &mut Berth, one: &mut Berth, two: &mut Berth) -> Outcome
-    requires voter { voter.old.number ≡ book.old.number → voter.old.table ≡ book.old.table }
-    requires one { one.old.number ≡ book.old.number → one.old.table ≡ book.old.table }
-    requires two { two.old.number ≡ book.old.number → two.old.table ≡ book.old.table }
-{
-    enter_both(book, voter, one, two, SECOND_ASKS)?;
-    check(meets(book, one, two) == Ok(true))?;
-    check(meets(book, one, voter) == Ok(false))?;
-    takes_all(book, one, "leave c1")?;
-    check(meets(book, two, one) == Ok(false) && book.entered() == 2)
-}
-
-/// Each has its berth, of an open book.
-fn reads_beside(book: &mut Book) -> Outcome
-    requires { Unit {0} }
-{
-    let mut voter = berth_of(book, node(1)?)?;
-    let mut one = berth_of(book, client(1)?)?;
-    let mut two = berth_of(book, client(2)?)?;
-    meets_the_second(book, &mut voter, &mut one, &mut two)
-}
+/// c1 and c2 ask, are granted by n1, and enter: c1 meets c2 inside, and not the node; and nobody once it has
+/// left.
+const BESIDE: [Turn; 10] = [
+    Turn::Takes(Place::Second, FIRST_ASKS),
+    Turn::Takes(Place::Third, SECOND_ASKS),
+    Turn::Takes(Place::First, ANSWERS),
+    Turn::Takes(Place::Second, "hear c1 3\nenter c1"),
+    Turn::Takes(Place::Third, "hear c2 4\nenter c2"),
+    Turn::Meets(true),
+    Turn::MeetsFirst(false),
+    Turn::Takes(Place::Second, "leave c1"),
+    Turn::IsMet(false),
+    Turn::Entered(2),
+];
 
 #[test]
 fn readers_meet(rt: HostRuntime) -> Outcome {
-    let alloc = rt.alloc();
-    let mut book = opened(alloc, 7, one_node(alloc)?)?;
-    reads_beside(&mut book)
+    play(rt.alloc(), one_node(rt.alloc())?, CREW, &BESIDE)
 }
 
-/// Each has its berth, of an open book, and nobody is met in another resource.
-fn reads_apart(book: &mut Book) -> Outcome
-    requires { Unit {0} }
-{
-    let mut voter = berth_of(book, node(1)?)?;
-    let mut one = berth_of(book, client(1)?)?;
-    let mut two = berth_of(book, client(2)?)?;
-    enter_both(
-        book,
-        &mut voter,
-        &mut one,
-        &mut two,
-        SECOND_ASKS_FOR_ANOTHER,
-    )?;
-    check(meets(book, &mut one, &mut two) == Ok(false) && book.entered() == 2)
-}
+/// Nobody is met in another resource.
+const APART: [Turn; 7] = [
+    Turn::Takes(Place::Second, FIRST_ASKS),
+    Turn::Takes(Place::Third, SECOND_ASKS_FOR_ANOTHER),
+    Turn::Takes(Place::First, ANSWERS),
+    Turn::Takes(Place::Second, "hear c1 3\nenter c1"),
+    Turn::Takes(Place::Third, "hear c2 4\nenter c2"),
+    Turn::Meets(false),
+    Turn::Entered(2),
+];
 
 #[test]
 fn readers_of_two_resources(rt: HostRuntime) -> Outcome {
-    let alloc = rt.alloc();
-    let mut book = opened(alloc, 7, one_node(alloc)?)?;
-    reads_apart(&mut book)
+    play(rt.alloc(), one_node(rt.alloc())?, CREW, &APART)
 }
 
 const FIRST_WRITES: &str = "rise c1 old\nbegin c1 write a\ntry c1\nkept c1\nsayto c1 n1";
 
 /// n1 takes the softening, message 5, and grants the reader's request by message 7.
-const SOFTENS: &str = "take n1 5\ntry n1\nkept n1\nsay n1";
-
-/// c1 is inside as a writer, and c2 waits.
-fn first_writes(book: &mut Book, voter: &mut Berth, one: &mut Berth, two: &mut Berth) -> Outcome
-    requires voter { voter.old.number ≡ book.old.number → voter.old.table ≡ book.old.table }
-    requires one { one.old.number ≡ book.old.number → one.old.table ≡ book.old.table }
-    requires two { two.old.number ≡ book.old.number → two.old.table ≡ book.old.table }
-    ensures book { (book.new.number ≡ book.old.number) × (book.new.table ≡ book.old.table) }
-    ensures voter { (voter.new.number ≡ voter.old.number) × (voter.new.table ≡ voter.old.table) }
-    ensures one { (one.new.number ≡ one.old.number) × (one.new.table ≡ one.old.table) }
-    ensures two { (two.new.number ≡ two.old.number) × (two.new.table ≡ two.old.table) }
-{
-    takes_all(book, one, FIRST_WRITES)?;
-    takes_all(book, two, SECOND_ASKS)?;
-    takes_all(book, voter, ANSWERS)?;
-    takes_all(book, one, "hear c1 3\nenter c1")?;
-    takes_all(book, two, "hear c2 4")
-}
+const ANSWERS_SOFTENING: &str = "take n1 5\ntry n1\nkept n1\nsay n1";
 
 /// What a client is answered that is in another phase.
-fn not_now() -> Result<Effect, BookFault> {
-    Err(BookFault::NotAStep(StepFault::WrongPhase))
-}
+const WRONG_PHASE: Answer = Answer::NotNow(StepFault::WrongPhase);
 
-/// c1, which is inside as a writer, softens; it isn't for c2 to log that, nor again for c1. Then c2 enters too.
-fn softens(book: &mut Book, voter: &mut Berth, one: &mut Berth, two: &mut Berth) -> Outcome
-    requires voter { voter.old.number ≡ book.old.number → voter.old.table ≡ book.old.table }
-    requires one { one.old.number ≡ book.old.number → one.old.table ≡ book.old.table }
-    requires two { two.old.number ≡ book.old.number → two.old.table ≡ book.old.table }
-    ensures book { (book.new.number ≡ book.old.number) × (book.new.table ≡ book.old.table) }
-    ensures one { (one.new.number ≡ one.old.number) × (one.new.table ≡ one.old.table) }
-    ensures two { (two.new.number ≡ two.old.number) × (two.new.table ≡ two.old.table) }
-{
-    logs(book, two, "soften c1", Err(BookFault::OtherActor))?;
-    logs(book, two, "soften c2", not_now())?;
-    logs(book, one, "soften c1", Ok(Effect::Softened))?;
-    logs(book, one, "soften c1", not_now())?;
-    takes_all(book, one, "sayto c1 n1")?;
-    takes_all(book, voter, SOFTENS)?;
-    takes_all(book, one, "hear c1 6")?;
-    takes_all(book, two, "hear c2 7\nenter c2")
-}
-
-/// Each has its berth, of an open book, and c1 meets c2 once it has softened.
-fn softens_beside(book: &mut Book) -> Outcome
-    requires { Unit {0} }
-{
-    let mut voter = berth_of(book, node(1)?)?;
-    let mut one = berth_of(book, client(1)?)?;
-    let mut two = berth_of(book, client(2)?)?;
-    first_writes(book, &mut voter, &mut one, &mut two)?;
-    check(meets(book, &mut one, &mut two) == Ok(false))?;
-    softens(book, &mut voter, &mut one, &mut two)?;
-    check(meets(book, &mut one, &mut two) == Ok(true) && book.entered() == 2)
-}
+/// c1 is inside as a writer, and c2 waits. c1 softens; it isn't for c2 to log that, nor again for c1. Then c2
+/// enters too, and c1 meets c2.
+const SOFTENS: [Turn; 16] = [
+    Turn::Takes(Place::Second, FIRST_WRITES),
+    Turn::Takes(Place::Third, SECOND_ASKS),
+    Turn::Takes(Place::First, ANSWERS),
+    Turn::Takes(Place::Second, "hear c1 3\nenter c1"),
+    Turn::Takes(Place::Third, "hear c2 4"),
+    Turn::Meets(false),
+    Turn::Logs(Place::Third, "soften c1", Answer::OtherActor),
+    Turn::Logs(Place::Third, "soften c2", WRONG_PHASE),
+    Turn::Logs(Place::Second, "soften c1", Answer::Softened),
+    Turn::Logs(Place::Second, "soften c1", WRONG_PHASE),
+    Turn::Takes(Place::Second, "sayto c1 n1"),
+    Turn::Takes(Place::First, ANSWERS_SOFTENING),
+    Turn::Takes(Place::Second, "hear c1 6"),
+    Turn::Takes(Place::Third, "hear c2 7\nenter c2"),
+    Turn::Meets(true),
+    Turn::Entered(2),
+];
 
 #[test]
 fn softened_writer_meets_a_reader(rt: HostRuntime) -> Outcome {
-    let alloc = rt.alloc();
-    let mut book = opened(alloc, 7, one_node(alloc)?)?;
-    softens_beside(&mut book)
+    play(rt.alloc(), one_node(rt.alloc())?, CREW, &SOFTENS)
 }
 
 /// A client has one berth of a book, so only that of another book could stand for the client itself.
 fn meets_only_others(book: &mut Book, other: &mut Book) -> Outcome
     requires { book.old.number ≢ other.old.number }
 {
-    let mut one = berth_of(book, client(1)?)?;
-    let mut same = berth_of(other, client(1)?)?;
-    check(meets(book, &mut one, &mut same) == Err(BookFault::OtherBook))?;
-    check(meets(book, &mut same, &mut one) == Err(BookFault::OtherBook))?;
-    check(matches!(book.berth(client(1)?), Ok(None)))
+    let client = client(1)?;
+    let mut one = berth_of(book, client)?;
+    let mut same = berth_of(other, client)?;
+    let there = meets(book, &mut one, &mut same) == Err(BookFault::OtherBook);
+    let back = meets(book, &mut same, &mut one) == Err(BookFault::OtherBook);
+    check(there && back && !is_given(book, client))
 }
 
 #[test]

@@ -4,7 +4,7 @@ ghost use Rattle.std.specs.Prelude.{◌≡◌, All, IfOk};
 ghost use Rattle.book_tests.specs.Ties.{IsOf};
 
 use crate::generator::event_of_turn;
-use crate::journals::{is_sound, journal_of};
+use crate::journals::is_recorded;
 use crate::logging::{berth_of, log, opened};
 use crate::worlds::{client, node, three_nodes};
 use history_book::{Berth, Book, BookFault};
@@ -136,16 +136,22 @@ fn run(book: &mut Book, berths: &mut Vec<Berth>, world: &mut World) -> Result<Se
     Ok(seen)
 }
 
+/// A run logs enough of each kind, and the book has what was seen.
+fn logs_many(book: &mut Book, berths: &mut Vec<Berth>, world: &mut World) -> Outcome
+    requires { All (IsOf book.old) berths.old.items }
+{
+    let seen = run(book, berths, world)?;
+    check(book.events() == EVENTS && book.entered() == seen.entered)?;
+    check(seen.refused >= 2_000 && seen.entered >= 5)?;
+    check(seen.softened >= 2 && seen.switched >= 10)
+}
+
 #[test]
 fn random_history_is_sound(rt: HostRuntime) -> Outcome {
     let alloc = rt.alloc();
     let mut book = opened(alloc, 7, three_nodes(alloc)?)?;
     let mut berths = berths_of(alloc, &mut book)?;
     let mut beside = three_nodes(alloc)?;
-    let seen = run(&mut book, &mut berths, &mut beside)?;
-    check(book.events() == EVENTS && book.entered() == seen.entered)?;
-    check(seen.refused >= 2_000 && seen.entered >= 5)?;
-    check(seen.softened >= 2 && seen.switched >= 10)?;
-    let journal = journal_of(&book, alloc)?;
-    is_sound(alloc, three_nodes(alloc)?, journal.as_slice(), EVENTS)
+    logs_many(&mut book, &mut berths, &mut beside)?;
+    is_recorded(alloc, &book, three_nodes(alloc)?)
 }

@@ -1,57 +1,40 @@
 // A node that takes another problem while it runs.
 
-ghost use Rattle.std.specs.Prelude.{◌≡◌};
-
-use crate::journals::{is_sound, journal_of};
-use crate::logging::{berth_of, logs, opened, takes_all};
-use crate::worlds::{
-    attempt, client, client_id, node, node_id, one_node_under, resource, three_nodes,
-};
-use history_book::{Berth, Book, BookFault};
-use lock_messages::{Message, Mode, Ticket};
-use lock_model::{Heard, Problem};
+use crate::journals::is_recorded;
+use crate::logging::opened;
+use crate::scripts::{Answer, Place, Turn, play, play_in};
+use crate::worlds::{Who, one_node_under, three_nodes};
+use lock_model::Problem;
 use std::alloc::Global;
-use test_outcomes::{Failure, Outcome, check};
-use world_model::{Effect, StepFault};
+use test_outcomes::Outcome;
+use world_model::StepFault;
 
-/// What is answered where a step may not be.
-fn not_a_step(fault: StepFault) -> Result<Effect, BookFault> {
-    Err(BookFault::NotAStep(fault))
-}
-
-/// It is for n1 alone to log that it takes a problem, which it may while it is up and idle.
-fn switches_itself(book: &mut Book) -> Outcome
-    requires { Unit {0} }
-{
-    let mut one = berth_of(book, node(1)?)?;
-    let mut two = berth_of(book, node(2)?)?;
-    let mut other = berth_of(book, client(1)?)?;
-    logs(book, &mut two, "switch n1 2", Err(BookFault::OtherActor))?;
-    logs(book, &mut other, "switch n1 2", Err(BookFault::OtherActor))?;
-    logs(book, &mut one, "switch n1 2", not_a_step(StepFault::Down))?;
-    logs(book, &mut one, "rise n1 old", Ok(Effect::Up))?;
-    logs(book, &mut one, "switch n1 2", Ok(Effect::Switched(true)))?;
-    logs(
-        book,
-        &mut one,
+/// It is for n1 alone to log that it takes a problem, which it may while it is up and idle. The berths are
+/// those of n1, n2 and c1.
+const ITSELF: [Turn; 9] = [
+    Turn::Logs(Place::Second, "switch n1 2", Answer::OtherActor),
+    Turn::Logs(Place::Third, "switch n1 2", Answer::OtherActor),
+    Turn::Logs(Place::First, "switch n1 2", Answer::NotNow(StepFault::Down)),
+    Turn::Logs(Place::First, "rise n1 old", Answer::Up),
+    Turn::Logs(Place::First, "switch n1 2", Answer::Switched(true)),
+    Turn::Logs(
+        Place::First,
         "switch n1 2",
-        not_a_step(StepFault::WrongPhase),
-    )?;
-    takes_all(book, &mut one, "try n1\nkept n1")?;
-    logs(
-        book,
-        &mut one,
+        Answer::NotNow(StepFault::WrongPhase),
+    ),
+    Turn::Takes(Place::First, "try n1\nkept n1"),
+    Turn::Logs(
+        Place::First,
         "switch n1 2",
-        not_a_step(StepFault::WrongPhase),
-    )
-}
+        Answer::NotNow(StepFault::WrongPhase),
+    ),
+    Turn::Events(4),
+];
 
 #[test]
 fn only_a_node_itself_switches(rt: HostRuntime) -> Outcome {
-    let alloc = rt.alloc();
-    let mut book = opened(alloc, 7, three_nodes(alloc)?)?;
-    switches_itself(&mut book)?;
-    check(book.events() == 4)
+    let crew = [Who::Node(1), Who::Node(2), Who::Client(1)];
+    play(rt.alloc(), three_nodes(rt.alloc())?, crew, &ITSELF)
 }
 
 const FIRST_ASKS: &str = "rise c1 old\nbegin c1 read a\ntry c1\nkept c1\nsayto c1 n1";
@@ -62,129 +45,59 @@ const THIRD_ASKS: &str = "rise c3 old\nbegin c3 read a\ntry c3\nkept c3\nsayto c
 
 const FOURTH_ASKS: &str = "rise c4 old\nbegin c4 read a\ntry c4\nkept c4\nsayto c4 n1";
 
-/// A client asks by a berth that it gets here, and n1 takes its message and answers.
-fn asks(book: &mut Book, voter: &mut Berth, number: u32, asks: &str, answers: &str) -> Outcome
-    requires { voter.old.number ≡ book.old.number → voter.old.table ≡ book.old.table }
-    ensures book { (book.new.number ≡ book.old.number) × (book.new.table ≡ book.old.table) }
-    ensures voter { (voter.new.number ≡ voter.old.number) × (voter.new.table ≡ voter.old.table) }
-{
-    let mut one = berth_of(book, client(number)?)?;
-    takes_all(book, &mut one, asks)?;
-    takes_all(book, voter, answers)
-}
+/// c1 holds as a reader, c2 waits as a writer, and c3 behind c2 as a reader. n1 takes problem 1, which grants
+/// c3's request, takes it again, and then problem 2. The berths are those of n1, c1 and c2; c3 is given its
+/// own as it asks.
+const ALL_ASK: [Turn; 14] = [
+    Turn::Takes(Place::First, "rise n1 old"),
+    Turn::Takes(Place::Second, FIRST_ASKS),
+    Turn::Takes(Place::First, "take n1 1\ntry n1\nkept n1\nsay n1"),
+    Turn::Takes(Place::Third, SECOND_ASKS),
+    Turn::Takes(Place::First, "take n1 3\ntry n1\nkept n1\nsay n1"),
+    Turn::Joins(Who::Client(3)),
+    Turn::Takes(Place::Third, THIRD_ASKS),
+    Turn::Takes(Place::First, "take n1 5\ntry n1\nkept n1\nsay n1"),
+    Turn::Logs(Place::First, "switch n1 1", Answer::Switched(true)),
+    Turn::Takes(Place::First, "try n1\nkept n1"),
+    Turn::Logs(Place::First, "say n1", Answer::Said(7, 1)),
+    Turn::Logs(Place::First, "switch n1 1", Answer::Switched(false)),
+    Turn::Logs(Place::First, "say n1", Answer::Said(8, 0)),
+    Turn::Logs(Place::First, "switch n1 2", Answer::Switched(true)),
+];
 
-/// c1 holds as a reader, c2 waits as a writer, and c3 behind c2 as a reader.
-fn all_ask(book: &mut Book, voter: &mut Berth) -> Outcome
-    requires { voter.old.number ≡ book.old.number → voter.old.table ≡ book.old.table }
-    ensures book { (book.new.number ≡ book.old.number) × (book.new.table ≡ book.old.table) }
-    ensures voter { (voter.new.number ≡ voter.old.number) × (voter.new.table ≡ voter.old.table) }
-{
-    takes_all(book, voter, "rise n1 old")?;
-    asks(
-        book,
-        voter,
-        1,
-        FIRST_ASKS,
-        "take n1 1\ntry n1\nkept n1\nsay n1",
-    )?;
-    asks(
-        book,
-        voter,
-        2,
-        SECOND_ASKS,
-        "take n1 3\ntry n1\nkept n1\nsay n1",
-    )?;
-    asks(
-        book,
-        voter,
-        3,
-        THIRD_ASKS,
-        "take n1 5\ntry n1\nkept n1\nsay n1",
-    )
-}
+/// n1 falls before it tries to keep problem 2, and grants the request of c4, which is given its berth as it
+/// asks.
+const LOSES: [Turn; 5] = [
+    Turn::Takes(Place::First, "fall n1\nrise n1 old"),
+    Turn::Joins(Who::Client(4)),
+    Turn::Takes(Place::Third, FOURTH_ASKS),
+    Turn::Takes(Place::First, "take n1 8\ntry n1\nkept n1\nsay n1"),
+    Turn::Logs(Place::Third, "hear c4 9", Answer::HearsGrant(4)),
+];
 
-/// n1 takes problem 1, which grants c3's request, takes it again, and then problem 2.
-fn switches(book: &mut Book, voter: &mut Berth) -> Outcome
-    requires { voter.old.number ≡ book.old.number → voter.old.table ≡ book.old.table }
-    ensures book { (book.new.number ≡ book.old.number) × (book.new.table ≡ book.old.table) }
-    ensures voter { (voter.new.number ≡ voter.old.number) × (voter.new.table ≡ voter.old.table) }
-{
-    logs(book, voter, "switch n1 1", Ok(Effect::Switched(true)))?;
-    takes_all(book, voter, "try n1\nkept n1")?;
-    logs(
-        book,
-        voter,
-        "say n1",
-        Ok(Effect::Said { first: 7, count: 1 }),
-    )?;
-    logs(book, voter, "switch n1 1", Ok(Effect::Switched(false)))?;
-    logs(
-        book,
-        voter,
-        "say n1",
-        Ok(Effect::Said { first: 8, count: 0 }),
-    )?;
-    logs(book, voter, "switch n1 2", Ok(Effect::Switched(true)))
-}
+/// n1 falls while it tries to keep problem 2, rises with it, and is busy for c4.
+const FINDS: [Turn; 5] = [
+    Turn::Takes(Place::First, "try n1\nfall n1\nrise n1 new"),
+    Turn::Joins(Who::Client(4)),
+    Turn::Takes(Place::Third, FOURTH_ASKS),
+    Turn::Takes(Place::First, "take n1 8\ntry n1\nkept n1\nsay n1"),
+    Turn::Logs(Place::Third, "hear c4 9", Answer::HearsBusy(4)),
+];
 
-/// c4 asks, n1 answers by this message, and c4 makes this of it.
-fn fourth_hears(book: &mut Book, voter: &mut Berth, message: Message, heard: Heard) -> Outcome
-    requires { voter.old.number ≡ book.old.number → voter.old.table ≡ book.old.table }
-{
-    let mut four = berth_of(book, client(4)?)?;
-    takes_all(book, &mut four, FOURTH_ASKS)?;
-    takes_all(book, voter, "take n1 8\ntry n1\nkept n1\nsay n1")?;
-    logs(
-        book,
-        &mut four,
-        "hear c4 9",
-        Ok(Effect::Heard(message, heard)),
-    )
-}
-
-/// n1 switches, loses or finds the last switch as it rises, and answers c4.
-fn rises_and_answers(book: &mut Book, rises: &str, message: Message, heard: Heard) -> Outcome
-    requires { Unit {0} }
-{
-    let mut voter = berth_of(book, node(1)?)?;
-    all_ask(book, &mut voter)?;
-    switches(book, &mut voter)?;
-    takes_all(book, &mut voter, rises)?;
-    fourth_hears(book, &mut voter, message, heard)
-}
-
-/// The same in a book under problem 2, whose journal an audit finds sound.
-fn is_answered(alloc: Global, rises: &str, message: Message, heard: Heard) -> Outcome {
+/// All ask in a book under problem 2, and then this script is played. An audit finds the journal sound.
+fn is_answered(alloc: Global, script: &[Turn]) -> Outcome {
+    let crew = [Who::Node(1), Who::Client(1), Who::Client(2)];
     let mut book = opened(alloc, 7, one_node_under(alloc, Problem::Second)?)?;
-    rises_and_answers(&mut book, rises, message, heard)?;
-    let journal = journal_of(&book, alloc)?;
-    let world = one_node_under(alloc, Problem::Second)?;
-    is_sound(alloc, world, journal.as_slice(), book.events())
-}
-
-/// c4's first ticket, to read `a`.
-fn ticket() -> Result<Ticket, Failure> {
-    Ok(Ticket {
-        client: client_id(4)?,
-        attempt: attempt(1)?,
-        mode: Mode::Read,
-        resource: resource("a")?,
-    })
+    play_in(&mut book, crew, &ALL_ASK, script)?;
+    is_recorded(alloc, &book, one_node_under(alloc, Problem::Second)?)
 }
 
 #[test]
 fn switch_that_was_not_kept(rt: HostRuntime) -> Outcome {
-    let grant = Message::Grant(node_id(1)?, ticket()?);
-    is_answered(rt.alloc(), "fall n1\nrise n1 old", grant, Heard::Counted)
+    is_answered(rt.alloc(), &LOSES)
 }
 
 #[test]
 fn switch_that_was_found(rt: HostRuntime) -> Outcome {
-    let busy = Message::Busy(node_id(1)?, ticket()?);
-    is_answered(
-        rt.alloc(),
-        "try n1\nfall n1\nrise n1 new",
-        busy,
-        Heard::Busy,
-    )
+    is_answered(rt.alloc(), &FINDS)
 }

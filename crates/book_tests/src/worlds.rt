@@ -2,7 +2,7 @@
 
 use admission_policy::{Admission, FirstProblem, Pair, SecondProblem};
 use history_check::read_event;
-use lock_messages::{Actor, Attempt, ClientId, NodeId, ResourceName};
+use lock_messages::{Actor, Attempt, ClientId, Mode, NodeId, ResourceName, Ticket};
 use lock_model::Problem;
 use std::alloc::Global;
 use test_outcomes::Failure;
@@ -19,21 +19,41 @@ pub(crate) fn client_id(number: u32) -> Result<ClientId, Failure> {
 }
 
 pub(crate) fn node(number: u8) -> Result<Actor, Failure> {
-    let node = node_id(number)?;
-    Ok(Actor::Node(node))
+    Ok(Actor::Node(node_id(number)?))
 }
 
 pub(crate) fn client(number: u32) -> Result<Actor, Failure> {
-    let client = client_id(number)?;
-    Ok(Actor::Client(client))
+    Ok(Actor::Client(client_id(number)?))
+}
+
+/// An actor, by its number.
+#[derive(Clone, Copy)]
+pub(crate) enum Who {
+    Node(u8),
+    Client(u32),
+}
+
+impl Who {
+    pub(crate) fn actor(self) -> Result<Actor, Failure> {
+        match self {
+            Who::Node(number) => node(number),
+            Who::Client(number) => client(number),
+        }
+    }
 }
 
 pub(crate) fn attempt(number: u64) -> Result<Attempt, Failure> {
     Attempt::of(number).ok_or(Failure::Wrong(0))
 }
 
-pub(crate) fn resource(name: &str) -> Result<ResourceName, Failure> {
-    ResourceName::of(name.as_bytes()).ok_or(Failure::Wrong(0))
+/// The first ticket of a client, to read `a`.
+pub(crate) fn first_ticket(number: u32) -> Result<Ticket, Failure> {
+    Ok(Ticket {
+        client: client_id(number)?,
+        attempt: attempt(1)?,
+        mode: Mode::Read,
+        resource: ResourceName::of(b"a").ok_or(Failure::Wrong(0))?,
+    })
 }
 
 /// The event of a line.
@@ -51,15 +71,26 @@ fn pair(alloc: Global) -> Result<Pair, Failure> {
     Ok(Pair::of(first, second))
 }
 
-/// A world of this ballot, under this problem, and of four clients.
-fn world_of(alloc: Global, ballot: Ballot, problem: Problem) -> Result<World, Failure> {
-    let Ok(ballots) = BallotList::of(&[ballot]) else {
-        return Err(Failure::Wrong(0));
-    };
+/// One such pair for each of so many nodes.
+fn pairs_of(alloc: Global, count: u8) -> Result<Vec<Pair>, Failure> {
     let mut pairs = Vec::new(alloc);
-    for _ in 0..ballots.nodes() {
+    for _ in 0..count {
         pairs.push(pair(alloc)?)?;
     }
+    Ok(pairs)
+}
+
+/// The list of this one ballot.
+fn ballots_of(votes: &[u8], read: u16, write: u16) -> Result<BallotList, Failure> {
+    let Ok(ballot) = Ballot::of(votes, read, write) else {
+        return Err(Failure::Wrong(0));
+    };
+    BallotList::of(&[ballot]).map_err(|_| Failure::Wrong(0))
+}
+
+/// A world of these ballots, under this problem, and of four clients.
+fn world_of(alloc: Global, ballots: BallotList, problem: Problem) -> Result<World, Failure> {
+    let pairs = pairs_of(alloc, ballots.nodes())?;
     if pairs.len() != ballots.nodes() as usize {
         return Err(Failure::Wrong(0));
     }
@@ -71,18 +102,12 @@ fn world_of(alloc: Global, ballot: Ballot, problem: Problem) -> Result<World, Fa
 
 /// Three nodes with a vote each, of which two read and two write, under problem 1.
 pub(crate) fn three_nodes(alloc: Global) -> Result<World, Failure> {
-    match Ballot::of(&[1, 1, 1], 2, 2) {
-        Ok(ballot) => world_of(alloc, ballot, Problem::First),
-        Err(_) => Err(Failure::Wrong(0)),
-    }
+    world_of(alloc, ballots_of(&[1, 1, 1], 2, 2)?, Problem::First)
 }
 
 /// One node, whose vote is enough, under this problem.
 pub(crate) fn one_node_under(alloc: Global, problem: Problem) -> Result<World, Failure> {
-    match Ballot::of(&[1], 1, 1) {
-        Ok(ballot) => world_of(alloc, ballot, problem),
-        Err(_) => Err(Failure::Wrong(0)),
-    }
+    world_of(alloc, ballots_of(&[1], 1, 1)?, problem)
 }
 
 /// One node, whose vote is enough, under problem 1.

@@ -52,14 +52,19 @@ fn fits(alloc: Global, book: &Book, bytes: usize, room: usize) -> Outcome {
     }
 }
 
+/// Whether that is so of each of these rooms.
+fn all_fit(alloc: Global, book: &Book, bytes: usize, rooms: &[usize]) -> Outcome {
+    for room in rooms {
+        fits(alloc, book, bytes, *room)?;
+    }
+    Ok(())
+}
+
 fn fits_or_not(alloc: Global, times: u32, bytes: usize, rooms: &[usize]) -> Outcome {
     let mut book = opened(alloc, 7, three_nodes(alloc)?)?;
     let mut berth = berth_of(&mut book, client(1)?)?;
     rises(&mut book, &mut berth, times)?;
-    for room in rooms {
-        fits(alloc, &book, bytes, *room)?;
-    }
-    Ok(())
+    all_fit(alloc, &book, bytes, rooms)
 }
 
 #[test]

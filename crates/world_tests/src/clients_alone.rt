@@ -1,142 +1,238 @@
 // One client of the world by itself: what it keeps over a restart, and what it says.
 
+use crate::rows::Note;
+use crate::steps::{ballot_of, done, in_row};
 use crate::values::{attempt, client, node, resource, ticket};
-use lock_messages::{Message, Mode};
+use lock_messages::Mode;
 use lock_model::Heard;
 use test_outcomes::{Failure, Outcome, check};
-use vote_weights::{Ballot, BallotList};
 use world_actors::WorldClient;
 use world_model::{Age, StepFault};
 
-/// c1 under a ballot of one node, down, with nothing kept.
-fn empty() -> Result<WorldClient, Failure> {
-    let Ok(ballot) = Ballot::of(&[1], 1, 1) else {
-        return Err(Failure::Wrong(0));
-    };
-    match BallotList::of(&[ballot]) {
-        Ok(ballots) => Ok(WorldClient::opened(client(1)?, 0, ballots)),
-        Err(_) => Err(Failure::Wrong(0)),
+/// What c1 does by itself, or what is so of it.
+#[derive(Clone, Copy)]
+enum Turn {
+    Rise(Age),
+    Fall,
+    /// It begins the attempt of this number, to use `a`.
+    Begin(Mode, u64),
+    /// It finds no ballot at the second place.
+    NoSuchPlace,
+    StartKeeping,
+    Keep,
+    Enter,
+    NoQuorum,
+    Leave,
+    Soften,
+    /// It has nothing to soften, and this is why.
+    NoSoften(StepFault),
+    /// It hears the message, and makes this of it.
+    Hear(Note, Heard),
+    MayNotHear,
+    /// It has this to say to n1.
+    Message(Note),
+    /// What it has to say isn't kept yet.
+    NotStored,
+    /// It is inside with its first ticket, in this mode.
+    Inside(Mode),
+    Outside,
+    /// It has kept the attempt of this number.
+    Kept(u64),
+}
+
+/// Whether it begins the attempt of this number.
+fn begins(one: &mut WorldClient, mode: Mode, number: u64) -> Result<bool, Failure> {
+    let begun = one.begin(mode, resource()?, 1)?;
+    Ok(begun == attempt(number)?)
+}
+
+fn finds_no_place(one: &mut WorldClient) -> Result<bool, Failure> {
+    let begun = one.begin(Mode::Write, resource()?, 2);
+    Ok(begun == Err(StepFault::NoSuchPlace))
+}
+
+fn goes(one: &mut WorldClient, turn: &Turn) -> Outcome {
+    match *turn {
+        Turn::Rise(age) => done(one.rise(age)),
+        Turn::Fall => done(one.fall()),
+        Turn::Begin(mode, number) => check(begins(one, mode, number)?),
+        Turn::NoSuchPlace => check(finds_no_place(one)?),
+        Turn::StartKeeping => done(one.start_keeping()),
+        Turn::Keep => done(one.keep()),
+        Turn::Enter => done(one.enter()),
+        Turn::NoQuorum => check(one.enter() == Err(StepFault::NoQuorum)),
+        Turn::Leave => done(one.leave()),
+        Turn::Soften => done(one.soften()),
+        Turn::NoSoften(fault) => check(one.soften() == Err(fault)),
+        Turn::Hear(note, heard) => check(one.hear(&note.message()?) == heard),
+        Turn::MayNotHear => check(one.may_hear() == Err(StepFault::Down)),
+        Turn::Message(note) => check(one.message_for(node(1)?)? == note.message()?),
+        Turn::NotStored => check(one.message_for(node(1)?) == Err(StepFault::NotStored)),
+        Turn::Inside(mode) => check(one.inside() == Some(ticket(1, mode)?)),
+        Turn::Outside => check(one.inside().is_none()),
+        Turn::Kept(number) => check(one.kept() == number),
     }
 }
 
-/// c1, which has chosen its first attempt and tries to keep its number.
-fn trying() -> Result<WorldClient, Failure> {
-    let (resource, first) = (resource()?, attempt(1)?);
-    let mut one = empty()?;
-    one.rise(Age::Old)?;
-    check(one.begin(Mode::Write, resource, 2) == Err(StepFault::NoSuchPlace))?;
-    check(one.begin(Mode::Write, resource, 1) == Ok(first))?;
-    check(one.message_for(node(1)?) == Err(StepFault::NotStored))?;
-    one.start_keeping()?;
-    Ok(one)
+/// Plays the turns of a script; what goes wrong is told by the turn's place.
+fn plays(one: &mut WorldClient, script: &[Turn]) -> Outcome {
+    for (row, turn) in script.iter().enumerate() {
+        in_row(goes(one, turn), row)?;
+    }
+    Ok(())
 }
 
-/// c1 inside, on the vote of n1.
-fn entered() -> Result<WorldClient, Failure> {
-    let (to, ticket) = (node(1)?, ticket(1, Mode::Write)?);
-    let mut one = trying()?;
-    one.keep()?;
-    check(one.message_for(to) == Ok(Message::Request(to, ticket)))?;
-    check(one.enter() == Err(StepFault::NoQuorum))?;
-    check(one.hear(&Message::Grant(to, ticket)) == Heard::Counted)?;
-    one.enter()?;
-    Ok(one)
+/// c1 under a ballot of one node, down, with nothing kept.
+fn empty() -> Result<WorldClient, Failure> {
+    Ok(WorldClient::opened(client(1)?, 0, ballot_of(&[1], 1, 1)?))
 }
+
+/// Plays scripts with that client.
+fn play_all(scripts: &[&[Turn]]) -> Outcome {
+    let mut one = empty()?;
+    for script in scripts {
+        plays(&mut one, script)?;
+    }
+    Ok(())
+}
+
+/// c1 rises, chooses its first attempt and tries to keep its number.
+const TRYING: [Turn; 5] = [
+    Turn::Rise(Age::Old),
+    Turn::NoSuchPlace,
+    Turn::Begin(Mode::Write, 1),
+    Turn::NotStored,
+    Turn::StartKeeping,
+];
+
+/// c1 gets in, on the vote of n1.
+const ENTERS: [Turn; 5] = [
+    Turn::Keep,
+    Turn::Message(Note::Request(1, Mode::Write)),
+    Turn::NoQuorum,
+    Turn::Hear(Note::Grant(1, Mode::Write), Heard::Counted),
+    Turn::Enter,
+];
+
+const LEAVES: [Turn; 5] = [
+    Turn::Inside(Mode::Write),
+    Turn::Kept(1),
+    Turn::Leave,
+    Turn::Outside,
+    Turn::Message(Note::Release(1)),
+];
 
 #[test]
 fn enters_and_leaves(_rt: HostRuntime) -> Outcome {
-    let (to, ticket) = (node(1)?, ticket(1, Mode::Write)?);
-    let mut one = entered()?;
-    check(one.inside() == Some(ticket) && one.kept() == 1)?;
-    one.leave()?;
-    let release = Message::Release(to, ticket.client, ticket.attempt);
-    check(one.inside().is_none() && one.message_for(to) == Ok(release))
+    play_all(&[&TRYING, &ENTERS, &LEAVES])
 }
+
+const IS_INSIDE: [Turn; 1] = [Turn::Inside(Mode::Write)];
+
+const GOES_OUT: [Turn; 3] = [Turn::Inside(Mode::Write), Turn::Leave, Turn::Outside];
 
 /// A copy of c1 leaves; c1 itself is still inside.
 #[test]
 fn copy_leaves_alone(_rt: HostRuntime) -> Outcome {
-    let ticket = ticket(1, Mode::Write)?;
-    let one = entered()?;
+    let mut one = empty()?;
+    plays(&mut one, &TRYING)?;
+    plays(&mut one, &ENTERS)?;
     let mut copy = one.copy();
-    check(copy.inside() == Some(ticket))?;
-    copy.leave()?;
-    check(copy.inside().is_none() && one.inside() == Some(ticket))
+    plays(&mut copy, &GOES_OUT)?;
+    plays(&mut one, &IS_INSIDE)
 }
+
+const FALLS: [Turn; 6] = [
+    Turn::Fall,
+    Turn::Outside,
+    Turn::MayNotHear,
+    Turn::Rise(Age::Old),
+    Turn::Outside,
+    Turn::Kept(1),
+];
 
 #[test]
 fn falls_inside(_rt: HostRuntime) -> Outcome {
-    let mut one = entered()?;
-    one.fall()?;
-    check(one.inside().is_none() && one.may_hear() == Err(StepFault::Down))?;
-    one.rise(Age::Old)?;
-    check(one.inside().is_none() && one.kept() == 1)
+    play_all(&[&TRYING, &ENTERS, &FALLS])
 }
+
+const SOFTENS: [Turn; 12] = [
+    Turn::Hear(Note::Softened(1), Heard::NotMine),
+    Turn::Soften,
+    Turn::Inside(Mode::Read),
+    Turn::Message(Note::Soften(1)),
+    Turn::Hear(Note::Softened(1), Heard::Softened),
+    Turn::Hear(Note::Grant(1, Mode::Write), Heard::NotMine),
+    Turn::NoSoften(StepFault::WrongPhase),
+    Turn::Inside(Mode::Read),
+    Turn::Leave,
+    Turn::Outside,
+    Turn::Message(Note::Release(1)),
+    Turn::Hear(Note::Softened(1), Heard::NotMine),
+];
 
 #[test]
 fn softens_inside(_rt: HostRuntime) -> Outcome {
-    let (to, reader) = (node(1)?, ticket(1, Mode::Read)?);
-    let soften = Message::Soften(to, reader.client, reader.attempt);
-    let softened = Message::Softened(to, reader.client, reader.attempt);
-    let grant = Message::Grant(to, ticket(1, Mode::Write)?);
-    let mut one = entered()?;
-    check(one.hear(&softened) == Heard::NotMine)?;
-    one.soften()?;
-    check(one.inside() == Some(reader) && one.message_for(to) == Ok(soften))?;
-    check(one.hear(&softened) == Heard::Softened && one.hear(&grant) == Heard::NotMine)?;
-    check(one.soften() == Err(StepFault::WrongPhase) && one.inside() == Some(reader))?;
-    one.leave()?;
-    let release = Message::Release(to, reader.client, reader.attempt);
-    check(one.inside().is_none() && one.message_for(to) == Ok(release))?;
-    check(one.hear(&softened) == Heard::NotMine)
+    play_all(&[&TRYING, &ENTERS, &SOFTENS])
 }
 
 /// Softening isn't kept: a client that rises is outside, and its attempt over.
+const FALLS_SOFTENED: [Turn; 9] = [
+    Turn::Soften,
+    Turn::Fall,
+    Turn::Outside,
+    Turn::NoSoften(StepFault::Down),
+    Turn::Rise(Age::Old),
+    Turn::Outside,
+    Turn::Message(Note::Release(1)),
+    Turn::NoSoften(StepFault::WrongPhase),
+    Turn::Kept(1),
+];
+
 #[test]
 fn falls_softened(_rt: HostRuntime) -> Outcome {
-    let (to, reader) = (node(1)?, ticket(1, Mode::Read)?);
-    let mut one = entered()?;
-    one.soften()?;
-    one.fall()?;
-    check(one.inside().is_none() && one.soften() == Err(StepFault::Down))?;
-    one.rise(Age::Old)?;
-    let release = Message::Release(to, reader.client, reader.attempt);
-    check(one.inside().is_none() && one.message_for(to) == Ok(release))?;
-    check(one.soften() == Err(StepFault::WrongPhase) && one.kept() == 1)
+    play_all(&[&TRYING, &ENTERS, &FALLS_SOFTENED])
 }
 
-/// c1 inside as a reader, on the vote of n1.
-fn reading() -> Result<WorldClient, Failure> {
-    let mut one = empty()?;
-    one.rise(Age::Old)?;
-    check(one.begin(Mode::Read, resource()?, 1) == Ok(attempt(1)?))?;
-    one.start_keeping()?;
-    one.keep()?;
-    let grant = Message::Grant(node(1)?, ticket(1, Mode::Read)?);
-    check(one.hear(&grant) == Heard::Counted)?;
-    one.enter()?;
-    Ok(one)
-}
+const NOBODY: [Turn; 3] = [
+    Turn::NoSoften(StepFault::Down),
+    Turn::Rise(Age::Old),
+    Turn::NoSoften(StepFault::WrongPhase),
+];
+
+const CHOSEN: [Turn; 3] = [
+    Turn::NoSoften(StepFault::WrongPhase),
+    Turn::Keep,
+    Turn::NoSoften(StepFault::WrongPhase),
+];
+
+/// c1 gets in as a reader, on the vote of n1.
+const READER: [Turn; 8] = [
+    Turn::Rise(Age::Old),
+    Turn::Begin(Mode::Read, 1),
+    Turn::StartKeeping,
+    Turn::Keep,
+    Turn::Hear(Note::Grant(1, Mode::Read), Heard::Counted),
+    Turn::Enter,
+    Turn::NoSoften(StepFault::WrongPhase),
+    Turn::Inside(Mode::Read),
+];
 
 #[test]
 fn nobody_else_softens(_rt: HostRuntime) -> Outcome {
-    let mut down = empty()?;
-    check(down.soften() == Err(StepFault::Down))?;
-    down.rise(Age::Old)?;
-    check(down.soften() == Err(StepFault::WrongPhase))?;
-    let mut chosen = trying()?;
-    check(chosen.soften() == Err(StepFault::WrongPhase))?;
-    chosen.keep()?;
-    check(chosen.soften() == Err(StepFault::WrongPhase))?;
-    let mut reader = reading()?;
-    check(reader.soften() == Err(StepFault::WrongPhase))?;
-    check(reader.inside() == Some(ticket(1, Mode::Read)?))
+    play_all(&[&NOBODY])?;
+    play_all(&[&TRYING, &CHOSEN])?;
+    play_all(&[&READER])
 }
+
+const RESTARTS: [Turn; 4] = [
+    Turn::Fall,
+    Turn::Rise(Age::New),
+    Turn::Kept(1),
+    Turn::Begin(Mode::Read, 2),
+];
 
 #[test]
 fn restarted_client(_rt: HostRuntime) -> Outcome {
-    let mut one = trying()?;
-    one.fall()?;
-    one.rise(Age::New)?;
-    check(one.kept() == 1 && one.begin(Mode::Read, resource()?, 1) == Ok(attempt(2)?))
+    play_all(&[&TRYING, &RESTARTS])
 }

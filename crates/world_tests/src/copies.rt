@@ -1,178 +1,211 @@
 // Copies of worlds: a copy has what the world has, and what happens in one doesn't happen in the other.
 
-use crate::steps::{answers, begins, does, is_refused, runs, world};
-use crate::values::{client, node, ticket};
-use lock_messages::{Actor, Message, Mode};
+use crate::rows::{Deed, Done, Note, Who};
+use crate::sights::{Sight, keeps};
+use crate::steps::{Step, begins, play_all, plays, runs, world};
+use lock_messages::{Actor, Mode};
 use lock_model::Problem;
 use std::alloc::Global;
 use test_outcomes::{Failure, Outcome, check};
 use world_machine::World;
-use world_model::{Age, Effect, Event, StepFault};
+use world_model::{Age, StepFault};
 
 /// As many clients as there may be.
 const MANY: u16 = 1_024;
 
-/// A client asks a node by a message of this number, and hears the answer, which is the next message.
-fn asks(world: &mut World, from: u32, to: u8, message: u32) -> Outcome {
-    let (asks, asked) = (client(from)?, node(to)?);
-    runs(world, &[Event::SayTo(asks, asked)])?;
-    answers(world, to, message)?;
-    runs(world, &[Event::Hear(asks, message.saturating_add(1))])
-}
+const N1: Who = Who::Node(1);
 
-/// The world in which c1 is inside as a reader, by n1 and n2, and n1 has decided on the request of c2, a
-/// writer, and tries to keep that: five messages.
-fn busy(alloc: Global) -> Result<World, Failure> {
-    let (one, other) = (Actor::Node(node(1)?), Actor::Node(node(2)?));
-    let mut world = world(alloc, Problem::Second, 2)?;
-    runs(
-        &mut world,
-        &[Event::Rise(one, Age::Old), Event::Rise(other, Age::Old)],
-    )?;
-    begins(&mut world, 1, Mode::Read)?;
-    asks(&mut world, 1, 1, 1)?;
-    asks(&mut world, 1, 2, 3)?;
-    begins(&mut world, 2, Mode::Write)?;
-    let events = [
-        Event::Enter(client(1)?),
-        Event::SayTo(client(2)?, node(1)?),
-        Event::Take(node(1)?, 5),
-        Event::Try(one),
-    ];
-    runs(&mut world, &events)?;
-    Ok(world)
-}
+/// c1 is inside as a reader, by n1 and n2, and n1 has decided on the request of c2, a writer, and tries to
+/// keep that: five messages.
+const BUSY: [Step; 10] = [
+    Step::Now(Deed::Rise(N1, Age::Old)),
+    Step::Now(Deed::Rise(Who::Node(2), Age::Old)),
+    Step::Begins(1, Mode::Read),
+    Step::Asks(1, 1, 1),
+    Step::Asks(1, 2, 3),
+    Step::Begins(2, Mode::Write),
+    Step::Now(Deed::Enter(1)),
+    Step::Now(Deed::SayTo(2, 1)),
+    Step::Now(Deed::Take(1, 5)),
+    Step::Now(Deed::Try(N1)),
+];
 
 /// n1 has kept what it decided, and tells c2 that it waits.
-fn goes_on(world: &mut World) -> Outcome {
-    let said = Effect::Said { first: 6, count: 1 };
-    runs(world, &[Event::Kept(Actor::Node(node(1)?))])?;
-    does(world, Event::Say(node(1)?), said)?;
-    let busy = Message::Busy(node(1)?, ticket(2, Mode::Write)?);
-    check(world.sent(6) == Some(busy))
+const GOES_ON: [Step; 3] = [
+    Step::Now(Deed::Kept(N1)),
+    Step::Does(Deed::Say(1), Done::Said(6, 1)),
+    Step::See(Sight::Sent(6, Note::Busy(2, Mode::Write))),
+];
+
+const LEAVES: [Step; 1] = [Step::Now(Deed::Leave(1))];
+
+/// n1 has not kept yet what it decided, and c1 is inside.
+const AS_IT_WAS: [Step; 4] = [
+    Step::See(Sight::IsSent(5)),
+    Step::See(Sight::Unsent(6)),
+    Step::See(Sight::IsInside(1, Mode::Read)),
+    Step::Refused(Deed::Say(1), StepFault::NotStored),
+];
+
+/// What is done with a world and its copy, or is so of both.
+#[derive(Clone, Copy)]
+enum Turn {
+    World(&'static [Step]),
+    Copy(&'static [Step]),
+    /// The actor has kept the same in both.
+    KeptTheSame(Who),
+    /// The actor has kept more bytes in the copy.
+    KeptMore(Who),
 }
 
-/// Whether n1 has not kept yet what it decided, and c1 is inside.
-fn is_as_it_was(world: &mut World) -> Outcome {
-    let reader = ticket(1, Mode::Read)?;
-    check(world.sent(5).is_some() && world.sent(6).is_none())?;
-    check(world.ticket_inside(client(1)?) == Some(reader))?;
-    is_refused(world, Event::Say(node(1)?), StepFault::NotStored)
+fn kept_the_same(world: &World, copy: &World, who: Who) -> Result<bool, Failure> {
+    let kept = world.kept_bytes(who.actor()?)?;
+    keeps(copy, who, &kept)
 }
+
+fn kept_more(world: &World, copy: &World, who: Actor) -> Result<bool, Failure> {
+    let before = world.kept_bytes(who)?.len();
+    let now = copy.kept_bytes(who)?.len();
+    Ok(now > before)
+}
+
+fn goes(world: &mut World, copy: &mut World, turn: &Turn) -> Outcome {
+    match *turn {
+        Turn::World(script) => plays(world, script),
+        Turn::Copy(script) => plays(copy, script),
+        Turn::KeptTheSame(who) => check(kept_the_same(world, copy, who)?),
+        Turn::KeptMore(who) => check(kept_more(world, copy, who.actor()?)?),
+    }
+}
+
+fn go_apart(world: &mut World, copy: &mut World, turns: &[Turn]) -> Outcome {
+    for turn in turns {
+        goes(world, copy, turn)?;
+    }
+    Ok(())
+}
+
+/// Plays a script in the world in which n1 is busy, and then these turns in that world and a copy of it.
+fn play_copied(alloc: Global, script: &[Step], turns: &[Turn]) -> Outcome {
+    let mut world = world(alloc, Problem::Second, 2)?;
+    play_all(&mut world, &[&BUSY, script])?;
+    let mut copy = world.copy()?;
+    go_apart(&mut world, &mut copy, turns)
+}
+
+const COPY_FIRST: [Turn; 4] = [
+    Turn::Copy(&GOES_ON),
+    Turn::Copy(&LEAVES),
+    Turn::World(&AS_IT_WAS),
+    Turn::World(&GOES_ON),
+];
 
 #[test]
 fn copy_goes_on_alone(rt: HostRuntime) -> Outcome {
-    let mut world = busy(rt.alloc())?;
-    let mut copy = world.copy()?;
-    goes_on(&mut copy)?;
-    runs(&mut copy, &[Event::Leave(client(1)?)])?;
-    is_as_it_was(&mut world)?;
-    goes_on(&mut world)
+    play_copied(rt.alloc(), &[], &COPY_FIRST)
 }
+
+const WORLD_FIRST: [Turn; 4] = [
+    Turn::World(&GOES_ON),
+    Turn::World(&LEAVES),
+    Turn::Copy(&AS_IT_WAS),
+    Turn::Copy(&GOES_ON),
+];
 
 #[test]
 fn world_goes_on_alone(rt: HostRuntime) -> Outcome {
-    let mut world = busy(rt.alloc())?;
-    let mut copy = world.copy()?;
-    goes_on(&mut world)?;
-    runs(&mut world, &[Event::Leave(client(1)?)])?;
-    is_as_it_was(&mut copy)?;
-    goes_on(&mut copy)
+    play_copied(rt.alloc(), &[], &WORLD_FIRST)
+}
+
+/// A copy of a copy of the world in which n1 is busy.
+fn second_copy(alloc: Global) -> Result<World, Failure> {
+    let mut world = world(alloc, Problem::Second, 2)?;
+    plays(&mut world, &BUSY)?;
+    Ok(world.copy()?.copy()?)
 }
 
 /// A copy of a copy, once the world is gone.
 #[test]
 fn copy_stands_alone(rt: HostRuntime) -> Outcome {
-    let mut copy = busy(rt.alloc())?.copy()?.copy()?;
-    is_as_it_was(&mut copy)?;
-    goes_on(&mut copy)
+    let mut copy = second_copy(rt.alloc())?;
+    play_all(&mut copy, &[&AS_IT_WAS, &GOES_ON])
 }
+
+const FALLS: [Step; 1] = [Step::Now(Deed::Fall(N1))];
+
+const RISES: [Step; 1] = [Step::Does(Deed::Rise(N1, Age::New), Done::Up)];
+
+const IS_DOWN: [Step; 1] = [Step::Refused(Deed::Say(1), StepFault::Down)];
+
+const TRIED: [Turn; 3] = [
+    Turn::Copy(&RISES),
+    Turn::World(&IS_DOWN),
+    Turn::KeptMore(N1),
+];
 
 /// A node that fell while it tried to keep its record finds in a copy what it finds in the world.
 #[test]
 fn what_is_tried_is_copied(rt: HostRuntime) -> Outcome {
-    let at = node(1)?;
-    let mut world = busy(rt.alloc())?;
-    runs(&mut world, &[Event::Fall(Actor::Node(at))])?;
-    let mut copy = world.copy()?;
-    let rise = Event::Rise(Actor::Node(at), Age::New);
-    does(&mut copy, rise, Effect::Up)?;
-    is_refused(&mut world, Event::Say(at), StepFault::Down)?;
-    let (now, before) = (
-        copy.kept_bytes(Actor::Node(at))?,
-        world.kept_bytes(Actor::Node(at))?,
-    );
-    check(now.len() > before.len())
+    play_copied(rt.alloc(), &FALLS, &TRIED)
 }
 
-/// Nodes keep their problem: a copy decides as the world does. Under problem 2 c2's request lets no reader
-/// pass.
+/// Under problem 2 c2's request lets no reader pass.
+const SWITCHES: [Step; 6] = [
+    Step::Does(Deed::Switch(1, Problem::Second), Done::Switched(false)),
+    Step::Does(Deed::Say(1), Done::Said(7, 0)),
+    Step::Does(Deed::Switch(1, Problem::First), Done::Switched(true)),
+    Step::Now(Deed::Try(N1)),
+    Step::Now(Deed::Kept(N1)),
+    Step::Does(Deed::Say(1), Done::Said(7, 0)),
+];
+
+const PROBLEMS: [Turn; 2] = [Turn::Copy(&GOES_ON), Turn::Copy(&SWITCHES)];
+
+/// Nodes keep their problem: a copy decides as the world does.
 #[test]
 fn copy_decides_by_the_problem(rt: HostRuntime) -> Outcome {
-    let (at, who) = (node(1)?, Actor::Node(node(1)?));
-    let world = busy(rt.alloc())?;
-    let mut copy = world.copy()?;
-    goes_on(&mut copy)?;
-    does(
-        &mut copy,
-        Event::Switch(at, Problem::Second),
-        Effect::Switched(false),
-    )?;
-    does(
-        &mut copy,
-        Event::Say(at),
-        Effect::Said { first: 7, count: 0 },
-    )?;
-    does(
-        &mut copy,
-        Event::Switch(at, Problem::First),
-        Effect::Switched(true),
-    )?;
-    runs(&mut copy, &[Event::Try(who), Event::Kept(who)])?;
-    does(
-        &mut copy,
-        Event::Say(at),
-        Effect::Said { first: 7, count: 0 },
-    )
+    play_copied(rt.alloc(), &[], &PROBLEMS)
 }
 
-/// Whether the actor has kept the same in both.
-fn keep_the_same(world: &World, copy: &World, who: Actor) -> Outcome {
-    let (one, other) = (world.kept_bytes(who)?, copy.kept_bytes(who)?);
-    check(one.as_slice() == other.as_slice())
-}
-
-/// A world of as many clients as there may be, each of which asks n1: 1,024 messages.
-fn crowd(alloc: Global) -> Result<World, Failure> {
-    let mut world = world(alloc, Problem::First, MANY)?;
+/// As many clients as there may be each ask n1: 1,024 messages.
+fn crowd(world: &mut World) -> Outcome {
     for number in 1..=MANY as u32 {
-        begins(&mut world, number, Mode::Read)?;
-        runs(&mut world, &[Event::SayTo(client(number)?, node(1)?)])?;
+        begins(world, number, Mode::Read)?;
+        runs(world, &[Deed::SayTo(number, 1).event()?])?;
     }
-    Ok(world)
+    Ok(())
 }
 
-#[test]
-fn copy_of_a_crowd(rt: HostRuntime) -> Outcome {
-    let world = crowd(rt.alloc())?;
-    let copy = world.copy()?;
+fn same_crowd(world: &World, copy: &World) -> Outcome {
     for number in 1..=MANY as u32 {
-        keep_the_same(&world, &copy, Actor::Client(client(number)?))?;
-        check(world.sent(number).is_some() && world.sent(number) == copy.sent(number))?;
+        let kept = kept_the_same(world, copy, Who::Client(number))?;
+        let sent = world.sent(number);
+        check(kept && sent.is_some() && sent == copy.sent(number))?;
     }
     check(copy.sent(MANY as u32 + 1).is_none())
 }
 
 #[test]
+fn copy_of_a_crowd(rt: HostRuntime) -> Outcome {
+    let mut world = world(rt.alloc(), Problem::First, MANY)?;
+    crowd(&mut world)?;
+    let copy = world.copy()?;
+    same_crowd(&world, &copy)
+}
+
+const NOTHING: [Turn; 3] = [
+    Turn::KeptTheSame(Who::Node(3)),
+    Turn::KeptTheSame(Who::Client(1)),
+    Turn::Copy(&[
+        Step::See(Sight::Unsent(1)),
+        Step::See(Sight::IsUnknown(Who::Client(2))),
+        Step::Does(Deed::Rise(Who::Node(3), Age::Old), Done::Up),
+    ]),
+];
+
+#[test]
 fn copy_of_nothing(rt: HostRuntime) -> Outcome {
-    let world = world(rt.alloc(), Problem::First, 1)?;
+    let mut world = world(rt.alloc(), Problem::First, 1)?;
     let mut copy = world.copy()?;
-    keep_the_same(&world, &copy, Actor::Node(node(3)?))?;
-    keep_the_same(&world, &copy, Actor::Client(client(1)?))?;
-    check(copy.sent(1).is_none() && !copy.has(Actor::Client(client(2)?)))?;
-    does(
-        &mut copy,
-        Event::Rise(Actor::Node(node(3)?), Age::Old),
-        Effect::Up,
-    )
+    go_apart(&mut world, &mut copy, &NOTHING)
 }

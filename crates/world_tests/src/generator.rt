@@ -2,6 +2,7 @@
 // order, or never; actors fall and rise, and nodes take problems; every client in turn asks, enters, softens
 // and releases.
 
+use crate::values;
 use lock_messages::{Actor, ClientId, Message, Mode, NodeId, ResourceName};
 use lock_model::Problem;
 use rand_core::utils::NextWord;
@@ -15,39 +16,24 @@ pub(crate) const NODES: u8 = 5;
 pub(crate) const CLIENTS: u16 = 6;
 
 pub(crate) fn node(number: u32) -> Result<NodeId, Failure> {
-    match NodeId::of((number % NODES as u32 + 1) as u8) {
-        Some(node) => Ok(node),
-        None => Err(Failure::Wrong(0)),
-    }
+    values::node((number % NODES as u32 + 1) as u8)
 }
 
 pub(crate) fn client(number: u32) -> Result<ClientId, Failure> {
-    match ClientId::of(number % CLIENTS as u32 + 1) {
-        Some(client) => Ok(client),
-        None => Err(Failure::Wrong(0)),
-    }
+    values::client(number % CLIENTS as u32 + 1)
 }
 
 pub(crate) fn name(number: u32) -> Result<ResourceName, Failure> {
-    let name = if number % 2 == 0 {
-        ResourceName::of(b"a")
-    } else {
-        ResourceName::of(b"b")
-    };
-    match name {
-        Some(name) => Ok(name),
-        None => Err(Failure::Wrong(0)),
-    }
+    let name: &[u8] = if number % 2 == 0 { b"a" } else { b"b" };
+    ResourceName::of(name).ok_or(Failure::Wrong(0))
 }
 
 fn some_actor(words: &mut Pcg32) -> Result<Actor, Failure> {
     let number = words.next_word();
     if words.next_word() % 2 == 0 {
-        let node = node(number)?;
-        Ok(Actor::Node(node))
+        Ok(Actor::Node(node(number)?))
     } else {
-        let client = client(number)?;
-        Ok(Actor::Client(client))
+        Ok(Actor::Client(client(number)?))
     }
 }
 
@@ -72,10 +58,7 @@ fn some_delivery(words: &mut Pcg32, world: &World, sent: u32) -> Result<Event, F
     let number = sent.saturating_sub(back);
     match world.sent(number) {
         Some(message) => Ok(delivery(message, number)),
-        None => {
-            let node = node(number)?;
-            Ok(Event::Take(node, number))
-        }
+        None => Ok(Event::Take(node(number)?, number)),
     }
 }
 

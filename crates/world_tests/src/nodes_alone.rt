@@ -1,7 +1,9 @@
 // One node of the world by itself: what it keeps over a restart, and what it says.
 
 use crate::pairs::plain;
-use crate::values::{attempt, client, node, request, ticket};
+use crate::rows::Note;
+use crate::steps::{done, in_row};
+use crate::values::node;
 use lock_messages::{Message, Mode};
 use lock_model::Problem;
 use stable_record::read_node;
@@ -30,141 +32,6 @@ const SOFTENED: [u8; 28] = [
     0x00, 0x00, 0x00, 0x00, 0x01, 0x00, 0x01, 0x61,
 ];
 
-/// n1 under problem 1, down, with nothing kept.
-fn empty(alloc: Global) -> Result<WorldNode, Failure> {
-    let id = node(1)?;
-    let pair = plain(alloc)?;
-    Ok(WorldNode::empty(alloc, id, Problem::First, pair))
-}
-
-/// n1, which has decided on c1's request and tries to keep that.
-fn trying(alloc: Global) -> Result<WorldNode, Failure> {
-    let message = request(1, Mode::Read)?;
-    let mut one = empty(alloc)?;
-    one.rise(Age::Old)?;
-    let changed = one.take(&message)?;
-    one.start_keeping()?;
-    check(changed && one.replies() == Err(StepFault::NotStored))?;
-    Ok(one)
-}
-
-/// n1 with this record, down.
-fn opened(alloc: Global, record: &[u8]) -> Result<WorldNode, Failure> {
-    let id = node(1)?;
-    let Ok(record) = read_node(alloc, record) else {
-        return Err(Failure::Memory);
-    };
-    let pair = plain(alloc)?;
-    Ok(WorldNode::opened(alloc, id, record, pair))
-}
-
-/// n1 with this record, up.
-fn risen(alloc: Global, record: &[u8]) -> Result<WorldNode, Failure> {
-    let mut one = opened(alloc, record)?;
-    one.rise(Age::Old)?;
-    Ok(one)
-}
-
-fn soften() -> Result<Message, Failure> {
-    Ok(Message::Soften(node(1)?, client(1)?, attempt(1)?))
-}
-
-fn softened() -> Result<Message, Failure> {
-    Ok(Message::Softened(node(1)?, client(1)?, attempt(1)?))
-}
-
-/// n1 with c1 as a writer, which has decided on its softening and tries to keep that.
-fn softening(alloc: Global) -> Result<WorldNode, Failure> {
-    let message = soften()?;
-    let mut one = risen(alloc, &WRITES)?;
-    let changed = one.take(&message)?;
-    one.start_keeping()?;
-    check(changed)?;
-    Ok(one)
-}
-
-/// Whether n1 has nothing to keep for this message, and answers it so.
-fn answers(one: &mut WorldNode, message: &Message, answer: Message) -> Outcome {
-    let changed = one.take(message)?;
-    let said = one.say()?;
-    check(!changed && said.as_slice() == [answer].as_slice())
-}
-
-/// n1 after it fell and rose with a record of this age.
-fn restarted(alloc: Global, age: Age) -> Result<WorldNode, Failure> {
-    let mut one = trying(alloc)?;
-    one.fall()?;
-    one.rise(age)?;
-    Ok(one)
-}
-
-#[test]
-fn first_reader(rt: HostRuntime) -> Outcome {
-    let grant = Message::Grant(node(1)?, ticket(1, Mode::Read)?);
-    let mut one = trying(rt.alloc())?;
-    one.keep()?;
-    check(one.kept().entries.len() == 1 && one.replies() == Ok(1))?;
-    let said = one.say()?;
-    check(said.as_slice() == [grant].as_slice() && one.may_take() == Ok(()))
-}
-
-#[test]
-fn restart_with_old_record(rt: HostRuntime) -> Outcome {
-    let one = restarted(rt.alloc(), Age::Old)?;
-    check(one.kept().entries.is_empty() && one.may_take() == Ok(()))
-}
-
-#[test]
-fn restart_with_new_record(rt: HostRuntime) -> Outcome {
-    let message = request(1, Mode::Read)?;
-    let mut one = restarted(rt.alloc(), Age::New)?;
-    let changed = one.take(&message)?;
-    check(!changed && one.kept().entries.len() == 1)
-}
-
-#[test]
-fn softened_writer(rt: HostRuntime) -> Outcome {
-    let mut one = softening(rt.alloc())?;
-    one.keep()?;
-    let said = one.say()?;
-    check(said.as_slice() == [softened()?].as_slice())
-}
-
-/// n1 after it fell while it tried to keep the softening, and rose with a record of this age.
-fn restarted_softening(alloc: Global, age: Age) -> Result<WorldNode, Failure> {
-    let mut one = softening(alloc)?;
-    one.fall()?;
-    one.rise(age)?;
-    Ok(one)
-}
-
-#[test]
-fn restart_before_softening(rt: HostRuntime) -> Outcome {
-    let (request, grant) = (request(1, Mode::Write)?, ticket(1, Mode::Write)?);
-    let mut one = restarted_softening(rt.alloc(), Age::Old)?;
-    answers(&mut one, &request, Message::Grant(node(1)?, grant))
-}
-
-#[test]
-fn restart_after_softening(rt: HostRuntime) -> Outcome {
-    let request = request(1, Mode::Write)?;
-    let mut one = restarted_softening(rt.alloc(), Age::New)?;
-    answers(&mut one, &request, softened()?)
-}
-
-#[test]
-fn risen_with_a_softened_holder(rt: HostRuntime) -> Outcome {
-    let (message, answer) = (soften()?, softened()?);
-    let mut one = risen(rt.alloc(), &SOFTENED)?;
-    answers(&mut one, &message, answer)
-}
-
-#[test]
-fn opened_with_a_record(rt: HostRuntime) -> Outcome {
-    let one = opened(rt.alloc(), &ONE)?;
-    check(one.number() == node(1)? && one.kept().entries.len() == 1)
-}
-
 /// The record of problem 2 in which c1 holds `a` as a reader, c2 waits for it as a writer and c3 behind that
 /// one as a reader.
 const WAITS: [u8; 76] = [
@@ -177,81 +44,274 @@ const WAITS: [u8; 76] = [
     0x00, 0x00, 0x00, 0x00, 0x01, 0x00, 0x01, 0x61,
 ];
 
-/// n1 with a writer that waits, which has taken problem 1 and tries to keep that.
-fn switching(alloc: Global) -> Result<WorldNode, Failure> {
-    let mut one = risen(alloc, &WAITS)?;
-    check(one.switch(Problem::First)?)?;
-    check(one.replies() == Err(StepFault::NotStored) && one.kept().policy == Problem::Second)?;
-    one.start_keeping()?;
-    Ok(one)
+/// What n1 does by itself, or what is so of it.
+#[derive(Clone, Copy)]
+enum Turn {
+    Rise(Age),
+    Fall,
+    /// It takes the message, which changes its record or not.
+    Take(Note, bool),
+    /// It takes the problem, which changes its record or not.
+    Switch(Problem, bool),
+    /// It takes neither problem, and this is why.
+    NoSwitch(StepFault),
+    StartKeeping,
+    Keep,
+    /// It says just these.
+    Say(&'static [Note]),
+    /// It has so many replies.
+    Replies(usize),
+    NotStored,
+    MayTake,
+    /// It has kept so many entries.
+    Entries(usize),
+    /// It has kept this problem.
+    Problem(Problem),
 }
 
-/// Whether the node says just these.
-fn says_just(one: &mut WorldNode, messages: &[Message]) -> Outcome {
+/// Whether the messages are just these.
+fn are(messages: &[Message], notes: &[Note]) -> bool {
+    messages.len() == notes.len()
+        && messages
+            .iter()
+            .zip(notes)
+            .all(|(message, note)| note.message() == Ok(*message))
+}
+
+fn says(one: &mut WorldNode, notes: &[Note]) -> Result<bool, Failure> {
     let said = one.say()?;
-    check(said.as_slice() == messages)
+    Ok(are(&said, notes))
 }
 
-/// The same problem again is no change, and leaves nothing to say.
-fn same_again(one: &mut WorldNode) -> Outcome {
-    let is_changed = one.switch(Problem::First)?;
-    check(!is_changed && one.replies() == Ok(0))?;
-    says_just(one, &[])?;
-    check(one.may_take() == Ok(()))
+/// Whether n1 takes neither problem, and this is why.
+fn refuses(one: &mut WorldNode, fault: StepFault) -> bool {
+    let first = one.switch(Problem::First);
+    let second = one.switch(Problem::Second);
+    first == Err(fault) && second == Err(fault)
 }
+
+fn goes(one: &mut WorldNode, turn: &Turn) -> Outcome {
+    match *turn {
+        Turn::Rise(age) => done(one.rise(age)),
+        Turn::Fall => done(one.fall()),
+        Turn::Take(note, changed) => check(one.take(&note.message()?)? == changed),
+        Turn::Switch(problem, changed) => check(one.switch(problem)? == changed),
+        Turn::NoSwitch(fault) => check(refuses(one, fault)),
+        Turn::StartKeeping => done(one.start_keeping()),
+        Turn::Keep => done(one.keep()),
+        Turn::Say(notes) => check(says(one, notes)?),
+        Turn::Replies(count) => check(one.replies() == Ok(count)),
+        Turn::NotStored => check(one.replies() == Err(StepFault::NotStored)),
+        Turn::MayTake => check(one.may_take() == Ok(())),
+        Turn::Entries(count) => check(one.kept().entries.len() == count),
+        Turn::Problem(problem) => check(one.kept().policy == problem),
+    }
+}
+
+/// Plays the turns of a script; what goes wrong is told by the turn's place.
+fn plays(one: &mut WorldNode, script: &[Turn]) -> Outcome {
+    for (row, turn) in script.iter().enumerate() {
+        in_row(goes(one, turn), row)?;
+    }
+    Ok(())
+}
+
+fn play_all(one: &mut WorldNode, scripts: &[&[Turn]]) -> Outcome {
+    for script in scripts {
+        plays(one, script)?;
+    }
+    Ok(())
+}
+
+/// Plays scripts with n1 under problem 1, down, with nothing kept.
+fn play_empty(alloc: Global, scripts: &[&[Turn]]) -> Outcome {
+    let pair = plain(alloc)?;
+    let mut one = WorldNode::empty(alloc, node(1)?, Problem::First, pair);
+    play_all(&mut one, scripts)
+}
+
+/// n1 with this record, down.
+fn opened(alloc: Global, record: &[u8]) -> Result<WorldNode, Failure> {
+    let id = node(1)?;
+    let Ok(record) = read_node(alloc, record) else {
+        return Err(Failure::Memory);
+    };
+    let pair = plain(alloc)?;
+    Ok(WorldNode::opened(alloc, id, record, pair))
+}
+
+/// Plays scripts with n1 with this record, down.
+fn play_opened(alloc: Global, record: &[u8], scripts: &[&[Turn]]) -> Outcome {
+    let mut one = opened(alloc, record)?;
+    check(one.number() == node(1)?)?;
+    play_all(&mut one, scripts)
+}
+
+/// n1 rises, decides on c1's request and tries to keep that.
+const TRYING: [Turn; 4] = [
+    Turn::Rise(Age::Old),
+    Turn::Take(Note::Request(1, Mode::Read), true),
+    Turn::StartKeeping,
+    Turn::NotStored,
+];
+
+/// It falls, and rises with its old record.
+const RISES_OLD: [Turn; 2] = [Turn::Fall, Turn::Rise(Age::Old)];
+
+/// It falls, and rises with its new record.
+const RISES_NEW: [Turn; 2] = [Turn::Fall, Turn::Rise(Age::New)];
+
+const FIRST_READER: [Turn; 5] = [
+    Turn::Keep,
+    Turn::Entries(1),
+    Turn::Replies(1),
+    Turn::Say(&[Note::Grant(1, Mode::Read)]),
+    Turn::MayTake,
+];
+
+#[test]
+fn first_reader(rt: HostRuntime) -> Outcome {
+    play_empty(rt.alloc(), &[&TRYING, &FIRST_READER])
+}
+
+const NOTHING_KEPT: [Turn; 2] = [Turn::Entries(0), Turn::MayTake];
+
+#[test]
+fn restart_with_old_record(rt: HostRuntime) -> Outcome {
+    play_empty(rt.alloc(), &[&TRYING, &RISES_OLD, &NOTHING_KEPT])
+}
+
+const KNOWN: [Turn; 2] = [
+    Turn::Take(Note::Request(1, Mode::Read), false),
+    Turn::Entries(1),
+];
+
+#[test]
+fn restart_with_new_record(rt: HostRuntime) -> Outcome {
+    play_empty(rt.alloc(), &[&TRYING, &RISES_NEW, &KNOWN])
+}
+
+/// With c1 as a writer n1 rises, decides on its softening and tries to keep that.
+const SOFTENING: [Turn; 3] = [
+    Turn::Rise(Age::Old),
+    Turn::Take(Note::Soften(1), true),
+    Turn::StartKeeping,
+];
+
+const SAYS_SOFTENED: [Turn; 2] = [Turn::Keep, Turn::Say(&[Note::Softened(1)])];
+
+#[test]
+fn softened_writer(rt: HostRuntime) -> Outcome {
+    play_opened(rt.alloc(), &WRITES, &[&SOFTENING, &SAYS_SOFTENED])
+}
+
+/// n1 has nothing to keep for the writer's request, and grants it.
+const STILL_GRANTS: [Turn; 2] = [
+    Turn::Take(Note::Request(1, Mode::Write), false),
+    Turn::Say(&[Note::Grant(1, Mode::Write)]),
+];
+
+#[test]
+fn restart_before_softening(rt: HostRuntime) -> Outcome {
+    play_opened(
+        rt.alloc(),
+        &WRITES,
+        &[&SOFTENING, &RISES_OLD, &STILL_GRANTS],
+    )
+}
+
+const TELLS_SOFTENED: [Turn; 2] = [
+    Turn::Take(Note::Request(1, Mode::Write), false),
+    Turn::Say(&[Note::Softened(1)]),
+];
+
+#[test]
+fn restart_after_softening(rt: HostRuntime) -> Outcome {
+    play_opened(
+        rt.alloc(),
+        &WRITES,
+        &[&SOFTENING, &RISES_NEW, &TELLS_SOFTENED],
+    )
+}
+
+const SOFT_AGAIN: [Turn; 3] = [
+    Turn::Rise(Age::Old),
+    Turn::Take(Note::Soften(1), false),
+    Turn::Say(&[Note::Softened(1)]),
+];
+
+#[test]
+fn risen_with_a_softened_holder(rt: HostRuntime) -> Outcome {
+    play_opened(rt.alloc(), &SOFTENED, &[&SOFT_AGAIN])
+}
+
+#[test]
+fn opened_with_a_record(rt: HostRuntime) -> Outcome {
+    play_opened(rt.alloc(), &ONE, &[&[Turn::Entries(1)]])
+}
+
+/// With a writer that waits n1 rises, takes problem 1 and tries to keep that.
+const SWITCHING: [Turn; 5] = [
+    Turn::Rise(Age::Old),
+    Turn::Switch(Problem::First, true),
+    Turn::NotStored,
+    Turn::Problem(Problem::Second),
+    Turn::StartKeeping,
+];
+
+/// It lets the reader in. The same problem again is no change, and leaves nothing to say.
+const SWITCHED: [Turn; 8] = [
+    Turn::Keep,
+    Turn::Problem(Problem::First),
+    Turn::Replies(1),
+    Turn::Say(&[Note::Grant(3, Mode::Read)]),
+    Turn::Switch(Problem::First, false),
+    Turn::Replies(0),
+    Turn::Say(&[]),
+    Turn::MayTake,
+];
 
 #[test]
 fn another_problem(rt: HostRuntime) -> Outcome {
-    let grant = Message::Grant(node(1)?, ticket(3, Mode::Read)?);
-    let mut one = switching(rt.alloc())?;
-    one.keep()?;
-    check(one.kept().policy == Problem::First && one.replies() == Ok(1))?;
-    says_just(&mut one, &[grant])?;
-    same_again(&mut one)
+    play_opened(rt.alloc(), &WAITS, &[&SWITCHING, &SWITCHED])
 }
 
-/// n1 after it fell while it tried to keep problem 1, and rose with a record of this age.
-fn restarted_switching(alloc: Global, age: Age) -> Result<WorldNode, Failure> {
-    let mut one = switching(alloc)?;
-    one.fall()?;
-    one.rise(age)?;
-    Ok(one)
-}
+const STILL_SECOND: [Turn; 3] = [
+    Turn::Problem(Problem::Second),
+    Turn::Take(Note::Request(3, Mode::Read), false),
+    Turn::Say(&[Note::Busy(3, Mode::Read)]),
+];
 
 #[test]
 fn restart_before_another_problem(rt: HostRuntime) -> Outcome {
-    let (request, busy) = (request(3, Mode::Read)?, ticket(3, Mode::Read)?);
-    let mut one = restarted_switching(rt.alloc(), Age::Old)?;
-    check(one.kept().policy == Problem::Second)?;
-    answers(&mut one, &request, Message::Busy(node(1)?, busy))
+    play_opened(rt.alloc(), &WAITS, &[&SWITCHING, &RISES_OLD, &STILL_SECOND])
 }
+
+const FIRST_NOW: [Turn; 3] = [
+    Turn::Problem(Problem::First),
+    Turn::Take(Note::Request(3, Mode::Read), false),
+    Turn::Say(&[Note::Grant(3, Mode::Read)]),
+];
 
 #[test]
 fn restart_after_another_problem(rt: HostRuntime) -> Outcome {
-    let (request, grant) = (request(3, Mode::Read)?, ticket(3, Mode::Read)?);
-    let mut one = restarted_switching(rt.alloc(), Age::New)?;
-    check(one.kept().policy == Problem::First)?;
-    answers(&mut one, &request, Message::Grant(node(1)?, grant))
+    play_opened(rt.alloc(), &WAITS, &[&SWITCHING, &RISES_NEW, &FIRST_NOW])
 }
 
-/// Whether the node takes neither problem, and this is why.
-fn refuses(one: &mut WorldNode, fault: StepFault) -> Outcome {
-    let first = one.switch(Problem::First);
-    let second = one.switch(Problem::Second);
-    check(first == Err(fault) && second == Err(fault))
-}
+const NO_SWITCHES: [Turn; 9] = [
+    Turn::NoSwitch(StepFault::Down),
+    Turn::Rise(Age::Old),
+    Turn::Switch(Problem::First, true),
+    Turn::NoSwitch(StepFault::WrongPhase),
+    Turn::StartKeeping,
+    Turn::Keep,
+    Turn::NoSwitch(StepFault::WrongPhase),
+    Turn::Fall,
+    Turn::NoSwitch(StepFault::Down),
+];
 
 /// A node that is down, or about something else, takes no problem.
 #[test]
 fn nobody_else_switches(rt: HostRuntime) -> Outcome {
-    let mut one = opened(rt.alloc(), &WAITS)?;
-    refuses(&mut one, StepFault::Down)?;
-    one.rise(Age::Old)?;
-    check(one.switch(Problem::First)?)?;
-    refuses(&mut one, StepFault::WrongPhase)?;
-    one.start_keeping()?;
-    one.keep()?;
-    refuses(&mut one, StepFault::WrongPhase)?;
-    one.fall()?;
-    refuses(&mut one, StepFault::Down)
+    play_opened(rt.alloc(), &WAITS, &[&NO_SWITCHES])
 }

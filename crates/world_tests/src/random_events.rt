@@ -3,8 +3,8 @@
 // of worlds in which clients enter and soften, and nodes take other problems.
 
 use crate::generator::{CLIENTS, NODES, client, event_of_turn, name, node};
-use crate::pairs::plain_pairs;
-use lock_messages::{Actor, Mode, NodeId, Ticket};
+use crate::steps::world_by;
+use lock_messages::{Actor, Mode, NodeId, ResourceName, Ticket};
 use lock_model::Problem;
 use rand_pcg::Pcg32;
 use std::alloc::Global;
@@ -39,25 +39,16 @@ pub(crate) fn new_world(
     problem: Problem,
     ballots: BallotList,
 ) -> Result<World, Failure> {
-    let pairs = plain_pairs(alloc, NODES)?;
-    if pairs.len() != ballots.nodes() as usize {
-        return Err(Failure::Wrong(0));
-    }
-    match World::start(alloc, ballots, CLIENTS, problem, pairs) {
-        Ok(world) => Ok(world),
-        Err(_) => Err(Failure::Memory),
-    }
+    world_by(alloc, ballots, problem, CLIENTS)
 }
 
 /// All actors rise.
 pub(crate) fn raise(world: &mut World) -> Outcome {
     for number in 0..NODES as u32 {
-        let node = node(number)?;
-        world.step(&Event::Rise(Actor::Node(node), Age::Old))?;
+        world.step(&Event::Rise(Actor::Node(node(number)?), Age::Old))?;
     }
     for number in 0..CLIENTS as u32 {
-        let client = client(number)?;
-        world.step(&Event::Rise(Actor::Client(client), Age::Old))?;
+        world.step(&Event::Rise(Actor::Client(client(number)?), Age::Old))?;
     }
     Ok(())
 }
@@ -73,9 +64,8 @@ fn are_exclusive(tickets: &[Ticket]) -> bool {
 }
 
 /// Whether those inside this resource are readers, or one writer alone.
-fn is_exclusive(world: &World, number: u32) -> Result<bool, Failure> {
-    let name = name(number)?;
-    let tickets = world.inside(&name)?;
+fn is_exclusive(world: &World, name: &ResourceName) -> Result<bool, Failure> {
+    let tickets = world.inside(name)?;
     Ok(are_exclusive(&tickets))
 }
 
@@ -105,10 +95,14 @@ fn present_problem(world: &World, node: NodeId) -> Result<Problem, Failure> {
 
 /// Whether a node's holders of this resource are readers, or one writer alone, and whoever waits for it has
 /// a cause under this problem.
-fn is_settled(world: &World, problem: Problem, node: NodeId, number: u32) -> Result<bool, Failure> {
-    let name = name(number)?;
-    let holding = world.holding(node, &name)?;
-    let waiting = world.waiting(node, &name)?;
+fn is_settled(
+    world: &World,
+    problem: Problem,
+    node: NodeId,
+    name: &ResourceName,
+) -> Result<bool, Failure> {
+    let holding = world.holding(node, name)?;
+    let waiting = world.waiting(node, name)?;
     Ok(are_exclusive(&holding) && are_caused(problem, &holding, &waiting))
 }
 
@@ -153,10 +147,9 @@ fn seen_with(seen: Seen, effect: &Effect) -> Seen {
 fn look(world: &World, node: NodeId) -> Outcome {
     let problem = present_problem(world, node)?;
     for number in 0..2 {
-        let alone = is_exclusive(world, number)?;
-        check(alone)?;
-        let settled = is_settled(world, problem, node, number)?;
-        check(settled)?;
+        let name = name(number)?;
+        let alone = is_exclusive(world, &name)?;
+        check(alone && is_settled(world, problem, node, &name)?)?;
     }
     Ok(())
 }
@@ -209,30 +202,28 @@ pub(crate) fn goes_on(
     Ok((after, next))
 }
 
-/// What a run sees that begins under this problem.
-fn run(alloc: Global, problem: Problem) -> Result<Seen, Failure> {
-    let ballots = ballots()?;
-    let mut world = new_world(alloc, problem, ballots)?;
-    raise(&mut world)?;
+/// A run in this world, of which each turn is looked at, sees enough.
+fn is_long(world: &mut World) -> Outcome {
+    raise(world)?;
     let mut words = Pcg32::new(SEED, 1);
     let mut last = node(0)?;
     let mut seen = NOTHING;
     for turn in 0..TURNS {
-        let (after, next) = goes_on(&mut words, &mut world, turn, last, seen)?;
+        let (after, next) = goes_on(&mut words, world, turn, last, seen)?;
         seen = after;
         last = next;
-        look(&world, last)?;
-        look(&world, node(turn)?)?;
+        look(world, last)?;
+        look(world, node(turn)?)?;
     }
-    Ok(seen)
-}
-
-fn enters_often(alloc: Global, problem: Problem) -> Outcome {
-    let seen = run(alloc, problem)?;
     check_row(seen.taken >= 3_000, 1)?;
     check_row(seen.entered >= 20, 2)?;
     check_row(seen.softened >= 5, 3)?;
     check_row(seen.switched >= 50, 4)
+}
+
+fn enters_often(alloc: Global, problem: Problem) -> Outcome {
+    let mut world = new_world(alloc, problem, ballots()?)?;
+    is_long(&mut world)
 }
 
 #[test]

@@ -47,7 +47,7 @@ fn put_field(bytes: &mut Vec<u8>, word: &str) -> Result<(), Failure> {
     Ok(())
 }
 
-fn record(alloc: Global, name: &str) -> Result<Vec<u8>, Failure> {
+pub(crate) fn record(alloc: Global, name: &str) -> Result<Vec<u8>, Failure> {
     let Some(spelled) = spelled(name) else {
         return Err(Failure::Wrong(0));
     };

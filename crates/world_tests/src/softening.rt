@@ -1,13 +1,13 @@
 // A writer that softens in the world: what it says, whom that lets in, and what is left of it after falls.
 
-use crate::steps::{answers, begins, does, is_refused, runs, world};
-use crate::values::{attempt, client, node, resource, ticket};
-use lock_messages::{Actor, Message, Mode};
+use crate::rows::{Deed, Done, Note, Who};
+use crate::sights::Sight;
+use crate::steps::{Step, played};
+use lock_messages::Mode;
 use lock_model::{Heard, Problem};
 use std::alloc::Global;
-use test_outcomes::{Failure, Outcome, check};
-use world_machine::World;
-use world_model::{Age, Effect, Event, StepFault};
+use test_outcomes::Outcome;
+use world_model::{Age, StepFault};
 
 /// The record of n1 in which c1 holds `a` as a writer, and c2 waits for it as a reader.
 const WRITES: [u8; 52] = [
@@ -27,224 +27,199 @@ const SOFTENED: [u8; 52] = [
     0x00, 0x00, 0x00, 0x00, 0x01, 0x00, 0x01, 0x61,
 ];
 
-/// The world in which c1 is inside as a writer by the votes of n1 and n2, and n1 was busy for the reader
-/// c2: six messages.
-fn writing(alloc: Global) -> Result<World, Failure> {
-    let (one, two) = (client(1)?, client(2)?);
-    let (first, second) = (node(1)?, node(2)?);
-    let mut world = world(alloc, Problem::First, 2)?;
-    let up = [
-        Event::Rise(Actor::Node(first), Age::Old),
-        Event::Rise(Actor::Node(second), Age::Old),
-    ];
-    runs(&mut world, &up)?;
-    begins(&mut world, 1, Mode::Write)?;
-    runs(&mut world, &[Event::SayTo(one, first)])?;
-    answers(&mut world, 1, 1)?;
-    runs(
-        &mut world,
-        &[Event::Hear(one, 2), Event::SayTo(one, second)],
-    )?;
-    answers(&mut world, 2, 3)?;
-    runs(&mut world, &[Event::Hear(one, 4), Event::Enter(one)])?;
-    begins(&mut world, 2, Mode::Read)?;
-    runs(&mut world, &[Event::SayTo(two, first)])?;
-    answers(&mut world, 1, 5)?;
-    Ok(world)
+/// The actors of which most is told.
+const N1: Who = Who::Node(1);
+
+const C1: Who = Who::Client(1);
+
+/// c1 is inside as a writer by the votes of n1 and n2, and n1 was busy for the reader c2: six messages.
+const WRITING: [Step; 13] = [
+    Step::Now(Deed::Rise(N1, Age::Old)),
+    Step::Now(Deed::Rise(Who::Node(2), Age::Old)),
+    Step::Begins(1, Mode::Write),
+    Step::Now(Deed::SayTo(1, 1)),
+    Step::Answers(1, 1),
+    Step::Now(Deed::Hear(1, 2)),
+    Step::Now(Deed::SayTo(1, 2)),
+    Step::Answers(2, 3),
+    Step::Now(Deed::Hear(1, 4)),
+    Step::Now(Deed::Enter(1)),
+    Step::Begins(2, Mode::Read),
+    Step::Now(Deed::SayTo(2, 1)),
+    Step::Answers(1, 5),
+];
+
+/// c1 softens, and says so to n1 by message 7.
+const SOFTENS: [Step; 2] = [
+    Step::Does(Deed::Soften(1), Done::Softened),
+    Step::Does(Deed::SayTo(1, 1), Done::Sent(7, Note::Soften(1))),
+];
+
+/// Plays a script in the world in which c1 is inside as a writer.
+fn play_writing(alloc: Global, script: &[Step]) -> Outcome {
+    played(alloc, Problem::First, 2, &[&WRITING, script])
 }
 
-/// What c1 says to n1 once it has softened.
-fn soften() -> Result<Message, Failure> {
-    Ok(Message::Soften(node(1)?, client(1)?, attempt(1)?))
+/// Plays a script in the world in which c1 has softened as well.
+fn play_softening(alloc: Global, script: &[Step]) -> Outcome {
+    played(alloc, Problem::First, 2, &[&WRITING, &SOFTENS, script])
 }
 
-/// What n1 says to c1 then.
-fn softened() -> Result<Message, Failure> {
-    Ok(Message::Softened(node(1)?, client(1)?, attempt(1)?))
-}
+const KEEPS_WRITER: Step = Step::See(Sight::Keeps(N1, &WRITES));
 
-/// The world in which c1 has softened as well, and says so to n1 by message 7.
-fn softening(alloc: Global) -> Result<World, Failure> {
-    let (from, to) = (client(1)?, node(1)?);
-    let mut world = writing(alloc)?;
-    does(&mut world, Event::Soften(from), Effect::Softened)?;
-    does(
-        &mut world,
-        Event::SayTo(from, to),
-        Effect::Sent(7, soften()?),
-    )?;
-    Ok(world)
-}
+const KEEPS_READERS: Step = Step::See(Sight::Keeps(N1, &SOFTENED));
 
-/// Whether n1 has kept this record.
-fn keeps(world: &World, record: &[u8]) -> Outcome {
-    let kept = world.kept_bytes(Actor::Node(node(1)?))?;
-    check(kept.as_slice() == record)
-}
+/// c1 is inside as a reader, and nobody else is.
+const IS_READER: Step = Step::See(Sight::Inside(b"a", &[(1, Mode::Read)]));
 
-/// Whether c1 is inside `a` with a ticket of this mode, and nobody else is.
-fn is_inside(world: &World, mode: Mode) -> Outcome {
-    let inside = world.inside(&resource()?)?;
-    check(inside.as_slice() == [ticket(1, mode)?].as_slice())
-}
+const IS_WRITER: [Step; 2] = [
+    Step::See(Sight::Inside(b"a", &[(1, Mode::Write)])),
+    KEEPS_WRITER,
+];
+
+const IS_READER_NOW: [Step; 3] = [
+    IS_READER,
+    KEEPS_WRITER,
+    Step::Refused(Deed::Soften(1), StepFault::WrongPhase),
+];
 
 #[test]
 fn writer_becomes_a_reader(rt: HostRuntime) -> Outcome {
-    let world = writing(rt.alloc())?;
-    is_inside(&world, Mode::Write)?;
-    keeps(&world, &WRITES)?;
-    let mut world = softening(rt.alloc())?;
-    is_inside(&world, Mode::Read)?;
-    keeps(&world, &WRITES)?;
-    is_refused(&mut world, Event::Soften(client(1)?), StepFault::WrongPhase)
+    play_writing(rt.alloc(), &IS_WRITER)?;
+    play_softening(rt.alloc(), &IS_READER_NOW)
 }
+
+const LETS_IN: [Step; 9] = [
+    Step::Does(Deed::Take(1, 7), Done::Took(Note::Soften(1), true)),
+    Step::Now(Deed::Try(N1)),
+    Step::Now(Deed::Kept(N1)),
+    Step::Does(Deed::Say(1), Done::Said(8, 2)),
+    Step::See(Sight::Sent(8, Note::Softened(1))),
+    Step::See(Sight::Sent(9, Note::Grant(2, Mode::Read))),
+    Step::See(Sight::Holding(1, b"a", &[(1, Mode::Read), (2, Mode::Read)])),
+    KEEPS_READERS,
+    Step::Does(
+        Deed::Hear(1, 8),
+        Done::Heard(Note::Softened(1), Heard::Softened),
+    ),
+];
 
 #[test]
 fn softening_lets_a_reader_in(rt: HostRuntime) -> Outcome {
-    let (one, at, who) = (client(1)?, node(1)?, Actor::Node(node(1)?));
-    let mut world = softening(rt.alloc())?;
-    does(
-        &mut world,
-        Event::Take(at, 7),
-        Effect::Took(soften()?, true),
-    )?;
-    runs(&mut world, &[Event::Try(who), Event::Kept(who)])?;
-    let both = Effect::Said { first: 8, count: 2 };
-    does(&mut world, Event::Say(at), both)?;
-    let grant = Message::Grant(at, ticket(2, Mode::Read)?);
-    check(world.sent(8) == Some(softened()?) && world.sent(9) == Some(grant))?;
-    let holding = world.holding(at, &resource()?)?;
-    let both = [ticket(1, Mode::Read)?, ticket(2, Mode::Read)?];
-    check(holding.as_slice() == both.as_slice())?;
-    keeps(&world, &SOFTENED)?;
-    let heard = Effect::Heard(softened()?, Heard::Softened);
-    does(&mut world, Event::Hear(one, 8), heard)
+    play_softening(rt.alloc(), &LETS_IN)
 }
 
-/// The world in which n1 has answered the softening by messages 8 and 9.
-fn answered(alloc: Global) -> Result<World, Failure> {
-    let mut world = softening(alloc)?;
-    answers(&mut world, 1, 7)?;
-    Ok(world)
-}
+/// n1 has answered the softening by messages 8 and 9. A late copy of the writer's request, and what is heard
+/// of it and of a late vote.
+const LATE_REQUEST: [Step; 7] = [
+    Step::Answers(1, 7),
+    Step::Does(
+        Deed::Take(1, 1),
+        Done::Took(Note::Request(1, Mode::Write), false),
+    ),
+    Step::Does(Deed::Say(1), Done::Said(10, 1)),
+    Step::See(Sight::Sent(10, Note::Softened(1))),
+    Step::Does(
+        Deed::Hear(1, 2),
+        Done::Heard(Note::Grant(1, Mode::Write), Heard::NotMine),
+    ),
+    IS_READER,
+    Step::Refused(Deed::Soften(1), StepFault::WrongPhase),
+];
 
-/// A late copy of the writer's request, and what is heard of it and of a late vote.
 #[test]
 fn late_request_of_a_softened_writer(rt: HostRuntime) -> Outcome {
-    let (one, at) = (client(1)?, node(1)?);
-    let request = Message::Request(at, ticket(1, Mode::Write)?);
-    let grant = Message::Grant(at, ticket(1, Mode::Write)?);
-    let mut world = answered(rt.alloc())?;
-    does(&mut world, Event::Take(at, 1), Effect::Took(request, false))?;
-    let again = Effect::Said {
-        first: 10,
-        count: 1,
-    };
-    does(&mut world, Event::Say(at), again)?;
-    check(world.sent(10) == Some(softened()?))?;
-    let late = Effect::Heard(grant, Heard::NotMine);
-    does(&mut world, Event::Hear(one, 2), late)?;
-    is_inside(&world, Mode::Read)?;
-    is_refused(&mut world, Event::Soften(one), StepFault::WrongPhase)
+    play_softening(rt.alloc(), &LATE_REQUEST)
 }
 
-/// The world in which n1 fell while it tried to keep the softening, and rose with a record of this age.
-fn fallen(alloc: Global, age: Age) -> Result<World, Failure> {
-    let at = node(1)?;
-    let mut world = softening(alloc)?;
-    let events = [
-        Event::Take(at, 7),
-        Event::Try(Actor::Node(at)),
-        Event::Fall(Actor::Node(at)),
-        Event::Rise(Actor::Node(at), age),
-    ];
-    runs(&mut world, &events)?;
-    Ok(world)
-}
+/// n1 fell while it tried to keep the softening. With its old record it has a writer, as if nothing had come;
+/// the softening changes that when it comes again.
+const FALLS_BEFORE: [Step; 10] = [
+    Step::Now(Deed::Take(1, 7)),
+    Step::Now(Deed::Try(N1)),
+    Step::Now(Deed::Fall(N1)),
+    Step::Now(Deed::Rise(N1, Age::Old)),
+    KEEPS_WRITER,
+    Step::Refused(Deed::Say(1), StepFault::NothingToSay),
+    Step::Answers(1, 7),
+    KEEPS_READERS,
+    Step::See(Sight::Sent(8, Note::Softened(1))),
+    Step::See(Sight::IsSent(9)),
+];
 
-/// With its old record n1 has a writer, as if nothing had come; the softening changes that when it comes
-/// again.
 #[test]
 fn node_falls_before_softening(rt: HostRuntime) -> Outcome {
-    let at = node(1)?;
-    let mut world = fallen(rt.alloc(), Age::Old)?;
-    keeps(&world, &WRITES)?;
-    is_refused(&mut world, Event::Say(at), StepFault::NothingToSay)?;
-    answers(&mut world, 1, 7)?;
-    keeps(&world, &SOFTENED)?;
-    check(world.sent(8) == Some(softened()?) && world.sent(9).is_some())
+    play_softening(rt.alloc(), &FALLS_BEFORE)
 }
 
 /// With its new record it knows the softening. The Grant that fell with it comes when c2 asks again.
+const FALLS_AFTER: [Step; 11] = [
+    Step::Now(Deed::Take(1, 7)),
+    Step::Now(Deed::Try(N1)),
+    Step::Now(Deed::Fall(N1)),
+    Step::Now(Deed::Rise(N1, Age::New)),
+    KEEPS_READERS,
+    Step::Does(Deed::Take(1, 7), Done::Took(Note::Soften(1), false)),
+    Step::Does(Deed::Say(1), Done::Said(8, 1)),
+    Step::Does(
+        Deed::Take(1, 5),
+        Done::Took(Note::Request(2, Mode::Read), false),
+    ),
+    Step::Does(Deed::Say(1), Done::Said(9, 1)),
+    Step::See(Sight::Sent(8, Note::Softened(1))),
+    Step::See(Sight::Sent(9, Note::Grant(2, Mode::Read))),
+];
+
 #[test]
 fn node_falls_after_softening(rt: HostRuntime) -> Outcome {
-    let at = node(1)?;
-    let request = Message::Request(at, ticket(2, Mode::Read)?);
-    let mut world = fallen(rt.alloc(), Age::New)?;
-    keeps(&world, &SOFTENED)?;
-    does(
-        &mut world,
-        Event::Take(at, 7),
-        Effect::Took(soften()?, false),
-    )?;
-    let once = Effect::Said { first: 8, count: 1 };
-    does(&mut world, Event::Say(at), once)?;
-    does(&mut world, Event::Take(at, 5), Effect::Took(request, false))?;
-    let once = Effect::Said { first: 9, count: 1 };
-    does(&mut world, Event::Say(at), once)?;
-    let grant = Message::Grant(at, ticket(2, Mode::Read)?);
-    check(world.sent(8) == Some(softened()?) && world.sent(9) == Some(grant))
+    play_softening(rt.alloc(), &FALLS_AFTER)
 }
 
 /// n1 didn't try to keep the softening when it fell.
+const NOT_TRIED: [Step; 5] = [
+    Step::Does(Deed::Take(1, 7), Done::Took(Note::Soften(1), true)),
+    Step::Does(Deed::Fall(N1), Done::Down),
+    Step::Refused(Deed::Rise(N1, Age::New), StepFault::NothingTried),
+    Step::Does(Deed::Rise(N1, Age::Old), Done::Up),
+    KEEPS_WRITER,
+];
+
 #[test]
 fn node_falls_before_it_tries(rt: HostRuntime) -> Outcome {
-    let at = node(1)?;
-    let mut world = softening(rt.alloc())?;
-    does(
-        &mut world,
-        Event::Take(at, 7),
-        Effect::Took(soften()?, true),
-    )?;
-    does(&mut world, Event::Fall(Actor::Node(at)), Effect::Down)?;
-    let new = Event::Rise(Actor::Node(at), Age::New);
-    is_refused(&mut world, new, StepFault::NothingTried)?;
-    let old = Event::Rise(Actor::Node(at), Age::Old);
-    does(&mut world, old, Effect::Up)?;
-    keeps(&world, &WRITES)
+    play_softening(rt.alloc(), &NOT_TRIED)
 }
 
 /// A client keeps nothing of its softening: it rises outside, its attempt over, and tells that.
+const CLIENT_FALLS: [Step; 10] = [
+    Step::Answers(1, 7),
+    Step::Does(Deed::Fall(C1), Done::Down),
+    Step::Refused(Deed::Soften(1), StepFault::Down),
+    Step::Does(Deed::Rise(C1, Age::Old), Done::Up),
+    Step::Refused(Deed::Soften(1), StepFault::WrongPhase),
+    Step::See(Sight::Inside(b"a", &[])),
+    Step::Does(
+        Deed::Hear(1, 8),
+        Done::Heard(Note::Softened(1), Heard::NotMine),
+    ),
+    Step::Does(Deed::SayTo(1, 1), Done::Sent(10, Note::Release(1))),
+    Step::Answers(1, 10),
+    Step::See(Sight::Holding(1, b"a", &[(2, Mode::Read)])),
+];
+
 #[test]
 fn client_falls_softened(rt: HostRuntime) -> Outcome {
-    let (one, at) = (client(1)?, node(1)?);
-    let who = Actor::Client(one);
-    let release = Message::Release(at, one, attempt(1)?);
-    let mut world = answered(rt.alloc())?;
-    does(&mut world, Event::Fall(who), Effect::Down)?;
-    is_refused(&mut world, Event::Soften(one), StepFault::Down)?;
-    does(&mut world, Event::Rise(who, Age::Old), Effect::Up)?;
-    is_refused(&mut world, Event::Soften(one), StepFault::WrongPhase)?;
-    check(world.inside(&resource()?)?.is_empty())?;
-    let late = Effect::Heard(softened()?, Heard::NotMine);
-    does(&mut world, Event::Hear(one, 8), late)?;
-    does(&mut world, Event::SayTo(one, at), Effect::Sent(10, release))?;
-    answers(&mut world, 1, 10)?;
-    let holding = world.holding(at, &resource()?)?;
-    check(holding.as_slice() == [ticket(2, Mode::Read)?].as_slice())
+    play_softening(rt.alloc(), &CLIENT_FALLS)
 }
 
 /// Who is unknown, asks, or is down has nothing to soften.
+const NOTHING_TO_SOFTEN: [Step; 4] = [
+    Step::Refused(Deed::Soften(3), StepFault::UnknownActor),
+    Step::Refused(Deed::Soften(2), StepFault::WrongPhase),
+    Step::Does(Deed::Fall(Who::Client(2)), Done::Down),
+    Step::Refused(Deed::Soften(2), StepFault::Down),
+];
+
 #[test]
 fn refused_softening(rt: HostRuntime) -> Outcome {
-    let mut world = writing(rt.alloc())?;
-    is_refused(
-        &mut world,
-        Event::Soften(client(3)?),
-        StepFault::UnknownActor,
-    )?;
-    is_refused(&mut world, Event::Soften(client(2)?), StepFault::WrongPhase)?;
-    let fall = Event::Fall(Actor::Client(client(2)?));
-    does(&mut world, fall, Effect::Down)?;
-    is_refused(&mut world, Event::Soften(client(2)?), StepFault::Down)
+    play_writing(rt.alloc(), &NOTHING_TO_SOFTEN)
 }

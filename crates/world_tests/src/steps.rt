@@ -1,24 +1,37 @@
-// The steps that tests of worlds share.
+// The steps that tests of worlds share, and the scripts that are made of them.
 
 use crate::pairs::plain_pairs;
-use crate::values::{client, node, resource};
-use lock_messages::{Actor, MAX_CLIENTS, Mode};
+use crate::rows::{Deed, Done, Who};
+use crate::sights::{Sight, is_so};
+use lock_messages::{MAX_CLIENTS, Mode};
 use lock_model::Problem;
 use std::alloc::Global;
 use test_outcomes::{Failure, Outcome, check};
 use vote_weights::{Ballot, BallotList};
 use world_machine::World;
-use world_model::{Age, Effect, Event, StepFault};
+use world_model::{Age, Event, StepFault};
+
+/// The list of this one ballot.
+pub(crate) fn ballot_of(votes: &[u8], read: u16, write: u16) -> Result<BallotList, Failure> {
+    let Ok(ballot) = Ballot::of(votes, read, write) else {
+        return Err(Failure::Wrong(0));
+    };
+    BallotList::of(&[ballot]).map_err(|_| Failure::Wrong(0))
+}
 
 /// A world of three nodes with a vote each under this problem, and of so many clients.
 pub(crate) fn world(alloc: Global, problem: Problem, clients: u16) -> Result<World, Failure> {
-    let Ok(ballot) = Ballot::of(&[1, 1, 1], 2, 2) else {
-        return Err(Failure::Wrong(0));
-    };
-    let Ok(ballots) = BallotList::of(&[ballot]) else {
-        return Err(Failure::Wrong(0));
-    };
-    let pairs = plain_pairs(alloc, 3)?;
+    world_by(alloc, ballot_of(&[1, 1, 1], 2, 2)?, problem, clients)
+}
+
+/// A world with plain policies, all down, nothing kept.
+pub(crate) fn world_by(
+    alloc: Global,
+    ballots: BallotList,
+    problem: Problem,
+    clients: u16,
+) -> Result<World, Failure> {
+    let pairs = plain_pairs(alloc, ballots.nodes())?;
     if pairs.len() != ballots.nodes() as usize || clients == 0 || clients as u32 > MAX_CLIENTS {
         return Err(Failure::Wrong(0));
     }
@@ -28,15 +41,25 @@ pub(crate) fn world(alloc: Global, problem: Problem, clients: u16) -> Result<Wor
     }
 }
 
-/// Takes an event, and compares what it did.
-pub(crate) fn does(world: &mut World, event: Event, effect: Effect) -> Outcome {
-    let done = world.step(&event)?;
-    check(done == effect)
-}
-
-/// Whether an event is refused with this fault.
-pub(crate) fn is_refused(world: &mut World, event: Event, fault: StepFault) -> Outcome {
-    check(world.step(&event) == Err(fault))
+/// A step of a script.
+#[derive(Clone, Copy)]
+pub(crate) enum Step {
+    /// The event happens.
+    Now(Deed),
+    /// The client rises, and asks with its first ticket.
+    Begins(u32, Mode),
+    /// The node takes the message of this number, which changes its record, and answers.
+    Answers(u8, u32),
+    /// The client asks the node by a message of this number, and hears the answer, which is the next one.
+    Asks(u32, u8, u32),
+    /// The event happens so many times.
+    Often(Deed, u32),
+    /// The event happens, and does this.
+    Does(Deed, Done),
+    /// The event is refused with this fault.
+    Refused(Deed, StepFault),
+    /// This is so.
+    See(Sight),
 }
 
 pub(crate) fn runs(world: &mut World, events: &[Event]) -> Outcome {
@@ -46,27 +69,109 @@ pub(crate) fn runs(world: &mut World, events: &[Event]) -> Outcome {
     }
 }
 
-/// A client rises, and asks with its first ticket.
-pub(crate) fn begins(world: &mut World, number: u32, mode: Mode) -> Outcome {
-    let client = client(number)?;
-    let who = Actor::Client(client);
+fn run_four(world: &mut World, deeds: [Deed; 4]) -> Outcome {
+    let [first, second, third, fourth] = deeds;
     let events = [
-        Event::Rise(who, Age::Old),
-        Event::Begin(client, mode, resource()?, 1),
-        Event::Try(who),
-        Event::Kept(who),
+        first.event()?,
+        second.event()?,
+        third.event()?,
+        fourth.event()?,
     ];
     runs(world, &events)
 }
 
-/// A node takes the message of this number, which changes its record, and answers.
-pub(crate) fn answers(world: &mut World, number: u8, message: u32) -> Outcome {
-    let node = node(number)?;
-    let events = [
-        Event::Take(node, message),
-        Event::Try(Actor::Node(node)),
-        Event::Kept(Actor::Node(node)),
-        Event::Say(node),
+/// A client rises, and asks with its first ticket.
+pub(crate) fn begins(world: &mut World, number: u32, mode: Mode) -> Outcome {
+    let who = Who::Client(number);
+    let deeds = [
+        Deed::Rise(who, Age::Old),
+        Deed::Begin(number, mode),
+        Deed::Try(who),
+        Deed::Kept(who),
     ];
-    runs(world, &events)
+    run_four(world, deeds)
+}
+
+/// A node takes the message of this number, which changes its record, and answers.
+fn answers(world: &mut World, number: u8, message: u32) -> Outcome {
+    let who = Who::Node(number);
+    let deeds = [
+        Deed::Take(number, message),
+        Deed::Try(who),
+        Deed::Kept(who),
+        Deed::Say(number),
+    ];
+    run_four(world, deeds)
+}
+
+/// A client asks a node by a message of this number, and hears the answer, which is the next message.
+fn asks(world: &mut World, number: u32, to: u8, message: u32) -> Outcome {
+    runs(world, &[Deed::SayTo(number, to).event()?])?;
+    answers(world, to, message)?;
+    runs(
+        world,
+        &[Deed::Hear(number, message.saturating_add(1)).event()?],
+    )
+}
+
+/// Takes the same event so many times.
+fn often(world: &mut World, event: Event, count: u32) -> Outcome {
+    for _ in 0..count {
+        world.step(&event)?;
+    }
+    Ok(())
+}
+
+/// Takes a step.
+fn goes(world: &mut World, step: &Step) -> Outcome {
+    match *step {
+        Step::Now(deed) => runs(world, &[deed.event()?]),
+        Step::Begins(number, mode) => begins(world, number, mode),
+        Step::Answers(number, message) => answers(world, number, message),
+        Step::Asks(number, to, message) => asks(world, number, to, message),
+        Step::Often(deed, count) => often(world, deed.event()?, count),
+        Step::Does(deed, done) => check(world.step(&deed.event()?)? == done.effect()?),
+        Step::Refused(deed, fault) => check(world.step(&deed.event()?) == Err(fault)),
+        Step::See(sight) => check(is_so(world, &sight)?),
+    }
+}
+
+/// Where a step has to be taken, a refusal is wrong.
+pub(crate) fn done(answer: Result<(), StepFault>) -> Outcome {
+    Ok(answer?)
+}
+
+/// What went wrong, as what did so in this row.
+pub(crate) fn in_row(outcome: Outcome, row: usize) -> Outcome {
+    match outcome {
+        Err(Failure::Wrong(_)) => Err(Failure::Wrong(row)),
+        other => other,
+    }
+}
+
+/// Takes the steps of a script; what goes wrong is told by the step's place.
+pub(crate) fn plays(world: &mut World, script: &[Step]) -> Outcome {
+    for (row, step) in script.iter().enumerate() {
+        in_row(goes(world, step), row)?;
+    }
+    Ok(())
+}
+
+/// Takes the scripts one after the other.
+pub(crate) fn play_all(world: &mut World, scripts: &[&[Step]]) -> Outcome {
+    for script in scripts {
+        plays(world, script)?;
+    }
+    Ok(())
+}
+
+/// Takes these scripts in a new world of three nodes, under this problem, and of so many clients.
+pub(crate) fn played(
+    alloc: Global,
+    problem: Problem,
+    clients: u16,
+    scripts: &[&[Step]],
+) -> Outcome {
+    let mut world = world(alloc, problem, clients)?;
+    play_all(&mut world, scripts)
 }

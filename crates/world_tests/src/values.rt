@@ -1,6 +1,6 @@
 // The few values that tests share.
 
-use lock_messages::{Attempt, ClientId, Message, Mode, NodeId, ResourceName, Ticket};
+use lock_messages::{Attempt, ClientId, Mode, NodeId, ResourceName, Ticket};
 use test_outcomes::Failure;
 
 pub(crate) fn node(number: u8) -> Result<NodeId, Failure> {
@@ -27,9 +27,4 @@ pub(crate) fn ticket(number: u32, mode: Mode) -> Result<Ticket, Failure> {
         mode,
         resource: resource()?,
     })
-}
-
-/// The request of that ticket to n1.
-pub(crate) fn request(number: u32, mode: Mode) -> Result<Message, Failure> {
-    Ok(Message::Request(node(1)?, ticket(number, mode)?))
 }

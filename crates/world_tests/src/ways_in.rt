@@ -2,17 +2,18 @@
 // and in great ones there is room for it, or it is said that there is none.
 
 use crate::generator::{CLIENTS, name};
-use crate::openings::world_of;
+use crate::openings::world_from;
 use crate::random_events::{NOTHING, SEED, ballots, goes_on, new_world, raise};
-use crate::records::records;
-use crate::steps::{answers, begins, runs, world};
-use crate::values::{client, node, resource, ticket};
-use lock_messages::{Actor, Mode};
+use crate::rows::{Deed, Who};
+use crate::sights::{Sight, are_so};
+use crate::steps::{Step, ballot_of, in_row, plays, runs, world};
+use crate::values::{client, node, resource};
+use lock_messages::Mode;
 use lock_model::Problem;
 use rand_pcg::Pcg32;
 use std::alloc::Global;
 use test_outcomes::{Failure, Outcome, check};
-use vote_weights::{Ballot, BallotList};
+use vote_weights::BallotList;
 use world_machine::World;
 use world_model::{Age, Event, StepFault, Want};
 
@@ -33,8 +34,12 @@ const MANY: u16 = 1_024;
 /// As many messages as there may be.
 const LAST: u32 = 1_048_576;
 
-/// What a client wants of `a`.
-fn want(number: u32, mode: Mode, place: u8) -> Result<Want, Failure> {
+/// A client wants `a` in this mode, by the ballot at this place.
+#[derive(Clone, Copy)]
+struct Wish(u32, Mode, u8);
+
+fn want(wish: Wish) -> Result<Want, Failure> {
+    let Wish(number, mode, place) = wish;
     Ok(Want {
         client: client(number)?,
         mode,
@@ -55,14 +60,19 @@ fn is_inside(world: &World, want: &Want) -> bool {
     }
 }
 
-/// Each event of the way in is taken by a copy of the world, in which the client is inside then. Answers that
-/// copy.
-fn led_in(world: &World, want: &Want) -> Result<World, Failure> {
-    let events = world.way_in(want)?;
+/// A world takes the events of a way in, and the client is inside then, and these are so.
+fn is_led(world: &mut World, way: &[Event], want: &Want, sights: &[Sight]) -> Outcome {
+    runs(world, way)?;
+    check(is_inside(world, want))?;
+    are_so(world, sights)
+}
+
+/// Each event of the way in is taken by a copy of the world, in which the client is inside then, and in which
+/// these are so.
+fn leads_in(world: &World, want: &Want, sights: &[Sight]) -> Outcome {
+    let way = world.way_in(want)?;
     let mut copy = world.copy()?;
-    runs(&mut copy, &events)?;
-    check(is_inside(&copy, want))?;
-    Ok(copy)
+    is_led(&mut copy, &way, want, sights)
 }
 
 /// The client gets in as a reader and as a writer, and neither way says more than there is room for.
@@ -71,17 +81,15 @@ fn gets_in(world: &World, reader: &Want, sent: u32) -> Outcome {
         mode: Mode::Write,
         ..*reader
     };
-    let past = sent.saturating_add(ROOM + 1);
-    let reads = led_in(world, reader)?;
-    check(reads.sent(past).is_none())?;
-    let writes = led_in(world, &writer)?;
-    check(writes.sent(past).is_none())
+    let room = [Sight::Unsent(sent.saturating_add(ROOM + 1))];
+    leads_in(world, reader, &room)?;
+    leads_in(world, &writer, &room)
 }
 
 /// A client gets into each resource by each ballot.
 fn gets_everywhere(world: &World, number: u32, sent: u32, places: u8) -> Outcome {
     for place in 1..=places {
-        let first = want(number, Mode::Read, place)?;
+        let first = want(Wish(number, Mode::Read, place))?;
         let other = Want {
             resource: name(1)?,
             ..first
@@ -92,173 +100,92 @@ fn gets_everywhere(world: &World, number: u32, sent: u32, places: u8) -> Outcome
     Ok(())
 }
 
-/// In a run that begins under this problem, with so many ballots, each client in turn gets in.
-fn leads_in(alloc: Global, problem: Problem, ballots: BallotList) -> Outcome {
-    let places = ballots.count();
-    let mut world = new_world(alloc, problem, ballots)?;
-    raise(&mut world)?;
+/// In a run each client in turn gets in, by each of so many ballots.
+fn all_get_in(world: &mut World, places: u8) -> Outcome {
+    raise(world)?;
     let mut words = Pcg32::new(SEED, 1);
     let mut last = node(1)?;
     let mut seen = NOTHING;
     for turn in 0..TURNS {
-        let (after, next) = goes_on(&mut words, &mut world, turn, last, seen)?;
+        let (after, next) = goes_on(&mut words, world, turn, last, seen)?;
         seen = after;
         last = next;
         if turn % PAUSE == 0 {
             let number = turn / PAUSE % CLIENTS as u32 + 1;
-            gets_everywhere(&world, number, seen.sent, places)?;
+            gets_everywhere(world, number, seen.sent, places)?;
         }
     }
     Ok(())
 }
 
+/// In a run that begins under this problem, with these ballots, each client in turn gets in.
+fn runs_lead_in(alloc: Global, problem: Problem, ballots: BallotList) -> Outcome {
+    let places = ballots.count();
+    let mut world = new_world(alloc, problem, ballots)?;
+    all_get_in(&mut world, places)
+}
+
 /// One ballot of unlike votes.
 fn one_ballot() -> Result<BallotList, Failure> {
-    let Ok(ballot) = Ballot::of(&[3, 1, 2, 0, 1], 3, 5) else {
-        return Err(Failure::Wrong(0));
-    };
-    match BallotList::of(&[ballot]) {
-        Ok(ballots) => Ok(ballots),
-        Err(_) => Err(Failure::Wrong(0)),
-    }
+    ballot_of(&[3, 1, 2, 0, 1], 3, 5)
 }
 
 #[test]
 fn random_runs_by_one_ballot(rt: HostRuntime) -> Outcome {
-    leads_in(rt.alloc(), Problem::First, one_ballot()?)?;
-    leads_in(rt.alloc(), Problem::Second, one_ballot()?)
+    runs_lead_in(rt.alloc(), Problem::First, one_ballot()?)?;
+    runs_lead_in(rt.alloc(), Problem::Second, one_ballot()?)
 }
 
 #[test]
 fn random_runs_by_two_ballots(rt: HostRuntime) -> Outcome {
-    leads_in(rt.alloc(), Problem::First, ballots()?)?;
-    leads_in(rt.alloc(), Problem::Second, ballots()?)
+    runs_lead_in(rt.alloc(), Problem::First, ballots()?)?;
+    runs_lead_in(rt.alloc(), Problem::Second, ballots()?)
 }
 
-/// Three nodes that are up, and so many clients that are down.
-fn nodes_up(alloc: Global, clients: u16) -> Result<World, Failure> {
-    let mut world = world(alloc, Problem::First, clients)?;
-    let events = [
-        Event::Rise(Actor::Node(node(1)?), Age::Old),
-        Event::Rise(Actor::Node(node(2)?), Age::Old),
-        Event::Rise(Actor::Node(node(3)?), Age::Old),
-    ];
-    runs(&mut world, &events)?;
-    Ok(world)
+/// A turn of a script about ways in.
+#[derive(Clone, Copy)]
+enum Turn {
+    Plays(&'static [Step]),
+    /// The way in is just this.
+    Way(Wish, &'static [Deed]),
+    /// The way in begins so.
+    WayBegins(Wish, &'static [Deed]),
+    /// This is on the way in.
+    WayHas(Wish, Deed),
+    /// The way leads in, and these are so then.
+    Leads(Wish, &'static [Sight]),
+    /// There is no way in, and this is why.
+    NoWay(Wish, StepFault),
 }
 
-/// Whether the way in is just this.
-fn is_way(world: &World, want: &Want, events: &[Event]) -> Outcome {
-    let way = world.way_in(want)?;
-    check(way.as_slice() == events)
+/// Whether the events are just these.
+fn are(events: &[Event], deeds: &[Deed]) -> bool {
+    events.len() == deeds.len()
+        && events
+            .iter()
+            .zip(deeds)
+            .all(|(event, deed)| deed.event() == Ok(*event))
 }
 
-/// The node takes the request of this number, keeps what it decided, and says it; c1 hears that.
-fn grants(number: u8, message: u32) -> Result<[Event; 6], Failure> {
-    let (one, at) = (client(1)?, node(number)?);
-    Ok([
-        Event::SayTo(one, at),
-        Event::Take(at, message),
-        Event::Try(Actor::Node(at)),
-        Event::Kept(Actor::Node(at)),
-        Event::Say(at),
-        Event::Hear(one, message.saturating_add(1)),
-    ])
+fn is_way(world: &World, wish: Wish, deeds: &[Deed]) -> Outcome {
+    let way = world.way_in(&want(wish)?)?;
+    check(are(&way, deeds))
 }
 
-/// With nobody in the way the client rises, begins, asks each node and enters, and nothing else happens.
-#[test]
-fn nobody_in_the_way(rt: HostRuntime) -> Outcome {
-    let wanted = want(1, Mode::Write, 1)?;
-    let who = Actor::Client(wanted.client);
-    let mut events = Vec::new(rt.alloc());
-    events.extend_from_slice(&[
-        Event::Rise(who, Age::Old),
-        Event::Begin(wanted.client, wanted.mode, wanted.resource, 1),
-        Event::Try(who),
-        Event::Kept(who),
-    ])?;
-    events.extend_from_slice(&grants(1, 1)?)?;
-    events.extend_from_slice(&grants(2, 3)?)?;
-    events.extend_from_slice(&grants(3, 5)?)?;
-    events.extend_from_slice(&[Event::Enter(wanted.client)])?;
-    let world = nodes_up(rt.alloc(), 2)?;
-    is_way(&world, &wanted, &events)
+fn way_begins(world: &World, wish: Wish, deeds: &[Deed]) -> Outcome {
+    let way = world.way_in(&want(wish)?)?;
+    check(match way.get(..deeds.len()) {
+        Some(events) => are(events, deeds),
+        None => false,
+    })
 }
 
-/// A client asks a node by a message of this number, and hears the answer, which is the next message.
-fn asks(world: &mut World, from: u32, to: u8, message: u32) -> Outcome {
-    let (asks, asked) = (client(from)?, node(to)?);
-    runs(world, &[Event::SayTo(asks, asked)])?;
-    answers(world, to, message)?;
-    runs(world, &[Event::Hear(asks, message.saturating_add(1))])
+fn way_has(world: &World, wish: Wish, deed: Deed) -> Outcome {
+    let wanted = deed.event()?;
+    let way = world.way_in(&want(wish)?)?;
+    check(way.iter().any(|event| *event == wanted))
 }
 
-/// The world in which c1 is inside by the votes of all nodes: six messages.
-fn entered(alloc: Global, mode: Mode) -> Result<World, Failure> {
-    let mut world = nodes_up(alloc, 2)?;
-    begins(&mut world, 1, mode)?;
-    asks(&mut world, 1, 1, 1)?;
-    asks(&mut world, 1, 2, 3)?;
-    asks(&mut world, 1, 3, 5)?;
-    runs(&mut world, &[Event::Enter(client(1)?)])?;
-    check(world.ticket_inside(client(1)?) == Some(ticket(1, mode)?))?;
-    Ok(world)
-}
-
-/// A reader is inside, and a writer that is up wants in: first the reader leaves, and says its release.
-#[test]
-fn reader_goes(rt: HostRuntime) -> Outcome {
-    let (one, two) = (client(1)?, client(2)?);
-    let mut world = entered(rt.alloc(), Mode::Read)?;
-    runs(&mut world, &[Event::Rise(Actor::Client(two), Age::Old)])?;
-    let wanted = want(2, Mode::Write, 1)?;
-    let goes = [
-        Event::Leave(one),
-        Event::SayTo(one, node(1)?),
-        Event::Take(node(1)?, 7),
-    ];
-    let way = world.way_in(&wanted)?;
-    check(way.as_slice().starts_with(&goes))?;
-    let copy = led_in(&world, &wanted)?;
-    check(copy.ticket_inside(one).is_none())
-}
-
-/// Another reader is in nobody's way.
-#[test]
-fn reader_stays(rt: HostRuntime) -> Outcome {
-    let world = entered(rt.alloc(), Mode::Read)?;
-    let copy = led_in(&world, &want(2, Mode::Read, 1)?)?;
-    check(copy.ticket_inside(client(1)?) == Some(ticket(1, Mode::Read)?))
-}
-
-/// A writer fell while it held all votes: it has to rise, to say its release.
-#[test]
-fn fallen_writer_rises(rt: HostRuntime) -> Outcome {
-    let who = Actor::Client(client(1)?);
-    let mut world = entered(rt.alloc(), Mode::Write)?;
-    runs(&mut world, &[Event::Fall(who)])?;
-    let wanted = want(2, Mode::Read, 1)?;
-    let rise = Event::Rise(who, Age::Old);
-    let way = world.way_in(&wanted)?;
-    check(way.iter().any(|event| *event == rise))?;
-    led_in(&world, &wanted)?;
-    Ok(())
-}
-
-/// Who is inside as it wants to be has nothing to do, also as the reader that it has become.
-#[test]
-fn inside_already(rt: HostRuntime) -> Outcome {
-    let (reader, writer) = (want(1, Mode::Read, 1)?, want(1, Mode::Write, 1)?);
-    let mut world = entered(rt.alloc(), Mode::Write)?;
-    is_way(&world, &writer, &[])?;
-    runs(&mut world, &[Event::Soften(client(1)?)])?;
-    is_way(&world, &reader, &[])?;
-    led_in(&world, &writer)?;
-    Ok(())
-}
-
-/// Whether there is no way in, and this is why.
 fn has_none(world: &World, want: &Want, fault: StepFault) -> Outcome {
     match world.way_in(want) {
         Err(found) if found == fault => Ok(()),
@@ -267,67 +194,212 @@ fn has_none(world: &World, want: &Want, fault: StepFault) -> Outcome {
     }
 }
 
-/// No such client, or no such place; of both the client is told.
-#[test]
-fn nowhere_to_get_in(rt: HostRuntime) -> Outcome {
-    let world = nodes_up(rt.alloc(), 2)?;
-    has_none(&world, &want(3, Mode::Read, 1)?, StepFault::UnknownActor)?;
-    has_none(&world, &want(3, Mode::Read, 2)?, StepFault::UnknownActor)?;
-    has_none(&world, &want(2, Mode::Read, 0)?, StepFault::NoSuchPlace)?;
-    has_none(&world, &want(2, Mode::Write, 2)?, StepFault::NoSuchPlace)
+fn goes(world: &mut World, turn: &Turn) -> Outcome {
+    match *turn {
+        Turn::Plays(script) => plays(world, script),
+        Turn::Way(wish, deeds) => is_way(world, wish, deeds),
+        Turn::WayBegins(wish, deeds) => way_begins(world, wish, deeds),
+        Turn::WayHas(wish, deed) => way_has(world, wish, deed),
+        Turn::Leads(wish, sights) => leads_in(world, &want(wish)?, sights),
+        Turn::NoWay(wish, fault) => has_none(world, &want(wish)?, fault),
+    }
 }
 
-/// c1 has kept the greatest attempt, c2 none.
-#[test]
-fn attempts_are_spent(rt: HostRuntime) -> Outcome {
-    let nodes = records(rt.alloc(), "first second first")?;
-    let clients = records(rt.alloc(), "spent none")?;
-    let world = world_of(rt.alloc(), &nodes, &clients)?;
-    has_none(&world, &want(1, Mode::Read, 1)?, StepFault::AttemptsSpent)?;
-    has_none(&world, &want(1, Mode::Write, 2)?, StepFault::AttemptsSpent)?;
-    led_in(&world, &want(2, Mode::Write, 1)?)?;
-    Ok(())
-}
-
-/// Says a request again and again, until so many messages were sent.
-fn fill(world: &mut World, ask: &Event, count: u32) -> Outcome {
-    for _ in 0..count {
-        world.step(ask)?;
+/// Takes these turns in a world; what goes wrong is told by the turn's place.
+fn all_go(world: &mut World, turns: &[Turn]) -> Outcome {
+    for (row, turn) in turns.iter().enumerate() {
+        in_row(goes(world, turn), row)?;
     }
     Ok(())
 }
 
+/// Three nodes are up, and all clients are down.
+const NODES_UP: [Step; 3] = [
+    Step::Now(Deed::Rise(Who::Node(1), Age::Old)),
+    Step::Now(Deed::Rise(Who::Node(2), Age::Old)),
+    Step::Now(Deed::Rise(Who::Node(3), Age::Old)),
+];
+
+/// Takes these turns in a world of nodes that are up, and of so many clients.
+fn play(alloc: Global, clients: u16, turns: &[Turn]) -> Outcome {
+    let mut world = world(alloc, Problem::First, clients)?;
+    plays(&mut world, &NODES_UP)?;
+    all_go(&mut world, turns)
+}
+
+/// c1 rises, begins, asks each node, which takes its request, keeps what it decided, and says it; c1 hears
+/// that, and enters at last.
+const ALL_GRANT: [Deed; 23] = [
+    Deed::Rise(Who::Client(1), Age::Old),
+    Deed::Begin(1, Mode::Write),
+    Deed::Try(Who::Client(1)),
+    Deed::Kept(Who::Client(1)),
+    Deed::SayTo(1, 1),
+    Deed::Take(1, 1),
+    Deed::Try(Who::Node(1)),
+    Deed::Kept(Who::Node(1)),
+    Deed::Say(1),
+    Deed::Hear(1, 2),
+    Deed::SayTo(1, 2),
+    Deed::Take(2, 3),
+    Deed::Try(Who::Node(2)),
+    Deed::Kept(Who::Node(2)),
+    Deed::Say(2),
+    Deed::Hear(1, 4),
+    Deed::SayTo(1, 3),
+    Deed::Take(3, 5),
+    Deed::Try(Who::Node(3)),
+    Deed::Kept(Who::Node(3)),
+    Deed::Say(3),
+    Deed::Hear(1, 6),
+    Deed::Enter(1),
+];
+
+/// With nobody in the way just that happens.
+#[test]
+fn nobody_in_the_way(rt: HostRuntime) -> Outcome {
+    play(
+        rt.alloc(),
+        2,
+        &[Turn::Way(Wish(1, Mode::Write, 1), &ALL_GRANT)],
+    )
+}
+
+/// c1 is inside as a reader by the votes of all nodes: six messages.
+const READER_INSIDE: [Step; 6] = [
+    Step::Begins(1, Mode::Read),
+    Step::Asks(1, 1, 1),
+    Step::Asks(1, 2, 3),
+    Step::Asks(1, 3, 5),
+    Step::Now(Deed::Enter(1)),
+    Step::See(Sight::IsInside(1, Mode::Read)),
+];
+
+/// The same as a writer.
+const WRITER_INSIDE: [Step; 6] = [
+    Step::Begins(1, Mode::Write),
+    Step::Asks(1, 1, 1),
+    Step::Asks(1, 2, 3),
+    Step::Asks(1, 3, 5),
+    Step::Now(Deed::Enter(1)),
+    Step::See(Sight::IsInside(1, Mode::Write)),
+];
+
+const GOES: [Turn; 4] = [
+    Turn::Plays(&READER_INSIDE),
+    Turn::Plays(&[Step::Now(Deed::Rise(Who::Client(2), Age::Old))]),
+    Turn::WayBegins(
+        Wish(2, Mode::Write, 1),
+        &[Deed::Leave(1), Deed::SayTo(1, 1), Deed::Take(1, 7)],
+    ),
+    Turn::Leads(Wish(2, Mode::Write, 1), &[Sight::IsOutside(1)]),
+];
+
+/// A reader is inside, and a writer that is up wants in: first the reader leaves, and says its release.
+#[test]
+fn reader_goes(rt: HostRuntime) -> Outcome {
+    play(rt.alloc(), 2, &GOES)
+}
+
+const STAYS: [Turn; 2] = [
+    Turn::Plays(&READER_INSIDE),
+    Turn::Leads(Wish(2, Mode::Read, 1), &[Sight::IsInside(1, Mode::Read)]),
+];
+
+/// Another reader is in nobody's way.
+#[test]
+fn reader_stays(rt: HostRuntime) -> Outcome {
+    play(rt.alloc(), 2, &STAYS)
+}
+
+const RISES: [Turn; 4] = [
+    Turn::Plays(&WRITER_INSIDE),
+    Turn::Plays(&[Step::Now(Deed::Fall(Who::Client(1)))]),
+    Turn::WayHas(Wish(2, Mode::Read, 1), Deed::Rise(Who::Client(1), Age::Old)),
+    Turn::Leads(Wish(2, Mode::Read, 1), &[]),
+];
+
+/// A writer fell while it held all votes: it has to rise, to say its release.
+#[test]
+fn fallen_writer_rises(rt: HostRuntime) -> Outcome {
+    play(rt.alloc(), 2, &RISES)
+}
+
+const INSIDE: [Turn; 5] = [
+    Turn::Plays(&WRITER_INSIDE),
+    Turn::Way(Wish(1, Mode::Write, 1), &[]),
+    Turn::Plays(&[Step::Now(Deed::Soften(1))]),
+    Turn::Way(Wish(1, Mode::Read, 1), &[]),
+    Turn::Leads(Wish(1, Mode::Write, 1), &[]),
+];
+
+/// Who is inside as it wants to be has nothing to do, also as the reader that it has become.
+#[test]
+fn inside_already(rt: HostRuntime) -> Outcome {
+    play(rt.alloc(), 2, &INSIDE)
+}
+
+const NOWHERE: [Turn; 4] = [
+    Turn::NoWay(Wish(3, Mode::Read, 1), StepFault::UnknownActor),
+    Turn::NoWay(Wish(3, Mode::Read, 2), StepFault::UnknownActor),
+    Turn::NoWay(Wish(2, Mode::Read, 0), StepFault::NoSuchPlace),
+    Turn::NoWay(Wish(2, Mode::Write, 2), StepFault::NoSuchPlace),
+];
+
+/// No such client, or no such place; of both the client is told.
+#[test]
+fn nowhere_to_get_in(rt: HostRuntime) -> Outcome {
+    play(rt.alloc(), 2, &NOWHERE)
+}
+
+const SPENT: [Turn; 3] = [
+    Turn::NoWay(Wish(1, Mode::Read, 1), StepFault::AttemptsSpent),
+    Turn::NoWay(Wish(1, Mode::Write, 2), StepFault::AttemptsSpent),
+    Turn::Leads(Wish(2, Mode::Write, 1), &[]),
+];
+
+/// c1 has kept the greatest attempt, c2 none.
+#[test]
+fn attempts_are_spent(rt: HostRuntime) -> Outcome {
+    let mut world = world_from(rt.alloc(), "first second first", "spent none")?;
+    all_go(&mut world, &SPENT)
+}
+
+const ROOM_FOR_SIX: [Turn; 4] = [
+    Turn::Plays(&[
+        Step::Begins(1, Mode::Read),
+        Step::Often(Deed::SayTo(1, 1), LAST - 6),
+    ]),
+    Turn::Leads(Wish(2, Mode::Write, 1), &[Sight::IsSent(LAST)]),
+    Turn::Plays(&[Step::Often(Deed::SayTo(1, 1), 1)]),
+    Turn::NoWay(Wish(2, Mode::Write, 1), StepFault::SentListFull),
+];
+
 /// A way in that says six messages is one while there is room for six.
 #[test]
 fn room_for_a_way_in(rt: HostRuntime) -> Outcome {
-    let ask = Event::SayTo(client(1)?, node(1)?);
-    let wanted = want(2, Mode::Write, 1)?;
-    let mut world = nodes_up(rt.alloc(), 2)?;
-    begins(&mut world, 1, Mode::Read)?;
-    fill(&mut world, &ask, LAST - 6)?;
-    let copy = led_in(&world, &wanted)?;
-    check(copy.sent(LAST).is_some())?;
-    fill(&mut world, &ask, 1)?;
-    has_none(&world, &wanted, StepFault::SentListFull)
+    play(rt.alloc(), 2, &ROOM_FOR_SIX)
 }
 
-/// A client has the vote of n1 as a reader, for which it asked by a message of this number.
-fn reads(world: &mut World, number: u32, message: u32) -> Outcome {
-    begins(world, number, Mode::Read)?;
-    asks(world, number, 1, message)
-}
+const CROWD: [Turn; 2] = [
+    Turn::Plays(&[
+        Step::Begins(1, Mode::Read),
+        Step::Asks(1, 1, 1),
+        Step::Begins(512, Mode::Read),
+        Step::Asks(512, 1, 3),
+        Step::Begins(1_023, Mode::Read),
+        Step::Asks(1_023, 1, 5),
+        Step::See(Sight::HoldingSo(3)),
+    ]),
+    Turn::Leads(
+        Wish(MANY as u32, Mode::Write, 1),
+        &[Sight::Holding(1, b"a", &[(MANY as u32, Mode::Write)])],
+    ),
+];
 
 /// Of as many clients as there may be the first, one between and the last but one hold the vote of n1 as
 /// readers, and the last wants in as a writer: they go.
 #[test]
 fn crowd_goes(rt: HostRuntime) -> Outcome {
-    let mut world = nodes_up(rt.alloc(), MANY)?;
-    reads(&mut world, 1, 1)?;
-    reads(&mut world, 512, 3)?;
-    reads(&mut world, 1_023, 5)?;
-    let holding = world.holding(node(1)?, &resource()?)?;
-    check(holding.len() == 3)?;
-    let copy = led_in(&world, &want(MANY as u32, Mode::Write, 1)?)?;
-    let holding = copy.holding(node(1)?, &resource()?)?;
-    check(holding.as_slice() == [ticket(MANY as u32, Mode::Write)?].as_slice())
+    play(rt.alloc(), MANY, &CROWD)
 }

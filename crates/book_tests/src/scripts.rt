@@ -1,0 +1,185 @@
+// Scripts that are played with a book and three of its berths.
+
+ghost use Rattle.std.specs.Prelude.{◌≡◌};
+
+use crate::logging::{berth_of, logs, meets, opened, takes_all};
+use crate::worlds::{Who, first_ticket, node_id};
+use history_book::{Berth, Book, BookFault};
+use lock_messages::Message;
+use lock_model::Heard;
+use std::alloc::Global;
+use test_outcomes::{Failure, Outcome, check};
+use world_machine::World;
+use world_model::{Effect, StepFault};
+
+/// One of the three berths.
+#[derive(Clone, Copy)]
+pub(crate) enum Place {
+    First,
+    Second,
+    Third,
+}
+
+/// What a book answers.
+#[derive(Clone, Copy)]
+pub(crate) enum Answer {
+    Up,
+    Softened,
+    Switched(bool),
+    /// The number of the first message, and how many there are.
+    Said(u32, u32),
+    /// The client of this number hears n1's Grant of its first ticket, to read `a`.
+    HearsGrant(u32),
+    /// It hears that n1 is busy for that.
+    HearsBusy(u32),
+    /// The event may not happen now, and this is why.
+    NotNow(StepFault),
+    /// It is for another actor to log the event.
+    OtherActor,
+}
+
+/// What a client hears of n1: a Grant of its first ticket, to read `a`, or that n1 is busy for that.
+fn heard(number: u32, granted: bool) -> Result<Effect, Failure> {
+    let (from, ticket) = (node_id(1)?, first_ticket(number)?);
+    Ok(if granted {
+        Effect::Heard(Message::Grant(from, ticket), Heard::Counted)
+    } else {
+        Effect::Heard(Message::Busy(from, ticket), Heard::Busy)
+    })
+}
+
+/// The same as an answer. A row that names no client has one that no script's book gives.
+fn hears(number: u32, granted: bool) -> Result<Effect, BookFault> {
+    match heard(number, granted) {
+        Ok(effect) => Ok(effect),
+        Err(_) => Err(BookFault::OtherBook),
+    }
+}
+
+impl Answer {
+    fn expected(self) -> Result<Effect, BookFault> {
+        match self {
+            Answer::Up => Ok(Effect::Up),
+            Answer::Softened => Ok(Effect::Softened),
+            Answer::Switched(changed) => Ok(Effect::Switched(changed)),
+            Answer::Said(first, count) => Ok(Effect::Said { first, count }),
+            Answer::HearsGrant(number) => hears(number, true),
+            Answer::HearsBusy(number) => hears(number, false),
+            Answer::NotNow(fault) => Err(BookFault::NotAStep(fault)),
+            Answer::OtherActor => Err(BookFault::OtherActor),
+        }
+    }
+}
+
+/// A turn of a script.
+#[derive(Clone, Copy)]
+pub(crate) enum Turn {
+    /// The berth logs the events of these lines, each of which may happen.
+    Takes(Place, &'static str),
+    /// The berth logs the event of the line, and this is answered.
+    Logs(Place, &'static str, Answer),
+    /// The actor is given a berth, which is the third from now on.
+    Joins(Who),
+    /// Whether the second meets the third.
+    Meets(bool),
+    /// Whether the third meets the second.
+    IsMet(bool),
+    /// Whether the second meets the first.
+    MeetsFirst(bool),
+    /// The book has so many events.
+    Events(u32),
+    /// So many have entered.
+    Entered(u32),
+}
+
+/// Logs the event of a line, and compares the answer.
+fn answers(book: &mut Book, berth: &mut Berth, line: &str, answer: Answer) -> Outcome
+    requires { berth.old.number ≡ book.old.number → berth.old.table ≡ book.old.table }
+    ensures book { (book.new.number ≡ book.old.number) × (book.new.table ≡ book.old.table) }
+    ensures berth { (berth.new.number ≡ berth.old.number) × (berth.new.table ≡ berth.old.table) }
+{
+    logs(book, berth, line, answer.expected())
+}
+
+/// Takes a turn.
+fn goes(
+    book: &mut Book,
+    first: &mut Berth,
+    second: &mut Berth,
+    third: &mut Berth,
+    turn: &Turn,
+) -> Outcome
+    requires first { first.old.number ≡ book.old.number → first.old.table ≡ book.old.table }
+    requires second { second.old.number ≡ book.old.number → second.old.table ≡ book.old.table }
+    requires third { third.old.number ≡ book.old.number → third.old.table ≡ book.old.table }
+    ensures first { first.new.number ≡ book.new.number → first.new.table ≡ book.new.table }
+    ensures second { second.new.number ≡ book.new.number → second.new.table ≡ book.new.table }
+    ensures third { third.new.number ≡ book.new.number → third.new.table ≡ book.new.table }
+{
+    match *turn {
+        Turn::Takes(Place::First, lines) => takes_all(book, first, lines),
+        Turn::Takes(Place::Second, lines) => takes_all(book, second, lines),
+        Turn::Takes(Place::Third, lines) => takes_all(book, third, lines),
+        Turn::Logs(Place::First, line, answer) => answers(book, first, line, answer),
+        Turn::Logs(Place::Second, line, answer) => answers(book, second, line, answer),
+        Turn::Logs(Place::Third, line, answer) => answers(book, third, line, answer),
+        Turn::Joins(who) => {
+            *third = berth_of(book, who.actor()?)?;
+            Ok(())
+        }
+        Turn::Meets(met) => check(meets(book, second, third) == Ok(met)),
+        Turn::IsMet(met) => check(meets(book, third, second) == Ok(met)),
+        Turn::MeetsFirst(met) => check(meets(book, second, first) == Ok(met)),
+        Turn::Events(count) => check(book.events() == count),
+        Turn::Entered(count) => check(book.entered() == count),
+    }
+}
+
+/// What went wrong, as what did so in this row.
+fn in_row(outcome: Outcome, row: usize) -> Outcome {
+    match outcome {
+        Err(Failure::Wrong(_)) => Err(Failure::Wrong(row)),
+        other => other,
+    }
+}
+
+/// Takes the turns; what goes wrong is told by the turn's place.
+fn plays(
+    book: &mut Book,
+    first: &mut Berth,
+    second: &mut Berth,
+    third: &mut Berth,
+    script: &[Turn],
+) -> Outcome
+    requires first { first.old.number ≡ book.old.number → first.old.table ≡ book.old.table }
+    requires second { second.old.number ≡ book.old.number → second.old.table ≡ book.old.table }
+    requires third { third.old.number ≡ book.old.number → third.old.table ≡ book.old.table }
+    ensures first { first.new.number ≡ book.new.number → first.new.table ≡ book.new.table }
+    ensures second { second.new.number ≡ book.new.number → second.new.table ≡ book.new.table }
+    ensures third { third.new.number ≡ book.new.number → third.new.table ≡ book.new.table }
+{
+    for (row, turn) in script.iter().enumerate() {
+        in_row(goes(book, first, second, third, turn), row)?;
+    }
+    Ok(())
+}
+
+/// Plays two scripts, one after the other, with the berths of these actors, of an open book.
+pub(crate) fn play_in(book: &mut Book, crew: [Who; 3], script: &[Turn], rest: &[Turn]) -> Outcome
+    requires { Unit {0} }
+{
+    let [first, second, third] = crew;
+    let mut first = berth_of(book, first.actor()?)?;
+    let mut second = berth_of(book, second.actor()?)?;
+    let mut third = berth_of(book, third.actor()?)?;
+    plays(book, &mut first, &mut second, &mut third, script)?;
+    plays(book, &mut first, &mut second, &mut third, rest)
+}
+
+/// Plays a script in a new book over this world.
+pub(crate) fn play(alloc: Global, world: World, crew: [Who; 3], script: &[Turn]) -> Outcome
+    requires { Unit {0} }
+{
+    let mut book = opened(alloc, 7, world)?;
+    play_in(&mut book, crew, script, &[])
+}
