@@ -1,8 +1,8 @@
 // A node of the world by itself: 613. After a refusal the same call does what it would have done.
 
-use crate::failures::{Failure, Outcome, check, node, request};
+use crate::failures::{Failure, Kind, Outcome, check, message, node, refused};
 use crate::policies::told_once;
-use lock_messages::Mode;
+use lock_messages::{Message, Mode};
 use lock_model::Problem;
 use stable_record::read_node;
 use std::alloc::Global;
@@ -23,113 +23,153 @@ fn opened(alloc: Global) -> Result<WorldNode, Failure> {
     Ok(WorldNode::opened(alloc, id, record, told_once(alloc)?))
 }
 
-/// Rises; where memory is refused the node is still down.
-fn rises(one: &mut WorldNode, age: Age) -> Outcome {
-    match one.rise(age) {
-        Ok(()) => Ok(()),
-        Err(fault) => {
-            check(one.may_take() == Err(StepFault::Down))?;
-            one.rise(age)?;
-            Err(fault.into())
+/// What n1 does, or is to be.
+#[derive(Clone, Copy)]
+enum Step {
+    Rises(Age),
+    /// It takes a writer's request, which changes the record.
+    Takes,
+    /// It takes problem 2, which is another one.
+    Switches,
+    /// It starts to keep the record.
+    Starts,
+    Keeps,
+    Falls,
+    /// It is idle, and has kept so many entries.
+    IsIdle(usize),
+    /// It has so many replies to say, and has kept so many entries under this problem.
+    MaySay(usize, usize, Problem),
+}
+
+/// That something was done.
+fn done(came: Result<(), StepFault>) -> Result<bool, StepFault> {
+    match came {
+        Ok(()) => Ok(true),
+        Err(fault) => Err(fault),
+    }
+}
+
+/// Takes a step; answers whether it did what it should.
+fn does(one: &mut WorldNode, request: &Message, step: Step) -> Result<bool, StepFault> {
+    match step {
+        Step::Rises(age) => done(one.rise(age)),
+        Step::Takes => one.take(request),
+        Step::Switches => one.switch(Problem::Second),
+        Step::Starts => done(one.start_keeping()),
+        Step::Keeps => done(one.keep()),
+        Step::Falls => done(one.fall()),
+        Step::IsIdle(entries) => {
+            Ok(one.may_take() == Ok(()) && one.kept().entries.len() == entries)
+        }
+        Step::MaySay(replies, entries, problem) => {
+            let kept = one.kept();
+            let is_kept = kept.entries.len() == entries && kept.policy == problem;
+            Ok(one.replies() == Ok(replies) && is_kept)
         }
     }
 }
 
-/// Takes a writer's request, which changes the record; where memory is refused the node is still idle.
-fn takes(one: &mut WorldNode) -> Outcome {
-    let message = request(2, Mode::Write)?;
-    match one.take(&message) {
-        Ok(changed) => check(changed),
+/// Whether n1 is as before a step for which memory was refused: down, with nothing tried, or idle.
+fn is_as_before(one: &mut WorldNode, step: Step) -> bool {
+    match step {
+        Step::Rises(_) => one.may_take() == Err(StepFault::Down),
+        Step::Starts => one.keep() == Err(StepFault::NothingTried),
+        _ => one.may_take() == Ok(()),
+    }
+}
+
+/// Takes a step; where memory is refused nothing has changed, and the same step is taken after that.
+fn does_at_last(one: &mut WorldNode, step: Step) -> Outcome {
+    let request = message(Kind::Request, 2, Mode::Write)?;
+    match does(one, &request, step) {
+        Ok(right) => check(right),
         Err(fault) => {
-            check(one.may_take() == Ok(()))?;
-            let changed = one.take(&message)?;
-            check(changed)?;
-            Err(fault.into())
+            let unchanged = fault == StepFault::Memory && is_as_before(one, step);
+            refused(does(one, &request, step) == Ok(true) && unchanged)
         }
     }
 }
 
-/// Takes problem 2, which is another one; where memory is refused the node is still idle.
-fn switches(one: &mut WorldNode) -> Outcome {
-    match one.switch(Problem::Second) {
-        Ok(changed) => check(changed),
-        Err(fault) => {
-            check(one.may_take() == Ok(()))?;
-            let changed = one.switch(Problem::Second)?;
-            check(changed)?;
-            Err(fault.into())
-        }
+fn plays(one: &mut WorldNode, steps: &[Step]) -> Outcome {
+    for step in steps {
+        does_at_last(one, *step)?;
     }
+    Ok(())
 }
 
-/// Starts to keep the record; where memory is refused nothing is tried yet.
-fn starts(one: &mut WorldNode) -> Outcome {
-    match one.start_keeping() {
-        Ok(()) => Ok(()),
-        Err(fault) => {
-            check(one.keep() == Err(StepFault::NothingTried))?;
-            one.start_keeping()?;
-            Err(fault.into())
-        }
-    }
+fn plays_anew(alloc: Global, steps: &[Step]) -> Outcome {
+    plays(&mut opened(alloc)?, steps)
 }
 
-/// n1, which tries to keep that c2 waits too.
-fn trying(alloc: Global) -> Result<WorldNode, Failure> {
-    let mut one = opened(alloc)?;
-    rises(&mut one, Age::Old)?;
-    takes(&mut one)?;
-    starts(&mut one)?;
-    Ok(one)
-}
+const RISES: [Step; 2] = [Step::Rises(Age::Old), Step::IsIdle(1)];
 
 #[test]
 fn rise_with_the_kept_record(rt: HostRuntime) -> Outcome {
-    let mut one = opened(rt.alloc())?;
-    rises(&mut one, Age::Old)?;
-    check(one.may_take() == Ok(()) && one.kept().entries.len() == 1)
+    plays_anew(rt.alloc(), &RISES)
 }
+
+const KEEPS: [Step; 5] = [
+    Step::Rises(Age::Old),
+    Step::Takes,
+    Step::Starts,
+    Step::Keeps,
+    Step::MaySay(1, 2, Problem::First),
+];
 
 #[test]
 fn keep_what_was_decided(rt: HostRuntime) -> Outcome {
-    let mut one = trying(rt.alloc())?;
-    one.keep()?;
-    check(one.replies() == Ok(1) && one.kept().entries.len() == 2)
+    plays_anew(rt.alloc(), &KEEPS)
 }
 
 /// What it kept is of problem 2, and there is nothing to say.
+const KEEPS_A_SWITCH: [Step; 5] = [
+    Step::Rises(Age::Old),
+    Step::Switches,
+    Step::Starts,
+    Step::Keeps,
+    Step::MaySay(0, 1, Problem::Second),
+];
+
 #[test]
 fn keep_a_switch(rt: HostRuntime) -> Outcome {
-    let mut one = opened(rt.alloc())?;
-    rises(&mut one, Age::Old)?;
-    switches(&mut one)?;
-    starts(&mut one)?;
-    one.keep()?;
-    check(one.replies() == Ok(0) && one.kept().policy == Problem::Second)
+    plays_anew(rt.alloc(), &KEEPS_A_SWITCH)
 }
+
+const RISES_WITH_WHAT_WAS_TRIED: [Step; 6] = [
+    Step::Rises(Age::Old),
+    Step::Takes,
+    Step::Starts,
+    Step::Falls,
+    Step::Rises(Age::New),
+    Step::IsIdle(2),
+];
 
 #[test]
 fn rise_with_the_tried_record(rt: HostRuntime) -> Outcome {
-    let mut one = trying(rt.alloc())?;
-    one.fall()?;
-    rises(&mut one, Age::New)?;
-    check(one.may_take() == Ok(()) && one.kept().entries.len() == 2)
+    plays_anew(rt.alloc(), &RISES_WITH_WHAT_WAS_TRIED)
+}
+
+const TRIES: [Step; 3] = [Step::Rises(Age::Old), Step::Takes, Step::Starts];
+
+/// Whether the copy alone keeps what both try to keep.
+fn keeps_alone(copy: &mut WorldNode, one: &WorldNode) -> Outcome {
+    let keeps = copy.keep() == Ok(()) && copy.replies() == Ok(1);
+    check(keeps && one.replies() == Err(StepFault::NotStored))
 }
 
 /// A copy tries to keep the same; where memory is refused n1 still tries.
-#[test]
-fn copy_what_is_tried(rt: HostRuntime) -> Outcome {
-    let mut one = trying(rt.alloc())?;
-    match one.copy(told_once(rt.alloc())?) {
+fn copies(alloc: Global, one: &mut WorldNode) -> Outcome {
+    plays(one, &TRIES)?;
+    match one.copy(told_once(alloc)?) {
         Ok(copy) => {
             let mut copy = copy;
-            copy.keep()?;
-            check(copy.replies() == Ok(1) && one.replies() == Err(StepFault::NotStored))
+            keeps_alone(&mut copy, one)
         }
-        Err(fault) => {
-            one.keep()?;
-            check(one.replies() == Ok(1))?;
-            Err(fault.into())
-        }
+        Err(_) => refused(one.keep() == Ok(()) && one.replies() == Ok(1)),
     }
+}
+
+#[test]
+fn copy_what_is_tried(rt: HostRuntime) -> Outcome {
+    copies(rt.alloc(), &mut opened(rt.alloc())?)
 }

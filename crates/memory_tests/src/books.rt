@@ -16,15 +16,21 @@ use vote_weights::{Ballot, BallotList};
 use world_machine::World;
 use world_model::Event;
 
-/// A world of three nodes with a vote each, of which two read and two write, under problem 1, and of
-/// four clients.
-fn world(alloc: Global) -> Result<World, Failure> {
+/// A vote of each of three nodes, of which two read and two write.
+fn ballots() -> Result<BallotList, Failure> {
     let Ok(ballot) = Ballot::of(&[1, 1, 1], 2, 2) else {
         return Err(Failure::Wrong);
     };
-    let Ok(ballots) = BallotList::of(&[ballot]) else {
-        return Err(Failure::Wrong);
-    };
+    match BallotList::of(&[ballot]) {
+        Ok(ballots) => Ok(ballots),
+        Err(_) => Err(Failure::Wrong),
+    }
+}
+
+/// A world of three nodes with a vote each, of which two read and two write, under problem 1, and of
+/// four clients.
+fn world(alloc: Global) -> Result<World, Failure> {
+    let ballots = ballots()?;
     let pairs = for_nodes(alloc, 3)?;
     if pairs.len() != ballots.nodes() as usize {
         return Err(Failure::Wrong);
@@ -108,18 +114,48 @@ const GRANTS_TOO: &str = "rise n2 old\ntake n2 3\ntry n2\nkept n2\nsay n2\n";
 
 const ENTERS: &str = "hear c1 4\nenter c1\n";
 
+/// Logs the events of both lists of lines, of an actor that has no berth yet.
+fn logs_of(book: &mut Book, actor: Actor, first: &str, second: &str) -> Outcome
+    requires { Unit {0} }
+    ensures book { OnOk result ((book.new.number ≡ book.old.number) × (book.new.table ≡ book.old.table)) }
+{
+    let mut berth = berth_of(book, actor)?;
+    logs_both(book, &mut berth, first, second)
+}
+
+fn logs_both(book: &mut Book, berth: &mut Berth, first: &str, second: &str) -> Outcome
+    requires { berth.old.table ≡ book.old.table }
+    ensures book { OnOk result ((book.new.number ≡ book.old.number) × (book.new.table ≡ book.old.table)) }
+{
+    logs_all(book, berth, first)?;
+    logs_all(book, berth, second)
+}
+
 /// A reader asks two nodes, hears two grants and enters.
+fn reads(book: &mut Book, one: &mut Berth) -> Outcome
+    requires { one.old.table ≡ book.old.table }
+{
+    let (first, second) = (Actor::Node(node(1)?), Actor::Node(node(2)?));
+    logs_all(book, one, ASKS)?;
+    logs_of(book, first, GRANTS, "")?;
+    logs_all(book, one, ASKS_ANOTHER)?;
+    logs_of(book, second, GRANTS_TOO, "")?;
+    logs_all(book, one, ENTERS)
+}
+
 fn first_reader(book: &mut Book) -> Outcome
     requires { Unit {0} }
 {
     let mut one = berth_of(book, Actor::Client(client(1)?))?;
-    let mut first = berth_of(book, Actor::Node(node(1)?))?;
-    let mut second = berth_of(book, Actor::Node(node(2)?))?;
-    logs_all(book, &mut one, ASKS)?;
-    logs_all(book, &mut first, GRANTS)?;
-    logs_all(book, &mut one, ASKS_ANOTHER)?;
-    logs_all(book, &mut second, GRANTS_TOO)?;
-    logs_all(book, &mut one, ENTERS)
+    reads(book, &mut one)
+}
+
+/// How many events were logged and how many clients entered, once a reader has.
+fn has_logged_a_reader(book: &mut Book) -> Outcome
+    requires { Unit {0} }
+{
+    first_reader(book)?;
+    check(book.events() == 19 && book.entered() == 1)
 }
 
 #[test]
@@ -127,43 +163,52 @@ fn open_a_book(rt: HostRuntime) -> Outcome {
     check(opened(rt.alloc())?.events() == 0)
 }
 
-#[test]
-fn give_berths(rt: HostRuntime) -> Outcome {
-    let mut book = opened(rt.alloc())?;
+/// Gives the berth of an actor away.
+fn gives_berth(book: &mut Book, actor: Actor) -> Outcome
+    requires { Unit {0} }
+{
+    berth_of(book, actor)?;
+    Ok(())
+}
+
+fn gives_berths(book: &mut Book) -> Outcome
+    requires { Unit {0} }
+{
+    let last = Actor::Node(node(3)?);
     for number in 1..=4 {
-        berth_of(&mut book, Actor::Client(client(number)?))?;
+        gives_berth(book, Actor::Client(client(number)?))?;
     }
     for number in 1..=3 {
-        berth_of(&mut book, Actor::Node(node(number)?))?;
+        gives_berth(book, Actor::Node(node(number)?))?;
     }
-    check(matches!(book.berth(Actor::Node(node(3)?)), Ok(None)))
+    check(matches!(book.berth(last), Ok(None)))
+}
+
+#[test]
+fn give_berths(rt: HostRuntime) -> Outcome {
+    gives_berths(&mut opened(rt.alloc())?)
 }
 
 #[test]
 fn log_the_first_reader(rt: HostRuntime) -> Outcome {
-    let mut book = opened(rt.alloc())?;
-    first_reader(&mut book)?;
-    check(book.events() == 19 && book.entered() == 1)
+    has_logged_a_reader(&mut opened(rt.alloc())?)
 }
 
 const SWITCHES: &str = "switch n1 2\ntry n1\nkept n1\nsay n1\nswitch n1 2\nsay n1\n";
 
 /// A node that has granted a reader takes problem 2, and once more.
-fn first_switch(book: &mut Book) -> Outcome
+fn has_logged_a_switch(book: &mut Book) -> Outcome
     requires { Unit {0} }
 {
-    let mut one = berth_of(book, Actor::Client(client(1)?))?;
-    let mut first = berth_of(book, Actor::Node(node(1)?))?;
-    logs_all(book, &mut one, ASKS)?;
-    logs_all(book, &mut first, GRANTS)?;
-    logs_all(book, &mut first, SWITCHES)
+    let (one, first) = (Actor::Client(client(1)?), Actor::Node(node(1)?));
+    logs_of(book, one, ASKS, "")?;
+    logs_of(book, first, GRANTS, SWITCHES)?;
+    check(book.events() == 16)
 }
 
 #[test]
 fn log_a_switch(rt: HostRuntime) -> Outcome {
-    let mut book = opened(rt.alloc())?;
-    first_switch(&mut book)?;
-    check(book.events() == 16)
+    has_logged_a_switch(&mut opened(rt.alloc())?)
 }
 
 /// Whether what was written is a beginning of the journal, or after no fault the whole of it.
@@ -184,17 +229,21 @@ fn writes(alloc: Global, book: &Book) -> Outcome {
     match book.write_journal(alloc, &mut out) {
         Ok(()) => check(is_written(&out, true)),
         Err(fault) => {
-            check(fault == JournalFault::Memory && is_written(&out, false))?;
             let mut again = Room::empty();
-            let written = book.write_journal(alloc, &mut again);
-            refused(written.is_ok() && is_written(&again, true))
+            let written = book.write_journal(alloc, &mut again).is_ok() && is_written(&again, true);
+            refused(fault == JournalFault::Memory && is_written(&out, false) && written)
         }
     }
 }
 
+fn writes_a_reader(alloc: Global, book: &mut Book) -> Outcome
+    requires { Unit {0} }
+{
+    first_reader(book)?;
+    writes(alloc, book)
+}
+
 #[test]
 fn write_a_journal(rt: HostRuntime) -> Outcome {
-    let mut book = opened(rt.alloc())?;
-    first_reader(&mut book)?;
-    writes(rt.alloc(), &book)
+    writes_a_reader(rt.alloc(), &mut opened(rt.alloc())?)
 }

@@ -122,7 +122,29 @@ pub(crate) fn ticket(number: u32, mode: Mode) -> Result<Ticket, Failure> {
     })
 }
 
-/// The request of that ticket to n1.
-pub(crate) fn request(number: u32, mode: Mode) -> Result<Message, Failure> {
-    Ok(Message::Request(node(1)?, ticket(number, mode)?))
+/// What n1 and a client say to each other.
+#[derive(Clone, Copy)]
+pub(crate) enum Kind {
+    Request,
+    Grant,
+    Busy,
+    Release,
+    Done,
+    Soften,
+    Softened,
+}
+
+/// The message of this kind between n1 and a client, by the client's first ticket.
+pub(crate) fn message(kind: Kind, number: u32, mode: Mode) -> Result<Message, Failure> {
+    let (node, ticket) = (node(1)?, ticket(number, mode)?);
+    let (client, attempt) = (ticket.client, ticket.attempt);
+    Ok(match kind {
+        Kind::Request => Message::Request(node, ticket),
+        Kind::Grant => Message::Grant(node, ticket),
+        Kind::Busy => Message::Busy(node, ticket),
+        Kind::Release => Message::Release(node, client, attempt),
+        Kind::Done => Message::Done(node, client, attempt),
+        Kind::Soften => Message::Soften(node, client, attempt),
+        Kind::Softened => Message::Softened(node, client, attempt),
+    })
 }

@@ -27,15 +27,18 @@ fn took(link: &ListLink, given: Result<(), LinkFault>, before: usize) -> Outcome
     }
 }
 
-#[test]
-fn send_over_a_list(rt: HostRuntime) -> Outcome {
+fn sends_five(link: &mut ListLink) -> Outcome {
     let to = Actor::Node(node(1)?);
-    let mut link = ListLink::of(Vec::new(rt.alloc()));
     for before in 0..5usize {
         let given = link.send(to, parcel(1));
-        took(&link, given, before)?;
+        took(link, given, before)?;
     }
     Ok(())
+}
+
+#[test]
+fn send_over_a_list(rt: HostRuntime) -> Outcome {
+    sends_five(&mut ListLink::of(Vec::new(rt.alloc())))
 }
 
 #[test]
@@ -62,48 +65,55 @@ fn make_links_over_channels(rt: HostRuntime) -> Outcome {
     Ok(())
 }
 
-/// Whether the next post of the last link, which is the second client's, is this one.
-fn brings<R: Wait + Copy>(links: &mut Vec<ChannelLink<R>>, post: &Post) -> Outcome {
-    let Some(mut last) = links.pop() else {
+/// What a node gives to its link: a parcel to the second client, or to all that it is gone.
+#[derive(Clone, Copy)]
+enum Given {
+    Parcel,
+    Gone,
+}
+
+fn gives<L: Link>(of_node: &mut L, given: Given) -> Outcome {
+    let (to, one) = (Actor::Client(client(2)?), node(1)?);
+    let came = match given {
+        Given::Parcel => of_node.send(to, parcel(7)),
+        Given::Gone => of_node.tell_all(Post::Gone(one)),
+    };
+    Ok(came?)
+}
+
+/// Whether the next post of a link is this one.
+fn brings<L: Link>(link: &mut L, post: &Post) -> Outcome {
+    check(link.receive()? == *post)
+}
+
+/// Gives to the first link, which is the node's; whether the last, which is the second client's, brings this.
+fn passes<L: Link>(links: &mut [L], given: Given, post: &Post) -> Outcome {
+    let [of_node, _, last] = links else {
         return Err(Failure::Wrong);
     };
-    let got = last.receive()?;
-    check(got == *post)
+    gives(of_node, given)?;
+    brings(last, post)
 }
 
 #[test]
 fn send_over_channels(rt: HostRuntime) -> Outcome {
-    let to = Actor::Client(client(2)?);
     let mut links = links(rt, rt.alloc(), 0)?;
-    let Some(of_node) = links.first_mut() else {
-        return Err(Failure::Wrong);
-    };
-    of_node.send(to, parcel(7))?;
-    brings(&mut links, &Post::Parcel(parcel(7)))
+    passes(&mut links, Given::Parcel, &Post::Parcel(parcel(7)))
 }
 
 /// A late parcel is held, and its client is nudged.
 #[test]
 fn send_late_over_channels(rt: HostRuntime) -> Outcome {
-    let to = Actor::Client(client(2)?);
     let nudge = Post::Nudge(node(1)?);
     let mut links = links(rt, rt.alloc(), 1_000)?;
-    let Some(of_node) = links.first_mut() else {
-        return Err(Failure::Wrong);
-    };
-    of_node.send(to, parcel(7))?;
-    brings(&mut links, &nudge)
+    passes(&mut links, Given::Parcel, &nudge)
 }
 
 #[test]
 fn tell_all_over_channels(rt: HostRuntime) -> Outcome {
-    let one = node(1)?;
+    let gone = Post::Gone(node(1)?);
     let mut links = links(rt, rt.alloc(), 0)?;
-    let Some(of_node) = links.first_mut() else {
-        return Err(Failure::Wrong);
-    };
-    of_node.tell_all(Post::Gone(one))?;
-    brings(&mut links, &Post::Gone(one))
+    passes(&mut links, Given::Gone, &gone)
 }
 
 /// Tells all a few times, so that inboxes have to grow: how many posts were told, and how it ended.
@@ -133,21 +143,32 @@ fn posts_over<L: Link>(link: &mut L) -> Result<usize, Failure> {
     Err(Failure::Wrong)
 }
 
+/// Whether so many posts come over the links together until they are closed.
+fn bring<L: Link>(links: &mut [L], told: usize) -> Outcome {
+    let mut came = 0usize;
+    for link in links {
+        came = came.saturating_add(posts_over(link)?);
+    }
+    check(came == told)
+}
+
+/// Tells all over the last link, which is closed then; whether the others bring what was told.
+fn passes_all<L: Link + Drop>(links: &mut Vec<L>, node: NodeId) -> Outcome {
+    let Some(of_node) = links.pop() else {
+        return Err(Failure::Wrong);
+    };
+    let mut of_node = of_node;
+    let (told, ended) = tell_often(&mut of_node, node);
+    drop(of_node);
+    bring(links, told)?;
+    ended
+}
+
 /// Behind an inbox that has no memory for a post the next client is told.
 #[test]
 fn tell_all_behind_a_refusal(rt: HostRuntime) -> Outcome {
     let one = node(1)?;
     let mut links = links(rt, rt.alloc(), 0)?;
-    let (Some(mut second), Some(mut first), Some(mut of_node)) = (
-        links.pop(),
-        links.pop(),
-        links.pop(),
-    ) else {
-        return Err(Failure::Wrong);
-    };
-    let (told, ended) = tell_often(&mut of_node, one);
-    drop(of_node);
-    let came = posts_over(&mut first)?.saturating_add(posts_over(&mut second)?);
-    check(came == told)?;
-    ended
+    links.reverse();
+    passes_all(&mut links, one)
 }

@@ -4,8 +4,8 @@ use crate::failures::{Failure, Outcome, check, client, refused};
 use lock_messages::ResourceName;
 use lock_model::{Entry, Problem};
 use stable_record::{
-    Entries, FaultyRecord, IndexedRecord, Leaves, MemoryRecord, NodeRecord, ResourceIndex,
-    StableRecord, node_bytes, read_node,
+    Entries, FaultyRecord, IndexedRecord, Leaves, MemoryRecord, NodeRecord, RecordFault,
+    ResourceIndex, StableRecord, node_bytes, read_node,
 };
 use std::alloc::{AllocError, Global};
 
@@ -37,13 +37,16 @@ fn pushes(entries: &mut Entries, number: u32) -> Outcome {
     }
 }
 
-#[test]
-fn push_entries(rt: HostRuntime) -> Outcome {
-    let mut entries = Entries::new(rt.alloc());
+fn pushes_nine(entries: &mut Entries) -> Outcome {
     for number in 1..10 {
-        pushes(&mut entries, number)?;
+        pushes(entries, number)?;
     }
     Ok(())
+}
+
+#[test]
+fn push_entries(rt: HostRuntime) -> Outcome {
+    pushes_nine(&mut Entries::new(rt.alloc()))
 }
 
 fn reads_two(record: &NodeRecord) -> bool {
@@ -69,16 +72,16 @@ fn read_a_node_record(rt: HostRuntime) -> Outcome {
     check(reads_two(&record))
 }
 
+fn indexes(alloc: Global, record: &NodeRecord) -> Outcome {
+    match ResourceIndex::of(alloc, record) {
+        Ok(index) => check(indexes_two(&index)),
+        Err(fault) => refused(fault == RecordFault::NoMemory && reads_two(record)),
+    }
+}
+
 #[test]
 fn index_a_node_record(rt: HostRuntime) -> Outcome {
-    let record = read_node(rt.alloc(), &TWO)?;
-    match ResourceIndex::of(rt.alloc(), &record) {
-        Ok(index) => check(indexes_two(&index)),
-        Err(fault) => {
-            check(reads_two(&record))?;
-            Err(fault.into())
-        }
-    }
+    indexes(rt.alloc(), &read_node(rt.alloc(), &TWO)?)
 }
 
 #[test]
@@ -86,22 +89,22 @@ fn keep_a_record_with_its_index(rt: HostRuntime) -> Outcome {
     let record = read_node(rt.alloc(), &TWO)?;
     match IndexedRecord::of(rt.alloc(), record) {
         Ok(indexed) => check(reads_two(indexed.record()) && indexes_two(indexed.index())),
-        Err((record, fault)) => {
-            check(reads_two(&record))?;
-            Err(fault.into())
-        }
+        Err((record, fault)) => refused(fault == RecordFault::NoMemory && reads_two(&record)),
     }
 }
 
 /// Announces c3 for a resource for which so many wait; where memory is refused nothing has changed.
-fn announces(alloc: Global, name: &[u8], before: usize) -> Outcome {
-    let name = ResourceName::of(name).ok_or(Failure::Wrong)?;
-    let record = read_node(alloc, &TWO)?;
-    let mut index = ResourceIndex::of(alloc, &record)?;
-    match index.announce(alloc, client(3)?, &name) {
+fn announces_in(index: &mut ResourceIndex, alloc: Global, name: &[u8], before: usize) -> Outcome {
+    let (name, client) = (ResourceName::of(name).ok_or(Failure::Wrong)?, client(3)?);
+    match index.announce(alloc, client, &name) {
         Ok(()) => check(index.waiting_count(&name) > before),
-        Err(_) => refused(index.waiting_count(&name) == before && indexes_two(&index)),
+        Err(_) => refused(index.waiting_count(&name) == before && indexes_two(index)),
     }
+}
+
+fn announces(alloc: Global, name: &[u8], before: usize) -> Outcome {
+    let record = read_node(alloc, &TWO)?;
+    announces_in(&mut ResourceIndex::of(alloc, &record)?, alloc, name, before)
 }
 
 #[test]
@@ -119,24 +122,29 @@ fn announce_for_the_longest_name(rt: HostRuntime) -> Outcome {
     announces(rt.alloc(), b"abcdefghijklmnopqrstuvwxyz-01234", 0)
 }
 
+fn writes(alloc: Global, record: &NodeRecord) -> Outcome {
+    match node_bytes(alloc, record) {
+        Ok(bytes) => check(bytes.as_slice() == TWO.as_slice()),
+        Err(fault) => refused(fault == RecordFault::NoMemory && reads_two(record)),
+    }
+}
+
 #[test]
 fn write_a_node_record(rt: HostRuntime) -> Outcome {
-    let record = read_node(rt.alloc(), &TWO)?;
-    match node_bytes(rt.alloc(), &record) {
-        Ok(bytes) => check(bytes.as_slice() == TWO.as_slice()),
-        Err(fault) => {
-            check(reads_two(&record))?;
-            Err(fault.into())
-        }
+    writes(rt.alloc(), &read_node(rt.alloc(), &TWO)?)
+}
+
+fn copies(record: &NodeRecord) -> Outcome {
+    let copied: Result<NodeRecord, AllocError> = record.clone();
+    match copied {
+        Ok(copy) => check(reads_two(record) && reads_two(&copy)),
+        Err(_) => refused(reads_two(record)),
     }
 }
 
 #[test]
 fn copy_a_node_record(rt: HostRuntime) -> Outcome {
-    let record = read_node(rt.alloc(), &TWO)?;
-    let copied: Result<NodeRecord, AllocError> = record.clone();
-    check(reads_two(&record))?;
-    check(reads_two(&copied?))
+    copies(&read_node(rt.alloc(), &TWO)?)
 }
 
 /// Whether a restart finds these bytes.
@@ -186,12 +194,16 @@ fn keep_on_a_device(rt: HostRuntime) -> Outcome {
     keeps(&mut FaultyRecord::of(rt.alloc(), &[1], 2, Leaves::Old)?)
 }
 
-#[test]
-fn reopen_a_stuck_device(rt: HostRuntime) -> Outcome {
-    let mut record = FaultyRecord::of(rt.alloc(), &[1], 1, Leaves::Old)?;
+/// Reopens a device that gets stuck when the record is kept.
+fn reopens_stuck(record: &mut FaultyRecord) -> Outcome {
     match record.keep(&[2]) {
-        Err(stable_record::RecordFault::Device) => reopens(&mut record),
+        Err(RecordFault::Device) => reopens(record),
         Err(fault) => Err(fault.into()),
         Ok(()) => Err(Failure::Wrong),
     }
+}
+
+#[test]
+fn reopen_a_stuck_device(rt: HostRuntime) -> Outcome {
+    reopens_stuck(&mut FaultyRecord::of(rt.alloc(), &[1], 1, Leaves::Old)?)
 }

@@ -70,11 +70,8 @@ fn own_book(alloc: Global, ballots: BallotList) -> Result<(Book, Berth), Failure
     ensures alone { IfOk result (λ r. IsAlone r.0 r.1) }
     ensures log { IfOk result (λ r. IsNewClient ballots (log_of r.1)) }
 {
-    match open_alone(
-        alloc,
-        world(alloc, ballots)?,
-        Actor::Client(first_client()?),
-    ) {
+    let client = first_client()?;
+    match open_alone(alloc, world(alloc, ballots)?, Actor::Client(client)) {
         Ok(Some(opened)) => Ok(opened),
         Err(BookFault::Memory) => Err(Failure::Memory),
         _ => Err(Failure::Wrong),
@@ -146,11 +143,12 @@ fn run<K: Logs + Drop, W: Wait>(
     requires alone { IsAlone (K.book own.0) own.1 }
     requires log { IsNewClient ballots (log_of own.1) }
 {
+    let client = first_client()?;
     let stable = MemoryRecord::holding(alloc, &client_bytes(0))?;
     let (book, berth) = own;
     let recorder = ListRecorder::over(book, berth);
     let link = ListLink::of(Vec::new(alloc));
-    match Session::rise(first_client()?, ballots, stable, recorder, link) {
+    match Session::rise(client, ballots, stable, recorder, link) {
         Ok(session) => {
             let mut session = session;
             let asked = ask(rt, alloc, &mut session, how);
@@ -161,18 +159,21 @@ fn run<K: Logs + Drop, W: Wait>(
     }
 }
 
+/// Ends the test unless so many events were logged; fewer where the session was asked for nothing more.
+fn has_logged(asked: Outcome, logged: u32, events: u32) -> Outcome {
+    match asked {
+        Ok(()) => check(logged == events),
+        Err(_) if logged >= events => Err(Failure::Wrong),
+        Err(failure) => Err(failure),
+    }
+}
+
 /// Ends the test unless a session that is asked so logs so many events; fewer where memory is refused.
 fn logs<W: Wait>(rt: &W, alloc: Global, how: Asking, events: u32) -> Outcome {
     let ballots = ballots()?;
     let own = own_book(alloc, ballots)?;
     let (book, asked) = run::<Book, W>(rt, alloc, ballots, own, how)?;
-    match asked {
-        Ok(()) => check(book.events() == events),
-        Err(failure) => {
-            check(book.events() < events)?;
-            Err(failure)
-        }
-    }
+    has_logged(asked, book.events(), events)
 }
 
 #[test]

@@ -1,17 +1,20 @@
 // The world: 613, of what opens it, takes and says, and of what it is asked. After a refusal the same
 // event does what it would have done.
+//
+// A test is a script of steps, which are events and what is asked.
 
 use crate::failures::{
-    Failure, Outcome, check, client, first_attempt, node, refused, request, resource, ticket,
+    Failure, Kind, Outcome, check, client, first_attempt, message, node, refused, resource, ticket,
 };
 use crate::policies::{for_nodes, have_let_in};
 use admission_policy::Pair;
-use lock_messages::{Actor, Message, Mode};
+use history_check::read_event;
+use lock_messages::{Actor, Mode, Ticket};
 use lock_model::Problem;
 use std::alloc::Global;
 use vote_weights::{Ballot, BallotList};
 use world_machine::{OpeningFault, World};
-use world_model::{Age, Effect, Event, StepFault};
+use world_model::{Effect, Event, StepFault};
 
 /// The record of problem 1 in which c1 holds `a` as a reader, c2 waits for it as a writer.
 const TWO: [u8; 52] = [
@@ -58,6 +61,17 @@ fn ballots() -> Result<BallotList, Failure> {
     }
 }
 
+/// What n1 and each of the clients have kept: n1 this record, and each client its first attempt.
+fn kept(alloc: Global, record: &[u8]) -> Result<Vec<Vec<u8>>, Failure> {
+    let mut kept = Vec::new(alloc);
+    for bytes in [record, &FIRST, &FIRST, &FIRST] {
+        let mut copy = Vec::new(alloc);
+        copy.extend_from_slice(bytes)?;
+        kept.push(copy)?;
+    }
+    Ok(kept)
+}
+
 fn started(alloc: Global) -> Result<World, Failure> {
     let (ballots, pairs) = (ballots()?, for_nodes(alloc, 1)?);
     if pairs.len() != ballots.nodes() as usize {
@@ -66,285 +80,357 @@ fn started(alloc: Global) -> Result<World, Failure> {
     opened(World::start(alloc, ballots, 3, Problem::First, pairs))
 }
 
-fn resumed_from(
-    alloc: Global,
-    nodes: &[Vec<u8>; 1],
-    clients: &[Vec<u8>; 3],
-) -> Result<World, Failure> {
+fn resumed_from(alloc: Global, kept: &[Vec<u8>]) -> Result<World, Failure> {
+    let (nodes, clients) = kept.split_at_checked(1).ok_or(Failure::Wrong)?;
     let (ballots, pairs) = (ballots()?, for_nodes(alloc, 1)?);
-    if pairs.len() != ballots.nodes() as usize || ballots.nodes() != 1 {
+    let of_node = pairs.len() == 1 && nodes.len() == 1 && ballots.nodes() == 1;
+    if !of_node || clients.len() != 3 {
         return Err(Failure::Wrong);
     }
     opened(World::resume(alloc, ballots, 3, pairs, nodes, clients))
 }
 
-/// A copy of a record.
-fn bytes(alloc: Global, record: &[u8]) -> Result<Vec<u8>, Failure> {
-    let mut bytes = Vec::new(alloc);
-    bytes.extend_from_slice(record)?;
-    Ok(bytes)
+/// What an event does. Messages are c1's, by its first ticket.
+#[derive(Clone, Copy)]
+enum Did {
+    Up,
+    Chose,
+    Tried,
+    Kept,
+    /// The message of this number was sent, of this kind.
+    Sent(u32, Kind),
+    /// A message of this kind was taken, and the record changes.
+    Took(Kind),
+    /// From this number on so many were said.
+    Said(u32, u32),
+    Softened,
+    SwitchedToTheSame,
 }
 
-/// A world in which n1 has kept this record, and each client its first attempt.
-fn resumed(alloc: Global, record: &[u8]) -> Result<World, Failure> {
-    let nodes = [bytes(alloc, record)?];
-    let clients = [
-        bytes(alloc, &FIRST)?,
-        bytes(alloc, &FIRST)?,
-        bytes(alloc, &FIRST)?,
-    ];
-    resumed_from(alloc, &nodes, &clients)
+/// What a script does or asks.
+#[derive(Clone, Copy)]
+enum Step {
+    /// An event, and what it does.
+    Does(&'static str, Did),
+    Switches,
+    /// The events of a run, by which message 2 is sent.
+    Runs(&'static [&'static str]),
+    Copies,
+    /// The message of this number, of this kind and to or from this client.
+    Sent(u32, Kind, u32),
+    NotSent(u32),
+    /// Whose ticket is alone inside, holds or waits, and whether it is a reader's or a writer's.
+    Inside(u32, Mode),
+    Holding(u32, Mode),
+    Waiting(u32, Mode),
+    NodeHasKept(&'static [u8]),
+    ClientHasKept(&'static [u8]),
+}
+
+fn event(line: &str) -> Result<Event, Failure> {
+    match read_event(line.as_bytes()) {
+        Ok(event) => Ok(event),
+        Err(_) => Err(Failure::Wrong),
+    }
+}
+
+fn effect(did: Did) -> Result<Effect, Failure> {
+    let attempt = first_attempt()?;
+    Ok(match did {
+        Did::Up => Effect::Up,
+        Did::Chose => Effect::Chose(attempt),
+        Did::Tried => Effect::Tried,
+        Did::Kept => Effect::Kept,
+        Did::Sent(number, kind) => Effect::Sent(number, message(kind, 1, Mode::Read)?),
+        Did::Took(kind) => Effect::Took(message(kind, 1, Mode::Read)?, true),
+        Did::Said(first, count) => Effect::Said { first, count },
+        Did::Softened => Effect::Softened,
+        Did::SwitchedToTheSame => Effect::Switched(false),
+    })
+}
+
+/// What comes of an event, which is to come.
+fn takes(world: &mut World, event: &Event, wanted: &Result<Effect, StepFault>) -> Outcome {
+    match world.step(event) {
+        Err(StepFault::Memory) => Err(Failure::Memory),
+        came => check(came == *wanted),
+    }
 }
 
 /// Takes an event; where memory is refused the same event is taken after that.
-fn does(world: &mut World, event: &Event, effect: Effect) -> Outcome {
-    match world.step(event) {
-        Ok(done) => check(done == effect),
-        Err(fault) => {
-            let again = world.step(event)?;
-            check(again == effect)?;
-            Err(fault.into())
-        }
+fn does(world: &mut World, line: &str, did: Did) -> Outcome {
+    let wanted = Ok(effect(did)?);
+    let Ok(event) = read_event(line.as_bytes()) else {
+        return Err(Failure::Wrong);
+    };
+    match takes(world, &event, &wanted) {
+        Err(Failure::Memory) => refused(takes(world, &event, &wanted).is_ok()),
+        taken => taken,
     }
-}
-
-/// A world in which n1 and c1 are up.
-fn up(alloc: Global) -> Result<World, Failure> {
-    let (one, other) = (Actor::Node(node(1)?), Actor::Client(client(1)?));
-    let mut world = started(alloc)?;
-    does(&mut world, &Event::Rise(one, Age::Old), Effect::Up)?;
-    does(&mut world, &Event::Rise(other, Age::Old), Effect::Up)?;
-    Ok(world)
-}
-
-/// A world in which c1 asks with its first ticket.
-fn asking(alloc: Global) -> Result<World, Failure> {
-    let who = Actor::Client(client(1)?);
-    let begin = Event::Begin(client(1)?, Mode::Read, resource()?, 1);
-    let chose = Effect::Chose(first_attempt()?);
-    let mut world = up(alloc)?;
-    does(&mut world, &begin, chose)?;
-    does(&mut world, &Event::Try(who), Effect::Tried)?;
-    does(&mut world, &Event::Kept(who), Effect::Kept)?;
-    Ok(world)
-}
-
-/// A world in which c1's request is message 1.
-fn asked(alloc: Global) -> Result<World, Failure> {
-    let request = request(1, Mode::Read)?;
-    let says = Event::SayTo(client(1)?, node(1)?);
-    let mut world = asking(alloc)?;
-    does(&mut world, &says, Effect::Sent(1, request))?;
-    Ok(world)
-}
-
-/// A world in which n1 took that request and kept what it decided.
-fn answered(alloc: Global) -> Result<World, Failure> {
-    let who = Actor::Node(node(1)?);
-    let request = request(1, Mode::Read)?;
-    let takes = Event::Take(node(1)?, 1);
-    let mut world = asked(alloc)?;
-    does(&mut world, &takes, Effect::Took(request, true))?;
-    does(&mut world, &Event::Try(who), Effect::Tried)?;
-    does(&mut world, &Event::Kept(who), Effect::Kept)?;
-    Ok(world)
-}
-
-#[test]
-fn start_a_world(rt: HostRuntime) -> Outcome {
-    check(started(rt.alloc())?.sent(1).is_none())
-}
-
-#[test]
-fn rise_after_a_resume(rt: HostRuntime) -> Outcome {
-    let who = Actor::Node(node(1)?);
-    let mut world = resumed(rt.alloc(), &TWO)?;
-    does(&mut world, &Event::Rise(who, Age::Old), Effect::Up)
-}
-
-#[test]
-fn say_to_a_node(rt: HostRuntime) -> Outcome {
-    check(asked(rt.alloc())?.sent(2).is_none())
-}
-
-#[test]
-fn take_and_say(rt: HostRuntime) -> Outcome {
-    let said = Effect::Said { first: 2, count: 1 };
-    let says = Event::Say(node(1)?);
-    let grant = Message::Grant(node(1)?, ticket(1, Mode::Read)?);
-    let mut world = answered(rt.alloc())?;
-    does(&mut world, &says, said)?;
-    check(world.sent(2) == Some(grant))
-}
-
-fn runs(world: &mut World, events: &[Event]) -> Outcome {
-    match world.run(events) {
-        Ok(_) => Ok(()),
-        Err((_, fault)) => Err(fault.into()),
-    }
-}
-
-#[test]
-fn who_is_inside(rt: HostRuntime) -> Outcome {
-    let (to, from) = (node(1)?, client(1)?);
-    let (resource, ticket) = (resource()?, ticket(1, Mode::Read)?);
-    let mut world = answered(rt.alloc())?;
-    let events = [Event::Say(to), Event::Hear(from, 2), Event::Enter(from)];
-    runs(&mut world, &events)?;
-    let inside = world.inside(&resource)?;
-    check(inside.as_slice() == [ticket].as_slice())
-}
-
-/// A world in which c1 is inside as a writer, by the vote of n1.
-fn writing(alloc: Global) -> Result<World, Failure> {
-    let (from, to) = (client(1)?, node(1)?);
-    let (who, voter) = (Actor::Client(from), Actor::Node(to));
-    let mut world = up(alloc)?;
-    let events = [
-        Event::Begin(from, Mode::Write, resource()?, 1),
-        Event::Try(who),
-        Event::Kept(who),
-        Event::SayTo(from, to),
-        Event::Take(to, 1),
-        Event::Try(voter),
-        Event::Kept(voter),
-        Event::Say(to),
-        Event::Hear(from, 2),
-        Event::Enter(from),
-    ];
-    runs(&mut world, &events)?;
-    Ok(world)
-}
-
-#[test]
-fn soften_and_say(rt: HostRuntime) -> Outcome {
-    let (from, to) = (client(1)?, node(1)?);
-    let who = Actor::Node(to);
-    let soften = Message::Soften(to, from, first_attempt()?);
-    let softened = Message::Softened(to, from, first_attempt()?);
-    let said = Effect::Said { first: 4, count: 1 };
-    let mut world = writing(rt.alloc())?;
-    does(&mut world, &Event::Soften(from), Effect::Softened)?;
-    does(&mut world, &Event::SayTo(from, to), Effect::Sent(3, soften))?;
-    does(&mut world, &Event::Take(to, 3), Effect::Took(soften, true))?;
-    does(&mut world, &Event::Try(who), Effect::Tried)?;
-    does(&mut world, &Event::Kept(who), Effect::Kept)?;
-    does(&mut world, &Event::Say(to), said)?;
-    check(world.sent(4) == Some(softened))?;
-    let inside = world.inside(&resource()?)?;
-    check(inside.as_slice() == [ticket(1, Mode::Read)?].as_slice())
 }
 
 /// n1 takes problem 1 for problem 2; where memory is refused it has nothing to say, and takes it after that.
 fn switches(world: &mut World) -> Outcome {
-    let at = node(1)?;
-    let switch = Event::Switch(at, Problem::First);
-    match world.step(&switch) {
-        Ok(done) => check(done == Effect::Switched(true)),
-        Err(fault) => {
-            let says = world.step(&Event::Say(at));
-            check(says == Err(StepFault::NothingToSay))?;
-            let again = world.step(&switch)?;
-            check(again == Effect::Switched(true))?;
-            Err(fault.into())
+    let node = node(1)?;
+    let switch = Event::Switch(node, Problem::First);
+    let wanted = Ok(Effect::Switched(true));
+    match takes(world, &switch, &wanted) {
+        Err(Failure::Memory) => {
+            let silent = takes(world, &Event::Say(node), &Err(StepFault::NothingToSay));
+            let switched = takes(world, &switch, &wanted);
+            refused(silent.is_ok() && switched.is_ok())
+        }
+        taken => taken,
+    }
+}
+
+/// Takes the events, by which message 2 is sent; a run that was stopped for want of memory goes on where it
+/// stopped.
+fn runs(world: &mut World, events: &[Event]) -> Outcome {
+    match world.run(events) {
+        Ok(taken) => check(taken == events.len() && world.sent(2).is_some()),
+        Err((taken, fault)) => {
+            let rest = events.get(taken..).unwrap_or(&[]);
+            let went_on = world.run(rest) == Ok(rest.len()) && world.sent(2).is_some();
+            refused(fault == StepFault::Memory && went_on)
         }
     }
 }
 
-/// A world in which n1 has switched, and has kept that.
-fn switched(alloc: Global) -> Result<World, Failure> {
-    let who = Actor::Node(node(1)?);
-    let mut world = resumed(alloc, &THREE)?;
-    does(&mut world, &Event::Rise(who, Age::Old), Effect::Up)?;
-    switches(&mut world)?;
-    does(&mut world, &Event::Try(who), Effect::Tried)?;
-    does(&mut world, &Event::Kept(who), Effect::Kept)?;
-    Ok(world)
+/// Takes the events of these lines, ten at most, by one run.
+fn runs_lines(world: &mut World, lines: &[&str]) -> Outcome {
+    let mut events = [event("say n1")?; 10];
+    for (place, line) in events.iter_mut().zip(lines) {
+        *place = event(line)?;
+    }
+    runs(world, events.get(..lines.len()).unwrap_or(&[]))
 }
 
-#[test]
-fn switch_and_say(rt: HostRuntime) -> Outcome {
-    let at = node(1)?;
-    let said = Effect::Said { first: 1, count: 1 };
-    let grant = Message::Grant(at, ticket(3, Mode::Read)?);
-    let mut world = switched(rt.alloc())?;
-    does(&mut world, &Event::Say(at), said)?;
-    check(world.sent(1) == Some(grant))?;
-    let waiting = world.waiting(at, &resource()?)?;
-    check(waiting.as_slice() == [ticket(2, Mode::Write)?].as_slice())
-}
-
-/// Without replies a Say names the number that the next message gets.
-#[test]
-fn switch_to_the_same_and_say(rt: HostRuntime) -> Outcome {
-    let (at, who) = (node(1)?, Actor::Node(node(1)?));
-    let switch = Event::Switch(at, Problem::Second);
-    let said = Effect::Said { first: 1, count: 0 };
-    let mut world = resumed(rt.alloc(), &THREE)?;
-    does(&mut world, &Event::Rise(who, Age::Old), Effect::Up)?;
-    does(&mut world, &switch, Effect::Switched(false))?;
-    does(&mut world, &Event::Say(at), said)?;
-    check(world.sent(1).is_none())
-}
-
-#[test]
-fn who_holds_and_who_waits(rt: HostRuntime) -> Outcome {
-    let (at, resource) = (node(1)?, resource()?);
-    let (reader, writer) = (ticket(1, Mode::Read)?, ticket(2, Mode::Write)?);
-    let world = resumed(rt.alloc(), &TWO)?;
-    let holding = world.holding(at, &resource)?;
-    check(holding.as_slice() == [reader].as_slice())?;
-    let waiting = world.waiting(at, &resource)?;
-    check(waiting.as_slice() == [writer].as_slice())
-}
-
-#[test]
-fn kept_bytes(rt: HostRuntime) -> Outcome {
-    let world = resumed(rt.alloc(), &TWO)?;
-    let of_node = world.kept_bytes(Actor::Node(node(1)?))?;
-    check(of_node.as_slice() == TWO.as_slice())?;
-    let of_client = world.kept_bytes(Actor::Client(client(2)?))?;
-    check(of_client.as_slice() == FIRST.as_slice())
+fn says_apart(copy: &mut World, world: &World) -> Outcome {
+    does(copy, "say n1", Did::Said(2, 1))?;
+    check(copy.sent(2).is_some() && world.sent(2).is_none())
 }
 
 /// A copy says what the world has to say; where memory is refused the world says it.
-#[test]
-fn copy_and_say(rt: HostRuntime) -> Outcome {
-    let said = Effect::Said { first: 2, count: 1 };
-    let says = Event::Say(node(1)?);
-    let mut world = answered(rt.alloc())?;
+fn copies(world: &mut World) -> Outcome {
     match world.copy() {
         Ok(copy) => {
             let mut copy = copy;
-            does(&mut copy, &says, said)?;
-            check(copy.sent(2).is_some() && world.sent(2).is_none())
+            says_apart(&mut copy, world)
         }
         Err(fault) => {
-            does(&mut world, &says, said)?;
+            does(world, "say n1", Did::Said(2, 1))?;
             Err(fault.into())
         }
     }
 }
 
-/// A run that was stopped for want of memory goes on where it stopped.
+/// Whether the ticket of this client is alone among what was found.
+fn is_alone(found: Result<Vec<Ticket>, StepFault>, number: u32, mode: Mode) -> Outcome {
+    let ticket = ticket(number, mode)?;
+    check(found?.as_slice() == [ticket].as_slice())
+}
+
+/// Whether an actor has kept these bytes.
+fn has_kept(world: &World, who: Actor, bytes: &[u8]) -> Outcome {
+    check(world.kept_bytes(who)?.as_slice() == bytes)
+}
+
+fn plays_step(world: &mut World, step: &Step) -> Outcome {
+    let (at, resource) = (node(1)?, resource()?);
+    match *step {
+        Step::Does(line, did) => does(world, line, did),
+        Step::Switches => switches(world),
+        Step::Runs(lines) => runs_lines(world, lines),
+        Step::Copies => copies(world),
+        Step::Sent(number, kind, client) => {
+            check(world.sent(number) == Some(message(kind, client, Mode::Read)?))
+        }
+        Step::NotSent(number) => check(world.sent(number).is_none()),
+        Step::Inside(number, mode) => is_alone(world.inside(&resource), number, mode),
+        Step::Holding(number, mode) => is_alone(world.holding(at, &resource), number, mode),
+        Step::Waiting(number, mode) => is_alone(world.waiting(at, &resource), number, mode),
+        Step::NodeHasKept(bytes) => has_kept(world, Actor::Node(at), bytes),
+        Step::ClientHasKept(bytes) => has_kept(world, Actor::Client(client(2)?), bytes),
+    }
+}
+
+fn plays(world: &mut World, steps: &[Step]) -> Outcome {
+    for step in steps {
+        plays_step(world, step)?;
+    }
+    Ok(())
+}
+
+/// Plays the parts of a script, and the rest of it.
+fn plays_parts(world: &mut World, parts: &[&[Step]], rest: &[Step]) -> Outcome {
+    for steps in parts {
+        plays(world, steps)?;
+    }
+    plays(world, rest)
+}
+
+/// Plays a script in a world in which nothing was kept.
+fn plays_anew(alloc: Global, parts: &[&[Step]], rest: &[Step]) -> Outcome {
+    plays_parts(&mut started(alloc)?, parts, rest)
+}
+
+/// Plays a script in a world in which n1 has kept this record, and each client its first attempt.
+fn plays_from(alloc: Global, record: &[u8], steps: &[Step]) -> Outcome {
+    let kept = kept(alloc, record)?;
+    plays(&mut resumed_from(alloc, &kept)?, steps)
+}
+
+const NOTHING: [&[Step]; 0] = [];
+
+const NOTHING_SENT: [Step; 1] = [Step::NotSent(1)];
+
+#[test]
+fn start_a_world(rt: HostRuntime) -> Outcome {
+    plays_anew(rt.alloc(), &NOTHING, &NOTHING_SENT)
+}
+
+const NODE_UP: [Step; 1] = [Step::Does("rise n1 old", Did::Up)];
+
+#[test]
+fn rise_after_a_resume(rt: HostRuntime) -> Outcome {
+    plays_from(rt.alloc(), &TWO, &NODE_UP)
+}
+
+const CLIENT_UP: [Step; 1] = [Step::Does("rise c1 old", Did::Up)];
+
+/// c1 asks with its first ticket.
+const ASKS: [Step; 3] = [
+    Step::Does("begin c1 read a", Did::Chose),
+    Step::Does("try c1", Did::Tried),
+    Step::Does("kept c1", Did::Kept),
+];
+
+const ASKING: [&[Step]; 3] = [&NODE_UP, &CLIENT_UP, &ASKS];
+
+/// c1's request is message 1.
+const REQUESTS: [Step; 2] = [
+    Step::Does("sayto c1 n1", Did::Sent(1, Kind::Request)),
+    Step::NotSent(2),
+];
+
+#[test]
+fn say_to_a_node(rt: HostRuntime) -> Outcome {
+    plays_anew(rt.alloc(), &ASKING, &REQUESTS)
+}
+
+/// n1 takes that request, and keeps what it decides.
+const TAKES: [Step; 3] = [
+    Step::Does("take n1 1", Did::Took(Kind::Request)),
+    Step::Does("try n1", Did::Tried),
+    Step::Does("kept n1", Did::Kept),
+];
+
+const ANSWERED: [&[Step]; 5] = [&NODE_UP, &CLIENT_UP, &ASKS, &REQUESTS, &TAKES];
+
+const GRANTS: [Step; 2] = [
+    Step::Does("say n1", Did::Said(2, 1)),
+    Step::Sent(2, Kind::Grant, 1),
+];
+
+#[test]
+fn take_and_say(rt: HostRuntime) -> Outcome {
+    plays_anew(rt.alloc(), &ANSWERED, &GRANTS)
+}
+
+const ENTERS: [Step; 2] = [
+    Step::Runs(&["say n1", "hear c1 2", "enter c1"]),
+    Step::Inside(1, Mode::Read),
+];
+
+#[test]
+fn who_is_inside(rt: HostRuntime) -> Outcome {
+    plays_anew(rt.alloc(), &ANSWERED, &ENTERS)
+}
+
+const UP: [&[Step]; 2] = [&NODE_UP, &CLIENT_UP];
+
+/// c1, which is inside as a writer by the vote of n1, softens.
+const SOFTENS: [Step; 9] = [
+    Step::Runs(&[
+        "begin c1 write a",
+        "try c1",
+        "kept c1",
+        "sayto c1 n1",
+        "take n1 1",
+        "try n1",
+        "kept n1",
+        "say n1",
+        "hear c1 2",
+        "enter c1",
+    ]),
+    Step::Does("soften c1", Did::Softened),
+    Step::Does("sayto c1 n1", Did::Sent(3, Kind::Soften)),
+    Step::Does("take n1 3", Did::Took(Kind::Soften)),
+    Step::Does("try n1", Did::Tried),
+    Step::Does("kept n1", Did::Kept),
+    Step::Does("say n1", Did::Said(4, 1)),
+    Step::Sent(4, Kind::Softened, 1),
+    Step::Inside(1, Mode::Read),
+];
+
+#[test]
+fn soften_and_say(rt: HostRuntime) -> Outcome {
+    plays_anew(rt.alloc(), &UP, &SOFTENS)
+}
+
+const SWITCHES: [Step; 7] = [
+    Step::Does("rise n1 old", Did::Up),
+    Step::Switches,
+    Step::Does("try n1", Did::Tried),
+    Step::Does("kept n1", Did::Kept),
+    Step::Does("say n1", Did::Said(1, 1)),
+    Step::Sent(1, Kind::Grant, 3),
+    Step::Waiting(2, Mode::Write),
+];
+
+#[test]
+fn switch_and_say(rt: HostRuntime) -> Outcome {
+    plays_from(rt.alloc(), &THREE, &SWITCHES)
+}
+
+/// Without replies a Say names the number that the next message gets.
+const SAME: [Step; 4] = [
+    Step::Does("rise n1 old", Did::Up),
+    Step::Does("switch n1 2", Did::SwitchedToTheSame),
+    Step::Does("say n1", Did::Said(1, 0)),
+    Step::NotSent(1),
+];
+
+#[test]
+fn switch_to_the_same_and_say(rt: HostRuntime) -> Outcome {
+    plays_from(rt.alloc(), &THREE, &SAME)
+}
+
+const ASKED: [Step; 2] = [Step::Holding(1, Mode::Read), Step::Waiting(2, Mode::Write)];
+
+#[test]
+fn who_holds_and_who_waits(rt: HostRuntime) -> Outcome {
+    plays_from(rt.alloc(), &TWO, &ASKED)
+}
+
+const KEPT: [Step; 2] = [Step::NodeHasKept(&TWO), Step::ClientHasKept(&FIRST)];
+
+#[test]
+fn kept_bytes(rt: HostRuntime) -> Outcome {
+    plays_from(rt.alloc(), &TWO, &KEPT)
+}
+
+const COPIES: [Step; 1] = [Step::Copies];
+
+#[test]
+fn copy_and_say(rt: HostRuntime) -> Outcome {
+    plays_anew(rt.alloc(), &ANSWERED, &COPIES)
+}
+
+const RUNS: [Step; 1] = [Step::Runs(&["sayto c1 n1", "take n1 1", "try n1", "kept n1", "say n1"])];
+
 #[test]
 fn run_to_an_answer(rt: HostRuntime) -> Outcome {
-    let (from, to) = (client(1)?, node(1)?);
-    let mut world = asking(rt.alloc())?;
-    let events = [
-        Event::SayTo(from, to),
-        Event::Take(to, 1),
-        Event::Try(Actor::Node(to)),
-        Event::Kept(Actor::Node(to)),
-        Event::Say(to),
-    ];
-    match world.run(&events) {
-        Ok(taken) => check(taken == 5 && world.sent(2).is_some()),
-        Err((taken, fault)) => {
-            let rest = world.run(events.get(taken..).unwrap_or(&[]));
-            check(rest == Ok(5 - taken.min(5)))?;
-            check(world.sent(2).is_some())?;
-            Err(fault.into())
-        }
-    }
+    plays_anew(rt.alloc(), &ASKING, &RUNS)
 }

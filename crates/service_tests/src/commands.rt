@@ -1,9 +1,8 @@
 // What `ballot` and `audit` print, through `serve`.
 
-use crate::playing::{SETTINGS, answers_row};
+use crate::playing::{SETTINGS, answers, answers_each};
 use operator_cli::Command;
-use std::alloc::Global;
-use test_outcomes::{Failure, Outcome};
+use test_outcomes::Outcome;
 
 /// Votes with what a read and a write need, what is printed of them, and the status.
 const BALLOTS: [(&str, &str, u8); 17] = [
@@ -86,9 +85,15 @@ const NINE: &str = "votes = [1]\nread = 1\nwrite = 1\nmore = [\
 
 #[test]
 fn nine_ballots(rt: HostRuntime) -> Outcome {
-    let input = format!(in rt.alloc(); "{NINE}{BEHIND_VOTES}")?;
-    let told = "refused 208\n";
-    answers_row(rt.alloc(), 0, Command::Ballot, input.as_str(), told, 1)
+    let told = ["refused 208\n"];
+    answers(
+        rt.alloc(),
+        0,
+        Command::Ballot,
+        &[NINE, BEHIND_VOTES],
+        &told,
+        1,
+    )
 }
 
 /// What follows the settings is ignored.
@@ -96,18 +101,12 @@ const BEHIND_VOTES: &str = "problem = 1\nclients = 1\n---\nno line of anything\n
 
 #[test]
 fn refused_ballots(rt: HostRuntime) -> Outcome {
-    for (row, (votes, expected, status)) in BALLOTS.iter().enumerate() {
-        let input = format!(in rt.alloc(); "{votes}{BEHIND_VOTES}")?;
-        answers_row(
-            rt.alloc(),
-            row,
-            Command::Ballot,
-            input.as_str(),
-            expected,
-            *status,
-        )?;
-    }
-    Ok(())
+    answers_each(
+        rt.alloc(),
+        Command::Ballot,
+        ["", "", BEHIND_VOTES],
+        &BALLOTS,
+    )
 }
 
 /// Inputs of commands with settings that are refused, what is printed of them, and the status.
@@ -147,7 +146,7 @@ const REFUSED_SETTINGS: [(Command, &str, &str, u8); 5] = [
 #[test]
 fn settings_faults(rt: HostRuntime) -> Outcome {
     for (row, (command, input, expected, status)) in REFUSED_SETTINGS.iter().enumerate() {
-        answers_row(rt.alloc(), row, *command, input, expected, *status)?;
+        answers(rt.alloc(), row, *command, &[*input], &[*expected], *status)?;
     }
     Ok(())
 }
@@ -195,18 +194,7 @@ const JOURNALS: [(&str, &str, u8); 21] = [
 
 #[test]
 fn audits_of_journals(rt: HostRuntime) -> Outcome {
-    for (row, (lines, expected, status)) in JOURNALS.iter().enumerate() {
-        let input = format!(in rt.alloc(); "{SETTINGS}{lines}")?;
-        answers_row(
-            rt.alloc(),
-            row,
-            Command::Audit,
-            input.as_str(),
-            expected,
-            *status,
-        )?;
-    }
-    Ok(())
+    answers_each(rt.alloc(), Command::Audit, [SETTINGS, "", ""], &JOURNALS)
 }
 
 /// c1 writes `a` by n1 and n2, and softens; c2, who waited at n1, is let in there.
@@ -228,16 +216,6 @@ const AFTER_SOFTENING: [(&str, &str, u8); 4] = [
 
 #[test]
 fn audits_of_softening(rt: HostRuntime) -> Outcome {
-    for (row, (lines, expected, status)) in AFTER_SOFTENING.iter().enumerate() {
-        let input = format!(in rt.alloc(); "{SETTINGS}{SOFTENS}{lines}")?;
-        answers_row(
-            rt.alloc(),
-            row,
-            Command::Audit,
-            input.as_str(),
-            expected,
-            *status,
-        )?;
-    }
-    Ok(())
+    let around = [SETTINGS, SOFTENS, ""];
+    answers_each(rt.alloc(), Command::Audit, around, &AFTER_SOFTENING)
 }

@@ -51,8 +51,8 @@ const EVENTS: [(StepFault, &str); 14] = [
 
 #[test]
 fn faults_of_events(rt: HostRuntime) -> Outcome {
-    for (fault, text) in EVENTS {
-        tells(rt.alloc(), fault.number(), fault, text)?;
+    for (fault, text) in &EVENTS {
+        tells(rt.alloc(), fault.number(), *fault, text)?;
     }
     Ok(())
 }
@@ -73,8 +73,8 @@ const LINES: [(LineFault, &str); 5] = [
 
 #[test]
 fn faults_of_lines(rt: HostRuntime) -> Outcome {
-    for (fault, text) in LINES {
-        tells(rt.alloc(), fault.number(), fault, text)?;
+    for (fault, text) in &LINES {
+        tells(rt.alloc(), fault.number(), *fault, text)?;
     }
     Ok(())
 }
@@ -116,8 +116,8 @@ const SETTINGS: [(SettingsFault, &str); 8] = [
 
 #[test]
 fn faults_of_settings(rt: HostRuntime) -> Outcome {
-    for (fault, text) in SETTINGS {
-        tells(rt.alloc(), fault.number(), fault, text)?;
+    for (fault, text) in &SETTINGS {
+        tells(rt.alloc(), fault.number(), *fault, text)?;
     }
     Ok(())
 }
@@ -130,8 +130,8 @@ const RUNS: [(ServeFault, &str); 3] = [
 
 #[test]
 fn faults_of_runs(rt: HostRuntime) -> Outcome {
-    for (fault, text) in RUNS {
-        tells(rt.alloc(), fault.number(), fault, text)?;
+    for (fault, text) in &RUNS {
+        tells(rt.alloc(), fault.number(), *fault, text)?;
     }
     Ok(())
 }

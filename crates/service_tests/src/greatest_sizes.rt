@@ -1,91 +1,145 @@
 // The greatest sizes: 16 nodes with 4,080 votes, 1,024 clients inside, as many messages as there may
 // be, and inputs of many reads.
 
-use crate::playing::{plays, serve_script, served};
+use crate::playing::{plays, serve_script, serves_reader};
 use operator_cli::ServeFault;
-use std::alloc::Global;
+use std::alloc::{AllocError, Global};
 use std::io;
 use std::io::{Read, Write};
 use test_outcomes::{Failure, Outcome, check};
 
-/// A script, and what it prints.
-#[derive(Drop)]
-struct Played {
-    script: String,
-    output: String,
+/// What is played.
+#[derive(Clone, Copy)]
+enum Scene {
+    AllVotes,
+    AllPairs,
+    AllClients,
 }
 
-/// Settings, and a client that has chosen to read `a`.
-fn begun(alloc: Global, head: &str, client: u32) -> Result<Played, Failure> {
-    let mut played = Played {
-        script: String::from_str(alloc, head)?,
-        output: String::new(alloc),
-    };
-    chooses(&mut played, client)?;
-    Ok(played)
+/// Plays a scene behind this beginning of a script, which prints this, to an end with this status.
+fn plays_scene(alloc: Global, begins: &str, prints: &str, scene: Scene, status: u8) -> Outcome {
+    let mut script = String::new(alloc);
+    let mut output = String::new(alloc);
+    plan(&mut script, &mut output, scene)?;
+    let printed = [prints, output.as_str()];
+    plays(alloc, &[begins, script.as_str()], &printed, status)
 }
 
-fn chooses(played: &mut Played, client: u32) -> Outcome {
-    writeln!(
-        played.script,
-        "begin c{client} read a\ntry c{client}\nkept c{client}"
-    )?;
-    played.output.push_str("chose 1\ntried\nkept\n")?;
+fn plan(script: &mut String, output: &mut String, scene: Scene) -> Result<(), AllocError> {
+    match scene {
+        Scene::AllVotes => all_votes_are_given(script, output),
+        Scene::AllPairs => all_pairs_switch(script, output),
+        Scene::AllClients => all_clients_come_in(script, output),
+    }
+}
+
+/// A part of a script, and what it prints. The letters `C`, `N`, `R` and `A` stand for the numbers of a client,
+/// of a node, of a message and of the one behind that.
+#[derive(Clone, Copy)]
+struct Part {
+    script: &'static str,
+    output: &'static str,
+}
+
+/// What the letters of a part stand for.
+#[derive(Clone, Copy)]
+struct Numbers {
+    client: u32,
+    node: u32,
+    request: u32,
+}
+
+fn number_of(letter: char, numbers: &Numbers) -> Option<u32> {
+    match letter {
+        'C' => Some(numbers.client),
+        'N' => Some(numbers.node),
+        'R' => Some(numbers.request),
+        'A' => Some(numbers.request.saturating_add(1)),
+        _ => None,
+    }
+}
+
+/// Writes a part with its numbers.
+fn fill(text: &mut String, part: &str, numbers: &Numbers) -> Result<(), AllocError> {
+    for letter in part.chars() {
+        let written = match number_of(letter, numbers) {
+            Some(number) => write!(text, "{number}"),
+            None => text.push(letter),
+        };
+        written?;
+    }
     Ok(())
 }
 
-/// The client asks a node, which grants its vote; the request is the message of this number.
-fn asks(played: &mut Played, client: u32, node: u32, request: u64) -> Outcome {
-    let grant = request.saturating_add(1);
-    let Played { script, output } = played;
-    writeln!(
-        script,
-        "sayto c{client} n{node}\ntake n{node} {request}\ntry n{node}"
-    )?;
-    writeln!(script, "kept n{node}\nsay n{node}\nhear c{client} {grant}")?;
-    writeln!(
-        output,
-        "sent {request} request n{node} c{client} 1 read a\nchanged\ntried"
-    )?;
-    writeln!(
-        output,
-        "kept\nsent {grant} grant n{node} c{client} 1 read a\ncounted"
-    )?;
-    Ok(())
+fn add(
+    script: &mut String,
+    output: &mut String,
+    part: &Part,
+    numbers: &Numbers,
+) -> Result<(), AllocError> {
+    fill(script, part.script, numbers)?;
+    fill(output, part.output, numbers)
 }
 
-fn says(played: &mut Played, line: &str, answer: &str) -> Outcome {
-    writeln!(played.script, "{line}")?;
-    writeln!(played.output, "{answer}")?;
-    Ok(())
-}
+const CHOOSES: Part = Part {
+    script: "begin cC read a\ntry cC\nkept cC\n",
+    output: "chose 1\ntried\nkept\n",
+};
 
+/// The client asks a node, which grants its vote.
+const ASKS: Part = Part {
+    script: "sayto cC nN\ntake nN R\ntry nN\nkept nN\nsay nN\nhear cC A\n",
+    output: "sent R request nN cC 1 read a\nchanged\ntried\nkept\nsent A grant nN cC 1 read a\ncounted\n",
+};
+
+const IS_REFUSED: Part = Part {
+    script: "enter cC\n",
+    output: "refused 609\n",
+};
+
+const ENTERS: Part = Part {
+    script: "enter cC\n",
+    output: "inside\n",
+};
+
+const IS_INSIDE: Part = Part {
+    script: "inside a\n",
+    output: "inside a: cC read",
+};
+
+const IS_INSIDE_TOO: Part = Part {
+    script: "",
+    output: ", cC read",
+};
+
+/// A reader needs eight of sixteen nodes that have 255 votes each.
 const ALL_VOTES: &str = "\
 votes = [255, 255, 255, 255, 255, 255, 255, 255, 255, 255, 255, 255, 255, 255, 255, 255]\n\
 read = 2040\nwrite = 2041\nproblem = 1\nclients = 1024\n---\n";
 
-/// A reader needs eight of sixteen nodes that have 255 votes each.
+fn all_votes_are_given(script: &mut String, output: &mut String) -> Result<(), AllocError> {
+    let mut numbers = Numbers {
+        client: 1024,
+        node: 16,
+        request: 15,
+    };
+    let last = numbers;
+    add(script, output, &CHOOSES, &numbers)?;
+    for node in 9..16u32 {
+        numbers.node = node;
+        numbers.request = node.saturating_mul(2).saturating_sub(17);
+        add(script, output, &ASKS, &numbers)?;
+    }
+    add(script, output, &IS_REFUSED, &last)?;
+    add(script, output, &ASKS, &last)?;
+    add(script, output, &ENTERS, &last)?;
+    add(script, output, &IS_INSIDE, &last)?;
+    output.push_str("\n")
+}
+
 #[test]
 fn all_votes(rt: HostRuntime) -> Outcome {
-    let mut played = begun(rt.alloc(), ALL_VOTES, 1024)?;
-    for node in 9..16u32 {
-        asks(
-            &mut played,
-            1024,
-            node,
-            u64::from(node).saturating_mul(2).saturating_sub(17),
-        )?;
-    }
-    says(&mut played, "enter c1024", "refused 609")?;
-    asks(&mut played, 1024, 16, 15)?;
-    says(&mut played, "enter c1024", "inside")?;
-    says(&mut played, "inside a", "inside a: c1024 read")?;
-    plays(
-        rt.alloc(),
-        played.script.as_bytes(),
-        played.output.as_str(),
-        1,
-    )
+    plays_scene(rt.alloc(), ALL_VOTES, "", Scene::AllVotes, 1)
 }
 
 const ALL_PAIRS: &str = "\
@@ -97,34 +151,55 @@ begin c3 read a\ntry c3\nkept c3\n";
 const ALL_CHOOSE: &str = "\
 chose 1\ntried\nkept\nchose 1\ntried\nkept\nchose 1\ntried\nkept\n";
 
-/// The client of a ticket asks a node, which answers so; the request is the message of this number.
-fn is_answered(
-    played: &mut Played,
-    ticket: &str,
-    node: u32,
-    request: u32,
-    answer: &str,
-) -> Outcome {
-    let said = request.saturating_add(1);
-    let Some((client, _)) = ticket.split_once(' ') else {
-        return Err(Failure::Wrong(0));
-    };
-    let Played { script, output } = played;
-    writeln!(script, "sayto {client} n{node}\ntake n{node} {request}")?;
-    writeln!(script, "try n{node}\nkept n{node}\nsay n{node}")?;
-    writeln!(output, "sent {request} request n{node} {ticket}")?;
-    writeln!(output, "changed\ntried\nkept")?;
-    writeln!(output, "sent {said} {answer} n{node} {ticket}")?;
+/// What is said to a node and by it.
+const SAYS: &str = "sayto cC nN\ntake nN R\ntry nN\nkept nN\nsay nN\n";
+
+const IS_GRANTED: Part = Part {
+    script: SAYS,
+    output: "sent R request nN cC 1 read a\nchanged\ntried\nkept\nsent A grant nN cC 1 read a\n",
+};
+
+const WRITER_WAITS: Part = Part {
+    script: SAYS,
+    output: "sent R request nN cC 1 write a\nchanged\ntried\nkept\nsent A busy nN cC 1 write a\n",
+};
+
+const READER_WAITS: Part = Part {
+    script: SAYS,
+    output: "sent R request nN cC 1 read a\nchanged\ntried\nkept\nsent A busy nN cC 1 read a\n",
+};
+
+/// The node takes problem 1, under which it grants the reader that waits.
+const SWITCHES: Part = Part {
+    script: "switch nN 1\ntry nN\nkept nN\nsay nN\n",
+    output: "changed\ntried\nkept\nsent R grant nN cC 1 read a\n",
+};
+
+/// What happens at a node: whose turn it is, and the number of its message behind those of the nodes before.
+const AT_A_NODE: [(Part, u32, u32); 4] = [
+    (IS_GRANTED, 1, 1),
+    (WRITER_WAITS, 2, 3),
+    (READER_WAITS, 3, 5),
+    (SWITCHES, 3, 7),
+];
+
+fn happens_at(script: &mut String, output: &mut String, node: u32) -> Result<(), AllocError> {
+    let before = node.saturating_sub(1).saturating_mul(7);
+    for (part, client, request) in &AT_A_NODE {
+        let numbers = Numbers {
+            client: *client,
+            node,
+            request: before.saturating_add(*request),
+        };
+        add(script, output, part, &numbers)?;
+    }
     Ok(())
 }
 
-/// The node takes problem 1, under which it grants c3, by the message of this number.
-fn switches(played: &mut Played, node: u32, grant: u32) -> Outcome {
-    let Played { script, output } = played;
-    writeln!(script, "switch n{node} 1\ntry n{node}")?;
-    writeln!(script, "kept n{node}\nsay n{node}")?;
-    writeln!(output, "changed\ntried\nkept")?;
-    writeln!(output, "sent {grant} grant n{node} c3 1 read a")?;
+fn all_pairs_switch(script: &mut String, output: &mut String) -> Result<(), AllocError> {
+    for node in 1..17u32 {
+        happens_at(script, output, node)?;
+    }
     Ok(())
 }
 
@@ -132,76 +207,47 @@ fn switches(played: &mut Played, node: u32, grant: u32) -> Outcome {
 /// problem 2, and is let in under problem 1.
 #[test]
 fn all_pairs(rt: HostRuntime) -> Outcome {
-    let mut played = Played {
-        script: String::from_str(rt.alloc(), ALL_PAIRS)?,
-        output: String::from_str(rt.alloc(), ALL_CHOOSE)?,
-    };
-    for node in 1..17u32 {
-        let last = node.saturating_mul(7);
-        is_answered(
-            &mut played,
-            "c1 1 read a",
-            node,
-            last.saturating_sub(6),
-            "grant",
-        )?;
-        is_answered(
-            &mut played,
-            "c2 1 write a",
-            node,
-            last.saturating_sub(4),
-            "busy",
-        )?;
-        is_answered(
-            &mut played,
-            "c3 1 read a",
-            node,
-            last.saturating_sub(2),
-            "busy",
-        )?;
-        switches(&mut played, node, last)?;
-    }
-    let Played { script, output } = played;
-    plays(rt.alloc(), script.as_bytes(), output.as_str(), 0)
+    plays_scene(rt.alloc(), ALL_PAIRS, ALL_CHOOSE, Scene::AllPairs, 0)
 }
 
 const ONE_VOTE: &str = "votes = [1]\nread = 1\nwrite = 1\nproblem = 1\nclients = 1024\n---\n";
 
 /// The client begins, asks the one node and enters.
-fn comes_in(played: &mut Played, client: u32) -> Outcome {
-    chooses(played, client)?;
-    asks(
-        played,
+fn comes_in(script: &mut String, output: &mut String, client: u32) -> Result<(), AllocError> {
+    let numbers = Numbers {
         client,
-        1,
-        u64::from(client).saturating_mul(2).saturating_sub(1),
-    )?;
-    writeln!(played.script, "enter c{client}")?;
-    writeln!(played.output, "inside")?;
-    Ok(())
+        node: 1,
+        request: client.saturating_mul(2).saturating_sub(1),
+    };
+    add(script, output, &CHOOSES, &numbers)?;
+    add(script, output, &ASKS, &numbers)?;
+    add(script, output, &ENTERS, &numbers)
+}
+
+/// The numbers that a list of the clients inside has.
+fn inside(client: u32) -> Numbers {
+    Numbers {
+        client,
+        node: 1,
+        request: 1,
+    }
+}
+
+fn all_clients_come_in(script: &mut String, output: &mut String) -> Result<(), AllocError> {
+    for client in 1..1025u32 {
+        comes_in(script, output, client)?;
+    }
+    add(script, output, &IS_INSIDE, &inside(1))?;
+    for client in 2..1025u32 {
+        add(script, output, &IS_INSIDE_TOO, &inside(client))?;
+    }
+    output.push_str("\n")
 }
 
 /// As many clients as there may be are inside together.
 #[test]
 fn all_clients(rt: HostRuntime) -> Outcome {
-    let mut played = begun(rt.alloc(), ONE_VOTE, 1)?;
-    asks(&mut played, 1, 1, 1)?;
-    says(&mut played, "enter c1", "inside")?;
-    for client in 2..1025u32 {
-        comes_in(&mut played, client)?;
-    }
-    played.script.push_str("inside a\n")?;
-    played.output.push_str("inside a: c1 read")?;
-    for client in 2..1025u32 {
-        write!(played.output, ", c{client} read")?;
-    }
-    played.output.push_str("\n")?;
-    plays(
-        rt.alloc(),
-        played.script.as_bytes(),
-        played.output.as_str(),
-        0,
-    )
+    plays_scene(rt.alloc(), ONE_VOTE, "", Scene::AllClients, 0)
 }
 
 /// A reader that gives a beginning, and then the same line so many times, a line a read.
@@ -236,10 +282,12 @@ fn reader_of(line: &[u8], times: u32) -> Repeats<'_> {
 /// An input of more than 2,000 reads.
 #[test]
 fn many_reads(rt: HostRuntime) -> Outcome {
-    let (out, status) = served(rt.alloc(), reader_of(b"inside a\n", 3_000))?;
+    let mut out = Vec::new(rt.alloc());
+    let reader = reader_of(b"inside a\n", 3_000);
+    let status = serves_reader(rt.alloc(), reader, &mut out)?;
     let inside = b"inside a: nobody\n";
-    check(out.len() == 19 + 3_000 * inside.len())?;
-    check(out.ends_with(inside) && status == 0)
+    let whole = out.len() == 19 + 3_000 * inside.len() && out.ends_with(inside);
+    check(whole && status == 0)
 }
 
 /// A writer that counts lines, and keeps the last twelve bytes.
@@ -279,7 +327,6 @@ fn all_messages(rt: HostRuntime) -> Outcome {
     if ended == Err(ServeFault::Memory) || ended == Ok(2) {
         return Err(Failure::Memory);
     }
-    check(ended == Ok(1))?;
-    check(out.lines == MESSAGES as usize + 4)?;
-    check(out.last == *b"refused 612\n")
+    let whole = out.lines == MESSAGES as usize + 4 && out.last == *b"refused 612\n";
+    check(ended == Ok(1) && whole)
 }

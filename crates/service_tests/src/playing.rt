@@ -29,21 +29,21 @@ fn served_by(command: Command) -> Option<Command>
 }
 
 /// The plain policies of both problems.
-pub(crate) fn pair(alloc: Global) -> Result<Pair, Failure> {
+fn pair(alloc: Global) -> Result<Pair, Failure> {
     let first: Box<dyn Admission + Send> = Box::new(alloc, FirstProblem)?;
     let second: Box<dyn Admission + Send> = Box::new(alloc, SecondProblem)?;
     Ok(Pair::of(first, second))
 }
 
-/// As many pairs as there may be nodes.
-fn pairs(alloc: Global) -> Result<Vec<Pair>, Failure>
-    ensures { IfOk result (λ v. length v.items ≡ MAX_NODES) }
+/// So many pairs of these.
+pub(crate) fn pairs(alloc: Global, count: u8) -> Result<Vec<Pair>, Failure>
+    ensures { IfOk result (λ v. length v.items ≡ count) }
 {
     let mut pairs = Vec::new(alloc);
-    for _ in 0..MAX_NODES {
+    for _ in 0..count {
         pairs.push(pair(alloc)?)?;
     }
-    if pairs.len() != MAX_NODES as usize {
+    if pairs.len() != count as usize {
         return Err(Failure::Wrong(0));
     }
     Ok(pairs)
@@ -59,7 +59,7 @@ fn serve_command<R: Read + Drop, W: Write>(
     let Some(command) = served_by(command) else {
         return Err(ServeFault::Read);
     };
-    let Ok(pairs) = pairs(alloc) else {
+    let Ok(pairs) = pairs(alloc, MAX_NODES) else {
         return Err(ServeFault::Memory);
     };
     let order = Order {
@@ -78,11 +78,12 @@ pub(crate) fn serve_script<R: Read + Drop, W: Write>(
     serve_command(alloc, Command::Script, reader, writer)
 }
 
-/// What came of a run that wrote into a `Vec`, which takes what is written unless memory is refused.
-fn outcome(out: Vec<u8>, came: Result<u8, ServeFault>) -> Result<(Vec<u8>, u8), Failure> {
+/// The status of a command that wrote these bytes into a `Vec`, which takes what is written unless memory is
+/// refused.
+fn status_of(out: &[u8], came: Result<u8, ServeFault>) -> Result<u8, Failure> {
     match came {
-        Ok(2) if out.as_slice() == b"settings fault 925\n".as_slice() => Err(Failure::Memory),
-        Ok(status) => Ok((out, status)),
+        Ok(2) if out == b"settings fault 925\n".as_slice() => Err(Failure::Memory),
+        Ok(status) => Ok(status),
         Err(ServeFault::Memory | ServeFault::Write) => Err(Failure::Memory),
         Err(ServeFault::Audit(AuditFault::Memory | AuditFault::Write)) => Err(Failure::Memory),
         Err(ServeFault::Read | ServeFault::Audit(_)) => Err(Failure::Wrong(0)),
@@ -90,68 +91,123 @@ fn outcome(out: Vec<u8>, came: Result<u8, ServeFault>) -> Result<(Vec<u8>, u8), 
 }
 
 /// What the bytes of a reader print as a script, and the status.
-pub(crate) fn served<R: Read + Drop>(alloc: Global, reader: R) -> Result<(Vec<u8>, u8), Failure> {
-    let mut out = Vec::new(alloc);
-    let came = serve_script(alloc, reader, &mut out);
-    outcome(out, came)
+pub(crate) fn serves_reader<R: Read + Drop>(
+    alloc: Global,
+    reader: R,
+    out: &mut Vec<u8>,
+) -> Result<u8, Failure> {
+    let came = serve_script(alloc, reader, out);
+    status_of(out, came)
 }
 
-/// Serves a command of a table, and compares what it prints and its status.
-pub(crate) fn answers_row(
+/// Whether the bytes are these parts, one behind the other.
+fn is_made_of(bytes: &[u8], parts: &[&str]) -> bool {
+    let mut rest = bytes;
+    let mut right = true;
+    for part in parts {
+        match rest.strip_prefix(part.as_bytes()) {
+            Some(next) => rest = next,
+            None => right = false,
+        }
+    }
+    right && rest.is_empty()
+}
+
+/// What is wanted of a command, in a row of a table: what it prints, in parts, and its status.
+#[derive(Clone, Copy)]
+struct Wanted<'a> {
+    row: usize,
+    parts: &'a [&'a str],
+    status: u8,
+}
+
+fn is_wanted(out: &[u8], came: Result<u8, ServeFault>, wanted: &Wanted<'_>) -> Outcome {
+    let status = status_of(out, came)?;
+    let right = status == wanted.status && is_made_of(out, wanted.parts);
+    check_row(right, wanted.row)
+}
+
+/// The parts, one behind the other.
+fn joined(alloc: Global, parts: &[&str]) -> Result<String, Failure> {
+    let mut text = String::new(alloc);
+    for part in parts {
+        text.push_str(part)?;
+    }
+    Ok(text)
+}
+
+/// So many times the text.
+pub(crate) fn repeated(alloc: Global, text: &str, count: usize) -> Result<String, Failure> {
+    let mut repeated = String::new(alloc);
+    for _ in 0..count {
+        repeated.push_str(text)?;
+    }
+    Ok(repeated)
+}
+
+/// Serves a command of a table with the input of these parts, and compares what it prints, in parts, and its
+/// status.
+pub(crate) fn answers(
     alloc: Global,
     row: usize,
     command: Command,
-    input: &str,
-    expected: &str,
+    input: &[&str],
+    parts: &[&str],
     status: u8,
 ) -> Outcome {
+    let input = joined(alloc, input)?;
     let mut out = Vec::new(alloc);
     let came = serve_command(alloc, command, input.as_bytes(), &mut out);
-    let (out, ended) = outcome(out, came)?;
-    let right = out.as_slice() == expected.as_bytes() && ended == status;
-    check_row(right, row)
+    is_wanted(&out, came, &Wanted { row, parts, status })
 }
 
-/// Runs a script of a table, and compares what it prints and its status.
-fn plays_row(alloc: Global, row: usize, script: &[u8], expected: &str, status: u8) -> Outcome {
-    let (out, ended) = served(alloc, script)?;
-    let right = out.as_slice() == expected.as_bytes() && ended == status;
-    check_row(right, row)
+/// Serves a command with what each row has first, behind two parts and before one; compares what it prints and
+/// its status.
+pub(crate) fn answers_each(
+    alloc: Global,
+    command: Command,
+    around: [&str; 3],
+    rows: &[(&str, &str, u8)],
+) -> Outcome {
+    let [head, before, behind] = around;
+    for (row, (told, expected, status)) in rows.iter().enumerate() {
+        let input = [head, before, *told, behind];
+        answers(alloc, row, command, &input, &[*expected], *status)?;
+    }
+    Ok(())
 }
 
 /// Runs a script, and compares what it prints and its status.
-pub(crate) fn plays(alloc: Global, script: &[u8], expected: &str, status: u8) -> Outcome {
-    plays_row(alloc, 0, script, expected, status)
+pub(crate) fn plays(alloc: Global, script: &[&str], expected: &[&str], status: u8) -> Outcome {
+    answers(alloc, 0, Command::Script, script, expected, status)
 }
 
-/// Lines behind good settings.
-fn behind_settings(alloc: Global, lines: &str) -> Result<String, Failure> {
-    let mut script = String::from_str(alloc, SETTINGS)?;
-    script.push_str(lines)?;
-    Ok(script)
+/// Runs a script of any bytes.
+pub(crate) fn plays_bytes(alloc: Global, script: &[u8], expected: &str, status: u8) -> Outcome {
+    let mut out = Vec::new(alloc);
+    let came = serve_script(alloc, script, &mut out);
+    let wanted = Wanted {
+        row: 0,
+        parts: &[expected],
+        status,
+    };
+    is_wanted(&out, came, &wanted)
 }
 
-/// Runs lines behind good settings.
-pub(crate) fn plays_lines(alloc: Global, lines: &str, expected: &str, status: u8) -> Outcome {
-    let script = behind_settings(alloc, lines)?;
-    plays(alloc, script.as_bytes(), expected, status)
-}
-
-/// Runs each of these lines by itself: it is bad, by this number.
-pub(crate) fn each_is_bad(alloc: Global, number: u16, lines: &[&str]) -> Outcome {
-    let expected = format!(in alloc; "line 1 fault {number}\n")?;
+/// Runs each of these lines by itself behind good settings: it is bad, by this number.
+pub(crate) fn each_is_bad(alloc: Global, number: &str, lines: &[&str]) -> Outcome {
+    let told = ["line 1 fault ", number, "\n"];
     for (row, line) in lines.iter().enumerate() {
-        let script = behind_settings(alloc, line)?;
-        plays_row(alloc, row, script.as_bytes(), expected.as_str(), 1)?;
+        answers(alloc, row, Command::Script, &[SETTINGS, *line], &told, 1)?;
     }
     Ok(())
 }
 
 /// Runs settings, each by itself: they are refused, by this number.
-pub(crate) fn each_is_refused(alloc: Global, number: u16, heads: &[&str]) -> Outcome {
-    let expected = format!(in alloc; "settings fault {number}\n")?;
+pub(crate) fn each_is_refused(alloc: Global, number: &str, heads: &[&str]) -> Outcome {
+    let told = ["settings fault ", number, "\n"];
     for (row, head) in heads.iter().enumerate() {
-        plays_row(alloc, row, head.as_bytes(), expected.as_str(), 2)?;
+        answers(alloc, row, Command::Script, &[*head], &told, 2)?;
     }
     Ok(())
 }

@@ -1,7 +1,7 @@
 // Actors that fall and rise, and messages that come late, by the world's own calls.
 
-use crate::worlds::{one_inside, play, three_nodes};
-use test_outcomes::{Outcome, check};
+use crate::worlds::{ASKS, ASKS_ANOTHER, CHOOSES, RISE, plays};
+use test_outcomes::Outcome;
 
 const DECIDES: &str = "\
 begin c1 read a > chose 1
@@ -19,20 +19,17 @@ const AFTER_KEEPING: &str = "kept n1 > kept\nfall n1 > down\nrise n1 old > up";
 
 #[test]
 fn restart_with_old_record(rt: HostRuntime) -> Outcome {
-    let mut world = three_nodes(rt.alloc())?;
-    play(rt.alloc(), &mut world, DECIDES)?;
-    play(rt.alloc(), &mut world, AFTER_KEEPING)?;
-    play(rt.alloc(), &mut world, GRANTS_AGAIN)
+    plays(rt.alloc(), &[RISE, DECIDES, AFTER_KEEPING, GRANTS_AGAIN])
 }
 
 const WITH_WHAT_WAS_TRIED: &str = "fall n1 > down\nrise n1 new > up";
 
 #[test]
 fn restart_with_new_record(rt: HostRuntime) -> Outcome {
-    let mut world = three_nodes(rt.alloc())?;
-    play(rt.alloc(), &mut world, DECIDES)?;
-    play(rt.alloc(), &mut world, WITH_WHAT_WAS_TRIED)?;
-    play(rt.alloc(), &mut world, GRANTS_AGAIN)
+    plays(
+        rt.alloc(),
+        &[RISE, DECIDES, WITH_WHAT_WAS_TRIED, GRANTS_AGAIN],
+    )
 }
 
 const DOWN_AND_UP: &str = "\
@@ -57,8 +54,7 @@ begin c1 read a > chose 2";
 
 #[test]
 fn refused_rises(rt: HostRuntime) -> Outcome {
-    let mut world = three_nodes(rt.alloc())?;
-    play(rt.alloc(), &mut world, DOWN_AND_UP)
+    plays(rt.alloc(), &[RISE, DOWN_AND_UP])
 }
 
 const CLIENT_RESTARTS: &str = "\
@@ -72,8 +68,10 @@ enter c1 > refused 609";
 
 #[test]
 fn restarted_client(rt: HostRuntime) -> Outcome {
-    let mut world = one_inside(rt.alloc())?;
-    play(rt.alloc(), &mut world, CLIENT_RESTARTS)
+    plays(
+        rt.alloc(),
+        &[RISE, CHOOSES, ASKS, ASKS_ANOTHER, CLIENT_RESTARTS],
+    )
 }
 
 const LATE_REQUEST: &str = "\
@@ -86,11 +84,13 @@ say n1 > said 6 1
 take n1 1 > same after request n1 c1 1 read a
 say n1 > said 7 1
 hear c1 6 > Done done n1 c1 1
-hear c1 7 > NotMine over n1 c1 1";
+hear c1 7 > NotMine over n1 c1 1
+sent 8 > nothing";
 
 #[test]
 fn release_then_late_request(rt: HostRuntime) -> Outcome {
-    let mut world = one_inside(rt.alloc())?;
-    play(rt.alloc(), &mut world, LATE_REQUEST)?;
-    check(world.sent(8).is_none())
+    plays(
+        rt.alloc(),
+        &[RISE, CHOOSES, ASKS, ASKS_ANOTHER, LATE_REQUEST],
+    )
 }

@@ -1,9 +1,9 @@
 // The settings of a run, which every command reads and judges: the weather and the wishes.
 
-use crate::playing::answers_row;
+use crate::playing::{answers, answers_each, repeated};
 use operator_cli::Command;
 use std::alloc::Global;
-use test_outcomes::{Failure, Outcome};
+use test_outcomes::Outcome;
 
 /// What the settings say of the world.
 const WORLD: &str = "votes = [1, 1, 1]\nread = 2\nwrite = 2\nproblem = 1\nclients = 4\n";
@@ -26,10 +26,12 @@ const TAKEN: [&str; 7] = [
     "wishes = [\"c4 read b\", \"c4 soften b-2\", \"c1 soften a\", \"c1 write a\"]\n",
 ];
 
-fn takes_row(alloc: Global, row: usize, told: &str) -> Outcome {
-    let input = format!(in alloc; "{WORLD}{told}---\n")?;
-    for (command, expected) in COMMANDS {
-        answers_row(alloc, row, command, input.as_str(), expected, 0)?;
+/// Serves every command with these three parts of settings behind those of the world: they are taken.
+fn takes_row(alloc: Global, row: usize, told: [&str; 3]) -> Outcome {
+    let [first, second, third] = told;
+    let input = [WORLD, first, second, third, "---\n"];
+    for (command, expected) in &COMMANDS {
+        answers(alloc, row, *command, &input, &[*expected], 0)?;
     }
     Ok(())
 }
@@ -37,16 +39,18 @@ fn takes_row(alloc: Global, row: usize, told: &str) -> Outcome {
 #[test]
 fn run_settings_are_taken(rt: HostRuntime) -> Outcome {
     for (row, told) in TAKEN.iter().enumerate() {
-        takes_row(rt.alloc(), row, told)?;
+        takes_row(rt.alloc(), row, [*told, "", ""])?;
     }
     Ok(())
 }
 
-fn refuses_row(alloc: Global, row: usize, told: &str, number: u16) -> Outcome {
-    let input = format!(in alloc; "{WORLD}{told}---\n")?;
-    let expected = format!(in alloc; "settings fault {number}\n")?;
-    for (command, _) in COMMANDS {
-        answers_row(alloc, row, command, input.as_str(), expected.as_str(), 2)?;
+/// They are refused, by this number.
+fn refuses_row(alloc: Global, row: usize, told: [&str; 3], number: &str) -> Outcome {
+    let [first, second, third] = told;
+    let input = [WORLD, first, second, third, "---\n"];
+    let expected = ["settings fault ", number, "\n"];
+    for (command, _) in &COMMANDS {
+        answers(alloc, row, *command, &input, &expected, 2)?;
     }
     Ok(())
 }
@@ -71,56 +75,56 @@ const WRONG_VALUES: [&str; 13] = [
 #[test]
 fn wrong_run_settings(rt: HostRuntime) -> Outcome {
     for (row, told) in WRONG_VALUES.iter().enumerate() {
-        refuses_row(rt.alloc(), row, told, 922)?;
+        refuses_row(rt.alloc(), row, [*told, "", ""], "922")?;
     }
     Ok(())
 }
 
 /// The first fault of each: of the weather, and then of the first wish that is none.
-const FIRST_FAULTS: [(&str, u16); 30] = [
-    ("lose = 1000\ntwice = 1\n", 901),
-    ("lose = 400\ntwice = 400\nlate = 201\n", 901),
-    ("late = 1000\nlose = 1\nwishes = [\"c1 read\"]\n", 901),
-    ("wishes = [\"\"]\n", 805),
-    ("wishes = [\"c1 read\"]\n", 805),
-    ("wishes = [\"c0 reed A b c\"]\n", 805),
-    ("wishes = [\"c0 reed A b\"]\n", 802),
-    ("wishes = [\"c4 read A b\"]\n", 804),
-    ("wishes = [\"c4 read a b\"]\n", 803),
-    ("wishes = [\"c4 read a b1\"]\n", 803),
-    ("wishes = [\"c4 read a b2\"]\n", 803),
+const FIRST_FAULTS: [(&str, &str); 30] = [
+    ("lose = 1000\ntwice = 1\n", "901"),
+    ("lose = 400\ntwice = 400\nlate = 201\n", "901"),
+    ("late = 1000\nlose = 1\nwishes = [\"c1 read\"]\n", "901"),
+    ("wishes = [\"\"]\n", "805"),
+    ("wishes = [\"c1 read\"]\n", "805"),
+    ("wishes = [\"c0 reed A b c\"]\n", "805"),
+    ("wishes = [\"c0 reed A b\"]\n", "802"),
+    ("wishes = [\"c4 read A b\"]\n", "804"),
+    ("wishes = [\"c4 read a b\"]\n", "803"),
+    ("wishes = [\"c4 read a b1\"]\n", "803"),
+    ("wishes = [\"c4 read a b2\"]\n", "803"),
     (
         "wishes = [\"c4 read a b3\"]\nmore = [{ votes = [1, 1, 1], read = 2, write = 2 }]\n",
-        803,
+        "803",
     ),
-    ("wishes = [\"c0 read a\"]\n", 802),
-    ("wishes = [\"n1 read a\"]\n", 802),
-    ("wishes = [\"c5 read a\"]\n", 802),
-    ("wishes = [\"c5 reed A\"]\n", 802),
-    ("wishes = [\"c4 reed A\"]\n", 801),
-    ("wishes = [\"c4 read A\"]\n", 804),
+    ("wishes = [\"c0 read a\"]\n", "802"),
+    ("wishes = [\"n1 read a\"]\n", "802"),
+    ("wishes = [\"c5 read a\"]\n", "802"),
+    ("wishes = [\"c5 reed A\"]\n", "802"),
+    ("wishes = [\"c4 reed A\"]\n", "801"),
+    ("wishes = [\"c4 read A\"]\n", "804"),
     (
         "wishes = [\"c1 read a\", \"c1 reed a\", \"c1 read\"]\n",
-        801,
+        "801",
     ),
-    ("wishes = [\"c1 read A\", \"c9 read a\"]\n", 804),
-    ("wish = [\"c1 read\"]\nlose = 1001\n", 923),
+    ("wishes = [\"c1 read A\", \"c9 read a\"]\n", "804"),
+    ("wish = [\"c1 read\"]\nlose = 1001\n", "923"),
     // Of a wish that softens.
-    ("wishes = [\"c1 soften\"]\n", 805),
-    ("wishes = [\"c1 soften a b2 c\"]\n", 805),
-    ("wishes = [\"c5 soften a\"]\n", 802),
-    ("wishes = [\"c1 softened a\"]\n", 801),
-    ("wishes = [\"c1 softens a\"]\n", 801),
-    ("wishes = [\"c1 Soften a\"]\n", 801),
-    ("wishes = [\"c1 soften A b2\"]\n", 804),
-    ("wishes = [\"c1 soften a b1\"]\n", 803),
-    ("wishes = [\"c1 soften a b2\"]\n", 803),
+    ("wishes = [\"c1 soften\"]\n", "805"),
+    ("wishes = [\"c1 soften a b2 c\"]\n", "805"),
+    ("wishes = [\"c5 soften a\"]\n", "802"),
+    ("wishes = [\"c1 softened a\"]\n", "801"),
+    ("wishes = [\"c1 softens a\"]\n", "801"),
+    ("wishes = [\"c1 Soften a\"]\n", "801"),
+    ("wishes = [\"c1 soften A b2\"]\n", "804"),
+    ("wishes = [\"c1 soften a b1\"]\n", "803"),
+    ("wishes = [\"c1 soften a b2\"]\n", "803"),
 ];
 
 #[test]
 fn first_fault_of_a_run(rt: HostRuntime) -> Outcome {
     for (row, (told, number)) in FIRST_FAULTS.iter().enumerate() {
-        refuses_row(rt.alloc(), row, told, *number)?;
+        refuses_row(rt.alloc(), row, [*told, "", ""], number)?;
     }
     Ok(())
 }
@@ -128,30 +132,18 @@ fn first_fault_of_a_run(rt: HostRuntime) -> Outcome {
 /// A wish over 128 bytes, whose client is none either.
 #[test]
 fn long_wish(rt: HostRuntime) -> Outcome {
-    let alloc = rt.alloc();
-    let mut told = String::from_str(alloc, "wishes = [\"c5 read ")?;
-    for _ in 0..121 {
-        told.push_str("a")?;
-    }
-    told.push_str("\"]\n")?;
-    refuses_row(alloc, 0, told.as_str(), 805)
+    let name = repeated(rt.alloc(), "a", 121)?;
+    let told = ["wishes = [\"c5 read ", name.as_str(), "\"]\n"];
+    refuses_row(rt.alloc(), 0, told, "805")
 }
 
-/// Settings with so many wishes.
-fn many_wishes(alloc: Global, count: usize) -> Result<String, Failure> {
-    let mut told = String::from_str(alloc, "wishes = [")?;
-    for _ in 0..count {
-        told.push_str("\"c1 read a\",")?;
-    }
-    told.push_str("]\n")?;
-    Ok(told)
-}
-
+/// So many wishes are taken, and with one more refused.
 #[test]
 fn most_wishes(rt: HostRuntime) -> Outcome {
-    let alloc = rt.alloc();
-    takes_row(alloc, 0, many_wishes(alloc, 4_096)?.as_str())?;
-    refuses_row(alloc, 1, many_wishes(alloc, 4_097)?.as_str(), 922)
+    let wishes = repeated(rt.alloc(), "\"c1 read a\",", 4_096)?;
+    takes_row(rt.alloc(), 0, ["wishes = [", wishes.as_str(), "]\n"])?;
+    let told = ["wishes = [", wishes.as_str(), "\"c1 read a\",]\n"];
+    refuses_row(rt.alloc(), 1, told, "922")
 }
 
 /// What the ballot prints without a problem and clients, and for votes that make none.
@@ -237,16 +229,5 @@ const BALLOTS: [(&str, &str, u8); 15] = [
 
 #[test]
 fn ballots_of_a_run(rt: HostRuntime) -> Outcome {
-    for (row, (told, expected, status)) in BALLOTS.iter().enumerate() {
-        let input = format!(in rt.alloc(); "{told}---\n")?;
-        answers_row(
-            rt.alloc(),
-            row,
-            Command::Ballot,
-            input.as_str(),
-            expected,
-            *status,
-        )?;
-    }
-    Ok(())
+    answers_each(rt.alloc(), Command::Ballot, ["", "", "---\n"], &BALLOTS)
 }

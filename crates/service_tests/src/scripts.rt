@@ -1,18 +1,25 @@
 // Scripts that show what the examples don't.
 
-use crate::playing::{plays, plays_lines};
+use crate::playing::{SETTINGS, answers_each, plays};
+use operator_cli::Command;
 use test_outcomes::Outcome;
+
+/// Lines behind good settings, what they print, and the status.
+const LAST_LINES: [(&str, &str, u8); 5] = [
+    ("", "", 0),
+    ("begin c1 read a", "chose 1\n", 0),
+    ("begin c1 read a\n", "chose 1\n", 0),
+    (
+        "inside a\n\nbegin c1 read a\n",
+        "inside a: nobody\nline 2 fault 801\n",
+        1,
+    ),
+    ("enter c1\ninside a\n", "refused 604\ninside a: nobody\n", 1),
+];
 
 #[test]
 fn last_lines(rt: HostRuntime) -> Outcome {
-    let alloc = rt.alloc();
-    plays_lines(alloc, "", "", 0)?;
-    plays_lines(alloc, "begin c1 read a", "chose 1\n", 0)?;
-    plays_lines(alloc, "begin c1 read a\n", "chose 1\n", 0)?;
-    let bad = "inside a: nobody\nline 2 fault 801\n";
-    plays_lines(alloc, "inside a\n\nbegin c1 read a\n", bad, 1)?;
-    let refused = "refused 604\ninside a: nobody\n";
-    plays_lines(alloc, "enter c1\ninside a\n", refused, 1)
+    answers_each(rt.alloc(), Command::Script, [SETTINGS, "", ""], &LAST_LINES)
 }
 
 const TWO_READERS: &str = "\
@@ -31,7 +38,7 @@ sent 6 done n1 c1 1\ndone\nnot mine\nknown\n";
 
 #[test]
 fn two_readers_inside(rt: HostRuntime) -> Outcome {
-    plays(rt.alloc(), TWO_READERS.as_bytes(), TWO_READERS_OUT, 0)
+    plays(rt.alloc(), &[TWO_READERS], &[TWO_READERS_OUT], 0)
 }
 
 const SOFTENS: &str = "\
@@ -57,10 +64,9 @@ same\nsent 10 softened n1 c1 1\nsoftened\nnot mine\n";
 #[test]
 fn softening(rt: HostRuntime) -> Outcome {
     let alloc = rt.alloc();
-    plays(alloc, SOFTENS.as_bytes(), SOFTENS_OUT, 0)?;
-    let script = format!(in alloc; "{SOFTENS}soften c1\n")?;
-    let expected = format!(in alloc; "{SOFTENS_OUT}refused 604\n")?;
-    plays(alloc, script.as_bytes(), expected.as_str(), 1)
+    plays(alloc, &[SOFTENS], &[SOFTENS_OUT], 0)?;
+    let again = [SOFTENS_OUT, "refused 604\n"];
+    plays(alloc, &[SOFTENS, "soften c1\n"], &again, 1)
 }
 
 const TWO_BALLOTS: &str = "\
@@ -87,5 +93,5 @@ refused 609\ninside a: c1 write\n";
 /// The reader's ballot is another one than the writer's, and it lacks a vote of the writer's nodes.
 #[test]
 fn reader_by_another_ballot(rt: HostRuntime) -> Outcome {
-    plays(rt.alloc(), TWO_BALLOTS.as_bytes(), TWO_BALLOTS_OUT, 1)
+    plays(rt.alloc(), &[TWO_BALLOTS], &[TWO_BALLOTS_OUT], 1)
 }

@@ -1,6 +1,6 @@
 // Readers that give little, inputs that are cut, and readers and writers that fail.
 
-use crate::playing::{serve_script, served};
+use crate::playing::{serve_script, serves_reader};
 use operator_cli::ServeFault;
 use std::alloc::Global;
 use std::io;
@@ -57,11 +57,20 @@ fn sips_of(bytes: &[u8], most: usize, reads: u32) -> Sips<'_> {
     }
 }
 
+/// Runs the script by reads of so many bytes at most.
+fn plays_pieces(alloc: Global, most: usize) -> Outcome {
+    let mut out = Vec::new(alloc);
+    let reader = sips_of(SCRIPT.as_bytes(), most, u32::MAX);
+    let status = serves_reader(alloc, reader, &mut out)?;
+    check_row(out.as_slice() == EXPECTED.as_bytes() && status == 1, most)
+}
+
+const SIZES: [usize; 5] = [1, 2, 7, 64, 4_096];
+
 #[test]
 fn pieces_of_any_size(rt: HostRuntime) -> Outcome {
-    for most in [1, 2, 7, 64, 4_096] {
-        let (out, status) = served(rt.alloc(), sips_of(SCRIPT.as_bytes(), most, u32::MAX))?;
-        check_row(out.as_slice() == EXPECTED.as_bytes() && status == 1, most)?;
+    for most in &SIZES {
+        plays_pieces(rt.alloc(), *most)?;
     }
     Ok(())
 }
@@ -116,41 +125,39 @@ impl Write for Sinks {
     }
 }
 
-/// Runs the script into a writer; answers whether all was written. What was is a beginning.
-fn writes_all(alloc: Global, most: usize, writes: u32) -> Result<bool, Failure> {
+/// Whether a writer took all, or as it should a beginning, and it ended so.
+fn took(taken: &[u8], ended: Result<u8, ServeFault>, all: bool) -> Outcome {
+    if ended == Err(ServeFault::Memory) || ended == Ok(2) {
+        return Err(Failure::Memory);
+    }
+    let wanted = if all { Ok(1) } else { Err(ServeFault::Write) };
+    let whole = taken.len() == EXPECTED.len();
+    check(EXPECTED.as_bytes().starts_with(taken) && whole == all && ended == wanted)
+}
+
+/// Runs the script into a writer that should take all, or a beginning alone.
+fn writes(alloc: Global, most: usize, writes: u32, all: bool) -> Outcome {
     let mut out = Sinks {
         taken: Vec::new(alloc),
         most,
         writes,
     };
     let ended = serve_script(alloc, SCRIPT.as_bytes(), &mut out);
-    if ended == Err(ServeFault::Memory) || ended == Ok(2) {
-        return Err(Failure::Memory);
-    }
-    let taken = out.taken.as_slice();
-    check(EXPECTED.as_bytes().starts_with(taken))?;
-    let whole = taken.len() == EXPECTED.len();
-    let right = if whole {
-        ended == Ok(1)
-    } else {
-        ended == Err(ServeFault::Write)
-    };
-    check(right)?;
-    Ok(whole)
+    took(out.taken.as_slice(), ended, all)
 }
 
 /// So many writes of five bytes are enough for the output, and fewer are not.
 #[test]
 fn failing_writer(rt: HostRuntime) -> Outcome {
-    for writes in 0..20 {
-        check(!writes_all(rt.alloc(), 5, writes)?)?;
+    for count in 0..20 {
+        writes(rt.alloc(), 5, count, false)?;
     }
-    check(writes_all(rt.alloc(), 5, 100)?)
+    writes(rt.alloc(), 5, 100, true)
 }
 
 #[test]
 fn full_writer(rt: HostRuntime) -> Outcome {
-    check(!writes_all(rt.alloc(), 0, u32::MAX)?)
+    writes(rt.alloc(), 0, u32::MAX, false)
 }
 
 /// How many whole lines the bytes have.
@@ -181,22 +188,28 @@ fn is_right_rest(rest: &[u8], answers: &[u8], none: bool, whole: bool) -> bool {
     }
 }
 
-/// A script that is cut behind its settings: the whole lines answer as before, and what is left of
-/// the next one is a line, a bad line or none.
+/// Whether a script that is cut here behind its settings printed this: the whole lines answer as before, and
+/// what is left of the next one is a line, a bad line or none.
+fn is_right_cut(out: &[u8], now: &[u8], later: &[u8]) -> bool {
+    let Some((_, lines)) = now.split_at_checked(BODY) else {
+        return false;
+    };
+    let expected = EXPECTED.as_bytes();
+    let answers = behind_lines(expected, lines_in(lines));
+    let same = expected.len().saturating_sub(answers.len());
+    let Some((begun, rest)) = out.split_at_checked(same) else {
+        return false;
+    };
+    let (none, whole) = (now.ends_with(b"\n"), later.starts_with(b"\n"));
+    expected.starts_with(begun) && is_right_rest(rest, answers, none, whole)
+}
+
 fn plays_cut(alloc: Global, cut: usize) -> Outcome {
-    let (now, later) = SCRIPT
-        .as_bytes()
-        .split_at_checked(cut)
-        .ok_or(Failure::Wrong(0))?;
-    let (out, _) = served(alloc, now)?;
-    let whole = lines_in(now.get(BODY..).unwrap_or(&[]));
-    let answers = behind_lines(EXPECTED.as_bytes(), whole);
-    let same = EXPECTED.len().saturating_sub(answers.len());
-    check_row(out.get(..same) == EXPECTED.as_bytes().get(..same), cut)?;
-    let rest = out.get(same..).unwrap_or(b"?");
-    let none = now.ends_with(b"\n");
-    let right = is_right_rest(rest, answers, none, later.starts_with(b"\n"));
-    check_row(right, cut)
+    let halves = SCRIPT.as_bytes().split_at_checked(cut);
+    let (now, later) = halves.ok_or(Failure::Wrong(cut))?;
+    let mut out = Vec::new(alloc);
+    serves_reader(alloc, now, &mut out)?;
+    check_row(is_right_cut(&out, now, later), cut)
 }
 
 #[test]
@@ -207,17 +220,20 @@ fn cut_lines(rt: HostRuntime) -> Outcome {
     Ok(())
 }
 
+/// Runs settings that are cut here.
+fn refuses_cut(alloc: Global, cut: usize) -> Outcome {
+    let settings = SCRIPT.as_bytes().get(..cut).ok_or(Failure::Wrong(cut))?;
+    let mut out = Vec::new(alloc);
+    let status = serves_reader(alloc, settings, &mut out)?;
+    let refused = out.as_slice() == b"settings fault 924\n".as_slice();
+    check_row(refused && status == 2, cut)
+}
+
 /// Settings that are cut before their end; the last line feed may be missing.
 #[test]
 fn cut_settings(rt: HostRuntime) -> Outcome {
     for cut in 0..BODY - 1 {
-        let (now, _) = SCRIPT
-            .as_bytes()
-            .split_at_checked(cut)
-            .ok_or(Failure::Wrong(0))?;
-        let (out, status) = served(rt.alloc(), now)?;
-        let refused = out.as_slice() == b"settings fault 924\n".as_slice();
-        check_row(refused && status == 2, cut)?;
+        refuses_cut(rt.alloc(), cut)?;
     }
     Ok(())
 }

@@ -1,10 +1,9 @@
 // A node that takes the other problem: whom it lets in, what a fall leaves, and when it is refused.
 
-use crate::playing::plays;
-use crate::worlds::{play, three_nodes, three_nodes_under_the_second};
+use crate::playing;
+use crate::worlds::{RISE, THREE_UNDER_THE_SECOND, plays, plays_in};
 use std::alloc::Global;
-use test_outcomes::{Failure, Outcome};
-use world_machine::World;
+use test_outcomes::Outcome;
 
 const A_READER_HOLDS: &str = "\
 begin c1 read a > chose 1
@@ -48,16 +47,6 @@ hear c3 7 > Counted grant n1 c3 1 read a
 switch n1 1 > same
 say n1 > said 8 0";
 
-/// A world in which n1, once under problem 2, has let in c3 under problem 1, while c2 waits to write.
-fn one_let_in(alloc: Global) -> Result<World, Failure> {
-    let mut world = three_nodes_under_the_second(alloc)?;
-    play(alloc, &mut world, A_READER_HOLDS)?;
-    play(alloc, &mut world, A_WRITER_WAITS)?;
-    play(alloc, &mut world, A_READER_WAITS)?;
-    play(alloc, &mut world, LETS_IN)?;
-    Ok(world)
-}
-
 const FALLS_BEFORE_IT_TRIES: &str = "\
 switch n1 2 > changed
 fall n1 > down
@@ -86,12 +75,20 @@ try n1 > tried
 kept n1 > kept
 say n1 > said 9 1";
 
-/// Ends the test unless c4 hears this once n1 has fallen so in a switch to problem 2.
+/// Ends the test unless c4 hears this once n1, which under problem 1 has let in c3 while c2 waits to write, has
+/// fallen so in a switch to problem 2.
 fn hears_after(alloc: Global, falls: &str, hears: &str) -> Outcome {
-    let mut world = one_let_in(alloc)?;
-    play(alloc, &mut world, falls)?;
-    play(alloc, &mut world, ANOTHER_READER_ASKS)?;
-    play(alloc, &mut world, hears)
+    let tables = [
+        RISE,
+        A_READER_HOLDS,
+        A_WRITER_WAITS,
+        A_READER_WAITS,
+        LETS_IN,
+        falls,
+        ANOTHER_READER_ASKS,
+        hears,
+    ];
+    plays_in(alloc, &THREE_UNDER_THE_SECOND, &tables)
 }
 
 const IS_GRANTED: &str = "hear c4 9 > Counted grant n1 c4 1 read a";
@@ -139,8 +136,7 @@ switch n2 1 > same";
 
 #[test]
 fn refused_switches(rt: HostRuntime) -> Outcome {
-    let mut world = three_nodes(rt.alloc())?;
-    play(rt.alloc(), &mut world, REFUSED)
+    plays(rt.alloc(), &[RISE, REFUSED])
 }
 
 /// c1's reader holds `a`, c2's writer waits for it, and under problem 2 c3's reader waits too.
@@ -180,19 +176,19 @@ begin c4 read a\ntry c4\nkept c4\nsayto c4 n1\ntake n1 8\ntry n1\nkept n1\nsay n
 const ASKED_OUT: &str =
     "chose 1\ntried\nkept\nsent 8 request n1 c4 1 read a\nchanged\ntried\nkept\n";
 
-/// Plays the switch, then the fall of a row, and what c4 is answered.
-fn plays_with_fall(alloc: Global, row: &(&str, &str, &str)) -> Outcome {
-    let (falls, fallen, answer) = *row;
-    let script = format!(in alloc; "{SWITCHES}{falls}{C4_ASKS}")?;
-    let said = format!(in alloc; "sent 9 {answer} n1 c4 1 read a\n")?;
-    let expected = format!(in alloc; "{SWITCHES_OUT}{fallen}{ASKED_OUT}{said}")?;
-    plays(alloc, script.as_bytes(), expected.as_str(), 0)
-}
-
 #[test]
 fn switched_policy(rt: HostRuntime) -> Outcome {
-    for row in &FALLS {
-        plays_with_fall(rt.alloc(), row)?;
+    for (falls, fallen, answer) in &FALLS {
+        let script = [SWITCHES, *falls, C4_ASKS];
+        let expected = [
+            SWITCHES_OUT,
+            *fallen,
+            ASKED_OUT,
+            "sent 9 ",
+            *answer,
+            " n1 c4 1 read a\n",
+        ];
+        playing::plays(rt.alloc(), &script, &expected, 0)?;
     }
     Ok(())
 }

@@ -1,62 +1,169 @@
 // The world by its own calls: what events do, what is sent, who is inside, and where a run stops.
 //
-// A table has an event and what it does on each line.
+// A line of a table has an event and what it does, or asks which message is `sent` by a number or whose
+// tickets are `inside` a resource.
 
-use crate::playing::pair;
+use crate::playing::pairs;
 use history_check::read_event;
-use lock_messages::ResourceName;
+use lock_messages::{ResourceName, Ticket};
 use lock_model::Problem;
-use std::alloc::Global;
+use std::alloc::{AllocError, Global};
 use test_outcomes::{Failure, Outcome, check, check_row};
 use vote_weights::{Ballot, BallotList};
 use world_machine::World;
 use world_model::{Effect, Event, MAX_MESSAGES, StepFault};
 
-fn resource(name: &str) -> Result<ResourceName, Failure> {
-    ResourceName::of(name.as_bytes()).ok_or(Failure::Wrong(0))
-}
-
-/// The event that a row of a table spells.
-fn event(row: &str) -> Option<Event> {
-    let Ok(event) = read_event(row.as_bytes()) else {
-        return None;
-    };
-    Some(event)
-}
-
-/// A world of nodes with these votes under this problem, and of four clients, all down.
-fn world_under(
-    alloc: Global,
+/// A world's problem, and the votes of its nodes with what a read and a write need. It has four clients, and
+/// all are down.
+#[derive(Clone, Copy)]
+pub(crate) struct Opening {
     problem: Problem,
-    votes: &[u8],
+    votes: &'static [u8],
     read: u16,
     write: u16,
-) -> Result<World, Failure> {
-    let Ok(ballot) = Ballot::of(votes, read, write) else {
+}
+
+/// Three nodes with a vote each, of which two read and two write.
+pub(crate) const THREE_NODES: Opening = Opening {
+    problem: Problem::First,
+    votes: &[1, 1, 1],
+    read: 2,
+    write: 2,
+};
+
+/// The same under problem 2.
+pub(crate) const THREE_UNDER_THE_SECOND: Opening = Opening {
+    problem: Problem::Second,
+    ..THREE_NODES
+};
+
+fn ballots(opening: &Opening) -> Result<BallotList, Failure> {
+    let Ok(ballot) = Ballot::of(opening.votes, opening.read, opening.write) else {
         return Err(Failure::Wrong(0));
     };
-    let Ok(ballots) = BallotList::of(&[ballot]) else {
-        return Err(Failure::Wrong(0));
-    };
-    let mut pairs = Vec::new(alloc);
-    for _ in 0..ballots.nodes() {
-        pairs.push(pair(alloc)?)?;
+    match BallotList::of(&[ballot]) {
+        Ok(ballots) => Ok(ballots),
+        Err(_) => Err(Failure::Wrong(0)),
     }
+}
+
+fn opened(alloc: Global, opening: &Opening) -> Result<World, Failure> {
+    let ballots = ballots(opening)?;
+    let pairs = pairs(alloc, ballots.nodes())?;
     if pairs.len() != ballots.nodes() as usize {
         return Err(Failure::Wrong(0));
     }
-    match World::start(alloc, ballots, 4, problem, pairs) {
+    match World::start(alloc, ballots, 4, opening.problem, pairs) {
         Ok(world) => Ok(world),
         Err(_) => Err(Failure::Memory),
     }
 }
 
-/// The same under problem 1.
-fn world(alloc: Global, votes: &[u8], read: u16, write: u16) -> Result<World, Failure> {
-    world_under(alloc, Problem::First, votes, read, write)
+/// The word for an effect that has nothing more to tell.
+fn word(effect: &Effect) -> &'static str {
+    match effect {
+        Effect::Tried => "tried",
+        Effect::Kept => "kept",
+        Effect::Inside => "inside",
+        Effect::Outside => "outside",
+        Effect::Softened => "softened",
+        Effect::Down => "down",
+        Effect::Up => "up",
+        Effect::Switched(true) => "changed",
+        Effect::Switched(false) => "same",
+        _ => "",
+    }
 }
 
-const RISE: &str = "\
+/// Writes what a step did.
+fn tell(text: &mut String, did: &Result<Effect, StepFault>) -> Result<(), AllocError> {
+    match did {
+        Err(fault) => write!(text, "refused {}", fault.number()),
+        Ok(Effect::Chose(attempt)) => write!(text, "chose {attempt}"),
+        Ok(Effect::Sent(number, message)) => write!(text, "sent {number} {message}"),
+        Ok(Effect::Said { first, count }) => write!(text, "said {first} {count}"),
+        Ok(Effect::Took(message, true)) => write!(text, "changed by {message}"),
+        Ok(Effect::Took(message, false)) => write!(text, "same after {message}"),
+        Ok(Effect::Heard(message, heard)) => write!(text, "{heard:?} {message}"),
+        Ok(plain) => text.push_str(word(plain)),
+    }
+}
+
+/// Writes the message of this number, or that there is none.
+fn tell_sent(text: &mut String, world: &World, number: &str) -> Result<(), AllocError> {
+    match world.sent(number.parse::<u32>().unwrap_or(u32::MAX)) {
+        Some(message) => write!(text, "{message}"),
+        None => text.push_str("nothing"),
+    }
+}
+
+/// Writes these tickets, or that there is none.
+fn tell_tickets(text: &mut String, tickets: &[Ticket]) -> Result<(), AllocError> {
+    if tickets.is_empty() {
+        return text.push_str("nobody");
+    }
+    for ticket in tickets {
+        write!(text, "{ticket};")?;
+    }
+    Ok(())
+}
+
+fn tell_inside(text: &mut String, world: &World, name: &str) -> Outcome {
+    let resource = ResourceName::of(name.as_bytes()).ok_or(Failure::Wrong(0))?;
+    let inside = world.inside(&resource)?;
+    Ok(tell_tickets(text, &inside)?)
+}
+
+/// Takes the event of a row, or asks what the row asks, and writes what comes of it.
+fn takes(text: &mut String, world: &mut World, row: &str, number: usize) -> Outcome {
+    if let Some(sent) = row.strip_prefix("sent ") {
+        return Ok(tell_sent(text, world, sent)?);
+    }
+    if let Some(name) = row.strip_prefix("inside ") {
+        return tell_inside(text, world, name);
+    }
+    let Ok(event) = read_event(row.as_bytes()) else {
+        return Err(Failure::NoAnswer(number));
+    };
+    match world.step(&event) {
+        Err(StepFault::Memory) => Err(Failure::Memory),
+        did => Ok(tell(text, &did)?),
+    }
+}
+
+/// Plays the row of this number, and compares what comes of it.
+fn plays_row(alloc: Global, world: &mut World, row: &str, number: usize) -> Outcome {
+    let (asked, wanted) = row.split_once(" > ").unwrap_or((row, ""));
+    let mut text = String::new(alloc);
+    takes(&mut text, world, asked, number)?;
+    check_row(text.as_str() == wanted, number)
+}
+
+fn plays_table(alloc: Global, world: &mut World, table: &str) -> Outcome {
+    for (number, row) in table.lines().enumerate() {
+        plays_row(alloc, world, row, number)?;
+    }
+    Ok(())
+}
+
+fn plays_tables(alloc: Global, world: &mut World, tables: &[&str]) -> Outcome {
+    for table in tables {
+        plays_table(alloc, world, table)?;
+    }
+    Ok(())
+}
+
+/// Plays these tables in a world that opens so.
+pub(crate) fn plays_in(alloc: Global, opening: &Opening, tables: &[&str]) -> Outcome {
+    plays_tables(alloc, &mut opened(alloc, opening)?, tables)
+}
+
+/// Plays these tables in a world of three nodes.
+pub(crate) fn plays(alloc: Global, tables: &[&str]) -> Outcome {
+    plays_in(alloc, &THREE_NODES, tables)
+}
+
+pub(crate) const RISE: &str = "\
 rise n1 old > up
 rise n2 old > up
 rise n3 old > up
@@ -65,95 +172,9 @@ rise c2 old > up
 rise c3 old > up
 rise c4 old > up";
 
-pub(crate) fn three_nodes(alloc: Global) -> Result<World, Failure> {
-    let mut world = world(alloc, &[1, 1, 1], 2, 2)?;
-    play(alloc, &mut world, RISE)?;
-    Ok(world)
-}
+pub(crate) const CHOOSES: &str = "begin c1 read a > chose 1\ntry c1 > tried\nkept c1 > kept";
 
-/// The same under problem 2.
-pub(crate) fn three_nodes_under_the_second(alloc: Global) -> Result<World, Failure> {
-    let mut world = world_under(alloc, Problem::Second, &[1, 1, 1], 2, 2)?;
-    play(alloc, &mut world, RISE)?;
-    Ok(world)
-}
-
-/// What a step did, as text.
-fn text(alloc: Global, did: &Result<Effect, StepFault>) -> Result<String, Failure> {
-    let mut text = String::new(alloc);
-    match did {
-        Err(fault) => write!(text, "refused {}", fault.number())?,
-        Ok(Effect::Chose(attempt)) => write!(text, "chose {attempt}")?,
-        Ok(Effect::Sent(number, message)) => write!(text, "sent {number} {message}")?,
-        Ok(Effect::Said { first, count }) => write!(text, "said {first} {count}")?,
-        Ok(Effect::Took(message, true)) => write!(text, "changed by {message}")?,
-        Ok(Effect::Took(message, false)) => write!(text, "same after {message}")?,
-        Ok(Effect::Heard(message, heard)) => write!(text, "{heard:?} {message}")?,
-        Ok(Effect::Tried) => text.push_str("tried")?,
-        Ok(Effect::Kept) => text.push_str("kept")?,
-        Ok(Effect::Inside) => text.push_str("inside")?,
-        Ok(Effect::Outside) => text.push_str("outside")?,
-        Ok(Effect::Softened) => text.push_str("softened")?,
-        Ok(Effect::Down) => text.push_str("down")?,
-        Ok(Effect::Up) => text.push_str("up")?,
-        Ok(Effect::Switched(true)) => text.push_str("changed")?,
-        Ok(Effect::Switched(false)) => text.push_str("same")?,
-    }
-    Ok(text)
-}
-
-/// Takes the event of a row, and compares what it did; `None` where there is no event.
-fn step(alloc: Global, world: &mut World, row: &str) -> Result<Option<bool>, Failure> {
-    let Some((first, effect)) = row.split_once(" > ") else {
-        return Ok(None);
-    };
-    let Some(event) = event(first) else {
-        return Ok(None);
-    };
-    let did = world.step(&event);
-    if did == Err(StepFault::Memory) {
-        return Err(Failure::Memory);
-    }
-    let told = text(alloc, &did)?;
-    Ok(Some(told.as_str() == effect))
-}
-
-pub(crate) fn play(alloc: Global, world: &mut World, table: &str) -> Outcome {
-    for (number, row) in table.lines().enumerate() {
-        let right = step(alloc, world, row)?;
-        check_row(right == Some(true), number)?;
-    }
-    Ok(())
-}
-
-/// Plays a table in a world of three nodes.
-fn plays(alloc: Global, table: &str) -> Outcome {
-    let mut world = three_nodes(alloc)?;
-    play(alloc, &mut world, table)
-}
-
-/// Whether the message of this number is spelled so; nothing where there is none.
-fn is_sent(alloc: Global, world: &World, number: u32, spelled: &str) -> Outcome {
-    let mut text = String::new(alloc);
-    if let Some(message) = world.sent(number) {
-        write!(text, "{message}")?;
-    }
-    check(text.as_str() == spelled)
-}
-
-/// Whether these tickets are inside `a`.
-fn are_inside(alloc: Global, world: &World, spelled: &str) -> Outcome {
-    let mut text = String::new(alloc);
-    let resource = resource("a")?;
-    for ticket in world.inside(&resource)? {
-        write!(text, "{ticket};")?;
-    }
-    check(text.as_str() == spelled)
-}
-
-const CHOOSES: &str = "begin c1 read a > chose 1\ntry c1 > tried\nkept c1 > kept";
-
-const ASKS: &str = "\
+pub(crate) const ASKS: &str = "\
 sayto c1 n1 > sent 1 request n1 c1 1 read a
 take n1 1 > changed by request n1 c1 1 read a
 try n1 > tried
@@ -161,7 +182,7 @@ kept n1 > kept
 say n1 > said 2 1
 hear c1 2 > Counted grant n1 c1 1 read a";
 
-const ASKS_ANOTHER: &str = "\
+pub(crate) const ASKS_ANOTHER: &str = "\
 enter c1 > refused 609
 sayto c1 n2 > sent 3 request n2 c1 1 read a
 take n2 3 > changed by request n2 c1 1 read a
@@ -171,27 +192,20 @@ say n2 > said 4 1
 hear c1 4 > Counted grant n2 c1 1 read a
 enter c1 > inside";
 
-/// A world in which c1 reads `a`.
-pub(crate) fn one_inside(alloc: Global) -> Result<World, Failure> {
-    let mut world = three_nodes(alloc)?;
-    play(alloc, &mut world, CHOOSES)?;
-    play(alloc, &mut world, ASKS)?;
-    play(alloc, &mut world, ASKS_ANOTHER)?;
-    Ok(world)
-}
+/// c1 reads `a`, and leaves.
+const READS: &str = "\
+inside a > c1 1 read a;
+sent 0 > nothing
+sent 2 > grant n1 c1 1 read a
+sent 4 > grant n2 c1 1 read a
+sent 5 > nothing
+leave c1 > outside
+inside a > nobody
+sayto c1 n1 > sent 5 release n1 c1 1";
 
 #[test]
 fn first_reader(rt: HostRuntime) -> Outcome {
-    let alloc = rt.alloc();
-    let mut world = one_inside(alloc)?;
-    are_inside(alloc, &world, "c1 1 read a;")?;
-    is_sent(alloc, &world, 0, "")?;
-    is_sent(alloc, &world, 2, "grant n1 c1 1 read a")?;
-    is_sent(alloc, &world, 4, "grant n2 c1 1 read a")?;
-    is_sent(alloc, &world, 5, "")?;
-    play(alloc, &mut world, "leave c1 > outside")?;
-    are_inside(alloc, &world, "")?;
-    play(alloc, &mut world, "sayto c1 n1 > sent 5 release n1 c1 1")
+    plays(rt.alloc(), &[RISE, CHOOSES, ASKS, ASKS_ANOTHER, READS])
 }
 
 const WRITES_BEHIND: &str = "\
@@ -214,19 +228,17 @@ enter c2 > refused 609";
 
 #[test]
 fn writer_behind_reader(rt: HostRuntime) -> Outcome {
-    let mut world = one_inside(rt.alloc())?;
-    play(rt.alloc(), &mut world, WRITES_BEHIND)
+    plays(
+        rt.alloc(),
+        &[RISE, CHOOSES, ASKS, ASKS_ANOTHER, WRITES_BEHIND],
+    )
 }
 
 const REPEATED: &str = "hear c1 2 > Known grant n1 c1 1 read a\nenter c1 > refused 609";
 
 #[test]
 fn repeated_grant(rt: HostRuntime) -> Outcome {
-    let alloc = rt.alloc();
-    let mut world = three_nodes(alloc)?;
-    play(alloc, &mut world, CHOOSES)?;
-    play(alloc, &mut world, ASKS)?;
-    play(alloc, &mut world, REPEATED)
+    plays(rt.alloc(), &[RISE, CHOOSES, ASKS, REPEATED])
 }
 
 const SAYS_EARLY: &str = "\
@@ -245,7 +257,7 @@ say n1 > said 3 1";
 
 #[test]
 fn say_before_kept(rt: HostRuntime) -> Outcome {
-    plays(rt.alloc(), SAYS_EARLY)
+    plays(rt.alloc(), &[RISE, SAYS_EARLY])
 }
 
 const STRANGERS: &str = "\
@@ -271,7 +283,7 @@ rise n4 new > refused 601";
 
 #[test]
 fn refused_strangers(rt: HostRuntime) -> Outcome {
-    plays(rt.alloc(), STRANGERS)
+    plays(rt.alloc(), &[RISE, STRANGERS])
 }
 
 const AT_REST: &str = "\
@@ -289,7 +301,7 @@ soften c1 > refused 604";
 
 #[test]
 fn refused_at_rest(rt: HostRuntime) -> Outcome {
-    plays(rt.alloc(), AT_REST)
+    plays(rt.alloc(), &[RISE, AT_REST])
 }
 
 const OF_A_CLIENT: &str = "\
@@ -312,7 +324,7 @@ soften c1 > refused 604";
 
 #[test]
 fn refused_clients(rt: HostRuntime) -> Outcome {
-    plays(rt.alloc(), OF_A_CLIENT)
+    plays(rt.alloc(), &[RISE, OF_A_CLIENT])
 }
 
 const WRITES: &str = "\
@@ -345,6 +357,7 @@ say n1 > said 6 1
 hear c2 6 > Busy busy n1 c2 1 read a";
 
 const SOFTENS: &str = "\
+inside a > c1 1 write a;
 soften c1 > softened
 soften c1 > refused 604
 sayto c1 n1 > sent 7 soften n1 c1 1
@@ -353,7 +366,10 @@ try n1 > tried
 kept n1 > kept
 say n1 > said 8 2
 hear c1 8 > Softened softened n1 c1 1
-hear c2 9 > Counted grant n1 c2 1 read a";
+hear c2 9 > Counted grant n1 c2 1 read a
+inside a > c1 1 read a;
+sent 8 > softened n1 c1 1
+sent 9 > grant n1 c2 1 read a";
 
 // n2 was told nothing, and n3 had no request: it keeps nothing of the softening.
 const THE_READER_ENTERS: &str = "\
@@ -368,7 +384,8 @@ kept n3 > kept
 say n3 > said 13 1
 hear c2 13 > Counted grant n3 c2 1 read a
 enter c2 > inside
-soften c2 > refused 604";
+soften c2 > refused 604
+inside a > c1 1 read a;c2 1 read a;";
 
 // c1 says its release to the node that never had its request, as to the others.
 const LEAVES_SOFTENED: &str = "\
@@ -377,23 +394,21 @@ soften c1 > refused 604
 hear c1 8 > NotMine softened n1 c1 1
 sayto c1 n2 > sent 14 release n2 c1 1
 sayto c1 n3 > sent 15 release n3 c1 1
-take n3 15 > changed by release n3 c1 1";
+take n3 15 > changed by release n3 c1 1
+inside a > c2 1 read a;";
+
+const SOFTENED_WRITER: [&str; 6] = [
+    RISE,
+    WRITES,
+    A_READER_WAITS,
+    SOFTENS,
+    THE_READER_ENTERS,
+    LEAVES_SOFTENED,
+];
 
 #[test]
 fn softened_writer(rt: HostRuntime) -> Outcome {
-    let alloc = rt.alloc();
-    let mut world = three_nodes(alloc)?;
-    play(alloc, &mut world, WRITES)?;
-    play(alloc, &mut world, A_READER_WAITS)?;
-    are_inside(alloc, &world, "c1 1 write a;")?;
-    play(alloc, &mut world, SOFTENS)?;
-    are_inside(alloc, &world, "c1 1 read a;")?;
-    is_sent(alloc, &world, 8, "softened n1 c1 1")?;
-    is_sent(alloc, &world, 9, "grant n1 c2 1 read a")?;
-    play(alloc, &mut world, THE_READER_ENTERS)?;
-    are_inside(alloc, &world, "c1 1 read a;c2 1 read a;")?;
-    play(alloc, &mut world, LEAVES_SOFTENED)?;
-    are_inside(alloc, &world, "c2 1 read a;")
+    plays(rt.alloc(), &SOFTENED_WRITER)
 }
 
 // A writer that waits stays out until the reader has left that was a writer.
@@ -429,15 +444,12 @@ try n1 > tried
 kept n1 > kept
 say n1 > said 13 2
 hear c2 14 > Counted grant n1 c2 1 write a
-enter c2 > inside";
+enter c2 > inside
+inside a > c2 1 write a;";
 
 #[test]
 fn writer_behind_a_softened(rt: HostRuntime) -> Outcome {
-    let alloc = rt.alloc();
-    let mut world = three_nodes(alloc)?;
-    play(alloc, &mut world, WRITES)?;
-    play(alloc, &mut world, A_WRITER_WAITS)?;
-    are_inside(alloc, &world, "c2 1 write a;")
+    plays(rt.alloc(), &[RISE, WRITES, A_WRITER_WAITS])
 }
 
 // While the node is busy and no such message was sent, the lower refusal is answered.
@@ -458,8 +470,18 @@ take n2 1 > refused 604";
 
 #[test]
 fn refused_nodes(rt: HostRuntime) -> Outcome {
-    plays(rt.alloc(), OF_A_NODE)
+    plays(rt.alloc(), &[RISE, OF_A_NODE])
 }
+
+/// Four of five votes write.
+const FOUR_NODES: Opening = Opening {
+    problem: Problem::First,
+    votes: &[3, 1, 1, 0],
+    read: 2,
+    write: 4,
+};
+
+const FOURTH_RISES: &str = "rise n4 old > up";
 
 const WEIGHTED: &str = "\
 begin c1 write a > chose 1
@@ -487,13 +509,17 @@ say n2 > said 6 1
 hear c1 6 > Counted grant n2 c1 1 write a
 enter c1 > inside";
 
-/// Four of five votes write: three and one are enough, three and none are not.
+/// Three and one are enough, three and none are not.
 #[test]
 fn weighted_votes(rt: HostRuntime) -> Outcome {
-    let mut world = world(rt.alloc(), &[3, 1, 1, 0], 2, 4)?;
-    play(rt.alloc(), &mut world, "rise n4 old > up")?;
-    play(rt.alloc(), &mut world, RISE)?;
-    play(rt.alloc(), &mut world, WEIGHTED)
+    plays_in(rt.alloc(), &FOUR_NODES, &[FOURTH_RISES, RISE, WEIGHTED])
+}
+
+fn event(row: &str) -> Option<Event> {
+    let Ok(event) = read_event(row.as_bytes()) else {
+        return None;
+    };
+    Some(event)
 }
 
 /// The events of three rows.
@@ -522,15 +548,24 @@ const CHOOSING: [&str; 3] = ["begin c1 read a", "try c1", "kept c1"];
 
 const ASKING: [&str; 3] = ["sayto c1 n1", "enter c1", "sayto c1 n2"];
 
+fn stops(world: &mut World) -> Outcome {
+    check(world.run(&[]) == Ok(0))?;
+    check(run(world, CHOOSING)? == (3, None))?;
+    check(run(world, ASKING)? == (1, Some(StepFault::NoQuorum)))
+}
+
+const ASKED_ONCE: &str = "sent 1 > request n1 c1 1 read a\nsent 2 > nothing";
+
+/// Runs in a world whose actors rise, and which then has the first request alone.
+fn runs(alloc: Global, world: &mut World) -> Outcome {
+    plays_table(alloc, world, RISE)?;
+    stops(world)?;
+    plays_table(alloc, world, ASKED_ONCE)
+}
+
 #[test]
 fn a_run_stops_at_a_refusal(rt: HostRuntime) -> Outcome {
-    let alloc = rt.alloc();
-    let mut world = three_nodes(alloc)?;
-    check(world.run(&[]) == Ok(0))?;
-    check(run(&mut world, CHOOSING)? == (3, None))?;
-    check(run(&mut world, ASKING)? == (1, Some(StepFault::NoQuorum)))?;
-    is_sent(alloc, &world, 1, "request n1 c1 1 read a")?;
-    is_sent(alloc, &world, 2, "")
+    runs(rt.alloc(), &mut opened(rt.alloc(), &THREE_NODES)?)
 }
 
 const TAKES: &str = "\
@@ -567,15 +602,15 @@ fn asks_again(world: &mut World) -> Outcome {
     }
 }
 
+fn fills(alloc: Global, world: &mut World) -> Outcome {
+    plays_tables(alloc, world, &[RISE, CHOOSES])?;
+    for _ in 0..MAX_MESSAGES {
+        asks_again(world)?;
+    }
+    plays_tables(alloc, world, &[TAKES, FULL, SAYS_NOTHING])
+}
+
 #[test]
 fn a_full_list(rt: HostRuntime) -> Outcome {
-    let alloc = rt.alloc();
-    let mut world = three_nodes(alloc)?;
-    play(alloc, &mut world, CHOOSES)?;
-    for _ in 0..MAX_MESSAGES {
-        asks_again(&mut world)?;
-    }
-    play(alloc, &mut world, TAKES)?;
-    play(alloc, &mut world, FULL)?;
-    play(alloc, &mut world, SAYS_NOTHING)
+    fills(rt.alloc(), &mut opened(rt.alloc(), &THREE_NODES)?)
 }
