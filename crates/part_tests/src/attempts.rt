@@ -1,13 +1,12 @@
 //! A client's attempts: scripts of calls, each with its answer, and what every message is in every
 //! phase.
 
-use crate::rows::{message, mode, node};
-use crate::tables::{Table, each};
+use crate::rows::{all, message, mode, node};
 use client_core::{ClientCore, Phase};
 use lock_messages::{ClientId, MAX_ATTEMPT, ResourceName};
 use std::alloc::Global;
 use std::fmt;
-use test_outcomes::{Outcome, check_answer};
+use test_outcomes::{Outcome, check_answer, check_answers};
 use vote_weights::{Ballot, BallotList};
 
 /// Adds what there is, or `nothing`.
@@ -25,8 +24,8 @@ fn begins(shown: &mut String, core: &mut ClientCore, wish: &str) -> Option<()> {
     let (mode, name) = (mode(words.next()?)?, words.next()?);
     let place = words.next().unwrap_or("1").parse().ok()?;
     match core.begin(ResourceName::of(name.as_bytes())?, mode, place) {
-        Ok(attempt) => tell(shown, Some(attempt)),
-        Err(fault) => tell(shown, Some(fault.number())),
+        Ok(attempt) => write!(shown, "{attempt}").ok(),
+        Err(fault) => write!(shown, "{}", fault.number()).ok(),
     }
 }
 
@@ -34,32 +33,36 @@ fn begins(shown: &mut String, core: &mut ClientCore, wish: &str) -> Option<()> {
 fn moves(core: &mut ClientCore, call: &str) -> bool {
     if call == "kept" && core.phase() == Phase::Chosen {
         core.kept();
-        return true;
-    }
-    if call == "enter" && core.may_enter() {
+        true
+    } else if call == "enter" && core.may_enter() {
         core.enter();
-        return true;
-    }
-    if call == "soften" && core.may_soften() {
+        true
+    } else if call == "soften" && core.may_soften() {
         core.soften();
-        return true;
+        true
+    } else {
+        call == "leave" && leaves(core)
     }
-    if call == "leave" && core.phase() == Phase::Asking {
-        core.leave();
-        return true;
+}
+
+/// Whether the client could leave an attempt.
+fn leaves(core: &mut ClientCore) -> bool {
+    match core.phase() {
+        Phase::Asking => {
+            core.leave();
+            true
+        }
+        Phase::Inside => {
+            core.leave();
+            true
+        }
+        _ => false,
     }
-    if call == "leave" && core.phase() == Phase::Inside {
-        core.leave();
-        return true;
-    }
-    false
 }
 
 /// Makes a call that changes the client, and adds its answer.
 fn changes(shown: &mut String, core: &mut ClientCore, call: &str) -> Option<()> {
-    let Some((verb, rest)) = call.split_once(' ') else {
-        return tell(shown, Some(moves(core, call)));
-    };
+    let (verb, rest) = call.split_once(' ').unwrap_or((call, ""));
     match verb {
         "begin" => begins(shown, core, rest),
         "hear" => write!(shown, "{:?}", core.hear(&message(rest)?)).ok(),
@@ -67,7 +70,8 @@ fn changes(shown: &mut String, core: &mut ClientCore, call: &str) -> Option<()> 
             core.skip(node(rest)?);
             Some(())
         }
-        _ => tell(shown, core.message_for(node(rest)?)),
+        "say" => tell(shown, core.message_for(node(rest)?)),
+        _ => write!(shown, "{}", moves(core, call)).ok(),
     }
 }
 
@@ -75,50 +79,83 @@ fn changes(shown: &mut String, core: &mut ClientCore, call: &str) -> Option<()> 
 fn answers(shown: &mut String, core: &mut ClientCore, call: &str) -> Option<()> {
     match call {
         "phase" => write!(shown, "{:?}", core.phase()).ok(),
-        "attempt" => tell(shown, Some(core.attempt())),
+        "attempt" => write!(shown, "{}", core.attempt()).ok(),
         "ticket" => tell(shown, core.ticket()),
         "next" => tell(shown, core.next_ask()),
-        "may" => tell(shown, Some(core.may_enter())),
-        "may_soften" => tell(shown, Some(core.may_soften())),
+        "may" => write!(shown, "{}", core.may_enter()).ok(),
+        "may_soften" => write!(shown, "{}", core.may_soften()).ok(),
         _ => changes(shown, core, call),
     }
+}
+
+/// Whether a call has this answer.
+fn has_answer(alloc: Global, core: &mut ClientCore, call: &str, want: &str) -> Option<bool> {
+    let mut shown = String::new(alloc);
+    answers(&mut shown, core, call).and(Some(shown.as_str() == want))
 }
 
 /// Whether the call of a row has the row's answer.
 fn goes(alloc: Global, core: &mut ClientCore, row: &str) -> Option<bool> {
     let (call, want) = row.split_once(" > ")?;
-    let mut shown = String::new(alloc);
-    answers(&mut shown, core, call)?;
-    Some(shown.as_str() == want)
+    has_answer(alloc, core, call, want)
 }
 
+/// Votes, and what a reader and a writer need of them.
+pub(crate) type Votes = (&'static [u8], u16, u16);
+
+/// Three nodes, of which two are enough.
+pub(crate) const PLAIN: &[Votes] = &[(&[1, 1, 1], 2, 2)];
+
+/// The first node has two votes; a reader needs as many.
+const WEIGHTED: &[Votes] = &[(&[2, 1, 1], 2, 3)];
+
+/// The first node has three votes; a reader needs more of them than a writer.
+pub(crate) const COSTLY_READS: &[Votes] = &[(&[3, 1, 1], 4, 3)];
+
+/// Two ballots, of three nodes and of four.
+const TWO_BALLOTS: &[Votes] = &[(&[2, 1, 1], 2, 3), (&[1, 1, 1, 1], 3, 4)];
+
+fn ballot(votes: &Votes) -> Option<Ballot> {
+    Ballot::of(votes.0, votes.1, votes.2).ok()
+}
+
+/// The ballots of these votes, of which there are one or two.
+fn ballots(votes: &[Votes]) -> Option<BallotList> {
+    match votes {
+        [one] => BallotList::of(&[ballot(one)?]).ok(),
+        [one, other] => BallotList::of(&[ballot(one)?, ballot(other)?]).ok(),
+        _ => None,
+    }
+}
+
+/// Client 1 after this attempt, under these ballots.
+pub(crate) fn risen(attempt: u64, votes: &[Votes]) -> Option<ClientCore> {
+    let ballots = ballots(votes)?;
+    if attempt > MAX_ATTEMPT {
+        return None;
+    }
+    Some(ClientCore::rise(ClientId::of(1).unwrap(), attempt, ballots))
+}
+
+/// A script, the attempt after which client 1 rises, and its ballots.
+type Script = (u64, &'static [Votes], &'static str);
+
 /// Plays a script.
-fn plays(alloc: Global, core: &mut ClientCore, script: &str) -> Outcome {
-    for (row, text) in script.lines().enumerate() {
-        check_answer(goes(alloc, core, text), row)?;
+fn plays(alloc: Global, script: &Script) -> Outcome {
+    let Some(mut core) = risen(script.0, script.1) else {
+        return check_answer(None, 0);
+    };
+    for (row, text) in script.2.lines().enumerate() {
+        check_answer(goes(alloc, &mut core, text), row)?;
     }
     Ok(())
 }
 
-/// Client 1 after this attempt, among three nodes of which two are enough.
-fn risen(attempt: u64) -> Option<ClientCore> {
-    let ballot = Ballot::of(&[1, 1, 1], 2, 2).ok()?;
-    if attempt > MAX_ATTEMPT {
-        return None;
+fn plays_all(alloc: Global, scripts: &[Script]) -> Outcome {
+    for script in scripts {
+        plays(alloc, script)?;
     }
-    let ballots = BallotList::of(&[ballot]).ok()?;
-    Some(ClientCore::rise(ClientId::of(1)?, attempt, ballots))
-}
-
-/// Plays a script with client 1 after this attempt.
-fn plays_after(alloc: Global, attempt: u64, script: &str) -> Outcome {
-    match risen(attempt) {
-        Some(core) => {
-            let mut core = core;
-            plays(alloc, &mut core, script)
-        }
-        None => check_answer(None, 0),
-    }
+    Ok(())
 }
 
 const FIRST_ATTEMPT: &str = "\
@@ -155,7 +192,7 @@ say n4 > nothing";
 
 #[test]
 fn first_attempt(rt: HostRuntime) -> Outcome {
-    plays_after(rt.alloc(), 0, FIRST_ATTEMPT)
+    plays(rt.alloc(), &(0, PLAIN, FIRST_ATTEMPT))
 }
 
 const REPEATED_GRANT: &str = "\
@@ -168,7 +205,7 @@ enter > false";
 
 #[test]
 fn repeated_grant(rt: HostRuntime) -> Outcome {
-    plays_after(rt.alloc(), 0, REPEATED_GRANT)
+    plays(rt.alloc(), &(0, PLAIN, REPEATED_GRANT))
 }
 
 const RESTARTED_CLIENT: &str = "\
@@ -182,7 +219,7 @@ may > false";
 
 #[test]
 fn restarted_client(rt: HostRuntime) -> Outcome {
-    plays_after(rt.alloc(), 1, RESTARTED_CLIENT)
+    plays(rt.alloc(), &(1, PLAIN, RESTARTED_CLIENT))
 }
 
 const SPENT: &str = "\
@@ -216,13 +253,6 @@ may > false
 hear grant n1 c1 1 read a > Counted
 may > true";
 
-/// Client 1 among three nodes, of which the first has two votes; a reader needs as many.
-fn weighted() -> Option<ClientCore> {
-    let ballot = Ballot::of(&[2, 1, 1], 2, 3).ok()?;
-    let ballots = BallotList::of(&[ballot]).ok()?;
-    Some(ClientCore::rise(ClientId::of(1)?, 0, ballots))
-}
-
 // By the first ballot the votes of nodes 1 and 2 are enough for a writer, by the second they aren't even for
 // a reader. The first has three nodes and the second four; a release goes to every node of the list.
 const BY_EITHER_BALLOT: &str = "\
@@ -252,20 +282,9 @@ skip n3 > \nnext > n4
 hear grant n4 c1 2 read a > Counted
 may > true";
 
-/// Client 1 under two ballots, of three nodes and of four.
-fn with_two_ballots() -> Option<ClientCore> {
-    let first = Ballot::of(&[2, 1, 1], 2, 3).ok()?;
-    let second = Ballot::of(&[1, 1, 1, 1], 3, 4).ok()?;
-    let ballots = BallotList::of(&[first, second]).ok()?;
-    Some(ClientCore::rise(ClientId::of(1)?, 0, ballots))
-}
-
 #[test]
 fn attempts_by_either_ballot(rt: HostRuntime) -> Outcome {
-    let Some(mut core) = with_two_ballots() else {
-        return check_answer(None, 0);
-    };
-    plays(rt.alloc(), &mut core, BY_EITHER_BALLOT)
+    plays(rt.alloc(), &(0, TWO_BALLOTS, BY_EITHER_BALLOT))
 }
 
 // A writer that is inside softens. From then on it says so to every node, asked or not, and hears no vote
@@ -353,33 +372,27 @@ may > false
 hear grant n2 c1 2 read a > Counted
 may > true";
 
-/// Client 1 among three nodes, of which the first has three votes; a reader needs more of them than a
-/// writer.
-fn with_costly_reads() -> Option<ClientCore> {
-    let ballot = Ballot::of(&[3, 1, 1], 4, 3).ok()?;
-    let ballots = BallotList::of(&[ballot]).ok()?;
-    Some(ClientCore::rise(ClientId::of(1)?, 0, ballots))
-}
+const SOFTENED_ATTEMPTS_SCRIPTS: [Script; 3] = [
+    (0, PLAIN, SOFTENS),
+    (0, PLAIN, READS),
+    (0, COSTLY_READS, STAYS_BY_FEWER_VOTES),
+];
 
 #[test]
 fn softened_attempts(rt: HostRuntime) -> Outcome {
-    plays_after(rt.alloc(), 0, SOFTENS)?;
-    plays_after(rt.alloc(), 0, READS)?;
-    let Some(mut core) = with_costly_reads() else {
-        return check_answer(None, 0);
-    };
-    plays(rt.alloc(), &mut core, STAYS_BY_FEWER_VOTES)
+    plays_all(rt.alloc(), &SOFTENED_ATTEMPTS_SCRIPTS)
 }
+
+const ATTEMPTS_TO_THEIR_END_SCRIPTS: [Script; 4] = [
+    (0, PLAIN, GIVES_UP),
+    (1_000_000_000_000, PLAIN, SPENT),
+    (999_999_999_999, PLAIN, LAST),
+    (0, WEIGHTED, NEXT_NODE),
+];
 
 #[test]
 fn attempts_to_their_end(rt: HostRuntime) -> Outcome {
-    plays_after(rt.alloc(), 0, GIVES_UP)?;
-    plays_after(rt.alloc(), 1_000_000_000_000, SPENT)?;
-    plays_after(rt.alloc(), 999_999_999_999, LAST)?;
-    let Some(mut core) = weighted() else {
-        return check_answer(None, 0);
-    };
-    plays(rt.alloc(), &mut core, NEXT_NODE)
+    plays_all(rt.alloc(), &ATTEMPTS_TO_THEIR_END_SCRIPTS)
 }
 
 // To the inside as a writer, in attempt 2, with the votes of nodes 1 and 2; and softened there.
@@ -391,83 +404,109 @@ hear grant n2 c1 2 write a > Counted
 enter > true
 soften > true";
 
+/// Takes client 1 so many rows to the inside.
+fn goes_inside(alloc: Global, core: &mut ClientCore, rows: usize) -> Option<()> {
+    for row in TO_THE_INSIDE.lines().take(rows) {
+        goes(alloc, core, row)?;
+    }
+    Some(())
+}
+
 /// Client 1 after attempt 1, and after so many rows to the inside.
 fn within(alloc: Global, rows: usize) -> Option<ClientCore> {
-    let mut core = risen(1)?;
-    for row in TO_THE_INSIDE.lines().take(rows) {
-        goes(alloc, &mut core, row)?;
-    }
-    Some(core)
+    let mut core = risen(1, PLAIN)?;
+    goes_inside(alloc, &mut core, rows).and(Some(core))
 }
 
 /// Whether a call has the answer after so many rows. Only a vote that counts changes the client.
 fn is_heard(alloc: Global, rows: usize, call: &str, want: &str) -> Option<bool> {
-    let mut core = within(alloc, rows)?;
-    let mut shown = String::new(alloc);
-    answers(&mut shown, &mut core, call)?;
-    let same = core == within(alloc, rows)?;
-    Some(shown.as_str() == want && same == (want != "Counted"))
+    let (mut core, before) = (within(alloc, rows)?, within(alloc, rows)?);
+    let right = has_answer(alloc, &mut core, call, want);
+    let same = core == before;
+    all(&[right, Some(same == (want != "Counted"))])
 }
 
-/// Whether a call has its answers in the phases Idle, Chosen, Asking and Inside, and inside once it is
-/// softened.
-pub(crate) fn in_each_phase(alloc: Global, row: &str) -> Option<bool> {
-    let (call, wants) = row.split_once(" > ")?;
-    let mut wants = wants.split(' ');
-    let idle = is_heard(alloc, 0, call, wants.next()?)?;
-    let chosen = is_heard(alloc, 1, call, wants.next()?)?;
-    let asking = is_heard(alloc, 4, call, wants.next()?)?;
-    let inside = is_heard(alloc, 5, call, wants.next()?)?;
-    let softened = is_heard(alloc, 6, call, wants.next()?)?;
-    Some(idle && chosen && asking && inside && softened)
+/// A call, and its answers in the phases Idle, Chosen, Asking and Inside, and inside once it is softened.
+type Heard = (&'static str, [&'static str; 5]);
+
+fn in_each_phase(alloc: Global, row: &Heard) -> Option<bool> {
+    for (rows, want) in [0, 1, 4, 5, 6usize].iter().zip(&row.1) {
+        if !is_heard(alloc, *rows, row.0, want)? {
+            return Some(false);
+        }
+    }
+    Some(true)
 }
 
-const VOTES: &str = "\
-hear grant n3 c1 2 write a > NotMine NotMine Counted Counted NotMine
-hear grant n1 c1 2 write a > NotMine NotMine Known Known NotMine
-hear grant n4 c1 2 write a > NotMine NotMine NotMine NotMine NotMine
-hear grant n3 c2 2 write a > NotMine NotMine NotMine NotMine NotMine
-hear grant n3 c1 1 write a > NotMine NotMine NotMine NotMine NotMine
-hear grant n3 c1 2 read a > NotMine NotMine NotMine NotMine NotMine
-hear grant n3 c1 2 write b > NotMine NotMine NotMine NotMine NotMine
-hear busy n1 c1 2 write a > NotMine NotMine Busy Busy NotMine
-hear busy n1 c1 2 read a > NotMine NotMine NotMine NotMine NotMine
-hear busy n4 c1 2 write a > NotMine NotMine NotMine NotMine NotMine
-hear busy n1 c2 2 write a > NotMine NotMine NotMine NotMine NotMine
-hear busy n1 c1 1 write a > NotMine NotMine NotMine NotMine NotMine";
-
-const OTHERS: &str = "\
-hear request n3 c1 2 write a > NotMine NotMine NotMine NotMine NotMine
-hear release n3 c1 2 > NotMine NotMine NotMine NotMine NotMine
-hear release n3 c1 1 > NotMine NotMine NotMine NotMine NotMine
-hear over n3 c1 2 > NotMine NotMine NotMine NotMine NotMine
-hear over n3 c1 1 > NotMine NotMine NotMine NotMine NotMine
-hear done n1 c1 1 > Done NotMine NotMine NotMine NotMine
-hear done n1 c1 2 > NotMine NotMine NotMine NotMine NotMine
-hear done n4 c1 1 > NotMine NotMine NotMine NotMine NotMine
-hear done n1 c2 1 > NotMine NotMine NotMine NotMine NotMine
-hear muddled n3 c1 2 > NotMine NotMine NotMine NotMine NotMine
-hear muddled n3 c1 1 > NotMine NotMine NotMine NotMine NotMine
-hear soften n3 c1 2 > NotMine NotMine NotMine NotMine NotMine
-hear soften n3 c1 1 > NotMine NotMine NotMine NotMine NotMine
-hear softened n1 c1 2 > NotMine NotMine NotMine NotMine Softened
-hear softened n3 c1 2 > NotMine NotMine NotMine NotMine Softened
-hear softened n4 c1 2 > NotMine NotMine NotMine NotMine NotMine
-hear softened n1 c2 2 > NotMine NotMine NotMine NotMine NotMine
-hear softened n1 c1 1 > NotMine NotMine NotMine NotMine NotMine
-hear softened n1 c1 3 > NotMine NotMine NotMine NotMine NotMine
-phase > Idle Chosen Asking Inside Inside
-attempt > 1 2 2 2 2
-may_soften > false false false true false";
+const HEARD: [Heard; 34] = [
+    (
+        "hear grant n3 c1 2 write a",
+        ["NotMine", "NotMine", "Counted", "Counted", "NotMine"],
+    ),
+    (
+        "hear grant n1 c1 2 write a",
+        ["NotMine", "NotMine", "Known", "Known", "NotMine"],
+    ),
+    ("hear grant n4 c1 2 write a", ["NotMine"; 5]),
+    ("hear grant n3 c2 2 write a", ["NotMine"; 5]),
+    ("hear grant n3 c1 1 write a", ["NotMine"; 5]),
+    ("hear grant n3 c1 2 read a", ["NotMine"; 5]),
+    ("hear grant n3 c1 2 write b", ["NotMine"; 5]),
+    (
+        "hear busy n1 c1 2 write a",
+        ["NotMine", "NotMine", "Busy", "Busy", "NotMine"],
+    ),
+    ("hear busy n1 c1 2 read a", ["NotMine"; 5]),
+    ("hear busy n4 c1 2 write a", ["NotMine"; 5]),
+    ("hear busy n1 c2 2 write a", ["NotMine"; 5]),
+    ("hear busy n1 c1 1 write a", ["NotMine"; 5]),
+    ("hear request n3 c1 2 write a", ["NotMine"; 5]),
+    ("hear release n3 c1 2", ["NotMine"; 5]),
+    ("hear release n3 c1 1", ["NotMine"; 5]),
+    ("hear over n3 c1 2", ["NotMine"; 5]),
+    ("hear over n3 c1 1", ["NotMine"; 5]),
+    (
+        "hear done n1 c1 1",
+        ["Done", "NotMine", "NotMine", "NotMine", "NotMine"],
+    ),
+    ("hear done n1 c1 2", ["NotMine"; 5]),
+    ("hear done n4 c1 1", ["NotMine"; 5]),
+    ("hear done n1 c2 1", ["NotMine"; 5]),
+    ("hear muddled n3 c1 2", ["NotMine"; 5]),
+    ("hear muddled n3 c1 1", ["NotMine"; 5]),
+    ("hear soften n3 c1 2", ["NotMine"; 5]),
+    ("hear soften n3 c1 1", ["NotMine"; 5]),
+    (
+        "hear softened n1 c1 2",
+        ["NotMine", "NotMine", "NotMine", "NotMine", "Softened"],
+    ),
+    (
+        "hear softened n3 c1 2",
+        ["NotMine", "NotMine", "NotMine", "NotMine", "Softened"],
+    ),
+    ("hear softened n4 c1 2", ["NotMine"; 5]),
+    ("hear softened n1 c2 2", ["NotMine"; 5]),
+    ("hear softened n1 c1 1", ["NotMine"; 5]),
+    ("hear softened n1 c1 3", ["NotMine"; 5]),
+    ("phase", ["Idle", "Chosen", "Asking", "Inside", "Inside"]),
+    ("attempt", ["1", "2", "2", "2", "2"]),
+    ("may_soften", ["false", "false", "false", "true", "false"]),
+];
 
 /// Whether an attempt that is under way refuses another one (701), and stays as it is.
-pub(crate) fn refuses(alloc: Global, row: &str) -> Option<bool> {
-    is_heard(alloc, row.parse().ok()?, "begin write b", "701")
+fn refuses(alloc: Global, rows: usize) -> Option<bool> {
+    is_heard(alloc, rows, "begin write b", "701")
 }
 
 #[test]
 fn every_message_in_every_phase(rt: HostRuntime) -> Outcome {
-    each(rt.alloc(), Table::Phases, VOTES)?;
-    each(rt.alloc(), Table::Phases, OTHERS)?;
-    each(rt.alloc(), Table::RefusedBegins, "1\n4\n5\n6")
+    for (number, row) in HEARD.iter().enumerate() {
+        check_answer(in_each_phase(rt.alloc(), row), number)?;
+    }
+    check_answers(&[
+        refuses(rt.alloc(), 1),
+        refuses(rt.alloc(), 4),
+        refuses(rt.alloc(), 5),
+        refuses(rt.alloc(), 6),
+    ])
 }

@@ -1,122 +1,127 @@
 //! What a node decides, by the plain decision and by a node's core, which answer the same: scripts
 //! of messages, each with its replies.
 
-use crate::nodes::{FIRST, SECOND, SETTLED, WRITER_WAITS, has_record, risen, same_step};
-use crate::pairs::plain;
-use crate::rows::{message, release};
-use crate::tables::{Table, each};
+use crate::nodes::{SETTLED, WRITER_WAITS, has_record, new_core, same_step};
+use crate::replies::Replies;
+use crate::rows::{all, message, release};
 use lock_messages::Message;
 use lock_model::{Entry, Problem, Status, decide};
 use std::alloc::Global;
 use test_outcomes::{Outcome, check_answer};
 use voter_core::NodeCore;
 
-/// The replies as text, one after the other.
-fn text(alloc: Global, replies: &[Message]) -> Option<String> {
-    let mut all = String::new(alloc);
-    for reply in replies {
-        write!(all, ", {reply}").ok()?;
-    }
-    Some(all)
-}
-
-/// The clients in the order of their entries, each with its floor and, of a live ticket, whether it
-/// holds, and as what.
-fn shape(alloc: Global, entries: &[Entry]) -> Option<String> {
-    let mut all = String::new(alloc);
-    for entry in entries {
-        let (client, floor) = (entry.client, entry.floor);
-        let live = match entry.live {
-            None => "free",
-            Some(live) => match live.status {
-                Status::Waiting => "waits",
-                Status::Holding => "holds",
-                Status::Softened => "softened",
-            },
-        };
-        write!(all, ", {client} {floor} {live}").ok()?;
-    }
-    Some(all)
-}
-
-/// A node without entries.
-pub(crate) fn new_core(alloc: Global, problem: Problem) -> Option<NodeCore> {
-    let record = match problem {
-        Problem::First => FIRST,
-        Problem::Second => SECOND,
+/// Adds an entry's client with its floor and, of a live ticket, whether it holds, and as what.
+fn tell_entry(shape: &mut String, entry: &Entry) -> Option<()> {
+    let (client, floor) = (entry.client, entry.floor);
+    let live = match entry.live {
+        None => "free",
+        Some(live) => match live.status {
+            Status::Waiting => "waits",
+            Status::Holding => "holds",
+            Status::Softened => "softened",
+        },
     };
-    risen(alloc, &record, plain(alloc)?)
+    write!(shape, ", {client} {floor} {live}").ok()
 }
 
-/// The entries after a row's message; none where its replies are not the row's.
-fn step(
-    alloc: Global,
-    problem: Problem,
-    core: &mut NodeCore,
-    entries: &[Entry],
-    row: &str,
-) -> Option<Vec<Entry>> {
-    let (said, want) = row.split_once(" > ")?;
-    let decision = same_step(alloc, problem, core, entries, &message(said)?)?;
-    if text(alloc, &decision.replies)?.get(2..)? == want {
-        Some(decision.entries)
-    } else {
-        None
+/// Adds the clients in the order of their entries.
+fn tell_shape(shape: &mut String, entries: &[Entry]) -> Option<()> {
+    for entry in entries {
+        tell_entry(shape, entry)?;
     }
-}
-
-/// What a script leads to from no entries.
-fn play(alloc: Global, problem: Problem, core: &mut NodeCore, script: &str) -> Option<Vec<Entry>> {
-    let mut entries: Vec<Entry> = Vec::new(alloc);
-    for row in script.lines() {
-        entries = step(alloc, problem, core, &entries, row)?;
-    }
-    Some(entries)
+    Some(())
 }
 
 /// Whether entries have this shape.
 fn has_shape(alloc: Global, entries: &[Entry], left: &str) -> Option<bool> {
-    let shape = shape(alloc, entries)?;
-    Some(shape.get(2..) == Some(left))
+    let mut shape = String::new(alloc);
+    tell_shape(&mut shape, entries).and(Some(shape.get(2..) == Some(left)))
 }
 
-/// Whether a script goes to its end, and leaves entries of this shape.
-fn leads_to(alloc: Global, problem: Problem, script: &str, left: &str) -> Option<bool> {
-    let mut core = new_core(alloc, problem)?;
-    leads_on(alloc, problem, &mut core, script, left)
-}
-
-fn leads_on(
+/// Takes the message of a row. Whether the entries change; none where its replies are others than the row's.
+fn step(
     alloc: Global,
     problem: Problem,
     core: &mut NodeCore,
-    script: &str,
-    left: &str,
+    entries: &mut Vec<Entry>,
+    row: &str,
 ) -> Option<bool> {
-    let entries = play(alloc, problem, core, script)?;
-    has_shape(alloc, &entries, left)
+    let (said, want) = row.split_once(" > ")?;
+    let want = Replies::Said(want);
+    same_step(alloc, problem, core, entries, &message(said)?, &want)
 }
 
-/// The same under both problems.
-fn both_lead_to(alloc: Global, script: &str, left: &str) -> Outcome {
-    check_answer(leads_to(alloc, Problem::First, script, left), 1)?;
-    check_answer(leads_to(alloc, Problem::Second, script, left), 2)
+/// Whether a script goes to its end.
+fn play(
+    alloc: Global,
+    problem: Problem,
+    core: &mut NodeCore,
+    entries: &mut Vec<Entry>,
+    script: &str,
+) -> Option<bool> {
+    for row in script.lines() {
+        step(alloc, problem, core, entries, row)?;
+    }
+    Some(true)
 }
 
-/// Whether a script goes to its end, and leaves this record.
-fn leaves(alloc: Global, problem: Problem, script: &str, record: &str) -> Option<bool> {
+/// What a script leaves: entries of this shape, or this record.
+#[derive(Clone, Copy)]
+enum Left {
+    Shape(&'static str),
+    Record(&'static str),
+}
+
+/// Problems, under each of which a script leads from no entries to this.
+type Lead = (&'static [Problem], &'static str, Left);
+
+const FIRST: &[Problem] = &[Problem::First];
+
+const SECOND: &[Problem] = &[Problem::Second];
+
+const BOTH: &[Problem] = &[Problem::First, Problem::Second];
+
+fn is_left(alloc: Global, core: &NodeCore, entries: &[Entry], left: Left) -> Option<bool> {
+    match left {
+        Left::Shape(shape) => has_shape(alloc, entries, shape),
+        Left::Record(record) => has_record(alloc, core, record),
+    }
+}
+
+fn leads(alloc: Global, problem: Problem, script: &str, left: Left) -> Option<bool> {
     let mut core = new_core(alloc, problem)?;
-    play(alloc, problem, &mut core, script)?;
-    has_record(alloc, &core, record)
+    let mut entries = Vec::new(alloc);
+    all(&[
+        play(alloc, problem, &mut core, &mut entries, script),
+        is_left(alloc, &core, &entries, left),
+    ])
+}
+
+/// Plays a script under each of its problems.
+fn lead(alloc: Global, row: &Lead, number: usize) -> Outcome {
+    for problem in row.0 {
+        check_answer(leads(alloc, *problem, row.1, row.2), number)?;
+    }
+    Ok(())
+}
+
+/// Plays the scripts.
+fn lead_all(alloc: Global, rows: &[Lead]) -> Outcome {
+    for (number, row) in rows.iter().enumerate() {
+        lead(alloc, row, number)?;
+    }
+    Ok(())
 }
 
 const FIRST_READER: &str = "\
 request n1 c1 1 read a > grant n1 c1 1 read a
 request n1 c1 1 read a > grant n1 c1 1 read a";
 
+const FIRST_READER_LEADS: [Lead; 1] = [(BOTH, FIRST_READER, Left::Shape("c1 0 holds"))];
+
 #[test]
 fn first_reader(rt: HostRuntime) -> Outcome {
-    both_lead_to(rt.alloc(), FIRST_READER, "c1 0 holds")
+    lead_all(rt.alloc(), &FIRST_READER_LEADS)
 }
 
 const WRITER_BEHIND_READER: &str = "\
@@ -124,9 +129,15 @@ request n1 c1 1 read a > grant n1 c1 1 read a
 request n1 c2 1 write a > busy n1 c2 1 write a
 request n1 c2 1 write a > busy n1 c2 1 write a";
 
+const WRITER_BEHIND_READER_LEADS: [Lead; 1] = [(
+    BOTH,
+    WRITER_BEHIND_READER,
+    Left::Shape("c1 0 holds, c2 0 waits"),
+)];
+
 #[test]
 fn writer_behind_reader(rt: HostRuntime) -> Outcome {
-    both_lead_to(rt.alloc(), WRITER_BEHIND_READER, "c1 0 holds, c2 0 waits")
+    lead_all(rt.alloc(), &WRITER_BEHIND_READER_LEADS)
 }
 
 const RELEASE_THEN_LATE_REQUEST: &str = "\
@@ -136,10 +147,15 @@ request n1 c1 1 read a > over n1 c1 1
 release n1 c1 1 > done n1 c1 1
 release n1 c4 3 > done n1 c4 3";
 
+const RELEASE_THEN_LATE_REQUEST_LEADS: [Lead; 1] = [(
+    BOTH,
+    RELEASE_THEN_LATE_REQUEST,
+    Left::Shape("c1 1 free, c4 3 free"),
+)];
+
 #[test]
 fn release_then_late_request(rt: HostRuntime) -> Outcome {
-    let left = "c1 1 free, c4 3 free";
-    both_lead_to(rt.alloc(), RELEASE_THEN_LATE_REQUEST, left)
+    lead_all(rt.alloc(), &RELEASE_THEN_LATE_REQUEST_LEADS)
 }
 
 const READER_PASSES: &str = "\
@@ -152,15 +168,18 @@ request n1 c1 1 read a > grant n1 c1 1 read a
 request n1 c2 1 write a > busy n1 c2 1 write a
 request n1 c3 1 read a > busy n1 c3 1 read a";
 
+const WAITING_WRITER_LEADS: [Lead; 2] = [
+    (
+        FIRST,
+        READER_PASSES,
+        Left::Shape("c1 0 holds, c2 0 waits, c3 0 holds"),
+    ),
+    (SECOND, READER_WAITS, Left::Record(WRITER_WAITS)),
+];
+
 #[test]
 fn waiting_writer(rt: HostRuntime) -> Outcome {
-    let passed = "c1 0 holds, c2 0 waits, c3 0 holds";
-    let alloc = rt.alloc();
-    check_answer(leads_to(alloc, Problem::First, READER_PASSES, passed), 1)?;
-    check_answer(
-        leaves(alloc, Problem::Second, READER_WAITS, WRITER_WAITS),
-        2,
-    )
+    lead_all(rt.alloc(), &WAITING_WRITER_LEADS)
 }
 
 const NOTHING_TO_SETTLE: &str = "\
@@ -176,12 +195,18 @@ request n1 c2 1 write a > busy n1 c2 1 write a
 request n1 c3 1 read a > busy n1 c3 1 read a
 release n1 c2 1 > done n1 c2 1, grant n1 c3 1 read a";
 
+const RELEASE_SETTLES_LEADS: [Lead; 2] = [
+    (
+        FIRST,
+        NOTHING_TO_SETTLE,
+        Left::Shape("c1 0 holds, c2 1 free, c3 0 holds"),
+    ),
+    (SECOND, RELEASE_SETTLES, Left::Record(SETTLED)),
+];
+
 #[test]
 fn release_settles(rt: HostRuntime) -> Outcome {
-    let left = "c1 0 holds, c2 1 free, c3 0 holds";
-    let alloc = rt.alloc();
-    check_answer(leads_to(alloc, Problem::First, NOTHING_TO_SETTLE, left), 1)?;
-    check_answer(leaves(alloc, Problem::Second, RELEASE_SETTLES, SETTLED), 2)
+    lead_all(rt.alloc(), &RELEASE_SETTLES_LEADS)
 }
 
 const MUDDLED_REQUEST: &str = "\
@@ -189,9 +214,11 @@ request n1 c1 1 read a > grant n1 c1 1 read a
 request n1 c1 1 write a > muddled n1 c1 1
 request n1 c1 1 read b > muddled n1 c1 1";
 
+const MUDDLED_REQUEST_LEADS: [Lead; 1] = [(BOTH, MUDDLED_REQUEST, Left::Shape("c1 0 holds"))];
+
 #[test]
 fn muddled_request(rt: HostRuntime) -> Outcome {
-    both_lead_to(rt.alloc(), MUDDLED_REQUEST, "c1 0 holds")
+    lead_all(rt.alloc(), &MUDDLED_REQUEST_LEADS)
 }
 
 const NEXT_ATTEMPT: &str = "\
@@ -204,11 +231,14 @@ const NEXT_ATTEMPT_RECORD: &str = "01 01 0002 \
 00000002 0000000000000000 02 0000000000000001 00 01 61 \
 00000001 0000000000000001 02 0000000000000002 00 01 62";
 
+const NEXT_ATTEMPT_SETTLES_THE_LAST_LEADS: [Lead; 2] = [
+    (BOTH, NEXT_ATTEMPT, Left::Shape("c2 0 holds, c1 1 holds")),
+    (FIRST, NEXT_ATTEMPT, Left::Record(NEXT_ATTEMPT_RECORD)),
+];
+
 #[test]
 fn next_attempt_settles_the_last(rt: HostRuntime) -> Outcome {
-    both_lead_to(rt.alloc(), NEXT_ATTEMPT, "c2 0 holds, c1 1 holds")?;
-    let record = NEXT_ATTEMPT_RECORD;
-    check_answer(leaves(rt.alloc(), Problem::First, NEXT_ATTEMPT, record), 3)
+    lead_all(rt.alloc(), &NEXT_ATTEMPT_SETTLES_THE_LAST_LEADS)
 }
 
 // A writer softens, and is told so again for a late copy of its request.
@@ -235,14 +265,22 @@ soften n1 c1 3 > softened n1 c1 3, grant n1 c3 1 read a, grant n1 c2 1 read a
 request n1 c6 1 read a > grant n1 c6 1 read a
 request n1 c7 1 write a > busy n1 c7 1 write a";
 
+const ALL_IN: &str =
+    "c4 0 holds, c1 2 softened, c3 0 holds, c5 0 waits, c2 0 holds, c6 0 holds, c7 0 waits";
+
+const SOFTENING_LETS_READERS_IN_LEADS: [Lead; 3] = [
+    (
+        BOTH,
+        SOFTENED_WRITER,
+        Left::Shape("c1 0 softened, c2 0 holds"),
+    ),
+    (BOTH, SOFTENING_FOR_ALL, Left::Shape(ALL_IN)),
+    (FIRST, SOFTENED_WRITER, Left::Record(SOFTENED_RECORD)),
+];
+
 #[test]
 fn softening_lets_readers_in(rt: HostRuntime) -> Outcome {
-    let all =
-        "c4 0 holds, c1 2 softened, c3 0 holds, c5 0 waits, c2 0 holds, c6 0 holds, c7 0 waits";
-    both_lead_to(rt.alloc(), SOFTENED_WRITER, "c1 0 softened, c2 0 holds")?;
-    both_lead_to(rt.alloc(), SOFTENING_FOR_ALL, all)?;
-    let (script, record) = (SOFTENED_WRITER, SOFTENED_RECORD);
-    check_answer(leaves(rt.alloc(), Problem::First, script, record), 3)
+    lead_all(rt.alloc(), &SOFTENING_LETS_READERS_IN_LEADS)
 }
 
 // The writer that waits stays out until all readers have left, the softened one among them.
@@ -267,22 +305,22 @@ request n1 c3 1 read a > busy n1 c3 1 read a
 request n1 c4 1 read a > busy n1 c4 1 read a
 release n1 c1 1 > done n1 c1 1, grant n1 c2 1 write a";
 
+const SOFTENING_BEFORE_A_WRITER_LEADS: [Lead; 2] = [
+    (
+        FIRST,
+        SOFTENING_PASSES_A_WRITER,
+        Left::Shape("c1 1 free, c2 0 holds, c3 1 free"),
+    ),
+    (
+        SECOND,
+        SOFTENING_BEHIND_A_WRITER,
+        Left::Shape("c1 1 free, c2 0 holds, c3 0 waits, c4 0 waits"),
+    ),
+];
+
 #[test]
 fn softening_before_a_writer(rt: HostRuntime) -> Outcome {
-    let passes = leads_to(
-        rt.alloc(),
-        Problem::First,
-        SOFTENING_PASSES_A_WRITER,
-        "c1 1 free, c2 0 holds, c3 1 free",
-    );
-    check_answer(passes, 1)?;
-    let waits = leads_to(
-        rt.alloc(),
-        Problem::Second,
-        SOFTENING_BEHIND_A_WRITER,
-        "c1 1 free, c2 0 holds, c3 0 waits, c4 0 waits",
-    );
-    check_answer(waits, 2)
+    lead_all(rt.alloc(), &SOFTENING_BEFORE_A_WRITER_LEADS)
 }
 
 // After the release nothing is left to be softened.
@@ -323,20 +361,34 @@ soften n1 c1 1 > softened n1 c1 1
 request n1 c1 1 write a > grant n1 c1 1 write a
 request n1 c2 1 read a > busy n1 c2 1 read a";
 
+const SOFTENING_THAT_CHANGES_NOTHING_LEADS: [Lead; 6] = [
+    (
+        BOTH,
+        SOFTENING_AFTER_THE_RELEASE,
+        Left::Shape("c1 1 free, c2 0 holds, c3 0 waits"),
+    ),
+    (
+        BOTH,
+        SOFTENING_OF_ANOTHER_ATTEMPT,
+        Left::Shape("c1 4 holds, c2 0 waits"),
+    ),
+    (
+        BOTH,
+        SOFTENING_OF_READERS,
+        Left::Shape("c1 0 holds, c2 0 holds, c3 0 waits"),
+    ),
+    (
+        BOTH,
+        SOFTENING_BEFORE_THE_REQUEST,
+        Left::Shape("c1 0 holds, c2 0 waits"),
+    ),
+    (FIRST, SOFTENING_OF_A_STRANGER, Left::Record("01 01 0000")),
+    (SECOND, SOFTENING_OF_A_STRANGER, Left::Record("01 02 0000")),
+];
+
 #[test]
 fn softening_that_changes_nothing(rt: HostRuntime) -> Outcome {
-    let alloc = rt.alloc();
-    let after = "c1 1 free, c2 0 holds, c3 0 waits";
-    both_lead_to(alloc, SOFTENING_AFTER_THE_RELEASE, after)?;
-    let same = "c1 4 holds, c2 0 waits";
-    both_lead_to(alloc, SOFTENING_OF_ANOTHER_ATTEMPT, same)?;
-    let readers = "c1 0 holds, c2 0 holds, c3 0 waits";
-    both_lead_to(alloc, SOFTENING_OF_READERS, readers)?;
-    let before = "c1 0 holds, c2 0 waits";
-    both_lead_to(alloc, SOFTENING_BEFORE_THE_REQUEST, before)?;
-    let script = SOFTENING_OF_A_STRANGER;
-    check_answer(leaves(alloc, Problem::First, script, "01 01 0000"), 3)?;
-    check_answer(leaves(alloc, Problem::Second, script, "01 02 0000"), 4)
+    lead_all(rt.alloc(), &SOFTENING_THAT_CHANGES_NOTHING_LEADS)
 }
 
 // A writer that waits is taken away, and whoever waits behind it is let in. Its floor and its place stay;
@@ -355,26 +407,37 @@ request n1 c3 1 read a > busy n1 c3 1 read a
 soften n1 c2 5 > softened n1 c2 5
 soften n1 c2 5 > softened n1 c2 5";
 
+// The same, and what follows it.
 const LATE_COPY: &str = "\
+request n1 c1 1 read a > grant n1 c1 1 read a
+request n1 c2 5 write a > busy n1 c2 5 write a
+request n1 c3 1 read a > busy n1 c3 1 read a
+soften n1 c2 5 > softened n1 c2 5, grant n1 c3 1 read a
 request n1 c2 5 write a > busy n1 c2 5 write a
 request n1 c4 1 read a > busy n1 c4 1 read a
 soften n1 c2 5 > softened n1 c2 5, grant n1 c4 1 read a";
 
+const SOFTENING_OF_A_WRITER_THAT_WAITS_LEADS: [Lead; 3] = [
+    (
+        BOTH,
+        SOFTENING_BEHIND_A_HOLDER,
+        Left::Shape("c1 0 holds, c2 4 free, c3 0 waits"),
+    ),
+    (
+        SECOND,
+        SOFTENING_OF_A_WAITER,
+        Left::Shape("c1 0 holds, c2 4 free, c3 0 holds"),
+    ),
+    (
+        SECOND,
+        LATE_COPY,
+        Left::Shape("c1 0 holds, c3 0 holds, c2 4 free, c4 0 holds"),
+    ),
+];
+
 #[test]
 fn softening_of_a_writer_that_waits(rt: HostRuntime) -> Outcome {
-    let alloc = rt.alloc();
-    let still = "c1 0 holds, c2 4 free, c3 0 waits";
-    both_lead_to(alloc, SOFTENING_BEHIND_A_HOLDER, still)?;
-    let one = SOFTENING_OF_A_WAITER;
-    let two = format!(in alloc; "{one}\n{LATE_COPY}").ok();
-    let gone = "c1 0 holds, c2 4 free, c3 0 holds";
-    check_answer(leads_to(alloc, Problem::Second, one, gone), 1)?;
-    let gone = "c1 0 holds, c3 0 holds, c2 4 free, c4 0 holds";
-    let again = match &two {
-        Some(two) => leads_to(alloc, Problem::Second, two.as_str(), gone),
-        None => None,
-    };
-    check_answer(again, 2)
+    lead_all(rt.alloc(), &SOFTENING_OF_A_WRITER_THAT_WAITS_LEADS)
 }
 
 // Of a softened attempt no request is new.
@@ -396,12 +459,22 @@ request n1 c1 2 read b > grant n1 c1 2 read b, grant n1 c2 1 write a
 request n1 c1 1 write a > over n1 c1 1
 soften n1 c1 1 > softened n1 c1 1";
 
+const REQUESTS_AND_SOFTENING_LEADS: [Lead; 2] = [
+    (
+        BOTH,
+        REQUESTS_OF_A_SOFTENED_ATTEMPT,
+        Left::Shape("c1 0 softened"),
+    ),
+    (
+        BOTH,
+        AFTER_A_SOFTENED_ATTEMPT,
+        Left::Shape("c2 0 holds, c1 1 holds"),
+    ),
+];
+
 #[test]
 fn requests_and_softening(rt: HostRuntime) -> Outcome {
-    let softened = "c1 0 softened";
-    both_lead_to(rt.alloc(), REQUESTS_OF_A_SOFTENED_ATTEMPT, softened)?;
-    let next = "c2 0 holds, c1 1 holds";
-    both_lead_to(rt.alloc(), AFTER_A_SOFTENED_ATTEMPT, next)
+    lead_all(rt.alloc(), &REQUESTS_AND_SOFTENING_LEADS)
 }
 
 // What is for a client.
@@ -413,90 +486,86 @@ done n1 c1 1
 muddled n1 c1 1
 softened n1 c1 1";
 
-/// Whether a message changes nothing at a node where c1 reads `a`, and has no reply.
-pub(crate) fn changes_nothing(alloc: Global, row: &str) -> Option<bool> {
-    let mut core = new_core(alloc, Problem::First)?;
-    let entries = play(alloc, Problem::First, &mut core, FIRST_READER)?;
-    stays(alloc, &entries, &message(row)?)
-}
-
 fn stays(alloc: Global, entries: &[Entry], message: &Message) -> Option<bool> {
     let decision = decide(alloc, Problem::First, entries, message).ok()?;
     let is_same = decision.entries.as_slice() == entries;
     Some(is_same && !decision.changed && decision.replies.is_empty())
 }
 
-#[test]
-fn other_messages_change_nothing(rt: HostRuntime) -> Outcome {
-    each(rt.alloc(), Table::Unchanging, OTHER_MESSAGES)
-}
-
-/// The client of a digit's release, and whether the replies are its Done and then a Grant of each
-/// client of the other digits.
-fn are_to(replies: &[Message], digits: &str) -> bool {
-    for (place, digit) in digits.chars().enumerate() {
-        let client = match replies.get(place) {
-            Some(Message::Done(_, client, _)) if place == 0 => client.get(),
-            Some(Message::Grant(_, ticket)) if place > 0 => ticket.client.get(),
-            _ => return false,
-        };
-        if digit.to_digit(10) != Some(client) {
-            return false;
+/// Whether each of these messages changes nothing, and has no reply.
+fn stays_the_same(alloc: Global, entries: &[Entry]) -> Option<bool> {
+    for row in OTHER_MESSAGES.lines() {
+        if !stays(alloc, entries, &message(row)?)? {
+            return Some(false);
         }
-    }
-    replies.len() == digits.len()
-}
-
-/// The entries after the release of the first digit's client; none where it lets in others than the
-/// clients of the other digits.
-fn releases(
-    alloc: Global,
-    problem: Problem,
-    core: &mut NodeCore,
-    entries: &[Entry],
-    digits: &str,
-) -> Option<Vec<Entry>> {
-    let message = release(digits.chars().next()?.to_digit(10)?, 1)?;
-    let decision = same_step(alloc, problem, core, entries, &message)?;
-    if are_to(&decision.replies, digits) {
-        Some(decision.entries)
-    } else {
-        None
-    }
-}
-
-/// Plays a beginning, and then the releases of an order, of which each word has the client that
-/// releases its attempt 1 and then the clients that this lets in.
-fn settles(alloc: Global, problem: Problem, beginning: &str, order: &str) -> Option<bool> {
-    let mut core = new_core(alloc, problem)?;
-    settles_on(alloc, problem, &mut core, beginning, order)
-}
-
-fn settles_on(
-    alloc: Global,
-    problem: Problem,
-    core: &mut NodeCore,
-    beginning: &str,
-    order: &str,
-) -> Option<bool> {
-    let mut entries = play(alloc, problem, core, beginning)?;
-    for digits in order.split(' ') {
-        entries = releases(alloc, problem, core, &entries, digits)?;
     }
     Some(true)
 }
 
-/// Plays a beginning with each order, under each of the problems.
-fn settle(alloc: Global, problems: &[Problem], beginning: &str, orders: &str) -> Outcome {
-    for problem in problems {
-        for (row, order) in orders.lines().enumerate() {
-            check_answer(settles(alloc, *problem, beginning, order), row)?;
-        }
+/// Whether they do so at a node where c1 reads `a`.
+fn others_change_nothing(alloc: Global) -> Option<bool> {
+    let mut core = new_core(alloc, Problem::First)?;
+    let mut entries = Vec::new(alloc);
+    all(&[
+        play(alloc, Problem::First, &mut core, &mut entries, FIRST_READER),
+        stays_the_same(alloc, &entries),
+    ])
+}
+
+#[test]
+fn other_messages_change_nothing(rt: HostRuntime) -> Outcome {
+    check_answer(others_change_nothing(rt.alloc()), 0)
+}
+
+/// Takes the release of the first digit's client; none where it lets in others than the clients of the
+/// other digits.
+fn releases(
+    alloc: Global,
+    problem: Problem,
+    core: &mut NodeCore,
+    entries: &mut Vec<Entry>,
+    digits: &str,
+) -> Option<bool> {
+    let message = release(digits.chars().next()?.to_digit(10)?, 1)?;
+    let want = Replies::To(digits);
+    same_step(alloc, problem, core, entries, &message, &want)
+}
+
+/// Takes the releases of an order, of which each word has the client that releases its attempt 1 and then
+/// the clients that this lets in.
+fn settles_on(
+    alloc: Global,
+    problem: Problem,
+    core: &mut NodeCore,
+    entries: &mut Vec<Entry>,
+    order: &str,
+) -> Option<bool> {
+    for digits in order.split(' ') {
+        releases(alloc, problem, core, entries, digits)?;
+    }
+    Some(true)
+}
+
+/// Plays a beginning, and then the releases of an order.
+fn settles(alloc: Global, problem: Problem, beginning: &str, order: &str) -> Option<bool> {
+    let mut core = new_core(alloc, problem)?;
+    let mut entries = Vec::new(alloc);
+    all(&[
+        play(alloc, problem, &mut core, &mut entries, beginning),
+        settles_on(alloc, problem, &mut core, &mut entries, order),
+    ])
+}
+
+/// A problem, a beginning, and the orders that are played after it.
+type Settled = (Problem, &'static str, &'static str);
+
+/// Plays a beginning with each order.
+fn settle(alloc: Global, row: &Settled) -> Outcome {
+    for (number, order) in row.2.lines().enumerate() {
+        check_answer(settles(alloc, row.0, row.1, order), number)?;
     }
     Ok(())
 }
-
-const BOTH: [Problem; 2] = [Problem::First, Problem::Second];
 
 // A writer behind two readers. It holds once both readers are gone, whoever goes first; where it
 // goes before that, nobody is left to be told.
@@ -589,16 +658,27 @@ const READER_BEHIND_THE_WRITER: &str = "\
 3 12 2
 3 2 1";
 
+const SETTLED_IN_ORDER: [Settled; 10] = [
+    (Problem::First, TWO_READERS, AFTER_TWO_READERS),
+    (Problem::Second, TWO_READERS, AFTER_TWO_READERS),
+    (Problem::First, TWO_WRITERS, IN_ORDER),
+    (Problem::Second, TWO_WRITERS, IN_ORDER),
+    (Problem::First, READER_FIRST, IN_ORDER),
+    (Problem::Second, READER_FIRST, WRITER_LET_IN),
+    (Problem::First, TWO_RESOURCES, AFTER_TWO_RESOURCES),
+    (Problem::Second, TWO_RESOURCES, AFTER_TWO_RESOURCES),
+    (Problem::First, READER_BESIDE_A_SOFTENED, WRITER_BEHIND_BOTH),
+    (
+        Problem::Second,
+        WRITER_BEHIND_A_SOFTENED,
+        READER_BEHIND_THE_WRITER,
+    ),
+];
+
 #[test]
 fn releases_in_every_order(rt: HostRuntime) -> Outcome {
-    let alloc = rt.alloc();
-    settle(alloc, &BOTH, TWO_READERS, AFTER_TWO_READERS)?;
-    settle(alloc, &BOTH, TWO_WRITERS, IN_ORDER)?;
-    settle(alloc, &[Problem::First], READER_FIRST, IN_ORDER)?;
-    settle(alloc, &[Problem::Second], READER_FIRST, WRITER_LET_IN)?;
-    settle(alloc, &BOTH, TWO_RESOURCES, AFTER_TWO_RESOURCES)?;
-    let (first, second) = ([Problem::First], [Problem::Second]);
-    settle(alloc, &first, READER_BESIDE_A_SOFTENED, WRITER_BEHIND_BOTH)?;
-    let order = READER_BEHIND_THE_WRITER;
-    settle(alloc, &second, WRITER_BEHIND_A_SOFTENED, order)
+    for row in &SETTLED_IN_ORDER {
+        settle(rt.alloc(), row)?;
+    }
+    Ok(())
 }

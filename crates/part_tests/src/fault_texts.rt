@@ -3,7 +3,6 @@
 use client_core::ClientFault;
 use lock_messages::{Actor, FrameFault, NodeId};
 use stable_record::RecordFault;
-use std::alloc::Global;
 use std::fmt;
 use test_outcomes::{Outcome, check_answer};
 use vote_weights::BallotFault;
@@ -124,7 +123,7 @@ const TEXTS: &str = "\
 
 /// The rows of the faults of an opening, one of which names an actor.
 fn tell_openings(rows: &mut String) -> Option<()> {
-    let unread = OpeningFault::NoRecord(Actor::Node(NodeId::of(1)?));
+    let unread = OpeningFault::NoRecord(Actor::Node(NodeId::of(1).unwrap()));
     for fault in [
         OpeningFault::Memory,
         OpeningFault::EntryAboveAttempt,
@@ -136,32 +135,29 @@ fn tell_openings(rows: &mut String) -> Option<()> {
 }
 
 /// The rows of all faults.
-fn all(alloc: Global) -> Option<String> {
-    let mut rows = String::new(alloc);
+fn tell_all(rows: &mut String) -> Option<()> {
     for fault in &FRAMES {
-        tell(&mut rows, fault.number(), fault)?;
+        tell(rows, fault.number(), fault)?;
     }
     for fault in &BALLOTS {
-        tell(&mut rows, fault.number(), fault)?;
+        tell(rows, fault.number(), fault)?;
     }
     for fault in &RECORDS {
-        tell(&mut rows, fault.number(), fault)?;
+        tell(rows, fault.number(), fault)?;
     }
     for fault in &VOTERS {
-        tell(&mut rows, fault.number(), fault)?;
+        tell(rows, fault.number(), fault)?;
     }
-    tell_openings(&mut rows)?;
+    tell_openings(rows)?;
     for fault in &CLIENTS {
-        tell(&mut rows, fault.number(), fault)?;
+        tell(rows, fault.number(), fault)?;
     }
-    Some(rows)
+    Some(())
 }
 
 #[test]
 fn texts_of_faults(rt: HostRuntime) -> Outcome {
-    let answer = match all(rt.alloc()) {
-        Some(rows) => Some(rows.as_str() == TEXTS),
-        None => None,
-    };
-    check_answer(answer, 0)
+    let mut rows = String::new(rt.alloc());
+    let told = tell_all(&mut rows);
+    check_answer(told.and(Some(rows.as_str() == TEXTS)), 0)
 }

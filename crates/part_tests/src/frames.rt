@@ -1,6 +1,7 @@
 //! Frames against bytes that were written by hand, and against a plain reader of the table of fields.
 
-use crate::rows::{bytes, message, number, spells};
+use crate::changes::{Spelled, each_change};
+use crate::rows::{all, are_spelled, bytes, message, number, spells};
 use crate::tables::{Table, each};
 use lock_messages::{decode, encode};
 use std::alloc::Global;
@@ -26,9 +27,12 @@ softened n2 c1024 1000000000000=02 09 02 00000400 000000e8d4a51000";
 /// Whether a message has the frame of its row, and is read from it.
 pub(crate) fn is_spelled(alloc: Global, row: &str) -> Option<bool> {
     let (said, spelled) = row.split_once('=')?;
-    let (message, frame) = (message(said)?, bytes(alloc, spelled)?);
+    let message = message(said)?;
     let made = encode(alloc, &message).ok()?;
-    Some(made.as_slice() == frame.as_slice() && decode(&frame) == Ok(message))
+    all(&[
+        are_spelled(alloc, &made, spelled),
+        Some(decode(&made) == Ok(message)),
+    ])
 }
 
 // What is wrong with the frame of a request.
@@ -93,14 +97,19 @@ fn softening_frame(rt: HostRuntime) -> Outcome {
 }
 
 /// Whether each beginning of the frame is short.
-pub(crate) fn begins_short(alloc: Global, row: &str) -> Option<bool> {
-    let frame = encode(alloc, &message(row)?).ok()?;
+fn begin_short(frame: &[u8]) -> Option<bool> {
     for end in 0..frame.len() {
         if fault_of(frame.get(..end)?) != 101 {
             return Some(false);
         }
     }
     Some(true)
+}
+
+/// The same of the frame of a message.
+pub(crate) fn begins_short(alloc: Global, row: &str) -> Option<bool> {
+    let frame = encode(alloc, &message(row)?).ok()?;
+    begin_short(&frame)
 }
 
 // A request for the shortest name, and one message of each kind.
@@ -122,12 +131,18 @@ request n16 c1024 1000000000000 write zzzzzzzzzzzzzzzzzzzzzzzzzzzzzzzz
 grant n16 c1024 1000000000000 write zzzzzzzzzzzzzzzzzzzzzzzzzzzzzzzz
 busy n1 c1 1 read zzzzzzzzzzzzzzzzzzzzzzzzzzzzzzzz";
 
-/// Whether the message with each length of the name goes there and back; no memory is wanting.
+/// Whether a message goes there and back by a frame of so many bytes; no memory is wanting.
+fn goes_by(alloc: Global, row: &str, length: usize) -> Option<bool> {
+    let message = message(row)?;
+    let frame = encode(alloc, &message).ok()?;
+    Some(decode(&frame) == Ok(message) && frame.len() == length)
+}
+
+/// Whether the message with each length of the name does.
 pub(crate) fn goes_there_and_back(alloc: Global, row: &str) -> Option<bool> {
     for cut in 0..32usize {
-        let message = message(row.get(..row.len().saturating_sub(cut))?)?;
-        let frame = encode(alloc, &message).ok()?;
-        if decode(&frame) != Ok(message) || frame.len() != 49 - cut {
+        let shorter = row.get(..row.len().saturating_sub(cut))?;
+        if !goes_by(alloc, shorter, 49 - cut)? {
             return Some(false);
         }
     }
@@ -195,7 +210,7 @@ fn by_the_table(frame: &[u8]) -> u16 {
 }
 
 /// Whether the bytes are read as the table says; what is read is spelled so.
-fn agrees(alloc: Global, frame: &[u8]) -> Option<bool> {
+pub(crate) fn agrees(alloc: Global, frame: &[u8]) -> Option<bool> {
     match decode(frame) {
         Ok(message) => {
             let again = encode(alloc, &message).ok()?;
@@ -205,19 +220,11 @@ fn agrees(alloc: Global, frame: &[u8]) -> Option<bool> {
     }
 }
 
-/// Whether the frame is read as the table says with each byte changed to each other value.
+/// Whether the frame of a message is read as the table says with each byte changed to each other value.
 pub(crate) fn all_agree(alloc: Global, row: &str) -> Option<bool> {
     let frame = encode(alloc, &message(row)?).ok()?;
-    for place in 0..frame.len() {
-        for value in 0..=255u8 {
-            let mut bytes = frame.to_vec(alloc).ok()?;
-            *bytes.get_mut(place)? = value;
-            if !agrees(alloc, &bytes)? {
-                return Some(false);
-            }
-        }
-    }
-    Some(true)
+    let mut frame = frame.to_vec(alloc).ok()?;
+    each_change(alloc, Spelled::Frame, &mut frame)
 }
 
 #[test]

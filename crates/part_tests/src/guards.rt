@@ -3,42 +3,56 @@
 ghost use Rattle.std.specs.Prelude.{◌≡◌, ◌↔◌, IsTrue, false};
 ghost use Rattle.client_core.specs.Calls.{MayEnter, entered, left, ReleasesAll};
 
-use crate::rows::{message, node};
+use crate::attempts::{COSTLY_READS, PLAIN, Votes, risen};
+use crate::rows::{all, message, node, ticket};
 use client_core::{ClientCore, Heard, Phase};
 use entry_guard::{Door, EntryGuard, OwnedEntry, enter_and_leave, enter_client};
-use lock_messages::{ClientId, Message, Mode, ResourceName, Ticket};
+use lock_messages::{Mode, ResourceName, Ticket};
 use std::alloc::Global;
 use std::mem;
 use std::sync::Arc;
 use std::sync::atomic::{AtomicUsize, Ordering};
-use test_outcomes::{Outcome, check_answer};
-use vote_weights::{Ballot, BallotList};
+use test_outcomes::{Outcome, check_answers};
 
-const GRANTS: &str = "\
-grant n1 c1 1 read a
-grant n2 c1 1 read a";
-
-/// Client 1's ticket of attempt 1: read `a`.
-fn ticket() -> Option<Ticket> {
-    match message("request n1 c1 1 read a")? {
-        Message::Request(_, ticket) => Some(ticket),
-        _ => None,
-    }
+/// Client 1's ticket of attempt 1 for `a`.
+fn first_ticket(mode: Mode) -> Option<Ticket> {
+    ticket(1, 1, mode, b"a")
 }
 
-/// A core that asks with that ticket, and has the votes of so many of three nodes; two are enough.
-fn core_with(votes: usize) -> Option<ClientCore> {
-    let ballot = Ballot::of(&[1, 1, 1], 2, 2).ok()?;
-    let ballots = BallotList::of(&[ballot]).ok()?;
-    let mut core = ClientCore::rise(ClientId::of(1)?, 0, ballots);
-    let Ok(_) = core.begin(ResourceName::of(b"a")?, Mode::Read, 1) else {
+/// A core that asks with that ticket, and has heard these votes.
+fn core_with(votes: &[Votes], mode: Mode, grants: &[&str]) -> Option<ClientCore> {
+    let mut core = risen(0, votes)?;
+    let Ok(_) = core.begin(ResourceName::of(b"a").unwrap(), mode, 1) else {
         return None;
     };
     core.kept();
-    for row in GRANTS.lines().take(votes) {
+    for row in grants {
         core.hear(&message(row)?);
     }
     Some(core)
+}
+
+/// A reader's core with the votes of two of three nodes, which are enough.
+fn reading_core() -> Option<ClientCore> {
+    let grants = ["grant n1 c1 1 read a", "grant n2 c1 1 read a"];
+    core_with(PLAIN, Mode::Read, &grants)
+}
+
+/// One with the vote of one node.
+fn poor_core() -> Option<ClientCore> {
+    core_with(PLAIN, Mode::Read, &["grant n1 c1 1 read a"])
+}
+
+/// A writer's core with enough votes.
+fn writing_core() -> Option<ClientCore> {
+    core_with(COSTLY_READS, Mode::Write, &["grant n1 c1 1 write a"])
+}
+
+/// How often a door left and softened.
+#[derive(Drop)]
+struct Counts {
+    leaves: AtomicUsize,
+    softens: AtomicUsize,
 }
 
 /// A door that may enter or not, and counts how often it left and how often it softened.
@@ -47,8 +61,7 @@ struct Counter {
     held: Ticket,
     may: bool,
     within: bool,
-    count: Arc<AtomicUsize>,
-    softens: Arc<AtomicUsize>,
+    counts: Arc<Counts>,
 }
 
 impl Door for Counter {
@@ -88,12 +101,12 @@ impl Door for Counter {
 
     fn soften(&mut self) {
         self.held.mode = Mode::Read;
-        self.softens.fetch_add(1, Ordering::SeqCst);
+        self.counts.softens.fetch_add(1, Ordering::SeqCst);
     }
 
     fn leave(&mut self) {
         self.within = false;
-        self.count.fetch_add(1, Ordering::SeqCst);
+        self.counts.leaves.fetch_add(1, Ordering::SeqCst);
     }
 }
 
@@ -152,8 +165,8 @@ fn client_by_a_question_mark(core: &mut ClientCore, value: Option<u8>) -> Option
 /// Whether a core with enough votes enters with its ticket, and is idle behind the guard's scope, with
 /// its release to say.
 fn is_guarded() -> Option<bool> {
-    let mut core = core_with(2)?;
-    let same = EntryGuard::enter(&mut core)?.ticket() == ticket()?;
+    let (mut core, held) = (reading_core()?, first_ticket(Mode::Read)?);
+    let same = EntryGuard::enter(&mut core)?.ticket() == held;
     let release = core.message_for(node("n3")?);
     let left = core.phase() == Phase::Idle && core.attempt() == 1;
     Some(same && left && release == message("release n3 c1 1"))
@@ -161,16 +174,15 @@ fn is_guarded() -> Option<bool> {
 
 /// Whether a core with too few votes is refused, and still asks.
 fn is_refused() -> Option<bool> {
-    let mut core = core_with(1)?;
+    let (mut core, grant) = (poor_core()?, message("grant n1 c1 1 read a")?);
     let refused = EntryGuard::enter(&mut core).is_none();
     let asks = core.phase() == Phase::Asking;
-    let known = core.hear(&message("grant n1 c1 1 read a")?) == Heard::Known;
-    Some(refused && asks && known)
+    Some(refused && asks && core.hear(&grant) == Heard::Known)
 }
 
 /// Whether a core leaves by a `?`, and is refused before it.
 fn leaves_by_a_question_mark() -> Option<bool> {
-    let (mut core, mut other) = (core_with(2)?, core_with(1)?);
+    let (mut core, mut other) = (reading_core()?, poor_core()?);
     let none = client_by_a_question_mark(&mut core, None).is_none()
         && client_by_a_question_mark(&mut other, Some(1)).is_none();
     Some(none && core.phase() == Phase::Idle && other.phase() == Phase::Asking)
@@ -178,25 +190,48 @@ fn leaves_by_a_question_mark() -> Option<bool> {
 
 #[test]
 fn guard(rt: HostRuntime) -> Outcome {
-    check_answer(is_guarded(), 1)?;
-    check_answer(is_refused(), 2)?;
-    check_answer(leaves_by_a_question_mark(), 3)?;
-    check_answer(is_owned(rt.alloc()), 4)?;
-    check_answer(is_handed_back(rt.alloc()), 5)?;
-    check_answer(is_visited(rt.alloc()), 6)
+    check_answers(&[
+        is_guarded(),
+        is_refused(),
+        leaves_by_a_question_mark(),
+        owned_core_leaves(rt.alloc(), false),
+        is_handed_back(rt.alloc()),
+        is_visited(rt.alloc()),
+    ])
 }
 
-fn boxed(alloc: Global, votes: usize) -> Option<Box<dyn Door + Send>> {
-    let door: Box<dyn Door + Send> = Box::new(alloc, core_with(votes)?).ok()?;
+fn boxed(alloc: Global, core: ClientCore) -> Option<Box<dyn Door + Send>> {
+    let door: Box<dyn Door + Send> = Box::new(alloc, core).ok()?;
     Some(door)
 }
 
-/// Whether an owned door enters with its ticket, and comes back outside.
-fn is_owned(alloc: Global) -> Option<bool> {
-    let Ok(entry) = OwnedEntry::enter(boxed(alloc, 2)?) else {
+/// Softens an owned entry that has entered as a writer; whether its ticket is then this one.
+fn softens_entry(entry: &mut OwnedEntry, reads: Ticket) -> bool {
+    if entry.ticket().mode == Mode::Read {
+        return false;
+    }
+    entry.soften();
+    entry.ticket() == reads
+}
+
+/// Whether an entry has this ticket and, where it softens, the reader's after that.
+fn has_tickets(entry: &mut OwnedEntry, held: Ticket, softens: bool, reads: Ticket) -> bool {
+    entry.ticket() == held && (!softens || softens_entry(entry, reads))
+}
+
+/// Whether an owned door enters with its ticket, softens where it is a writer, and comes back outside.
+fn owned_core_leaves(alloc: Global, softens: bool) -> Option<bool> {
+    let mode = if softens { Mode::Write } else { Mode::Read };
+    let (held, reads) = (first_ticket(mode)?, first_ticket(Mode::Read)?);
+    let core = if softens {
+        writing_core()
+    } else {
+        reading_core()
+    };
+    let Ok(mut entry) = OwnedEntry::enter(boxed(alloc, core?)?) else {
         return Some(false);
     };
-    let same = entry.ticket() == ticket()?;
+    let same = has_tickets(&mut entry, held, softens, reads);
     let door = entry.leave();
     Some(same && !door.inside() && !door.may_enter() && door.ticket().is_none())
 }
@@ -204,106 +239,122 @@ fn is_owned(alloc: Global) -> Option<bool> {
 /// Whether a core in a box enters with its ticket, and leaves, and one with too few votes doesn't
 /// enter.
 fn is_visited(alloc: Global) -> Option<bool> {
-    let (core, other) = (core_with(2)?, core_with(1)?);
+    let (core, other, held) = (reading_core()?, poor_core()?, first_ticket(Mode::Read)?);
     let refused = enter_and_leave(alloc, other).ok()?.is_none();
     let Some(seen) = enter_and_leave(alloc, core).ok()? else {
         return Some(false);
     };
-    Some(refused && seen.with == ticket()? && seen.ticket.is_none() && !seen.inside)
+    Some(refused && seen.with == held && seen.ticket.is_none() && !seen.inside)
 }
 
 /// Whether an owned door that may not enter comes back as it was.
 fn is_handed_back(alloc: Global) -> Option<bool> {
-    let Err(door) = OwnedEntry::enter(boxed(alloc, 1)?) else {
+    let Err(door) = OwnedEntry::enter(boxed(alloc, poor_core()?)?) else {
         return Some(false);
     };
-    Some(!door.inside() && door.ticket() == ticket())
+    Some(!door.inside() && door.ticket() == first_ticket(Mode::Read))
 }
 
-/// A door that may enter.
-fn new_counter(alloc: Global, count: Arc<AtomicUsize>) -> Option<Counter> {
-    Some(Counter {
-        held: ticket()?,
+fn new_counts(alloc: Global) -> Option<Arc<Counts>> {
+    let counts = Counts {
+        leaves: AtomicUsize::new(0),
+        softens: AtomicUsize::new(0),
+    };
+    Arc::new(alloc, counts).ok()
+}
+
+/// A door that may enter with this ticket.
+fn door_with(held: Ticket, counts: Arc<Counts>) -> Counter {
+    Counter {
+        held,
         may: true,
         within: false,
-        count,
-        softens: Arc::new(alloc, AtomicUsize::new(0)).ok()?,
-    })
+        counts,
+    }
+}
+
+/// Whether a door has left and softened so often.
+fn has_done(counts: &Counts, leaves: usize, softens: usize) -> bool {
+    counts.leaves.load(Ordering::SeqCst) == leaves
+        && counts.softens.load(Ordering::SeqCst) == softens
+}
+
+fn new_counter(alloc: Global, mode: Mode) -> Option<Counter> {
+    let held = first_ticket(mode)?;
+    let counts = new_counts(alloc)?;
+    Some(door_with(held, counts))
 }
 
 /// Whether the door leaves once on each path out of a guard's scope.
 fn leaves_once_on_each_path(alloc: Global) -> Option<bool> {
-    let count = Arc::new(alloc, AtomicUsize::new(0)).ok()?;
-    let mut door = new_counter(alloc, count.clone().ok()?)?;
+    let mut door = new_counter(alloc, Mode::Read)?;
+    let held = Some(door.held);
     to_the_end(&mut door);
-    let end = count.load(Ordering::SeqCst) == 1;
+    let end = has_done(&door.counts, 1, 0);
     let none = by_a_question_mark(&mut door, None).is_none();
     let value = by_a_question_mark(&mut door, Some(5)) == Some(5);
-    let marks = none && value && count.load(Ordering::SeqCst) == 3;
+    let marks = none && value && has_done(&door.counts, 3, 0);
     let none = by_a_return(&mut door, true).is_none();
-    let held = by_a_return(&mut door, false) == ticket();
-    let returns = none && held && count.load(Ordering::SeqCst) == 5;
-    let entered = can_be_entered(&mut door) && count.load(Ordering::SeqCst) == 6;
+    let same = by_a_return(&mut door, false) == held;
+    let returns = none && same && has_done(&door.counts, 5, 0);
+    let entered = can_be_entered(&mut door) && has_done(&door.counts, 6, 0);
     Some(end && marks && returns && entered)
 }
 
 /// Whether a door that may not enter never leaves, nor one whose guard is forgotten.
 fn stays(alloc: Global) -> Option<bool> {
-    let count = Arc::new(alloc, AtomicUsize::new(0)).ok()?;
-    let mut door = new_counter(alloc, count.clone().ok()?)?;
+    let mut door = new_counter(alloc, Mode::Read)?;
     door.may = false;
     to_the_end(&mut door);
     let refused = !can_be_entered(&mut door) && !door.within;
     door.may = true;
     mem::forget(EntryGuard::enter(&mut door));
-    Some(refused && door.within && count.load(Ordering::SeqCst) == 0)
+    Some(refused && door.within && has_done(&door.counts, 0, 0))
 }
 
-/// Whether an owned door leaves once, where the entry is spent or dropped, and is dropped then.
-fn owned_door_leaves_once(alloc: Global, spent: bool) -> Option<bool> {
-    let count = Arc::new(alloc, AtomicUsize::new(0)).ok()?;
-    let door = new_counter(alloc, count.clone().ok()?)?;
-    let door: Box<dyn Door + Send> = Box::new(alloc, door).ok()?;
-    let Ok(entry) = OwnedEntry::enter(door) else {
-        return Some(false);
-    };
-    let outside = if spent {
-        !entry.leave().inside()
+/// An entry by an owned door that counts.
+fn entered(alloc: Global, held: Ticket, counts: &Arc<Counts>) -> Option<OwnedEntry> {
+    let counts = counts.clone().ok()?;
+    let door: Box<dyn Door + Send> = Box::new(alloc, door_with(held, counts)).ok()?;
+    match OwnedEntry::enter(door) {
+        Ok(entry) => Some(entry),
+        Err(_) => None,
+    }
+}
+
+/// Whether an entry ends outside, spent or dropped; where it is spent, its door is a reader's.
+fn ends_outside(entry: OwnedEntry, spent: bool, reads: Ticket) -> bool {
+    if spent {
+        let door = entry.leave();
+        !door.inside() && door.ticket() == Some(reads) && !door.may_soften()
     } else {
         drop(entry);
         true
-    };
-    let gone = Arc::strong_count(&count) == 1;
-    Some(outside && gone && count.load(Ordering::SeqCst) == 1)
+    }
+}
+
+/// Whether an owned door softens once where it is a writer's, and leaves once, where its entry is spent or
+/// dropped; and is dropped then.
+fn owned_door_leaves_once(alloc: Global, softens: bool, spent: bool) -> Option<bool> {
+    let mode = if softens { Mode::Write } else { Mode::Read };
+    let (held, reads) = (first_ticket(mode)?, first_ticket(Mode::Read)?);
+    let counts = new_counts(alloc)?;
+    let mut entry = entered(alloc, held, &counts)?;
+    let same = has_tickets(&mut entry, held, softens, reads);
+    let stays = has_done(&counts, 0, usize::from(softens));
+    let outside = ends_outside(entry, spent, reads);
+    let gone = Arc::strong_count(&counts) == 1;
+    Some(same && stays && outside && gone && has_done(&counts, 1, usize::from(softens)))
 }
 
 #[test]
 fn leaves_once(rt: HostRuntime) -> Outcome {
-    check_answer(leaves_once_on_each_path(rt.alloc()), 1)?;
-    check_answer(stays(rt.alloc()), 2)?;
-    check_answer(owned_door_leaves_once(rt.alloc(), true), 3)?;
-    check_answer(owned_door_leaves_once(rt.alloc(), false), 4)
-}
-
-/// Client 1's ticket of attempt 1 as a writer of `a`, and as the reader that it is once it is softened.
-fn tickets() -> Option<(Ticket, Ticket)> {
-    match message("request n1 c1 1 write a")? {
-        Message::Request(_, writes) => Some((writes, ticket()?)),
-        _ => None,
-    }
-}
-
-/// A core that asks with the writer's ticket, and has enough votes.
-fn writing_core() -> Option<ClientCore> {
-    let ballot = Ballot::of(&[3, 1, 1], 4, 3).ok()?;
-    let ballots = BallotList::of(&[ballot]).ok()?;
-    let mut core = ClientCore::rise(ClientId::of(1)?, 0, ballots);
-    let Ok(_) = core.begin(ResourceName::of(b"a")?, Mode::Write, 1) else {
-        return None;
-    };
-    core.kept();
-    core.hear(&message("grant n1 c1 1 write a")?);
-    Some(core)
+    check_answers(&[
+        leaves_once_on_each_path(rt.alloc()),
+        stays(rt.alloc()),
+        owned_door_leaves_once(rt.alloc(), false, true),
+        owned_door_leaves_once(rt.alloc(), false, false),
+    ])
 }
 
 /// Softens a guard that has entered as a writer; whether its ticket is then this one.
@@ -317,7 +368,7 @@ fn softens_guard<D: Door>(guard: &mut EntryGuard<'_, D>, reads: Ticket) -> bool 
 
 /// Whether a door that is entered softens once, and its guard has the tickets before and after it.
 fn softens_within<D: Door>(door: &mut D) -> Option<bool> {
-    let (writes, reads) = tickets()?;
+    let (writes, reads) = (first_ticket(Mode::Write)?, first_ticket(Mode::Read)?);
     let mut guard = EntryGuard::enter(door)?;
     let before = guard.ticket() == writes;
     Some(before && softens_guard(&mut guard, reads))
@@ -334,8 +385,7 @@ fn is_softened() -> Option<bool> {
 
 /// Whether a core whose guard is softened and forgotten is still inside, as a reader.
 fn stays_softened() -> Option<bool> {
-    let (_, reads) = tickets()?;
-    let mut core = writing_core()?;
+    let (mut core, reads) = (writing_core()?, first_ticket(Mode::Read)?);
     let mut guard = EntryGuard::enter(&mut core)?;
     let softens = softens_guard(&mut guard, reads);
     mem::forget(guard);
@@ -344,76 +394,23 @@ fn stays_softened() -> Option<bool> {
     Some(softens && inside && told && !core.may_soften() && !core.may_enter())
 }
 
-/// A door that may enter as a writer.
-fn writing_counter(alloc: Global, count: Arc<AtomicUsize>) -> Option<Counter> {
-    let (writes, _) = tickets()?;
-    let mut door = new_counter(alloc, count)?;
-    door.held = writes;
-    Some(door)
-}
-
 /// Whether a door softens once by its guard, and leaves once when that is dropped.
 fn softens_once(alloc: Global) -> Option<bool> {
-    let count = Arc::new(alloc, AtomicUsize::new(0)).ok()?;
-    let mut door = writing_counter(alloc, count.clone().ok()?)?;
+    let mut door = new_counter(alloc, Mode::Write)?;
     let outside = !door.may_soften();
-    let softens = softens_within(&mut door)?;
-    let once = door.softens.load(Ordering::SeqCst) == 1;
-    let left = !door.within && count.load(Ordering::SeqCst) == 1;
-    Some(outside && softens && once && left)
-}
-
-/// Softens an owned entry that has entered as a writer; whether its ticket is then this one.
-fn softens_entry(entry: &mut OwnedEntry, reads: Ticket) -> bool {
-    if entry.ticket().mode == Mode::Read {
-        return false;
-    }
-    entry.soften();
-    entry.ticket() == reads
-}
-
-/// Whether an owned door softens once, and leaves once, where its entry is spent or dropped.
-fn owned_door_softens_once(alloc: Global, spent: bool) -> Option<bool> {
-    let (_, reads) = tickets()?;
-    let count = Arc::new(alloc, AtomicUsize::new(0)).ok()?;
-    let door = writing_counter(alloc, count.clone().ok()?)?;
-    let softened = door.softens.clone().ok()?;
-    let door: Box<dyn Door + Send> = Box::new(alloc, door).ok()?;
-    let Ok(mut entry) = OwnedEntry::enter(door) else {
-        return Some(false);
-    };
-    let softens = softens_entry(&mut entry, reads);
-    let stays = count.load(Ordering::SeqCst) == 0;
-    let outside = if spent {
-        let door = entry.leave();
-        !door.inside() && door.ticket() == Some(reads) && !door.may_soften()
-    } else {
-        drop(entry);
-        true
-    };
-    let once = softened.load(Ordering::SeqCst) == 1 && count.load(Ordering::SeqCst) == 1;
-    Some(softens && stays && outside && once)
-}
-
-/// Whether a core in a box softens by an owned entry, and comes back outside.
-fn owned_core_is_softened(alloc: Global) -> Option<bool> {
-    let (writes, reads) = tickets()?;
-    let door: Box<dyn Door + Send> = Box::new(alloc, writing_core()?).ok()?;
-    let Ok(mut entry) = OwnedEntry::enter(door) else {
-        return Some(false);
-    };
-    let before = entry.ticket() == writes;
-    let softens = softens_entry(&mut entry, reads);
-    let door = entry.leave();
-    Some(before && softens && !door.inside() && door.ticket().is_none())
+    let softens = softens_within(&mut door);
+    let once = !door.within && has_done(&door.counts, 1, 1);
+    all(&[softens, Some(outside && once)])
 }
 
 #[test]
 fn softens(rt: HostRuntime) -> Outcome {
-    check_answer(is_softened(), 1)?;
-    check_answer(stays_softened(), 2)?;
-    check_answer(softens_once(rt.alloc()), 3)?;
-    check_answer(owned_door_softens_once(rt.alloc(), true), 4)?;
-    check_answer(owned_door_softens_once(rt.alloc(), false), 5)?;
-    check_answer(owned_core_is_softened(rt.alloc()), 6)
+    check_answers(&[
+        is_softened(),
+        stays_softened(),
+        softens_once(rt.alloc()),
+        owned_door_leaves_once(rt.alloc(), true, true),
+        owned_door_leaves_once(rt.alloc(), true, false),
+        owned_core_leaves(rt.alloc(), true),
+    ])
 }

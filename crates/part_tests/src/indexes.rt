@@ -1,11 +1,11 @@
 //! The tickets of a record by resource.
 
 use crate::nodes::{SOFTENED, WRITER_WAITS};
-use crate::rows::{bytes, client};
+use crate::rows::bytes;
 use lock_messages::ResourceName;
 use stable_record::{Line, NodeRecord, ResourceIndex, read_node};
 use std::alloc::Global;
-use test_outcomes::{Outcome, check_answer};
+use test_outcomes::{Outcome, check_answers};
 
 /// c9 waits for `b` as a writer behind c4 and c6, which hold it as readers; c8 waits for `a` as a
 /// reader and c2 as a writer, since c1 holds it as a writer; c5 has no live ticket.
@@ -18,53 +18,52 @@ const TWO_RESOURCES: &str = "01 01 0007 \
 00000001 0000000000000000 02 0000000000000001 01 01 61 \
 00000002 0000000000000000 01 0000000000000001 01 01 61";
 
-// A resource, how many hold it, whether a writer does, how many writers wait, and who waits. A
-// resource alone has no line.
-const LINES: &str = "\
-a 1 true 1 c8 c2
-b 2 false 1 c9
-c";
+/// How many hold a resource, whether a writer does, how many writers wait, and who waits.
+type Held = (usize, bool, usize, &'static [u32]);
 
-const LINES_OF_ONE: &str = "\
-a 1 false 1 c2 c3
-b";
+/// A resource, and its line. A resource alone has none.
+type Row = (&'static [u8], Option<Held>);
+
+const LINES: [Row; 3] = [
+    (b"a", Some((1, true, 1, &[8, 2]))),
+    (b"b", Some((2, false, 1, &[9]))),
+    (b"c", None),
+];
+
+const LINES_OF_ONE: [Row; 2] = [(b"a", Some((1, false, 1, &[2, 3]))), (b"b", None)];
 
 // One that is softened holds, and doesn't write.
-const LINES_OF_A_SOFTENED: &str = "\
-a 2 false 1 c3
-b";
+const LINES_OF_A_SOFTENED: [Row; 2] = [(b"a", Some((2, false, 1, &[3]))), (b"b", None)];
 
 /// Whether those who wait are these.
-fn waits(line: &Line, clients: &str) -> Option<bool> {
-    let mut count = 0usize;
-    for word in clients.split(' ') {
-        if line.waiting().get(count) != Some(&client(word)?) {
-            return Some(false);
+fn waits(line: &Line, clients: &[u32]) -> bool {
+    for (place, client) in clients.iter().enumerate() {
+        match line.waiting().get(place) {
+            Some(found) if found.get() == *client => {}
+            _ => return false,
         }
-        count = count.saturating_add(1);
     }
-    Some(line.waiting().len() == count)
+    line.waiting().len() == clients.len()
 }
 
-/// Whether a line has the numbers of a row, and those who wait.
-fn says(line: &Line, row: &str) -> Option<bool> {
-    let (holders, rest) = row.split_once(' ')?;
-    let (writes, rest) = rest.split_once(' ')?;
-    let (writers, clients) = rest.split_once(' ')?;
-    let counts = holders.parse() == Ok(line.holders())
-        && writers.parse() == Ok(line.waiting_writers());
-    Some(counts && line.has_writing_holder() == (writes == "true") && waits(line, clients)?)
+fn says(line: &Line, held: Held) -> bool {
+    line.holders() == held.0
+        && line.has_writing_holder() == held.1
+        && line.waiting_writers() == held.2
+        && waits(line, held.3)
 }
 
-fn has(index: &ResourceIndex, row: &str) -> Option<bool> {
-    let Some((name, rest)) = row.split_once(' ') else {
-        return Some(index.line(&ResourceName::of(row.as_bytes())?).is_none());
-    };
-    says(index.line(&ResourceName::of(name.as_bytes())?)?, rest)
+fn has(index: &ResourceIndex, row: &Row) -> Option<bool> {
+    let name = ResourceName::of(row.0)?;
+    match (index.line(&name), row.1) {
+        (Some(line), Some(held)) => Some(says(line, held)),
+        (None, None) => Some(true),
+        _ => Some(false),
+    }
 }
 
-fn has_all(index: &ResourceIndex, rows: &str) -> Option<bool> {
-    for row in rows.lines() {
+fn has_all(index: &ResourceIndex, rows: &[Row]) -> Option<bool> {
+    for row in rows {
         if !has(index, row)? {
             return Some(false);
         }
@@ -72,18 +71,28 @@ fn has_all(index: &ResourceIndex, rows: &str) -> Option<bool> {
     Some(true)
 }
 
-fn is_indexed(alloc: Global, record: &NodeRecord, rows: &str) -> Option<bool> {
-    has_all(&ResourceIndex::of(alloc, record).ok()?, rows)
+fn is_indexed(alloc: Global, record: &NodeRecord, rows: &[Row]) -> Option<bool> {
+    let index = ResourceIndex::of(alloc, record).ok()?;
+    has_all(&index, rows)
+}
+
+/// The record that is spelled so.
+fn read(alloc: Global, record: &str) -> Option<NodeRecord> {
+    let bytes = bytes(alloc, record)?;
+    read_node(alloc, &bytes).ok()
 }
 
 /// Whether the index of the record that is spelled so has just these lines.
-fn indexes(alloc: Global, record: &str, rows: &str) -> Option<bool> {
-    is_indexed(alloc, &read_node(alloc, &bytes(alloc, record)?).ok()?, rows)
+fn indexes(alloc: Global, record: &str, rows: &[Row]) -> Option<bool> {
+    let record = read(alloc, record)?;
+    is_indexed(alloc, &record, rows)
 }
 
 #[test]
 fn lines_of_resources(rt: HostRuntime) -> Outcome {
-    check_answer(indexes(rt.alloc(), TWO_RESOURCES, LINES), 1)?;
-    check_answer(indexes(rt.alloc(), WRITER_WAITS, LINES_OF_ONE), 2)?;
-    check_answer(indexes(rt.alloc(), SOFTENED, LINES_OF_A_SOFTENED), 3)
+    check_answers(&[
+        indexes(rt.alloc(), TWO_RESOURCES, &LINES),
+        indexes(rt.alloc(), WRITER_WAITS, &LINES_OF_ONE),
+        indexes(rt.alloc(), SOFTENED, &LINES_OF_A_SOFTENED),
+    ])
 }

@@ -20,30 +20,37 @@ fn tell_found(shown: &mut String, found: &[u8]) -> Option<()> {
     shown.push_str(str::from_utf8(found).ok()?).ok()
 }
 
-/// What a call answers, as `keep A` or `reopen`.
-fn answer(alloc: Global, record: &mut dyn StableRecord, call: &str) -> Option<String> {
-    let mut shown = String::new(alloc);
-    match call.strip_prefix("keep ") {
-        Some(text) => match record.keep(text.as_bytes()) {
-            Ok(()) => shown.push_str("kept").ok()?,
-            Err(fault) => tell_fault(&mut shown, fault)?,
-        },
-        None => match record.reopen() {
-            Ok(found) => tell_found(&mut shown, &found)?,
-            Err(fault) => tell_fault(&mut shown, fault)?,
-        },
+/// Adds what a keep answers.
+fn tell_kept(shown: &mut String, kept: Result<(), RecordFault>) -> Option<()> {
+    match kept {
+        Ok(()) => shown.push_str("kept").ok(),
+        Err(fault) => tell_fault(shown, fault),
     }
-    Some(shown)
 }
 
-/// Whether a call of a row has the row's answer, and the record is then stuck or free after so many
-/// failures.
+/// Makes a call, as `keep A` or `reopen`, and adds its answer.
+fn answer(shown: &mut String, record: &mut dyn StableRecord, call: &str) -> Option<()> {
+    match call.strip_prefix("keep ") {
+        Some(text) => tell_kept(shown, record.keep(text.as_bytes())),
+        None => match record.reopen() {
+            Ok(found) => tell_found(shown, &found),
+            Err(fault) => tell_fault(shown, fault),
+        },
+    }
+}
+
+/// Makes a call, and adds its answer and whether the record is then stuck or free after so many failures.
+fn tell_all(shown: &mut String, record: &mut dyn StableRecord, call: &str) -> Option<()> {
+    answer(shown, record, call)?;
+    let stuck = if record.stuck() { "stuck" } else { "free" };
+    write!(shown, " {stuck} {}", record.failures()).ok()
+}
+
+/// Whether a call of a row has the row's answer.
 fn goes(alloc: Global, record: &mut dyn StableRecord, row: &str) -> Option<bool> {
     let (call, want) = row.split_once(" > ")?;
-    let mut shown = answer(alloc, record, call)?;
-    let stuck = if record.stuck() { "stuck" } else { "free" };
-    write!(shown, " {stuck} {}", record.failures()).ok()?;
-    Some(shown.as_str() == want)
+    let mut shown = String::new(alloc);
+    tell_all(&mut shown, record, call).and(Some(shown.as_str() == want))
 }
 
 fn plays(alloc: Global, record: &mut dyn StableRecord, script: &str) -> Outcome {
@@ -104,36 +111,48 @@ reopen > C free 0
 keep D > kept free 0
 reopen > D free 0";
 
-/// The same of a record in memory, and of one in a box.
+/// The same of a record in memory.
 fn plays_in_memory(alloc: Global, script: &str) -> Outcome {
-    let (Ok(mut record), Ok(other)) = (
-        MemoryRecord::holding(alloc, b"A"),
-        MemoryRecord::holding(alloc, b"A"),
-    ) else {
+    let Ok(mut record) = MemoryRecord::holding(alloc, b"A") else {
         return check_answer(None, 0);
     };
-    plays(alloc, &mut record, script)?;
-    let Ok(boxed) = Box::new(alloc, other) else {
+    plays(alloc, &mut record, script)
+}
+
+/// A record in a box.
+fn boxed(alloc: Global) -> Option<Box<dyn StableRecord + Send>> {
+    let record = MemoryRecord::holding(alloc, b"A").ok()?;
+    let boxed: Box<dyn StableRecord + Send> = Box::new(alloc, record).ok()?;
+    Some(boxed)
+}
+
+/// The same of a record in a box.
+fn plays_in_a_box(alloc: Global, script: &str) -> Outcome {
+    let Some(mut record) = boxed(alloc) else {
         return check_answer(None, 0);
     };
-    let mut boxed: Box<dyn StableRecord + Send> = boxed;
-    plays(alloc, &mut *boxed, script)
+    plays(alloc, &mut *record, script)
 }
 
 #[test]
 fn kept_by_generic_code(rt: HostRuntime) -> Outcome {
     plays_in_memory(rt.alloc(), KEEPS)?;
+    plays_in_a_box(rt.alloc(), KEEPS)?;
     plays_faulty(rt.alloc(), 9, Leaves::Old, 0, KEEPS)?;
     check_answer(keeps_the_longest(rt.alloc()), 0)
 }
 
 /// Whether the longest record is kept, and one that is longer is refused and leaves it.
-fn keeps_the_longest(alloc: Global) -> Option<bool> {
-    let mut bytes = vec![in alloc; 7u8; MAX_RECORD_LEN].ok()?;
-    let mut record = MemoryRecord::holding(alloc, b"A").ok()?;
-    record.keep(&bytes).ok()?;
-    bytes.push(7).ok()?;
-    let refused = record.keep(&bytes);
+fn keeps_just(record: &mut MemoryRecord, longest: &mut Vec<u8>) -> Option<bool> {
+    record.keep(longest).ok()?;
+    longest.push(7).ok()?;
+    let refused = record.keep(longest) == Err(RecordFault::TooLong);
     let found = record.reopen().ok()?;
-    Some(refused == Err(RecordFault::TooLong) && found.len() == MAX_RECORD_LEN)
+    Some(refused && found.len() == MAX_RECORD_LEN)
+}
+
+fn keeps_the_longest(alloc: Global) -> Option<bool> {
+    let mut longest = vec![in alloc; 7u8; MAX_RECORD_LEN].ok()?;
+    let mut record = MemoryRecord::holding(alloc, b"A").ok()?;
+    keeps_just(&mut record, &mut longest)
 }

@@ -2,14 +2,17 @@
 //!
 //! It has no code but tests, and stands on the crates that it tests: messages, ballots, records,
 //! policies, voters, clients, guards and openings. Each file is named for what it shows. The rows of a
-//! table are lines of text that one function reads, one row after the other; a test that fails names the
-//! row, or says that memory was refused.
+//! table are constants, or lines of text that one function reads, one row after the other; a test that
+//! fails names the row, or says that memory was refused. What owns memory makes as few exits as it can,
+//! since each is dear to prove: it hands itself to a function that borrows it, and ends.
 #![tactic(auto)]
 
 #[cfg(test)]
 mod attempts;
 #[cfg(test)]
 mod ballots;
+#[cfg(test)]
+mod changes;
 #[cfg(test)]
 mod decisions;
 #[cfg(test)]
@@ -35,9 +38,13 @@ mod record_tables;
 #[cfg(test)]
 mod records;
 #[cfg(test)]
+mod replies;
+#[cfg(test)]
 mod restarts;
 #[cfg(test)]
 mod rows;
+#[cfg(test)]
+mod scripts;
 #[cfg(test)]
 mod switches;
 #[cfg(test)]

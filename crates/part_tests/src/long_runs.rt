@@ -3,17 +3,17 @@
 
 ghost use Rattle.std.specs.Prelude.{◌≤◌};
 
-use crate::decisions::new_core;
-use crate::nodes::{keeps, risen, same_step, speaks, takes};
-use crate::pairs::plain;
-use crate::switches::{entries_of, other, switched};
-use lock_messages::{Attempt, ClientId, Message, Mode, NodeId, ResourceName, Ticket};
+use crate::nodes::{keeps, new_core, same_step, speaks, takes};
+use crate::replies::Replies;
+use crate::rows::{release, ticket};
+use crate::switches::{crowded_node, entries_of, other, switched};
+use lock_messages::{Message, Mode, NodeId, ResourceName};
 use lock_model::{Entry, Live, Problem, Status};
 use rand_core::utils::NextWord;
 use rand_pcg::Pcg32;
 use stable_record::{Line, ResourceIndex};
 use std::alloc::Global;
-use test_outcomes::{Outcome, check_answer};
+use test_outcomes::{Outcome, check_answers};
 use voter_core::NodeCore;
 
 /// The seed of the messages.
@@ -34,23 +34,15 @@ fn request(client: u32, attempt: u64, mode: u32, resource: u32) -> Option<Messag
         2 => b"b",
         _ => b"c",
     };
-    let ticket = Ticket {
-        client: ClientId::of(client)?,
-        attempt: Attempt::of(attempt)?,
-        mode,
-        resource: ResourceName::of(name)?,
-    };
-    Some(Message::Request(NodeId::of(1)?, ticket))
+    let ticket = ticket(client, attempt, mode, name)?;
+    Some(Message::Request(NodeId::of(1).unwrap(), ticket))
 }
 
-fn release(client: u32, attempt: u64) -> Option<Message> {
-    let (client, attempt) = (ClientId::of(client)?, Attempt::of(attempt)?);
-    Some(Message::Release(NodeId::of(1)?, client, attempt))
-}
-
+/// The softening of an attempt of a client, to n1.
 fn soften(client: u32, attempt: u64) -> Option<Message> {
-    let (client, attempt) = (ClientId::of(client)?, Attempt::of(attempt)?);
-    Some(Message::Soften(NodeId::of(1)?, client, attempt))
+    let ticket = ticket(client, attempt, Mode::Read, b"a")?;
+    let node = NodeId::of(1).unwrap();
+    Some(Message::Soften(node, ticket.client, ticket.attempt))
 }
 
 /// Some message of 20 clients about 3 resources: of one of the next three attempts.
@@ -69,26 +61,36 @@ fn some_message(words: &mut Pcg32, last: u64) -> Option<Message> {
 
 /// Whether the core and the plain decision agree on the same 2,000 messages, of which a few soften a
 /// ticket.
-fn agrees(alloc: Global, problem: Problem) -> Option<bool> {
-    let mut core = new_core(alloc, problem)?;
+fn agree(
+    alloc: Global,
+    problem: Problem,
+    core: &mut NodeCore,
+    entries: &mut Vec<Entry>,
+) -> Option<bool> {
     let mut words = Pcg32::new(SEED, 1);
-    let mut entries: Vec<Entry> = Vec::new(alloc);
     let mut softened = 0u32;
     for turn in 0..2_000u64 {
         let message = some_message(&mut words, turn / 100)?;
-        let decision = same_step(alloc, problem, &mut core, &entries, &message)?;
-        if decision.changed && matches!(message, Message::Soften(..)) {
+        let changed = same_step(alloc, problem, core, entries, &message, &Replies::Any)?;
+        if changed && matches!(message, Message::Soften(..)) {
             softened = softened.saturating_add(1);
         }
-        entries = decision.entries;
     }
     Some(softened >= 20)
 }
 
+fn agrees(alloc: Global, problem: Problem) -> Option<bool> {
+    let mut core = new_core(alloc, problem)?;
+    let mut entries = Vec::new(alloc);
+    agree(alloc, problem, &mut core, &mut entries)
+}
+
 #[test]
 fn long_runs_as_plain(rt: HostRuntime) -> Outcome {
-    check_answer(agrees(rt.alloc(), Problem::First), 1)?;
-    check_answer(agrees(rt.alloc(), Problem::Second), 2)
+    check_answers(&[
+        agrees(rt.alloc(), Problem::First),
+        agrees(rt.alloc(), Problem::Second),
+    ])
 }
 
 /// Whether both have the same tickets.
@@ -108,105 +110,117 @@ fn same_line(one: &ResourceIndex, other: &ResourceIndex, resource: &ResourceName
     }
 }
 
-/// Whether the index that the core keeps is that of its record, at each resource from `a` to `h`.
-pub(crate) fn keeps_its_index(alloc: Global, core: &NodeCore) -> Option<bool> {
-    let fresh = ResourceIndex::of(alloc, core.record()).ok()?;
+/// Whether both have the same line of each resource from `a` to `h`, or none.
+fn same_lines(one: &ResourceIndex, other: &ResourceIndex) -> Option<bool> {
     for letter in b"abcdefgh" {
-        if !same_line(core.index(), &fresh, &ResourceName::of(&[*letter])?) {
+        if !same_line(one, other, &ResourceName::of(&[*letter])?) {
             return Some(false);
         }
     }
     Some(true)
 }
 
+/// Whether the index that the core keeps is that of its record, at each resource from `a` to `h`.
+pub(crate) fn keeps_its_index(alloc: Global, core: &NodeCore) -> Option<bool> {
+    let fresh = ResourceIndex::of(alloc, core.record()).ok()?;
+    same_lines(core.index(), &fresh)
+}
+
+/// Takes a message, keeps it and replies.
+fn goes_on(core: &mut NodeCore, message: &Message) -> Option<()> {
+    takes(core, message)?;
+    keeps(core);
+    speaks(core).and(Some(()))
+}
+
 /// Whether the index goes along with the entries over the same 2,000 messages.
-fn goes_along(alloc: Global, problem: Problem) -> Option<bool> {
-    let mut core = new_core(alloc, problem)?;
+fn goes_along(alloc: Global, core: &mut NodeCore) -> Option<bool> {
     let mut words = Pcg32::new(SEED, 1);
     for turn in 0..2_000u64 {
-        takes(&mut core, &some_message(&mut words, turn / 100)?)?;
-        keeps(&mut core);
-        speaks(&mut core)?;
-        if !keeps_its_index(alloc, &core)? {
+        goes_on(core, &some_message(&mut words, turn / 100)?)?;
+        if !keeps_its_index(alloc, core)? {
             return Some(false);
         }
     }
     Some(true)
+}
+
+fn index_goes_along(alloc: Global, problem: Problem) -> Option<bool> {
+    let mut core = new_core(alloc, problem)?;
+    goes_along(alloc, &mut core)
 }
 
 #[test]
 fn index_of_long_runs(rt: HostRuntime) -> Outcome {
-    check_answer(goes_along(rt.alloc(), Problem::First), 1)?;
-    check_answer(goes_along(rt.alloc(), Problem::Second), 2)
+    check_answers(&[
+        index_goes_along(rt.alloc(), Problem::First),
+        index_goes_along(rt.alloc(), Problem::Second),
+    ])
+}
+
+/// Takes a message by the plain decision, from the entries of the node's record, and by the core.
+fn same_turn(
+    alloc: Global,
+    problem: Problem,
+    core: &mut NodeCore,
+    message: &Message,
+) -> Option<bool> {
+    let mut entries = entries_of(alloc, core)?;
+    same_step(alloc, problem, core, &mut entries, message, &Replies::Any)
 }
 
 /// Whether a node goes on as the plain decision does over 2,000 messages, while every tenth turn gives it
 /// the next of both problems in turn; and its index goes along. Of the switches some let in a reader.
-fn agrees_through_switches(alloc: Global, first: Problem) -> Option<bool> {
-    let mut core = new_core(alloc, first)?;
+fn agree_through_switches(alloc: Global, core: &mut NodeCore, first: Problem) -> Option<bool> {
     let mut words = Pcg32::new(SEED, 1);
     let mut problem = first;
     let mut let_in = 0usize;
     for turn in 0..2_000u64 {
         let message = some_message(&mut words, turn / 100)?;
-        let entries = entries_of(alloc, &core)?;
-        same_step(alloc, problem, &mut core, &entries, &message)?;
+        same_turn(alloc, problem, core, &message)?;
         if turn % 10 == 9 {
             problem = other(problem);
-            let_in = let_in.saturating_add(switched(alloc, &mut core, problem)?);
+            let_in = let_in.saturating_add(switched(alloc, core, problem)?);
         }
     }
     Some(let_in >= 20)
 }
 
+fn agrees_through_switches(alloc: Global, first: Problem) -> Option<bool> {
+    let mut core = new_core(alloc, first)?;
+    agree_through_switches(alloc, &mut core, first)
+}
+
 #[test]
 fn long_runs_through_switches(rt: HostRuntime) -> Outcome {
-    check_answer(agrees_through_switches(rt.alloc(), Problem::First), 1)?;
-    check_answer(agrees_through_switches(rt.alloc(), Problem::Second), 2)
+    check_answers(&[
+        agrees_through_switches(rt.alloc(), Problem::First),
+        agrees_through_switches(rt.alloc(), Problem::Second),
+    ])
 }
 
 /// Whether a hundred readers of one resource come and go again, each with one reply.
-fn comes_and_goes(alloc: Global, problem: Problem) -> Option<bool> {
-    let mut core = new_core(alloc, problem)?;
-    let mut entries: Vec<Entry> = Vec::new(alloc);
+fn come_and_go(
+    alloc: Global,
+    problem: Problem,
+    core: &mut NodeCore,
+    entries: &mut Vec<Entry>,
+) -> Option<bool> {
     for number in 0..200u32 {
         let message = if number < 100 {
-            request(number + 1, 1, 0, 1)?
+            request(number + 1, 1, 0, 1)
         } else {
-            release(number - 99, 1)?
+            release(number - 99, 1)
         };
-        let decision = same_step(alloc, problem, &mut core, &entries, &message)?;
-        if decision.replies.len() != 1 {
-            return Some(false);
-        }
-        entries = decision.entries;
+        same_step(alloc, problem, core, entries, &message?, &Replies::One)?;
     }
     Some(entries.len() == 100)
 }
 
-/// The record of problem 1 in which c1 holds `a` as a writer, and c2 to c1024 wait for it as readers.
-fn record_of_waiters(alloc: Global) -> Option<Vec<u8>> {
-    let mut out = Vec::new(alloc);
-    out.extend_from_slice(&[1, 1, 4, 0]).ok()?;
-    for client in 1..=1_024u32 {
-        let (state, writes) = if client == 1 { (2, 1) } else { (1, 0) };
-        out.extend_from_slice(&client.to_be_bytes()).ok()?;
-        let held = [0, 0, 0, 0, 0, 0, 0, 0, state, 0, 0, 0, 0, 0, 0, 0, 1];
-        out.extend_from_slice(&held).ok()?;
-        out.extend_from_slice(&[writes, 1, b'a']).ok()?;
-    }
-    Some(out)
-}
-
-/// The client to which a reply is.
-fn is_to(reply: &Message, number: u32) -> bool {
-    match reply {
-        Message::Done(_, client, _) | Message::Softened(_, client, _) => {
-            number == 1 && client.get() == 1
-        }
-        Message::Grant(_, ticket) => number > 1 && ticket.client.get() == number,
-        _ => false,
-    }
+fn comes_and_goes(alloc: Global, problem: Problem) -> Option<bool> {
+    let mut core = new_core(alloc, problem)?;
+    let mut entries = Vec::new(alloc);
+    come_and_go(alloc, problem, &mut core, &mut entries)
 }
 
 /// Adds the entry of a client: c1 holds `a` as a writer, every other waits for it as a reader.
@@ -215,63 +229,55 @@ fn add_waiter(entries: &mut Vec<Entry>, number: u32) -> Option<()> {
         1 => (Mode::Write, Status::Holding),
         _ => (Mode::Read, Status::Waiting),
     };
+    let ticket = ticket(number, 1, mode, b"a")?;
     let live = Live {
-        attempt: Attempt::of(1)?,
+        attempt: ticket.attempt,
         mode,
-        resource: ResourceName::of(b"a")?,
+        resource: ticket.resource,
         status,
     };
     let entry = Entry {
-        client: ClientId::of(number)?,
+        client: ticket.client,
         floor: 0,
         live: Some(live),
     };
     entries.push(entry).ok()
 }
 
-/// The entries of that record.
-fn waiters(alloc: Global) -> Option<Vec<Entry>> {
-    let mut entries: Vec<Entry> = Vec::new(alloc);
+/// Adds the entries of c1 to c1024.
+fn add_waiters(entries: &mut Vec<Entry>) -> Option<()> {
     for number in 1..=1_024u32 {
-        add_waiter(&mut entries, number)?;
+        add_waiter(entries, number)?;
     }
-    Some(entries)
+    Some(())
 }
 
-/// Whether the replies are one to c1 and one to each of c2 to c1024, in this order.
-fn are_to_all(replies: &[Message]) -> bool {
-    for number in 1..=1_024u32 {
-        match replies.get(number as usize - 1) {
-            Some(reply) if is_to(reply, number) => {}
-            _ => return false,
-        }
-    }
-    replies.len() == 1_024
-}
-
-/// Whether c1's message is answered, and lets all others in.
+/// Whether c1's message is answered, and lets in all others in their order.
 fn lets_in(
     alloc: Global,
     core: &mut NodeCore,
-    entries: &[Entry],
+    entries: &mut Vec<Entry>,
     message: &Message,
 ) -> Option<bool> {
-    let decision = same_step(alloc, Problem::First, core, entries, message)?;
-    Some(are_to_all(&decision.replies))
+    add_waiters(entries)?;
+    let want = Replies::ToAll;
+    same_step(alloc, Problem::First, core, entries, message, &want)
 }
 
 /// Whether c1's message, by which it holds no longer or as a reader, lets in c2 to c1024, in this order.
 fn lets_all_in(alloc: Global, message: Option<Message>) -> Option<bool> {
-    let bytes = record_of_waiters(alloc)?;
-    let mut core = risen(alloc, &bytes, plain(alloc)?)?;
-    let entries = waiters(alloc)?;
-    lets_in(alloc, &mut core, &entries, &message?)
+    let message = message?;
+    let mut core = crowded_node(alloc, Problem::First)?;
+    let mut entries = Vec::new(alloc);
+    lets_in(alloc, &mut core, &mut entries, &message)
 }
 
 #[test]
 fn many_entries(rt: HostRuntime) -> Outcome {
-    check_answer(comes_and_goes(rt.alloc(), Problem::First), 1)?;
-    check_answer(comes_and_goes(rt.alloc(), Problem::Second), 2)?;
-    check_answer(lets_all_in(rt.alloc(), release(1, 1)), 3)?;
-    check_answer(lets_all_in(rt.alloc(), soften(1, 1)), 4)
+    check_answers(&[
+        comes_and_goes(rt.alloc(), Problem::First),
+        comes_and_goes(rt.alloc(), Problem::Second),
+        lets_all_in(rt.alloc(), release(1, 1)),
+        lets_all_in(rt.alloc(), soften(1, 1)),
+    ])
 }

@@ -1,10 +1,12 @@
 //! What the tests of nodes share: a node's core beside the plain decision.
 
-use crate::rows::bytes;
+use crate::pairs::plain;
+use crate::replies::{Replies, are};
+use crate::rows::{all, are_spelled, bytes, message};
 use admission_policy::Pair;
 use lock_messages::{Message, NodeId};
 use lock_model::{Decision, Entry, Problem, decide};
-use stable_record::{NodeRecord, read_node};
+use stable_record::{NodeRecord, node_bytes, read_node};
 use std::alloc::Global;
 use voter_core::{NodeCore, Phase};
 
@@ -39,31 +41,50 @@ pub(crate) const SOFTENED: &str = "01 01 0003 \
 
 /// n1 with this record.
 pub(crate) fn risen(alloc: Global, record: &[u8], policies: Pair) -> Option<NodeCore> {
-    match NodeCore::rise(alloc, NodeId::of(1)?, record, policies) {
+    match NodeCore::rise(alloc, NodeId::of(1).unwrap(), record, policies) {
         Ok(core) => Some(core),
         Err(_) => None,
     }
 }
 
+/// n1 with the record that a row spells, and plain policies.
+pub(crate) fn plain_node(alloc: Global, record: &str) -> Option<NodeCore> {
+    let record = bytes(alloc, record)?;
+    risen(alloc, &record, plain(alloc)?)
+}
+
+/// A node without entries, and with plain policies.
+pub(crate) fn new_core(alloc: Global, problem: Problem) -> Option<NodeCore> {
+    let record = match problem {
+        Problem::First => FIRST,
+        Problem::Second => SECOND,
+    };
+    risen(alloc, &record, plain(alloc)?)
+}
+
+/// Whether a record is written as these bytes.
+pub(crate) fn is_written_so(alloc: Global, node: &NodeRecord, bytes: &[u8]) -> Option<bool> {
+    let written = node_bytes(alloc, node).ok()?;
+    Some(written.as_slice() == bytes)
+}
+
 /// Whether the node's record is the one that the row spells.
 pub(crate) fn has_record(alloc: Global, core: &NodeCore, row: &str) -> Option<bool> {
-    let (found, want) = (core.next_bytes(alloc).ok()?, bytes(alloc, row)?);
-    Some(found.as_slice() == want.as_slice())
+    let found = core.next_bytes(alloc).ok()?;
+    are_spelled(alloc, &found, row)
 }
 
 /// Takes a message, and neither keeps the record nor replies. Whether it changes the record.
 pub(crate) fn takes(core: &mut NodeCore, message: &Message) -> Option<bool> {
-    let Phase::Idle = core.phase() else {
-        return None;
-    };
-    if !message.is_for_node(core.node()) {
-        return None;
+    if core.phase() == Phase::Idle && message.is_for_node(core.node()) {
+        core.take(message).ok()
+    } else {
+        None
     }
-    core.take(message).ok()
 }
 
 /// The problem of this number.
-pub(crate) fn problem(number: &str) -> Option<Problem> {
+fn problem(number: &str) -> Option<Problem> {
     match number {
         "1" => Some(Problem::First),
         "2" => Some(Problem::Second),
@@ -73,25 +94,35 @@ pub(crate) fn problem(number: &str) -> Option<Problem> {
 
 /// Takes a problem, and neither keeps the record nor replies. Whether it is another one.
 pub(crate) fn switches(core: &mut NodeCore, problem: Problem) -> Option<bool> {
-    let Phase::Idle = core.phase() else {
-        return None;
-    };
-    core.switch(problem).ok()
+    if core.phase() == Phase::Idle {
+        core.switch(problem).ok()
+    } else {
+        None
+    }
+}
+
+/// Makes a call, as `switch 1` or a message; whether the record changes.
+pub(crate) fn calls(core: &mut NodeCore, call: &str) -> Option<bool> {
+    match call.strip_prefix("switch ") {
+        Some(number) => switches(core, problem(number)?),
+        None => takes(core, &message(call)?),
+    }
 }
 
 /// Keeps a decided record.
 pub(crate) fn keeps(core: &mut NodeCore) {
-    if let Phase::Decided = core.phase() {
+    if core.phase() == Phase::Decided {
         core.kept();
     }
 }
 
 /// Says the replies.
 pub(crate) fn speaks(core: &mut NodeCore) -> Option<Vec<Message>> {
-    let Phase::Stored = core.phase() else {
-        return None;
-    };
-    Some(core.speak())
+    if core.phase() == Phase::Stored {
+        Some(core.speak())
+    } else {
+        None
+    }
 }
 
 /// Whether the record has these entries.
@@ -104,9 +135,15 @@ fn has_entries(record: &NodeRecord, entries: &[Entry]) -> bool {
     record.entries.len() == entries.len()
 }
 
+/// The record of a node, as it is read again.
+pub(crate) fn read_again(alloc: Global, core: &NodeCore) -> Option<NodeRecord> {
+    let bytes = core.next_bytes(alloc).ok()?;
+    read_node(alloc, &bytes).ok()
+}
+
 /// Whether the node's record has these entries.
 fn keeps_entries(alloc: Global, core: &NodeCore, entries: &[Entry]) -> Option<bool> {
-    let record = read_node(alloc, &core.next_bytes(alloc).ok()?).ok()?;
+    let record = read_again(alloc, core)?;
     Some(has_entries(&record, entries))
 }
 
@@ -117,27 +154,29 @@ fn is_same(
     message: &Message,
     plain: &Decision,
 ) -> Option<bool> {
-    let changed = takes(core, message)?;
+    let changed = takes(core, message)? == plain.changed;
     keeps(core);
-    if changed != plain.changed || speaks(core)?.as_slice() != plain.replies.as_slice() {
-        return Some(false);
-    }
-    keeps_entries(alloc, core, &plain.entries)
+    let said = speaks(core)?.as_slice() == plain.replies.as_slice();
+    Some(changed && said && keeps_entries(alloc, core, &plain.entries)?)
 }
 
-/// What the plain decision makes of a message; none where the core differs in something.
+/// Takes a message by the plain decision and by a core. Whether the entries change; none where the core
+/// differs in something, or the replies aren't those that are wanted.
 pub(crate) fn same_step(
     alloc: Global,
     problem: Problem,
     core: &mut NodeCore,
-    entries: &[Entry],
+    entries: &mut Vec<Entry>,
     message: &Message,
-) -> Option<Decision> {
+    want: &Replies,
+) -> Option<bool> {
     let plain = decide(alloc, problem, entries, message).ok()?;
-    let differs = plain.entries.as_slice() != entries;
-    if is_same(alloc, core, message, &plain) == Some(true) && plain.changed == differs {
-        Some(plain)
-    } else {
-        None
-    }
+    let changed = plain.entries.as_slice() != entries.as_slice();
+    let right = all(&[
+        is_same(alloc, core, message, &plain),
+        are(alloc, &plain.replies, want),
+        Some(plain.changed == changed),
+    ]);
+    *entries = plain.entries;
+    (right == Some(true)).then_some(changed)
 }

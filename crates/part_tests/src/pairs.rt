@@ -1,11 +1,10 @@
 //! Pairs of policies: the half that is asked, and the half that is told.
 
-use crate::nodes::problem;
-use crate::tables::{Table, each};
+use crate::rows::all;
 use admission_policy::{Admission, Counted, FirstProblem, Pair, SecondProblem};
 use lock_model::Problem;
 use std::alloc::Global;
-use test_outcomes::Outcome;
+use test_outcomes::{Outcome, check_answer, check_answers};
 
 /// The plain policies of both problems.
 pub(crate) fn plain(alloc: Global) -> Option<Pair> {
@@ -29,102 +28,121 @@ pub(crate) fn counting(alloc: Global) -> Option<Pair> {
     Some(Pair::of(first, second))
 }
 
-/// How many readers a half has counted, in a word as `2,1`: admitted, and waiting.
-fn counted(word: &str) -> Option<(u64, u64)> {
-    let (admitted, waiting) = word.split_once(',')?;
-    Some((admitted.parse().ok()?, waiting.parse().ok()?))
-}
+/// How many readers a half has counted: admitted, and waiting.
+pub(crate) type Tally = (u64, u64);
 
 /// Whether a half has counted so much; one without a policy counts nothing.
-fn half_has_counted(half: &Option<Box<dyn Admission + Send>>, tally: (u64, u64)) -> bool {
+fn half_has_counted(half: &Option<Box<dyn Admission + Send>>, tally: Tally) -> bool {
     match half {
         Some(policy) => policy.tally() == tally,
         None => tally == (0, 0),
     }
 }
 
-/// Whether the halves have counted what a row as `2,1 0,0` says, the first half's before the second's.
-pub(crate) fn has_counted(pair: &Pair, row: &str) -> Option<bool> {
-    let (first, second) = row.split_once(' ')?;
-    let (first, second) = (counted(first)?, counted(second)?);
-    let halves = half_has_counted(&pair.first, first) && half_has_counted(&pair.second, second);
-    Some(halves && pair.tally(Problem::First) == first && pair.tally(Problem::Second) == second)
+/// Whether the halves have counted so much, the first half and the second.
+pub(crate) fn has_counted(pair: &Pair, (first, second): (Tally, Tally)) -> bool {
+    half_has_counted(&pair.first, first)
+        && half_has_counted(&pair.second, second)
+        && pair.tally(Problem::First) == first
+        && pair.tally(Problem::Second) == second
 }
 
-/// Tells a pair what a word says, as `1+` of a reader that is admitted under problem 1, or `2-` of one
+/// Tells a pair what each word says, as `1+` of a reader that is admitted under problem 1, or `2-` of one
 /// that waits under problem 2.
-fn tell(pair: &mut Pair, word: &str) -> Option<()> {
-    match word.strip_suffix('+') {
-        Some(number) => pair.note(problem(number)?, true),
-        None => pair.note(problem(word.strip_suffix('-')?)?, false),
-    }
-    Some(())
-}
-
-/// Tells a pair what each word says.
-pub(crate) fn tell_all(pair: &mut Pair, words: &str) -> Option<()> {
+pub(crate) fn tell_all(pair: &mut Pair, words: &str) {
     for word in words.split(' ') {
-        tell(pair, word)?;
+        let problem = if word.starts_with('1') {
+            Problem::First
+        } else {
+            Problem::Second
+        };
+        pair.note(problem, word.ends_with('+'));
     }
-    Some(())
 }
 
-/// Whether a counting pair that is told a row's words has then counted what the row says, and one of plain
-/// policies or of none nothing.
-pub(crate) fn counts(alloc: Global, row: &str) -> Option<bool> {
-    let (words, want) = row.split_once(" > ")?;
-    let (mut one, mut other) = (counting(alloc)?, plain(alloc)?);
-    tell_all(&mut one, words)?;
-    tell_all(&mut other, words)?;
-    let mut none = without();
-    tell_all(&mut none, words)?;
-    let others = has_counted(&other, "0,0 0,0")? && has_counted(&none, "0,0 0,0")?;
-    Some(has_counted(&one, want)? && others)
+/// Whether a pair that is told these words has then counted so much.
+fn counts(pair: &mut Pair, words: &str, want: (Tally, Tally)) -> bool {
+    tell_all(pair, words);
+    has_counted(pair, want)
 }
 
-const TOLD: &str = "\
-1+ > 1,0 0,0
-1- > 0,1 0,0
-2+ > 0,0 1,0
-2- > 0,0 0,1
-1+ 2- 1+ 2- 1- > 2,1 0,2
-2+ 2+ 1- 2+ 2- > 0,1 3,1";
-
-/// Whether a pair that is asked of a problem, of a writer that holds and of one that waits answers as a row
-/// says, and counts nothing of it.
-fn is_answered(pair: &Pair, row: &str) -> Option<bool> {
-    let mut words = row.split(' ');
-    let problem = problem(words.next()?)?;
-    let holds = words.next()? == "held";
-    let waits = words.next()? == "waited";
-    let admits = words.next()? == "admits";
-    Some(pair.admits(problem, holds, waits) == admits && has_counted(pair, "0,0 0,0")?)
+fn counting_counts(alloc: Global, words: &str, want: (Tally, Tally)) -> Option<bool> {
+    let mut pair = counting(alloc)?;
+    Some(counts(&mut pair, words, want))
 }
 
-/// The same of a plain pair, of one that counts, and of one without policies.
-pub(crate) fn answers(alloc: Global, row: &str) -> Option<bool> {
-    let (one, other) = (plain(alloc)?, counting(alloc)?);
-    let pairs = is_answered(&one, row)? && is_answered(&other, row)?;
-    Some(pairs && is_answered(&without(), row)?)
+fn plain_counts(alloc: Global, words: &str, want: (Tally, Tally)) -> Option<bool> {
+    let mut pair = plain(alloc)?;
+    Some(counts(&mut pair, words, want))
 }
 
-// The problem, whether a writer holds, whether one waits, and what becomes of a reader.
-const ASKED: &str = "\
-1 free free admits
-1 free waited admits
-1 held free refuses
-1 held waited refuses
-2 free free admits
-2 free waited refuses
-2 held free refuses
-2 held waited refuses";
+/// Whether a counting pair counts what it is told, and one of plain policies or of none nothing.
+fn told(alloc: Global, words: &str, want: (Tally, Tally)) -> Option<bool> {
+    let nothing = ((0, 0), (0, 0));
+    all(&[
+        counting_counts(alloc, words, want),
+        plain_counts(alloc, words, nothing),
+        Some(counts(&mut without(), words, nothing)),
+    ])
+}
+
+// What is told, and what is counted then of each problem.
+const TOLD: [(&str, (Tally, Tally)); 6] = [
+    ("1+", ((1, 0), (0, 0))),
+    ("1-", ((0, 1), (0, 0))),
+    ("2+", ((0, 0), (1, 0))),
+    ("2-", ((0, 0), (0, 1))),
+    ("1+ 2- 1+ 2- 1-", ((2, 1), (0, 2))),
+    ("2+ 2+ 1- 2+ 2-", ((0, 1), (3, 1))),
+];
+
+/// The problem, whether a writer holds, whether one waits, and whether a reader is admitted.
+type Asked = (Problem, bool, bool, bool);
+
+const ASKED: [Asked; 8] = [
+    (Problem::First, false, false, true),
+    (Problem::First, false, true, true),
+    (Problem::First, true, false, false),
+    (Problem::First, true, true, false),
+    (Problem::Second, false, false, true),
+    (Problem::Second, false, true, false),
+    (Problem::Second, true, false, false),
+    (Problem::Second, true, true, false),
+];
+
+/// Whether a pair that is asked answers as each row says, and counts nothing of it.
+fn answers(pair: &Pair) -> bool {
+    let mut right = true;
+    for row in &ASKED {
+        right &= pair.admits(row.0, row.1, row.2) == row.3;
+        right &= has_counted(pair, ((0, 0), (0, 0)));
+    }
+    right
+}
+
+fn plain_answers(alloc: Global) -> Option<bool> {
+    let pair = plain(alloc)?;
+    Some(answers(&pair))
+}
+
+fn counting_answers(alloc: Global) -> Option<bool> {
+    let pair = counting(alloc)?;
+    Some(answers(&pair))
+}
 
 #[test]
 fn asked_by_the_problem(rt: HostRuntime) -> Outcome {
-    each(rt.alloc(), Table::Asked, ASKED)
+    check_answers(&[
+        plain_answers(rt.alloc()),
+        counting_answers(rt.alloc()),
+        Some(answers(&without())),
+    ])
 }
 
 #[test]
 fn told_by_the_problem(rt: HostRuntime) -> Outcome {
-    each(rt.alloc(), Table::Told, TOLD)
+    for (number, row) in TOLD.iter().enumerate() {
+        check_answer(told(rt.alloc(), row.0, row.1), number)?;
+    }
+    Ok(())
 }

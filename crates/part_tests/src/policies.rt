@@ -3,15 +3,15 @@
 ghost use Rattle.std.specs.Prelude.{IfSome};
 ghost use Rattle.stable_record.specs.Records.{IsNodeRecord};
 
-use crate::nodes::{FIRST, SECOND, WRITER_WAITS, keeps, risen, speaks, switches, takes};
-use crate::pairs::{counting, has_counted, tell_all};
-use crate::rows::{bytes, message};
+use crate::nodes::{FIRST, SECOND, WRITER_WAITS, calls, keeps, risen, speaks, switches};
+use crate::pairs::{Tally, counting, has_counted, tell_all};
+use crate::rows::bytes;
 use admission_policy::{Admission, Counted, FirstProblem, Pair, SecondProblem};
 use lock_messages::NodeId;
 use lock_model::Problem;
 use stable_record::{IndexedRecord, read_node};
 use std::alloc::Global;
-use test_outcomes::{Outcome, check_answer};
+use test_outcomes::{Outcome, check_answer, check_answers};
 use voter_core::NodeCore;
 
 /// Whether this is a policy of the problem, by its number and its four answers, and has counted so
@@ -61,11 +61,13 @@ fn answers_by_the_rule(problem: Problem, number: u8) -> bool {
 }
 
 #[test]
-fn policies_by_their_rules(_rt: HostRuntime) -> Outcome {
-    check_answer(Some(plain_policies_count_nothing()), 0)?;
-    check_answer(Some(counts_count()), 1)?;
-    check_answer(Some(answers_by_the_rule(Problem::First, 1)), 2)?;
-    check_answer(Some(answers_by_the_rule(Problem::Second, 2)), 3)
+fn policies_by_their_rules() -> Outcome {
+    check_answers(&[
+        Some(plain_policies_count_nothing()),
+        Some(counts_count()),
+        Some(answers_by_the_rule(Problem::First, 1)),
+        Some(answers_by_the_rule(Problem::Second, 2)),
+    ])
 }
 
 /// The record that these bytes spell, with its index.
@@ -81,30 +83,6 @@ fn indexed(alloc: Global, record: &[u8]) -> Option<IndexedRecord>
     }
 }
 
-/// Calls `take` with a reader's request, `kept`, `speak`, `restart`, `restart_with`, and `switch` to each
-/// of the problems: the first so many of them.
-fn goes_on(alloc: Global, core: &mut NodeCore, record: &[u8], calls: u64) -> Option<()> {
-    if calls > 0 {
-        takes(core, &message("request n1 c1 1 read a")?)?;
-    }
-    if calls > 1 {
-        keeps(core);
-    }
-    if calls > 2 {
-        speaks(core)?;
-    }
-    if calls > 3 {
-        core.restart(record).ok()?;
-    }
-    if calls > 4 {
-        core.restart_with(indexed(alloc, record)?);
-    }
-    if calls > 5 {
-        switches_twice(core)?;
-    }
-    Some(())
-}
-
 /// Takes each of the problems, and keeps the second without a reply.
 fn switches_twice(core: &mut NodeCore) -> Option<()> {
     switches(core, Problem::First)?;
@@ -115,32 +93,71 @@ fn switches_twice(core: &mut NodeCore) -> Option<()> {
     Some(())
 }
 
+fn restarts_with(alloc: Global, core: &mut NodeCore, record: &[u8]) -> Option<()> {
+    core.restart_with(indexed(alloc, record)?);
+    Some(())
+}
+
+fn stores(core: &mut NodeCore) -> Option<()> {
+    keeps(core);
+    Some(())
+}
+
+/// Makes a call, by its place from 0: `take` with a reader's request, `kept`, `speak`, `restart`,
+/// `restart_with`, and `switch` to each of the problems.
+fn goes_on(alloc: Global, core: &mut NodeCore, record: &[u8], place: u64) -> Option<()> {
+    match place {
+        0 => calls(core, "request n1 c1 1 read a").and(Some(())),
+        1 => stores(core),
+        2 => speaks(core).and(Some(())),
+        3 => core.restart(record).ok(),
+        4 => restarts_with(alloc, core, record),
+        _ => switches_twice(core),
+    }
+}
+
+/// Makes the first so many of the calls.
+fn goes_so_far(alloc: Global, core: &mut NodeCore, record: &[u8], calls: u64) -> Option<()> {
+    for place in 0..calls {
+        goes_on(alloc, core, record, place)?;
+    }
+    Some(())
+}
+
+/// Policies that count, and were told of two readers that were admitted and one that waits, under each
+/// problem.
+fn told_before(alloc: Global) -> Option<Pair> {
+    let mut pair = counting(alloc)?;
+    tell_all(&mut pair, "1+ 1- 1+ 2+ 2- 2+");
+    Some(pair)
+}
+
+const TOLD_BEFORE: (Tally, Tally) = ((2, 1), (2, 1));
+
+/// Whether this is a pair of both problems that has counted so much.
+fn are_both(pair: &Pair, told: (Tally, Tally)) -> bool {
+    match (&pair.first, &pair.second) {
+        (Some(first), Some(second)) => {
+            is_of(first, 1, pair.tally(Problem::First))
+                && is_of(second, 2, pair.tally(Problem::Second))
+                && has_counted(pair, told)
+        }
+        _ => false,
+    }
+}
+
 /// Whether the policies that fall out of a node after these calls are those that rose with it, of which each
 /// was told before of two readers that were admitted and one that waits, and the one of the node's problem
 /// in the node of one reader.
 fn is_watched(alloc: Global, problem: u8, record: &[u8], calls: u64) -> Option<bool> {
-    let mut pair = counting(alloc)?;
-    tell_all(&mut pair, TOLD_BEFORE)?;
-    let mut core = risen(alloc, record, pair)?;
-    goes_on(alloc, &mut core, record, calls)?;
+    let mut core = risen(alloc, record, told_before(alloc)?)?;
+    let gone = goes_so_far(alloc, &mut core, record, calls);
     let told = match (calls, problem) {
-        (0, _) => "2,1 2,1",
-        (_, 1) => "3,1 2,1",
-        _ => "2,1 3,1",
+        (0, _) => TOLD_BEFORE,
+        (_, 1) => ((3, 1), (2, 1)),
+        _ => ((2, 1), (3, 1)),
     };
-    are_both(&core.fall(), told)
-}
-
-const TOLD_BEFORE: &str = "1+ 1- 1+ 2+ 2- 2+";
-
-/// Whether this is a pair of both problems that has counted so much.
-fn are_both(pair: &Pair, told: &str) -> Option<bool> {
-    let (Some(first), Some(second)) = (&pair.first, &pair.second) else {
-        return Some(false);
-    };
-    let right = is_of(first, 1, pair.tally(Problem::First))
-        && is_of(second, 2, pair.tally(Problem::Second));
-    Some(right && has_counted(pair, told)?)
+    gone.and(Some(are_both(&core.fall(), told)))
 }
 
 // Of these a policy is told of each new reader alone: once of c1, c3, c4, c6 and c7, and not of c5, which
@@ -166,7 +183,7 @@ request n1 c7 1 read b";
 /// Takes each message, and replies.
 fn runs(core: &mut NodeCore) -> Option<()> {
     for row in WATCHED.lines() {
-        takes(core, &message(row)?)?;
+        calls(core, row)?;
         keeps(core);
         speaks(core)?;
     }
@@ -175,32 +192,30 @@ fn runs(core: &mut NodeCore) -> Option<()> {
 
 /// Whether the policies were told so much in the run. c6 waits when it comes, and what lets it in later is
 /// not told; under problem 2 c3 does so too. All others are admitted.
-fn is_told(alloc: Global, record: &[u8], told: &str) -> Option<bool> {
+fn is_told(alloc: Global, record: &[u8], told: (Tally, Tally)) -> Option<bool> {
     let mut core = risen(alloc, record, counting(alloc)?)?;
-    runs(&mut core)?;
-    are_both(&core.fall(), told)
+    let run = runs(&mut core);
+    run.and(Some(are_both(&core.fall(), told)))
 }
 
 /// Whether a record is refused as unreadable, and the policies come back as they were.
 fn comes_back(alloc: Global, record: &[u8]) -> Option<bool> {
-    let mut pair = counting(alloc)?;
-    tell_all(&mut pair, TOLD_BEFORE)?;
-    let Err((back, found)) = NodeCore::rise(alloc, NodeId::of(1)?, record, pair) else {
-        return None;
-    };
-    match found.number() {
-        503 => None,
-        number => Some(number == 501 && are_both(&back, "2,1 2,1")?),
+    let pair = told_before(alloc)?;
+    match NodeCore::rise(alloc, NodeId::of(1).unwrap(), record, pair) {
+        Ok(_) => Some(false),
+        Err((back, found)) => match found.number() {
+            503 => None,
+            number => Some(number == 501 && are_both(&back, TOLD_BEFORE)),
+        },
     }
 }
 
 /// Whether a node that refuses a record at a restart has its policies as they were.
 fn stays(alloc: Global) -> Option<bool> {
-    let mut pair = counting(alloc)?;
-    tell_all(&mut pair, TOLD_BEFORE)?;
-    let mut core = risen(alloc, &bytes(alloc, WRITER_WAITS)?, pair)?;
+    let record = bytes(alloc, WRITER_WAITS)?;
+    let mut core = risen(alloc, &record, told_before(alloc)?)?;
     let refused = core.restart(&[3]).is_err();
-    Some(refused && are_both(&core.fall(), "2,1 2,1")?)
+    Some(refused && are_both(&core.fall(), TOLD_BEFORE))
 }
 
 #[test]
@@ -210,8 +225,10 @@ fn policies_watched_through_a_node(rt: HostRuntime) -> Outcome {
         check_answer(is_watched(alloc, 1, &FIRST, calls), calls as usize)?;
         check_answer(is_watched(alloc, 2, &SECOND, calls), calls as usize)?;
     }
-    check_answer(is_told(alloc, &FIRST, "4,1 0,0"), 11)?;
-    check_answer(is_told(alloc, &SECOND, "0,0 3,2"), 12)?;
-    check_answer(comes_back(alloc, &[1, 2, 0]), 21)?;
-    check_answer(stays(alloc), 22)
+    check_answers(&[
+        is_told(alloc, &FIRST, ((4, 1), (0, 0))),
+        is_told(alloc, &SECOND, ((0, 0), (3, 2))),
+        comes_back(alloc, &[1, 2, 0]),
+        stays(alloc),
+    ])
 }

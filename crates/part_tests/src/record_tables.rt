@@ -1,10 +1,11 @@
 //! Each change of one byte of a node's record against a plain reader of the table of fields.
 
-use crate::rows::{bytes, number, spells};
-use crate::tables::{Table, each};
-use stable_record::{node_bytes, read_node};
+use crate::changes::{Spelled, each_change};
+use crate::nodes::is_written_so;
+use crate::rows::{all, bytes, number, spells};
+use stable_record::read_node;
 use std::alloc::Global;
-use test_outcomes::Outcome;
+use test_outcomes::{Outcome, check_answers};
 
 // c1 holds `ab` as a writer, c2 waits for it as a reader, c3 has attempts up to 1 ended.
 const RECORD: &str = "01 01 0003 \
@@ -132,36 +133,41 @@ fn judged_all(policy: u64, rows: &[Row]) -> u16 {
     fault
 }
 
-/// The number of the fault that the table of fields finds in the bytes; 320 where memory is refused.
-fn by_the_table(alloc: Global, bytes: &[u8]) -> Result<u16, u16> {
+/// Adds the rows that the bytes spell, and answers the policy, or the first fault of their fields; 320
+/// where memory is refused.
+fn put_rows<'a>(bytes: &'a [u8], rows: &mut Vec<Row<'a>>) -> Result<u64, u16> {
     let (_, rest) = field(bytes, 1, (1, 1), 312)?;
     let (policy, rest) = field(rest, 1, (1, 2), 313)?;
     let (count, rest) = field(rest, 2, (0, 1_024), 314)?;
-    let mut rows = Vec::new(alloc);
     let mut rest = rest;
     for _ in 0..count {
-        let (row, behind) = entry(rest, &rows)?;
+        let (row, behind) = entry(rest, rows)?;
         let Ok(()) = rows.push(row) else {
             return Err(320);
         };
         rest = behind;
     }
-    if !rest.is_empty() {
-        return Err(319);
+    if rest.is_empty() {
+        Ok(policy)
+    } else {
+        Err(319)
     }
-    Ok(judged_all(policy, &rows))
+}
+
+/// The number of the fault that the table of fields finds in the bytes; 320 where memory is refused.
+fn by_the_table(alloc: Global, bytes: &[u8]) -> u16 {
+    let mut rows = Vec::new(alloc);
+    match put_rows(bytes, &mut rows) {
+        Ok(policy) => judged_all(policy, &rows),
+        Err(fault) => fault,
+    }
 }
 
 /// Whether the bytes are read as the table says; what is read is spelled so.
-fn agrees(alloc: Global, bytes: &[u8]) -> Option<bool> {
-    let want = match by_the_table(alloc, bytes) {
-        Ok(fault) | Err(fault) => fault,
-    };
+pub(crate) fn agrees(alloc: Global, bytes: &[u8]) -> Option<bool> {
+    let want = by_the_table(alloc, bytes);
     match read_node(alloc, bytes) {
-        Ok(node) => {
-            let written = node_bytes(alloc, &node).ok()?;
-            Some(want == 0 && written.as_slice() == bytes)
-        }
+        Ok(node) => all(&[Some(want == 0), is_written_so(alloc, &node, bytes)]),
         Err(fault) => match fault.number() {
             320 => None,
             found => Some(want == 320 || want == found),
@@ -170,22 +176,15 @@ fn agrees(alloc: Global, bytes: &[u8]) -> Option<bool> {
 }
 
 /// Whether the record is read as the table says with each byte changed to each other value.
-pub(crate) fn all_agree(alloc: Global, row: &str) -> Option<bool> {
-    let record = bytes(alloc, row)?;
-    for place in 0..record.len() {
-        for value in 0..=255u8 {
-            let mut bytes = record.to_vec(alloc).ok()?;
-            *bytes.get_mut(place)? = value;
-            if !agrees(alloc, &bytes)? {
-                return Some(false);
-            }
-        }
-    }
-    Some(true)
+fn all_agree(alloc: Global, row: &str) -> Option<bool> {
+    let mut record = bytes(alloc, row)?;
+    each_change(alloc, Spelled::Record, &mut record)
 }
 
 #[test]
 fn changed_records_read_by_the_table(rt: HostRuntime) -> Outcome {
-    each(rt.alloc(), Table::ChangedRecords, RECORD)?;
-    each(rt.alloc(), Table::ChangedRecords, SOFTENED_RECORD)
+    check_answers(&[
+        all_agree(rt.alloc(), RECORD),
+        all_agree(rt.alloc(), SOFTENED_RECORD),
+    ])
 }

@@ -1,15 +1,14 @@
 //! Node and client records against bytes that were written by hand, and entries.
 
-use crate::nodes::{SETTLED, SOFTENED, WRITER_WAITS};
-use crate::rows::{bytes, message};
-use crate::tables::{Table, each};
-use lock_messages::{ClientId, Message, Mode, ResourceName};
+use crate::nodes::{SETTLED, SOFTENED, WRITER_WAITS, is_written_so};
+use crate::rows::{all, bytes, put_entry, ticket};
+use lock_messages::{ClientId, Mode, ResourceName, Ticket};
 use lock_model::Problem;
 use stable_record::{
-    Entries, Entry, Live, RecordFault, Status, client_bytes, node_bytes, read_client, read_node,
+    Entries, Entry, Live, NodeRecord, RecordFault, Status, client_bytes, read_client, read_node,
 };
 use std::alloc::Global;
-use test_outcomes::{Outcome, check_answer};
+use test_outcomes::{Outcome, check_answer, check_answers};
 
 /// The number of the fault that reading a node's record finds; 0 where it finds none.
 fn fault_of(alloc: Global, bytes: &[u8]) -> Option<u16> {
@@ -50,155 +49,195 @@ const SOFTENED_RECORDS: &str = "\
 318 01 02 0002 00000001 0000000000000000 03 0000000000000001 00 01 61 00000002 0000000000000000 01 0000000000000001 00 01 61
 319 01 01 0001 00000001 0000000000000000 03 0000000000000001 00 01 61 00";
 
-pub(crate) fn is_faulty(alloc: Global, row: &str) -> Option<bool> {
+/// Whether these bytes have this fault.
+fn has_fault(alloc: Global, bytes: &[u8], want: u16) -> Option<bool> {
+    Some(fault_of(alloc, bytes)? == want)
+}
+
+/// Whether the bytes of a row have its fault.
+fn is_faulty(alloc: Global, row: &str) -> Option<bool> {
     let (want, spelled) = row.split_once(' ')?;
-    Some(want.parse() == Ok(fault_of(alloc, &bytes(alloc, spelled)?)?))
+    let record = bytes(alloc, spelled)?;
+    has_fault(alloc, &record, want.parse().unwrap_or(u16::MAX))
+}
+
+fn are_faulty(alloc: Global, rows: &str) -> Outcome {
+    for (number, row) in rows.lines().enumerate() {
+        check_answer(is_faulty(alloc, row), number)?;
+    }
+    Ok(())
 }
 
 // A place in the record in which a writer waits, another byte there, and the fault.
-const CHANGES: &str = "\
-1 01 318
-2 05 314
-3 04 311
-3 02 319
-16 03 0
-16 04 314
-31 00 314
-31 01 315
-30 04 314
-34 01 314
-39 01 316
-40 03 314
-42 01 314
-48 00 314
-48 02 316
-49 02 314
-50 00 314
-50 21 314
-51 41 314
-51 62 318
-40 02 317
-64 03 0
-64 04 314
-73 01 0
-73 00 0";
+const CHANGES: [(usize, u8, u16); 25] = [
+    (1, 0x01, 318),
+    (2, 0x05, 314),
+    (3, 0x04, 311),
+    (3, 0x02, 319),
+    (16, 0x03, 0),
+    (16, 0x04, 314),
+    (31, 0x00, 314),
+    (31, 0x01, 315),
+    (30, 0x04, 314),
+    (34, 0x01, 314),
+    (39, 0x01, 316),
+    (40, 0x03, 314),
+    (42, 0x01, 314),
+    (48, 0x00, 314),
+    (48, 0x02, 316),
+    (49, 0x02, 314),
+    (50, 0x00, 314),
+    (50, 0x21, 314),
+    (51, 0x41, 314),
+    (51, 0x62, 318),
+    (40, 0x02, 317),
+    (64, 0x03, 0),
+    (64, 0x04, 314),
+    (73, 0x01, 0),
+    (73, 0x00, 0),
+];
 
-/// The fault of the record with this byte at that place.
-fn fault_with(alloc: Global, place: usize, byte: u8) -> Option<u16> {
-    let mut record = bytes(alloc, WRITER_WAITS)?;
+/// Whether the record has this fault with this byte at that place.
+fn is_changed(
+    alloc: Global,
+    record: &mut [u8],
+    (place, byte, fault): (usize, u8, u16),
+) -> Option<bool> {
+    let before = *record.get(place)?;
     *record.get_mut(place)? = byte;
-    fault_of(alloc, &record)
+    let right = has_fault(alloc, record, fault);
+    *record.get_mut(place)? = before;
+    right
 }
 
-pub(crate) fn is_changed(alloc: Global, row: &str) -> Option<bool> {
-    let (place, rest) = row.split_once(' ')?;
-    let (byte, want) = rest.split_once(' ')?;
-    let byte = u8::from_str_radix(byte, 16).ok()?;
-    let found = fault_with(alloc, place.parse().ok()?, byte)?;
-    Some(want.parse() == Ok(found))
+fn are_changed(alloc: Global, record: &mut [u8]) -> Outcome {
+    for (number, row) in CHANGES.iter().enumerate() {
+        check_answer(is_changed(alloc, record, *row), number)?;
+    }
+    Ok(())
 }
 
-/// Whether each beginning of a record is short.
-pub(crate) fn begins_short(alloc: Global, record: &str) -> Option<bool> {
-    let record = bytes(alloc, record)?;
+/// Whether the record in which a writer waits has the fault of each change.
+fn all_are_changed(alloc: Global) -> Outcome {
+    match bytes(alloc, WRITER_WAITS) {
+        Some(record) => {
+            let mut record = record;
+            are_changed(alloc, &mut record)
+        }
+        None => check_answer(None, 0),
+    }
+}
+
+/// Whether each beginning of these bytes is short.
+fn begin_short(alloc: Global, record: &[u8]) -> Option<bool> {
     for end in 0..record.len() {
-        if fault_of(alloc, record.get(..end)?)? != 311 {
+        if !has_fault(alloc, record.get(..end)?, 311)? {
             return Some(false);
         }
     }
     Some(true)
 }
 
+/// Whether each beginning of a record is short.
+fn begins_short(alloc: Global, record: &str) -> Option<bool> {
+    let record = bytes(alloc, record)?;
+    begin_short(alloc, &record)
+}
+
 #[test]
 fn node_record_faults(rt: HostRuntime) -> Outcome {
-    each(rt.alloc(), Table::RecordFaults, NODE_RECORDS)?;
-    each(rt.alloc(), Table::RecordFaults, SOFTENED_RECORDS)?;
-    each(rt.alloc(), Table::RecordFields, CHANGES)?;
-    each(rt.alloc(), Table::ShortRecords, WRITER_WAITS)?;
-    each(rt.alloc(), Table::ShortRecords, SOFTENED)
+    are_faulty(rt.alloc(), NODE_RECORDS)?;
+    are_faulty(rt.alloc(), SOFTENED_RECORDS)?;
+    all_are_changed(rt.alloc())?;
+    check_answers(&[
+        begins_short(rt.alloc(), WRITER_WAITS),
+        begins_short(rt.alloc(), SOFTENED),
+    ])
 }
 
-/// Whether a record of so many entries is read, is lawful and caused, and is written again.
+/// Whether a record has so many entries, is lawful and caused, and is written as these bytes.
+fn is_written(alloc: Global, node: &NodeRecord, bytes: &[u8], entries: usize) -> Option<bool> {
+    let is_good = node.entries.len() == entries && node.lawful() && node.caused();
+    Some(is_good && is_written_so(alloc, node, bytes)?)
+}
+
+/// Whether these bytes are a record of so many entries, and are written again.
 fn goes_there_and_back(alloc: Global, bytes: &[u8], entries: usize) -> Option<bool> {
     let node = read_node(alloc, bytes).ok()?;
-    let written = node_bytes(alloc, &node).ok()?;
-    let is_good = node.entries.len() == entries && node.lawful() && node.caused();
-    Some(is_good && written.as_slice() == bytes)
+    is_written(alloc, &node, bytes, entries)
 }
 
-/// Whether the record of a row, which has three entries, is written again.
-pub(crate) fn is_written_again(alloc: Global, row: &str) -> Option<bool> {
-    goes_there_and_back(alloc, &bytes(alloc, row)?, 3)
+/// Whether the record that is spelled so, which has three entries, is written again.
+fn is_written_again(alloc: Global, spelled: &str) -> Option<bool> {
+    let record = bytes(alloc, spelled)?;
+    goes_there_and_back(alloc, &record, 3)
 }
 
-/// The record of problem 1 in which so many clients read the same resource in their last attempt.
-fn record_of(alloc: Global, clients: u16) -> Option<Vec<u8>> {
-    let mut out = Vec::new(alloc);
+/// Adds the record of problem 1 in which so many clients read the same resource in their last attempt.
+fn put_readers(out: &mut Vec<u8>, clients: u16) -> Option<()> {
     out.extend_from_slice(&[1, 1]).ok()?;
     out.extend_from_slice(&clients.to_be_bytes()).ok()?;
     for client in 1..=clients {
-        out.extend_from_slice(&(client as u32).to_be_bytes()).ok()?;
-        out.extend_from_slice(&999_999_999_999u64.to_be_bytes())
-            .ok()?;
-        out.push(2).ok()?;
-        out.extend_from_slice(&1_000_000_000_000u64.to_be_bytes())
-            .ok()?;
-        out.extend_from_slice(&[0, 32]).ok()?;
-        out.extend_from_slice(&[b'z'; 32]).ok()?;
+        put_entry(out, client as u32, 1_000_000_000_000, (2, 0), &[b'z'; 32])?;
     }
-    Some(out)
+    Some(())
 }
 
 /// Whether a record of so many entries has the size that it is to have, and goes there and back.
 fn has_size(alloc: Global, clients: u16) -> Option<bool> {
-    let record = record_of(alloc, clients)?;
     let entries = clients as usize;
-    Some(record.len() == 4 + 55 * entries && goes_there_and_back(alloc, &record, entries)?)
+    let mut record = Vec::new(alloc);
+    let put = put_readers(&mut record, clients);
+    all(&[
+        put.and(Some(record.len() == 4 + 55 * entries)),
+        goes_there_and_back(alloc, &record, entries),
+    ])
 }
 
 #[test]
 fn records_of_every_size(rt: HostRuntime) -> Outcome {
-    each(rt.alloc(), Table::WrittenAgain, WRITER_WAITS)?;
-    each(rt.alloc(), Table::WrittenAgain, SETTLED)?;
-    each(rt.alloc(), Table::WrittenAgain, SOFTENED)?;
-    for clients in [0, 1, 2, 100, 1_024u16] {
-        check_answer(has_size(rt.alloc(), clients), clients as usize)?;
-    }
-    Ok(())
+    let alloc = rt.alloc();
+    check_answers(&[
+        is_written_again(alloc, WRITER_WAITS),
+        is_written_again(alloc, SETTLED),
+        is_written_again(alloc, SOFTENED),
+        has_size(alloc, 0),
+        has_size(alloc, 1),
+        has_size(alloc, 2),
+        has_size(alloc, 100),
+        has_size(alloc, 1_024),
+    ])
 }
 
-/// c7, which holds `a` as a reader.
-fn holder() -> Option<Entry> {
-    let Message::Grant(_, ticket) = message("grant n1 c7 1 read a")? else {
-        return None;
-    };
+/// The entry of a ticket that holds.
+fn holder(ticket: Ticket) -> Entry {
     let holds = Live {
         attempt: ticket.attempt,
         mode: ticket.mode,
         resource: ticket.resource,
         status: Status::Holding,
     };
-    Some(Entry {
+    Entry {
         client: ticket.client,
         floor: 0,
         live: Some(holds),
-    })
+    }
 }
 
 /// c3, which has no ticket.
-fn idler() -> Option<Entry> {
-    Some(Entry {
-        client: ClientId::of(3)?,
+fn idler() -> Entry {
+    Entry {
+        client: ClientId::of(3).unwrap(),
         floor: 0,
         live: None,
-    })
+    }
 }
 
-/// Pushes two entries, and answers how many of their clients were new.
-fn push_both(entries: &mut Entries, first: Entry, second: Entry) -> Option<u8> {
+/// Pushes two entries; whether so many of their clients were new.
+fn pushes(entries: &mut Entries, first: Entry, second: Entry, new: u8) -> Option<bool> {
     let one = entries.push(first).ok()?;
     let other = entries.push(second).ok()?;
-    Some(u8::from(one) + u8::from(other))
+    Some(u8::from(one) + u8::from(other) == new)
 }
 
 /// Whether these two are the entries, in this order.
@@ -211,21 +250,22 @@ fn are_these(entries: &Entries, first: Entry, second: Entry) -> bool {
         && entries.get(2).is_none()
 }
 
-/// Whether entries stand in the order in which they were pushed, each client once.
-fn are_in_order(alloc: Global) -> Option<bool> {
-    let (first, second) = (holder()?, idler()?);
-    let resource = first.live?.resource;
-    let mut entries = Entries::new(alloc);
-    let new = push_both(&mut entries, first, second)?;
-    let again = push_both(&mut entries, first, second)?;
-    let stand = are_these(&entries, first, second) && admits(&entries, &resource);
-    Some(new == 2 && again == 0 && stand)
-}
-
 /// Whether a reader, and no writer, is admitted.
 fn admits(entries: &Entries, resource: &ResourceName) -> bool {
     entries.admits(Problem::First, Mode::Read, resource)
         && !entries.admits(Problem::First, Mode::Write, resource)
+}
+
+/// Whether entries stand in the order in which they were pushed, each client once.
+fn are_in_order(alloc: Global) -> Option<bool> {
+    let ticket = ticket(7, 1, Mode::Read, b"a")?;
+    let (first, second) = (holder(ticket), idler());
+    let mut entries = Entries::new(alloc);
+    all(&[
+        pushes(&mut entries, first, second, 2),
+        pushes(&mut entries, first, second, 0),
+        Some(are_these(&entries, first, second) && admits(&entries, &ticket.resource)),
+    ])
 }
 
 #[test]
@@ -234,29 +274,33 @@ fn entries_in_order(rt: HostRuntime) -> Outcome {
 }
 
 // The attempt that a client's record has, or its fault.
-const CLIENT_RECORDS: &str = "\
-0 01 0000000000000000
-1000000000000 01 000000e8d4a51000
-321 01 000000e8d4a510
-321 01
-322 02
-323 01 000000e8d4a51001 00
-324 01 0000000000000000 00";
+const CLIENT_RECORDS: [(u64, &str); 7] = [
+    (0, "01 0000000000000000"),
+    (1_000_000_000_000, "01 000000e8d4a51000"),
+    (321, "01 000000e8d4a510"),
+    (321, "01"),
+    (322, "02"),
+    (323, "01 000000e8d4a51001 00"),
+    (324, "01 0000000000000000 00"),
+];
 
-pub(crate) fn is_read(alloc: Global, row: &str) -> Option<bool> {
-    let (want, spelled) = row.split_once(' ')?;
-    let found = match read_client(&bytes(alloc, spelled)?) {
+fn is_read(alloc: Global, spelled: &str, want: u64) -> Option<bool> {
+    let record = bytes(alloc, spelled)?;
+    let found = match read_client(&record) {
         Ok(attempt) => attempt,
         Err(fault) => fault.number() as u64,
     };
-    Some(want.parse() == Ok(found))
+    Some(want == found)
 }
 
 #[test]
 fn client_records(rt: HostRuntime) -> Outcome {
-    each(rt.alloc(), Table::ClientRecords, CLIENT_RECORDS)?;
-    let (first, last) = (client_bytes(0), client_bytes(1_000_000_000_000));
-    check_answer(Some(first == [1, 0, 0, 0, 0, 0, 0, 0, 0]), 7)?;
-    check_answer(Some(last == [1, 0, 0, 0, 0xe8, 0xd4, 0xa5, 0x10, 0]), 8)?;
-    check_answer(Some(read_client(&[]).is_err()), 9)
+    for (number, row) in CLIENT_RECORDS.iter().enumerate() {
+        check_answer(is_read(rt.alloc(), row.1, row.0), number)?;
+    }
+    check_answers(&[
+        Some(client_bytes(0) == [1, 0, 0, 0, 0, 0, 0, 0, 0]),
+        Some(client_bytes(1_000_000_000_000) == [1, 0, 0, 0, 0xe8, 0xd4, 0xa5, 0x10, 0]),
+        Some(read_client(&[]).is_err()),
+    ])
 }

@@ -62,33 +62,74 @@ pub(crate) fn message(row: &str) -> Option<Message> {
     with_ticket(kind, node, ticket)
 }
 
-/// The release of a client's attempt, to n1.
+/// The ticket of a client's attempt.
+pub(crate) fn ticket(client: u32, attempt: u64, mode: Mode, name: &[u8]) -> Option<Ticket> {
+    Some(Ticket {
+        client: ClientId::of(client)?,
+        attempt: Attempt::of(attempt)?,
+        mode,
+        resource: ResourceName::of(name)?,
+    })
+}
+
+/// The release of an attempt of a client, to n1.
 pub(crate) fn release(client: u32, attempt: u64) -> Option<Message> {
     let (client, attempt) = (ClientId::of(client)?, Attempt::of(attempt)?);
-    Some(Message::Release(NodeId::of(1)?, client, attempt))
+    Some(Message::Release(NodeId::of(1).unwrap(), client, attempt))
+}
+
+/// Adds a field of so many bytes, that a word spells in hexadecimal digits.
+fn put_field(bytes: &mut Vec<u8>, word: &str) -> Option<()> {
+    let field = u64::from_str_radix(word, 16).ok()?.to_be_bytes();
+    let start = 8usize.saturating_sub(word.len() / 2);
+    bytes.extend_from_slice(field.get(start..)?).ok()
+}
+
+fn put_fields(bytes: &mut Vec<u8>, row: &str) -> Option<()> {
+    for word in row.split(' ') {
+        put_field(bytes, word)?;
+    }
+    Some(())
 }
 
 /// The bytes that a row spells: each word is a field, in hexadecimal digits.
 pub(crate) fn bytes(alloc: Global, row: &str) -> Option<Vec<u8>> {
     let mut bytes = Vec::new(alloc);
-    for word in row.split(' ') {
-        let field = u64::from_str_radix(word, 16).ok()?.to_be_bytes();
-        let start = 8usize.saturating_sub(word.len() / 2);
-        bytes.extend_from_slice(field.get(start..)?).ok()?;
-    }
-    Some(bytes)
+    put_fields(&mut bytes, row).and(Some(bytes))
 }
 
-/// The numbers of a word as `3,1,1`; none of a `-`.
-pub(crate) fn numbers(alloc: Global, word: &str) -> Option<Vec<u8>> {
-    let mut numbers = Vec::new(alloc);
-    if word == "-" {
-        return Some(numbers);
+/// Whether a row spells these bytes.
+pub(crate) fn are_spelled(alloc: Global, found: &[u8], row: &str) -> Option<bool> {
+    let want = bytes(alloc, row)?;
+    Some(found == want.as_slice())
+}
+
+/// Adds the entry of a client that has a ticket of this attempt, the one above its floor.
+pub(crate) fn put_entry(
+    bytes: &mut Vec<u8>,
+    client: u32,
+    attempt: u64,
+    (state, writes): (u8, u8),
+    name: &[u8],
+) -> Option<()> {
+    let length = u8::try_from(name.len()).ok()?;
+    let floor = attempt.saturating_sub(1);
+    bytes.extend_from_slice(&client.to_be_bytes()).ok()?;
+    bytes.extend_from_slice(&floor.to_be_bytes()).ok()?;
+    bytes.push(state).ok()?;
+    bytes.extend_from_slice(&attempt.to_be_bytes()).ok()?;
+    bytes.extend_from_slice(&[writes, length]).ok()?;
+    bytes.extend_from_slice(name).ok()
+}
+
+/// Whether all hold; the first answer that is another one, if one is.
+pub(crate) fn all(answers: &[Option<bool>]) -> Option<bool> {
+    for answer in answers {
+        if *answer != Some(true) {
+            return *answer;
+        }
     }
-    for number in word.split(',') {
-        numbers.push(number.parse().ok()?).ok()?;
-    }
-    Some(numbers)
+    Some(true)
 }
 
 /// The number that a field spells.

@@ -1,16 +1,15 @@
 //! A node that takes the other problem: whom it lets in, what it keeps, and what its policies count.
 
 use crate::long_runs::keeps_its_index;
-use crate::nodes::{
-    SWITCHED, WRITER_WAITS, has_record, keeps, problem, risen, speaks, switches, takes,
-};
+use crate::nodes::{SECOND, SWITCHED, WRITER_WAITS, keeps, read_again, risen, speaks, switches};
 use crate::pairs::{counting, has_counted, plain};
-use crate::rows::{bytes, message};
+use crate::rows::{all, put_entry};
+use crate::scripts::{Step, plays, plays_from};
 use lock_messages::{Message, Ticket};
 use lock_model::{Entry, Live, Problem, Status};
-use stable_record::{NodeRecord, read_node};
+use stable_record::NodeRecord;
 use std::alloc::Global;
-use test_outcomes::{Outcome, check_answer};
+use test_outcomes::{Outcome, check_answer, check_answers};
 use voter_core::NodeCore;
 
 /// The problem that this one is not.
@@ -21,52 +20,9 @@ pub(crate) fn other(problem: Problem) -> Problem {
     }
 }
 
-/// Makes a call, as `switch 1` or a message; whether the record changes.
-fn calls(core: &mut NodeCore, call: &str) -> Option<bool> {
-    match call.strip_prefix("switch ") {
-        Some(number) => switches(core, problem(number)?),
-        None => takes(core, &message(call)?),
-    }
-}
-
-/// What a call is answered: whether the record changes, what the node is about then, and its replies.
-fn answered(alloc: Global, core: &mut NodeCore, call: &str) -> Option<String> {
-    let mut shown = String::new(alloc);
-    let changed = if calls(core, call)? {
-        "changed"
-    } else {
-        "same"
-    };
-    let about = core.phase();
-    keeps(core);
-    write!(shown, "{changed} {about:?}").ok()?;
-    for reply in speaks(core)? {
-        write!(shown, ", {reply}").ok()?;
-    }
-    Some(shown)
-}
-
-/// Whether the call of a row is answered as the row says.
-fn goes(alloc: Global, core: &mut NodeCore, row: &str) -> Option<bool> {
-    let (call, want) = row.split_once(" > ")?;
-    let shown = answered(alloc, core, call)?;
-    Some(shown.as_str() == want)
-}
-
-/// Whether a script goes to its end, and the index that the core keeps is always that of its record.
-fn plays(alloc: Global, core: &mut NodeCore, script: &str) -> Option<bool> {
-    for row in script.lines() {
-        if !goes(alloc, core, row)? || !keeps_its_index(alloc, core)? {
-            return Some(false);
-        }
-    }
-    Some(true)
-}
-
 /// Whether a script goes to its end from one record to another.
-fn leads(alloc: Global, from: &str, script: &str, to: &str) -> Option<bool> {
-    let mut core = risen(alloc, &bytes(alloc, from)?, plain(alloc)?)?;
-    Some(plays(alloc, &mut core, script)? && has_record(alloc, &core, to)?)
+fn leads(alloc: Global, from: &str, script: &'static str, to: &'static str) -> Option<bool> {
+    plays_from(alloc, from, &[Step::Plays(script), Step::Rests(to)])
 }
 
 const TO_THE_FIRST: &str = "switch 1 > changed Decided, grant n1 c3 1 read a";
@@ -97,10 +53,11 @@ const WRITER_ALONE: &str = "01 01 0004 \
 
 #[test]
 fn switch_lets_a_reader_in(rt: HostRuntime) -> Outcome {
-    let alloc = rt.alloc();
-    check_answer(leads(alloc, WRITER_WAITS, TO_THE_FIRST, SWITCHED), 1)?;
-    check_answer(leads(alloc, WRITER_WAITS, TO_THE_SAME, SWITCHED), 2)?;
-    check_answer(leads(alloc, WRITER_WAITS, THERE_AND_BACK, WRITER_ALONE), 3)
+    check_answers(&[
+        leads(rt.alloc(), WRITER_WAITS, TO_THE_FIRST, SWITCHED),
+        leads(rt.alloc(), WRITER_WAITS, TO_THE_SAME, SWITCHED),
+        leads(rt.alloc(), WRITER_WAITS, THERE_AND_BACK, WRITER_ALONE),
+    ])
 }
 
 const NOBODY_WAITS: &str = "\
@@ -127,10 +84,10 @@ switch 2 > changed Decided";
 
 #[test]
 fn switch_that_lets_nobody_in(rt: HostRuntime) -> Outcome {
-    let alloc = rt.alloc();
-    check_answer(leads(alloc, HOLDERS, NOBODY_WAITS, HOLDERS_SWITCHED), 1)?;
-    let (from, to) = ("01 01 0000", "01 02 0000");
-    check_answer(leads(alloc, from, NOBODY_IS_KNOWN, to), 2)
+    check_answers(&[
+        leads(rt.alloc(), HOLDERS, NOBODY_WAITS, HOLDERS_SWITCHED),
+        leads(rt.alloc(), "01 01 0000", NOBODY_IS_KNOWN, "01 02 0000"),
+    ])
 }
 
 /// c1 writes `a`; c2 waits for it as a reader and c3 behind it as a writer. Under problem 2.
@@ -162,11 +119,10 @@ release n1 c1 1 > changed Decided, done n1 c1 1, grant n1 c3 1 write a";
 
 #[test]
 fn who_follows_a_writer(rt: HostRuntime) -> Outcome {
-    let alloc = rt.alloc();
-    let first = leads(alloc, WRITER_HOLDS, READER_FOLLOWS, READER_WAS_FIRST);
-    check_answer(first, 1)?;
-    let second = leads(alloc, WRITER_HOLDS, WRITER_FOLLOWS, WRITER_WAS_FIRST);
-    check_answer(second, 2)
+    check_answers(&[
+        leads(rt.alloc(), WRITER_HOLDS, READER_FOLLOWS, READER_WAS_FIRST),
+        leads(rt.alloc(), WRITER_HOLDS, WRITER_FOLLOWS, WRITER_WAS_FIRST),
+    ])
 }
 
 /// c1 has softened and holds `a`; c2 waits for it as a writer, c3 and c5 behind it as readers, and c4
@@ -216,9 +172,10 @@ switch 2 > changed Decided";
 
 /// Whether the policies of a node of problem 2 fall out of it with what was counted under each problem.
 fn counts(alloc: Global) -> Option<bool> {
-    let mut core = risen(alloc, &bytes(alloc, "01 02 0000")?, counting(alloc)?)?;
-    let right = plays(alloc, &mut core, COUNTED)?;
-    Some(right && has_counted(&core.fall(), "1,1 2,2")?)
+    let mut core = risen(alloc, &SECOND, counting(alloc)?)?;
+    let right = plays(alloc, &mut core, &[Step::Plays(COUNTED)]);
+    let counted = has_counted(&core.fall(), ((1, 1), (2, 2)));
+    all(&[right, Some(counted)])
 }
 
 #[test]
@@ -227,7 +184,7 @@ fn counted_under_each_problem(rt: HostRuntime) -> Outcome {
 }
 
 /// Adds the entry at a place of a record.
-fn put_entry(entries: &mut Vec<Entry>, record: &NodeRecord, place: usize) -> Option<()> {
+fn put_entry_at(entries: &mut Vec<Entry>, record: &NodeRecord, place: usize) -> Option<()> {
     let Some(
         Entry {
             client,
@@ -248,14 +205,24 @@ fn put_entry(entries: &mut Vec<Entry>, record: &NodeRecord, place: usize) -> Opt
         .ok()
 }
 
+/// Adds the entries of a record.
+fn put_entries(entries: &mut Vec<Entry>, record: &NodeRecord) -> Option<()> {
+    for place in 0..record.entries.len() {
+        put_entry_at(entries, record, place)?;
+    }
+    Some(())
+}
+
+/// Adds the entries of the node's record, as it can be read again.
+fn put_entries_of(alloc: Global, core: &NodeCore, entries: &mut Vec<Entry>) -> Option<()> {
+    let record = read_again(alloc, core)?;
+    put_entries(entries, &record)
+}
+
 /// The entries of the node's record, as it can be read again.
 pub(crate) fn entries_of(alloc: Global, core: &NodeCore) -> Option<Vec<Entry>> {
-    let record = read_node(alloc, &core.next_bytes(alloc).ok()?).ok()?;
-    let mut entries: Vec<Entry> = Vec::new(alloc);
-    for place in 0..record.entries.len() {
-        put_entry(&mut entries, &record, place)?;
-    }
-    Some(entries)
+    let mut entries = Vec::new(alloc);
+    put_entries_of(alloc, core, &mut entries).and(Some(entries))
 }
 
 /// Whether a ticket waited that holds now, the rest of its entry as it was.
@@ -328,53 +295,79 @@ fn count_let_in(
     }
 }
 
+/// The same of a node that has said these replies. None also where the index isn't that of the record.
+fn said(alloc: Global, core: &NodeCore, before: &[Entry], replies: &[Message]) -> Option<usize> {
+    if keeps_its_index(alloc, core) != Some(true) {
+        return None;
+    }
+    let after = entries_of(alloc, core)?;
+    count_let_in(core, before, &after, replies)
+}
+
+fn switched_from(
+    alloc: Global,
+    core: &mut NodeCore,
+    problem: Problem,
+    before: &[Entry],
+) -> Option<usize> {
+    if !switches(core, problem)? {
+        return None;
+    }
+    keeps(core);
+    let replies = speaks(core)?;
+    said(alloc, core, before, &replies)
+}
+
 /// Gives a node the other problem, keeps that, and counts whom it lets in. None where its record can't be
 /// read again, which no record can that has a waiting ticket without a cause; or where the index isn't that
 /// of the record.
 pub(crate) fn switched(alloc: Global, core: &mut NodeCore, problem: Problem) -> Option<usize> {
     let before = entries_of(alloc, core)?;
-    let changed = switches(core, problem)?;
-    keeps(core);
-    let replies = speaks(core)?;
-    let after = entries_of(alloc, core)?;
-    if !changed || !keeps_its_index(alloc, core)? {
-        return None;
-    }
-    count_let_in(core, &before, &after, &replies)
+    switched_from(alloc, core, problem, &before)
 }
 
-/// Adds the entry of a client to the record below: the first eight hold, and the next eight wait as writers.
-fn put_in_a_line(out: &mut Vec<u8>, client: u32) -> Option<()> {
-    let (state, writes) = match client {
-        1..=8 => (2, 0),
-        9..=16 => (1, 1),
-        _ => (1, 0),
+/// Adds the entry of a client to the record below.
+fn put_in_the_crowd(out: &mut Vec<u8>, problem: Problem, client: u32) -> Option<()> {
+    let (state, letter) = match (problem, client) {
+        (Problem::First, 1) => ((2, 1), b'a'),
+        (Problem::First, _) => ((1, 0), b'a'),
+        (Problem::Second, 1..=8) => ((2, 0), b'a' + (client % 8) as u8),
+        (Problem::Second, 9..=16) => ((1, 1), b'a' + (client % 8) as u8),
+        (Problem::Second, _) => ((1, 0), b'a' + (client % 8) as u8),
     };
-    let letter = b'a' + (client % 8) as u8;
-    out.extend_from_slice(&client.to_be_bytes()).ok()?;
-    let attempt = [0, 0, 0, 0, 0, 0, 0, 0, state, 0, 0, 0, 0, 0, 0, 0, 1];
-    out.extend_from_slice(&attempt).ok()?;
-    out.extend_from_slice(&[writes, 1, letter]).ok()
+    put_entry(out, client, 1, state, &[letter])
 }
 
-/// The record of problem 2 in which c1 to c1024 ask for `a` to `h` in turn: of each resource the first client
+/// Adds the record of problem 1 in which c1 holds `a` as a writer, and c2 to c1024 wait for it as readers;
+/// or that of problem 2 in which c1 to c1024 ask for `a` to `h` in turn: of each resource the first client
 /// holds it as a reader, the next waits for it as a writer, and all others wait behind that one as readers.
-fn record_of_lines(alloc: Global) -> Option<Vec<u8>> {
-    let mut out = Vec::new(alloc);
-    out.extend_from_slice(&[1, 2, 4, 0]).ok()?;
+fn put_crowd(out: &mut Vec<u8>, problem: Problem) -> Option<()> {
+    let number = if problem == Problem::First { 1 } else { 2 };
+    out.extend_from_slice(&[1, number, 4, 0]).ok()?;
     for client in 1..=1_024u32 {
-        put_in_a_line(&mut out, client)?;
+        put_in_the_crowd(out, problem, client)?;
     }
-    Some(out)
+    Some(())
+}
+
+/// The node that has risen with that record.
+pub(crate) fn crowded_node(alloc: Global, problem: Problem) -> Option<NodeCore> {
+    let policies = plain(alloc)?;
+    let mut record = Vec::new(alloc);
+    put_crowd(&mut record, problem).and(risen(alloc, &record, policies))
 }
 
 /// Whether a switch lets in all readers that wait, and later ones let in nobody more.
-fn lets_all_in(alloc: Global) -> Option<bool> {
-    let mut core = risen(alloc, &record_of_lines(alloc)?, plain(alloc)?)?;
-    let all = switched(alloc, &mut core, Problem::First)?;
-    let back = switched(alloc, &mut core, Problem::Second)?;
-    let again = switched(alloc, &mut core, Problem::First)?;
+fn lets_in_once(alloc: Global, core: &mut NodeCore) -> Option<bool> {
+    let all = switched(alloc, core, Problem::First)?;
+    let back = switched(alloc, core, Problem::Second)?;
+    let again = switched(alloc, core, Problem::First)?;
     Some(all == 1_008 && back == 0 && again == 0)
+}
+
+fn lets_all_in(alloc: Global) -> Option<bool> {
+    let mut core = crowded_node(alloc, Problem::Second)?;
+    lets_in_once(alloc, &mut core)
 }
 
 #[test]
