@@ -1,2 +1,2 @@
 pub mod Ready
-mod Resumed
+pub mod Resumed

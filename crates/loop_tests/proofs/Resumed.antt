@@ -1,5 +1,5 @@
 -- What c1 has kept in a world that is opened from records.
-use Rattle.std.proofs.Common.{◌≡◌, ℕ, ◌∙◌, refl, sym, ap, List, [], ◌∷◌, Some, arith}
+use Rattle.std.proofs.Common.{◌≡◌, ℕ, ◌∙◌, refl, sym, ap, subst, List, [], ◌∷◌, Some, arith}
 use Rattle.lock_messages.specs.declared.ids.Actor.TheVariants as actor
 use Rattle.lock_model.specs.Ballots.{Ballot}
 use Rattle.stable_record.specs.Records.{client_record_of}
@@ -26,9 +26,11 @@ keeps-first b stations first second attempt (a ∷ rest) each spelled =
     }
 
 -- the first client has made the attempt of which the first record is
-pub resumed-keeps : (b : List Ballot) (nodes : List (List ℕ)) (first second : List ℕ) (attempt : ℕ) (w : ExactWorld) → IsResumed b nodes (first ∷ second ∷ []) w → first ≡ client_record_of attempt →
-    HasKept b attempt w
-resumed-keeps b nodes first second attempt w h spelled = record {
-  ballots = ap (λ (v : ExactWorld). v.ballots) h.world;
-  down = rw h.world (keeps-first b (stations_in h.records) first second attempt h.attempts h.clients_keep spelled);
-}
+pub resumed_keeps : (b : List Ballot) (nodes clients : List (List ℕ)) (first second : List ℕ) (attempt : ℕ) (w : ExactWorld) → IsResumed b nodes clients w → clients ≡ first ∷ second ∷ [] →
+    first ≡ client_record_of attempt → HasKept b attempt w
+resumed_keeps b nodes clients first second attempt w resumed listed spelled =
+    let h : IsResumed b nodes (first ∷ second ∷ []) w = subst (λ (cs : List (List ℕ)). IsResumed b nodes cs w) listed resumed in
+    record {
+      ballots = ap (λ (v : ExactWorld). v.ballots) h.world;
+      down = rw h.world (keeps-first b (stations_in h.records) first second attempt h.attempts h.clients_keep spelled);
+    }

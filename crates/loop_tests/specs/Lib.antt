@@ -1,3 +1,3 @@
-pub mod Broken
 pub mod Clients
 pub mod Fresh
+pub mod Odd

@@ -18,28 +18,24 @@ fn is_sound(alloc: Global, world: World, journal: &[u8], lines: u32) -> Outcome
     }
 }
 
-/// The journal of a book that was opened with such a world. An audit finds it sound, of as many lines as
+/// Writes the journal of a book that was opened with such a world. An audit finds it sound, of as many lines as
 /// the book has events; else the test is wrong.
-pub(crate) fn journal_of(alloc: Global, book: &Book, world: World) -> Result<Vec<u8>, Failure>
+pub(crate) fn write_journal(
+    alloc: Global,
+    book: &Book,
+    world: Result<World, Failure>,
+    journal: &mut Vec<u8>,
+) -> Outcome
     requires { Unit {0} }
 {
-    let mut journal = Vec::new(alloc);
-    let Ok(()) = book.write_journal(alloc, &mut journal) else {
+    let world = world?;
+    if book.write_journal(alloc, journal).is_err() {
         return Err(Failure::Memory);
-    };
-    is_sound(alloc, world, journal.as_slice(), book.events())?;
-    Ok(journal)
+    }
+    is_sound(alloc, world, journal.as_slice(), book.events())
 }
 
 /// How often a line stands in a journal.
-pub(crate) fn count_of(journal: &[u8], wanted: &str) -> Result<usize, Failure> {
-    let Ok(text) = str::from_utf8(journal) else {
-        return Err(Failure::Wrong(0));
-    };
-    Ok(text.lines().filter(|line| *line == wanted).count())
-}
-
-/// How many lines a journal has.
-pub(crate) fn lines_of(journal: &[u8]) -> usize {
-    journal.iter().filter(|byte| **byte == b'\n').count()
+pub(crate) fn count_of(journal: &str, wanted: &str) -> usize {
+    journal.lines().filter(|line| *line == wanted).count()
 }

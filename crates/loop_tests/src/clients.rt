@@ -1,17 +1,13 @@
-// What the tests of clients share: wishes, and how a run is judged.
+// The wishes of c1.
 
 ghost use Rattle.std.specs.Prelude.{◌≡◌, ◌≤◌, length, All, IfOk};
 ghost use Rattle.lock_model.specs.Ballots.{HasPlace};
 ghost use Rattle.client_loop.specs.Visits.{ArePlaced};
 ghost use Rattle.loop_tests.specs.Fresh.{two_nodes};
 
-use event_recorders::RunFault;
 use history_check::{MAX_WISHES, Wish, read_wish};
 use std::alloc::Global;
 use test_outcomes::Failure;
-
-/// What a client's loop answers.
-pub(crate) type Answer = Result<u32, (u32, RunFault)>;
 
 /// A wish of c1, as `c1 read a`.
 fn wish(text: &str) -> Result<Wish, Failure>
@@ -44,28 +40,4 @@ pub(crate) fn wishes(alloc: Global, row: &str) -> Result<Vec<Wish>, Failure>
         return Err(Failure::Wrong(0));
     }
     Ok(wishes)
-}
-
-/// The answer, unless the loop ended for want of memory.
-pub(crate) fn told(answer: Answer) -> Result<Answer, Failure> {
-    match answer {
-        Err((_, RunFault::Memory)) => Err(Failure::Memory),
-        answer => Ok(answer),
-    }
-}
-
-/// Whether this is the journal of a row and this the row's answer. A run for which memory was refused
-/// has to have logged a beginning of it.
-pub(crate) fn is_run(
-    journal: &[u8],
-    answer: Answer,
-    row_journal: &str,
-    row_answer: Answer,
-) -> Result<bool, Failure> {
-    let expected = row_journal.as_bytes();
-    if !expected.starts_with(journal) {
-        return Ok(false);
-    }
-    let answer = told(answer)?;
-    Ok(answer == row_answer && journal.len() == expected.len())
 }

@@ -9,9 +9,9 @@
 #[cfg(test)]
 mod audits;
 #[cfg(test)]
-mod broken;
-#[cfg(test)]
 mod client_records;
+#[cfg(test)]
+mod client_runs;
 #[cfg(test)]
 mod clients;
 #[cfg(test)]
@@ -23,9 +23,9 @@ mod faults;
 #[cfg(test)]
 mod gate_calls;
 #[cfg(test)]
-mod gates;
-#[cfg(test)]
 mod held_votes;
+#[cfg(test)]
+mod judging;
 #[cfg(test)]
 mod neighbours;
 #[cfg(test)]
@@ -33,11 +33,15 @@ mod node_runs;
 #[cfg(test)]
 mod nodes;
 #[cfg(test)]
+mod odd_records;
+#[cfg(test)]
 mod openings;
 #[cfg(test)]
 mod posts;
 #[cfg(test)]
 mod records;
+#[cfg(test)]
+mod runs;
 #[cfg(test)]
 mod scripts;
 #[cfg(test)]

@@ -2,105 +2,70 @@
 
 ghost use Rattle.std.specs.Prelude.{IsOkUnless};
 
-use crate::faults::of_book;
-use book_recorders::{BookName, BookRecorder, Logs};
+use crate::posts::frame;
+use crate::scripts::Others;
+use book_recorders::{BookName, Logs};
 use bytes::Bytes;
 use history_book::BookFault;
 use lock_messages::{Actor, NodeId};
-use lossy_link::{Link, LinkFault, Parcel, Post};
+use lossy_link::{Link, LinkFault, ListLink, Parcel, Post};
 use std::alloc::Global;
 use std::sync::Wait;
-use test_outcomes::{Failure, Outcome};
-use world_model::{Age, Effect, Event};
+use test_outcomes::Failure;
+use world_model::{Effect, Event};
 
-/// What is brought beside a node's answers: these posts before them all, so many nudges before the answer
-/// to each message that changes what the node keeps, and whether the node is gone behind its first answer.
+/// A link that brings what another one does and, behind that, the answers of a node. The node is one of the others
+/// beside the client, in the same thread: it takes what is sent as soon as it is sent, and keeps and says what
+/// follows; where it has kept something it may nudge first, and behind its first answer it may be gone. A parcel's
+/// frame is always the same, since who hears it goes by its number. Who sends to another node is told that a node
+/// is gone.
 #[derive(Drop)]
-pub(crate) struct Coming {
-    pub(crate) posts: Vec<Post>,
-    pub(crate) nudges: u32,
-    pub(crate) goes: bool,
-}
-
-impl Coming {
-    /// Nothing comes but the node's answers.
-    pub(crate) fn answers(alloc: Global) -> Coming {
-        Coming::behind(Vec::new(alloc))
-    }
-
-    /// The node's answers come behind these posts.
-    pub(crate) fn behind(posts: Vec<Post>) -> Coming {
-        Coming {
-            posts,
-            nudges: 0,
-            goes: false,
-        }
-    }
-}
-
-/// A link that brings given posts and, behind them, the answers of a node. The node is beside the
-/// client, in the same thread: it takes what is sent as soon as it is sent, and keeps and says what
-/// follows; where it has kept something it may nudge first. A parcel's frame is always the same, since who
-/// hears it goes by its number. Who sends to another node is told that a node is gone.
-#[derive(Drop)]
-pub(crate) struct Neighbour<'a, B: BookName, K: Logs, R: Copy> {
+pub(crate) struct Neighbour<'l, 'a, B: BookName, K: Logs, R: Copy> {
+    others: &'l mut Others<'a, B, K, R>,
+    link: &'l mut ListLink,
     node: NodeId,
     gone: NodeId,
-    recorder: BookRecorder<'a, B, K, R>,
-    posts: Vec<Post>,
     frame: Bytes,
+    posts: Vec<Post>,
     nudges: u32,
     due: u32,
     goes: bool,
 }
 
-impl<'a, B: BookName, K: Logs, R: Wait + Copy> Neighbour<'a, B, K, R> {
-    /// The link over which the first of the two nodes answers, which rises first; the second is the one
-    /// that is gone.
-    pub(crate) fn rising(
+impl<'l, 'a, B: BookName, K: Logs, R: Wait + Copy> Neighbour<'l, 'a, B, K, R> {
+    /// The link over which the first of the two nodes answers; the second is the one that is gone.
+    pub(crate) fn of(
+        alloc: Global,
+        others: &'l mut Others<'a, B, K, R>,
+        link: &'l mut ListLink,
         nodes: (NodeId, NodeId),
-        recorder: BookRecorder<'a, B, K, R>,
-        coming: Coming,
-        frame: Bytes,
-    ) -> Result<Neighbour<'a, B, K, R>, Failure> {
+        nudges: u32,
+        goes: bool,
+    ) -> Result<Neighbour<'l, 'a, B, K, R>, Failure> {
         let (node, gone) = nodes;
-        let Coming {
-            posts,
+        Ok(Neighbour {
+            others,
+            link,
+            node,
+            gone,
+            frame: frame(alloc, "grant")?,
+            posts: Vec::new(alloc),
             nudges,
+            due: 0,
             goes,
-        } = coming;
-        let mut recorder = recorder;
-        match recorder.log_event(Event::Rise(Actor::Node(node), Age::Old)) {
-            Ok(_) => Ok(Neighbour {
-                node,
-                gone,
-                recorder,
-                posts,
-                frame,
-                nudges,
-                due: 0,
-                goes,
-            }),
-            Err(fault) => Err(of_book(fault)),
-        }
+        })
     }
 
-    /// The node keeps what it decided, and is about to nudge.
-    fn keep(&mut self) -> Result<(), BookFault> {
-        self.recorder.log_event(Event::Try(Actor::Node(self.node)))?;
-        self.recorder
-            .log_event(Event::Kept(Actor::Node(self.node)))?;
-        self.due = self.nudges;
-        Ok(())
-    }
-
-    /// The node's turn with the message of a number, and the replies that it says: the number of the
-    /// first, and how many there are.
+    /// The node's turn with the message of a number, and the replies that it says: the number of the first, and
+    /// how many there are. Where it keeps something it is about to nudge.
     fn turn(&mut self, number: u32) -> Result<(u32, u32), BookFault> {
-        if let Effect::Took(_, true) = self.recorder.log_event(Event::Take(self.node, number))? {
-            self.keep()?;
+        let taken = self.others.log_event(&Event::Take(self.node, number))?;
+        if let Effect::Took(_, true) = taken {
+            self.others.log_event(&Event::Try(Actor::Node(self.node)))?;
+            self.others.log_event(&Event::Kept(Actor::Node(self.node)))?;
+            self.due = self.nudges;
         }
-        match self.recorder.log_event(Event::Say(self.node))? {
+        match self.others.log_event(&Event::Say(self.node))? {
             Effect::Said { first, count } => Ok((first, count)),
             _ => Ok((0, 0)),
         }
@@ -127,7 +92,8 @@ impl<'a, B: BookName, K: Logs, R: Wait + Copy> Neighbour<'a, B, K, R> {
         Ok(())
     }
 
-    /// The replies of these numbers will be brought, behind the node's nudges.
+    /// The replies of these numbers will be brought, behind the node's nudges, and that the node is gone, if it
+    /// goes.
     fn answer(&mut self, first: u32, count: u32) -> Result<(), LinkFault>
         ensures { IsOkUnless result LinkFault.Memory }
     {
@@ -139,38 +105,15 @@ impl<'a, B: BookName, K: Logs, R: Wait + Copy> Neighbour<'a, B, K, R> {
             };
             self.bring(Post::Parcel(Parcel { number, frame }))?;
         }
-        self.go()
-    }
-
-    /// That the node is gone will be brought, if it goes.
-    fn go(&mut self) -> Result<(), LinkFault>
-        ensures { IsOkUnless result LinkFault.Memory }
-    {
         if self.goes {
             self.bring(Post::Gone(self.node))?;
         }
         self.goes = false;
         Ok(())
     }
-
-    /// The node takes the message of a number, which another than the client of this link has sent.
-    pub(crate) fn takes(&mut self, number: u32) -> Outcome {
-        match self.turn(number) {
-            Ok(_) => Ok(()),
-            Err(fault) => Err(of_book(fault)),
-        }
-    }
-
-    /// Whether this is another node than the one beside.
-    fn is_other(&self, to: &Actor) -> bool {
-        match to {
-            Actor::Node(node) => node.get() != self.node.get(),
-            Actor::Client(_) => false,
-        }
-    }
 }
 
-impl<'a, B: BookName, K: Logs, R: Wait + Copy> Link for Neighbour<'a, B, K, R> {
+impl<'l, 'a, B: BookName, K: Logs, R: Wait + Copy> Link for Neighbour<'l, 'a, B, K, R> {
     ghost use Rattle.std.specs.Prelude.{None};
 
     ghost coming = { λ _. None };
@@ -179,7 +122,7 @@ impl<'a, B: BookName, K: Logs, R: Wait + Copy> Link for Neighbour<'a, B, K, R> {
 
     /// Brings what the node answers or, where it goes to another, that a node is gone.
     fn send(&mut self, to: Actor, parcel: Parcel) -> Result<(), LinkFault> {
-        if self.is_other(&to) {
+        if to != Actor::Node(self.node) {
             return self.bring(Post::Gone(self.gone));
         }
         match self.turn(parcel.number) {
@@ -195,9 +138,10 @@ impl<'a, B: BookName, K: Logs, R: Wait + Copy> Link for Neighbour<'a, B, K, R> {
     }
 
     fn receive(&mut self) -> Result<Post, LinkFault> {
-        if self.posts.is_empty() {
-            return Err(LinkFault::Closed);
+        match self.link.receive() {
+            Ok(post) => Ok(post),
+            Err(_) if self.posts.is_empty() => Err(LinkFault::Closed),
+            Err(_) => Ok(self.posts.remove(0)),
         }
-        Ok(self.posts.remove(0))
     }
 }

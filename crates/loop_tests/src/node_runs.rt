@@ -1,36 +1,31 @@
-// How n1 is run over lists once clients have asked it, and what is judged of a run.
+// How n1 is run beside others.
 
 ghost use Rattle.std.specs.Prelude.{◌≡◌, IfOk, OnOk};
 ghost use Rattle.stable_record.specs.Records.{IsNodeRecord, node_record_of};
 ghost use Rattle.book_recorders.specs.Sharing.{log_of};
 ghost use Rattle.loop_tests.specs.Fresh.{IsNewNode, empty_record};
 
-use crate::audits::journal_of;
-use crate::gates::OpenGate;
-use crate::posts::{is_sent, is_sent_until, posts};
-use crate::records::{Device, record_on};
-use crate::scripts::Others;
-use crate::worlds::{ballots, client_id, clients_opened, node_id, pair, world};
+use crate::audits::write_journal;
+use crate::records::record_on;
+use crate::runs::{Answer, Beside, Run};
+use crate::scripts::{Others, Scripted};
+use crate::watches::{Watch, Watched};
+use crate::worlds::{ballots, client_id, node_id, opened, pair, world};
 use book_recorders::{BookName, BookRecorder, Logs, Named};
-use event_recorders::{Gate, RunFault};
+use event_recorders::Recorder;
 use history_book::{Berth, Book};
-use history_check::read_event;
 use lock_messages::Actor;
 use lock_model::Problem;
-use lossy_link::{ListLink, Post, Sending};
+use lossy_link::{Link, ListLink};
 use node_loop::run_node;
 use stable_record::{Entries, NodeRecord, node_bytes};
 use std::alloc::Global;
 use std::marker::Brand;
-use std::sync::{Mutex, Wait};
-use test_outcomes::{Failure, Outcome, check_row};
-use world_model::Event;
-
-/// What a node's loop answers.
-pub(crate) type Answer = Result<(), RunFault>;
+use std::sync::{Arc, Mutex, Wait};
+use test_outcomes::Failure;
 
 /// The record of a node for this problem that has kept nothing yet.
-pub(crate) fn nothing_kept(alloc: Global, problem: Problem) -> Result<Vec<u8>, Failure>
+fn nothing_kept(alloc: Global, problem: Problem) -> Result<Vec<u8>, Failure>
     ensures bytes { IfOk result (λ v. v.items ≡ node_record_of (empty_record problem)) }
     ensures good { OnOk result (IsNodeRecord (empty_record problem)) }
 {
@@ -44,192 +39,148 @@ pub(crate) fn nothing_kept(alloc: Global, problem: Problem) -> Result<Vec<u8>, F
     }
 }
 
-/// The event of a line.
-pub(crate) fn event(line: &str) -> Result<Event, Failure> {
-    match read_event(line.as_bytes()) {
-        Ok(event) => Ok(event),
-        Err(_) => Err(Failure::Wrong(0)),
+/// Runs n1, which has kept nothing, over this link.
+#[tactic(auto, using(crate::proofs::Ready::node_ready))]
+fn play<W: Wait, R: Recorder, L: Link>(
+    rt: &W,
+    alloc: Global,
+    problem: Problem,
+    run: &Run<'_>,
+    recorder: &mut R,
+    link: &mut L,
+    watch: &Arc<Watch>,
+) -> Result<Answer, Failure>
+    requires log { IsNewNode problem (R.own_log recorder.old) }
+{
+    let node = node_id(1)?;
+    let nothing = nothing_kept(alloc, problem)?;
+    let stable = record_on(alloc, run.device, nothing.as_slice(), watch)?;
+    let policies = pair(alloc)?;
+    let gate: &Watch = watch;
+    match run_node(rt, alloc, node, stable, policies, recorder, link, gate) {
+        Ok(()) => Ok(Ok(0)),
+        Err(fault) => Ok(Err((0, fault))),
     }
 }
 
-/// Lets three clients log the events of these lines, each its own.
-pub(crate) fn tells<B: BookName, K: Logs, R: Wait + Copy>(
-    rt: R,
-    lock: &Mutex<Named<B, K>>,
-    berths: (Berth, Berth, Berth),
-    lines: &[u8],
-) -> Outcome
-    requires one { berths.0.table ≡ B.table }
-    requires two { berths.1.table ≡ B.table }
-    requires three { berths.2.table ≡ B.table }
+/// Runs n1 once others have logged their lines, while they log more of them.
+fn play_beside<B: BookName, K: Logs, W: Wait + Copy, R: Recorder>(
+    rt: W,
+    alloc: Global,
+    problem: Problem,
+    run: &Run<'_>,
+    recorder: &mut R,
+    others: &mut Others<'_, B, K, W>,
+    link: &mut ListLink,
+    watch: &Arc<Watch>,
+) -> Result<Answer, Failure>
+    requires log { IsNewNode problem (R.own_log recorder.old) }
 {
-    let Ok(text) = str::from_utf8(lines) else {
+    let Beside::Lines(lines) = run.beside else {
         return Err(Failure::Wrong(0));
     };
-    let mut clients = Others::of(rt, lock, berths);
-    clients.log(text)
+    others.log(run.before)?;
+    let mut link = Scripted::of(others, link, lines, run.parcels);
+    let answer = play(&rt, alloc, problem, run, recorder, &mut link, watch);
+    match link.logged {
+        Ok(()) => answer,
+        Err(failure) => Err(failure),
+    }
 }
 
-/// Runs n1, under this problem, with a record on this device over these posts, beside this gate; answers the
-/// link, and what the loop answered.
-#[tactic(auto, using(crate::proofs::Ready::node_ready))]
-fn run_over<B: BookName, K: Logs, R: Wait + Copy, G: Gate>(
-    rt: R,
+/// Runs n1 so in the book under this lock.
+fn run_under<B: BookName, K: Logs, W: Wait + Copy>(
+    rt: W,
     alloc: Global,
+    problem: Problem,
     lock: &Mutex<Named<B, K>>,
-    berth: Berth,
-    problem: Problem,
-    device: Device,
-    posts: Vec<Post>,
-    gate: &G,
-) -> Result<(ListLink, Answer), Failure>
-    requires table { berth.table ≡ B.table }
-    requires log { IsNewNode problem (log_of berth) }
+    own: Berth,
+    others: (Berth, Berth, Berth, Berth),
+    run: &Run<'_>,
+    link: &mut ListLink,
+    watch: &Arc<Watch>,
+) -> Result<Answer, Failure>
+    requires own { own.table ≡ B.table }
+    requires first { others.0.table ≡ B.table }
+    requires second { others.1.table ≡ B.table }
+    requires third { others.2.table ≡ B.table }
+    requires fourth { others.3.table ≡ B.table }
+    requires log { IsNewNode problem (log_of own) }
 {
-    let stable = record_on(alloc, device, nothing_kept(alloc, problem)?.as_slice())?;
-    let policies = pair(alloc)?;
-    let node = node_id(1)?;
-    let mut recorder = BookRecorder::of(rt, lock, berth);
-    let mut link = ListLink::of(posts);
-    let answer = run_node(
-        &rt,
+    let mut others = Others::of(rt, lock, others);
+    let mut recorder = Watched {
+        inner: BookRecorder::of(rt, lock, own),
+        room: run.room,
+        watch,
+    };
+    play_beside(
+        rt,
         alloc,
-        node,
-        stable,
-        policies,
+        problem,
+        run,
         &mut recorder,
-        &mut link,
-        gate,
-    );
-    Ok((link, answer))
+        &mut others,
+        link,
+        watch,
+    )
 }
 
-/// Lets the clients log these lines, and then runs n1; answers the book too.
-fn run<B: BookName, K: Logs + Drop, R: Wait + Copy, G: Gate>(
-    rt: R,
+/// Runs n1 so in this book; answers the book.
+fn run_beside<B: BookName, K: Logs + Drop, W: Wait + Copy>(
+    rt: W,
     alloc: Global,
-    book: K,
-    berths: (Berth, Berth, Berth, Berth),
     problem: Problem,
-    device: Device,
-    lines: &[u8],
-    posts: Vec<Post>,
-    gate: &G,
-) -> Result<(K, ListLink, Answer), Failure>
+    book: K,
+    own: Berth,
+    others: (Berth, Berth, Berth, Berth),
+    run: &Run<'_>,
+    link: &mut ListLink,
+    watch: &Arc<Watch>,
+    answer: &mut Result<Answer, Failure>,
+) -> K
     requires book { (K.book book).table ≡ B.table }
-    requires node { berths.0.table ≡ B.table }
-    requires one { berths.1.table ≡ B.table }
-    requires two { berths.2.table ≡ B.table }
-    requires three { berths.3.table ≡ B.table }
-    requires log { IsNewNode problem (log_of berths.0) }
+    requires own { own.table ≡ B.table }
+    requires first { others.0.table ≡ B.table }
+    requires second { others.1.table ≡ B.table }
+    requires third { others.2.table ≡ B.table }
+    requires fourth { others.3.table ≡ B.table }
+    requires log { IsNewNode problem (log_of own) }
 {
     let lock = Mutex::new(Named::<B, K>::of(book));
-    let (node, one, two, three) = berths;
-    tells(rt, &lock, (one, two, three), lines)?;
-    let (link, answer) = run_over(rt, alloc, &lock, node, problem, device, posts, gate)?;
-    Ok((lock.into_inner().into_book(), link, answer))
+    *answer = run_under(rt, alloc, problem, &lock, own, others, run, link, watch);
+    lock.into_inner().into_book()
 }
 
-/// How a run ended: the journal, which an audit finds sound, the link, and what the loop answered.
-#[derive(Drop)]
-pub(crate) struct Ended {
-    pub(crate) journal: Vec<u8>,
-    pub(crate) link: ListLink,
-    pub(crate) answer: Answer,
-}
-
-/// How n1, under this problem, ends with a record on this device over these posts, once clients have logged
-/// these lines, beside this gate.
+/// Lets n1, under this problem, go to its end in the book of all, and writes the journal.
 #[tactic(auto, using(crate::proofs::Ready::node_log))]
-pub(crate) fn end_of<R: Wait + Copy, G: Gate>(
+pub(crate) fn end_of_node<R: Wait + Copy>(
     rt: R,
     alloc: Global,
     problem: Problem,
-    device: Device,
-    asks: &str,
-    texts: &str,
-    gate: &G,
-) -> Result<Ended, Failure> {
+    run: &Run<'_>,
+    link: &mut ListLink,
+    watch: &Arc<Watch>,
+    journal: &mut Vec<u8>,
+) -> Result<Answer, Failure> {
     let ballots = ballots()?;
-    let (book, node, one, two, three) = clients_opened(alloc, ballots, problem)?;
-    let berths = (node, one, two, three);
-    let posts = posts(alloc, texts)?;
-    let lines = asks.as_bytes();
-    let (book, link, answer) = run::<Brand, Book, R, G>(
-        rt, alloc, book, berths, problem, device, lines, posts, gate,
-    )?;
-    let journal = journal_of(alloc, &book, world(alloc, ballots, problem)?)?;
-    Ok(Ended {
-        journal,
+    let (node, other) = (node_id(1)?, Actor::Client(client_id(1)?));
+    let (book, own, others) = opened(alloc, ballots, problem, Actor::Node(node), other)?;
+    let mut answer = Err(Failure::NoAnswer(0));
+    let book = run_beside::<Brand, Book, R>(
+        rt,
+        alloc,
+        problem,
+        book,
+        own,
+        others,
+        run,
         link,
-        answer,
-    })
-}
-
-/// A run of n1: what comes over its link, what it logs once clients have asked, and what it sends and
-/// tells.
-#[derive(Clone, Copy)]
-pub(crate) struct Row {
-    pub(crate) posts: &'static str,
-    pub(crate) events: &'static str,
-    pub(crate) sent: &'static str,
-}
-
-/// Whether a journal is what clients and then n1 log; where the run was cut off, whether it begins that.
-fn is_logged(journal: &[u8], asks: &str, events: &str, is_cut: bool) -> bool {
-    match journal.strip_prefix(asks.as_bytes()) {
-        Some(rest) if is_cut => events.as_bytes().starts_with(rest),
-        Some(rest) => rest == events.as_bytes(),
-        None => false,
+        watch,
+        &mut answer,
+    );
+    let world = world(alloc, ballots, problem);
+    match write_journal(alloc, &book, world, journal) {
+        Ok(()) => answer,
+        Err(failure) => Err(failure),
     }
-}
-
-/// Whether n1 sent what the row says; where memory was refused to it (914), whether it sent a beginning
-/// of that and told that it is gone. After another fault that is told as far as there is memory for it,
-/// and the test ends where there was none.
-fn has_sent(alloc: Global, sent: &[Sending], row: &Row, answer: Answer) -> Result<bool, Failure> {
-    let client = Actor::Client(client_id(1)?);
-    if answer == Err(RunFault::Memory) {
-        let gone = Post::Gone(node_id(1)?);
-        return is_sent_until(alloc, client, sent, row.sent, &gone);
-    }
-    if answer.is_err() && sent.is_empty() {
-        return Err(Failure::Memory);
-    }
-    is_sent(alloc, client, sent, row.sent)
-}
-
-/// Ends the test unless n1, under this problem, does what the row says, and answers so. Where memory was
-/// refused to it (914) it has logged a beginning of that.
-pub(crate) fn does_under<R: Wait + Copy>(
-    rt: R,
-    alloc: Global,
-    problem: Problem,
-    device: Device,
-    asks: &str,
-    row: &Row,
-    expected: Answer,
-) -> Outcome {
-    let Ended {
-        journal,
-        link,
-        answer,
-    } = end_of(rt, alloc, problem, device, asks, row.posts, &OpenGate)?;
-    let is_cut = answer == Err(RunFault::Memory);
-    let has_sent = has_sent(alloc, link.sent(), row, answer)?;
-    let is_logged = is_logged(&journal, asks, row.events, is_cut);
-    check_row(has_sent && is_logged && (is_cut || answer == expected), 0)?;
-    if is_cut { Err(Failure::Memory) } else { Ok(()) }
-}
-
-/// The same under problem 1.
-pub(crate) fn does<R: Wait + Copy>(
-    rt: R,
-    alloc: Global,
-    device: Device,
-    asks: &str,
-    row: &Row,
-    expected: Answer,
-) -> Outcome {
-    does_under(rt, alloc, Problem::First, device, asks, row, expected)
 }

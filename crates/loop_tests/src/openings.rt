@@ -1,6 +1,6 @@
 // Worlds in which c1 has made attempts already, and books of c1's own over them.
 
-ghost use Rattle.std.specs.Prelude.{◌≡◌, ◌∷◌, [], ◌≤◌, IfOk};
+ghost use Rattle.std.specs.Prelude.{◌≡◌, ◌∷◌, [], ◌≤◌, map, IfOk};
 ghost use Rattle.loop_tests.specs.Fresh.{two_nodes};
 ghost use Rattle.lock_messages.specs.declared.ids.TheConstants.{MAX_ATTEMPT};
 ghost use Rattle.book_recorders.specs.Alone.{IsAlone};
@@ -8,7 +8,7 @@ ghost use Rattle.book_recorders.specs.Sharing.{log_of};
 ghost use Rattle.loop_tests.specs.Clients.{HasKept, IsClientOf};
 
 use crate::faults::of_book;
-use crate::worlds::{client_id, pair};
+use crate::worlds::{client_id, pairs};
 use book_recorders::open_alone;
 use history_book::{Berth, Book};
 use lock_messages::Actor;
@@ -21,6 +21,16 @@ use world_machine::{OpeningFault, World};
 /// The record of a node for problem 1 that has kept nothing.
 const NOTHING: [u8; 4] = [1, 1, 0, 0];
 
+/// The records of two actors.
+fn records(alloc: Global, first: &[u8], second: &[u8]) -> Result<Vec<Vec<u8>>, Failure>
+    ensures { IfOk result (λ v. map (λ r. r.items) v.items ≡ first.now ∷ second.now ∷ []) }
+{
+    let mut records = Vec::new(alloc);
+    records.push(Vec::from_slice(alloc, first)?)?;
+    records.push(Vec::from_slice(alloc, second)?)?;
+    Ok(records)
+}
+
 /// A world of two nodes that have kept nothing, and of two clients: c1 has made this attempt last, c2
 /// none.
 pub(crate) fn resumed(alloc: Global, ballots: BallotList, attempt: u64) -> Result<World, Failure>
@@ -28,17 +38,9 @@ pub(crate) fn resumed(alloc: Global, ballots: BallotList, attempt: u64) -> Resul
     requires attempt { attempt ≤ MAX_ATTEMPT }
     ensures { IfOk result (λ w. HasKept ballots attempt w) }
 {
-    let mut pairs = Vec::new(alloc);
-    pairs.push(pair(alloc)?)?;
-    pairs.push(pair(alloc)?)?;
-    let nodes = [
-        Vec::from_slice(alloc, &NOTHING)?,
-        Vec::from_slice(alloc, &NOTHING)?,
-    ];
-    let clients = [
-        Vec::from_slice(alloc, &client_bytes(attempt))?,
-        Vec::from_slice(alloc, &client_bytes(0))?,
-    ];
+    let pairs = pairs(alloc)?;
+    let nodes = records(alloc, &NOTHING, &NOTHING)?;
+    let clients = records(alloc, &client_bytes(attempt), &client_bytes(0))?;
     match World::resume(alloc, ballots, 2, pairs, &nodes, &clients) {
         Ok(world) => Ok(world),
         Err((OpeningFault::Memory, _)) => Err(Failure::Memory),

@@ -5,7 +5,17 @@ use bytes::Bytes;
 use lock_messages::{Actor, Message, Mode, NodeId, Ticket, encode};
 use lossy_link::{Parcel, Post, Sending};
 use std::alloc::Global;
-use test_outcomes::Failure;
+use test_outcomes::{Failure, Outcome};
+
+/// About which ticket for `a` a text is, by its end: the number of the client and of its attempt, and the mode.
+/// So `grant` is about c1's ticket to read, and `grant write` about c1's to write.
+const TICKETS: [(&str, u32, u64, Mode); 5] = [
+    (" write", 1, 1, Mode::Write),
+    (" again", 1, 2, Mode::Read),
+    (" c2", 2, 1, Mode::Write),
+    (" c3", 3, 1, Mode::Read),
+    ("", 1, 1, Mode::Read),
+];
 
 /// The ticket of a client for `a` in its attempt of this number.
 fn ticket(client: u32, number: u64, mode: Mode) -> Result<Ticket, Failure> {
@@ -31,31 +41,18 @@ fn about(word: &str, node: NodeId, ticket: Ticket) -> Result<Message, Failure> {
     }
 }
 
-/// The message with the node of a text: `grant` is about c1's ticket to read, `grant write` about c1's to
-/// write, `grant again` about c1's second to read, `grant c2` about c2's to write, `grant c3` about c3's to
-/// read.
-fn message_with(text: &str, node: NodeId) -> Result<Message, Failure> {
-    if let Some(word) = text.strip_suffix(" write") {
-        return about(word, node, ticket(1, 1, Mode::Write)?);
-    }
-    if let Some(word) = text.strip_suffix(" again") {
-        return about(word, node, ticket(1, 2, Mode::Read)?);
-    }
-    if let Some(word) = text.strip_suffix(" c3") {
-        return about(word, node, ticket(3, 1, Mode::Read)?);
-    }
-    match text.strip_suffix(" c2") {
-        Some(word) => about(word, node, ticket(2, 1, Mode::Write)?),
-        None => about(text, node, ticket(1, 1, Mode::Read)?),
-    }
-}
-
 /// The message of a text: `grant` is with n1, `grant n2` with n2.
 fn message(text: &str) -> Result<Message, Failure> {
-    match text.strip_suffix(" n2") {
-        Some(text) => message_with(text, node_id(2)?),
-        None => message_with(text, node_id(1)?),
+    let (text, node) = match text.strip_suffix(" n2") {
+        Some(text) => (text, node_id(2)?),
+        None => (text, node_id(1)?),
+    };
+    for (end, client, number, mode) in &TICKETS {
+        if let Some(word) = text.strip_suffix(*end) {
+            return about(word, node, ticket(*client, *number, *mode)?);
+        }
     }
+    Err(Failure::Wrong(0))
 }
 
 /// The frame of that message, or one that is no message's.
@@ -83,16 +80,6 @@ fn parcel(alloc: Global, text: &str) -> Result<Parcel, Failure> {
     }
 }
 
-/// What is said of n1 beside messages: `nudge` or `gone`.
-fn news(text: &str) -> Result<Option<Post>, Failure> {
-    let node = node_id(1)?;
-    match text {
-        "nudge" => Ok(Some(Post::Nudge(node))),
-        "gone" => Ok(Some(Post::Gone(node))),
-        _ => Ok(None),
-    }
-}
-
 /// What a text as `switch 1` brings.
 fn switch(text: &str) -> Result<Option<Post>, Failure> {
     let Some(number) = text.strip_prefix("switch ") else {
@@ -104,81 +91,86 @@ fn switch(text: &str) -> Result<Option<Post>, Failure> {
     }
 }
 
-fn post(alloc: Global, text: &str) -> Result<Post, Failure> {
-    if let Some(post) = switch(text)? {
-        return Ok(post);
+/// What is no parcel: `nudge` or `gone`, which are n1's, or a switch.
+fn news(text: &str) -> Result<Option<Post>, Failure> {
+    let node = node_id(1)?;
+    match text {
+        "nudge" => Ok(Some(Post::Nudge(node))),
+        "gone" => Ok(Some(Post::Gone(node))),
+        _ => switch(text),
     }
+}
+
+fn post(alloc: Global, text: &str) -> Result<Post, Failure> {
     match news(text)? {
         Some(post) => Ok(post),
         None => Ok(Post::Parcel(parcel(alloc, text)?)),
     }
 }
 
-/// The posts of a row, as `1 request, nudge, switch 1`.
-pub(crate) fn posts(alloc: Global, row: &str) -> Result<Vec<Post>, Failure> {
-    let mut posts = Vec::new(alloc);
+/// Adds the posts of a row, as `1 request, nudge, switch 1`.
+fn add_posts(alloc: Global, row: &str, posts: &mut Vec<Post>) -> Outcome {
     for text in row.split(", ") {
         if !text.is_empty() {
             posts.push(post(alloc, text)?)?;
         }
     }
-    Ok(posts)
+    Ok(())
+}
+
+/// Adds the posts of a row and, behind them, so many nudges of the node of the number.
+pub(crate) fn post_all(
+    alloc: Global,
+    row: &str,
+    nudges: (u8, usize),
+    posts: &mut Vec<Post>,
+) -> Outcome {
+    let (number, count) = nudges;
+    let node = node_id(number)?;
+    add_posts(alloc, row, posts)?;
+    for _ in 0..count {
+        posts.push(Post::Nudge(node))?;
+    }
+    Ok(())
+}
+
+/// To whom a text is sent: what is about c2 or c3 to it, what is with n2 to n2, and all else to the actor.
+fn receiver(to: Actor, text: &str) -> Result<Actor, Failure> {
+    if text.ends_with(" c2") {
+        return Ok(Actor::Client(client_id(2)?));
+    }
+    if text.ends_with(" c3") {
+        return Ok(Actor::Client(client_id(3)?));
+    }
+    if text.ends_with(" n2") {
+        return Ok(Actor::Node(node_id(2)?));
+    }
+    Ok(to)
 }
 
 fn sending(alloc: Global, to: Actor, text: &str) -> Result<Sending, Failure> {
+    let to = receiver(to, text)?;
     match news(text)? {
         Some(post) => Ok(Sending::Told(post)),
-        None if text.ends_with(" c2") => {
-            let other = Actor::Client(client_id(2)?);
-            Ok(Sending::Sent(other, parcel(alloc, text)?))
-        }
-        None if text.ends_with(" c3") => {
-            let other = Actor::Client(client_id(3)?);
-            Ok(Sending::Sent(other, parcel(alloc, text)?))
-        }
-        None if text.ends_with(" n2") => {
-            let other = Actor::Node(node_id(2)?);
-            Ok(Sending::Sent(other, parcel(alloc, text)?))
-        }
         None => Ok(Sending::Sent(to, parcel(alloc, text)?)),
     }
 }
 
-/// What a row says was sent to the actor and told, as `2 grant, nudge`; what is about c2 or c3 goes to it, and
-/// what is with n2 to n2.
-pub(crate) fn sendings(alloc: Global, to: Actor, row: &str) -> Result<Vec<Sending>, Failure> {
-    let to = &to;
-    let mut sendings = Vec::new(alloc);
+/// Adds what a row says was sent and told by c1 or n1, as `2 grant, nudge`: to n1 or c1 what names no other.
+pub(crate) fn add_sendings(
+    alloc: Global,
+    from: Actor,
+    row: &str,
+    sendings: &mut Vec<Sending>,
+) -> Outcome {
+    let to = match from {
+        Actor::Node(_) => Actor::Client(client_id(1)?),
+        Actor::Client(_) => Actor::Node(node_id(1)?),
+    };
     for text in row.split(", ") {
         if !text.is_empty() {
-            sendings.push(sending(alloc, *to, text)?)?;
+            sendings.push(sending(alloc, to, text)?)?;
         }
     }
-    Ok(sendings)
-}
-
-/// Whether this is what a row says was sent to the actor and told.
-pub(crate) fn is_sent(
-    alloc: Global,
-    to: Actor,
-    sent: &[Sending],
-    row: &str,
-) -> Result<bool, Failure> {
-    let wanted = sendings(alloc, to, row)?;
-    Ok(sent == wanted.as_slice())
-}
-
-/// Whether this is a beginning of what a row says was sent to the actor, and then the news.
-pub(crate) fn is_sent_until(
-    alloc: Global,
-    to: Actor,
-    sent: &[Sending],
-    row: &str,
-    last: &Post,
-) -> Result<bool, Failure> {
-    let wanted = sendings(alloc, to, row)?;
-    let Some((Sending::Told(told), before)) = sent.split_last() else {
-        return Ok(false);
-    };
-    Ok(told == last && wanted.as_slice().starts_with(before))
+    Ok(())
 }

@@ -3,62 +3,66 @@
 ghost use Rattle.std.specs.Prelude.{◌≡◌};
 
 use crate::faults::of_book;
-use crate::node_runs::event;
 use book_recorders::{BookName, BookRecorder, Logs, Named};
 use history_book::{Berth, BookFault};
+use history_check::read_event;
 use lock_messages::Actor;
 use lossy_link::{Link, LinkFault, ListLink, Parcel, Post};
 use std::sync::{Mutex, Wait};
 use test_outcomes::{Failure, Outcome};
-use world_model::Event;
+use world_model::{Effect, Event};
 
-/// Logs the event of the one whose it is.
-fn log_either<B: BookName, K: Logs, R: Wait + Copy>(
-    one: &mut BookRecorder<'_, B, K, R>,
-    two: &mut BookRecorder<'_, B, K, R>,
-    event: &Event,
-) -> Outcome {
-    let done = match one.log_event(*event) {
-        Err(BookFault::OtherActor) => two.log_event(*event),
-        done => done,
-    };
-    match done {
-        Ok(_) => Ok(()),
-        Err(fault) => Err(of_book(fault)),
-    }
-}
-
-/// Three actors beside the one whose loop runs, in its book.
+/// Four actors beside the one whose loop runs, in its book.
 #[derive(Drop)]
 pub(crate) struct Others<'a, B: BookName, K: Logs, R: Copy> {
     one: BookRecorder<'a, B, K, R>,
     two: BookRecorder<'a, B, K, R>,
     three: BookRecorder<'a, B, K, R>,
+    four: BookRecorder<'a, B, K, R>,
 }
 
 impl<'a, B: BookName, K: Logs, R: Wait + Copy> Others<'a, B, K, R> {
     pub(crate) fn of(
         rt: R,
         lock: &'a Mutex<Named<B, K>>,
-        berths: (Berth, Berth, Berth),
+        berths: (Berth, Berth, Berth, Berth),
     ) -> Others<'a, B, K, R>
         requires one { berths.0.table ≡ B.table }
         requires two { berths.1.table ≡ B.table }
         requires three { berths.2.table ≡ B.table }
+        requires four { berths.3.table ≡ B.table }
     {
-        let (one, two, three) = berths;
+        let (one, two, three, four) = berths;
         Others {
             one: BookRecorder::of(rt, lock, one),
             two: BookRecorder::of(rt, lock, two),
             three: BookRecorder::of(rt, lock, three),
+            four: BookRecorder::of(rt, lock, four),
         }
     }
 
     /// Logs the event of the one whose it is.
-    fn log_one(&mut self, event: &Event) -> Outcome {
-        match self.one.log_event(*event) {
+    pub(crate) fn log_event(&mut self, event: &Event) -> Result<Effect, BookFault> {
+        let mut done = self.one.log_event(*event);
+        if done == Err(BookFault::OtherActor) {
+            done = self.two.log_event(*event);
+        }
+        if done == Err(BookFault::OtherActor) {
+            done = self.three.log_event(*event);
+        }
+        if done == Err(BookFault::OtherActor) {
+            done = self.four.log_event(*event);
+        }
+        done
+    }
+
+    /// Logs the event of a line.
+    fn log_line(&mut self, line: &str) -> Outcome {
+        let Ok(event) = read_event(line.as_bytes()) else {
+            return Err(Failure::Wrong(0));
+        };
+        match self.log_event(&event) {
             Ok(_) => Ok(()),
-            Err(BookFault::OtherActor) => log_either(&mut self.two, &mut self.three, event),
             Err(fault) => Err(of_book(fault)),
         }
     }
@@ -66,67 +70,44 @@ impl<'a, B: BookName, K: Logs, R: Wait + Copy> Others<'a, B, K, R> {
     /// Logs the events of these lines.
     pub(crate) fn log(&mut self, lines: &str) -> Outcome {
         for line in lines.lines() {
-            let event = event(line)?;
-            self.log_one(&event)?;
+            self.log_line(line)?;
         }
         Ok(())
     }
 }
 
-/// What comes over a link: the posts of a row and, for each of them, the lines that others log before it.
-#[derive(Clone, Copy)]
-pub(crate) struct Script {
-    pub(crate) lines: &'static [&'static str],
-    pub(crate) posts: &'static str,
-}
-
-/// A link that brings given posts, each once others have logged lines of theirs, and lists what is sent and
-/// told over it. It has memory for so many parcels.
+/// A link that brings what another one does, each post once others have logged lines of theirs, and lists there
+/// what is sent and told over it. It has memory for so many parcels.
 #[derive(Drop)]
-pub(crate) struct Scripted<'a, B: BookName, K: Logs, R: Copy> {
-    link: ListLink,
-    others: Others<'a, B, K, R>,
-    lines: &'static [&'static str],
+pub(crate) struct Scripted<'l, 'a, B: BookName, K: Logs, R: Copy> {
+    others: &'l mut Others<'a, B, K, R>,
+    link: &'l mut ListLink,
+    lines: &'l [&'l str],
     place: usize,
     room: u32,
-    logged: Outcome,
+    /// Fails once a line could not be logged.
+    pub(crate) logged: Outcome,
 }
 
-impl<'a, B: BookName, K: Logs, R: Wait + Copy> Scripted<'a, B, K, R> {
+impl<'l, 'a, B: BookName, K: Logs, R: Wait + Copy> Scripted<'l, 'a, B, K, R> {
     pub(crate) fn of(
-        others: Others<'a, B, K, R>,
-        lines: &'static [&'static str],
-        posts: Vec<Post>,
+        others: &'l mut Others<'a, B, K, R>,
+        link: &'l mut ListLink,
+        lines: &'l [&'l str],
         room: u32,
-    ) -> Scripted<'a, B, K, R> {
+    ) -> Scripted<'l, 'a, B, K, R> {
         Scripted {
-            link: ListLink::of(posts),
             others,
+            link,
             lines,
             place: 0,
             room,
             logged: Ok(()),
         }
     }
-
-    /// The list of what was sent and told. Fails where a line could not be logged.
-    pub(crate) fn into_list(self) -> Result<ListLink, Failure> {
-        let Scripted { link, logged, .. } = self;
-        logged?;
-        Ok(link)
-    }
-
-    /// Others log the next lines.
-    fn go_on(&mut self) -> Outcome {
-        let Some(lines) = self.lines.get(self.place) else {
-            return Ok(());
-        };
-        self.place = self.place.saturating_add(1);
-        self.others.log(lines)
-    }
 }
 
-impl<'a, B: BookName, K: Logs, R: Wait + Copy> Link for Scripted<'a, B, K, R> {
+impl<'l, 'a, B: BookName, K: Logs, R: Wait + Copy> Link for Scripted<'l, 'a, B, K, R> {
     ghost use Rattle.std.specs.Prelude.{None};
 
     ghost coming = { λ _. None };
@@ -146,7 +127,9 @@ impl<'a, B: BookName, K: Logs, R: Wait + Copy> Link for Scripted<'a, B, K, R> {
     }
 
     fn receive(&mut self) -> Result<Post, LinkFault> {
-        if let Err(failure) = self.go_on() {
+        let lines = self.lines.get(self.place).copied().unwrap_or("");
+        self.place = self.place.saturating_add(1);
+        if let Err(failure) = self.others.log(lines) {
             self.logged = Err(failure);
             return Err(LinkFault::Closed);
         }

@@ -1,61 +1,81 @@
-// What watches a loop: a recorder in whose book there is little room, and a record and a gate that count
-// with it.
+// What watches a loop: a recorder in whose book there is little room, and a gate that counts with it.
 
-ghost use Rattle.std.specs.Prelude.{◌≡◌, ◌∷◌, [], IfOk};
+ghost use Rattle.std.specs.Prelude.{◌≡◌};
 
 use client_core::ClientCore;
 use entry_guard::EntryGuard;
 use event_recorders::{Gate, Recorder};
 use history_book::BookFault;
-use lock_messages::Actor;
+use lock_messages::{Actor, Mode};
 use lock_model::Heard;
-use stable_record::{MAX_RECORD_LEN, RecordFault, StableRecord};
+use stable_record::StableRecord;
 use std::alloc::Global;
-use std::marker::Model;
 use std::sync::Arc;
 use std::sync::atomic::AtomicU32;
 use std::sync::atomic::Ordering::SeqCst;
 use test_outcomes::Failure;
 use world_model::{Effect, Event};
 
-/// How many Trys were logged, how often a record was kept, how often a gate was called before a keep, how
-/// many of these calls came out of turn, and how many messages were heard that were not the hearer's.
+/// What is seen of the loop of one actor: how many Trys were logged, how often a record that counts was kept, how
+/// often the gate was called before a keep of the actor and of another one, how many of these calls came out of
+/// turn, how often the gate was called inside, with the modes of the tickets as digits (1 for a reader's and 2 for
+/// a writer's, the first call's first), and how many messages were heard that were not the hearer's.
 #[derive(Drop)]
-pub(crate) struct Counts {
+pub(crate) struct Watch {
+    actor: Actor,
     tries: AtomicU32,
     keeps: AtomicU32,
-    calls: AtomicU32,
+    own: AtomicU32,
+    others: AtomicU32,
     wrong: AtomicU32,
+    inside: AtomicU32,
+    modes: AtomicU32,
     not_mine: AtomicU32,
 }
 
-impl Counts {
-    pub(crate) fn new() -> Counts {
-        Counts {
+/// What a watch has seen.
+#[derive(Clone, Copy)]
+pub(crate) struct Seen {
+    pub(crate) keeps: u32,
+    pub(crate) own: u32,
+    pub(crate) others: u32,
+    pub(crate) wrong: u32,
+    pub(crate) inside: u32,
+    pub(crate) modes: u32,
+    pub(crate) not_mine: u32,
+}
+
+impl Watch {
+    pub(crate) fn shared(alloc: Global, actor: Actor) -> Result<Arc<Watch>, Failure> {
+        let watch = Watch {
+            actor,
             tries: AtomicU32::new(0),
             keeps: AtomicU32::new(0),
-            calls: AtomicU32::new(0),
+            own: AtomicU32::new(0),
+            others: AtomicU32::new(0),
             wrong: AtomicU32::new(0),
+            inside: AtomicU32::new(0),
+            modes: AtomicU32::new(0),
             not_mine: AtomicU32::new(0),
+        };
+        Ok(Arc::new(alloc, watch)?)
+    }
+
+    pub(crate) fn seen(&self) -> Seen {
+        Seen {
+            keeps: self.keeps.load(SeqCst),
+            own: self.own.load(SeqCst),
+            others: self.others.load(SeqCst),
+            wrong: self.wrong.load(SeqCst),
+            inside: self.inside.load(SeqCst),
+            modes: self.modes.load(SeqCst),
+            not_mine: self.not_mine.load(SeqCst),
         }
     }
 
-    pub(crate) fn shared(alloc: Global) -> Result<Arc<Counts>, Failure> {
-        Ok(Arc::new(alloc, Counts::new())?)
-    }
-
-    /// The calls of the gate before a keep, those that came out of turn, and the keeps.
-    pub(crate) fn calls(&self) -> (u32, u32, u32) {
-        (
-            self.calls.load(SeqCst),
-            self.wrong.load(SeqCst),
-            self.keeps.load(SeqCst),
-        )
-    }
-
-    /// The messages that were heard and not the hearer's.
-    pub(crate) fn not_mine(&self) -> u32 {
-        self.not_mine.load(SeqCst)
+    /// Counts the keep of a record.
+    pub(crate) fn keep(&self) {
+        self.keeps.fetch_add(1, SeqCst);
     }
 
     /// Counts a message that was not the hearer's.
@@ -69,11 +89,15 @@ impl Counts {
     }
 }
 
-/// The gate's call of a number is in turn where so many Trys are logged, and one keep fewer is made.
-impl Gate for Counts {
+/// Nothing waits at this gate. Its call of a number is in turn where so many Trys are logged, and one keep fewer is
+/// made.
+impl Gate for Watch {
     fn before_keep(&self, actor: Actor) {
-        let _ = actor;
-        let before = self.calls.fetch_add(1, SeqCst);
+        if actor != self.actor {
+            self.others.fetch_add(1, SeqCst);
+            return;
+        }
+        let before = self.own.fetch_add(1, SeqCst);
         let is_tried = self.tries.load(SeqCst) == before.wrapping_add(1);
         if !is_tried || self.keeps.load(SeqCst) != before {
             self.wrong.fetch_add(1, SeqCst);
@@ -82,93 +106,19 @@ impl Gate for Counts {
 
     fn while_inside<R: Recorder>(&self, recorder: &R, guard: &EntryGuard<'_, ClientCore>) {
         let _ = recorder;
-        let _ = guard;
-    }
-}
-
-/// A record in memory that counts its keeps.
-#[derive(Drop)]
-struct CountedRecord {
-    alloc: Global,
-    found: Vec<u8>,
-    counts: Arc<Counts>,
-}
-
-impl Model for CountedRecord {
-    ghost use Rattle.std.specs.Prelude.{ℕ, List};
-
-    ghost Value = { List ℕ };
-
-    ghost view = { λ r. r.found.items };
-}
-
-impl CountedRecord {
-    fn holding(alloc: Global, bytes: &[u8], counts: Arc<Counts>) -> Result<CountedRecord, Failure>
-        ensures { IfOk result (λ r. r ≡ bytes.now) }
-    {
-        let found = Vec::from_slice(alloc, bytes)?;
-        Ok(CountedRecord {
-            alloc,
-            found,
-            counts,
-        })
-    }
-}
-
-impl StableRecord for CountedRecord {
-    ghost use Rattle.std.specs.Prelude.{[], ◌∷◌, false};
-
-    ghost finds = { λ r. r ∷ [] };
-
-    ghost stuck_of = { λ _. false };
-
-    ghost spent_of = { λ _. false };
-
-    ghost failures_of = { λ _. 0 };
-
-    fn keep(&mut self, bytes: &[u8]) -> Result<(), RecordFault> {
-        if bytes.len() > MAX_RECORD_LEN {
-            return Err(RecordFault::TooLong);
-        }
-        self.counts.keeps.fetch_add(1, SeqCst);
-        let Ok(found) = Vec::from_slice(self.alloc, bytes) else {
-            return Err(RecordFault::Memory);
+        let digit = match guard.ticket().mode {
+            Mode::Read => 1,
+            Mode::Write => 2,
         };
-        self.found = found;
-        Ok(())
+        let before = self.modes.load(SeqCst);
+        self.modes
+            .store(before.wrapping_mul(10).wrapping_add(digit), SeqCst);
+        self.inside.fetch_add(1, SeqCst);
     }
-
-    fn reopen(&mut self) -> Result<Vec<u8>, RecordFault> {
-        match Vec::from_slice(self.alloc, &self.found) {
-            Ok(bytes) => Ok(bytes),
-            Err(_) => Err(RecordFault::Memory),
-        }
-    }
-
-    fn stuck(&self) -> bool {
-        false
-    }
-
-    fn failures(&self) -> u64 {
-        0
-    }
-}
-
-/// A record that counts its keeps, in which a restart finds these bytes.
-pub(crate) fn counted_record(
-    alloc: Global,
-    bytes: &[u8],
-    counts: &Arc<Counts>,
-) -> Result<Box<dyn StableRecord + Send>, Failure>
-    ensures { IfOk result (λ r. finds r ≡ bytes.now ∷ []) }
-{
-    let record = CountedRecord::holding(alloc, bytes, counts.clone()?)?;
-    let record: Box<dyn StableRecord + Send> = Box::new(alloc, record)?;
-    Ok(record)
 }
 
 /// How many events there is room for, and how many of them in which something is said.
-#[derive(Clone, Copy, Debug)]
+#[derive(Clone, Copy)]
 pub(crate) struct Room {
     pub(crate) events: u32,
     pub(crate) says: u32,
@@ -176,8 +126,8 @@ pub(crate) struct Room {
 
 /// Room for all that a test logs.
 pub(crate) const ENOUGH: Room = Room {
-    events: 1_000,
-    says: 1_000,
+    events: 10_000,
+    says: 10_000,
 };
 
 impl Room {
@@ -200,7 +150,7 @@ impl Room {
 pub(crate) struct Watched<'a, R: Recorder> {
     pub(crate) inner: R,
     pub(crate) room: Room,
-    pub(crate) counts: &'a Counts,
+    pub(crate) watch: &'a Watch,
 }
 
 impl<'a, R: Recorder> Recorder for Watched<'a, R> {
@@ -211,11 +161,11 @@ impl<'a, R: Recorder> Recorder for Watched<'a, R> {
             return Err(BookFault::Full);
         }
         if matches!(event, Event::Try(_)) {
-            self.counts.tries.fetch_add(1, SeqCst);
+            self.watch.tries.fetch_add(1, SeqCst);
         }
         let done = self.inner.log(event, stable);
         if let Ok(Effect::Heard(_, heard)) = &done {
-            self.counts.hear(*heard);
+            self.watch.hear(*heard);
         }
         done
     }

@@ -1,6 +1,6 @@
 // Worlds in which all are down and nothing is kept, books over them, and a few values.
 
-ghost use Rattle.std.specs.Prelude.{◌≡◌, ◌∷◌, [], IfOk};
+ghost use Rattle.std.specs.Prelude.{◌≡◌, ◌∷◌, [], length, IfOk};
 ghost use Rattle.loop_tests.specs.Fresh.{IsNew, IsNewBook, IsUnlogged, two_nodes};
 
 use crate::faults::of_book;
@@ -53,15 +53,22 @@ pub(crate) fn ballots() -> Result<BallotList, Failure>
     }
 }
 
+/// The plain policies of both problems for each of two nodes.
+pub(crate) fn pairs(alloc: Global) -> Result<Vec<Pair>, Failure>
+    ensures { IfOk result (λ v. length v.items ≡ 2) }
+{
+    let mut pairs = Vec::new(alloc);
+    pairs.push(pair(alloc)?)?;
+    pairs.push(pair(alloc)?)?;
+    Ok(pairs)
+}
+
 /// A world of those ballots, under this problem, and of three clients, in which nothing has happened.
 pub(crate) fn world(alloc: Global, ballots: BallotList, problem: Problem) -> Result<World, Failure>
     requires { ballots ≡ two_nodes }
     ensures { IfOk result (λ w. IsNew ballots problem w) }
 {
-    let mut pairs = Vec::new(alloc);
-    pairs.push(pair(alloc)?)?;
-    pairs.push(pair(alloc)?)?;
-    match World::start(alloc, ballots, 3, problem, pairs) {
+    match World::start(alloc, ballots, 3, problem, pairs(alloc)?) {
         Ok(world) => Ok(world),
         Err(_) => Err(Failure::Memory),
     }
@@ -99,72 +106,29 @@ fn berth_of(
     }
 }
 
-/// A new book of those ballots, under this problem, with the berths of a node and of c1.
+/// A new book of those ballots, under this problem, with the berth of one actor and those of four others: of
+/// another one, of n2, c2 and c3.
 pub(crate) fn opened(
     alloc: Global,
     ballots: BallotList,
     problem: Problem,
-    node: NodeId,
-) -> Result<(Book, Berth, Berth), Failure>
+    own: Actor,
+    other: Actor,
+) -> Result<(Book, Berth, (Berth, Berth, Berth, Berth)), Failure>
     requires { ballots ≡ two_nodes }
-    ensures book { IfOk result (λ r. IsNewBook ballots problem r.0) }
-    ensures node { IfOk result (λ r. IsUnlogged ballots problem (Actor.Node node) r.1 r.0) }
-    ensures client { IfOk result (λ r. IsUnlogged ballots problem (Actor.Client 1) r.2 r.0) }
+    ensures own { IfOk result (λ r. IsUnlogged ballots problem own r.1 r.0) }
+    ensures first { IfOk result (λ r. r.2.0.table ≡ r.0.table) }
+    ensures second { IfOk result (λ r. r.2.1.table ≡ r.0.table) }
+    ensures third { IfOk result (λ r. r.2.2.table ≡ r.0.table) }
+    ensures fourth { IfOk result (λ r. r.2.3.table ≡ r.0.table) }
 {
+    let second = Actor::Node(node_id(2)?);
+    let (third, fourth) = (Actor::Client(client_id(2)?), Actor::Client(client_id(3)?));
     let mut book = book(alloc, ballots, problem)?;
-    let one = berth_of(ballots, problem, &mut book, Actor::Node(node))?;
-    let two = berth_of(ballots, problem, &mut book, Actor::Client(client_id(1)?))?;
-    Ok((book, one, two))
-}
-
-/// The same, with the berth of c2 too.
-pub(crate) fn all_opened(
-    alloc: Global,
-    ballots: BallotList,
-    problem: Problem,
-    node: NodeId,
-) -> Result<(Book, Berth, Berth, Berth), Failure>
-    requires { ballots ≡ two_nodes }
-    ensures book { IfOk result (λ r. IsNewBook ballots problem r.0) }
-    ensures node { IfOk result (λ r. IsUnlogged ballots problem (Actor.Node node) r.1 r.0) }
-    ensures one { IfOk result (λ r. IsUnlogged ballots problem (Actor.Client 1) r.2 r.0) }
-    ensures two { IfOk result (λ r. IsUnlogged ballots problem (Actor.Client 2) r.3 r.0) }
-{
-    let (mut book, node, one) = opened(alloc, ballots, problem, node)?;
-    let two = berth_of(ballots, problem, &mut book, Actor::Client(client_id(2)?))?;
-    Ok((book, node, one, two))
-}
-
-/// A new book of those ballots, under this problem, with the berths of n1 and of all clients.
-pub(crate) fn clients_opened(
-    alloc: Global,
-    ballots: BallotList,
-    problem: Problem,
-) -> Result<(Book, Berth, Berth, Berth, Berth), Failure>
-    requires { ballots ≡ two_nodes }
-    ensures node { IfOk result (λ r. IsUnlogged ballots problem (Actor.Node 1) r.1 r.0) }
-    ensures one { IfOk result (λ r. IsUnlogged ballots problem (Actor.Client 1) r.2 r.0) }
-    ensures two { IfOk result (λ r. IsUnlogged ballots problem (Actor.Client 2) r.3 r.0) }
-    ensures three { IfOk result (λ r. IsUnlogged ballots problem (Actor.Client 3) r.4 r.0) }
-{
-    let (mut book, node, one, two) = all_opened(alloc, ballots, problem, node_id(1)?)?;
-    let three = berth_of(ballots, problem, &mut book, Actor::Client(client_id(3)?))?;
-    Ok((book, node, one, two, three))
-}
-
-/// A new book of those ballots, under problem 1, with the berths of both nodes, of c1 and of c2.
-pub(crate) fn whole_opened(
-    alloc: Global,
-    ballots: BallotList,
-) -> Result<(Book, Berth, Berth, Berth, Berth), Failure>
-    requires { ballots ≡ two_nodes }
-    ensures first { IfOk result (λ r. IsUnlogged ballots Problem.First (Actor.Node 1) r.1 r.0) }
-    ensures second { IfOk result (λ r. IsUnlogged ballots Problem.First (Actor.Node 2) r.2 r.0) }
-    ensures one { IfOk result (λ r. IsUnlogged ballots Problem.First (Actor.Client 1) r.3 r.0) }
-    ensures two { IfOk result (λ r. IsUnlogged ballots Problem.First (Actor.Client 2) r.4 r.0) }
-{
-    let problem = Problem::First;
-    let (mut book, first, one, two) = all_opened(alloc, ballots, problem, node_id(1)?)?;
-    let second = berth_of(ballots, problem, &mut book, Actor::Node(node_id(2)?))?;
-    Ok((book, first, second, one, two))
+    let own = berth_of(ballots, problem, &mut book, own)?;
+    let first = berth_of(ballots, problem, &mut book, other)?;
+    let second = berth_of(ballots, problem, &mut book, second)?;
+    let third = berth_of(ballots, problem, &mut book, third)?;
+    let fourth = berth_of(ballots, problem, &mut book, fourth)?;
+    Ok((book, own, (first, second, third, fourth)))
 }

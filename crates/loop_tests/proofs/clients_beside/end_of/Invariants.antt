@@ -1,4 +1,0 @@
-use Rattle.loop_tests.proofs.clients_beside.end_of.Given as goal
-
-abbrev pub ghosts-run : goal.ghosts-run
-ghosts-run g a = record { table = a.book.table }
