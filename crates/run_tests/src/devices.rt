@@ -8,7 +8,7 @@ use std::alloc::Global;
 use test_outcomes::Failure;
 
 /// On what a record lies.
-#[derive(Clone, Copy, Debug)]
+#[derive(Clone, Copy)]
 pub(crate) enum Device {
     /// What never fails.
     Memory,
@@ -54,14 +54,16 @@ fn plate(alloc: Global, bytes: &[u8], fuse: u32) -> Result<MemoryPlate, Failure>
     let Ok(plate) = MemoryPlate::of(alloc, LEAST_PLATE_LEN) else {
         return Err(Failure::Memory);
     };
-    let Ok(record) = SlotRecord::format(alloc, plate, bytes) else {
-        return Err(Failure::Memory);
-    };
-    let mut plate = record.into_plate();
-    if fuse >= 1 {
-        plate.fuse(fuse);
+    match SlotRecord::format(alloc, plate, bytes) {
+        Ok(record) => {
+            let mut plate = record.into_plate();
+            if fuse >= 1 {
+                plate.fuse(fuse);
+            }
+            Ok(plate)
+        }
+        Err((_plate, _fault)) => Err(Failure::Memory),
     }
-    Ok(plate)
 }
 
 fn on_a_plate(
@@ -71,15 +73,14 @@ fn on_a_plate(
 ) -> Result<Box<dyn StableRecord + Send>, Failure>
     ensures { IfOk result (λ r. finds r ≡ bytes.now ∷ []) }
 {
-    let plate = plate(alloc, bytes, fuse)?;
-    let Ok((record, found)) = SlotRecord::open(alloc, plate) else {
-        return Err(Failure::Memory);
-    };
-    if found.as_slice() != bytes {
-        return Err(Failure::Wrong(0));
+    match SlotRecord::open(alloc, plate(alloc, bytes, fuse)?) {
+        Ok((record, found)) if found.as_slice() == bytes => {
+            let record: Box<dyn StableRecord + Send> = Box::new(alloc, record)?;
+            Ok(record)
+        }
+        Ok((_record, _found)) => Err(Failure::Wrong(0)),
+        Err((_plate, _fault)) => Err(Failure::Memory),
     }
-    let record: Box<dyn StableRecord + Send> = Box::new(alloc, record)?;
-    Ok(record)
 }
 
 /// A record on such a device, in which a restart finds these bytes.

@@ -1,4 +1,4 @@
-// A run by a row: its setting, its wishes and its devices; and what is seen of its end.
+// Runs as rows: the setting, the wishes and the devices of each, and what is to be seen of its end.
 
 ghost use Rattle.std.specs.Prelude.{◌≡◌, ◌≤◌, length};
 ghost use Rattle.lock_model.specs.Ballots.{node_count};
@@ -8,17 +8,37 @@ use crate::audits::journal_of;
 use crate::devices::Device;
 use crate::given::{pairs, records, wishes, world};
 use event_recorders::{Gate, RunFault};
-use lock_messages::{Actor, ClientId, MAX_CLIENTS, NodeId};
+use lock_messages::{Actor, MAX_CLIENTS};
 use lossy_link::Weather;
 use node_threads::{RunEnd, run_all};
 use std::alloc::Global;
 use std::sync::Wait;
 use std::thread::Threads;
-use test_outcomes::Failure;
+use test_outcomes::{Failure, Outcome, check_row};
 use vote_weights::{Ballot, BallotList};
 
+/// Who ends by which fault.
+#[derive(Clone, Copy)]
+pub(crate) enum Ends {
+    Node(u8, RunFault),
+    Client(u32, RunFault),
+}
+
+impl Ends {
+    /// Whether it is this actor by this fault.
+    fn is(self, actor: Actor, fault: RunFault) -> bool {
+        match (self, actor) {
+            (Ends::Node(number, by), Actor::Node(node)) => node.get() == number && by == fault,
+            (Ends::Client(number, by), Actor::Client(client)) => {
+                client.get() == number && by == fault
+            }
+            _ => false,
+        }
+    }
+}
+
 /// What a run is given: its ballot, its clients, its wishes, the devices of its nodes and of its clients,
-/// and its weather by a seed and the odds of loss, repeats and delays.
+/// and its weather by a seed and the odds of loss, repeats and delays. And what is to be seen of its end.
 #[derive(Clone, Copy)]
 pub(crate) struct Row<'a> {
     pub(crate) votes: &'a [u8],
@@ -29,14 +49,43 @@ pub(crate) struct Row<'a> {
     pub(crate) devices: &'a [Device],
     pub(crate) of_clients: Device,
     pub(crate) weather: (u64, u16, u16, u16),
+    /// How many entries it has.
+    pub(crate) entered: u32,
+    /// How many events, where that is the same in each run.
+    pub(crate) events: Option<u32>,
+    /// Who ends by a fault, in order.
+    pub(crate) faults: &'a [Ends],
+    /// Beginnings of lines, each with all lines of the journal that begin so, in order.
+    pub(crate) lines: &'a [(&'a str, &'a str)],
+    /// Lines that stand in the journal once, the first of a pair before the other.
+    pub(crate) order: &'a [(&'a str, &'a str)],
+    /// The number by which the test tells that another number of entries or other faults were seen.
+    pub(crate) number: usize,
 }
 
-/// What is seen of a run's end: how many entries and events, the faults, and the journal.
+/// Three nodes with a vote each, of which two read and two write, and four clients, in fair weather. Nobody ends by
+/// a fault; the wishes and the entries are a row's own.
+pub(crate) const PLAIN: Row<'static> = Row {
+    votes: &[1, 1, 1],
+    read: 2,
+    write: 2,
+    clients: 4,
+    wishes: &[],
+    devices: &[Device::Memory; 3],
+    of_clients: Device::Memory,
+    weather: (1, 0, 0, 0),
+    entered: 0,
+    events: None,
+    faults: &[],
+    lines: &[],
+    order: &[],
+    number: 1,
+};
+
+/// A run's end, and the journal of its book.
 #[derive(Drop)]
 pub(crate) struct Seen {
-    pub(crate) entered: u32,
-    pub(crate) events: u32,
-    pub(crate) faults: Vec<(Actor, RunFault)>,
+    pub(crate) end: RunEnd,
     pub(crate) journal: Vec<u8>,
 }
 
@@ -76,8 +125,7 @@ fn end_of<R: Threads + Wait + Copy + Send, G: Gate + Sync>(
     }
 }
 
-/// Runs the row, with the gate, and audits its journal. A run for which memory was refused ends the test
-/// by that.
+/// Runs the row, with the gate, and audits its journal.
 pub(crate) fn run_row<R: Threads + Wait + Copy + Send, G: Gate + Sync>(
     rt: R,
     alloc: Global,
@@ -97,33 +145,93 @@ pub(crate) fn run_row<R: Threads + Wait + Copy + Send, G: Gate + Sync>(
         return Err(Failure::Wrong(0));
     }
     let end = end_of(rt, alloc, row, ballots, gate)?;
-    let again = world(alloc, ballots, row.clients)?;
-    let journal = journal_of(alloc, &end.book, again)?;
-    if end
-        .faults
-        .iter()
-        .any(|(_, fault)| *fault == RunFault::Memory)
-    {
+    let opening = world(alloc, ballots, row.clients)?;
+    let journal = journal_of(alloc, &end.book, opening)?;
+    Ok(Seen { end, journal })
+}
+
+/// Ends the test unless just these actors ended by these faults. A run for which memory was refused ends it by that.
+fn are_faults(found: &[(Actor, RunFault)], expected: &[Ends], number: usize) -> Outcome {
+    let mut are_same = found.len() == expected.len();
+    let mut had_memory = true;
+    for (place, (actor, fault)) in found.iter().enumerate() {
+        had_memory &= *fault != RunFault::Memory;
+        are_same &= match expected.get(place) {
+            Some(ends) => ends.is(*actor, *fault),
+            None => false,
+        };
+    }
+    if !had_memory {
         return Err(Failure::Memory);
     }
-    Ok(Seen {
-        entered: end.entered,
-        events: end.book.events(),
-        faults: end.faults,
-        journal,
-    })
+    check_row(are_same, number)
 }
 
-pub(crate) fn node(number: u8) -> Result<Actor, Failure> {
-    match NodeId::of(number) {
-        Some(node) => Ok(Actor::Node(node)),
-        None => Err(Failure::Wrong(0)),
+/// The text of a journal.
+pub(crate) fn text_of(journal: &[u8]) -> Result<&str, Failure> {
+    match str::from_utf8(journal) {
+        Ok(text) => Ok(text),
+        Err(_) => Err(Failure::Wrong(0)),
     }
 }
 
-pub(crate) fn client(number: u32) -> Result<Actor, Failure> {
-    match ClientId::of(number) {
-        Some(client) => Ok(Actor::Client(client)),
-        None => Err(Failure::Wrong(0)),
+/// Whether the lines of a text that begin so are just these, in order.
+pub(crate) fn has_lines(text: &str, start: &str, expected: &str) -> bool {
+    let mut expected = expected.lines();
+    let mut are_same = true;
+    for line in text.lines() {
+        if line.starts_with(start) {
+            are_same &= expected.next() == Some(line);
+        }
     }
+    are_same && expected.next().is_none()
+}
+
+/// Which line of the journal this is, from 0 on; it stands there once.
+fn place_of(journal: &str, wanted: &str) -> Result<usize, Failure> {
+    let mut found = None;
+    for (place, line) in journal.lines().enumerate() {
+        if line == wanted && found.is_some() {
+            return Err(Failure::Wrong(0));
+        }
+        if line == wanted {
+            found = Some(place);
+        }
+    }
+    found.ok_or(Failure::Wrong(0))
+}
+
+/// Ends the test unless the journal has the row's lines.
+fn are_lines(journal: &[u8], row: &Row<'_>) -> Outcome {
+    let text = text_of(journal)?;
+    let mut are_same = true;
+    for (start, expected) in row.lines {
+        are_same &= has_lines(text, start, expected);
+    }
+    check_row(are_same, 3)?;
+    for (first, then) in row.order {
+        check_row(place_of(text, first)? < place_of(text, then)?, row.number)?;
+    }
+    Ok(())
+}
+
+/// Ends the test unless of a run's end is seen what the row says.
+pub(crate) fn is_right(seen: &Seen, row: &Row<'_>) -> Outcome {
+    let end = &seen.end;
+    are_faults(end.faults.as_slice(), row.faults, row.number)?;
+    check_row(end.entered == row.entered, row.number)?;
+    let events = end.book.events();
+    check_row(row.events.unwrap_or(events) == events, 2)?;
+    are_lines(seen.journal.as_slice(), row)
+}
+
+/// Runs the row with the gate, and ends the test unless it ends as the row says.
+pub(crate) fn goes<R: Threads + Wait + Copy + Send, G: Gate + Sync>(
+    rt: R,
+    alloc: Global,
+    row: &Row<'_>,
+    gate: &G,
+) -> Outcome {
+    let seen = run_row(rt, alloc, row, gate)?;
+    is_right(&seen, row)
 }

@@ -11,12 +11,13 @@ use std::sync::Wait;
 use std::thread::Threads;
 use test_outcomes::{Failure, Outcome, check_row};
 
-/// What a run by these settings prints, and its status.
+/// Serves a run by these settings, which prints there; its status.
 fn served<R: Threads + Wait + Copy + Send>(
     rt: R,
     alloc: Global,
     settings: &str,
-) -> Result<(Vec<u8>, u8), Failure> {
+    out: &mut Vec<u8>,
+) -> Result<u8, Failure> {
     let for_world = Policies {
         pairs: pairs(alloc, MAX_NODES)?,
     };
@@ -32,22 +33,26 @@ fn served<R: Threads + Wait + Copy + Send>(
         command: Command::Run { journal: false },
         policies: for_world,
     };
-    let mut out = Vec::new(alloc);
-    let came = serve_run(
+    match serve_run(
         rt,
         alloc,
         order,
         settings.as_bytes(),
-        &mut out,
+        out,
         for_threads,
         records,
         &mut None,
-    );
-    match came {
-        Ok(status) => Ok((out, status)),
+    ) {
+        Ok(status) => Ok(status),
         Err(ServeFault::Memory | ServeFault::Write) => Err(Failure::Memory),
         Err(_) => Err(Failure::Wrong(0)),
     }
+}
+
+/// Ends the test unless just this was printed, with status 0.
+fn is_printed(came: Result<u8, Failure>, out: &[u8], expected: &str) -> Outcome {
+    check_row(came? == 0, 1)?;
+    check_row(out == expected.as_bytes(), 2)
 }
 
 /// Ends the test unless these settings print this, with status 0.
@@ -57,9 +62,9 @@ fn prints<R: Threads + Wait + Copy + Send>(
     settings: &str,
     expected: &str,
 ) -> Outcome {
-    let (out, status) = served(rt, alloc, settings)?;
-    check_row(status == 0, 1)?;
-    check_row(out.as_slice() == expected.as_bytes(), 2)
+    let mut out = Vec::new(alloc);
+    let came = served(rt, alloc, settings, &mut out);
+    is_printed(came, out.as_slice(), expected)
 }
 
 /// All of seven actors rise; three events are for the attempt, six for each of two asks, two for the visit,
@@ -104,10 +109,16 @@ wishes = ['c1 read a']
 ---
 ";
 
+/// Ends the test unless it is printed that nobody entered, and that c1 gave up, with status 1.
+fn is_hopeless(came: Result<u8, Failure>, out: &[u8]) -> Outcome {
+    check_row(came? == 1 && out.starts_with(b"entered 0\n"), 1)?;
+    check_row(out.ends_with(b"\nc1 fault 913\n"), 2)
+}
+
 /// All is lost: the client gives up.
 #[test]
 fn a_hopeless_run(rt: HostRuntime) -> Outcome {
-    let (out, status) = served(rt, rt.alloc(), ALL_LOST)?;
-    check_row(status == 1 && out.starts_with(b"entered 0\n"), 1)?;
-    check_row(out.ends_with(b"\nc1 fault 913\n"), 2)
+    let mut out = Vec::new(rt.alloc());
+    let came = served(rt, rt.alloc(), ALL_LOST, &mut out);
+    is_hopeless(came, out.as_slice())
 }

@@ -2,12 +2,12 @@
 
 use crate::devices::Device;
 use crate::gates::OpenGate;
-use crate::rows::{Row, run_row};
+use crate::rows::{Row, goes};
 use stable_record::Leaves;
 use std::alloc::Global;
 use std::sync::Wait;
 use std::thread::Threads;
-use test_outcomes::{Failure, Outcome, check_row};
+use test_outcomes::{Failure, Outcome};
 
 /// Twenty wishes of each of eight clients on three resources.
 const WISHES: u32 = 160;
@@ -52,6 +52,15 @@ fn texts(alloc: Global, count: u32, modes: &Modes) -> Result<Vec<Vec<u8>>, Failu
     Ok(texts)
 }
 
+/// The same, lent.
+fn lent(alloc: Global, texts: &[Vec<u8>]) -> Result<Vec<&[u8]>, Failure> {
+    let mut wishes = Vec::new(alloc);
+    for text in texts {
+        wishes.push(text.as_slice())?;
+    }
+    Ok(wishes)
+}
+
 /// Runs so many wishes with every record on this device. All are entered, and nobody ends by a fault.
 fn storm<R: Threads + Wait + Copy + Send>(
     rt: R,
@@ -62,10 +71,7 @@ fn storm<R: Threads + Wait + Copy + Send>(
     device: Device,
 ) -> Outcome {
     let texts = texts(alloc, count, modes)?;
-    let mut wishes = Vec::new(alloc);
-    for text in &texts {
-        wishes.push(text.as_slice())?;
-    }
+    let wishes = lent(alloc, &texts)?;
     let row = Row {
         votes: &[1, 1, 1],
         read: 2,
@@ -75,28 +81,32 @@ fn storm<R: Threads + Wait + Copy + Send>(
         devices: &[device; 3],
         of_clients: device,
         weather: (seed, 200, 200, 200),
+        entered: count,
+        events: None,
+        faults: &[],
+        lines: &[],
+        order: &[],
+        number: seed as usize,
     };
-    let seen = run_row(rt, alloc, &row, &OpenGate)?;
-    check_row(
-        seen.faults.is_empty() && seen.entered == count,
-        seed as usize,
-    )
+    goes(rt, alloc, &row, &OpenGate)
+}
+
+/// Storms by five seeds.
+fn storms<R: Threads + Wait + Copy + Send>(rt: R, alloc: Global, modes: &Modes) -> Outcome {
+    for seed in 1..6u64 {
+        storm(rt, alloc, seed, WISHES, modes, Device::Memory)?;
+    }
+    Ok(())
 }
 
 #[test]
 fn a_storm_of_five_seeds(rt: HostRuntime) -> Outcome {
-    for seed in 1..6u64 {
-        storm(rt, rt.alloc(), seed, WISHES, &TWO_MODES, Device::Memory)?;
-    }
-    Ok(())
+    storms(rt, rt.alloc(), &TWO_MODES)
 }
 
 #[test]
 fn writers_that_soften(rt: HostRuntime) -> Outcome {
-    for seed in 1..6u64 {
-        storm(rt, rt.alloc(), seed, WISHES, &THREE_MODES, Device::Memory)?;
-    }
-    Ok(())
+    storms(rt, rt.alloc(), &THREE_MODES)
 }
 
 /// Six wishes of each client.

@@ -455,6 +455,6 @@ pub(crate) fn run_switched<R: Threads + Wait + Copy + Send + Sync>(
     };
     match Book::over(alloc, 1, world(alloc, ballots, clients)?) {
         Ok(book) => named::<Brand, R>(rt, alloc, ballots, clients, book, setting, links),
-        Err(_) => Err(Failure::Memory),
+        Err((_world, _fault)) => Err(Failure::Memory),
     }
 }

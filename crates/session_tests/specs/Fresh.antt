@@ -32,7 +32,3 @@ pub record IsUnlogged (b : List Ballot) (who : Actor) (k : BerthValue) (book : B
 -- the log of this client, which has logged nothing, and has made no attempt
 abbrev pub IsNew : ℕ → List Ballot → OwnLog → Type 0
 IsNew c b l = l ≡ record { actor = actor.Client c; ballots = b; opening = ClientPart (down_client 0); events = [] }
-
--- the same of c1
-abbrev pub IsNewClient : List Ballot → OwnLog → Type 0
-IsNewClient b l = IsNew 1 b l

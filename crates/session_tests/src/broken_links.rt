@@ -1,8 +1,8 @@
 //! A session whose link takes one parcel no more, for want of memory (914), or brings nothing any more, so that no
 //! node is left (912).
 
-use crate::calls::{Call, NO_MEMORY, READ_A, READ_B, TOO_FEW, TRY_A, WRITE_A};
-use crate::rows::{PLAIN, Row, goes};
+use crate::calls::{Call, NO_MEMORY, READ_A, READ_B, Says, TOO_FEW, TRY_A, WRITE_A};
+use crate::rows::{PLAIN, Row, all_go, goes};
 use lock_messages::Mode;
 use lossy_link::LinkFault;
 use test_outcomes::Outcome;
@@ -16,34 +16,36 @@ kept c1
 sayto c1 n1
 ";
 
+const NO_MEMORY_FOR_THE_REQUEST: Row<'static> = Row {
+    lost: Some((1, LinkFault::Memory)),
+    calls: &[
+        (READ_A, NO_MEMORY),
+        (Call::Settle, NO_MEMORY),
+        (READ_B, NO_MEMORY),
+    ],
+    journal: ASKED,
+    found: Some(1),
+    ..PLAIN
+};
+
 /// The request is logged, and the session is over.
 #[test]
 fn no_memory_for_the_request(rt: HostRuntime) -> Outcome {
-    let row = Row {
-        lost: Some((1, LinkFault::Memory)),
-        calls: &[
-            (READ_A, NO_MEMORY),
-            (Call::Settle, NO_MEMORY),
-            (READ_B, NO_MEMORY),
-        ],
-        journal: ASKED.as_bytes(),
-        found: Some(1),
-        ..PLAIN
-    };
-    goes(rt, rt.alloc(), &row)
+    goes(rt, rt.alloc(), &NO_MEMORY_FOR_THE_REQUEST)
 }
+
+const NO_MEMORY_FOR_THE_REQUEST_OF_A_TRY: Row<'static> = Row {
+    lost: Some((1, LinkFault::Memory)),
+    calls: &[(TRY_A, NO_MEMORY), (TRY_A, NO_MEMORY)],
+    journal: ASKED,
+    found: Some(1),
+    ..PLAIN
+};
 
 /// The same where it needn't wait.
 #[test]
 fn no_memory_for_the_request_of_a_try(rt: HostRuntime) -> Outcome {
-    let row = Row {
-        lost: Some((1, LinkFault::Memory)),
-        calls: &[(TRY_A, NO_MEMORY), (TRY_A, NO_MEMORY)],
-        journal: ASKED.as_bytes(),
-        found: Some(1),
-        ..PLAIN
-    };
-    goes(rt, rt.alloc(), &row)
+    goes(rt, rt.alloc(), &NO_MEMORY_FOR_THE_REQUEST_OF_A_TRY)
 }
 
 const SOFTENED: &str = "\
@@ -63,24 +65,25 @@ soften c1
 sayto c1 n1
 ";
 
+const NO_MEMORY_FOR_THE_SOFTENING: Row<'static> = Row {
+    lost: Some((2, LinkFault::Memory)),
+    calls: &[
+        (WRITE_A, Says::Done),
+        (Call::Soften(Mode::Read), NO_MEMORY),
+        (Call::Leave, NO_MEMORY),
+        (Call::Settle, NO_MEMORY),
+        (READ_B, NO_MEMORY),
+    ],
+    inside: 1,
+    journal: SOFTENED,
+    found: Some(1),
+    ..PLAIN
+};
+
 /// The session is over, and inside as a reader until the guard leaves, which says nothing.
 #[test]
 fn no_memory_for_the_softening(rt: HostRuntime) -> Outcome {
-    let row = Row {
-        lost: Some((2, LinkFault::Memory)),
-        calls: &[
-            (WRITE_A, Ok(())),
-            (Call::Soften(Mode::Read), NO_MEMORY),
-            (Call::Leave, NO_MEMORY),
-            (Call::Settle, NO_MEMORY),
-            (READ_B, NO_MEMORY),
-        ],
-        inside: 1,
-        journal: SOFTENED.as_bytes(),
-        found: Some(1),
-        ..PLAIN
-    };
-    goes(rt, rt.alloc(), &row)
+    goes(rt, rt.alloc(), &NO_MEMORY_FOR_THE_SOFTENING)
 }
 
 const LEFT: &str = "\
@@ -100,43 +103,71 @@ leave c1
 sayto c1 n1
 ";
 
+const NO_MEMORY_FOR_THE_RELEASE: Row<'static> = Row {
+    lost: Some((2, LinkFault::Memory)),
+    calls: &[
+        (READ_A, Says::Done),
+        (Call::Leave, NO_MEMORY),
+        (Call::Settle, NO_MEMORY),
+        (READ_B, NO_MEMORY),
+    ],
+    journal: LEFT,
+    found: Some(1),
+    ..PLAIN
+};
+
 /// The Leave and the release are logged, and the session is over.
 #[test]
 fn no_memory_for_the_release(rt: HostRuntime) -> Outcome {
-    let row = Row {
-        lost: Some((2, LinkFault::Memory)),
-        calls: &[
-            (READ_A, Ok(())),
-            (Call::Leave, NO_MEMORY),
-            (Call::Settle, NO_MEMORY),
-            (READ_B, NO_MEMORY),
-        ],
-        journal: LEFT.as_bytes(),
-        found: Some(1),
-        ..PLAIN
-    };
-    goes(rt, rt.alloc(), &row)
+    goes(rt, rt.alloc(), &NO_MEMORY_FOR_THE_RELEASE)
 }
+
+/// What is to be said of a dropped guard is not taken.
+const NO_MEMORY_BEHIND_A_DROP: Row<'static> = Row {
+    lost: Some((2, LinkFault::Memory)),
+    journal: LEFT,
+    found: Some(1),
+    ..PLAIN
+};
+
+const NO_MEMORY_FOR_THE_RELEASE_OF_A_DROPPED_GUARD: [Row<'static>; 3] = [
+    Row {
+        calls: &[
+            (READ_A, Says::Done),
+            (Call::Drop, Says::Done),
+            (Call::Settle, NO_MEMORY),
+            (READ_A, NO_MEMORY),
+        ],
+        ..NO_MEMORY_BEHIND_A_DROP
+    },
+    Row {
+        calls: &[
+            (READ_A, Says::Done),
+            (Call::Drop, Says::Done),
+            (READ_B, NO_MEMORY),
+            (READ_A, NO_MEMORY),
+        ],
+        ..NO_MEMORY_BEHIND_A_DROP
+    },
+    Row {
+        calls: &[
+            (READ_A, Says::Done),
+            (Call::Drop, Says::Done),
+            (TRY_A, NO_MEMORY),
+            (READ_A, NO_MEMORY),
+        ],
+        ..NO_MEMORY_BEHIND_A_DROP
+    },
+];
 
 /// The same of a guard that was dropped, in the next call.
 #[test]
 fn no_memory_for_the_release_of_a_dropped_guard(rt: HostRuntime) -> Outcome {
-    for next in [Call::Settle, READ_B, TRY_A] {
-        let row = Row {
-            lost: Some((2, LinkFault::Memory)),
-            calls: &[
-                (READ_A, Ok(())),
-                (Call::Drop, Ok(())),
-                (next, NO_MEMORY),
-                (READ_A, NO_MEMORY),
-            ],
-            journal: LEFT.as_bytes(),
-            found: Some(1),
-            ..PLAIN
-        };
-        goes(rt, rt.alloc(), &row)?;
-    }
-    Ok(())
+    all_go(
+        rt,
+        rt.alloc(),
+        &NO_MEMORY_FOR_THE_RELEASE_OF_A_DROPPED_GUARD,
+    )
 }
 
 const TAKEN_BACK: &str = "\
@@ -166,19 +197,20 @@ leave c1
 sayto c1 n1
 ";
 
+const NO_MEMORY_FOR_TAKING_BACK: Row<'static> = Row {
+    lost: Some((2, LinkFault::Memory)),
+    beside: true,
+    calls: &[(TRY_A, NO_MEMORY), (TRY_A, NO_MEMORY)],
+    inside: 1,
+    journal: TAKEN_BACK,
+    found: Some(1),
+    ..PLAIN
+};
+
 /// A try that a writer beside lets wait takes back what it asked for, and there is no memory for its release.
 #[test]
 fn no_memory_for_taking_back(rt: HostRuntime) -> Outcome {
-    let row = Row {
-        lost: Some((2, LinkFault::Memory)),
-        beside: true,
-        calls: &[(TRY_A, NO_MEMORY), (TRY_A, NO_MEMORY)],
-        inside: 1,
-        journal: TAKEN_BACK.as_bytes(),
-        found: Some(1),
-        ..PLAIN
-    };
-    goes(rt, rt.alloc(), &row)
+    goes(rt, rt.alloc(), &NO_MEMORY_FOR_TAKING_BACK)
 }
 
 const CLOSED_TWICE: &str = "\
@@ -195,20 +227,25 @@ kept c1
 leave c1
 ";
 
+const CLOSED_BEHIND_THE_REQUEST: Row<'static> = Row {
+    lost: Some((1, LinkFault::Closed)),
+    calls: &[
+        (READ_A, TOO_FEW),
+        (Call::Settle, Says::Done),
+        (READ_B, TOO_FEW),
+    ],
+    journal: CLOSED_TWICE,
+    found: Some(2),
+    ..PLAIN
+};
+
 /// Nothing comes any more: the session has nobody to tell that it leaves, goes on, and ends so again.
 #[test]
 fn closed_behind_the_request(rt: HostRuntime) -> Outcome {
-    let row = Row {
-        lost: Some((1, LinkFault::Closed)),
-        calls: &[(READ_A, TOO_FEW), (Call::Settle, Ok(())), (READ_B, TOO_FEW)],
-        journal: CLOSED_TWICE.as_bytes(),
-        found: Some(2),
-        ..PLAIN
-    };
-    goes(rt, rt.alloc(), &row)
+    goes(rt, rt.alloc(), &CLOSED_BEHIND_THE_REQUEST)
 }
 
-const CLOSED_BEHIND_THE_RELEASE: &str = "\
+const CLOSED_BEHIND_A_RELEASE: &str = "\
 rise n1 old
 rise c1 old
 begin c1 read a
@@ -229,35 +266,45 @@ kept c1
 leave c1
 ";
 
+const CLOSED_BEHIND_THE_RELEASE: Row<'static> = Row {
+    lost: Some((2, LinkFault::Closed)),
+    calls: &[
+        (READ_A, Says::Done),
+        (Call::Leave, Says::Done),
+        (READ_B, TOO_FEW),
+    ],
+    journal: CLOSED_BEHIND_A_RELEASE,
+    found: Some(2),
+    ..PLAIN
+};
+
 /// It has left: who is gone need not answer. No node is left for the next attempt.
 #[test]
 fn closed_behind_the_release(rt: HostRuntime) -> Outcome {
-    let row = Row {
-        lost: Some((2, LinkFault::Closed)),
-        calls: &[(READ_A, Ok(())), (Call::Leave, Ok(())), (READ_B, TOO_FEW)],
-        journal: CLOSED_BEHIND_THE_RELEASE.as_bytes(),
-        found: Some(2),
-        ..PLAIN
-    };
-    goes(rt, rt.alloc(), &row)
+    goes(rt, rt.alloc(), &CLOSED_BEHIND_THE_RELEASE)
 }
+
+const CLOSED_BEHIND_THE_RELEASE_OF_A_DROPPED_GUARD: Row<'static> = Row {
+    lost: Some((2, LinkFault::Closed)),
+    calls: &[
+        (READ_A, Says::Done),
+        (Call::Drop, Says::Done),
+        (Call::Settle, Says::Done),
+        (READ_B, TOO_FEW),
+    ],
+    journal: CLOSED_BEHIND_A_RELEASE,
+    found: Some(2),
+    ..PLAIN
+};
 
 /// The same of a guard that was dropped.
 #[test]
 fn closed_behind_the_release_of_a_dropped_guard(rt: HostRuntime) -> Outcome {
-    let row = Row {
-        lost: Some((2, LinkFault::Closed)),
-        calls: &[
-            (READ_A, Ok(())),
-            (Call::Drop, Ok(())),
-            (Call::Settle, Ok(())),
-            (READ_B, TOO_FEW),
-        ],
-        journal: CLOSED_BEHIND_THE_RELEASE.as_bytes(),
-        found: Some(2),
-        ..PLAIN
-    };
-    goes(rt, rt.alloc(), &row)
+    goes(
+        rt,
+        rt.alloc(),
+        &CLOSED_BEHIND_THE_RELEASE_OF_A_DROPPED_GUARD,
+    )
 }
 
 const SOFTENED_UNHEARD: &str = "\
@@ -284,19 +331,20 @@ say n1
 hear c1 5
 ";
 
+const THE_SOFTENING_IS_LOST: Row<'static> = Row {
+    lost: Some((2, LinkFault::Closed)),
+    calls: &[
+        (WRITE_A, Says::Done),
+        (Call::Soften(Mode::Read), Says::Done),
+        (Call::Leave, Says::Done),
+    ],
+    journal: SOFTENED_UNHEARD,
+    found: Some(1),
+    ..PLAIN
+};
+
 /// Softening waits for no answer: where its parcel is lost the session is a reader, and leaves as ever.
 #[test]
 fn the_softening_is_lost(rt: HostRuntime) -> Outcome {
-    let row = Row {
-        lost: Some((2, LinkFault::Closed)),
-        calls: &[
-            (WRITE_A, Ok(())),
-            (Call::Soften(Mode::Read), Ok(())),
-            (Call::Leave, Ok(())),
-        ],
-        journal: SOFTENED_UNHEARD.as_bytes(),
-        found: Some(1),
-        ..PLAIN
-    };
-    goes(rt, rt.alloc(), &row)
+    goes(rt, rt.alloc(), &THE_SOFTENING_IS_LOST)
 }

@@ -1,8 +1,9 @@
 // Calls of a session and of its guards, one after the other, and what each answers.
 
+use crate::rows::Row;
 use crate::worlds::resource;
 use event_recorders::{Recorder, RunFault};
-use lock_messages::{Mode, ResourceName};
+use lock_messages::Mode;
 use lock_session::{OwnRecord, Session, SessionGuard, TryFault};
 use lossy_link::Link;
 use std::alloc::Global;
@@ -19,22 +20,30 @@ pub(crate) enum Name {
 }
 
 impl Name {
-    fn resource(self) -> Result<ResourceName, Failure> {
+    fn bytes(self) -> &'static [u8] {
         match self {
-            Name::A => resource(b"a"),
-            Name::B => resource(b"b"),
-            Name::Longest => resource(b"abcdefghijklmnopqrstuvwxyz-01234"),
+            Name::A => b"a",
+            Name::B => b"b",
+            Name::Longest => b"abcdefghijklmnopqrstuvwxyz-01234",
         }
     }
+}
+
+/// A use that is asked for: whether it waits for it, the mode, the resource, and the number of the nudge at
+/// which it gives up.
+#[derive(Clone, Copy)]
+pub(crate) struct Asked {
+    pub(crate) waits: bool,
+    pub(crate) mode: Mode,
+    pub(crate) name: Name,
+    pub(crate) nudges: u32,
 }
 
 /// A call of a session, or of the guard that it gave last.
 #[derive(Clone, Copy)]
 pub(crate) enum Call {
-    /// Enters, to use this resource; it gives up at the nudge of this number.
-    Enter(Mode, Name, u32),
-    /// The same where it needn't wait.
-    Try(Mode, Name, u32),
+    /// Enters.
+    Enter(Asked),
     Settle,
     /// Softens, and has a ticket of this mode then.
     Soften(Mode),
@@ -43,34 +52,64 @@ pub(crate) enum Call {
     Drop,
 }
 
-/// How many nudges are enough.
-const NUDGES: u32 = 1_000;
+/// Enough nudges, and `a` to read.
+pub(crate) const ASKED: Asked = Asked {
+    waits: true,
+    mode: Mode::Read,
+    name: Name::A,
+    nudges: 1_000,
+};
 
-pub(crate) const READ_A: Call = Call::Enter(Mode::Read, Name::A, NUDGES);
+pub(crate) const READ_A: Call = Call::Enter(ASKED);
 
-pub(crate) const WRITE_A: Call = Call::Enter(Mode::Write, Name::A, NUDGES);
+pub(crate) const WRITE_A: Call = Call::Enter(Asked {
+    mode: Mode::Write,
+    ..ASKED
+});
 
-pub(crate) const READ_B: Call = Call::Enter(Mode::Read, Name::B, NUDGES);
+pub(crate) const READ_B: Call = Call::Enter(Asked {
+    name: Name::B,
+    ..ASKED
+});
 
-pub(crate) const TRY_A: Call = Call::Try(Mode::Read, Name::A, NUDGES);
+pub(crate) const TRY_A: Call = Call::Enter(Asked {
+    waits: false,
+    ..ASKED
+});
 
-pub(crate) const TRY_B: Call = Call::Try(Mode::Read, Name::B, NUDGES);
+pub(crate) const TRY_B: Call = Call::Enter(Asked {
+    waits: false,
+    name: Name::B,
+    ..ASKED
+});
+
+/// What a call is to answer.
+#[derive(Clone, Copy)]
+pub(crate) enum Says {
+    Done,
+    /// It would have to wait.
+    Busy,
+    /// It ends by this fault.
+    Ends(RunFault),
+    /// The session is over by the row's fault.
+    Over,
+}
+
+/// Too few nodes are left (912), or it had its last nudge (913): the session goes on.
+pub(crate) const TOO_FEW: Says = Says::Ends(RunFault::TooFewNodes);
+
+pub(crate) const GAVE_UP: Says = Says::Ends(RunFault::GaveUp);
+
+/// The record was not reopened (911), or memory was refused (914): the session is over.
+pub(crate) const NOT_REOPENED: Says = Says::Ends(RunFault::NotReopened);
+
+pub(crate) const NO_MEMORY: Says = Says::Ends(RunFault::Memory);
 
 /// What a call answers.
 pub(crate) type Answer = Result<(), TryFault>;
 
-/// Too few nodes are left (912), or it had its last nudge (913): the session goes on.
-pub(crate) const TOO_FEW: Answer = Err(TryFault::Ended(RunFault::TooFewNodes));
-
-pub(crate) const GAVE_UP: Answer = Err(TryFault::Ended(RunFault::GaveUp));
-
-/// The record was not reopened (911), memory was refused (914), or the book takes no more (915): the session is
-/// over.
-pub(crate) const NOT_REOPENED: Answer = Err(TryFault::Ended(RunFault::NotReopened));
-
-pub(crate) const NO_MEMORY: Answer = Err(TryFault::Ended(RunFault::Memory));
-
-pub(crate) const NO_ROOM: Answer = Err(TryFault::Ended(RunFault::Book));
+/// The answer of a call that was refused memory.
+const REFUSED: Answer = Err(TryFault::Ended(RunFault::Memory));
 
 /// A fault as a call answers it.
 fn told(answer: Result<(), RunFault>) -> Answer {
@@ -80,20 +119,24 @@ fn told(answer: Result<(), RunFault>) -> Answer {
     }
 }
 
-/// Ends the test unless a call answered what is expected. Where memory was refused and no fault by that is
-/// expected, the test ends by it.
-fn expect(answer: Answer, expected: Answer, at: usize) -> Outcome {
-    if answer != expected && answer == NO_MEMORY {
-        return Err(Failure::Memory);
+/// Ends the test unless a call answered what is expected; else the place behind it. Where memory was refused and no
+/// fault by that is expected, the test ends by it.
+fn expect(answer: Answer, expected: Answer, at: usize) -> Result<usize, Failure> {
+    if answer == expected {
+        Ok(at.saturating_add(1))
+    } else if answer == REFUSED {
+        Err(Failure::Memory)
+    } else {
+        Err(Failure::Wrong(at))
     }
-    check_row(answer == expected, at)
 }
 
 /// By which fault a session is over once a call has answered so.
 fn over_by(answer: Answer) -> Option<RunFault> {
     match answer {
-        Ok(()) | Err(TryFault::Busy) | TOO_FEW | GAVE_UP => None,
+        Err(TryFault::Ended(RunFault::TooFewNodes | RunFault::GaveUp)) => None,
         Err(TryFault::Ended(fault)) => Some(fault),
+        Ok(()) | Err(TryFault::Busy) => None,
     }
 }
 
@@ -109,45 +152,57 @@ fn soften<S: OwnRecord, R: Recorder, L: Link>(
         return Err(Failure::Wrong(at));
     }
     expect(told(guard.soften(alloc)), expected, at)?;
-    check_row(guard.ticket().mode == mode, at)?;
-    check_row(guard.session().ended() == over_by(expected), at)
+    let is_over = guard.session().ended() == over_by(expected);
+    check_row(is_over && guard.ticket().mode == mode, at)
 }
 
 /// Makes the softenings among the calls of a guard, which stand at its head; the place behind them.
 fn soften_all<S: OwnRecord, R: Recorder, L: Link>(
     alloc: Global,
     guard: &mut SessionGuard<'_, S, R, L>,
-    calls: &[(Call, Answer)],
-    from: usize,
+    row: &Row<'_>,
+    from: Result<usize, Failure>,
 ) -> Result<usize, Failure> {
-    for at in from..calls.len() {
-        let (Call::Soften(mode), expected) = calls[at] else {
+    for at in from?..row.calls.len() {
+        let Some((Call::Soften(mode), expected)) = row.call(at) else {
             return Ok(at);
         };
         soften(alloc, guard, mode, expected, at)?;
     }
-    Ok(calls.len())
+    Ok(row.calls.len())
 }
 
-/// Makes the last call of a guard, if there is one; the place behind it.
+/// Whether a row's call at a place is that a guard leaves.
+fn leaves_at(row: &Row<'_>, at: Result<usize, Failure>) -> bool {
+    match at {
+        Ok(at) => matches!(row.call(at), Some((Call::Leave, _))),
+        Err(_) => false,
+    }
+}
+
+/// Ends the test unless the last call of a guard, if there is one, answered what is expected; the place behind it.
+fn is_spent(row: &Row<'_>, at: usize, answer: Answer) -> Result<usize, Failure> {
+    match row.call(at) {
+        Some((Call::Leave, expected)) => expect(answer, expected, at),
+        Some((Call::Drop, _)) => Ok(at.saturating_add(1)),
+        Some(_) => Err(Failure::Wrong(at)),
+        None => Ok(at),
+    }
+}
+
+/// The guard leaves, if that is the row's call at a place, and else is dropped; what that answers.
 fn spend<W: Wait, S: OwnRecord, R: Recorder, L: Link>(
     rt: &W,
     alloc: Global,
     guard: SessionGuard<'_, S, R, L>,
-    calls: &[(Call, Answer)],
-    at: usize,
-) -> Result<usize, Failure> {
-    match calls.get(at) {
-        Some((Call::Leave, expected)) => {
-            expect(told(guard.leave(rt, alloc)), *expected, at)?;
-            Ok(at.saturating_add(1))
-        }
-        Some((Call::Drop, _)) => {
-            drop(guard);
-            Ok(at.saturating_add(1))
-        }
-        Some(_) => Err(Failure::Wrong(at)),
-        None => Ok(at),
+    row: &Row<'_>,
+    at: Result<usize, Failure>,
+) -> Answer {
+    if leaves_at(row, at) {
+        told(guard.leave(rt, alloc))
+    } else {
+        drop(guard);
+        Ok(())
     }
 }
 
@@ -156,27 +211,23 @@ fn enter<W: Wait, S: OwnRecord, R: Recorder, L: Link>(
     rt: &W,
     alloc: Global,
     session: &mut Session<S, R, L>,
-    wish: (Mode, Name, u32),
-    calls: &[(Call, Answer)],
+    asked: Asked,
+    row: &Row<'_>,
     at: usize,
     expected: Answer,
 ) -> Result<usize, Failure> {
-    let (mode, name, nudges) = wish;
-    let name = name.resource()?;
+    let name = resource(asked.name.bytes())?;
     if session.ballots().count() < 1 {
         return Err(Failure::Wrong(at));
     }
-    match session.enter(rt, alloc, mode, name, 1, nudges) {
+    match session.enter(rt, alloc, asked.mode, name, 1, asked.nudges) {
         Ok(guard) => {
-            expect(Ok(()), expected, at)?;
             let mut guard = guard;
-            let next = soften_all(alloc, &mut guard, calls, at.saturating_add(1))?;
-            spend(rt, alloc, guard, calls, next)
+            let next = soften_all(alloc, &mut guard, row, expect(Ok(()), expected, at));
+            let answer = spend(rt, alloc, guard, row, next);
+            is_spent(row, next?, answer)
         }
-        Err(fault) => {
-            expect(Err(TryFault::Ended(fault)), expected, at)?;
-            Ok(at.saturating_add(1))
-        }
+        Err(fault) => expect(Err(TryFault::Ended(fault)), expected, at),
     }
 }
 
@@ -185,27 +236,23 @@ fn try_enter<W: Wait, S: OwnRecord, R: Recorder, L: Link>(
     rt: &W,
     alloc: Global,
     session: &mut Session<S, R, L>,
-    wish: (Mode, Name, u32),
-    calls: &[(Call, Answer)],
+    asked: Asked,
+    row: &Row<'_>,
     at: usize,
     expected: Answer,
 ) -> Result<usize, Failure> {
-    let (mode, name, nudges) = wish;
-    let name = name.resource()?;
+    let name = resource(asked.name.bytes())?;
     if session.ballots().count() < 1 {
         return Err(Failure::Wrong(at));
     }
-    match session.try_enter(rt, alloc, mode, name, 1, nudges) {
+    match session.try_enter(rt, alloc, asked.mode, name, 1, asked.nudges) {
         Ok(guard) => {
-            expect(Ok(()), expected, at)?;
             let mut guard = guard;
-            let next = soften_all(alloc, &mut guard, calls, at.saturating_add(1))?;
-            spend(rt, alloc, guard, calls, next)
+            let next = soften_all(alloc, &mut guard, row, expect(Ok(()), expected, at));
+            let answer = spend(rt, alloc, guard, row, next);
+            is_spent(row, next?, answer)
         }
-        Err(fault) => {
-            expect(Err(fault), expected, at)?;
-            Ok(at.saturating_add(1))
-        }
+        Err(fault) => expect(Err(fault), expected, at),
     }
 }
 
@@ -214,26 +261,20 @@ fn step<W: Wait, S: OwnRecord, R: Recorder, L: Link>(
     rt: &W,
     alloc: Global,
     session: &mut Session<S, R, L>,
-    calls: &[(Call, Answer)],
+    row: &Row<'_>,
     at: usize,
 ) -> Result<usize, Failure> {
-    let Some((call, expected)) = calls.get(at) else {
-        return Ok(at);
-    };
-    match *call {
-        Call::Enter(mode, name, nudges) => {
-            let wish = (mode, name, nudges);
-            enter(rt, alloc, session, wish, calls, at, *expected)
+    match row.call(at) {
+        None => Ok(at),
+        Some((Call::Enter(asked), expected)) => {
+            if asked.waits {
+                enter(rt, alloc, session, asked, row, at, expected)
+            } else {
+                try_enter(rt, alloc, session, asked, row, at, expected)
+            }
         }
-        Call::Try(mode, name, nudges) => {
-            let wish = (mode, name, nudges);
-            try_enter(rt, alloc, session, wish, calls, at, *expected)
-        }
-        Call::Settle => {
-            expect(told(session.settle(rt, alloc)), *expected, at)?;
-            Ok(at.saturating_add(1))
-        }
-        Call::Soften(_) | Call::Leave | Call::Drop => Err(Failure::Wrong(at)),
+        Some((Call::Settle, expected)) => expect(told(session.settle(rt, alloc)), expected, at),
+        Some((Call::Soften(_) | Call::Leave | Call::Drop, _)) => Err(Failure::Wrong(at)),
     }
 }
 
@@ -241,14 +282,14 @@ fn step<W: Wait, S: OwnRecord, R: Recorder, L: Link>(
 /// call before this place says so; a dropped guard says nothing.
 fn is_over<S: OwnRecord, R: Recorder, L: Link>(
     session: &Session<S, R, L>,
-    calls: &[(Call, Answer)],
+    row: &Row<'_>,
     at: usize,
 ) -> Outcome {
-    check_row(session.ticket().is_none(), at)?;
-    match calls.get(at.saturating_sub(1)) {
-        None | Some((Call::Drop, _)) => Ok(()),
-        Some((_, expected)) => check_row(session.ended() == over_by(*expected), at),
-    }
+    let is_right = match row.call(at.saturating_sub(1)) {
+        None | Some((Call::Drop, _)) => true,
+        Some((_, expected)) => session.ended() == over_by(expected),
+    };
+    check_row(is_right && session.ticket().is_none(), at)
 }
 
 /// What ends a test in which a call was refused memory: just that, where the session is over by it, and answers so
@@ -260,29 +301,29 @@ fn without_memory<W: Wait, S: OwnRecord, R: Recorder, L: Link>(
 ) -> Failure {
     let over = Some(RunFault::Memory);
     let is_over = session.ended() == over;
-    if is_over && told(session.settle(rt, alloc)) == NO_MEMORY && session.ended() == over {
+    if is_over && told(session.settle(rt, alloc)) == REFUSED && session.ended() == over {
         Failure::Memory
     } else {
         Failure::Wrong(105)
     }
 }
 
-/// Makes these calls, one after the other, and ends the test at the first that answers otherwise than is expected,
+/// Makes a row's calls, one after the other, and ends the test at the first that answers otherwise than is expected,
 /// or after which the session is not over where it is to be.
 pub(crate) fn play<W: Wait, S: OwnRecord, R: Recorder, L: Link>(
     rt: &W,
     alloc: Global,
     session: &mut Session<S, R, L>,
-    calls: &[(Call, Answer)],
+    row: &Row<'_>,
 ) -> Outcome {
     let mut at = 0;
-    for _ in 0..calls.len() {
-        match step(rt, alloc, session, calls, at) {
+    for _ in 0..row.calls.len() {
+        match step(rt, alloc, session, row, at) {
             Ok(next) => at = next,
             Err(Failure::Memory) => return Err(without_memory(rt, alloc, session)),
             Err(failure) => return Err(failure),
         }
-        is_over(session, calls, at)?;
+        is_over(session, row, at)?;
     }
     Ok(())
 }

@@ -7,7 +7,7 @@ use std::alloc::Global;
 use test_outcomes::Failure;
 
 /// On what a record lies.
-#[derive(Clone, Copy, Debug)]
+#[derive(Clone, Copy)]
 pub(crate) enum Device {
     /// What never fails.
     Memory,

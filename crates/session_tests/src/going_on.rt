@@ -1,11 +1,11 @@
 // A service that has ended, and the next one, which goes on from what was kept.
 
-ghost use Rattle.std.specs.Prelude.{◌≡◌, ◌≤◌, length};
+ghost use Rattle.std.specs.Prelude.{◌≡◌, ◌≤◌, length, IfOk};
 ghost use Rattle.lock_messages.specs.declared.ids.TheConstants.{MAX_ATTEMPT};
 ghost use Rattle.session_tests.specs.Fresh.{one_node};
 
 use crate::audits::journal_of;
-use crate::kept::{client_records_of, kept_in, node_records_of, resumed};
+use crate::kept::{Kept, client_records_of, kept_in, node_records_of, resumed};
 use crate::programs::{FAIR, end_of, pairs, weather};
 use crate::worlds::{ballots, resource, world};
 use book_recorders::SharedRecorder;
@@ -20,6 +20,7 @@ use std::sync::Wait;
 use std::thread::Threads;
 use test_outcomes::{Failure, Outcome, check_row};
 use vote_weights::BallotList;
+use world_machine::World;
 
 /// Each session writes once.
 #[derive(Drop)]
@@ -80,31 +81,68 @@ fn have_made(kept: &[Vec<u8>], attempt: u64) -> Outcome
     Ok(())
 }
 
+/// What the actors have kept behind a service from this opening. Ends the test unless its journal is sound, each
+/// session has written, and each client has made this attempt last.
+fn kept_behind(
+    alloc: Global,
+    end: &ServiceEnd<MemoryRecord>,
+    opening: World,
+    attempt: u64,
+) -> Result<Kept, Failure>
+    requires { attempt ≤ MAX_ATTEMPT }
+    ensures node { IfOk result (λ kept. length kept.nodes.items ≡ 1) }
+    ensures clients { IfOk result (λ kept. length kept.clients.items ≡ 2) }
+{
+    journal_of(alloc, &end.book, opening)?;
+    check_row(end.entered == 2 && end.faults.is_empty(), 1)?;
+    let kept = kept_in(alloc, &end.book)?;
+    have_made(kept.clients.as_slice(), attempt)?;
+    Ok(kept)
+}
+
+/// What the actors have kept behind the first service.
+fn kept_behind_the_first<R: Threads + Wait + Copy + Send + Sync, J: Work + Sync>(
+    rt: R,
+    alloc: Global,
+    ballots: BallotList,
+    work: &J,
+) -> Result<Kept, Failure>
+    requires { ballots ≡ one_node }
+    ensures node { IfOk result (λ kept. length kept.nodes.items ≡ 1) }
+    ensures clients { IfOk result (λ kept. length kept.clients.items ≡ 2) }
+{
+    let end = end_of(rt, alloc, ballots, weather(FAIR)?, work)?;
+    let opening = world(alloc, ballots)?;
+    kept_behind(alloc, &end, opening, 1)
+}
+
+/// Ends the test unless the next service goes on from there.
+fn goes_on<R: Threads + Wait + Copy + Send + Sync, J: Work + Sync>(
+    rt: R,
+    alloc: Global,
+    ballots: BallotList,
+    kept: &Kept,
+    work: &J,
+) -> Outcome
+    requires ballots { ballots ≡ one_node }
+    requires node { length kept.now.nodes.items ≡ 1 }
+    requires clients { length kept.now.clients.items ≡ 2 }
+{
+    let (nodes, clients) = (kept.nodes.as_slice(), kept.clients.as_slice());
+    let end = go_on(rt, alloc, ballots, nodes, clients, work)?;
+    let opening = resumed(alloc, ballots, nodes, clients)?;
+    kept_behind(alloc, &end, opening, 2)?;
+    Ok(())
+}
+
 /// The second service begins where the first one has ended: each client goes on behind its first attempt, and each
 /// journal is sound from its own opening.
 #[test]
 fn goes_on_from_what_was_kept(rt: HostRuntime) -> Outcome {
-    let alloc = rt.alloc();
     let work = WriteOnce {
         name: resource(b"a")?,
     };
     let ballots = ballots()?;
-    let first = end_of(rt, alloc, ballots, weather(FAIR)?, &work)?;
-    check_row(first.entered == 2 && first.faults.is_empty(), 1)?;
-    journal_of(alloc, &first.book, world(alloc, ballots)?)?;
-    let (nodes, clients) = kept_in(alloc, &first.book)?;
-    have_made(clients.as_slice(), 1)?;
-    let second = go_on(
-        rt,
-        alloc,
-        ballots,
-        nodes.as_slice(),
-        clients.as_slice(),
-        &work,
-    )?;
-    check_row(second.entered == 2 && second.faults.is_empty(), 2)?;
-    let opening = resumed(alloc, ballots, nodes.as_slice(), clients.as_slice())?;
-    journal_of(alloc, &second.book, opening)?;
-    let (_, made) = kept_in(alloc, &second.book)?;
-    have_made(made.as_slice(), 2)
+    let kept = kept_behind_the_first(rt, rt.alloc(), ballots, &work)?;
+    goes_on(rt, rt.alloc(), ballots, &kept, &work)
 }

@@ -1,9 +1,10 @@
 //! What a session logs: with guards that leave, that are dropped, that soften, and where it has to wait.
 
-use crate::calls::{Call, GAVE_UP, Name, READ_A, READ_B, TOO_FEW, TRY_A, TRY_B, WRITE_A};
+use crate::calls::{
+    ASKED, Asked, Call, GAVE_UP, Name, READ_A, READ_B, Says, TOO_FEW, TRY_A, TRY_B, WRITE_A,
+};
 use crate::rows::{PLAIN, Row, goes};
 use lock_messages::Mode;
-use lock_session::TryFault;
 use test_outcomes::Outcome;
 
 pub(crate) const WHOLE: &str = "\
@@ -28,16 +29,17 @@ say n1
 hear c1 4
 ";
 
+const LEAVES: Row<'static> = Row {
+    calls: &[(READ_A, Says::Done), (Call::Leave, Says::Done)],
+    journal: WHOLE,
+    found: Some(1),
+    ..PLAIN
+};
+
 /// A guard that leaves logs the Leave and says the release.
 #[test]
 fn leaves(rt: HostRuntime) -> Outcome {
-    let row = Row {
-        calls: &[(READ_A, Ok(())), (Call::Leave, Ok(()))],
-        journal: WHOLE.as_bytes(),
-        found: Some(1),
-        ..PLAIN
-    };
-    goes(rt, rt.alloc(), &row)
+    goes(rt, rt.alloc(), &LEAVES)
 }
 
 const DROPPED: &str = "\
@@ -72,39 +74,41 @@ hear c1 6
 enter c1
 ";
 
+const DROPS_A_GUARD_AND_ENTERS_ANOTHER_RESOURCE: Row<'static> = Row {
+    calls: &[
+        (READ_A, Says::Done),
+        (Call::Drop, Says::Done),
+        (READ_B, Says::Done),
+        (Call::Drop, Says::Done),
+    ],
+    journal: DROPPED,
+    found: Some(2),
+    ..PLAIN
+};
+
 /// A guard that is dropped leaves it to the next call to log the Leave and to say the release, before all else.
 #[test]
 fn drops_a_guard_and_enters_another_resource(rt: HostRuntime) -> Outcome {
-    let row = Row {
-        calls: &[
-            (READ_A, Ok(())),
-            (Call::Drop, Ok(())),
-            (READ_B, Ok(())),
-            (Call::Drop, Ok(())),
-        ],
-        journal: DROPPED.as_bytes(),
-        found: Some(2),
-        ..PLAIN
-    };
-    goes(rt, rt.alloc(), &row)
+    goes(rt, rt.alloc(), &DROPS_A_GUARD_AND_ENTERS_ANOTHER_RESOURCE)
 }
+
+const DROPS_A_GUARD_AND_SETTLES: Row<'static> = Row {
+    calls: &[
+        (Call::Settle, Says::Done),
+        (READ_A, Says::Done),
+        (Call::Drop, Says::Done),
+        (Call::Settle, Says::Done),
+        (Call::Settle, Says::Done),
+    ],
+    journal: WHOLE,
+    found: Some(1),
+    ..PLAIN
+};
 
 /// Settling says what a dropped guard has left to say, and nothing where there is nothing.
 #[test]
 fn drops_a_guard_and_settles(rt: HostRuntime) -> Outcome {
-    let row = Row {
-        calls: &[
-            (Call::Settle, Ok(())),
-            (READ_A, Ok(())),
-            (Call::Drop, Ok(())),
-            (Call::Settle, Ok(())),
-            (Call::Settle, Ok(())),
-        ],
-        journal: WHOLE.as_bytes(),
-        found: Some(1),
-        ..PLAIN
-    };
-    goes(rt, rt.alloc(), &row)
+    goes(rt, rt.alloc(), &DROPS_A_GUARD_AND_SETTLES)
 }
 
 pub(crate) const SOFTENED: &str = "\
@@ -136,20 +140,21 @@ hear c1 4
 hear c1 6
 ";
 
+const SOFTENS: Row<'static> = Row {
+    calls: &[
+        (WRITE_A, Says::Done),
+        (Call::Soften(Mode::Read), Says::Done),
+        (Call::Leave, Says::Done),
+    ],
+    journal: SOFTENED,
+    found: Some(1),
+    ..PLAIN
+};
+
 /// A writer softens and leaves: it says both to its node.
 #[test]
 fn softens(rt: HostRuntime) -> Outcome {
-    let row = Row {
-        calls: &[
-            (WRITE_A, Ok(())),
-            (Call::Soften(Mode::Read), Ok(())),
-            (Call::Leave, Ok(())),
-        ],
-        journal: SOFTENED.as_bytes(),
-        found: Some(1),
-        ..PLAIN
-    };
-    goes(rt, rt.alloc(), &row)
+    goes(rt, rt.alloc(), &SOFTENS)
 }
 
 const BUSY: &str = "\
@@ -201,22 +206,23 @@ say n1
 hear c1 10
 ";
 
+const TAKES_BACK_WHAT_IS_BUSY: Row<'static> = Row {
+    beside: true,
+    calls: &[
+        (TRY_A, Says::Busy),
+        (TRY_B, Says::Done),
+        (Call::Leave, Says::Done),
+    ],
+    inside: 1,
+    journal: BUSY,
+    found: Some(2),
+    ..PLAIN
+};
+
 /// Beside a writer a reader that isn't to wait takes back what it asked for, and enters another resource.
 #[test]
 fn takes_back_what_is_busy(rt: HostRuntime) -> Outcome {
-    let row = Row {
-        beside: true,
-        calls: &[
-            (TRY_A, Err(TryFault::Busy)),
-            (TRY_B, Ok(())),
-            (Call::Leave, Ok(())),
-        ],
-        inside: 1,
-        journal: BUSY.as_bytes(),
-        found: Some(2),
-        ..PLAIN
-    };
-    goes(rt, rt.alloc(), &row)
+    goes(rt, rt.alloc(), &TAKES_BACK_WHAT_IS_BUSY)
 }
 
 const TOO_FEW_TWICE: &str = "\
@@ -237,17 +243,18 @@ kept c1
 leave c1
 ";
 
+const TOO_FEW_NODES_AGAIN_AND_AGAIN: Row<'static> = Row {
+    gone: true,
+    calls: &[(READ_A, TOO_FEW), (READ_A, TOO_FEW)],
+    journal: TOO_FEW_TWICE,
+    found: Some(2),
+    ..PLAIN
+};
+
 /// 912: the node is gone. The session goes on, and ends so again.
 #[test]
 fn too_few_nodes_again_and_again(rt: HostRuntime) -> Outcome {
-    let row = Row {
-        gone: true,
-        calls: &[(READ_A, TOO_FEW), (READ_A, TOO_FEW)],
-        journal: TOO_FEW_TWICE.as_bytes(),
-        found: Some(2),
-        ..PLAIN
-    };
-    goes(rt, rt.alloc(), &row)
+    goes(rt, rt.alloc(), &TOO_FEW_NODES_AGAIN_AND_AGAIN)
 }
 
 const GAVE_UP_AND_ENTERED: &str = "\
@@ -299,21 +306,25 @@ say n1
 hear c1 12
 ";
 
+/// Gives up at the first nudge.
+const READ_A_AT_ONCE: Call = Call::Enter(Asked { nudges: 1, ..ASKED });
+
+const GIVES_UP_AND_ENTERS: Row<'static> = Row {
+    nudges: 1,
+    calls: &[
+        (READ_A_AT_ONCE, GAVE_UP),
+        (READ_A, Says::Done),
+        (Call::Leave, Says::Done),
+    ],
+    journal: GAVE_UP_AND_ENTERED,
+    found: Some(2),
+    ..PLAIN
+};
+
 /// 913 at the first nudge, where so many are the most; and then the session enters with more of them.
 #[test]
 fn gives_up_and_enters(rt: HostRuntime) -> Outcome {
-    let row = Row {
-        nudges: 1,
-        calls: &[
-            (Call::Enter(Mode::Read, Name::A, 1), GAVE_UP),
-            (READ_A, Ok(())),
-            (Call::Leave, Ok(())),
-        ],
-        journal: GAVE_UP_AND_ENTERED.as_bytes(),
-        found: Some(2),
-        ..PLAIN
-    };
-    goes(rt, rt.alloc(), &row)
+    goes(rt, rt.alloc(), &GIVES_UP_AND_ENTERS)
 }
 
 const LONGEST: &str = "\
@@ -345,18 +356,25 @@ hear c1 4
 hear c1 6
 ";
 
+const WRITE_THE_LONGEST: Call = Call::Enter(Asked {
+    mode: Mode::Write,
+    name: Name::Longest,
+    ..ASKED
+});
+
+const SOFTENS_UNDER_THE_LONGEST_NAME: Row<'static> = Row {
+    calls: &[
+        (WRITE_THE_LONGEST, Says::Done),
+        (Call::Soften(Mode::Read), Says::Done),
+        (Call::Leave, Says::Done),
+    ],
+    journal: LONGEST,
+    found: Some(1),
+    ..PLAIN
+};
+
 /// The longest name of a resource.
 #[test]
 fn softens_under_the_longest_name(rt: HostRuntime) -> Outcome {
-    let row = Row {
-        calls: &[
-            (Call::Enter(Mode::Write, Name::Longest, 1_000), Ok(())),
-            (Call::Soften(Mode::Read), Ok(())),
-            (Call::Leave, Ok(())),
-        ],
-        journal: LONGEST.as_bytes(),
-        found: Some(1),
-        ..PLAIN
-    };
-    goes(rt, rt.alloc(), &row)
+    goes(rt, rt.alloc(), &SOFTENS_UNDER_THE_LONGEST_NAME)
 }

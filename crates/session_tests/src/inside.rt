@@ -98,15 +98,37 @@ fn place_of(journal: &[u8], wanted: &str) -> Result<usize, Failure> {
     }
 }
 
-/// Ends the test unless so many entered, nobody ended by a fault, and both records came back in order.
-fn have_ended(end: &Ended, entered: u32) -> Outcome {
-    check_row(end.entered == entered && end.faults.is_empty(), 1)?;
-    check_row(end.clients.len() == 2, 2)?;
-    for place in 0..end.clients.len() {
-        check_row(end.clients[place].get() as usize == place + 1, 3)?;
+/// Two lines of a journal, the one that stands first before the other.
+type InOrder = (&'static str, &'static str);
+
+/// Ends the test unless these lines are in their order.
+fn are_in_order(journal: &[u8], lines: &[InOrder]) -> Outcome {
+    for (first, then) in lines {
+        check_row(place_of(journal, first)? < place_of(journal, then)?, 5)?;
     }
     Ok(())
 }
+
+/// Ends the test unless both entered, nobody ended by a fault, both records came back in order, this holds of the
+/// work, and these lines of the journal are in their order.
+fn have_ended(ended: &Ended, holds: bool, lines: &[InOrder]) -> Outcome {
+    let end = &ended.end;
+    check_row(end.entered == 2 && end.faults.is_empty(), 1)?;
+    check_row(end.records.len() == 2, 2)?;
+    for place in 0..end.records.len() {
+        check_row(end.records[place].0.get() as usize == place + 1, 3)?;
+    }
+    check_row(holds, 4)?;
+    are_in_order(ended.journal.as_slice(), lines)
+}
+
+/// Each reader enters before either leaves.
+const BOTH_READ: [InOrder; 4] = [
+    ("enter c1", "leave c1"),
+    ("enter c1", "leave c2"),
+    ("enter c2", "leave c1"),
+    ("enter c2", "leave c2"),
+];
 
 /// Two sessions in two threads hold read locks at once. One leaves; for the other, whose guard is dropped, the
 /// service says so.
@@ -118,22 +140,9 @@ fn two_readers_at_once(rt: HostRuntime) -> Outcome {
         inside: AtomicU32::new(0),
         seen: AtomicU32::new(0),
     };
-    let end = run_program(rt, rt.alloc(), &work)?;
-    have_ended(&end, 2)?;
-    check_row(
-        work.inside.load(SeqCst) == 2 && work.seen.load(SeqCst) < 2,
-        4,
-    )?;
-    let journal = end.journal.as_slice();
-    let (first, second) = (
-        place_of(journal, "enter c1")?,
-        place_of(journal, "enter c2")?,
-    );
-    let (left, other) = (
-        place_of(journal, "leave c1")?,
-        place_of(journal, "leave c2")?,
-    );
-    check_row(first.max(second) < left.min(other), 5)
+    let ended = run_program(rt, rt.alloc(), &work)?;
+    let holds = work.inside.load(SeqCst) == 2 && work.seen.load(SeqCst) < 2;
+    have_ended(&ended, holds, &BOTH_READ)
 }
 
 /// The first session reads, and the second one wants to write beside it.
@@ -234,23 +243,18 @@ impl Work for ReadAndWrite {
     }
 }
 
+/// The reader leaves before the writer enters.
+const READ_FIRST: [InOrder; 2] = [("enter c1", "leave c1"), ("leave c1", "enter c2")];
+
 /// The reader comes in first, and the writer when the reader is out.
 fn come_in_turn<R: Threads + Wait + Copy + Send + Sync>(
     rt: R,
     alloc: Global,
     work: &ReadAndWrite,
 ) -> Outcome {
-    let end = run_program(rt, alloc, work)?;
-    have_ended(&end, 2)?;
-    check_row(
-        work.wrote.load(SeqCst) == 1 && work.early.load(SeqCst) == 0,
-        4,
-    )?;
-    let journal = end.journal.as_slice();
-    let read = place_of(journal, "enter c1")?;
-    let left = place_of(journal, "leave c1")?;
-    let wrote = place_of(journal, "enter c2")?;
-    check_row(read < left && left < wrote, 5)
+    let ended = run_program(rt, alloc, work)?;
+    let holds = work.wrote.load(SeqCst) == 1 && work.early.load(SeqCst) == 0;
+    have_ended(&ended, holds, &READ_FIRST)
 }
 
 /// A writer waits until the reader's guard is dropped and its session calls again, which says the Leave.

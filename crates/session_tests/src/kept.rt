@@ -1,6 +1,6 @@
 // What the actors of a book have kept, and records and a world of that.
 
-ghost use Rattle.std.specs.Prelude.{◌≡◌, ◌∷◌, [], length, map, IfOk};
+ghost use Rattle.std.specs.Prelude.{◌≡◌, ◌∷◌, ◌+◌, [], length, map, IfOk, OnOk};
 ghost use Rattle.world_machine.specs.Opened.{IsResumed};
 ghost use Rattle.session_tests.specs.Fresh.{one_node};
 
@@ -10,29 +10,40 @@ use history_book::Book;
 use lock_messages::Actor;
 use stable_record::{MemoryRecord, StableRecord};
 use std::alloc::Global;
-use test_outcomes::Failure;
+use test_outcomes::{Failure, Outcome};
 use vote_weights::BallotList;
 use world_machine::World;
 
-/// The record of what an actor of the book's world has kept.
-fn kept_by(book: &Book, actor: Actor) -> Result<Vec<u8>, Failure> {
-    match book.world().kept_bytes(actor) {
-        Ok(bytes) => Ok(bytes),
-        Err(_) => Err(Failure::Memory),
-    }
+/// The records of what the node and the two clients of a world have kept.
+#[derive(Drop)]
+pub(crate) struct Kept {
+    pub(crate) nodes: Vec<Vec<u8>>,
+    pub(crate) clients: Vec<Vec<u8>>,
+}
+
+/// The record of what this actor of the book's world has kept joins the others.
+fn keep(book: &Book, actor: Actor, kept: &mut Vec<Vec<u8>>) -> Outcome
+    ensures { OnOk result (length kept.new.items ≡ length kept.old.items + 1) }
+{
+    let Ok(bytes) = book.world().kept_bytes(actor) else {
+        return Err(Failure::Memory);
+    };
+    kept.push(bytes)?;
+    Ok(())
 }
 
 /// The records of what the node and the two clients of the book's world have kept.
-pub(crate) fn kept_in(alloc: Global, book: &Book) -> Result<(Vec<Vec<u8>>, Vec<Vec<u8>>), Failure>
-    ensures node { IfOk result (λ kept. length kept.0.items ≡ 1) }
-    ensures clients { IfOk result (λ kept. length kept.1.items ≡ 2) }
+pub(crate) fn kept_in(alloc: Global, book: &Book) -> Result<Kept, Failure>
+    ensures node { IfOk result (λ kept. length kept.nodes.items ≡ 1) }
+    ensures clients { IfOk result (λ kept. length kept.clients.items ≡ 2) }
 {
-    let mut of_nodes = Vec::new(alloc);
-    of_nodes.push(kept_by(book, Actor::Node(node_id(1)?))?)?;
-    let mut of_clients = Vec::new(alloc);
-    of_clients.push(kept_by(book, Actor::Client(client_id(1)?))?)?;
-    of_clients.push(kept_by(book, Actor::Client(client_id(2)?))?)?;
-    Ok((of_nodes, of_clients))
+    let (node, one, two) = (node_id(1)?, client_id(1)?, client_id(2)?);
+    let mut nodes = Vec::new(alloc);
+    keep(book, Actor::Node(node), &mut nodes)?;
+    let mut clients = Vec::new(alloc);
+    keep(book, Actor::Client(one), &mut clients)?;
+    keep(book, Actor::Client(two), &mut clients)?;
+    Ok(Kept { nodes, clients })
 }
 
 /// The world in which the actors have kept this.

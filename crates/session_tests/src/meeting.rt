@@ -6,14 +6,15 @@ ghost use Rattle.session_tests.specs.Fresh.{IsNew};
 
 use crate::audits::journal_of;
 use crate::faults::of_book;
-use crate::neighbours::{Coming, Neighbour};
+use crate::neighbours::Neighbour;
 use crate::programs::in_memory;
-use crate::worlds::{ballots, client_id, frame_for, node_id, opened, resource, world};
+use crate::worlds::{
+    Berths, ballots, book, client_id, frame_for, give_berths, node_id, resource, world,
+};
 use book_recorders::{BookName, BookRecorder, Logs, Named, SharedRecorder};
-use bytes::Bytes;
 use event_recorders::Recorder;
-use history_book::{Berth, Book};
-use lock_messages::{Actor, Mode};
+use history_book::Book;
+use lock_messages::{Actor, Mode, NodeId};
 use lock_session::Session;
 use lossy_link::{Link, LinkFault, Parcel, Post};
 use stable_record::{MemoryRecord, client_bytes};
@@ -22,28 +23,30 @@ use std::marker::Brand;
 use std::sync::{Mutex, Wait};
 use test_outcomes::{Failure, Outcome, check_row};
 use vote_weights::BallotList;
+use world_machine::World;
 
 /// How many nudges are enough.
 const NUDGES: u32 = 1_000;
 
 /// A link to the node beside, which another session's link leads to too. Each session is answered before the other
-/// one sends; what comes to it has this frame, of a message for its client.
+/// one sends; what comes to it is framed for its client.
 #[derive(Drop)]
 struct Shared<'v, 'a, B: BookName, K: Logs, R: Wait + Copy> {
     rt: R,
+    alloc: Global,
+    client: u32,
     inner: &'v Mutex<Neighbour<'a, B, K, R>>,
-    frame: Bytes,
 }
 
 impl<B: BookName, K: Logs, R: Wait + Copy> Shared<'_, '_, B, K, R> {
-    /// The parcel of this number, in the frame. Where there is no memory for it nothing comes any more.
+    /// The parcel of this number. Where there is no memory for its frame nothing comes any more.
     fn framed(&self, number: u32) -> Result<Post, LinkFault>
         ensures { IsOkUnless result LinkFault.Closed }
     {
-        let Ok(frame) = self.frame.clone() else {
-            return Err(LinkFault::Closed);
-        };
-        Ok(Post::Parcel(Parcel { number, frame }))
+        match frame_for(self.alloc, self.client) {
+            Ok(frame) => Ok(Post::Parcel(Parcel { number, frame })),
+            Err(_) => Err(LinkFault::Closed),
+        }
     }
 }
 
@@ -85,7 +88,8 @@ fn risen<R: Recorder + Drop, L: Link + Drop>(
     let stable = in_memory(alloc, &client_bytes(0))?;
     match Session::rise(client, ballots, stable, recorder, link) {
         Ok(session) => Ok(session),
-        Err(_) => Err(Failure::Memory),
+        // Each is dropped on its own: the drop of a tuple of three owners is dear to prove.
+        Err((_fault, _stable, _recorder, _link)) => Err(Failure::Memory),
     }
 }
 
@@ -114,78 +118,132 @@ fn meet<W: Wait, R: SharedRecorder, L: Link>(
     }
 }
 
+/// The same of both sessions, if they rose.
+fn meet_risen<W: Wait, R: SharedRecorder, L: Link>(
+    rt: &W,
+    alloc: Global,
+    one: &mut Result<Session<MemoryRecord, R, L>, Failure>,
+    two: &mut Result<Session<MemoryRecord, R, L>, Failure>,
+    other: &[u8],
+) -> Result<bool, Failure> {
+    match (one, two) {
+        (Ok(one), Ok(two)) => meet(rt, alloc, one, two, other),
+        _ => Err(Failure::Memory),
+    }
+}
+
 /// The same in the book under this lock.
 fn meet_over<B: BookName, K: Logs, R: Wait + Copy>(
     rt: R,
     alloc: Global,
     ballots: BallotList,
+    node: NodeId,
     lock: &Mutex<Named<B, K>>,
-    berths: (Berth, Berth, Berth),
+    berths: Berths,
     other: &[u8],
 ) -> Result<bool, Failure>
-    requires node { berths.0.table ≡ B.table }
-    requires one { berths.1.table ≡ B.table }
-    requires two { berths.2.table ≡ B.table }
-    requires log { IsNew 1 ballots (log_of berths.1) }
-    requires beside { IsNew 2 ballots (log_of berths.2) }
+    requires node { berths.node.table ≡ B.table }
+    requires one { berths.one.table ≡ B.table }
+    requires two { berths.two.table ≡ B.table }
+    requires log { IsNew 1 ballots (log_of berths.one) }
+    requires beside { IsNew 2 ballots (log_of berths.two) }
 {
-    let (node, one, two) = berths;
-    let nodes = (node_id(1)?, node_id(2)?);
-    let beside = BookRecorder::of(rt, lock, node);
-    let (of_one, of_two) = (frame_for(alloc, 1)?, frame_for(alloc, 2)?);
-    let none = frame_for(alloc, 1)?;
-    let inner = Mutex::new(Neighbour::rising(nodes, beside, Coming::answers(alloc), none)?);
-    let link = Shared {
-        rt,
-        inner: &inner,
-        frame: of_one,
-    };
-    let mut first = risen(alloc, ballots, 1, BookRecorder::of(rt, lock, one), link)?;
-    let link = Shared {
-        rt,
-        inner: &inner,
-        frame: of_two,
-    };
-    let mut second = risen(alloc, ballots, 2, BookRecorder::of(rt, lock, two), link)?;
-    meet(&rt, alloc, &mut first, &mut second, other)
+    let Berths {
+        node: beside,
+        one,
+        two,
+    } = berths;
+    let mut beside = Neighbour::of(alloc, node, BookRecorder::of(rt, lock, beside), 0, None);
+    let has_risen = beside.rise().is_ok();
+    let inner = &Mutex::new(beside);
+    let (one, two) = (
+        BookRecorder::of(rt, lock, one),
+        BookRecorder::of(rt, lock, two),
+    );
+    let mut one = risen(
+        alloc,
+        ballots,
+        1,
+        one,
+        Shared {
+            rt,
+            alloc,
+            client: 1,
+            inner,
+        },
+    );
+    let mut two = risen(
+        alloc,
+        ballots,
+        2,
+        two,
+        Shared {
+            rt,
+            alloc,
+            client: 2,
+            inner,
+        },
+    );
+    if !has_risen {
+        return Err(Failure::Memory);
+    }
+    meet_risen(&rt, alloc, &mut one, &mut two, other)
 }
 
+/// The same in this book, which comes back.
 fn meet_in<B: BookName, K: Logs + Drop, R: Wait + Copy>(
     rt: R,
     alloc: Global,
     ballots: BallotList,
+    node: NodeId,
     book: K,
-    berths: (Berth, Berth, Berth),
+    berths: Berths,
     other: &[u8],
-) -> Result<(K, bool), Failure>
+) -> (K, Result<bool, Failure>)
     requires book { (K.book book).table ≡ B.table }
-    requires node { berths.0.table ≡ B.table }
-    requires one { berths.1.table ≡ B.table }
-    requires two { berths.2.table ≡ B.table }
-    requires log { IsNew 1 ballots (log_of berths.1) }
-    requires beside { IsNew 2 ballots (log_of berths.2) }
+    requires node { berths.node.table ≡ B.table }
+    requires one { berths.one.table ≡ B.table }
+    requires two { berths.two.table ≡ B.table }
+    requires log { IsNew 1 ballots (log_of berths.one) }
+    requires beside { IsNew 2 ballots (log_of berths.two) }
 {
     let lock = Mutex::new(Named::<B, K>::of(book));
-    let met = meet_over(rt, alloc, ballots, &lock, berths, other)?;
-    Ok((lock.into_inner().into_book(), met))
+    let met = meet_over(rt, alloc, ballots, node, &lock, berths, other);
+    (lock.into_inner().into_book(), met)
 }
 
-/// Whether a reader of `a` and a reader of this resource meet; the journal is sound.
-fn readers_meet<R: Wait + Copy>(rt: R, alloc: Global, other: &[u8]) -> Result<bool, Failure> {
+/// Ends the test unless a reader of `a` and a reader of this resource meet, or don't, as is expected; the journal is
+/// sound.
+fn readers_meet<R: Wait + Copy>(rt: R, alloc: Global, other: &[u8], expected: bool) -> Outcome {
+    let node = node_id(1)?;
     let ballots = ballots()?;
-    let (book, node, one, two) = opened(alloc, ballots)?;
-    let berths = (node, one, two);
-    let (book, met) = meet_in::<Brand, Book, R>(rt, alloc, ballots, book, berths, other)?;
-    journal_of(alloc, &book, world(alloc, ballots)?)?;
-    Ok(met)
+    let mut book = book(alloc, ballots)?;
+    let berths = give_berths(ballots, &mut book)?;
+    let (book, met) = meet_in::<Brand, Book, R>(rt, alloc, ballots, node, book, berths, other);
+    let opening = world(alloc, ballots)?;
+    is_met(alloc, opening, &book, met, expected)
+}
+
+/// Ends the test unless this was met, and the book's journal is sound.
+fn is_met(
+    alloc: Global,
+    opening: World,
+    book: &Book,
+    met: Result<bool, Failure>,
+    expected: bool,
+) -> Outcome
+    requires { Unit {0} }
+{
+    journal_of(alloc, book, opening)?;
+    check_row(met? == expected, 1)
 }
 
 #[test]
 fn two_readers_of_one_resource_meet(rt: HostRuntime) -> Outcome {
-    check_row(readers_meet(rt, rt.alloc(), b"a")?, 1)
+    readers_meet(rt, rt.alloc(), b"a", true)
 }
 
 #[test]
 fn readers_of_two_resources_do_not_meet(rt: HostRuntime) -> Outcome {
-    check_row(!readers_meet(rt, rt.alloc(), b"b")?, 1)
+    readers_meet(rt, rt.alloc(), b"b", false)
 }

@@ -1,10 +1,7 @@
 //! A session that gives up (913) while it leaves: its release is said once more, and it goes on.
 
-use crate::calls::{Answer, Call, GAVE_UP, Name, READ_B, TRY_B};
+use crate::calls::{ASKED, Asked, Call, GAVE_UP, READ_B, Says, TRY_B};
 use crate::rows::{PLAIN, Row, goes};
-use lock_messages::Mode;
-use std::alloc::Global;
-use std::sync::Wait;
 use test_outcomes::Outcome;
 
 const GAVE_UP_LEAVING: &str = "\
@@ -63,54 +60,76 @@ hear c1 14
 
 /// Two nudges, the one before the grant and the one before the answer to the release: the second is the last that
 /// the attempt may have.
-const READ_A: Call = Call::Enter(Mode::Read, Name::A, 2);
+const READ_A: Call = Call::Enter(Asked { nudges: 2, ..ASKED });
 
-/// Ends the test unless a session that gives up in one of these calls goes on.
-fn gives_up<R: Wait + Copy>(rt: R, alloc: Global, calls: &[(Call, Answer)]) -> Outcome {
-    let row = Row {
-        nudges: 1,
-        calls,
-        journal: GAVE_UP_LEAVING.as_bytes(),
-        found: Some(2),
-        ..PLAIN
-    };
-    goes(rt, alloc, &row)
-}
+/// A session that gives up in one of its calls goes on.
+const GAVE_UP_ONCE: Row<'static> = Row {
+    nudges: 1,
+    journal: GAVE_UP_LEAVING,
+    found: Some(2),
+    ..PLAIN
+};
+
+const GIVES_UP_LEAVING: Row<'static> = Row {
+    calls: &[
+        (READ_A, Says::Done),
+        (Call::Leave, GAVE_UP),
+        (READ_B, Says::Done),
+        (Call::Leave, Says::Done),
+    ],
+    ..GAVE_UP_ONCE
+};
 
 #[test]
 fn gives_up_leaving(rt: HostRuntime) -> Outcome {
-    let calls = [
-        (READ_A, Ok(())),
-        (Call::Leave, GAVE_UP),
-        (READ_B, Ok(())),
-        (Call::Leave, Ok(())),
-    ];
-    gives_up(rt, rt.alloc(), &calls)
+    goes(rt, rt.alloc(), &GIVES_UP_LEAVING)
 }
 
 /// The call behind a dropped guard gives up, and what it would have begun is not begun.
-fn gives_up_behind_a_drop<R: Wait + Copy>(rt: R, alloc: Global, next: Call) -> Outcome {
-    let calls = [
-        (READ_A, Ok(())),
-        (Call::Drop, Ok(())),
-        (next, GAVE_UP),
-        (READ_B, Ok(())),
-        (Call::Leave, Ok(())),
-    ];
-    gives_up(rt, alloc, &calls)
-}
+const GIVES_UP_SETTLING: Row<'static> = Row {
+    calls: &[
+        (READ_A, Says::Done),
+        (Call::Drop, Says::Done),
+        (Call::Settle, GAVE_UP),
+        (READ_B, Says::Done),
+        (Call::Leave, Says::Done),
+    ],
+    ..GAVE_UP_ONCE
+};
 
 #[test]
 fn gives_up_settling(rt: HostRuntime) -> Outcome {
-    gives_up_behind_a_drop(rt, rt.alloc(), Call::Settle)
+    goes(rt, rt.alloc(), &GIVES_UP_SETTLING)
 }
+
+const GIVES_UP_BEFORE_AN_ENTERING: Row<'static> = Row {
+    calls: &[
+        (READ_A, Says::Done),
+        (Call::Drop, Says::Done),
+        (READ_B, GAVE_UP),
+        (READ_B, Says::Done),
+        (Call::Leave, Says::Done),
+    ],
+    ..GAVE_UP_ONCE
+};
 
 #[test]
 fn gives_up_before_an_entering(rt: HostRuntime) -> Outcome {
-    gives_up_behind_a_drop(rt, rt.alloc(), READ_B)
+    goes(rt, rt.alloc(), &GIVES_UP_BEFORE_AN_ENTERING)
 }
+
+const GIVES_UP_BEFORE_A_TRY: Row<'static> = Row {
+    calls: &[
+        (READ_A, Says::Done),
+        (Call::Drop, Says::Done),
+        (TRY_B, GAVE_UP),
+        (READ_B, Says::Done),
+        (Call::Leave, Says::Done),
+    ],
+    ..GAVE_UP_ONCE
+};
 
 #[test]
 fn gives_up_before_a_try(rt: HostRuntime) -> Outcome {
-    gives_up_behind_a_drop(rt, rt.alloc(), TRY_B)
+    goes(rt, rt.alloc(), &GIVES_UP_BEFORE_A_TRY)
 }

@@ -28,14 +28,16 @@ fn plate(alloc: Global, bytes: &[u8], fuse: u32) -> Result<MemoryPlate, Failure>
     let Ok(plate) = MemoryPlate::of(alloc, LEAST_PLATE_LEN) else {
         return Err(Failure::Memory);
     };
-    let Ok(record) = SlotRecord::format(alloc, plate, bytes) else {
-        return Err(Failure::Memory);
-    };
-    let mut plate = record.into_plate();
-    if fuse >= 1 {
-        plate.fuse(fuse);
+    match SlotRecord::format(alloc, plate, bytes) {
+        Ok(record) => {
+            let mut plate = record.into_plate();
+            if fuse >= 1 {
+                plate.fuse(fuse);
+            }
+            Ok(plate)
+        }
+        Err((_plate, _fault)) => Err(Failure::Memory),
     }
-    Ok(plate)
 }
 
 /// A record of these bytes on a plate whose calls fail from that one on.
@@ -43,13 +45,11 @@ pub(crate) fn on_a_plate(alloc: Global, bytes: &[u8], fuse: u32) -> Result<Plate
     ensures { IfOk result (λ r. r.record.finds ≡ bytes.now ∷ []) }
 {
     let plate = plate(alloc, bytes, fuse)?;
-    let Ok((record, found)) = SlotRecord::open(alloc, plate) else {
-        return Err(Failure::Memory);
-    };
-    if found.as_slice() != bytes {
-        return Err(Failure::Wrong(0));
+    match SlotRecord::open(alloc, plate) {
+        Ok((record, found)) if found.as_slice() == bytes => Ok(PlateRecord { record }),
+        Ok((_record, _found)) => Err(Failure::Wrong(0)),
+        Err((_plate, _fault)) => Err(Failure::Memory),
     }
-    Ok(PlateRecord { record })
 }
 
 impl StableRecord for PlateRecord {

@@ -7,8 +7,6 @@ ghost use Rattle.session_tests.specs.Programs.{node_found, clients_found};
 use crate::audits::journal_of;
 use crate::worlds::{ballots, pair, world};
 use admission_policy::Pair;
-use event_recorders::RunFault;
-use lock_messages::{Actor, ClientId};
 use lossy_link::Weather;
 use node_threads::{ServiceEnd, Work, with_sessions};
 use stable_record::{MemoryRecord, StableRecord, client_bytes};
@@ -24,12 +22,10 @@ const NOTHING: [u8; 4] = [1, 1, 0, 0];
 /// Nothing is lost, repeated or delayed.
 pub(crate) const FAIR: (u64, u16, u16, u16) = (1, 0, 0, 0);
 
-/// What is seen of a service's end: how many entries, the faults, whose records came back, and the journal.
+/// A service's end, and the journal of its book.
 #[derive(Drop)]
 pub(crate) struct Ended {
-    pub(crate) entered: u32,
-    pub(crate) faults: Vec<(Actor, RunFault)>,
-    pub(crate) clients: Vec<ClientId>,
+    pub(crate) end: ServiceEnd<MemoryRecord>,
     pub(crate) journal: Vec<u8>,
 }
 
@@ -104,18 +100,6 @@ pub(crate) fn end_of<R: Threads + Wait + Copy + Send + Sync, J: Work + Sync>(
     }
 }
 
-/// Whose records these are.
-fn clients_of(
-    alloc: Global,
-    records: &[(ClientId, MemoryRecord)],
-) -> Result<Vec<ClientId>, Failure> {
-    let mut clients = Vec::new(alloc);
-    for (client, _) in records {
-        clients.push(*client)?;
-    }
-    Ok(clients)
-}
-
 /// Runs the service with the work inside, in this weather, and audits its journal. One for which memory was refused
 /// ends the test by that.
 pub(crate) fn run_in<R: Threads + Wait + Copy + Send + Sync, J: Work + Sync>(
@@ -124,17 +108,12 @@ pub(crate) fn run_in<R: Threads + Wait + Copy + Send + Sync, J: Work + Sync>(
     of: (u64, u16, u16, u16),
     work: &J,
 ) -> Result<Ended, Failure> {
+    let weather = weather(of)?;
     let ballots = ballots()?;
-    let end = end_of(rt, alloc, ballots, weather(of)?, work)?;
-    let again = world(alloc, ballots)?;
-    let journal = journal_of(alloc, &end.book, again)?;
-    let clients = clients_of(alloc, end.records.as_slice())?;
-    Ok(Ended {
-        entered: end.entered,
-        faults: end.faults,
-        clients,
-        journal,
-    })
+    let end = end_of(rt, alloc, ballots, weather, work)?;
+    let opening = world(alloc, ballots)?;
+    let journal = journal_of(alloc, &end.book, opening)?;
+    Ok(Ended { end, journal })
 }
 
 /// The same in fair weather.

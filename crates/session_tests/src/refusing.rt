@@ -8,7 +8,7 @@ use stable_record::StableRecord;
 use world_model::{Effect, Event};
 
 /// Why an event is refused.
-#[derive(Clone, Copy, Debug, PartialEq, Eq)]
+#[derive(Clone, Copy)]
 pub(crate) enum Refusal {
     /// 813: memory was refused.
     Memory,

@@ -3,22 +3,22 @@
 ghost use Rattle.std.specs.Prelude.{◌≡◌, ◌∷◌, []};
 ghost use Rattle.book_recorders.specs.Sharing.{log_of};
 ghost use Rattle.stable_record.specs.Records.{client_record_of};
-ghost use Rattle.session_tests.specs.Fresh.{IsNewClient};
+ghost use Rattle.session_tests.specs.Fresh.{IsNew, one_node};
 
 use crate::audits::journal_of;
-use crate::calls::{Answer, Call, play};
+use crate::calls::{Answer, Call, Says, play};
 use crate::devices::{Device, on_a_faulty_device};
 use crate::faults::of_book;
-use crate::neighbours::{Coming, Neighbour};
+use crate::neighbours::Neighbour;
 use crate::plates::on_a_plate;
 use crate::programs::in_memory;
 use crate::refusing::{Refusal, Refusing};
-use crate::worlds::{ballots, client_id, frame, node_id, opened, resource, world};
+use crate::worlds::{Berths, ballots, book, client_id, give_berths, node_id, resource, world};
 use book_recorders::{BookName, BookRecorder, Logs, Named, SharedRecorder};
 use event_recorders::RunFault;
-use history_book::{Berth, Book};
-use lock_messages::{Actor, MAX_ATTEMPT, Mode};
-use lock_session::{OwnRecord, Session};
+use history_book::{Book, BookFault};
+use lock_messages::{Actor, ClientId, MAX_ATTEMPT, Mode, NodeId};
+use lock_session::{OwnRecord, Session, TryFault};
 use lossy_link::{Link, LinkFault, Post};
 use stable_record::client_bytes;
 use std::alloc::Global;
@@ -26,6 +26,7 @@ use std::marker::Brand;
 use std::sync::{Mutex, Wait};
 use test_outcomes::{Failure, Outcome, check_row};
 use vote_weights::BallotList;
+use world_machine::World;
 use world_model::{Age, Effect, Event};
 
 /// What a session meets, what is called, what each call answers, and what stands in the end.
@@ -45,11 +46,13 @@ pub(crate) struct Row<'a> {
     pub(crate) beside: bool,
     /// Whether c1 rises, or by which fault it doesn't.
     pub(crate) rises: Result<(), RunFault>,
-    pub(crate) calls: &'a [(Call, Answer)],
+    pub(crate) calls: &'a [(Call, Says)],
+    /// By which fault its session is over, if it is.
+    pub(crate) over: RunFault,
     /// How many are inside `a` in the end, as the session itself tells.
     pub(crate) inside: usize,
     /// The journal of all.
-    pub(crate) journal: &'a [u8],
+    pub(crate) journal: &'a str,
     /// How often the device of the record has failed.
     pub(crate) failures: u64,
     /// The attempt that a restart finds, if it finds any.
@@ -66,13 +69,26 @@ pub(crate) const PLAIN: Row<'static> = Row {
     beside: false,
     rises: Ok(()),
     calls: &[],
+    over: RunFault::Memory,
     inside: 0,
-    journal: b"rise n1 old\nrise c1 old\n",
+    journal: "rise n1 old\nrise c1 old\n",
     failures: 0,
     found: Some(0),
 };
 
 impl Row<'_> {
+    /// The call at a place, and what it is to answer.
+    pub(crate) fn call(&self, at: usize) -> Option<(Call, Answer)> {
+        let (call, says) = *self.calls.get(at)?;
+        let answer = match says {
+            Says::Done => Ok(()),
+            Says::Busy => Err(TryFault::Busy),
+            Says::Ends(fault) => Err(TryFault::Ended(fault)),
+            Says::Over => Err(TryFault::Ended(self.over)),
+        };
+        Some((call, answer))
+    }
+
     /// Whether memory is wanting in it.
     fn wants_memory(&self) -> bool {
         matches!(self.refused, Some((_, Refusal::Memory)))
@@ -89,72 +105,81 @@ impl Row<'_> {
     }
 }
 
-/// How a session ended: whether it rose, what its calls came to, how often its record's device has failed, and what
-/// a restart finds.
-#[derive(Drop)]
+/// How a session ended: whether it rose, what its calls came to, and what its record came to.
+#[derive(Clone, Copy)]
 struct Ended {
     risen: Result<(), RunFault>,
     played: Outcome,
-    failures: u64,
-    found: Option<Vec<u8>>,
+    kept: Outcome,
 }
 
-/// c2 enters to write, beside the node of the link.
-fn enter_c2<B: BookName, K: Logs, R: Wait + Copy>(
+/// The node rises, and goes where the row says so; and there c2 enters to write beside it.
+fn prepare<B: BookName, K: Logs, R: Wait + Copy>(
     other: &mut BookRecorder<'_, B, K, R>,
     link: &mut Neighbour<'_, B, K, R>,
+    row: &Row<'_>,
 ) -> Outcome {
+    if link.rise().is_err() || (row.gone && link.go().is_err()) {
+        return Err(Failure::Memory);
+    }
+    if !row.beside {
+        return Ok(());
+    }
     let client = client_id(2)?;
     let who = Actor::Client(client);
-    let node = node_id(1)?;
-    let begin = Event::Begin(client, Mode::Write, resource(b"a")?, 1);
-    for event in [
+    let events = [
         Event::Rise(who, Age::Old),
-        begin,
+        Event::Begin(client, Mode::Write, resource(b"a")?, 1),
         Event::Try(who),
         Event::Kept(who),
-    ] {
-        if let Err(fault) = other.log_event(event) {
-            return Err(of_book(fault));
-        }
+        Event::SayTo(client, node_id(1)?),
+        Event::Hear(client, 2),
+        Event::Enter(client),
+    ];
+    match log_all(other, link, &events) {
+        Ok(()) => Ok(()),
+        Err(fault) => Err(of_book(fault)),
     }
-    match other.log_event(Event::SayTo(client, node)) {
-        Ok(Effect::Sent(number, _)) => link.takes(number)?,
-        Ok(_) => return Err(Failure::Wrong(0)),
-        Err(fault) => return Err(of_book(fault)),
-    }
-    for event in [Event::Hear(client, 2), Event::Enter(client)] {
-        if let Err(fault) = other.log_event(event) {
-            return Err(of_book(fault));
+}
+
+/// Logs these events of a client, and lets the node of the link take what it sends by them.
+fn log_all<B: BookName, K: Logs, R: Wait + Copy>(
+    client: &mut BookRecorder<'_, B, K, R>,
+    link: &mut Neighbour<'_, B, K, R>,
+    events: &[Event],
+) -> Result<(), BookFault> {
+    for event in events {
+        if let Effect::Sent(number, _) = client.log_event(*event)? {
+            link.turn(number)?;
         }
     }
     Ok(())
 }
 
-/// What a record is found to hold, once its session is done.
-fn found_in<S: OwnRecord>(risen: Result<(), RunFault>, played: Outcome, stable: S) -> Ended {
-    let mut stable = stable;
-    let failures = stable.failures();
-    let found = stable.reopen().ok();
-    Ended {
-        risen,
-        played,
-        failures,
-        found,
-    }
+/// Ends the test unless a record, once its session is done, has failed and is found as the row says.
+fn is_kept<S: OwnRecord>(stable: &mut S, row: &Row<'_>) -> Outcome {
+    let has_failed = stable.failures() == row.failures;
+    let is_found = match (stable.reopen(), row.found) {
+        (Ok(bytes), Some(attempt)) if attempt <= MAX_ATTEMPT => {
+            bytes.as_slice() == client_bytes(attempt).as_slice()
+        }
+        (Err(_), Some(_)) => return Err(Failure::Memory),
+        (Err(_), None) => true,
+        _ => false,
+    };
+    check_row(has_failed, 102)?;
+    row.or_memory(is_found, 103)
 }
 
 /// Ends the test unless the parts of a session that has not risen are as they were handed in: the recorder logs
 /// the first event of c1, and the link brings that its node is gone.
 fn are_as_handed_in<B: BookName, K: Logs, R: Wait + Copy>(
-    recorder: Refusing<BookRecorder<'_, B, K, R>>,
-    link: Neighbour<'_, B, K, R>,
+    client: ClientId,
+    recorder: &mut BookRecorder<'_, B, K, R>,
+    link: &mut Neighbour<'_, B, K, R>,
 ) -> Outcome {
-    let Refusing { inner, .. } = recorder;
-    let (mut inner, mut link) = (inner, link);
-    match inner.log_event(Event::Rise(Actor::Client(client_id(1)?), Age::Old)) {
-        Ok(_) => {}
-        Err(fault) => return Err(of_book(fault)),
+    if let Err(fault) = recorder.log_event(Event::Rise(Actor::Client(client), Age::Old)) {
+        return Err(of_book(fault));
     }
     check_row(matches!(link.receive(), Ok(Post::Gone(_))), 1)
 }
@@ -166,164 +191,216 @@ fn make<W: Wait, S: OwnRecord, R: SharedRecorder, L: Link>(
     session: &mut Session<S, R, L>,
     row: &Row<'_>,
 ) -> Outcome {
-    play(rt, alloc, session, row.calls)?;
-    match session.inside(&resource(b"a")?) {
+    let name = resource(b"a")?;
+    play(rt, alloc, session, row)?;
+    match session.inside(&name) {
         Ok(tickets) => row.or_memory(tickets.len() == row.inside, 104),
         Err(fault) => Err(of_book(fault)),
     }
 }
 
-/// A session of c1 with these parts: it makes a row's calls, or doesn't rise. Its recorder and its link come back.
+/// How a session ended, and the recorder and the link that it was given. (A tuple of them is dear to prove.)
+#[derive(Drop)]
+struct Back<R: Drop, L: Drop> {
+    ended: Ended,
+    recorder: R,
+    link: L,
+}
+
+/// A session of c1 with these parts: it makes a row's calls, or doesn't rise.
 fn begin<W: Wait, S: OwnRecord, R: SharedRecorder + Drop, L: Link + Drop>(
     rt: &W,
     alloc: Global,
     ballots: BallotList,
+    client: ClientId,
     stable: S,
     recorder: R,
     link: L,
     row: &Row<'_>,
-) -> Result<(Ended, R, L), Failure>
-    requires log { IsNewClient ballots (R.Recorder.own_log recorder) }
+) -> Back<R, L>
+    requires client { client ≡ 1 }
+    requires log { IsNew 1 ballots (R.Recorder.own_log recorder) }
     requires found { S.StableRecord.finds stable ≡ client_record_of 0 ∷ [] }
 {
-    let client = client_id(1)?;
     match Session::rise(client, ballots, stable, recorder, link) {
         Ok(session) => {
             let mut session = session;
             let played = make(rt, alloc, &mut session, row);
-            let (stable, recorder, link) = session.into_parts();
-            Ok((found_in(Ok(()), played, stable), recorder, link))
+            let (mut stable, recorder, link) = session.into_parts();
+            let ended = Ended {
+                risen: Ok(()),
+                played,
+                kept: is_kept(&mut stable, row),
+            };
+            Back {
+                ended,
+                recorder,
+                link,
+            }
         }
-        Err((fault, stable, recorder, link)) => {
-            Ok((found_in(Err(fault), Ok(()), stable), recorder, link))
-        }
-    }
-}
-
-/// The same with a record on the row's device.
-fn begin_on<W: Wait, R: SharedRecorder + Drop, L: Link + Drop>(
-    rt: &W,
-    alloc: Global,
-    ballots: BallotList,
-    recorder: R,
-    link: L,
-    row: &Row<'_>,
-) -> Result<(Ended, R, L), Failure>
-    requires log { IsNewClient ballots (R.Recorder.own_log recorder) }
-{
-    let bytes = client_bytes(0);
-    match row.device {
-        Device::Memory => {
-            let stable = in_memory(alloc, &bytes)?;
-            begin(rt, alloc, ballots, stable, recorder, link, row)
-        }
-        Device::Faulty(every, leaves, bad) => {
-            let stable = on_a_faulty_device(alloc, &bytes, every, leaves, bad)?;
-            begin(rt, alloc, ballots, stable, recorder, link, row)
-        }
-        Device::Plate(fuse) => {
-            let stable = on_a_plate(alloc, &bytes, fuse)?;
-            begin(rt, alloc, ballots, stable, recorder, link, row)
+        Err((fault, mut stable, recorder, link)) => {
+            let ended = Ended {
+                risen: Err(fault),
+                played: Ok(()),
+                kept: is_kept(&mut stable, row),
+            };
+            Back {
+                ended,
+                recorder,
+                link,
+            }
         }
     }
 }
 
-/// c1's session in the book under this lock.
-fn run_over<B: BookName, K: Logs, R: Wait + Copy>(
+/// c1's session, with this record, in the book under this lock.
+fn run_over<S: OwnRecord, B: BookName, K: Logs, R: Wait + Copy>(
     rt: R,
     alloc: Global,
     ballots: BallotList,
+    client: ClientId,
+    node: NodeId,
+    stable: S,
     lock: &Mutex<Named<B, K>>,
-    berths: (Berth, Berth, Berth),
+    berths: Berths,
     row: &Row<'_>,
 ) -> Result<Ended, Failure>
-    requires node { berths.0.table ≡ B.table }
-    requires one { berths.1.table ≡ B.table }
-    requires two { berths.2.table ≡ B.table }
-    requires log { IsNewClient ballots (log_of berths.1) }
+    requires node { berths.node.table ≡ B.table }
+    requires one { berths.one.table ≡ B.table }
+    requires two { berths.two.table ≡ B.table }
+    requires client { client ≡ 1 }
+    requires log { IsNew 1 ballots (log_of berths.one) }
+    requires found { S.StableRecord.finds stable ≡ client_record_of 0 ∷ [] }
 {
-    let node = node_id(1)?;
-    let (beside, one, two) = berths;
-    let mut coming = Coming::answers(alloc);
-    coming.nudges = row.nudges;
-    coming.lost = row.lost;
-    if row.gone {
-        coming.posts.push(Post::Gone(node))?;
-    }
+    let Berths {
+        node: beside,
+        one,
+        two,
+    } = berths;
     let beside = BookRecorder::of(rt, lock, beside);
-    let mut link = Neighbour::rising((node, node_id(2)?), beside, coming, frame(alloc)?)?;
+    let mut link = Neighbour::of(alloc, node, beside, row.nudges, row.lost);
     let mut other = BookRecorder::of(rt, lock, two);
-    if row.beside {
-        enter_c2(&mut other, &mut link)?;
-    }
+    prepare(&mut other, &mut link, row)?;
     let (number, refusal) = row.refused.unwrap_or((0, Refusal::Full));
     let recorder = Refusing {
         inner: BookRecorder::of(rt, lock, one),
         number,
         refusal,
     };
-    let (ended, recorder, link) = begin_on(&rt, alloc, ballots, recorder, link, row)?;
+    let Back {
+        ended,
+        mut recorder,
+        mut link,
+    } = begin(&rt, alloc, ballots, client, stable, recorder, link, row);
     if ended.risen.is_err() && row.rises.is_err() {
-        are_as_handed_in(recorder, link)?;
+        are_as_handed_in(client, &mut recorder.inner, &mut link)?;
     }
     Ok(ended)
 }
 
-fn run<B: BookName, K: Logs + Drop, R: Wait + Copy>(
+/// The same in this book, which comes back.
+fn run<S: OwnRecord, B: BookName, K: Logs + Drop, R: Wait + Copy>(
     rt: R,
     alloc: Global,
     ballots: BallotList,
+    client: ClientId,
+    node: NodeId,
+    stable: S,
     book: K,
-    berths: (Berth, Berth, Berth),
+    berths: Berths,
     row: &Row<'_>,
-) -> Result<(K, Ended), Failure>
+) -> (K, Result<Ended, Failure>)
     requires book { (K.book book).table ≡ B.table }
-    requires node { berths.0.table ≡ B.table }
-    requires one { berths.1.table ≡ B.table }
-    requires two { berths.2.table ≡ B.table }
-    requires log { IsNewClient ballots (log_of berths.1) }
+    requires node { berths.node.table ≡ B.table }
+    requires one { berths.one.table ≡ B.table }
+    requires two { berths.two.table ≡ B.table }
+    requires client { client ≡ 1 }
+    requires log { IsNew 1 ballots (log_of berths.one) }
+    requires found { S.StableRecord.finds stable ≡ client_record_of 0 ∷ [] }
 {
     let lock = Mutex::new(Named::<B, K>::of(book));
-    let ended = run_over(rt, alloc, ballots, &lock, berths, row)?;
-    Ok((lock.into_inner().into_book(), ended))
-}
-
-/// Ends the test unless the record was found as the row says.
-fn is_found(ended: &Ended, row: &Row<'_>) -> Outcome {
-    let is_right = match (&ended.found, row.found) {
-        (None, None) => true,
-        (Some(bytes), Some(attempt)) if attempt <= MAX_ATTEMPT => {
-            bytes.as_slice() == client_bytes(attempt).as_slice()
-        }
-        (None, Some(_)) => return Err(Failure::Memory),
-        _ => false,
-    };
-    check_row(ended.failures == row.failures, 102)?;
-    row.or_memory(is_right, 103)
+    let ended = run_over(rt, alloc, ballots, client, node, stable, &lock, berths, row);
+    (lock.into_inner().into_book(), ended)
 }
 
 /// Ends the test unless a session ended, and logged, as the row says.
-fn is_right(ended: &Ended, journal: &[u8], row: &Row<'_>) -> Outcome {
+fn is_right(ended: Ended, journal: &[u8], row: &Row<'_>) -> Outcome {
     if ended.risen != row.rises && ended.risen == Err(RunFault::Memory) {
         return Err(Failure::Memory);
     }
     check_row(ended.risen == row.rises, 99)?;
     ended.played?;
-    check_row(row.journal.starts_with(journal), 100)?;
+    check_row(row.journal.as_bytes().starts_with(journal), 100)?;
     row.or_memory(journal.len() == row.journal.len(), 101)?;
-    is_found(ended, row)
+    ended.kept
 }
 
-/// Ends the test unless c1's session goes as a row says, and the journal is sound, and just the row's. A plate in
+/// Ends the test unless the book's journal is sound, and a session ended, and logged, as the row says. A plate in
 /// memory fails too where memory is refused to it, which can't be told from its own failing.
-pub(crate) fn goes<R: Wait + Copy>(rt: R, alloc: Global, row: &Row<'_>) -> Outcome {
-    let ballots = ballots()?;
-    let (book, node, one, two) = opened(alloc, ballots)?;
-    let berths = (node, one, two);
-    let (book, ended) = run::<Brand, Book, R>(rt, alloc, ballots, book, berths, row)?;
-    let journal = journal_of(alloc, &book, world(alloc, ballots)?)?;
-    match (is_right(&ended, &journal, row), row.device) {
+fn judge(
+    alloc: Global,
+    opening: World,
+    book: &Book,
+    ended: Result<Ended, Failure>,
+    row: &Row<'_>,
+) -> Outcome
+    requires { Unit {0} }
+{
+    let journal = journal_of(alloc, book, opening)?;
+    match (is_right(ended?, &journal, row), row.device) {
         (Err(_), Device::Plate(_)) => Err(Failure::Memory),
         (judged, _) => judged,
     }
+}
+
+/// Ends the test unless the session of c1, with this record beside this node, goes as a row says.
+fn goes_with<S: OwnRecord, R: Wait + Copy>(
+    rt: R,
+    alloc: Global,
+    ballots: BallotList,
+    client: ClientId,
+    node: NodeId,
+    stable: S,
+    row: &Row<'_>,
+) -> Outcome
+    requires ballots { ballots ≡ one_node }
+    requires client { client ≡ 1 }
+    requires found { S.StableRecord.finds stable ≡ client_record_of 0 ∷ [] }
+{
+    let mut book = book(alloc, ballots)?;
+    let berths = give_berths(ballots, &mut book)?;
+    let (book, ended) = run::<S, Brand, Book, R>(
+        rt, alloc, ballots, client, node, stable, book, berths, row,
+    );
+    let opening = world(alloc, ballots)?;
+    judge(alloc, opening, &book, ended, row)
+}
+
+/// Ends the test unless c1's session goes as a row says, and the journal is sound, and just the row's.
+pub(crate) fn goes<R: Wait + Copy>(rt: R, alloc: Global, row: &Row<'_>) -> Outcome {
+    let (client, node) = (client_id(1)?, node_id(1)?);
+    let ballots = ballots()?;
+    let bytes = client_bytes(0);
+    match row.device {
+        Device::Memory => {
+            let stable = in_memory(alloc, &bytes)?;
+            goes_with(rt, alloc, ballots, client, node, stable, row)
+        }
+        Device::Faulty(every, leaves, bad) => {
+            let stable = on_a_faulty_device(alloc, &bytes, every, leaves, bad)?;
+            goes_with(rt, alloc, ballots, client, node, stable, row)
+        }
+        Device::Plate(fuse) => {
+            let stable = on_a_plate(alloc, &bytes, fuse)?;
+            goes_with(rt, alloc, ballots, client, node, stable, row)
+        }
+    }
+}
+
+/// Ends the test unless it goes so in each of these rows.
+pub(crate) fn all_go<R: Wait + Copy>(rt: R, alloc: Global, rows: &[Row<'_>]) -> Outcome {
+    for row in rows {
+        goes(rt, alloc, row)?;
+    }
+    Ok(())
 }

@@ -2,7 +2,7 @@
 
 ghost use Rattle.std.specs.Prelude.{◌≡◌};
 
-use crate::programs::run_in;
+use crate::programs::{Ended, run_in};
 use crate::worlds::resource;
 use book_recorders::SharedRecorder;
 use event_recorders::Recorder;
@@ -14,6 +14,7 @@ use std::alloc::Global;
 use std::sync::Wait;
 use std::sync::atomic::AtomicU32;
 use std::sync::atomic::Ordering::SeqCst;
+use std::thread::Threads;
 use test_outcomes::{Outcome, check_row};
 
 /// How often each session comes in.
@@ -65,18 +66,35 @@ impl Work for InAndOut {
     }
 }
 
-/// By five seeds: each session comes in as often as it wants, nobody ends by a fault, and the journal is sound.
+/// Ends the test unless in the storm of this seed each session comes in as often as it wants, nobody ends by a fault,
+/// and the journal is sound.
+fn storm<R: Threads + Wait + Copy + Send + Sync>(
+    rt: R,
+    alloc: Global,
+    name: ResourceName,
+    seed: u64,
+) -> Outcome {
+    let work = InAndOut {
+        name,
+        entered: AtomicU32::new(0),
+    };
+    let ended = run_in(rt, alloc, (seed, 200, 100, 100), &work)?;
+    have_come(&ended, work.entered.load(SeqCst))
+}
+
+/// Ends the test unless so many came in as there are visits, and nobody ended by a fault.
+fn have_come(ended: &Ended, entered: u32) -> Outcome {
+    let all = 2 * VISITS;
+    check_row(entered == all, 1)?;
+    check_row(ended.end.entered == all && ended.end.faults.is_empty(), 2)
+}
+
+/// By five seeds.
 #[test]
 fn five_storms(rt: HostRuntime) -> Outcome {
+    let name = resource(b"a")?;
     for seed in 1..6u64 {
-        let work = InAndOut {
-            name: resource(b"a")?,
-            entered: AtomicU32::new(0),
-        };
-        let end = run_in(rt, rt.alloc(), (seed, 200, 100, 100), &work)?;
-        let all = 2 * VISITS;
-        check_row(work.entered.load(SeqCst) == all, 1)?;
-        check_row(end.entered == all && end.faults.is_empty(), 2)?;
+        storm(rt, rt.alloc(), name, seed)?;
     }
     Ok(())
 }

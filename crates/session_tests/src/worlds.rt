@@ -66,13 +66,13 @@ pub(crate) fn world(alloc: Global, ballots: BallotList) -> Result<World, Failure
 }
 
 /// A book over such a world, in which nothing is logged.
-fn book(alloc: Global, ballots: BallotList) -> Result<Book, Failure>
+pub(crate) fn book(alloc: Global, ballots: BallotList) -> Result<Book, Failure>
     requires { ballots ≡ one_node }
     ensures { IfOk result (λ b. IsNewBook ballots b) }
 {
     match Book::over(alloc, 1, world(alloc, ballots)?) {
         Ok(book) => Ok(book),
-        Err((_, fault)) => Err(of_book(fault)),
+        Err((_world, fault)) => Err(of_book(fault)),
     }
 }
 
@@ -91,26 +91,26 @@ fn berth_of(ballots: BallotList, book: &mut Book, actor: Actor) -> Result<Berth,
     }
 }
 
-/// A new book of that ballot, with the berths of the node, of c1 and of c2.
-pub(crate) fn opened(
-    alloc: Global,
-    ballots: BallotList,
-) -> Result<(Book, Berth, Berth, Berth), Failure>
-    requires { ballots ≡ one_node }
-    ensures node { IfOk result (λ r. IsUnlogged ballots (Actor.Node 1) r.1 r.0) }
-    ensures one { IfOk result (λ r. IsUnlogged ballots (Actor.Client 1) r.2 r.0) }
-    ensures two { IfOk result (λ r. IsUnlogged ballots (Actor.Client 2) r.3 r.0) }
-{
-    let mut book = book(alloc, ballots)?;
-    let node = berth_of(ballots, &mut book, Actor::Node(node_id(1)?))?;
-    let one = berth_of(ballots, &mut book, Actor::Client(client_id(1)?))?;
-    let two = berth_of(ballots, &mut book, Actor::Client(client_id(2)?))?;
-    Ok((book, node, one, two))
+/// The berths of the node, of c1 and of c2. (A tuple of them is dear to prove.)
+#[derive(Drop)]
+pub(crate) struct Berths {
+    pub(crate) node: Berth,
+    pub(crate) one: Berth,
+    pub(crate) two: Berth,
 }
 
-/// The frame of some message for c1.
-pub(crate) fn frame(alloc: Global) -> Result<Bytes, Failure> {
-    frame_for(alloc, 1)
+/// The berths in a book in which nothing is logged, and none was given.
+pub(crate) fn give_berths(ballots: BallotList, book: &mut Book) -> Result<Berths, Failure>
+    requires { IsNewBook ballots book.old }
+    ensures node { IfOk result (λ r. IsUnlogged ballots (Actor.Node 1) r.node book.new) }
+    ensures one { IfOk result (λ r. IsUnlogged ballots (Actor.Client 1) r.one book.new) }
+    ensures two { IfOk result (λ r. IsUnlogged ballots (Actor.Client 2) r.two book.new) }
+{
+    let (node, one, two) = (node_id(1)?, client_id(1)?, client_id(2)?);
+    let node = berth_of(ballots, book, Actor::Node(node))?;
+    let one = berth_of(ballots, book, Actor::Client(one))?;
+    let two = berth_of(ballots, book, Actor::Client(two))?;
+    Ok(Berths { node, one, two })
 }
 
 /// The frame of some message for this client: which message is heard goes by the number.
