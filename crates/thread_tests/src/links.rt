@@ -132,16 +132,23 @@ fn weather_with(place: u32, fates: &[Fate]) -> Result<Weather, Fail> {
 }
 
 /// The links of one node and one client.
-fn pair<R: Wait + Copy>(
-    rt: R,
-    alloc: Global,
-    weather: &Weather,
-) -> Result<(ChannelLink<R>, ChannelLink<R>), Fail> {
-    let mut links = ChannelLink::all(rt, alloc, 1, 1, weather)?;
-    let client = links.pop().ok_or("wrong: no client's link")?;
-    let node = links.pop().ok_or("wrong: no node's link")?;
-    Ok((node, client))
+#[derive(Drop)]
+struct Linked<R: Wait + Copy> {
+    of_node: ChannelLink<R>,
+    of_client: ChannelLink<R>,
 }
+
+/// Links one node and one client.
+fn link_both<R: Wait + Copy>(rt: R, alloc: Global, weather: &Weather) -> Result<Linked<R>, Fail> {
+    let mut links = ChannelLink::all(rt, alloc, 1, 1, weather)?;
+    let (Some(of_client), Some(of_node)) = (links.pop(), links.pop()) else {
+        return Err("wrong: a link is missing".into());
+    };
+    Ok(Linked { of_node, of_client })
+}
+
+/// Fates of parcels, and the numbers that come for them.
+type Fated = (&'static [Fate], &'static [u32]);
 
 /// Sends so many parcels, numbered from 1, to the actor.
 fn send_all<L: Link>(link: &mut L, to: &Actor, count: usize) -> Result<(), Fail> {
@@ -156,7 +163,10 @@ fn send_all<L: Link>(link: &mut L, to: &Actor, count: usize) -> Result<(), Fail>
 /// What comes to the node, where a client's parcels meet these fates.
 fn to_node<R: Wait + Copy>(rt: R, alloc: Global, fates: &[Fate], want: &[u32]) -> Result<(), Fail> {
     let weather = weather_with(1, fates)?;
-    let (mut of_node, mut of_client) = pair(rt, alloc, &weather)?;
+    let Linked {
+        mut of_node,
+        mut of_client,
+    } = link_both(rt, alloc, &weather)?;
     send_all(&mut of_client, &Actor::Node(node(1)?), fates.len())?;
     drop(of_client);
     same_numbers(
@@ -166,38 +176,37 @@ fn to_node<R: Wait + Copy>(rt: R, alloc: Global, fates: &[Fate], want: &[u32]) -
     )
 }
 
+/// Late parcels of a client.
+const LATE: [Fated; 6] = [
+    (&[Fate::Late], &[]),
+    (&[Fate::Late, Fate::Plain], &[2, 1]),
+    (&[Fate::Late, Fate::Plain, Fate::Plain], &[2, 1, 3]),
+    (&[Fate::Late, Fate::Late, Fate::Plain], &[1, 3, 2]),
+    (&[Fate::Late, Fate::Lost, Fate::Plain], &[1, 3]),
+    (&[Fate::Late, Fate::Twice], &[2, 2, 1]),
+];
+
 #[test]
 fn late_parcels(rt: HostRuntime) -> Result<(), Fail> {
-    let alloc = rt.alloc();
-    to_node(rt, alloc, &[Fate::Late], &[])?;
-    to_node(rt, alloc, &[Fate::Late, Fate::Plain], &[2, 1])?;
-    to_node(
-        rt,
-        alloc,
-        &[Fate::Late, Fate::Plain, Fate::Plain],
-        &[2, 1, 3],
-    )?;
-    to_node(
-        rt,
-        alloc,
-        &[Fate::Late, Fate::Late, Fate::Plain],
-        &[1, 3, 2],
-    )?;
-    to_node(rt, alloc, &[Fate::Late, Fate::Lost, Fate::Plain], &[1, 3])?;
-    to_node(rt, alloc, &[Fate::Late, Fate::Twice], &[2, 2, 1])
+    for (fates, want) in &LATE {
+        to_node(rt, rt.alloc(), fates, want)?;
+    }
+    Ok(())
 }
+
+/// Parcels of a client that are not late.
+const PLAIN: [Fated; 3] = [
+    (&[Fate::Plain, Fate::Plain, Fate::Plain], &[1, 2, 3]),
+    (&[Fate::Twice, Fate::Plain], &[1, 1, 2]),
+    (&[Fate::Lost, Fate::Plain], &[2]),
+];
 
 #[test]
 fn plain_and_repeated_parcels(rt: HostRuntime) -> Result<(), Fail> {
-    let alloc = rt.alloc();
-    to_node(
-        rt,
-        alloc,
-        &[Fate::Plain, Fate::Plain, Fate::Plain],
-        &[1, 2, 3],
-    )?;
-    to_node(rt, alloc, &[Fate::Twice, Fate::Plain], &[1, 1, 2])?;
-    to_node(rt, alloc, &[Fate::Lost, Fate::Plain], &[2])
+    for (fates, want) in &PLAIN {
+        to_node(rt, rt.alloc(), fates, want)?;
+    }
+    Ok(())
 }
 
 /// The nudges that a client gets for its own parcels, where they meet these fates.
@@ -208,7 +217,10 @@ fn own_nudges<R: Wait + Copy>(
     want: &[u32],
 ) -> Result<(), Fail> {
     let weather = weather_with(1, fates)?;
-    let (of_node, mut of_client) = pair(rt, alloc, &weather)?;
+    let Linked {
+        of_node,
+        mut of_client,
+    } = link_both(rt, alloc, &weather)?;
     send_all(&mut of_client, &Actor::Node(node(1)?), fates.len())?;
     drop(of_node);
     same_numbers(
@@ -218,16 +230,19 @@ fn own_nudges<R: Wait + Copy>(
     )
 }
 
+/// A client's parcels, and its nudges for them.
+const OWN: [Fated; 3] = [
+    (&[Fate::Plain, Fate::Twice], &[]),
+    (&[Fate::Lost], &[101]),
+    (&[Fate::Late, Fate::Plain, Fate::Lost], &[101, 101]),
+];
+
 #[test]
 fn nudges_for_requests(rt: HostRuntime) -> Result<(), Fail> {
-    own_nudges(rt, rt.alloc(), &[Fate::Plain, Fate::Twice], &[])?;
-    own_nudges(rt, rt.alloc(), &[Fate::Lost], &[101])?;
-    own_nudges(
-        rt,
-        rt.alloc(),
-        &[Fate::Late, Fate::Plain, Fate::Lost],
-        &[101, 101],
-    )
+    for (fates, want) in &OWN {
+        own_nudges(rt, rt.alloc(), fates, want)?;
+    }
+    Ok(())
 }
 
 /// What comes to a client, where a node's parcels meet these fates.
@@ -238,7 +253,10 @@ fn to_client<R: Wait + Copy>(
     want: &[u32],
 ) -> Result<(), Fail> {
     let weather = weather_with(0, fates)?;
-    let (mut of_node, mut of_client) = pair(rt, alloc, &weather)?;
+    let Linked {
+        mut of_node,
+        mut of_client,
+    } = link_both(rt, alloc, &weather)?;
     send_all(&mut of_node, &Actor::Client(client(1)?), fates.len())?;
     drop(of_node);
     same_numbers(
@@ -248,17 +266,28 @@ fn to_client<R: Wait + Copy>(
     )
 }
 
+/// A node's parcels, and what comes to the client.
+const REPLIES: [Fated; 3] = [
+    (&[Fate::Lost, Fate::Plain], &[101, 2]),
+    (&[Fate::Late, Fate::Plain], &[101, 2, 1]),
+    (&[Fate::Twice, Fate::Late], &[1, 1, 101]),
+];
+
 #[test]
 fn nudges_for_replies(rt: HostRuntime) -> Result<(), Fail> {
-    to_client(rt, rt.alloc(), &[Fate::Lost, Fate::Plain], &[101, 2])?;
-    to_client(rt, rt.alloc(), &[Fate::Late, Fate::Plain], &[101, 2, 1])?;
-    to_client(rt, rt.alloc(), &[Fate::Twice, Fate::Late], &[1, 1, 101])
+    for (fates, want) in &REPLIES {
+        to_client(rt, rt.alloc(), fates, want)?;
+    }
+    Ok(())
 }
 
 #[test]
 fn actors_that_have_ended(rt: HostRuntime) -> Result<(), Fail> {
     let weather = Weather::of(1, 0, 0, 0)?;
-    let (of_node, mut of_client) = pair(rt, rt.alloc(), &weather)?;
+    let Linked {
+        of_node,
+        mut of_client,
+    } = link_both(rt, rt.alloc(), &weather)?;
     drop(of_node);
     send_all(&mut of_client, &Actor::Node(node(1)?), 3)?;
     send_all(&mut of_client, &Actor::Node(node(16)?), 3)?;

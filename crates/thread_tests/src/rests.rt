@@ -20,7 +20,7 @@ fn give_time<C: Clock>(clock: &C) {
 }
 
 fn is_closed<L: Link>(link: &mut L) -> bool {
-    matches!(link.receive(), Err(LinkFault::Closed))
+    link.receive().err() == Some(LinkFault::Closed)
 }
 
 /// Waits until the link is closed. It has to stay so.
