@@ -48,8 +48,9 @@ pub fn open_alone(
     ensures none { IfOk result (λ o. IfNone o (has_actor world actor ≡ false)) }
     ensures err { IfErr result (λ f. f ≡ BookFault.Memory) }
 {
-    let Ok(mut book) = Book::over(alloc, 1, world) else {
-        return Err(BookFault::Memory);
+    let mut book = match Book::over(alloc, 1, world) {
+        Ok(book) => book,
+        Err((_world, _fault)) => return Err(BookFault::Memory),
     };
     let Ok(given) = book.berth(actor) else {
         return Err(BookFault::Memory);

@@ -16,43 +16,19 @@ const OLD: Row = Row {
     checks: &[Check::Logs(
         "\
 rise c1 old
-begin c1 read a
-try c1
-kept c1
-sayto c1 n1
-take n1 1
-try n1
-kept n1
-say n1
-hear c1 2
-enter c1
-leave c1
-sayto c1 n1
-take n1 3
-try n1
-kept n1
-say n1
+begin c1 read a, try c1, kept c1, sayto c1 n1
+take n1 1, try n1, kept n1, say n1
+hear c1 2, enter c1
+leave c1, sayto c1 n1
+take n1 3, try n1, kept n1, say n1
 hear c1 4
-begin c1 read b
-try c1
-fall c1
+begin c1 read b, try c1, fall c1
 rise c1 old
-begin c1 read b
-try c1
-kept c1
-sayto c1 n1
-take n1 5
-try n1
-kept n1
-say n1
-hear c1 6
-enter c1
-leave c1
-sayto c1 n1
-take n1 7
-try n1
-kept n1
-say n1
+begin c1 read b, try c1, kept c1, sayto c1 n1
+take n1 5, try n1, kept n1, say n1
+hear c1 6, enter c1
+leave c1, sayto c1 n1
+take n1 7, try n1, kept n1, say n1
 hear c1 8
 ",
     )],
@@ -74,43 +50,19 @@ const NEW: Row = Row {
     checks: &[Check::Logs(
         "\
 rise c1 old
-begin c1 read a
-try c1
-kept c1
-sayto c1 n1
-take n1 1
-try n1
-kept n1
-say n1
-hear c1 2
-enter c1
-leave c1
-sayto c1 n1
-take n1 3
-try n1
-kept n1
-say n1
+begin c1 read a, try c1, kept c1, sayto c1 n1
+take n1 1, try n1, kept n1, say n1
+hear c1 2, enter c1
+leave c1, sayto c1 n1
+take n1 3, try n1, kept n1, say n1
 hear c1 4
-begin c1 read b
-try c1
-fall c1
+begin c1 read b, try c1, fall c1
 rise c1 new
-begin c1 read b
-try c1
-kept c1
-sayto c1 n1
-take n1 5
-try n1
-kept n1
-say n1
-hear c1 6
-enter c1
-leave c1
-sayto c1 n1
-take n1 7
-try n1
-kept n1
-say n1
+begin c1 read b, try c1, kept c1, sayto c1 n1
+take n1 5, try n1, kept n1, say n1
+hear c1 6, enter c1
+leave c1, sayto c1 n1
+take n1 7, try n1, kept n1, say n1
 hear c1 8
 ",
     )],

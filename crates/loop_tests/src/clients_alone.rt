@@ -11,10 +11,7 @@ use test_outcomes::Outcome;
 /// What c1 logs that asks n1 and for which nothing comes.
 const ASKS: &str = "\
 rise c1 old
-begin c1 read a
-try c1
-kept c1
-sayto c1 n1
+begin c1 read a, try c1, kept c1, sayto c1 n1
 leave c1
 ";
 
@@ -69,12 +66,7 @@ const ROWS: [Row; 5] = [
             Check::Logs(
                 "\
 rise c1 old
-begin c1 read a
-try c1
-kept c1
-sayto c1 n1
-sayto c1 n1
-sayto c1 n1
+begin c1 read a, try c1, kept c1, sayto c1 n1, sayto c1 n1, sayto c1 n1
 leave c1
 ",
             ),
@@ -137,13 +129,8 @@ const GONE_AND_NUDGED: Row = Row {
         Check::Logs(
             "\
 rise c1 old
-begin c1 read a
-try c1
-kept c1
-sayto c1 n1
-sayto c1 n2
-leave c1
-sayto c1 n2
+begin c1 read a, try c1, kept c1, sayto c1 n1, sayto c1 n2
+leave c1, sayto c1 n2
 ",
         ),
         Check::Sent(3),

@@ -13,22 +13,11 @@ pub(crate) const WHOLE: Row = Row {
     checks: &[Check::Logs(
         "\
 rise c1 old
-begin c1 read a
-try c1
-kept c1
-sayto c1 n1
-take n1 1
-try n1
-kept n1
-say n1
-hear c1 2
-enter c1
-leave c1
-sayto c1 n1
-take n1 3
-try n1
-kept n1
-say n1
+begin c1 read a, try c1, kept c1, sayto c1 n1
+take n1 1, try n1, kept n1, say n1
+hear c1 2, enter c1
+leave c1, sayto c1 n1
+take n1 3, try n1, kept n1, say n1
 hear c1 4
 ",
     )],
@@ -59,25 +48,13 @@ const NUDGED: Row = Row {
     checks: &[Check::Logs(
         "\
 rise c1 old
-begin c1 read a
-try c1
-kept c1
+begin c1 read a, try c1, kept c1, sayto c1 n1
+take n1 1, try n1, kept n1, say n1
 sayto c1 n1
-take n1 1
-try n1
-kept n1
-say n1
-sayto c1 n1
-take n1 3
-say n1
-hear c1 2
-enter c1
-leave c1
-sayto c1 n1
-take n1 5
-try n1
-kept n1
-say n1
+take n1 3, say n1
+hear c1 2, enter c1
+leave c1, sayto c1 n1
+take n1 5, try n1, kept n1, say n1
 hear c1 4
 hear c1 6
 ",
@@ -99,39 +76,17 @@ const TWO: Row = Row {
     checks: &[Check::Logs(
         "\
 rise c1 old
-begin c1 read a
-try c1
-kept c1
-sayto c1 n1
-take n1 1
-try n1
-kept n1
-say n1
-hear c1 2
-enter c1
-leave c1
-sayto c1 n1
-take n1 3
-try n1
-kept n1
-say n1
+begin c1 read a, try c1, kept c1, sayto c1 n1
+take n1 1, try n1, kept n1, say n1
+hear c1 2, enter c1
+leave c1, sayto c1 n1
+take n1 3, try n1, kept n1, say n1
 hear c1 4
-begin c1 read b
-try c1
-kept c1
-sayto c1 n1
-take n1 5
-try n1
-kept n1
-say n1
-hear c1 6
-enter c1
-leave c1
-sayto c1 n1
-take n1 7
-try n1
-kept n1
-say n1
+begin c1 read b, try c1, kept c1, sayto c1 n1
+take n1 5, try n1, kept n1, say n1
+hear c1 6, enter c1
+leave c1, sayto c1 n1
+take n1 7, try n1, kept n1, say n1
 hear c1 8
 ",
     )],
@@ -153,40 +108,17 @@ const GONE: Row = Row {
     checks: &[Check::Logs(
         "\
 rise c1 old
-begin c1 read a
-try c1
-kept c1
-sayto c1 n1
-sayto c1 n2
-take n2 2
-try n2
-kept n2
-say n2
-hear c1 3
-enter c1
-leave c1
-sayto c1 n2
-take n2 4
-try n2
-kept n2
-say n2
+begin c1 read a, try c1, kept c1, sayto c1 n1, sayto c1 n2
+take n2 2, try n2, kept n2, say n2
+hear c1 3, enter c1
+leave c1, sayto c1 n2
+take n2 4, try n2, kept n2, say n2
 hear c1 5
-begin c1 read b
-try c1
-kept c1
-sayto c1 n2
-take n2 6
-try n2
-kept n2
-say n2
-hear c1 7
-enter c1
-leave c1
-sayto c1 n2
-take n2 8
-try n2
-kept n2
-say n2
+begin c1 read b, try c1, kept c1, sayto c1 n2
+take n2 6, try n2, kept n2, say n2
+hear c1 7, enter c1
+leave c1, sayto c1 n2
+take n2 8, try n2, kept n2, say n2
 hear c1 9
 ",
     )],
@@ -250,19 +182,11 @@ const GONE_AFTER_ITS_VOTE: Row = Row {
     checks: &[Check::Logs(
         "\
 rise c1 old
-begin c1 read a
-try c1
-kept c1
-sayto c1 n1
-take n1 1
-try n1
-kept n1
-say n1
+begin c1 read a, try c1, kept c1, sayto c1 n1
+take n1 1, try n1, kept n1, say n1
 sayto c1 n2
-hear c1 2
-enter c1
-leave c1
-sayto c1 n2
+hear c1 2, enter c1
+leave c1, sayto c1 n2
 ",
     )],
     answer: Ok(1),
@@ -283,39 +207,17 @@ const TOO_FEW: Row = Row {
     checks: &[Check::Logs(
         "\
 rise c1 old
-begin c1 read a
-try c1
-kept c1
-sayto c1 n1
-take n1 1
-try n1
-kept n1
-say n1
-hear c1 2
-enter c1
-leave c1
-sayto c1 n1
-take n1 3
-try n1
-kept n1
-say n1
+begin c1 read a, try c1, kept c1, sayto c1 n1
+take n1 1, try n1, kept n1, say n1
+hear c1 2, enter c1
+leave c1, sayto c1 n1
+take n1 3, try n1, kept n1, say n1
 hear c1 4
-begin c1 write a
-try c1
-kept c1
-sayto c1 n1
-take n1 5
-try n1
-kept n1
-say n1
-hear c1 6
-sayto c1 n2
-leave c1
-sayto c1 n1
-take n1 8
-try n1
-kept n1
-say n1
+begin c1 write a, try c1, kept c1, sayto c1 n1
+take n1 5, try n1, kept n1, say n1
+hear c1 6, sayto c1 n2
+leave c1, sayto c1 n1
+take n1 8, try n1, kept n1, say n1
 ",
     )],
     answer: Err((1, RunFault::TooFewNodes)),
@@ -337,10 +239,7 @@ const TOO_FEW_AT_ONCE: Row = Row {
     checks: &[Check::Logs(
         "\
 rise c1 old
-begin c1 write a
-try c1
-kept c1
-sayto c1 n1
+begin c1 write a, try c1, kept c1, sayto c1 n1
 leave c1
 ",
     )],
@@ -363,16 +262,9 @@ const GRANTED_AND_GONE: Row = Row {
     checks: &[Check::Logs(
         "\
 rise c1 old
-begin c1 write a
-try c1
-kept c1
-sayto c1 n1
-take n1 1
-try n1
-kept n1
-say n1
-hear c1 2
-sayto c1 n2
+begin c1 write a, try c1, kept c1, sayto c1 n1
+take n1 1, try n1, kept n1, say n1
+hear c1 2, sayto c1 n2
 leave c1
 ",
     )],
@@ -388,22 +280,12 @@ const GONE_BEFORE_THE_NEXT_WISH: Row = Row {
     checks: &[Check::Logs(
         "\
 rise c1 old
-begin c1 read a
-try c1
-kept c1
-sayto c1 n1
-take n1 1
-try n1
-kept n1
-say n1
+begin c1 read a, try c1, kept c1, sayto c1 n1
+take n1 1, try n1, kept n1, say n1
 sayto c1 n2
-hear c1 2
-enter c1
-leave c1
-sayto c1 n2
-begin c1 read b
-try c1
-kept c1
+hear c1 2, enter c1
+leave c1, sayto c1 n2
+begin c1 read b, try c1, kept c1
 leave c1
 ",
     )],

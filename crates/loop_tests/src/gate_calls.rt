@@ -13,12 +13,8 @@ const NODE_FALLS: Row = Row {
         device: Device::Faulty(2, Leaves::Old, 0),
         before: "\
 rise c1 old
-begin c1 read a
-try c1
-kept c1
-sayto c1 n1
-leave c1
-sayto c1 n1
+begin c1 read a, try c1, kept c1, sayto c1 n1
+leave c1, sayto c1 n1
 ",
         posts: "1 request, 2 release, 2 release",
         ..NODE

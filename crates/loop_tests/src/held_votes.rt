@@ -12,14 +12,8 @@ const BUSY_AND_GONE: Row = Row {
         before: "\
 rise n1 old
 rise c2 old
-begin c2 write a
-try c2
-kept c2
-sayto c2 n1
-take n1 1
-try n1
-kept n1
-say n1
+begin c2 write a, try c2, kept c2, sayto c2 n1
+take n1 1, try n1, kept n1, say n1
 ",
         beside: Beside::Node(1, 2, 0, true),
         ..BESIDE
@@ -27,14 +21,8 @@ say n1
     checks: &[Check::Logs(
         "\
 rise c1 old
-begin c1 write a
-try c1
-kept c1
-sayto c1 n1
-take n1 3
-try n1
-kept n1
-say n1
+begin c1 write a, try c1, kept c1, sayto c1 n1
+take n1 3, try n1, kept n1, say n1
 hear c1 4
 leave c1
 ",

@@ -1,6 +1,7 @@
 // What is checked of a run that has ended.
 
 use crate::audits::count_of;
+use crate::journals::{Match, told};
 use crate::posts::add_sendings;
 use crate::runs::Answer;
 use crate::watches::Seen;
@@ -14,10 +15,10 @@ use test_outcomes::{Failure, Outcome, check_row};
 /// What a run has to leave. Of a run for which memory was refused (914) less is checked.
 #[derive(Clone, Copy)]
 pub(crate) enum Check {
-    /// Just these lines are logged behind those of the others before it; where memory was refused, a beginning of
+    /// Just these steps are logged behind those of the others before it; where memory was refused, the first of
     /// them.
     Logs(&'static str),
-    /// A beginning of this is logged behind the lines of the others before, in any case.
+    /// The first of these steps, or all, are logged behind those of the others before, in any case.
     Begins(&'static str),
     /// The journal ends so.
     Ends(&'static str),
@@ -71,12 +72,9 @@ fn own_lines(text: &str) -> usize {
 
 /// Whether the journal is as the check says, if it is about the journal.
 fn is_logged(before: &str, text: &str, check: &Check, is_cut: bool) -> bool {
-    let lines = text.strip_prefix(before);
     match check {
-        Check::Logs(whole) if !is_cut => lines == Some(*whole),
-        Check::Logs(whole) | Check::Begins(whole) => {
-            lines.is_some_and(|lines| whole.starts_with(lines))
-        }
+        Check::Logs(steps) if !is_cut => told(text, before, steps) == Match::All,
+        Check::Logs(steps) | Check::Begins(steps) => told(text, before, steps) != Match::Else,
         Check::Ends(end) => is_cut || text.ends_with(end),
         Check::Lines(count) => is_cut || text.lines().count() == *count,
         Check::OwnLines(count) => is_cut || own_lines(text) == *count,

@@ -25,6 +25,8 @@ mod gate_calls;
 #[cfg(test)]
 mod held_votes;
 #[cfg(test)]
+mod journals;
+#[cfg(test)]
 mod judging;
 #[cfg(test)]
 mod neighbours;

@@ -10,10 +10,7 @@ use test_outcomes::Outcome;
 /// How c1 asks n1: message 1.
 const ASKS: &str = "\
 rise c1 old
-begin c1 read a
-try c1
-kept c1
-sayto c1 n1
+begin c1 read a, try c1, kept c1, sayto c1 n1
 ";
 
 /// What n1 logs when it takes the request and grants it.
@@ -57,17 +54,10 @@ fn two_turns(rt: HostRuntime) -> Outcome {
 /// How c1 asks n1, gives up and releases, by the messages 1 and 2, and how c2 asks to write, by message 3.
 const TWO_ASK: &str = "\
 rise c1 old
-begin c1 read a
-try c1
-kept c1
-sayto c1 n1
-leave c1
-sayto c1 n1
+begin c1 read a, try c1, kept c1, sayto c1 n1
+leave c1, sayto c1 n1
 rise c2 old
-begin c2 write a
-try c2
-kept c2
-sayto c2 n1
+begin c2 write a, try c2, kept c2, sayto c2 n1
 ";
 
 /// The writer waits until the reader's release is taken; then one turn has two replies, with numbers one
@@ -224,12 +214,8 @@ fn a_spent_record(rt: HostRuntime) -> Outcome {
 /// How c1 gives up what it asked n1 for: messages 1 and 2.
 const GIVES_UP: &str = "\
 rise c1 old
-begin c1 read a
-try c1
-kept c1
-sayto c1 n1
-leave c1
-sayto c1 n1
+begin c1 read a, try c1, kept c1, sayto c1 n1
+leave c1, sayto c1 n1
 ";
 
 /// The second keep fails and leaves the old bytes: the clients are told to ask again, and the release is
@@ -280,24 +266,12 @@ fn a_fall_to_the_new_bytes(rt: HostRuntime) -> Outcome {
 /// How c1 asks three times and gives up each time: messages 1 to 6.
 const GIVES_UP_THRICE: &str = "\
 rise c1 old
-begin c1 read a
-try c1
-kept c1
-sayto c1 n1
-leave c1
-sayto c1 n1
-begin c1 read a
-try c1
-kept c1
-sayto c1 n1
-leave c1
-sayto c1 n1
-begin c1 read a
-try c1
-kept c1
-sayto c1 n1
-leave c1
-sayto c1 n1
+begin c1 read a, try c1, kept c1, sayto c1 n1
+leave c1, sayto c1 n1
+begin c1 read a, try c1, kept c1, sayto c1 n1
+leave c1, sayto c1 n1
+begin c1 read a, try c1, kept c1, sayto c1 n1
+leave c1, sayto c1 n1
 ";
 
 /// Each of them twice. What was lost with a keep that failed is taken again.

@@ -67,10 +67,10 @@ impl<'a, B: BookName, K: Logs, R: Wait + Copy> Others<'a, B, K, R> {
         }
     }
 
-    /// Logs the events of these lines.
-    pub(crate) fn log(&mut self, lines: &str) -> Outcome {
-        for line in lines.lines() {
-            self.log_line(line)?;
+    /// Logs these steps, which stand apart by commas or line ends.
+    pub(crate) fn log(&mut self, steps: &str) -> Outcome {
+        for step in steps.split_terminator(['\n', ',']) {
+            self.log_line(step.trim_start())?;
         }
         Ok(())
     }

@@ -30,36 +30,17 @@ const WRITES: Row = Row {
         Check::Logs(
             "\
 rise c1 old
-begin c1 write a
-try c1
-kept c1
-sayto c1 n1
+begin c1 write a, try c1, kept c1, sayto c1 n1
 rise n1 old
-take n1 1
-try n1
-kept n1
-say n1
-hear c1 2
-sayto c1 n2
+take n1 1, try n1, kept n1, say n1
+hear c1 2, sayto c1 n2
 rise n2 old
-take n2 3
-try n2
-kept n2
-say n2
-hear c1 4
-enter c1
-leave c1
-sayto c1 n1
-sayto c1 n2
-take n1 5
-try n1
-kept n1
-say n1
+take n2 3, try n2, kept n2, say n2
+hear c1 4, enter c1
+leave c1, sayto c1 n1, sayto c1 n2
+take n1 5, try n1, kept n1, say n1
 hear c1 7
-take n2 6
-try n2
-kept n2
-say n2
+take n2 6, try n2, kept n2, say n2
 hear c1 8
 ",
         ),
@@ -79,49 +60,21 @@ fn a_plain_writer(rt: HostRuntime) -> Outcome {
 /// What is logged then.
 const SOFTENED: &str = "\
 rise c1 old
-begin c1 write a
-try c1
-kept c1
-sayto c1 n1
+begin c1 write a, try c1, kept c1, sayto c1 n1
 rise n1 old
-take n1 1
-try n1
-kept n1
-say n1
-hear c1 2
-sayto c1 n2
+take n1 1, try n1, kept n1, say n1
+hear c1 2, sayto c1 n2
 rise n2 old
-take n2 3
-try n2
-kept n2
-say n2
-hear c1 4
-enter c1
-soften c1
-sayto c1 n1
-sayto c1 n2
-leave c1
-sayto c1 n1
-sayto c1 n2
-take n1 5
-try n1
-kept n1
-say n1
+take n2 3, try n2, kept n2, say n2
+hear c1 4, enter c1, soften c1, sayto c1 n1, sayto c1 n2
+leave c1, sayto c1 n1, sayto c1 n2
+take n1 5, try n1, kept n1, say n1
 hear c1 9
-take n2 6
-try n2
-kept n2
-say n2
+take n2 6, try n2, kept n2, say n2
 hear c1 10
-take n1 7
-try n1
-kept n1
-say n1
+take n1 7, try n1, kept n1, say n1
 hear c1 11
-take n2 8
-try n2
-kept n2
-say n2
+take n2 8, try n2, kept n2, say n2
 hear c1 12
 ";
 
@@ -186,33 +139,15 @@ const GONE: Row = Row {
         Check::Logs(
             "\
 rise c1 old
-begin c1 write a
-try c1
-kept c1
-sayto c1 n1
+begin c1 write a, try c1, kept c1, sayto c1 n1
 rise n1 old
-take n1 1
-try n1
-kept n1
-say n1
-hear c1 2
-sayto c1 n2
+take n1 1, try n1, kept n1, say n1
+hear c1 2, sayto c1 n2
 rise n2 old
-take n2 3
-try n2
-kept n2
-say n2
-hear c1 4
-enter c1
-soften c1
-sayto c1 n1
-sayto c1 n2
-leave c1
-sayto c1 n2
-take n2 7
-try n2
-kept n2
-say n2
+take n2 3, try n2, kept n2, say n2
+hear c1 4, enter c1, soften c1, sayto c1 n1, sayto c1 n2
+leave c1, sayto c1 n2
+take n2 7, try n2, kept n2, say n2
 hear c1 8
 ",
         ),
@@ -247,46 +182,20 @@ const LATE: Row = Row {
         Check::Logs(
             "\
 rise c1 old
-begin c1 write a
-try c1
-kept c1
-sayto c1 n1
+begin c1 write a, try c1, kept c1, sayto c1 n1
 rise n1 old
-take n1 1
-try n1
-kept n1
-say n1
-hear c1 2
-sayto c1 n2
+take n1 1, try n1, kept n1, say n1
+hear c1 2, sayto c1 n2
 rise n2 old
-take n2 3
-try n2
-kept n2
-say n2
-hear c1 4
-enter c1
-soften c1
-sayto c1 n1
-sayto c1 n2
-leave c1
-sayto c1 n1
-sayto c1 n2
-take n1 7
-try n1
-kept n1
-say n1
+take n2 3, try n2, kept n2, say n2
+hear c1 4, enter c1, soften c1, sayto c1 n1, sayto c1 n2
+leave c1, sayto c1 n1, sayto c1 n2
+take n1 7, try n1, kept n1, say n1
 hear c1 9
-take n2 8
-try n2
-kept n2
-say n2
+take n2 8, try n2, kept n2, say n2
 hear c1 10
-begin c1 read a
-try c1
-kept c1
-sayto c1 n1
-take n1 5
-say n1
+begin c1 read a, try c1, kept c1, sayto c1 n1
+take n1 5, say n1
 hear c1 12
 leave c1
 ",

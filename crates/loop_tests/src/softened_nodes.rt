@@ -36,53 +36,25 @@ const LETS_IN: Row = Row {
             "\
 rise n1 old
 rise c2 old
-begin c2 write a
-try c2
-kept c2
-sayto c2 n1
-take n1 1
-try n1
-kept n1
-say n1
-hear c2 2
-sayto c2 n2
+begin c2 write a, try c2, kept c2, sayto c2 n1
+take n1 1, try n1, kept n1, say n1
+hear c2 2, sayto c2 n2
 rise n2 old
-take n2 3
-try n2
-kept n2
-say n2
-hear c2 4
-enter c2
+take n2 3, try n2, kept n2, say n2
+hear c2 4, enter c2
 rise c1 old
-begin c1 read a
-try c1
-kept c1
-sayto c1 n1
-take n1 5
-try n1
-kept n1
-say n1
+begin c1 read a, try c1, kept c1, sayto c1 n1
+take n1 5, try n1, kept n1, say n1
 hear c1 6
-soften c2
-sayto c2 n1
-take n1 7
-try n1
-kept n1
-say n1
+soften c2, sayto c2 n1
+take n1 7, try n1, kept n1, say n1
 hear c2 8
-hear c1 9
-enter c1
-take n1 1
-say n1
-leave c2
-sayto c2 n1
-take n1 11
-try n1
-kept n1
-say n1
+hear c1 9, enter c1
+take n1 1, say n1
+leave c2, sayto c2 n1
+take n1 11, try n1, kept n1, say n1
 hear c2 12
-take n1 7
-say n1
+take n1 7, say n1
 ",
         ),
         Check::Sends(
@@ -111,43 +83,20 @@ const FALLS_OLD: Row = Row {
             "\
 rise n1 old
 rise c2 old
-begin c2 write a
-try c2
-kept c2
-sayto c2 n1
-take n1 1
-try n1
-kept n1
-say n1
-hear c2 2
-sayto c2 n2
+begin c2 write a, try c2, kept c2, sayto c2 n1
+take n1 1, try n1, kept n1, say n1
+hear c2 2, sayto c2 n2
 rise n2 old
-take n2 3
-try n2
-kept n2
-say n2
-hear c2 4
-enter c2
+take n2 3, try n2, kept n2, say n2
+hear c2 4, enter c2
 rise c1 old
-begin c1 read a
-try c1
-kept c1
-sayto c1 n1
-take n1 5
-try n1
-kept n1
-say n1
+begin c1 read a, try c1, kept c1, sayto c1 n1
+take n1 5, try n1, kept n1, say n1
 hear c1 6
-soften c2
-sayto c2 n1
-take n1 7
-try n1
-fall n1
+soften c2, sayto c2 n1
+take n1 7, try n1, fall n1
 rise n1 old
-take n1 7
-try n1
-kept n1
-say n1
+take n1 7, try n1, kept n1, say n1
 ",
         ),
         Check::Sends("2 grant c2, 6 busy, nudge, 8 softened c2, 9 grant"),
@@ -173,44 +122,22 @@ const FALLS_NEW: Row = Row {
             "\
 rise n1 old
 rise c2 old
-begin c2 write a
-try c2
-kept c2
-sayto c2 n1
-take n1 1
-try n1
-kept n1
-say n1
-hear c2 2
-sayto c2 n2
+begin c2 write a, try c2, kept c2, sayto c2 n1
+take n1 1, try n1, kept n1, say n1
+hear c2 2, sayto c2 n2
 rise n2 old
-take n2 3
-try n2
-kept n2
-say n2
-hear c2 4
-enter c2
+take n2 3, try n2, kept n2, say n2
+hear c2 4, enter c2
 rise c1 old
-begin c1 read a
-try c1
-kept c1
-sayto c1 n1
-take n1 5
-try n1
-kept n1
-say n1
+begin c1 read a, try c1, kept c1, sayto c1 n1
+take n1 5, try n1, kept n1, say n1
 hear c1 6
-soften c2
-sayto c2 n1
-take n1 7
-try n1
-fall n1
+soften c2, sayto c2 n1
+take n1 7, try n1, fall n1
 rise n1 new
-take n1 7
-say n1
+take n1 7, say n1
 sayto c1 n1
-take n1 9
-say n1
+take n1 9, say n1
 ",
         ),
         Check::Sends("2 grant c2, 6 busy, nudge, 8 softened c2, 10 grant"),

@@ -11,20 +11,11 @@ use test_outcomes::Outcome;
 /// How c1 asks n1 as a reader, c2 as a writer, and c3 as a reader: messages 1 to 3.
 const ASK: &str = "\
 rise c1 old
-begin c1 read a
-try c1
-kept c1
-sayto c1 n1
+begin c1 read a, try c1, kept c1, sayto c1 n1
 rise c2 old
-begin c2 write a
-try c2
-kept c2
-sayto c2 n1
+begin c2 write a, try c2, kept c2, sayto c2 n1
 rise c3 old
-begin c3 read a
-try c3
-kept c3
-sayto c3 n1
+begin c3 read a, try c3, kept c3, sayto c3 n1
 ";
 
 /// n1 under problem 2, once they have asked.
@@ -44,24 +35,11 @@ const LETS_IN: Row = Row {
         Check::Logs(
             "\
 rise n1 old
-take n1 1
-try n1
-kept n1
-say n1
-take n1 2
-try n1
-kept n1
-say n1
-take n1 3
-try n1
-kept n1
-say n1
-switch n1 1
-try n1
-kept n1
-say n1
-take n1 3
-say n1
+take n1 1, try n1, kept n1, say n1
+take n1 2, try n1, kept n1, say n1
+take n1 3, try n1, kept n1, say n1
+switch n1 1, try n1, kept n1, say n1
+take n1 3, say n1
 ",
         ),
         Check::Sends("4 grant, 5 busy c2, 6 busy c3, 7 grant c3, 8 grant c3"),
@@ -84,22 +62,10 @@ const LETS_NOBODY_IN: Row = Row {
         Check::Logs(
             "\
 rise n1 old
-take n1 1
-try n1
-kept n1
-say n1
-take n1 2
-try n1
-kept n1
-say n1
-switch n1 1
-try n1
-kept n1
-say n1
-take n1 3
-try n1
-kept n1
-say n1
+take n1 1, try n1, kept n1, say n1
+take n1 2, try n1, kept n1, say n1
+switch n1 1, try n1, kept n1, say n1
+take n1 3, try n1, kept n1, say n1
 ",
         ),
         Check::Sends("4 grant, 5 busy c2, 6 grant c3"),
@@ -122,24 +88,11 @@ const TWICE: Row = Row {
         Check::Logs(
             "\
 rise n1 old
-take n1 1
-try n1
-kept n1
-say n1
-take n1 2
-try n1
-kept n1
-say n1
-switch n1 1
-try n1
-kept n1
-say n1
-switch n1 1
-say n1
-take n1 3
-try n1
-kept n1
-say n1
+take n1 1, try n1, kept n1, say n1
+take n1 2, try n1, kept n1, say n1
+switch n1 1, try n1, kept n1, say n1
+switch n1 1, say n1
+take n1 3, try n1, kept n1, say n1
 ",
         ),
         Check::Sends("4 grant, 5 busy c2, 6 grant c3"),
@@ -162,26 +115,11 @@ const BACK: Row = Row {
         Check::Logs(
             "\
 rise n1 old
-take n1 1
-try n1
-kept n1
-say n1
-take n1 2
-try n1
-kept n1
-say n1
-switch n1 1
-try n1
-kept n1
-say n1
-switch n1 2
-try n1
-kept n1
-say n1
-take n1 3
-try n1
-kept n1
-say n1
+take n1 1, try n1, kept n1, say n1
+take n1 2, try n1, kept n1, say n1
+switch n1 1, try n1, kept n1, say n1
+switch n1 2, try n1, kept n1, say n1
+take n1 3, try n1, kept n1, say n1
 ",
         ),
         Check::Sends("4 grant, 5 busy c2, 6 busy c3"),
@@ -204,18 +142,9 @@ const DROPPED: Row = Row {
         Check::Logs(
             "\
 rise n1 old
-take n1 1
-try n1
-kept n1
-say n1
-take n1 2
-try n1
-kept n1
-say n1
-take n1 3
-try n1
-kept n1
-say n1
+take n1 1, try n1, kept n1, say n1
+take n1 2, try n1, kept n1, say n1
+take n1 3, try n1, kept n1, say n1
 ",
         ),
         Check::Sends("4 grant, 5 busy c2, 6 busy c3"),
@@ -240,28 +169,13 @@ const FALLS_OLD: Row = Row {
         Check::Logs(
             "\
 rise n1 old
-take n1 1
-try n1
-kept n1
-say n1
-take n1 2
-try n1
-kept n1
-say n1
-take n1 3
-try n1
-kept n1
-say n1
-switch n1 1
-try n1
-fall n1
+take n1 1, try n1, kept n1, say n1
+take n1 2, try n1, kept n1, say n1
+take n1 3, try n1, kept n1, say n1
+switch n1 1, try n1, fall n1
 rise n1 old
-take n1 3
-say n1
-switch n1 1
-try n1
-kept n1
-say n1
+take n1 3, say n1
+switch n1 1, try n1, kept n1, say n1
 ",
         ),
         Check::Sends("4 grant, 5 busy c2, 6 busy c3, nudge, 7 busy c3, 8 grant c3"),
@@ -286,26 +200,13 @@ const FALLS_NEW: Row = Row {
         Check::Logs(
             "\
 rise n1 old
-take n1 1
-try n1
-kept n1
-say n1
-take n1 2
-try n1
-kept n1
-say n1
-take n1 3
-try n1
-kept n1
-say n1
-switch n1 1
-try n1
-fall n1
+take n1 1, try n1, kept n1, say n1
+take n1 2, try n1, kept n1, say n1
+take n1 3, try n1, kept n1, say n1
+switch n1 1, try n1, fall n1
 rise n1 new
-take n1 3
-say n1
-switch n1 1
-say n1
+take n1 3, say n1
+switch n1 1, say n1
 ",
         ),
         Check::Sends("4 grant, 5 busy c2, 6 busy c3, nudge, 7 grant c3"),

@@ -31,10 +31,7 @@ fn before_a_keep_of_a_client(rt: HostRuntime) -> Outcome {
 /// What c1 logs for which nothing comes.
 const ASKS: &str = "\
 rise c1 old
-begin c1 read a
-try c1
-kept c1
-sayto c1 n1
+begin c1 read a, try c1, kept c1, sayto c1 n1
 leave c1
 ";
 

@@ -15,16 +15,9 @@ const KEEPS_THRICE: Row = Row {
         device: Device::Counted,
         before: "\
 rise c1 old
-begin c1 read a
-try c1
-kept c1
-sayto c1 n1
-leave c1
-sayto c1 n1
-begin c1 read a
-try c1
-kept c1
-sayto c1 n1
+begin c1 read a, try c1, kept c1, sayto c1 n1
+leave c1, sayto c1 n1
+begin c1 read a, try c1, kept c1, sayto c1 n1
 ",
         posts: "1 request, 2 release, 3 request",
         ..NODE
@@ -44,10 +37,7 @@ const ASKED: Run<'static> = Run {
     device: Device::Counted,
     before: "\
 rise c1 old
-begin c1 read a
-try c1
-kept c1
-sayto c1 n1
+begin c1 read a, try c1, kept c1, sayto c1 n1
 ",
     posts: "1 request",
     ..NODE
@@ -56,10 +46,7 @@ sayto c1 n1
 /// What n1 then logs.
 const TURN: &str = "\
 rise n1 old
-take n1 1
-try n1
-kept n1
-say n1
+take n1 1, try n1, kept n1, say n1
 ";
 
 /// Ends the test unless n1 with so much room logs so much of a turn, behind the five lines of c1, and ends by a

@@ -225,8 +225,9 @@ pub fn run_all<R: Threads + Wait + Copy + Send, G: Gate + Sync>(
 {
     world.soundness();
     world.keeping();
-    let Ok(mut book) = Book::over(alloc, BOOK, world) else {
-        return Err(RunFault::Memory);
+    let mut book = match Book::over(alloc, BOOK, world) {
+        Ok(book) => book,
+        Err((_world, _fault)) => return Err(RunFault::Memory),
     };
     let Ok(tasks) = tasks_of(
         rt, alloc, ballots, wishes, records, pairs, &weather, &mut book,

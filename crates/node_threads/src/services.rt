@@ -275,8 +275,9 @@ pub fn with_sessions<S: OwnRecord + Send, R: Threads + Wait + Copy + Send + Sync
 {
     world.soundness();
     world.keeping();
-    let Ok(mut book) = Book::over(alloc, BOOK, world) else {
-        return Err(RunFault::Memory);
+    let mut book = match Book::over(alloc, BOOK, world) {
+        Ok(book) => book,
+        Err((_world, _fault)) => return Err(RunFault::Memory),
     };
     let Ok(tasks) = service_tasks(
         rt,

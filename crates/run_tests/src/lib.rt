@@ -9,9 +9,13 @@
 #[cfg(test)]
 mod audits;
 #[cfg(test)]
+mod books;
+#[cfg(test)]
 mod devices;
 #[cfg(test)]
 mod failing;
+#[cfg(test)]
+mod full;
 #[cfg(test)]
 mod gates;
 #[cfg(test)]

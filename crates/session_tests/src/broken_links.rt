@@ -10,10 +10,7 @@ use test_outcomes::Outcome;
 const ASKED: &str = "\
 rise n1 old
 rise c1 old
-begin c1 read a
-try c1
-kept c1
-sayto c1 n1
+begin c1 read a, try c1, kept c1, sayto c1 n1
 ";
 
 const NO_MEMORY_FOR_THE_REQUEST: Row<'static> = Row {
@@ -51,18 +48,9 @@ fn no_memory_for_the_request_of_a_try(rt: HostRuntime) -> Outcome {
 const SOFTENED: &str = "\
 rise n1 old
 rise c1 old
-begin c1 write a
-try c1
-kept c1
-sayto c1 n1
-take n1 1
-try n1
-kept n1
-say n1
-hear c1 2
-enter c1
-soften c1
-sayto c1 n1
+begin c1 write a, try c1, kept c1, sayto c1 n1
+take n1 1, try n1, kept n1, say n1
+hear c1 2, enter c1, soften c1, sayto c1 n1
 ";
 
 const NO_MEMORY_FOR_THE_SOFTENING: Row<'static> = Row {
@@ -89,18 +77,10 @@ fn no_memory_for_the_softening(rt: HostRuntime) -> Outcome {
 const LEFT: &str = "\
 rise n1 old
 rise c1 old
-begin c1 read a
-try c1
-kept c1
-sayto c1 n1
-take n1 1
-try n1
-kept n1
-say n1
-hear c1 2
-enter c1
-leave c1
-sayto c1 n1
+begin c1 read a, try c1, kept c1, sayto c1 n1
+take n1 1, try n1, kept n1, say n1
+hear c1 2, enter c1
+leave c1, sayto c1 n1
 ";
 
 const NO_MEMORY_FOR_THE_RELEASE: Row<'static> = Row {
@@ -173,28 +153,14 @@ fn no_memory_for_the_release_of_a_dropped_guard(rt: HostRuntime) -> Outcome {
 const TAKEN_BACK: &str = "\
 rise n1 old
 rise c2 old
-begin c2 write a
-try c2
-kept c2
-sayto c2 n1
-take n1 1
-try n1
-kept n1
-say n1
-hear c2 2
-enter c2
+begin c2 write a, try c2, kept c2, sayto c2 n1
+take n1 1, try n1, kept n1, say n1
+hear c2 2, enter c2
 rise c1 old
-begin c1 read a
-try c1
-kept c1
-sayto c1 n1
-take n1 3
-try n1
-kept n1
-say n1
+begin c1 read a, try c1, kept c1, sayto c1 n1
+take n1 3, try n1, kept n1, say n1
 hear c1 4
-leave c1
-sayto c1 n1
+leave c1, sayto c1 n1
 ";
 
 const NO_MEMORY_FOR_TAKING_BACK: Row<'static> = Row {
@@ -216,14 +182,9 @@ fn no_memory_for_taking_back(rt: HostRuntime) -> Outcome {
 const CLOSED_TWICE: &str = "\
 rise n1 old
 rise c1 old
-begin c1 read a
-try c1
-kept c1
-sayto c1 n1
+begin c1 read a, try c1, kept c1, sayto c1 n1
 leave c1
-begin c1 read b
-try c1
-kept c1
+begin c1 read b, try c1, kept c1
 leave c1
 ";
 
@@ -248,21 +209,11 @@ fn closed_behind_the_request(rt: HostRuntime) -> Outcome {
 const CLOSED_BEHIND_A_RELEASE: &str = "\
 rise n1 old
 rise c1 old
-begin c1 read a
-try c1
-kept c1
-sayto c1 n1
-take n1 1
-try n1
-kept n1
-say n1
-hear c1 2
-enter c1
-leave c1
-sayto c1 n1
-begin c1 read b
-try c1
-kept c1
+begin c1 read a, try c1, kept c1, sayto c1 n1
+take n1 1, try n1, kept n1, say n1
+hear c1 2, enter c1
+leave c1, sayto c1 n1
+begin c1 read b, try c1, kept c1
 leave c1
 ";
 
@@ -310,24 +261,11 @@ fn closed_behind_the_release_of_a_dropped_guard(rt: HostRuntime) -> Outcome {
 const SOFTENED_UNHEARD: &str = "\
 rise n1 old
 rise c1 old
-begin c1 write a
-try c1
-kept c1
-sayto c1 n1
-take n1 1
-try n1
-kept n1
-say n1
-hear c1 2
-enter c1
-soften c1
-sayto c1 n1
-leave c1
-sayto c1 n1
-take n1 4
-try n1
-kept n1
-say n1
+begin c1 write a, try c1, kept c1, sayto c1 n1
+take n1 1, try n1, kept n1, say n1
+hear c1 2, enter c1, soften c1, sayto c1 n1
+leave c1, sayto c1 n1
+take n1 4, try n1, kept n1, say n1
 hear c1 5
 ";
 

@@ -12,43 +12,19 @@ use test_outcomes::Outcome;
 const OLD: &str = "\
 rise n1 old
 rise c1 old
-begin c1 read a
-try c1
-kept c1
-sayto c1 n1
-take n1 1
-try n1
-kept n1
-say n1
-hear c1 2
-enter c1
-leave c1
-sayto c1 n1
-take n1 3
-try n1
-kept n1
-say n1
+begin c1 read a, try c1, kept c1, sayto c1 n1
+take n1 1, try n1, kept n1, say n1
+hear c1 2, enter c1
+leave c1, sayto c1 n1
+take n1 3, try n1, kept n1, say n1
 hear c1 4
-begin c1 read b
-try c1
-fall c1
+begin c1 read b, try c1, fall c1
 rise c1 old
-begin c1 read b
-try c1
-kept c1
-sayto c1 n1
-take n1 5
-try n1
-kept n1
-say n1
-hear c1 6
-enter c1
-leave c1
-sayto c1 n1
-take n1 7
-try n1
-kept n1
-say n1
+begin c1 read b, try c1, kept c1, sayto c1 n1
+take n1 5, try n1, kept n1, say n1
+hear c1 6, enter c1
+leave c1, sayto c1 n1
+take n1 7, try n1, kept n1, say n1
 hear c1 8
 ";
 
@@ -90,43 +66,19 @@ fn a_fall_to_the_attempt_before(rt: HostRuntime) -> Outcome {
 const NEW: &str = "\
 rise n1 old
 rise c1 old
-begin c1 read a
-try c1
-kept c1
-sayto c1 n1
-take n1 1
-try n1
-kept n1
-say n1
-hear c1 2
-enter c1
-leave c1
-sayto c1 n1
-take n1 3
-try n1
-kept n1
-say n1
+begin c1 read a, try c1, kept c1, sayto c1 n1
+take n1 1, try n1, kept n1, say n1
+hear c1 2, enter c1
+leave c1, sayto c1 n1
+take n1 3, try n1, kept n1, say n1
 hear c1 4
-begin c1 read b
-try c1
-fall c1
+begin c1 read b, try c1, fall c1
 rise c1 new
-begin c1 read b
-try c1
-kept c1
-sayto c1 n1
-take n1 5
-try n1
-kept n1
-say n1
-hear c1 6
-enter c1
-leave c1
-sayto c1 n1
-take n1 7
-try n1
-kept n1
-say n1
+begin c1 read b, try c1, kept c1, sayto c1 n1
+take n1 5, try n1, kept n1, say n1
+hear c1 6, enter c1
+leave c1, sayto c1 n1
+take n1 7, try n1, kept n1, say n1
 hear c1 8
 ";
 
@@ -212,9 +164,7 @@ fn a_plate_that_is_never_reopened(rt: HostRuntime) -> Outcome {
 const FALLEN: &str = "\
 rise n1 old
 rise c1 old
-begin c1 read a
-try c1
-fall c1
+begin c1 read a, try c1, fall c1
 ";
 
 /// The plate fails at the first of the four calls of the keep.
@@ -250,26 +200,13 @@ fn a_plate_that_fails_in_the_first_attempt(rt: HostRuntime) -> Outcome {
 const FALLEN_BEHIND_A_VISIT: &str = "\
 rise n1 old
 rise c1 old
-begin c1 read a
-try c1
-kept c1
-sayto c1 n1
-take n1 1
-try n1
-kept n1
-say n1
-hear c1 2
-enter c1
-leave c1
-sayto c1 n1
-take n1 3
-try n1
-kept n1
-say n1
+begin c1 read a, try c1, kept c1, sayto c1 n1
+take n1 1, try n1, kept n1, say n1
+hear c1 2, enter c1
+leave c1, sayto c1 n1
+take n1 3, try n1, kept n1, say n1
 hear c1 4
-begin c1 read b
-try c1
-fall c1
+begin c1 read b, try c1, fall c1
 ";
 
 const A_PLATE_THAT_FAILS_IN_THE_SECOND_ATTEMPT: Row<'static> = Row {

@@ -10,22 +10,11 @@ use test_outcomes::Outcome;
 pub(crate) const WHOLE: &str = "\
 rise n1 old
 rise c1 old
-begin c1 read a
-try c1
-kept c1
-sayto c1 n1
-take n1 1
-try n1
-kept n1
-say n1
-hear c1 2
-enter c1
-leave c1
-sayto c1 n1
-take n1 3
-try n1
-kept n1
-say n1
+begin c1 read a, try c1, kept c1, sayto c1 n1
+take n1 1, try n1, kept n1, say n1
+hear c1 2, enter c1
+leave c1, sayto c1 n1
+take n1 3, try n1, kept n1, say n1
 hear c1 4
 ";
 
@@ -45,33 +34,15 @@ fn leaves(rt: HostRuntime) -> Outcome {
 const DROPPED: &str = "\
 rise n1 old
 rise c1 old
-begin c1 read a
-try c1
-kept c1
-sayto c1 n1
-take n1 1
-try n1
-kept n1
-say n1
-hear c1 2
-enter c1
-leave c1
-sayto c1 n1
-take n1 3
-try n1
-kept n1
-say n1
+begin c1 read a, try c1, kept c1, sayto c1 n1
+take n1 1, try n1, kept n1, say n1
+hear c1 2, enter c1
+leave c1, sayto c1 n1
+take n1 3, try n1, kept n1, say n1
 hear c1 4
-begin c1 read b
-try c1
-kept c1
-sayto c1 n1
-take n1 5
-try n1
-kept n1
-say n1
-hear c1 6
-enter c1
+begin c1 read b, try c1, kept c1, sayto c1 n1
+take n1 5, try n1, kept n1, say n1
+hear c1 6, enter c1
 ";
 
 const DROPS_A_GUARD_AND_ENTERS_ANOTHER_RESOURCE: Row<'static> = Row {
@@ -114,28 +85,12 @@ fn drops_a_guard_and_settles(rt: HostRuntime) -> Outcome {
 pub(crate) const SOFTENED: &str = "\
 rise n1 old
 rise c1 old
-begin c1 write a
-try c1
-kept c1
-sayto c1 n1
-take n1 1
-try n1
-kept n1
-say n1
-hear c1 2
-enter c1
-soften c1
-sayto c1 n1
-take n1 3
-try n1
-kept n1
-say n1
-leave c1
-sayto c1 n1
-take n1 5
-try n1
-kept n1
-say n1
+begin c1 write a, try c1, kept c1, sayto c1 n1
+take n1 1, try n1, kept n1, say n1
+hear c1 2, enter c1, soften c1, sayto c1 n1
+take n1 3, try n1, kept n1, say n1
+leave c1, sayto c1 n1
+take n1 5, try n1, kept n1, say n1
 hear c1 4
 hear c1 6
 ";
@@ -160,49 +115,21 @@ fn softens(rt: HostRuntime) -> Outcome {
 const BUSY: &str = "\
 rise n1 old
 rise c2 old
-begin c2 write a
-try c2
-kept c2
-sayto c2 n1
-take n1 1
-try n1
-kept n1
-say n1
-hear c2 2
-enter c2
+begin c2 write a, try c2, kept c2, sayto c2 n1
+take n1 1, try n1, kept n1, say n1
+hear c2 2, enter c2
 rise c1 old
-begin c1 read a
-try c1
-kept c1
-sayto c1 n1
-take n1 3
-try n1
-kept n1
-say n1
+begin c1 read a, try c1, kept c1, sayto c1 n1
+take n1 3, try n1, kept n1, say n1
 hear c1 4
-leave c1
-sayto c1 n1
-take n1 5
-try n1
-kept n1
-say n1
+leave c1, sayto c1 n1
+take n1 5, try n1, kept n1, say n1
 hear c1 6
-begin c1 read b
-try c1
-kept c1
-sayto c1 n1
-take n1 7
-try n1
-kept n1
-say n1
-hear c1 8
-enter c1
-leave c1
-sayto c1 n1
-take n1 9
-try n1
-kept n1
-say n1
+begin c1 read b, try c1, kept c1, sayto c1 n1
+take n1 7, try n1, kept n1, say n1
+hear c1 8, enter c1
+leave c1, sayto c1 n1
+take n1 9, try n1, kept n1, say n1
 hear c1 10
 ";
 
@@ -228,18 +155,10 @@ fn takes_back_what_is_busy(rt: HostRuntime) -> Outcome {
 const TOO_FEW_TWICE: &str = "\
 rise n1 old
 rise c1 old
-begin c1 read a
-try c1
-kept c1
-sayto c1 n1
-take n1 1
-try n1
-kept n1
-say n1
+begin c1 read a, try c1, kept c1, sayto c1 n1
+take n1 1, try n1, kept n1, say n1
 leave c1
-begin c1 read a
-try c1
-kept c1
+begin c1 read a, try c1, kept c1
 leave c1
 ";
 
@@ -260,49 +179,22 @@ fn too_few_nodes_again_and_again(rt: HostRuntime) -> Outcome {
 const GAVE_UP_AND_ENTERED: &str = "\
 rise n1 old
 rise c1 old
-begin c1 read a
-try c1
-kept c1
-sayto c1 n1
-take n1 1
-try n1
-kept n1
-say n1
-leave c1
-sayto c1 n1
-take n1 3
-try n1
-kept n1
-say n1
-begin c1 read a
-try c1
-kept c1
-sayto c1 n1
-take n1 5
-try n1
-kept n1
-say n1
-hear c1 2
-sayto c1 n1
-take n1 7
-say n1
-hear c1 4
-sayto c1 n1
-take n1 9
-say n1
-hear c1 6
-enter c1
-leave c1
-sayto c1 n1
-take n1 11
-try n1
-kept n1
-say n1
+begin c1 read a, try c1, kept c1, sayto c1 n1
+take n1 1, try n1, kept n1, say n1
+leave c1, sayto c1 n1
+take n1 3, try n1, kept n1, say n1
+begin c1 read a, try c1, kept c1, sayto c1 n1
+take n1 5, try n1, kept n1, say n1
+hear c1 2, sayto c1 n1
+take n1 7, say n1
+hear c1 4, sayto c1 n1
+take n1 9, say n1
+hear c1 6, enter c1
+leave c1, sayto c1 n1
+take n1 11, try n1, kept n1, say n1
 hear c1 8
-hear c1 10
-sayto c1 n1
-take n1 13
-say n1
+hear c1 10, sayto c1 n1
+take n1 13, say n1
 hear c1 12
 ";
 
@@ -330,28 +222,12 @@ fn gives_up_and_enters(rt: HostRuntime) -> Outcome {
 const LONGEST: &str = "\
 rise n1 old
 rise c1 old
-begin c1 write abcdefghijklmnopqrstuvwxyz-01234
-try c1
-kept c1
-sayto c1 n1
-take n1 1
-try n1
-kept n1
-say n1
-hear c1 2
-enter c1
-soften c1
-sayto c1 n1
-take n1 3
-try n1
-kept n1
-say n1
-leave c1
-sayto c1 n1
-take n1 5
-try n1
-kept n1
-say n1
+begin c1 write abcdefghijklmnopqrstuvwxyz-01234, try c1, kept c1, sayto c1 n1
+take n1 1, try n1, kept n1, say n1
+hear c1 2, enter c1, soften c1, sayto c1 n1
+take n1 3, try n1, kept n1, say n1
+leave c1, sayto c1 n1
+take n1 5, try n1, kept n1, say n1
 hear c1 4
 hear c1 6
 ";

@@ -25,6 +25,8 @@ mod guards;
 #[cfg(test)]
 mod inside;
 #[cfg(test)]
+mod journals;
+#[cfg(test)]
 mod kept;
 #[cfg(test)]
 mod lending;

@@ -7,54 +7,25 @@ use test_outcomes::Outcome;
 const GAVE_UP_LEAVING: &str = "\
 rise n1 old
 rise c1 old
-begin c1 read a
-try c1
-kept c1
+begin c1 read a, try c1, kept c1, sayto c1 n1
+take n1 1, try n1, kept n1, say n1
 sayto c1 n1
-take n1 1
-try n1
-kept n1
-say n1
-sayto c1 n1
-take n1 3
-say n1
-hear c1 2
-enter c1
-leave c1
-sayto c1 n1
-take n1 5
-try n1
-kept n1
-say n1
-hear c1 4
-sayto c1 n1
-take n1 7
-say n1
-begin c1 read b
-try c1
-kept c1
-sayto c1 n1
-take n1 9
-try n1
-kept n1
-say n1
+take n1 3, say n1
+hear c1 2, enter c1
+leave c1, sayto c1 n1
+take n1 5, try n1, kept n1, say n1
+hear c1 4, sayto c1 n1
+take n1 7, say n1
+begin c1 read b, try c1, kept c1, sayto c1 n1
+take n1 9, try n1, kept n1, say n1
 hear c1 6
-hear c1 8
-sayto c1 n1
-take n1 11
-say n1
-hear c1 10
-enter c1
-leave c1
-sayto c1 n1
-take n1 13
-try n1
-kept n1
-say n1
-hear c1 12
-sayto c1 n1
-take n1 15
-say n1
+hear c1 8, sayto c1 n1
+take n1 11, say n1
+hear c1 10, enter c1
+leave c1, sayto c1 n1
+take n1 13, try n1, kept n1, say n1
+hear c1 12, sayto c1 n1
+take n1 15, say n1
 hear c1 14
 ";
 

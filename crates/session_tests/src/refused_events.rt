@@ -19,20 +19,20 @@ const REFUSALS: [(Refusal, RunFault); 3] = [
     (Refusal::OtherBook, RunFault::Book),
 ];
 
-/// What a journal has before the event of c1 of this number.
-fn before(journal: &'static str, number: u32) -> &'static str {
+/// The steps before the event of c1 of this number.
+fn before(steps: &'static str, number: u32) -> &'static str {
     let mut left = number;
     let mut end = 0usize;
-    for line in journal.lines() {
-        if line.contains(" c1") {
+    for step in steps.split_inclusive(['\n', ',']) {
+        if step.contains(" c1") {
             left = left.saturating_sub(1);
         }
         if left == 0 {
             break;
         }
-        end = end.saturating_add(line.len()).saturating_add(1);
+        end = end.saturating_add(step.len());
     }
-    journal.get(..end).unwrap_or(journal)
+    steps.get(..end).unwrap_or(steps)
 }
 
 /// Ends the test unless a visit as a writer that softens, whose event of this number is refused, goes by these

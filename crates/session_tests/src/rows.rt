@@ -9,6 +9,7 @@ use crate::audits::journal_of;
 use crate::calls::{Answer, Call, Says, play};
 use crate::devices::{Device, on_a_faulty_device};
 use crate::faults::of_book;
+use crate::journals::{Match, told};
 use crate::neighbours::Neighbour;
 use crate::plates::on_a_plate;
 use crate::programs::in_memory;
@@ -51,7 +52,7 @@ pub(crate) struct Row<'a> {
     pub(crate) over: RunFault,
     /// How many are inside `a` in the end, as the session itself tells.
     pub(crate) inside: usize,
-    /// The journal of all.
+    /// The steps of all, apart by commas or line ends.
     pub(crate) journal: &'a str,
     /// How often the device of the record has failed.
     pub(crate) failures: u64,
@@ -330,8 +331,12 @@ fn is_right(ended: Ended, journal: &[u8], row: &Row<'_>) -> Outcome {
     }
     check_row(ended.risen == row.rises, 99)?;
     ended.played?;
-    check_row(row.journal.as_bytes().starts_with(journal), 100)?;
-    row.or_memory(journal.len() == row.journal.len(), 101)?;
+    let Ok(journal) = str::from_utf8(journal) else {
+        return Err(Failure::Wrong(100));
+    };
+    let found = told(journal, row.journal);
+    check_row(found != Match::Else, 100)?;
+    row.or_memory(found == Match::All, 101)?;
     ended.kept
 }
 

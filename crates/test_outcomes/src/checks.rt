@@ -1,6 +1,7 @@
 // What ends a test.
 
-ghost use Rattle.std.specs.Prelude.{◌≡◌, ◌⊎◌, true, false, Some, None, All, OnOk, IfErr};
+ghost use Rattle.std.specs.Prelude.{◌≡◌, true, false, All, OnOk, IfErr};
+ghost use Rattle.test_outcomes.specs.Answers.{IsRight, IsNotRight, TellsTheFirst};
 
 use crate::{Failure, Outcome};
 
@@ -26,8 +27,8 @@ pub fn check_row(holds: bool, row: usize) -> Outcome
 
 /// Ends the test where the answer to a row is wrong, or there is none.
 pub fn check_answer(answer: Option<bool>, row: usize) -> Outcome
-    ensures passes { OnOk result (answer ≡ Some true) }
-    ensures fails { IfErr result (λ failure. ((answer ≡ Some false) × (failure ≡ Failure.Wrong row)) ⊎ ((answer ≡ None) × (failure ≡ Failure.NoAnswer row))) }
+    ensures passes { OnOk result (IsRight answer) }
+    ensures fails { IfErr result (λ failure. IsNotRight answer row failure) }
 {
     match answer {
         Some(true) => Ok(()),
@@ -39,8 +40,8 @@ pub fn check_answer(answer: Option<bool>, row: usize) -> Outcome
 /// Ends the test at the first of these answers, each to its row, that is wrong or isn't there. (One call with all
 /// answers is cheaper to prove than an exit behind each.)
 pub fn check_answers(answers: &[Option<bool>]) -> Outcome
-    ensures passes { OnOk result (All (λ answer. answer ≡ Some true) answers.now) }
-    ensures fails { IfErr result (λ failure. All (λ answer. answer ≡ Some true) answers.now → ⊥) }
+    ensures passes { OnOk result (All IsRight answers.now) }
+    ensures fails { IfErr result (λ failure. TellsTheFirst answers.now failure) }
 {
     for (row, answer) in answers.iter().enumerate() {
         check_answer(*answer, row)?;
