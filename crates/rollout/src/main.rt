@@ -15,8 +15,10 @@ mod sites;
 
 use crate::crews::Rollout;
 use crate::sites::Site;
+use event_recorders::RunFault;
 use journal_audit::Verdict;
 use line_streams::write_text;
+use lock_messages::Actor;
 use operator_cli::{Command, read_settings};
 use run_service::{audit_book, run_in_memory};
 use std::alloc::Global;
@@ -28,6 +30,16 @@ use std::thread::Threads;
 /// Three nodes with a vote each, any two of which are enough; writers first; three workers and two watchers.
 const SETTINGS: &[u8] = b"votes = [1, 1, 1]\nread = 2\nwrite = 2\nproblem = 2\nclients = 5\n";
 
+/// The report, then who ended by a fault, and whether the journal is sound. Nothing where memory was refused.
+fn with_end(mut report: String, faults: &[(Actor, RunFault)], verdict: Verdict) -> Option<String> {
+    for (actor, fault) in faults {
+        writeln!(report, "{actor} fault {}", fault.number()).ok()?;
+    }
+    let is_sound = matches!(verdict, Verdict::Sound(_));
+    writeln!(report, "the journal is sound: {is_sound}").ok()?;
+    Some(report)
+}
+
 /// Runs the service with the rollout inside, audits its journal, and says what came of it. Nothing where memory was
 /// refused, or a thread couldn't be started.
 fn roll_out<T: Threads + Wait + Copy + Send + Sync>(
@@ -38,14 +50,11 @@ fn roll_out<T: Threads + Wait + Copy + Send + Sync>(
     let start = read_settings(alloc, Command::Run { journal: false }, SETTINGS).ok()?;
     let settings = start.settings;
     let end = run_in_memory(rt, alloc, &settings, start.weather, rollout).ok()?;
-    let verdict = audit_book(alloc, &settings, &end.book).ok()?;
-    let mut text = rollout.site.lock(&rt).report(alloc).ok()?;
-    for (actor, fault) in &end.faults {
-        writeln!(text, "{actor} fault {}", fault.number()).ok()?;
+    let report = rollout.site.lock(&rt).report(alloc);
+    match (report, audit_book(alloc, &settings, &end.book)) {
+        (Ok(report), Ok(verdict)) => with_end(report, end.faults.as_slice(), verdict),
+        _ => None,
     }
-    let is_sound = matches!(verdict, Verdict::Sound(_));
-    writeln!(text, "the journal is sound: {is_sound}").ok()?;
-    Some(text)
 }
 
 fn main(rt: HostRuntime) -> ExitCode {
