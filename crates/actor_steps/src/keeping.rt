@@ -14,7 +14,7 @@ use stable_record::{RecordFault, StableRecord};
 use world_model::{Effect, Event};
 
 /// What came of keeping a record.
-#[derive(Clone, Copy, Debug, PartialEq, Eq, Hash)]
+#[derive(Clone, Copy, Debug, PartialEq, Eq)]
 pub enum Keeping {
     /// The record has the new bytes, and that they are kept is logged.
     Kept,

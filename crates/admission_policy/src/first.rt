@@ -5,7 +5,7 @@ ghost use Rattle.std.specs.Prelude.{◌≡◌, not};
 use crate::Admission;
 
 /// Problem 1: a reader waits only where a writer holds the resource. It counts nothing.
-#[derive(Clone, Copy, Debug, PartialEq, Eq, Hash, PartialOrd, Ord)]
+#[derive(Clone, Copy, Debug, PartialEq, Eq)]
 pub struct FirstProblem;
 
 impl Admission for FirstProblem {

@@ -5,7 +5,7 @@ ghost use Rattle.std.specs.Prelude.{◌≡◌, ◌&&◌, not};
 use crate::Admission;
 
 /// Problem 2: a reader waits also where a writer waits for the resource. It counts nothing.
-#[derive(Clone, Copy, Debug, PartialEq, Eq, Hash, PartialOrd, Ord)]
+#[derive(Clone, Copy, Debug, PartialEq, Eq)]
 pub struct SecondProblem;
 
 impl Admission for SecondProblem {

@@ -6,7 +6,7 @@ ghost use Rattle.client_core.specs.Faults.{fault_number};
 use thiserror::Error;
 
 /// Why a client can't begin an attempt.
-#[derive(Clone, Copy, Debug, PartialEq, Eq, Hash, Error)]
+#[derive(Clone, Copy, Debug, PartialEq, Eq, Error)]
 pub enum ClientFault {
     /// An attempt is under way. Number 701.
     #[error("an attempt is under way")]

@@ -6,7 +6,7 @@ use lock_messages::{Mode, NodeId, Ticket};
 use vote_weights::NodeSet;
 
 /// What a client does.
-#[derive(Clone, Copy, Debug, PartialEq, Eq, Hash, PartialOrd, Ord)]
+#[derive(Clone, Copy, Debug, PartialEq, Eq)]
 pub enum Phase {
     /// No attempt is under way: there was none yet, or the latest is over.
     Idle,
@@ -21,7 +21,7 @@ pub enum Phase {
 /// What a client has of its present attempt: the ticket that it asked with, the place of the ballot by
 /// which its votes count, the nodes whose Grant was counted, those that were skipped, and whether it has
 /// softened: then it is a reader, whatever that ticket says.
-#[derive(Clone, Copy, Debug, PartialEq, Eq, Hash)]
+#[derive(Clone, Copy, Debug, PartialEq, Eq)]
 pub(crate) struct Present {
     pub(crate) ticket: Ticket,
     pub(crate) place: u8,
@@ -103,7 +103,7 @@ impl Present {
 }
 
 /// What a client does, with what it has then.
-#[derive(Clone, Copy, Debug, PartialEq, Eq, Hash)]
+#[derive(Clone, Copy, Debug, PartialEq, Eq)]
 pub(crate) enum State {
     Idle,
     /// The ticket, and the place of the ballot by which its votes will count.

@@ -14,7 +14,7 @@ use crate::explaining::explain_command;
 use crate::reading::read_words;
 use operator_cli::{Command, Order, Policies, ServeFault, serve};
 use program_ends::{Ended, collected, end_unserved, tell_fault, tell_unread};
-use run_service::{Records, serve_run};
+use run_service::{Supplies, serve_run};
 use std::alloc::Global;
 use std::env::Args;
 use std::io;
@@ -37,27 +37,24 @@ fn serve_for<T: Threads + Wait + Copy + Send, R: Read, W: Write>(
     rt: T,
     alloc: Global,
     order: Order,
-    threads: Policies,
-    records: Records,
+    supplies: Supplies,
     reader: R,
     output: &mut W,
 ) -> Result<u8, ServeFault>
 where
     R: Drop,
     requires policies { length order.policies.pairs.items ≡ MAX_NODES }
-    requires threads { length threads.pairs.items ≡ MAX_NODES }
-    requires records_first { map (λ r. finds (r.vtable, r.value)) records.first.items ≡ replicate MAX_NODES (empty_node First) }
-    requires records_second { map (λ r. finds (r.vtable, r.value)) records.second.items ≡ replicate MAX_NODES (empty_node Second) }
-    requires records_clients { map (λ r. finds (r.vtable, r.value)) records.clients.items ≡ replicate MAX_CLIENTS empty_client }
+    requires threads { length supplies.policies.pairs.items ≡ MAX_NODES }
+    requires records_first { map (λ r. finds (r.vtable, r.value)) supplies.records.first.items ≡ replicate MAX_NODES (empty_node First) }
+    requires records_second { map (λ r. finds (r.vtable, r.value)) supplies.records.second.items ≡ replicate MAX_NODES (empty_node Second) }
+    requires records_clients { map (λ r. finds (r.vtable, r.value)) supplies.records.clients.items ≡ replicate MAX_CLIENTS empty_client }
     ensures { ServesFor order.command (R.remaining reader) (W.contents output.old) (W.contents output.new) result }
 {
     match order.command {
         Command::Script => serve(alloc, order, reader, output),
         Command::Audit => serve(alloc, order, reader, output),
         Command::Ballot => serve(alloc, order, reader, output),
-        Command::Run { .. } => serve_run(
-            rt, alloc, order, reader, output, threads, records, &mut None,
-        ),
+        Command::Run { .. } => serve_run(rt, alloc, order, reader, output, supplies, &mut None),
     }
 }
 
@@ -66,8 +63,7 @@ fn run_command<T: Threads + Wait + Copy + Send, R: Read, W: Write, E: Write>(
     rt: T,
     alloc: Global,
     order: Order,
-    threads: Policies,
-    records: Records,
+    supplies: Supplies,
     reader: R,
     output: &mut W,
     errors: &mut E,
@@ -75,13 +71,13 @@ fn run_command<T: Threads + Wait + Copy + Send, R: Read, W: Write, E: Write>(
 where
     R: Drop,
     requires policies { length order.policies.pairs.items ≡ MAX_NODES }
-    requires threads { length threads.pairs.items ≡ MAX_NODES }
-    requires records_first { map (λ r. finds (r.vtable, r.value)) records.first.items ≡ replicate MAX_NODES (empty_node First) }
-    requires records_second { map (λ r. finds (r.vtable, r.value)) records.second.items ≡ replicate MAX_NODES (empty_node Second) }
-    requires records_clients { map (λ r. finds (r.vtable, r.value)) records.clients.items ≡ replicate MAX_CLIENTS empty_client }
+    requires threads { length supplies.policies.pairs.items ≡ MAX_NODES }
+    requires records_first { map (λ r. finds (r.vtable, r.value)) supplies.records.first.items ≡ replicate MAX_NODES (empty_node First) }
+    requires records_second { map (λ r. finds (r.vtable, r.value)) supplies.records.second.items ≡ replicate MAX_NODES (empty_node Second) }
+    requires records_clients { map (λ r. finds (r.vtable, r.value)) supplies.records.clients.items ≡ replicate MAX_CLIENTS empty_client }
     ensures { RunsCommand order.command (R.remaining reader) (record { old = W.contents output.old; new = W.contents output.new; errors_old = E.contents errors.old; errors_new = E.contents errors.new }) result }
 {
-    let came = serve_for(rt, alloc, order, threads, records, reader, output);
+    let came = serve_for(rt, alloc, order, supplies, reader, output);
     end_served(came, errors)
 }
 
@@ -91,8 +87,7 @@ fn run_asked<T: Threads + Wait + Copy + Send, R: Read, W: Write, E: Write>(
     alloc: Global,
     explain: bool,
     order: Order,
-    threads: Policies,
-    records: Records,
+    supplies: Supplies,
     reader: R,
     output: &mut W,
     errors: &mut E,
@@ -100,16 +95,16 @@ fn run_asked<T: Threads + Wait + Copy + Send, R: Read, W: Write, E: Write>(
 where
     R: Drop,
     requires policies { length order.policies.pairs.items ≡ MAX_NODES }
-    requires threads { length threads.pairs.items ≡ MAX_NODES }
-    requires records_first { map (λ r. finds (r.vtable, r.value)) records.first.items ≡ replicate MAX_NODES (empty_node First) }
-    requires records_second { map (λ r. finds (r.vtable, r.value)) records.second.items ≡ replicate MAX_NODES (empty_node Second) }
-    requires records_clients { map (λ r. finds (r.vtable, r.value)) records.clients.items ≡ replicate MAX_CLIENTS empty_client }
+    requires threads { length supplies.policies.pairs.items ≡ MAX_NODES }
+    requires records_first { map (λ r. finds (r.vtable, r.value)) supplies.records.first.items ≡ replicate MAX_NODES (empty_node First) }
+    requires records_second { map (λ r. finds (r.vtable, r.value)) supplies.records.second.items ≡ replicate MAX_NODES (empty_node Second) }
+    requires records_clients { map (λ r. finds (r.vtable, r.value)) supplies.records.clients.items ≡ replicate MAX_CLIENTS empty_client }
     ensures { RunsAsked explain order.command (R.remaining reader) (record { old = W.contents output.old; new = W.contents output.new; errors_old = E.contents errors.old; errors_new = E.contents errors.new }) result }
 {
     if explain {
-        explain_command(rt, alloc, order, threads, records, reader, output, errors)
+        explain_command(rt, alloc, order, supplies, reader, output, errors)
     } else {
-        run_command(rt, alloc, order, threads, records, reader, output, errors)
+        run_command(rt, alloc, order, supplies, reader, output, errors)
     }
 }
 
@@ -120,8 +115,7 @@ fn run_words<T: Threads + Wait + Copy + Send, R: Read, W: Write, E: Write>(
     alloc: Global,
     words: &[String],
     policies: Policies,
-    threads: Policies,
-    records: Records,
+    supplies: Supplies,
     reader: R,
     output: &mut W,
     errors: &mut E,
@@ -129,10 +123,10 @@ fn run_words<T: Threads + Wait + Copy + Send, R: Read, W: Write, E: Write>(
 where
     R: Drop,
     requires policies { length policies.pairs.items ≡ MAX_NODES }
-    requires threads { length threads.pairs.items ≡ MAX_NODES }
-    requires records_first { map (λ r. finds (r.vtable, r.value)) records.first.items ≡ replicate MAX_NODES (empty_node First) }
-    requires records_second { map (λ r. finds (r.vtable, r.value)) records.second.items ≡ replicate MAX_NODES (empty_node Second) }
-    requires records_clients { map (λ r. finds (r.vtable, r.value)) records.clients.items ≡ replicate MAX_CLIENTS empty_client }
+    requires threads { length supplies.policies.pairs.items ≡ MAX_NODES }
+    requires records_first { map (λ r. finds (r.vtable, r.value)) supplies.records.first.items ≡ replicate MAX_NODES (empty_node First) }
+    requires records_second { map (λ r. finds (r.vtable, r.value)) supplies.records.second.items ≡ replicate MAX_NODES (empty_node Second) }
+    requires records_clients { map (λ r. finds (r.vtable, r.value)) supplies.records.clients.items ≡ replicate MAX_CLIENTS empty_client }
     ensures { Runs (R.remaining reader) (map string_bytes words.now) (record { old = W.contents output.old; new = W.contents output.new; errors_old = E.contents errors.old; errors_new = E.contents errors.new }) result }
 {
     match read_words(alloc, words) {
@@ -140,9 +134,7 @@ where
             let explain = asked.front || asked.behind;
             let command = asked.command;
             let order = Order { command, policies };
-            run_asked(
-                rt, alloc, explain, order, threads, records, reader, output, errors,
-            )
+            run_asked(rt, alloc, explain, order, supplies, reader, output, errors)
         }
         Err(why) => end_unserved(why, output, errors),
     }
@@ -155,8 +147,7 @@ fn run_given<T: Threads + Wait + Copy + Send, R: Read, W: Write, E: Write>(
     alloc: Global,
     given: Args,
     policies: Policies,
-    threads: Policies,
-    records: Records,
+    supplies: Supplies,
     reader: R,
     output: &mut W,
     errors: &mut E,
@@ -164,10 +155,10 @@ fn run_given<T: Threads + Wait + Copy + Send, R: Read, W: Write, E: Write>(
 where
     R: Drop,
     requires policies { length policies.pairs.items ≡ MAX_NODES }
-    requires threads { length threads.pairs.items ≡ MAX_NODES }
-    requires records_first { map (λ r. finds (r.vtable, r.value)) records.first.items ≡ replicate MAX_NODES (empty_node First) }
-    requires records_second { map (λ r. finds (r.vtable, r.value)) records.second.items ≡ replicate MAX_NODES (empty_node Second) }
-    requires records_clients { map (λ r. finds (r.vtable, r.value)) records.clients.items ≡ replicate MAX_CLIENTS empty_client }
+    requires threads { length supplies.policies.pairs.items ≡ MAX_NODES }
+    requires records_first { map (λ r. finds (r.vtable, r.value)) supplies.records.first.items ≡ replicate MAX_NODES (empty_node First) }
+    requires records_second { map (λ r. finds (r.vtable, r.value)) supplies.records.second.items ≡ replicate MAX_NODES (empty_node Second) }
+    requires records_clients { map (λ r. finds (r.vtable, r.value)) supplies.records.clients.items ≡ replicate MAX_CLIENTS empty_client }
     ensures { Runs (R.remaining reader) (map string_bytes (into_iter_items given)) (record { old = W.contents output.old; new = W.contents output.new; errors_old = E.contents errors.old; errors_new = E.contents errors.new }) result }
 {
     let Ok(all) = collected(alloc, given) else {
@@ -178,8 +169,7 @@ where
         alloc,
         all.as_slice(),
         policies,
-        threads,
-        records,
+        supplies,
         reader,
         output,
         errors,
@@ -207,8 +197,7 @@ pub fn run<T: Threads + Wait + Copy + Send, R: Read, W: Write, E: Write>(
     alloc: Global,
     words: io::Result<Args>,
     policies: Policies,
-    threads: Policies,
-    records: Records,
+    supplies: Supplies,
     reader: R,
     output: &mut W,
     errors: &mut E,
@@ -216,18 +205,16 @@ pub fn run<T: Threads + Wait + Copy + Send, R: Read, W: Write, E: Write>(
 where
     R: Drop,
     requires policies { length policies.pairs.items ≡ MAX_NODES }
-    requires threads { length threads.pairs.items ≡ MAX_NODES }
-    requires records_first { map (λ r. finds (r.vtable, r.value)) records.first.items ≡ replicate MAX_NODES (empty_node First) }
-    requires records_second { map (λ r. finds (r.vtable, r.value)) records.second.items ≡ replicate MAX_NODES (empty_node Second) }
-    requires records_clients { map (λ r. finds (r.vtable, r.value)) records.clients.items ≡ replicate MAX_CLIENTS empty_client }
+    requires threads { length supplies.policies.pairs.items ≡ MAX_NODES }
+    requires records_first { map (λ r. finds (r.vtable, r.value)) supplies.records.first.items ≡ replicate MAX_NODES (empty_node First) }
+    requires records_second { map (λ r. finds (r.vtable, r.value)) supplies.records.second.items ≡ replicate MAX_NODES (empty_node Second) }
+    requires records_clients { map (λ r. finds (r.vtable, r.value)) supplies.records.clients.items ≡ replicate MAX_CLIENTS empty_client }
     ensures runs { IfOk words (λ all. Runs (R.remaining reader) (map string_bytes (into_iter_items all)) (record { old = W.contents output.old; new = W.contents output.new; errors_old = E.contents errors.old; errors_new = E.contents errors.new }) result) }
     ensures unread { IfErr words (λ error. EndsUnread (error_kind error ≡ ErrorKind.OutOfMemory) (E.contents errors.old) (E.contents errors.new) result) }
     ensures unread_keeps { IfErr words (λ error. Keeps (W.contents output.old) (W.contents output.new)) }
 {
     match words {
-        Ok(given) => run_given(
-            rt, alloc, given, policies, threads, records, reader, output, errors,
-        ),
+        Ok(given) => run_given(rt, alloc, given, policies, supplies, reader, output, errors),
         Err(error) => tell_unread(error, errors),
     }
 }

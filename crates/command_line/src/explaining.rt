@@ -13,7 +13,7 @@ use explanations::Explainer;
 use line_streams::write_text;
 use operator_cli::{Command, Order, Policies, ServeFault, serve};
 use program_ends::Ended;
-use run_service::{Records, serve_run};
+use run_service::{Supplies, serve_run};
 use std::alloc::Global;
 use std::io::{Read, Write};
 use std::sync::Wait;
@@ -53,8 +53,7 @@ fn run_followed<T: Threads + Wait + Copy + Send, R: Read, W: Write, E: Write>(
     rt: T,
     alloc: Global,
     order: Order,
-    threads: Policies,
-    records: Records,
+    supplies: Supplies,
     reader: R,
     output: &mut W,
     errors: &mut E,
@@ -64,15 +63,15 @@ where
     R: Drop,
     requires run { IsRun order.command }
     requires policies { length order.policies.pairs.items ≡ MAX_NODES }
-    requires threads { length threads.pairs.items ≡ MAX_NODES }
-    requires records_first { map (λ r. finds (r.vtable, r.value)) records.first.items ≡ replicate MAX_NODES (empty_node First) }
-    requires records_second { map (λ r. finds (r.vtable, r.value)) records.second.items ≡ replicate MAX_NODES (empty_node Second) }
-    requires records_clients { map (λ r. finds (r.vtable, r.value)) records.clients.items ≡ replicate MAX_CLIENTS empty_client }
+    requires threads { length supplies.policies.pairs.items ≡ MAX_NODES }
+    requires records_first { map (λ r. finds (r.vtable, r.value)) supplies.records.first.items ≡ replicate MAX_NODES (empty_node First) }
+    requires records_second { map (λ r. finds (r.vtable, r.value)) supplies.records.second.items ≡ replicate MAX_NODES (empty_node Second) }
+    requires records_clients { map (λ r. finds (r.vtable, r.value)) supplies.records.clients.items ≡ replicate MAX_CLIENTS empty_client }
     ensures { ServesRun order.command (R.remaining reader) (W.contents output.old) (W.contents output.new) result }
 {
     let explainer = Explainer::new(alloc, order.command, no_policies(alloc));
     let followed = Followed::new(alloc, reader, explainer, errors);
-    serve_run(rt, alloc, order, followed, output, threads, records, words)
+    serve_run(rt, alloc, order, followed, output, supplies, words)
 }
 
 /// Serves a command, and says what there is to say of it.
@@ -80,8 +79,7 @@ fn serve_in_words<T: Threads + Wait + Copy + Send, R: Read, W: Write, E: Write>(
     rt: T,
     alloc: Global,
     order: Order,
-    threads: Policies,
-    records: Records,
+    supplies: Supplies,
     reader: R,
     output: &mut W,
     errors: &mut E,
@@ -90,18 +88,18 @@ fn serve_in_words<T: Threads + Wait + Copy + Send, R: Read, W: Write, E: Write>(
 where
     R: Drop,
     requires policies { length order.policies.pairs.items ≡ MAX_NODES }
-    requires threads { length threads.pairs.items ≡ MAX_NODES }
-    requires records_first { map (λ r. finds (r.vtable, r.value)) records.first.items ≡ replicate MAX_NODES (empty_node First) }
-    requires records_second { map (λ r. finds (r.vtable, r.value)) records.second.items ≡ replicate MAX_NODES (empty_node Second) }
-    requires records_clients { map (λ r. finds (r.vtable, r.value)) records.clients.items ≡ replicate MAX_CLIENTS empty_client }
+    requires threads { length supplies.policies.pairs.items ≡ MAX_NODES }
+    requires records_first { map (λ r. finds (r.vtable, r.value)) supplies.records.first.items ≡ replicate MAX_NODES (empty_node First) }
+    requires records_second { map (λ r. finds (r.vtable, r.value)) supplies.records.second.items ≡ replicate MAX_NODES (empty_node Second) }
+    requires records_clients { map (λ r. finds (r.vtable, r.value)) supplies.records.clients.items ≡ replicate MAX_CLIENTS empty_client }
     ensures { ServesFor order.command (R.remaining reader) (W.contents output.old) (W.contents output.new) result }
 {
     match order.command {
-        Command::Script => serve_followed(alloc, order, threads, reader, output, errors),
-        Command::Audit => serve_followed(alloc, order, threads, reader, output, errors),
-        Command::Ballot => serve_followed(alloc, order, threads, reader, output, errors),
+        Command::Script => serve_followed(alloc, order, supplies.policies, reader, output, errors),
+        Command::Audit => serve_followed(alloc, order, supplies.policies, reader, output, errors),
+        Command::Ballot => serve_followed(alloc, order, supplies.policies, reader, output, errors),
         Command::Run { .. } => run_followed(
-            rt, alloc, order, threads, records, reader, output, errors, words,
+            rt, alloc, order, supplies, reader, output, errors, words,
         ),
     }
 }
@@ -133,8 +131,7 @@ pub(crate) fn explain_command<T: Threads + Wait + Copy + Send, R: Read, W: Write
     rt: T,
     alloc: Global,
     order: Order,
-    threads: Policies,
-    records: Records,
+    supplies: Supplies,
     reader: R,
     output: &mut W,
     errors: &mut E,
@@ -142,15 +139,15 @@ pub(crate) fn explain_command<T: Threads + Wait + Copy + Send, R: Read, W: Write
 where
     R: Drop,
     requires policies { length order.policies.pairs.items ≡ MAX_NODES }
-    requires threads { length threads.pairs.items ≡ MAX_NODES }
-    requires records_first { map (λ r. finds (r.vtable, r.value)) records.first.items ≡ replicate MAX_NODES (empty_node First) }
-    requires records_second { map (λ r. finds (r.vtable, r.value)) records.second.items ≡ replicate MAX_NODES (empty_node Second) }
-    requires records_clients { map (λ r. finds (r.vtable, r.value)) records.clients.items ≡ replicate MAX_CLIENTS empty_client }
+    requires threads { length supplies.policies.pairs.items ≡ MAX_NODES }
+    requires records_first { map (λ r. finds (r.vtable, r.value)) supplies.records.first.items ≡ replicate MAX_NODES (empty_node First) }
+    requires records_second { map (λ r. finds (r.vtable, r.value)) supplies.records.second.items ≡ replicate MAX_NODES (empty_node Second) }
+    requires records_clients { map (λ r. finds (r.vtable, r.value)) supplies.records.clients.items ≡ replicate MAX_CLIENTS empty_client }
     ensures { ExplainsCommand order.command (R.remaining reader) (record { old = W.contents output.old; new = W.contents output.new; errors_old = E.contents errors.old; errors_new = E.contents errors.new }) result }
 {
     let mut words = Some(String::new(alloc));
     let came = serve_in_words(
-        rt, alloc, order, threads, records, reader, output, errors, &mut words,
+        rt, alloc, order, supplies, reader, output, errors, &mut words,
     );
     end_explained(came, &words, errors)
 }

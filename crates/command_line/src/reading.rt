@@ -4,7 +4,7 @@ ghost use Rattle.std.specs.Prelude.{◌≡◌, IfOk, false, map, string_bytes, c
 ghost use Rattle.clap.specs.Words.{app_of, shape_of, rule_of, rows_of, one_of, found_of, fault_of, subcommand_name_of, subcommand_rows_of};
 ghost use Rattle.clap.specs.Simple.{new_shape};
 ghost use Rattle.clap.specs.declared.builder.command.Command.TheViews.{out-Command};
-ghost use Rattle.command_line.specs.CommandLine.{app, bare_app, top_app, explain_rule, flag_rule, command_shape, run_shape, found_in, IsName, IsCommand, AsksBehind, NamesBehind, IsFlag, NamesOne, Parses, ReadsWords};
+ghost use Rattle.command_line.specs.CommandLine.{app, bare_app, top_app, explain_rule, flag_rule, command_shape, run_shape, with_command, found_in, IsName, IsCommand, AsksBehind, NamesBehind, IsFlag, NamesOne, Parses, ReadsWords};
 
 use clap::{Arg, ArgAction, ArgMatches};
 use operator_cli::Command;
@@ -266,24 +266,42 @@ fn run_below<'a>(alloc: Global) -> Result<clap::Command<'a>, AllocError>
     Ok(with_flags)
 }
 
+/// The program with one more command, which takes the flag that asks for words.
+fn with_command<'a>(
+    alloc: Global,
+    program: clap::Command<'a>,
+    name: &'a str,
+    about: &'a str,
+    help: &'a str,
+) -> Result<clap::Command<'a>, AllocError>
+    ensures { IfOk result (λ c. app_of c ≡ with_command (app_of program.entry) name.entry.now) }
+{
+    let command = explained_below(alloc, name, about, help)?;
+    let with_command = program.subcommand(command)?;
+    Ok(with_command)
+}
+
 /// The words that the program takes.
 fn words_taken<'a>(alloc: Global) -> Result<clap::Command<'a>, AllocError>
     ensures { IfOk result (λ c. app_of c ≡ app) }
 {
-    let script = explained_below(alloc, "script", "Runs a script", SCRIPT_HELP)?;
-    let audit = explained_below(alloc, "audit", "Judges a journal", AUDIT_HELP)?;
-    let ballot = explained_below(alloc, "ballot", "Says what a ballot is", BALLOT_HELP)?;
-    let run = run_below(alloc)?;
     let bare = top(alloc)?;
-    let with_script = bare.subcommand(script)?;
-    let with_audit = with_script.subcommand(audit)?;
-    let with_ballot = with_audit.subcommand(ballot)?;
+    let with_script = with_command(alloc, bare, "script", "Runs a script", SCRIPT_HELP)?;
+    let with_audit = with_command(alloc, with_script, "audit", "Judges a journal", AUDIT_HELP)?;
+    let with_ballot = with_command(
+        alloc,
+        with_audit,
+        "ballot",
+        "Says what a ballot is",
+        BALLOT_HELP,
+    )?;
+    let run = run_below(alloc)?;
     let with_run = with_ballot.subcommand(run)?;
     Ok(with_run)
 }
 
 /// What the words ask for: a command, and whether words are asked for in front of it and behind it.
-#[derive(Clone, Copy, Debug, PartialEq, Eq)]
+#[derive(Clone, Copy)]
 pub struct Asked {
     pub command: Command,
     pub front: bool,

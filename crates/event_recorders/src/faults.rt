@@ -6,7 +6,7 @@ ghost use Rattle.event_recorders.specs.Faults.{run_fault_number};
 use thiserror::Error;
 
 /// Why an actor's thread ended before its work was done. Programs print the number.
-#[derive(Clone, Copy, Debug, PartialEq, Eq, Hash, Error)]
+#[derive(Clone, Copy, Debug, PartialEq, Eq, Error)]
 pub enum RunFault {
     /// 911: three reopens of a record failed in a row.
     #[error("the record failed to reopen three times in a row")]

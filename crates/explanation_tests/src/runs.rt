@@ -1,5 +1,7 @@
 // What is said of a run: who entered what, who ended by a fault and in which wish, and which wishes were left.
 
+ghost use Rattle.lock_messages.specs.Ids.{IsNode, IsClient};
+
 use event_recorders::RunFault;
 use explanations::RunWords;
 use history_check::{Wish, read_wish};
@@ -61,28 +63,32 @@ wish 6 is left: c3 read a
 wish 7 is left: c1 write a
 ";
 
-fn client(number: u32) -> Result<Actor, Failure> {
-    match ClientId::of(number) {
-        Some(id) => Ok(Actor::Client(id)),
-        None => Err(Failure::Wrong(0)),
-    }
+fn client(number: u32) -> Actor
+    requires { IsClient number }
+{
+    let Some(id) = ClientId::of(number) else {
+        unreachable!()
+    };
+    Actor::Client(id)
 }
 
-fn node(number: u8) -> Result<Actor, Failure> {
-    match NodeId::of(number) {
-        Some(id) => Ok(Actor::Node(id)),
-        None => Err(Failure::Wrong(0)),
-    }
+fn node(number: u8) -> Actor
+    requires { IsNode number }
+{
+    let Some(id) = NodeId::of(number) else {
+        unreachable!()
+    };
+    Actor::Node(id)
 }
 
 #[test]
 fn run_with_faults(rt: HostRuntime) -> Outcome {
     let faults = [
-        (node(1)?, RunFault::NotReopened),
-        (client(1)?, RunFault::GaveUp),
-        (client(2)?, RunFault::Memory),
-        (client(3)?, RunFault::TooFewNodes),
-        (client(4)?, RunFault::Spent),
+        (node(1), RunFault::NotReopened),
+        (client(1), RunFault::GaveUp),
+        (client(2), RunFault::Memory),
+        (client(3), RunFault::TooFewNodes),
+        (client(4), RunFault::Spent),
     ];
     let text = heard(rt.alloc(), JOURNAL, faults.as_slice())?;
     check_row(text.as_str() == WORDS, 0)
@@ -91,7 +97,7 @@ fn run_with_faults(rt: HostRuntime) -> Outcome {
 /// A client that left, or fell, is at its next wish.
 #[test]
 fn next_wish(rt: HostRuntime) -> Outcome {
-    let faults = [(client(2)?, RunFault::Book)];
+    let faults = [(client(2), RunFault::Book)];
     let left = heard(rt.alloc(), "enter c2\nleave c2\n", faults.as_slice())?;
     let words = "c2 fault 915: the book takes no more events of this actor in wish 5, write c b2\n";
     check_row(left.as_str().contains(words), 0)?;

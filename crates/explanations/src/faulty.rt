@@ -12,7 +12,7 @@ use std::alloc::AllocError;
 use toml::{Table, Value};
 
 /// What is wrong with the value at a key.
-#[derive(Clone, Copy, Debug, PartialEq, Eq)]
+#[derive(Clone, Copy)]
 enum Wrong {
     /// It is needed, and isn't there.
     Missing,

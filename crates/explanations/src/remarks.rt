@@ -16,7 +16,7 @@ use world_machine::World;
 use world_model::{Event, StepFault};
 
 /// What the lines behind the settings are.
-#[derive(Clone, Copy, Debug, PartialEq, Eq)]
+#[derive(Clone, Copy, PartialEq, Eq)]
 pub enum Kind {
     /// A script: all are up at first, and a refused line is not the last.
     Script,
@@ -25,7 +25,7 @@ pub enum Kind {
 }
 
 /// What there is to say of a line.
-#[derive(Clone, Copy, Debug, PartialEq, Eq)]
+#[derive(Clone, Copy)]
 pub enum Remark {
     /// Nothing: it goes on.
     Nothing,

@@ -9,7 +9,7 @@ use std::io::{ErrorKind, Write};
 use world_model::Event;
 
 /// What the journal of a run tells of a client.
-#[derive(Clone, Copy, Debug, PartialEq, Eq)]
+#[derive(Clone, Copy)]
 struct Visits {
     /// How often it entered.
     entered: u32,

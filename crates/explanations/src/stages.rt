@@ -10,7 +10,7 @@ use vote_weights::{BallotList, NodeSet};
 use world_model::{Effect, Event};
 
 /// What a node does.
-#[derive(Clone, Copy, Debug, PartialEq, Eq)]
+#[derive(Clone, Copy)]
 pub enum NodePhase {
     /// It is down.
     Down,
@@ -25,7 +25,7 @@ pub enum NodePhase {
 }
 
 /// What a client does.
-#[derive(Clone, Copy, Debug, PartialEq, Eq)]
+#[derive(Clone, Copy)]
 pub enum ClientPhase {
     /// It is down.
     Down,
@@ -42,7 +42,7 @@ pub enum ClientPhase {
 }
 
 /// Where a client stands: what it does, and what there is of its last attempt.
-#[derive(Clone, Copy, Debug, PartialEq, Eq)]
+#[derive(Clone, Copy)]
 pub struct ClientStage {
     pub phase: ClientPhase,
     pub mode: Mode,

@@ -7,7 +7,7 @@ use thiserror::Error;
 use world_model::StepFault;
 
 /// Why a book refuses what it is asked. Programs print the number.
-#[derive(Clone, Copy, Debug, PartialEq, Eq, Hash, Error)]
+#[derive(Clone, Copy, Debug, PartialEq, Eq, Error)]
 pub enum BookFault {
     /// 811: the event is none that may happen now, for this reason.
     #[error("the event can't happen now: {0}")]

@@ -8,7 +8,7 @@ use crate::LineFault;
 
 /// What a line tells or asks, without its arguments. The last three are queries, which scripts have
 /// beside the events.
-#[derive(Clone, Copy, Debug, PartialEq, Eq, Hash)]
+#[derive(Clone, Copy, Debug, PartialEq, Eq)]
 pub enum Command {
     Begin,
     Try,

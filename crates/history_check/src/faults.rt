@@ -6,7 +6,7 @@ ghost use Rattle.history_check.specs.Faults.{line_fault_number};
 use thiserror::Error;
 
 /// Why a line is no event and no query. Programs print the number.
-#[derive(Clone, Copy, Debug, PartialEq, Eq, Hash, Error)]
+#[derive(Clone, Copy, Debug, PartialEq, Eq, Error)]
 pub enum LineFault {
     /// 801: the first word, or a word that is one of a few, is another.
     #[error("no event or query has this word")]

@@ -18,7 +18,7 @@ use std::alloc::{AllocError, Global};
 use world_model::{Age, Event};
 
 /// What a script asks.
-#[derive(Clone, Copy, Debug, PartialEq, Eq, Hash)]
+#[derive(Clone, Copy, Debug, PartialEq, Eq)]
 pub enum Query {
     /// Who is inside this resource?
     Inside(ResourceName),
@@ -29,7 +29,7 @@ pub enum Query {
 }
 
 /// What a line says.
-#[derive(Clone, Copy, Debug, PartialEq, Eq, Hash)]
+#[derive(Clone, Copy, Debug, PartialEq, Eq)]
 pub enum Line {
     /// What happens.
     Event(Event),

@@ -13,7 +13,7 @@ pub const MAX_WISHES: usize = 4_096;
 
 /// That a client is to use a resource once, in this mode and by the ballot at this place. It may wish to
 /// begin as a writer and to go on as a reader.
-#[derive(Clone, Copy, Debug, PartialEq, Eq, Hash)]
+#[derive(Clone, Copy, Debug, PartialEq, Eq)]
 pub struct Wish {
     pub client: ClientId,
     pub mode: Mode,

@@ -6,7 +6,7 @@ ghost use Rattle.journal_audit.specs.Faults.{audit_fault_number};
 use thiserror::Error;
 
 /// Why an audit came to no verdict, or couldn't tell it. Programs print the number.
-#[derive(Clone, Copy, Debug, PartialEq, Eq, Hash, Error)]
+#[derive(Clone, Copy, Debug, PartialEq, Eq, Error)]
 pub enum AuditFault {
     /// 816: the reader failed, or 600,000,000 reads were made.
     #[error("the journal couldn't be read")]

@@ -7,7 +7,7 @@ use world_model::StepFault;
 pub const MAX_LINES: u32 = 4_194_304;
 
 /// What is wrong with a line of a journal.
-#[derive(Clone, Copy, Debug, PartialEq, Eq, Hash)]
+#[derive(Clone, Copy, Debug, PartialEq, Eq)]
 pub enum Cause {
     /// It is no event.
     Line(LineFault),
@@ -16,7 +16,7 @@ pub enum Cause {
 }
 
 /// What is found of a journal.
-#[derive(Clone, Copy, Debug, PartialEq, Eq, Hash)]
+#[derive(Clone, Copy, Debug, PartialEq, Eq)]
 pub enum Verdict {
     /// So many lines, which are a run.
     Sound(u32),

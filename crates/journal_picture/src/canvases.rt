@@ -8,7 +8,7 @@ use run_picture::{Mark, Part, Place};
 use thiserror::Error;
 
 /// Why something wasn't drawn.
-#[derive(Clone, Copy, Debug, PartialEq, Eq, Hash, Error)]
+#[derive(Clone, Copy, Debug, PartialEq, Eq, Error)]
 pub enum CanvasFault {
     /// What it is drawn on failed.
     #[error("the mark couldn't be written")]

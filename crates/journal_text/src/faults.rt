@@ -6,7 +6,7 @@ ghost use Rattle.journal_text.specs.Faults.{journal_fault_number};
 use thiserror::Error;
 
 /// Why a journal wasn't written, or not all of it. Programs print the number.
-#[derive(Clone, Copy, Debug, PartialEq, Eq, Hash, Error)]
+#[derive(Clone, Copy, Debug, PartialEq, Eq, Error)]
 pub enum JournalFault {
     /// 817: the writer failed, or took nothing.
     #[error("the journal couldn't be written")]

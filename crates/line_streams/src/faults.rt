@@ -3,7 +3,7 @@
 use thiserror::Error;
 
 /// Why a line wasn't read, or a text not written.
-#[derive(Clone, Copy, Debug, PartialEq, Eq, Hash, Error)]
+#[derive(Clone, Copy, Debug, PartialEq, Eq, Error)]
 pub enum StreamFault {
     /// The reader failed, or it was asked as often as it may be.
     #[error("the input couldn't be read")]

@@ -9,7 +9,7 @@ use thiserror::Error;
 
 /// Why bytes are no frame: the first field from the front that isn't wholly there or whose value
 /// is wrong; or, when a frame is made, that memory was refused.
-#[derive(Clone, Copy, Debug, PartialEq, Eq, Hash, PartialOrd, Ord, Error)]
+#[derive(Clone, Copy, Debug, PartialEq, Eq, Error)]
 pub enum FrameFault {
     /// 101: a field isn't wholly there.
     #[error("the frame ends within a field")]

@@ -10,7 +10,7 @@ use std::fmt;
 /// goes to or comes from; a message to or from a node of another service can't be told apart.
 ///
 /// Prints as `request n1 c1 1 read a` or, with no ticket, as `release n1 c1 1`.
-#[derive(Clone, Copy, Debug, PartialEq, Eq, Hash, PartialOrd, Ord)]
+#[derive(Clone, Copy, Debug, PartialEq, Eq)]
 pub enum Message {
     /// To a node: the client asks for its vote.
     Request(NodeId, Ticket),

@@ -5,7 +5,7 @@ use std::fmt;
 
 /// How a client wants to use a resource (Courtois, Heymans and Parnas 1971). Prints as `read` or
 /// `write`.
-#[derive(Clone, Copy, Debug, PartialEq, Eq, Hash, PartialOrd, Ord)]
+#[derive(Clone, Copy, Debug, PartialEq, Eq, Hash)]
 pub enum Mode {
     /// Together with other readers.
     Read,
@@ -14,7 +14,7 @@ pub enum Mode {
 }
 
 /// One attempt of one client to use one resource in one mode. Prints as `c1 1 read a`.
-#[derive(Clone, Copy, Debug, PartialEq, Eq, Hash, PartialOrd, Ord)]
+#[derive(Clone, Copy, Debug, PartialEq, Eq, Hash)]
 pub struct Ticket {
     pub client: ClientId,
     pub attempt: Attempt,

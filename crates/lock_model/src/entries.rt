@@ -8,7 +8,7 @@ ghost use Rattle.lock_model.specs.ExactDecisions.{ended_entry, softened_live, so
 use lock_messages::{Attempt, ClientId, Mode, ResourceName};
 
 /// Whether a live ticket has the node's vote, and whether as it was asked for.
-#[derive(Clone, Copy, Debug, PartialEq, Eq, Hash, PartialOrd, Ord)]
+#[derive(Clone, Copy, Debug, PartialEq, Eq)]
 pub enum Status {
     /// It waits for the vote.
     Waiting,
@@ -19,7 +19,7 @@ pub enum Status {
 }
 
 /// A client's live ticket at a node. The mode of a softened one is `Read`.
-#[derive(Clone, Copy, Debug, PartialEq, Eq, Hash, PartialOrd, Ord)]
+#[derive(Clone, Copy, Debug, PartialEq, Eq)]
 pub struct Live {
     pub attempt: Attempt,
     pub mode: Mode,
@@ -31,7 +31,7 @@ pub struct Live {
 ///
 /// The client's attempts up to `floor` are ended; 0 means that none is. A live ticket's attempt is
 /// one above the floor (our own rule). A client without an entry has floor 0 and no live ticket.
-#[derive(Clone, Copy, Debug, PartialEq, Eq, Hash, PartialOrd, Ord)]
+#[derive(Clone, Copy, Debug, PartialEq, Eq)]
 pub struct Entry {
     pub client: ClientId,
     pub floor: u64,

@@ -1,7 +1,7 @@
 // What a client makes of a message.
 
 /// What a client makes of a message that it hears.
-#[derive(Clone, Copy, Debug, PartialEq, Eq, Hash, PartialOrd, Ord)]
+#[derive(Clone, Copy, Debug, PartialEq, Eq)]
 pub enum Heard {
     /// A vote for the present ticket, from a node that had not given it yet.
     Counted,

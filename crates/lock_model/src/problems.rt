@@ -4,7 +4,7 @@ ghost use Rattle.std.specs.Prelude.{◌≡◌};
 ghost use Rattle.lock_model.specs.ExactStations.{admits_reader};
 
 /// Which readers wait (Courtois, Heymans and Parnas 1971). In both a writer is alone.
-#[derive(Clone, Copy, Debug, PartialEq, Eq, Hash, PartialOrd, Ord)]
+#[derive(Clone, Copy, Debug, PartialEq, Eq)]
 pub enum Problem {
     /// Problem 1: a reader waits only where a writer holds the resource.
     First,

@@ -4,7 +4,7 @@ use event_recorders::RunFault;
 use thiserror::Error;
 
 /// Why a session did not enter that isn't to wait.
-#[derive(Clone, Copy, Debug, PartialEq, Eq, Hash, Error)]
+#[derive(Clone, Copy, Debug, PartialEq, Eq, Error)]
 pub enum TryFault {
     /// A node let it wait, and it has taken back what it asked for.
     #[error("others go before it")]

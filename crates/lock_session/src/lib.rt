@@ -26,4 +26,4 @@ pub use gates::OpenGate;
 pub use guards::SessionGuard;
 pub use lent_records::LentRecord;
 pub use records::OwnRecord;
-pub use sessions::Session;
+pub use sessions::{NotRisen, Session};

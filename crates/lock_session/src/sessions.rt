@@ -46,6 +46,15 @@ pub struct Session<S: OwnRecord, R: Recorder, L: Link> {
     ended: Option<RunFault>,
 }
 
+/// What comes back where a client did not rise: by which fault, and what was handed in, with nothing logged.
+#[derive(Drop)]
+pub struct NotRisen<S: OwnRecord, R: Recorder, L: Link> {
+    pub fault: RunFault,
+    pub stable: S,
+    pub recorder: R,
+    pub link: L,
+}
+
 impl<S: OwnRecord, R: Recorder, L: Link> Model for Session<S, R, L> {
     ghost use Rattle.lock_session.specs.Sessions.{SessionValue, IsSession, session_of_parts};
 
@@ -83,7 +92,7 @@ impl<S: OwnRecord, R: Recorder, L: Link> Session<S, R, L> {
         stable: S,
         recorder: R,
         link: L,
-    ) -> Result<Session<S, R, L>, (RunFault, S, R, L)>
+    ) -> Result<Session<S, R, L>, NotRisen<S, R, L>>
         requires unused { IsUnused (R.own_log recorder) (Actor.Client client) }
         requires ballots { (R.own_log recorder).ballots ≡ ballots }
         requires found { FindsPart (R.own_log recorder).opening (S.StableRecord.finds stable) }
@@ -94,8 +103,8 @@ impl<S: OwnRecord, R: Recorder, L: Link> Session<S, R, L> {
         ensures silent { IfOk result (λ s. (sent_of s.log ≡ []) × (s.given ≡ L.given link)) }
         ensures visits { IfOk result (λ s. ((visits_of s.log).begins ≡ []) × ((visits_of s.log).entered ≡ []) × ((visits_of s.log).softened ≡ [])) }
         ensures falls { IfOk result (λ s. FailuresFollow 0 (falls_of s.log) (S.StableRecord.failures_of stable) s.failures) }
-        ensures ended { IfErr result (λ e. ClientEndsFrom e.0 0 (R.own_log e.2) (S.StableRecord.stuck_of e.1) (S.StableRecord.spent_of e.1) (S.StableRecord.failures_of stable) (S.StableRecord.failures_of e.1)) }
-        ensures back { IfErr result (λ e. (R.own_log e.2 ≡ R.own_log recorder) × (e.3 ≡ link)) }
+        ensures ended { IfErr result (λ e. ClientEndsFrom e.fault 0 (R.own_log e.recorder) (S.StableRecord.stuck_of e.stable) (S.StableRecord.spent_of e.stable) (S.StableRecord.failures_of stable) (S.StableRecord.failures_of e.stable)) }
+        ensures back { IfErr result (λ e. (R.own_log e.recorder ≡ R.own_log recorder) × (e.link ≡ link)) }
     {
         let (mut stable, mut recorder) = (stable, recorder);
         match stable.rise(client, ballots, &mut recorder) {
@@ -109,7 +118,12 @@ impl<S: OwnRecord, R: Recorder, L: Link> Session<S, R, L> {
                 is_left: false,
                 ended: None,
             }),
-            Err(fault) => Err((fault, stable, recorder, link)),
+            Err(fault) => Err(NotRisen {
+                fault,
+                stable,
+                recorder,
+                link,
+            }),
         }
     }
 

@@ -20,7 +20,7 @@ use book_recorders::{BookName, BookRecorder, ListRecorder, Logs, Named};
 use client_loop::run_client;
 use event_recorders::Recorder;
 use history_book::{Berth, Book};
-use lock_messages::{Actor, MAX_ATTEMPT};
+use lock_messages::{Actor, MAX_ATTEMPT, NodeId};
 use lock_model::Problem;
 use lossy_link::{Link, ListLink};
 use stable_record::client_bytes;
@@ -46,7 +46,7 @@ fn play<W: Wait, R: Recorder, L: Link>(
     requires log { IsClientOf ballots attempt (R.own_log recorder.old) }
     requires attempt { attempt ≤ MAX_ATTEMPT }
 {
-    let client = client_id(1)?;
+    let client = client_id(1);
     let stable = record_on(alloc, run.device, &client_bytes(attempt), watch)?;
     let wishes = wishes(alloc, run.wishes)?;
     let gate: &Watch = watch;
@@ -160,7 +160,10 @@ fn play_beside<B: BookName, K: Logs, W: Wait + Copy, R: Recorder>(
             rt, alloc, ballots, run, lines, recorder, others, link, watch,
         ),
         Beside::Node(node, gone, nudges, goes) => {
-            let nodes = (node_id(node)?, node_id(gone)?);
+            let nodes = (
+                NodeId::of(node).ok_or(Failure::Wrong(0))?,
+                NodeId::of(gone).ok_or(Failure::Wrong(0))?,
+            );
             let mut link = Neighbour::of(alloc, others, link, nodes, nudges, goes)?;
             play(&rt, alloc, ballots, 0, run, recorder, &mut link, watch)
         }
@@ -243,7 +246,7 @@ pub(crate) fn end_beside<R: Wait + Copy>(
     journal: &mut Vec<u8>,
 ) -> Result<Answer, Failure> {
     let ballots = ballots()?;
-    let (client, other) = (client_id(1)?, Actor::Node(node_id(1)?));
+    let (client, other) = (client_id(1), Actor::Node(node_id(1)));
     let problem = Problem::First;
     let (book, own, others) = opened(alloc, ballots, problem, Actor::Client(client), other)?;
     let mut answer = Err(Failure::NoAnswer(0));

@@ -7,7 +7,7 @@ use crate::runs::Answer;
 use crate::watches::Seen;
 use crate::worlds::node_id;
 use event_recorders::RunFault;
-use lock_messages::Actor;
+use lock_messages::{Actor, NodeId};
 use lossy_link::{Post, Sending};
 use std::alloc::Global;
 use test_outcomes::{Failure, Outcome, check_row};
@@ -96,7 +96,7 @@ fn is_all(wanted: &[Sending], ended: &Ended<'_>, is_cut: bool) -> bool {
 
 /// Whether what was sent at a place is for the node of the number, and has the frame.
 fn is_frame(sent: &[Sending], place: usize, node: u8, bytes: &[u8]) -> Result<bool, Failure> {
-    let node = Actor::Node(node_id(node)?);
+    let node = Actor::Node(NodeId::of(node).ok_or(Failure::Wrong(0))?);
     match sent.get(place) {
         Some(Sending::Sent(to, parcel)) => Ok(*to == node && &*parcel.frame == bytes),
         _ => Ok(false),
@@ -105,7 +105,7 @@ fn is_frame(sent: &[Sending], place: usize, node: u8, bytes: &[u8]) -> Result<bo
 
 /// Whether the last that was sent is for n1, and has the number.
 fn is_last(sent: &[Sending], number: u32) -> Result<bool, Failure> {
-    let node = Actor::Node(node_id(1)?);
+    let node = Actor::Node(node_id(1));
     match sent.last() {
         Some(Sending::Sent(to, parcel)) => Ok(*to == node && parcel.number == number),
         _ => Ok(false),
@@ -114,7 +114,7 @@ fn is_last(sent: &[Sending], number: u32) -> Result<bool, Failure> {
 
 /// How many of the sendings are nudges of n1.
 fn nudges(sent: &[Sending]) -> Result<usize, Failure> {
-    let nudge = Sending::Told(Post::Nudge(node_id(1)?));
+    let nudge = Sending::Told(Post::Nudge(node_id(1)));
     Ok(sent.iter().filter(|sending| **sending == nudge).count())
 }
 

@@ -52,7 +52,7 @@ fn play<W: Wait, R: Recorder, L: Link>(
 ) -> Result<Answer, Failure>
     requires log { IsNewNode problem (R.own_log recorder.old) }
 {
-    let node = node_id(1)?;
+    let node = node_id(1);
     let nothing = nothing_kept(alloc, problem)?;
     let stable = record_on(alloc, run.device, nothing.as_slice(), watch)?;
     let policies = pair(alloc)?;
@@ -163,7 +163,7 @@ pub(crate) fn end_of_node<R: Wait + Copy>(
     journal: &mut Vec<u8>,
 ) -> Result<Answer, Failure> {
     let ballots = ballots()?;
-    let (node, other) = (node_id(1)?, Actor::Client(client_id(1)?));
+    let (node, other) = (node_id(1), Actor::Client(client_id(1)));
     let (book, own, others) = opened(alloc, ballots, problem, Actor::Node(node), other)?;
     let mut answer = Err(Failure::NoAnswer(0));
     let book = run_beside::<Brand, Book, R>(

@@ -60,7 +60,7 @@ pub(crate) fn own_book(
     ensures log { IfOk result (λ r. IsClientOf ballots attempt (log_of r.1)) }
 {
     let world = resumed(alloc, ballots, attempt)?;
-    match open_alone(alloc, world, Actor::Client(client_id(1)?)) {
+    match open_alone(alloc, world, Actor::Client(client_id(1))) {
         Ok(Some(opened)) => Ok(opened),
         Ok(None) => Err(Failure::Wrong(0)),
         Err(fault) => Err(of_book(fault)),

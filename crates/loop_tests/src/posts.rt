@@ -2,7 +2,7 @@
 
 use crate::worlds::{attempt, client_id, node_id, resource};
 use bytes::Bytes;
-use lock_messages::{Actor, Message, Mode, NodeId, Ticket, encode};
+use lock_messages::{Actor, ClientId, Message, Mode, NodeId, Ticket, encode};
 use lossy_link::{Parcel, Post, Sending};
 use std::alloc::Global;
 use test_outcomes::{Failure, Outcome};
@@ -20,7 +20,7 @@ const TICKETS: [(&str, u32, u64, Mode); 5] = [
 /// The ticket of a client for `a` in its attempt of this number.
 fn ticket(client: u32, number: u64, mode: Mode) -> Result<Ticket, Failure> {
     Ok(Ticket {
-        client: client_id(client)?,
+        client: ClientId::of(client).ok_or(Failure::Wrong(0))?,
         attempt: attempt(number)?,
         mode,
         resource: resource(b"a")?,
@@ -44,8 +44,8 @@ fn about(word: &str, node: NodeId, ticket: Ticket) -> Result<Message, Failure> {
 /// The message of a text: `grant` is with n1, `grant n2` with n2.
 fn message(text: &str) -> Result<Message, Failure> {
     let (text, node) = match text.strip_suffix(" n2") {
-        Some(text) => (text, node_id(2)?),
-        None => (text, node_id(1)?),
+        Some(text) => (text, node_id(2)),
+        None => (text, node_id(1)),
     };
     for (end, client, number, mode) in &TICKETS {
         if let Some(word) = text.strip_suffix(*end) {
@@ -93,7 +93,7 @@ fn switch(text: &str) -> Result<Option<Post>, Failure> {
 
 /// What is no parcel: `nudge` or `gone`, which are n1's, or a switch.
 fn news(text: &str) -> Result<Option<Post>, Failure> {
-    let node = node_id(1)?;
+    let node = node_id(1);
     match text {
         "nudge" => Ok(Some(Post::Nudge(node))),
         "gone" => Ok(Some(Post::Gone(node))),
@@ -126,7 +126,7 @@ pub(crate) fn post_all(
     posts: &mut Vec<Post>,
 ) -> Outcome {
     let (number, count) = nudges;
-    let node = node_id(number)?;
+    let node = NodeId::of(number).ok_or(Failure::Wrong(0))?;
     add_posts(alloc, row, posts)?;
     for _ in 0..count {
         posts.push(Post::Nudge(node))?;
@@ -135,21 +135,21 @@ pub(crate) fn post_all(
 }
 
 /// To whom a text is sent: what is about c2 or c3 to it, what is with n2 to n2, and all else to the actor.
-fn receiver(to: Actor, text: &str) -> Result<Actor, Failure> {
+fn receiver(to: Actor, text: &str) -> Actor {
     if text.ends_with(" c2") {
-        return Ok(Actor::Client(client_id(2)?));
+        return Actor::Client(client_id(2));
     }
     if text.ends_with(" c3") {
-        return Ok(Actor::Client(client_id(3)?));
+        return Actor::Client(client_id(3));
     }
     if text.ends_with(" n2") {
-        return Ok(Actor::Node(node_id(2)?));
+        return Actor::Node(node_id(2));
     }
-    Ok(to)
+    to
 }
 
 fn sending(alloc: Global, to: Actor, text: &str) -> Result<Sending, Failure> {
-    let to = receiver(to, text)?;
+    let to = receiver(to, text);
     match news(text)? {
         Some(post) => Ok(Sending::Told(post)),
         None => Ok(Sending::Sent(to, parcel(alloc, text)?)),
@@ -164,8 +164,8 @@ pub(crate) fn add_sendings(
     sendings: &mut Vec<Sending>,
 ) -> Outcome {
     let to = match from {
-        Actor::Node(_) => Actor::Client(client_id(1)?),
-        Actor::Client(_) => Actor::Node(node_id(1)?),
+        Actor::Node(_) => Actor::Client(client_id(1)),
+        Actor::Client(_) => Actor::Node(node_id(1)),
     };
     for text in row.split(", ") {
         if !text.is_empty() {

@@ -97,10 +97,10 @@ pub(crate) struct Row {
 }
 
 /// Whose loop runs.
-fn actor(who: Who) -> Result<Actor, Failure> {
+fn actor(who: Who) -> Actor {
     match who {
-        Who::Node(_) => Ok(Actor::Node(node_id(1)?)),
-        Who::Alone(_) | Who::Client => Ok(Actor::Client(client_id(1)?)),
+        Who::Node(_) => Actor::Node(node_id(1)),
+        Who::Alone(_) | Who::Client => Actor::Client(client_id(1)),
     }
 }
 
@@ -129,7 +129,7 @@ pub(crate) fn ends_as<R: Wait + Copy>(
     checks: &[Check],
     answer: Answer,
 ) -> Outcome {
-    let actor = &actor(run.who)?;
+    let actor = &actor(run.who);
     let watch = Watch::shared(alloc, *actor)?;
     let mut posts = Vec::new(alloc);
     let is_posted = post_all(alloc, run.posts, run.nudges, &mut posts);

@@ -1,6 +1,7 @@
 // Worlds in which all are down and nothing is kept, books over them, and a few values.
 
 ghost use Rattle.std.specs.Prelude.{◌≡◌, ◌∷◌, [], length, IfOk};
+ghost use Rattle.lock_messages.specs.Ids.{IsNode, IsClient};
 ghost use Rattle.loop_tests.specs.Fresh.{IsNew, IsNewBook, IsUnlogged, two_nodes};
 
 use crate::faults::of_book;
@@ -13,16 +14,24 @@ use test_outcomes::Failure;
 use vote_weights::{Ballot, BallotList};
 use world_machine::World;
 
-pub(crate) fn node_id(number: u8) -> Result<NodeId, Failure>
-    ensures { IfOk result (λ n. n ≡ number) }
+pub(crate) fn node_id(number: u8) -> NodeId
+    requires { IsNode number }
+    ensures { result ≡ number }
 {
-    NodeId::of(number).ok_or(Failure::Wrong(0))
+    let Some(id) = NodeId::of(number) else {
+        unreachable!()
+    };
+    id
 }
 
-pub(crate) fn client_id(number: u32) -> Result<ClientId, Failure>
-    ensures { IfOk result (λ c. c ≡ number) }
+pub(crate) fn client_id(number: u32) -> ClientId
+    requires { IsClient number }
+    ensures { result ≡ number }
 {
-    ClientId::of(number).ok_or(Failure::Wrong(0))
+    let Some(id) = ClientId::of(number) else {
+        unreachable!()
+    };
+    id
 }
 
 pub(crate) fn attempt(number: u64) -> Result<Attempt, Failure> {
@@ -122,8 +131,8 @@ pub(crate) fn opened(
     ensures third { IfOk result (λ r. r.2.2.table ≡ r.0.table) }
     ensures fourth { IfOk result (λ r. r.2.3.table ≡ r.0.table) }
 {
-    let second = Actor::Node(node_id(2)?);
-    let (third, fourth) = (Actor::Client(client_id(2)?), Actor::Client(client_id(3)?));
+    let second = Actor::Node(node_id(2));
+    let (third, fourth) = (Actor::Client(client_id(2)), Actor::Client(client_id(3)));
     let mut book = book(alloc, ballots, problem)?;
     let own = berth_of(ballots, problem, &mut book, own)?;
     let first = berth_of(ballots, problem, &mut book, other)?;

@@ -1,5 +1,5 @@
 /// What the weather does to a parcel.
-#[derive(Clone, Copy, Debug, PartialEq, Eq, Hash, PartialOrd, Ord)]
+#[derive(Clone, Copy, Debug, PartialEq, Eq)]
 pub enum Fate {
     /// It doesn't arrive.
     Lost,

@@ -6,7 +6,7 @@ ghost use Rattle.lossy_link.specs.Faults.{weather_fault_number, link_fault_numbe
 use thiserror::Error;
 
 /// Why a weather could not be made.
-#[derive(Clone, Copy, Debug, PartialEq, Eq, Hash, PartialOrd, Ord, Error)]
+#[derive(Clone, Copy, Debug, PartialEq, Eq, Error)]
 pub enum WeatherFault {
     /// 901: the parcels lost, gone twice and late are more than a thousand of a thousand.
     #[error("lose, twice and late are over 1000 together")]
@@ -25,7 +25,7 @@ impl WeatherFault {
 }
 
 /// Why a link could not be made, send or receive.
-#[derive(Clone, Copy, Debug, PartialEq, Eq, Hash, PartialOrd, Ord, Error)]
+#[derive(Clone, Copy, Debug, PartialEq, Eq, Error)]
 pub enum LinkFault {
     /// 902: nothing comes any more.
     #[error("nothing comes over the link any more")]

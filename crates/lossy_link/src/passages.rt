@@ -8,7 +8,7 @@ use crate::{Fate, LinkFault, Parcel, Post, Weather};
 use lock_messages::{Actor, ClientId, NodeId};
 
 /// A post with its address.
-#[derive(Clone, Debug, Drop)]
+#[derive(Clone, Drop)]
 pub(crate) struct Mail {
     pub(crate) to: Actor,
     pub(crate) post: Post,

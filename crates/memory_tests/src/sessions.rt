@@ -155,7 +155,7 @@ fn run<K: Logs + Drop, W: Wait>(
             let (_, recorder, _) = session.into_parts();
             Ok((recorder.into_book(), asked))
         }
-        Err((fault, stable, recorder, _)) => Ok((recorder.into_book(), is_back(fault, stable))),
+        Err(back) => Ok((back.recorder.into_book(), is_back(back.fault, back.stable))),
     }
 }
 

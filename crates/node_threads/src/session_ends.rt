@@ -52,11 +52,11 @@ pub(crate) fn begin_session<'a, B: BookName, K: Logs, S: OwnRecord, R: Wait + Co
     let recorder = BookRecorder::of(rt, book, berth);
     match Session::rise(client, ballots, stable, recorder, link) {
         Ok(session) => Ok(session),
-        Err((fault, stable, recorder, _link)) => Err(SessionEnd {
+        Err(back) => Err(SessionEnd {
             client,
-            stable,
-            fault: Some(fault),
-            berth: recorder.into_berth(),
+            stable: back.stable,
+            fault: Some(back.fault),
+            berth: back.recorder.into_berth(),
         }),
     }
 }

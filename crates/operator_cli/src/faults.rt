@@ -10,7 +10,7 @@ use thiserror::Error;
 use vote_weights::BallotFault;
 
 /// Why settings are refused. Programs print the number.
-#[derive(Clone, Copy, Debug, PartialEq, Eq, Hash, Error)]
+#[derive(Clone, Copy, Debug, PartialEq, Eq, Error)]
 pub enum SettingsFault {
     /// 924: no line that is exactly `---` begins within the first 65,536 bytes.
     #[error("the settings don't end with a line `---`")]
@@ -58,7 +58,7 @@ impl SettingsFault {
 }
 
 /// Why a run ended before its output was whole. What was written is a beginning of it.
-#[derive(Clone, Copy, Debug, PartialEq, Eq, Hash, Error)]
+#[derive(Clone, Copy, Debug, PartialEq, Eq, Error)]
 pub enum ServeFault {
     /// 931: the reader failed, or 600,000,000 reads were made.
     #[error("the input couldn't be read")]

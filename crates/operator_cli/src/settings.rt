@@ -47,7 +47,7 @@ pub(crate) struct Numbers {
 }
 
 /// The numbers that a weather is made of.
-#[derive(Clone, Copy, Debug, PartialEq, Eq)]
+#[derive(Clone, Copy)]
 pub struct RunValues {
     pub seed: u64,
     pub lose: u16,

@@ -101,7 +101,7 @@ fn words_taken<'a>(alloc: Global) -> Result<clap::Command<'a>, AllocError>
 }
 
 /// Why nothing is drawn.
-#[derive(Debug, Drop)]
+#[derive(Drop)]
 pub enum Undrawn {
     /// The words name nothing to draw.
     Unserved(Unserved),

@@ -3,7 +3,7 @@
 use slot_record::{MemoryPlate, Plate, PlateFault};
 
 /// A device call: where it reads or writes, and how many bytes.
-#[derive(Clone, Copy, Debug, PartialEq, Eq)]
+#[derive(Clone, Copy, PartialEq, Eq)]
 pub(crate) enum Call {
     Read(u32, usize),
     Write(u32, usize),

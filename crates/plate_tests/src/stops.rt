@@ -9,7 +9,7 @@ use std::alloc::Global;
 use test_outcomes::{Outcome, check_answer};
 
 /// What is done on a plate, behind what.
-#[derive(Clone, Copy, Debug)]
+#[derive(Clone, Copy)]
 enum Work {
     /// Formats a new plate with `F`.
     Format,

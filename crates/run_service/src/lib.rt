@@ -28,6 +28,6 @@ mod serving;
 mod sessions;
 
 pub use audits::audit_book;
-pub use records::{Records, empty_client_record, empty_node_record};
+pub use records::{Records, Supplies, empty_client_record, empty_node_record};
 pub use serving::serve_run;
 pub use sessions::{empty_client_records, plain_policies, run_in_memory, run_sessions};

@@ -7,6 +7,7 @@ ghost use Rattle.stable_record.specs.Records.{node_record_of, client_record_of};
 ghost use Rattle.run_service.specs.Empty.{empty_record, empty_node, empty_client};
 
 use lock_model::Problem;
+use operator_cli::Policies;
 use stable_record::{Entries, MemoryRecord, NodeRecord, StableRecord, client_bytes, node_bytes};
 use std::alloc::{AllocError, Global};
 
@@ -17,6 +18,14 @@ pub struct Records {
     pub first: Vec<Box<dyn StableRecord + Send>>,
     pub second: Vec<Box<dyn StableRecord + Send>>,
     pub clients: Vec<Box<dyn StableRecord + Send>>,
+}
+
+/// What the threads of a run decide by, and what they keep: pairs of policies, as many as there may be nodes, and
+/// empty records.
+#[derive(Drop)]
+pub struct Supplies {
+    pub policies: Policies,
+    pub records: Records,
 }
 
 /// A record of a node that solves the problem, in which nothing was ever written. The only error is want of

@@ -15,7 +15,7 @@ ghost use Rattle.run_service.specs.Outputs.{IsRun, ServesRun};
 ghost use Rattle.run_service.specs.Parts.{TellsEnd, RunsHead};
 
 use crate::ends::{push_end, status_of};
-use crate::records::{Records, chosen_records};
+use crate::records::{Supplies, chosen_records};
 use explanations::RunWords;
 use history_check::Wish;
 use journal_audit::laws::verdicts_are_exact;
@@ -122,17 +122,16 @@ fn run<T: Threads + Wait + Copy + Send>(
     weather: Weather,
     wishes: &[Wish],
     for_world: Policies,
-    for_threads: Policies,
-    records: Records,
+    supplies: Supplies,
 ) -> Result<RunEnd, ServeFault>
     requires some_client { 1 ≤ settings.now.clients }
     requires few_clients { settings.now.clients ≤ MAX_CLIENTS }
     requires wishes { AreAmong settings.now.clients settings.now.ballots wishes.now }
     requires world { length for_world.pairs.items ≡ MAX_NODES }
-    requires threads { length for_threads.pairs.items ≡ MAX_NODES }
-    requires records_first { map (λ r. finds r) records.first.items ≡ replicate MAX_NODES (empty_node First) }
-    requires records_second { map (λ r. finds r) records.second.items ≡ replicate MAX_NODES (empty_node Second) }
-    requires records_clients { map (λ r. finds r) records.clients.items ≡ replicate MAX_CLIENTS empty_client }
+    requires threads { length supplies.policies.pairs.items ≡ MAX_NODES }
+    requires records_first { map (λ r. finds r) supplies.records.first.items ≡ replicate MAX_NODES (empty_node First) }
+    requires records_second { map (λ r. finds r) supplies.records.second.items ≡ replicate MAX_NODES (empty_node Second) }
+    requires records_clients { map (λ r. finds r) supplies.records.clients.items ≡ replicate MAX_CLIENTS empty_client }
     ensures opening { IfOk result (λ end. end.book.opening ≡ all_down settings.now) }
     ensures end { IfOk result (λ end. IsEndOf settings.now wishes.now (record { history = end.book.history; world = end.book.world; faults = end.faults.items })) }
     ensures entered { IfOk result (λ end. end.entered ≡ enters end.book.history) }
@@ -141,10 +140,11 @@ fn run<T: Threads + Wait + Copy + Send>(
     let Ok(world) = world_down(alloc, settings, for_world) else {
         return Err(ServeFault::Memory);
     };
+    let Supplies { policies, records } = supplies;
     let Ok(records) = chosen_records(records, settings.problem, nodes, settings.clients) else {
         return Err(ServeFault::Memory);
     };
-    let pairs = chosen(for_threads, nodes);
+    let pairs = chosen(policies, nodes);
     let ballots = settings.ballots;
     let Ok(end) = run_all(
         rt, alloc, ballots, wishes, records, world, pairs, weather, &OpenGate,
@@ -182,16 +182,15 @@ fn run_head<T: Threads + Wait + Copy + Send, W: Write>(
     journal: bool,
     head: &[u8],
     for_world: Policies,
-    for_threads: Policies,
-    records: Records,
+    supplies: Supplies,
     writer: &mut W,
     words: &mut Option<String>,
 ) -> Result<u8, ServeFault>
     requires world { length for_world.pairs.items ≡ MAX_NODES }
-    requires threads { length for_threads.pairs.items ≡ MAX_NODES }
-    requires records_first { map (λ r. finds r) records.first.items ≡ replicate MAX_NODES (empty_node First) }
-    requires records_second { map (λ r. finds r) records.second.items ≡ replicate MAX_NODES (empty_node Second) }
-    requires records_clients { map (λ r. finds r) records.clients.items ≡ replicate MAX_CLIENTS empty_client }
+    requires threads { length supplies.policies.pairs.items ≡ MAX_NODES }
+    requires records_first { map (λ r. finds r) supplies.records.first.items ≡ replicate MAX_NODES (empty_node First) }
+    requires records_second { map (λ r. finds r) supplies.records.second.items ≡ replicate MAX_NODES (empty_node Second) }
+    requires records_clients { map (λ r. finds r) supplies.records.clients.items ≡ replicate MAX_CLIENTS empty_client }
     ensures { RunsHead journal head.now (W.contents writer.old) (W.contents writer.new) result }
 {
     let command = Command::Run { journal };
@@ -211,8 +210,7 @@ fn run_head<T: Threads + Wait + Copy + Send, W: Write>(
         weather,
         wishes.as_slice(),
         for_world,
-        for_threads,
-        records,
+        supplies,
     ) else {
         return Err(ServeFault::Memory);
     };
@@ -252,18 +250,17 @@ pub fn serve_run<T: Threads + Wait + Copy + Send, R: Read, W: Write>(
     order: Order,
     reader: R,
     writer: &mut W,
-    policies: Policies,
-    records: Records,
+    supplies: Supplies,
     words: &mut Option<String>,
 ) -> Result<u8, ServeFault>
 where
     R: Drop,
     requires run { IsRun order.command }
     requires world { length order.policies.pairs.items ≡ MAX_NODES }
-    requires threads { length policies.pairs.items ≡ MAX_NODES }
-    requires records_first { map (λ r. finds r) records.first.items ≡ replicate MAX_NODES (empty_node First) }
-    requires records_second { map (λ r. finds r) records.second.items ≡ replicate MAX_NODES (empty_node Second) }
-    requires records_clients { map (λ r. finds r) records.clients.items ≡ replicate MAX_CLIENTS empty_client }
+    requires threads { length supplies.policies.pairs.items ≡ MAX_NODES }
+    requires records_first { map (λ r. finds r) supplies.records.first.items ≡ replicate MAX_NODES (empty_node First) }
+    requires records_second { map (λ r. finds r) supplies.records.second.items ≡ replicate MAX_NODES (empty_node Second) }
+    requires records_clients { map (λ r. finds r) supplies.records.clients.items ≡ replicate MAX_CLIENTS empty_client }
     ensures output { ServesRun order.command (R.remaining reader) (W.contents writer.old) (W.contents writer.new) result }
 {
     let Order {
@@ -286,8 +283,7 @@ where
         journal,
         head.as_slice(),
         for_world,
-        policies,
-        records,
+        supplies,
         writer,
         words,
     )

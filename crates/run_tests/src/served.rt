@@ -5,7 +5,7 @@ use crate::given::{client_records, node_records, pairs};
 use crate::supplies::second_records;
 use lock_messages::MAX_NODES;
 use operator_cli::{Command, Order, Policies, ServeFault};
-use run_service::{Records, serve_run};
+use run_service::{Records, Supplies, serve_run};
 use std::alloc::Global;
 use std::sync::Wait;
 use std::thread::Threads;
@@ -21,7 +21,7 @@ fn served<R: Threads + Wait + Copy + Send>(
     let for_world = Policies {
         pairs: pairs(alloc, MAX_NODES)?,
     };
-    let for_threads = Policies {
+    let policies = Policies {
         pairs: pairs(alloc, MAX_NODES)?,
     };
     let records = Records {
@@ -29,6 +29,7 @@ fn served<R: Threads + Wait + Copy + Send>(
         second: second_records(alloc)?,
         clients: client_records(alloc, Device::Memory, 1_024)?,
     };
+    let supplies = Supplies { policies, records };
     let order = Order {
         command: Command::Run { journal: false },
         policies: for_world,
@@ -39,8 +40,7 @@ fn served<R: Threads + Wait + Copy + Send>(
         order,
         settings.as_bytes(),
         out,
-        for_threads,
-        records,
+        supplies,
         &mut None,
     ) {
         Ok(status) => Ok(status),

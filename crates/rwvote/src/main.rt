@@ -10,7 +10,7 @@ use crate::supplies::{add_client, add_nodes, add_pair, no_policies, no_records};
 use admission_policy::{FirstProblem, SecondProblem};
 use lock_messages::{MAX_CLIENTS, MAX_NODES};
 use lock_model::Problem;
-use run_service::{empty_client_record, empty_node_record};
+use run_service::{Supplies, empty_client_record, empty_node_record};
 use std::process::ExitCode;
 use std::{env, io};
 
@@ -74,13 +74,16 @@ fn main(rt: HostRuntime) -> ExitCode {
             return end_without_memory(&rt);
         };
     }
+    let supplies = Supplies {
+        policies: threads,
+        records,
+    };
     let ended = command_line::run(
         rt,
         alloc,
         env::args(&rt),
         world,
-        threads,
-        records,
+        supplies,
         rt.reader(),
         &mut io::writer(&rt),
         &mut rt.stderr(),

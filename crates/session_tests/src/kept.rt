@@ -37,7 +37,7 @@ pub(crate) fn kept_in(alloc: Global, book: &Book) -> Result<Kept, Failure>
     ensures node { IfOk result (λ kept. length kept.nodes.items ≡ 1) }
     ensures clients { IfOk result (λ kept. length kept.clients.items ≡ 2) }
 {
-    let (node, one, two) = (node_id(1)?, client_id(1)?, client_id(2)?);
+    let (node, one, two) = (node_id(1), client_id(1), client_id(2));
     let mut nodes = Vec::new(alloc);
     keep(book, Actor::Node(node), &mut nodes)?;
     let mut clients = Vec::new(alloc);

@@ -8,13 +8,11 @@ use crate::audits::journal_of;
 use crate::faults::of_book;
 use crate::neighbours::Neighbour;
 use crate::programs::in_memory;
-use crate::worlds::{
-    Berths, ballots, book, client_id, frame_for, give_berths, node_id, resource, world,
-};
+use crate::worlds::{Berths, ballots, book, frame_for, give_berths, node_id, resource, world};
 use book_recorders::{BookName, BookRecorder, Logs, Named, SharedRecorder};
 use event_recorders::Recorder;
 use history_book::Book;
-use lock_messages::{Actor, Mode, NodeId};
+use lock_messages::{Actor, ClientId, Mode, NodeId};
 use lock_session::Session;
 use lossy_link::{Link, LinkFault, Parcel, Post};
 use stable_record::{MemoryRecord, client_bytes};
@@ -84,12 +82,11 @@ fn risen<R: Recorder + Drop, L: Link + Drop>(
     requires { IsNew number ballots (R.own_log recorder) }
     ensures { IfOk result (λ s. s.ballots ≡ ballots) }
 {
-    let client = client_id(number)?;
+    let client = ClientId::of(number).ok_or(Failure::Wrong(0))?;
     let stable = in_memory(alloc, &client_bytes(0))?;
     match Session::rise(client, ballots, stable, recorder, link) {
         Ok(session) => Ok(session),
-        // Each is dropped on its own: the drop of a tuple of three owners is dear to prove.
-        Err((_fault, _stable, _recorder, _link)) => Err(Failure::Memory),
+        Err(_) => Err(Failure::Memory),
     }
 }
 
@@ -215,7 +212,7 @@ fn meet_in<B: BookName, K: Logs + Drop, R: Wait + Copy>(
 /// Ends the test unless a reader of `a` and a reader of this resource meet, or don't, as is expected; the journal is
 /// sound.
 fn readers_meet<R: Wait + Copy>(rt: R, alloc: Global, other: &[u8], expected: bool) -> Outcome {
-    let node = node_id(1)?;
+    let node = node_id(1);
     let ballots = ballots()?;
     let mut book = book(alloc, ballots)?;
     let berths = give_berths(ballots, &mut book)?;

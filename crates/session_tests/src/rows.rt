@@ -126,14 +126,14 @@ fn prepare<B: BookName, K: Logs, R: Wait + Copy>(
     if !row.beside {
         return Ok(());
     }
-    let client = client_id(2)?;
+    let client = client_id(2);
     let who = Actor::Client(client);
     let events = [
         Event::Rise(who, Age::Old),
         Event::Begin(client, Mode::Write, resource(b"a")?, 1),
         Event::Try(who),
         Event::Kept(who),
-        Event::SayTo(client, node_id(1)?),
+        Event::SayTo(client, node_id(1)),
         Event::Hear(client, 2),
         Event::Enter(client),
     ];
@@ -239,16 +239,17 @@ fn begin<W: Wait, S: OwnRecord, R: SharedRecorder + Drop, L: Link + Drop>(
                 link,
             }
         }
-        Err((fault, mut stable, recorder, link)) => {
+        Err(back) => {
+            let mut stable = back.stable;
             let ended = Ended {
-                risen: Err(fault),
+                risen: Err(back.fault),
                 played: Ok(()),
                 kept: is_kept(&mut stable, row),
             };
             Back {
                 ended,
-                recorder,
-                link,
+                recorder: back.recorder,
+                link: back.link,
             }
         }
     }
@@ -383,7 +384,7 @@ fn goes_with<S: OwnRecord, R: Wait + Copy>(
 
 /// Ends the test unless c1's session goes as a row says, and the journal is sound, and just the row's.
 pub(crate) fn goes<R: Wait + Copy>(rt: R, alloc: Global, row: &Row<'_>) -> Outcome {
-    let (client, node) = (client_id(1)?, node_id(1)?);
+    let (client, node) = (client_id(1), node_id(1));
     let ballots = ballots()?;
     let bytes = client_bytes(0);
     match row.device {

@@ -1,6 +1,7 @@
 // A world of one node and two clients in which all are down and nothing is kept, and a book over it.
 
 ghost use Rattle.std.specs.Prelude.{◌≡◌, IfOk};
+ghost use Rattle.lock_messages.specs.Ids.{IsNode, IsClient};
 ghost use Rattle.session_tests.specs.Fresh.{IsNewBook, IsUnlogged, new_world, one_node};
 
 use crate::faults::of_book;
@@ -16,16 +17,24 @@ use test_outcomes::Failure;
 use vote_weights::{Ballot, BallotList};
 use world_machine::World;
 
-pub(crate) fn node_id(number: u8) -> Result<NodeId, Failure>
-    ensures { IfOk result (λ n. n ≡ number) }
+pub(crate) fn node_id(number: u8) -> NodeId
+    requires { IsNode number }
+    ensures { result ≡ number }
 {
-    NodeId::of(number).ok_or(Failure::Wrong(0))
+    let Some(id) = NodeId::of(number) else {
+        unreachable!()
+    };
+    id
 }
 
-pub(crate) fn client_id(number: u32) -> Result<ClientId, Failure>
-    ensures { IfOk result (λ c. c ≡ number) }
+pub(crate) fn client_id(number: u32) -> ClientId
+    requires { IsClient number }
+    ensures { result ≡ number }
 {
-    ClientId::of(number).ok_or(Failure::Wrong(0))
+    let Some(id) = ClientId::of(number) else {
+        unreachable!()
+    };
+    id
 }
 
 pub(crate) fn resource(name: &[u8]) -> Result<ResourceName, Failure> {
@@ -106,7 +115,7 @@ pub(crate) fn give_berths(ballots: BallotList, book: &mut Book) -> Result<Berths
     ensures one { IfOk result (λ r. IsUnlogged ballots (Actor.Client 1) r.one book.new) }
     ensures two { IfOk result (λ r. IsUnlogged ballots (Actor.Client 2) r.two book.new) }
 {
-    let (node, one, two) = (node_id(1)?, client_id(1)?, client_id(2)?);
+    let (node, one, two) = (node_id(1), client_id(1), client_id(2));
     let node = berth_of(ballots, book, Actor::Node(node))?;
     let one = berth_of(ballots, book, Actor::Client(one))?;
     let two = berth_of(ballots, book, Actor::Client(two))?;
@@ -119,12 +128,12 @@ pub(crate) fn frame_for(alloc: Global, client: u32) -> Result<Bytes, Failure> {
         return Err(Failure::Wrong(0));
     };
     let ticket = Ticket {
-        client: client_id(client)?,
+        client: ClientId::of(client).ok_or(Failure::Wrong(0))?,
         attempt,
         mode: Mode::Read,
         resource: resource(b"a")?,
     };
-    match encode(alloc, &Message::Grant(node_id(1)?, ticket)) {
+    match encode(alloc, &Message::Grant(node_id(1), ticket)) {
         Ok(frame) => Ok(frame),
         Err(_) => Err(Failure::Memory),
     }

@@ -12,7 +12,7 @@ use thiserror::Error;
 pub struct PlateFault;
 
 /// Why a record on a plate could not be made, found or kept.
-#[derive(Clone, Copy, Debug, PartialEq, Eq, Hash, PartialOrd, Ord, Error)]
+#[derive(Clone, Copy, Debug, PartialEq, Eq, Error)]
 pub enum SlotFault {
     /// 401: the plate has fewer than `LEAST_PLATE_LEN` bytes.
     #[error("the plate is too small")]

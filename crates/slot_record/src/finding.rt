@@ -12,7 +12,7 @@ use crate::standing::Known;
 use crate::{Plate, PlateFault};
 
 /// What the heads of the slots say.
-#[derive(Clone, Copy, Debug)]
+#[derive(Clone, Copy)]
 pub(crate) struct Found {
     pub(crate) known: Known,
     /// The length of the record's body.

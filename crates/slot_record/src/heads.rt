@@ -13,7 +13,7 @@ use stable_record::MAX_RECORD_LEN;
 pub(crate) const HEAD_LEN: usize = 13;
 
 /// What a slot begins with.
-#[derive(Clone, Copy, Debug)]
+#[derive(Clone, Copy)]
 pub(crate) struct Head {
     pub(crate) gate: u8,
     pub(crate) sequence: u64,

@@ -7,7 +7,7 @@ ghost use Rattle.slot_record.specs.Keeping.{next_of};
 use crate::slots::{MAX_SEQUENCE, Slot};
 
 /// What is known of the slots while the plate is synced.
-#[derive(Clone, Copy, Debug)]
+#[derive(Clone, Copy)]
 pub(crate) struct Known {
     /// The slot that has the record.
     pub(crate) own: Slot,
@@ -18,7 +18,7 @@ pub(crate) struct Known {
 }
 
 /// Which slots' bodies opening may find.
-#[derive(Clone, Copy, Debug, PartialEq, Eq)]
+#[derive(Clone, Copy)]
 pub(crate) enum Standing {
     /// The plate is synced: the body of the slot that has the record.
     Settled,

@@ -7,7 +7,7 @@ use thiserror::Error;
 
 /// Why a record could not be kept or found (301 to 305), or why bytes are no node record (311 to
 /// 320) or no client record (321 to 324): there the first fault from the front.
-#[derive(Clone, Copy, Debug, PartialEq, Eq, Hash, PartialOrd, Ord, Error)]
+#[derive(Clone, Copy, Debug, PartialEq, Eq, Error)]
 pub enum RecordFault {
     /// 301: the device failed.
     #[error("the device failed")]

@@ -1,5 +1,5 @@
 /// What a keep that failed left on the device.
-#[derive(Clone, Copy, Debug, PartialEq, Eq, Hash, PartialOrd, Ord)]
+#[derive(Clone, Copy, Debug, PartialEq, Eq)]
 pub enum Leaves {
     /// The bytes that were kept before.
     Old,

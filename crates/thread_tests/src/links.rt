@@ -1,6 +1,8 @@
 //! Links over lists, and links over channels on one thread. A test ends with an error that begins with
 //! `wrong` where an answer is wrong.
 
+ghost use Rattle.lock_messages.specs.Ids.{IsNode, IsClient};
+
 use bytes::Bytes;
 use lock_messages::{Actor, ClientId, NodeId};
 use lossy_link::{ChannelLink, Fate, Link, ListLink, Parcel, Post, Sending, Weather};
@@ -8,12 +10,22 @@ use std::alloc::Global;
 use std::sync::Wait;
 use std::test::Fail;
 
-pub(crate) fn node(number: u8) -> Result<NodeId, Fail> {
-    Ok(NodeId::of(number).ok_or("wrong: no node")?)
+pub(crate) fn node(number: u8) -> NodeId
+    requires { IsNode number }
+{
+    let Some(id) = NodeId::of(number) else {
+        unreachable!()
+    };
+    id
 }
 
-pub(crate) fn client(number: u32) -> Result<ClientId, Fail> {
-    Ok(ClientId::of(number).ok_or("wrong: no client")?)
+pub(crate) fn client(number: u32) -> ClientId
+    requires { IsClient number }
+{
+    let Some(id) = ClientId::of(number) else {
+        unreachable!()
+    };
+    id
 }
 
 pub(crate) fn parcel(number: u32) -> Parcel {
@@ -58,8 +70,8 @@ pub(crate) fn same_numbers(found: &[u32], want: &[u32], what: &str) -> Result<()
 fn posts_of_a_list(rt: HostRuntime) -> Result<(), Fail> {
     let mut posts = Vec::new(rt.alloc());
     posts.push(Post::Parcel(parcel(1)))?;
-    posts.push(Post::Nudge(node(2)?))?;
-    posts.push(Post::Gone(node(3)?))?;
+    posts.push(Post::Nudge(node(2)))?;
+    posts.push(Post::Gone(node(3)))?;
     posts.push(Post::Switch(2))?;
     posts.push(Post::Switch(255))?;
     let mut link = ListLink::of(posts);
@@ -78,13 +90,13 @@ fn posts_of_a_list(rt: HostRuntime) -> Result<(), Fail> {
 /// Sends, and where memory is refused sends again: then nothing has changed.
 fn send_again(link: &mut ListLink, number: u32) -> Result<(), Fail> {
     let before = link.sent().len();
-    if link.send(Actor::Node(node(1)?), parcel(number)).is_ok() {
+    if link.send(Actor::Node(node(1)), parcel(number)).is_ok() {
         return Ok(());
     }
     if link.sent().len() != before {
         return Err("wrong: a refused parcel is remembered".into());
     }
-    Ok(link.send(Actor::Node(node(1)?), parcel(number))?)
+    Ok(link.send(Actor::Node(node(1)), parcel(number))?)
 }
 
 /// What was given to a link, by numbers.
@@ -104,7 +116,7 @@ fn given(alloc: Global, link: &ListLink) -> Result<Vec<u32>, Fail> {
 fn what_a_list_was_given(rt: HostRuntime) -> Result<(), Fail> {
     let mut link = ListLink::of(Vec::new(rt.alloc()));
     send_again(&mut link, 1)?;
-    link.tell_all(Post::Gone(node(3)?))?;
+    link.tell_all(Post::Gone(node(3)))?;
     for number in 2..6 {
         send_again(&mut link, number)?;
     }
@@ -167,7 +179,7 @@ fn to_node<R: Wait + Copy>(rt: R, alloc: Global, fates: &[Fate], want: &[u32]) -
         mut of_node,
         mut of_client,
     } = link_both(rt, alloc, &weather)?;
-    send_all(&mut of_client, &Actor::Node(node(1)?), fates.len())?;
+    send_all(&mut of_client, &Actor::Node(node(1)), fates.len())?;
     drop(of_client);
     same_numbers(
         &received(alloc, &mut of_node)?,
@@ -221,7 +233,7 @@ fn own_nudges<R: Wait + Copy>(
         of_node,
         mut of_client,
     } = link_both(rt, alloc, &weather)?;
-    send_all(&mut of_client, &Actor::Node(node(1)?), fates.len())?;
+    send_all(&mut of_client, &Actor::Node(node(1)), fates.len())?;
     drop(of_node);
     same_numbers(
         &received(alloc, &mut of_client)?,
@@ -257,7 +269,7 @@ fn to_client<R: Wait + Copy>(
         mut of_node,
         mut of_client,
     } = link_both(rt, alloc, &weather)?;
-    send_all(&mut of_node, &Actor::Client(client(1)?), fates.len())?;
+    send_all(&mut of_node, &Actor::Client(client(1)), fates.len())?;
     drop(of_node);
     same_numbers(
         &received(alloc, &mut of_client)?,
@@ -289,9 +301,9 @@ fn actors_that_have_ended(rt: HostRuntime) -> Result<(), Fail> {
         mut of_client,
     } = link_both(rt, rt.alloc(), &weather)?;
     drop(of_node);
-    send_all(&mut of_client, &Actor::Node(node(1)?), 3)?;
-    send_all(&mut of_client, &Actor::Node(node(16)?), 3)?;
-    send_all(&mut of_client, &Actor::Client(client(2)?), 3)?;
+    send_all(&mut of_client, &Actor::Node(node(1)), 3)?;
+    send_all(&mut of_client, &Actor::Node(node(16)), 3)?;
+    send_all(&mut of_client, &Actor::Client(client(2)), 3)?;
     same_numbers(
         &received(rt.alloc(), &mut of_client)?,
         &[],
@@ -348,11 +360,11 @@ fn parcels_reach_their_actors(rt: HostRuntime) -> Result<(), Fail> {
     let mut nodes = ChannelLink::all(rt, rt.alloc(), 3, 2, &weather)?;
     let mut clients = nodes.split_off(3)?;
     let to_nodes = [
-        Actor::Node(node(1)?),
-        Actor::Node(node(2)?),
-        Actor::Node(node(3)?),
+        Actor::Node(node(1)),
+        Actor::Node(node(2)),
+        Actor::Node(node(3)),
     ];
-    let to_clients = [Actor::Client(client(1)?), Actor::Client(client(2)?)];
+    let to_clients = [Actor::Client(client(1)), Actor::Client(client(2))];
     all_reach(rt.alloc(), &mut clients, &to_nodes, &mut nodes)?;
     all_reach(rt.alloc(), &mut nodes, &to_clients, &mut clients)
 }
@@ -364,8 +376,8 @@ fn told_to_every_client(rt: HostRuntime) -> Result<(), Fail> {
     let mut clients = links.split_off(2)?;
     let mut second = links.pop().ok_or("wrong: no node's link")?;
     let mut first = links.pop().ok_or("wrong: no node's link")?;
-    second.tell_all(Post::Nudge(node(2)?))?;
-    first.tell_all(Post::Gone(node(1)?))?;
+    second.tell_all(Post::Nudge(node(2)))?;
+    first.tell_all(Post::Gone(node(1)))?;
     drop((first, second));
     for link in clients.iter_mut() {
         same_numbers(&received(rt.alloc(), link)?, &[102, 201], "what was told")?;

@@ -116,8 +116,8 @@ fn all_wait_from_the_start(rt: HostRuntime) -> Result<(), Fail> {
 fn what_was_sent_comes_first(rt: HostRuntime) -> Result<(), Fail> {
     for _ in 0..20 {
         let (mut links, mut clients) = links_of_five(rt, rt.alloc(), 0)?;
-        first_sends(&mut clients, Actor::Node(node(2)?), 7)?;
-        first_sends(&mut links, Actor::Client(client(3)?), 8)?;
+        first_sends(&mut clients, Actor::Node(node(2)), 7)?;
+        first_sends(&mut links, Actor::Client(client(3)), 8)?;
         links.extend(clients)?;
         all_come(rt, rt.alloc(), links, &[&[], &[7], &[], &[], &[8]])?;
     }
@@ -131,9 +131,9 @@ fn one_wakes_those_that_wait(rt: HostRuntime) -> Result<(), Fail> {
     nodes.extend(clients)?;
     let threads = waiting(rt, rt.alloc(), nodes)?;
     give_time(&rt);
-    second.send(Actor::Client(client(2)?), parcel(7))?;
+    second.send(Actor::Client(client(2)), parcel(7))?;
     give_time(&rt);
-    second.tell_all(Post::Gone(node(2)?))?;
+    second.tell_all(Post::Gone(node(2)))?;
     same_numbers(&awaited(rt.alloc(), second)?, &[], "what comes to the node")?;
     all_came(rt, threads, &[&[], &[202], &[7, 202], &[202]])
 }
@@ -152,10 +152,10 @@ fn the_last_that_ends_closes_the_others(rt: HostRuntime) -> Result<(), Fail> {
 #[test]
 fn posts_for_an_actor_that_ended_move_nobody(rt: HostRuntime) -> Result<(), Fail> {
     let (mut nodes, mut clients) = links_of_five(rt, rt.alloc(), 0)?;
-    first_sends(&mut clients, Actor::Node(node(2)?), 7)?;
-    first_sends(&mut clients, Actor::Node(node(2)?), 8)?;
+    first_sends(&mut clients, Actor::Node(node(2)), 7)?;
+    first_sends(&mut clients, Actor::Node(node(2)), 8)?;
     drop(nodes.pop());
-    first_sends(&mut clients, Actor::Node(node(2)?), 9)?;
+    first_sends(&mut clients, Actor::Node(node(2)), 9)?;
     nodes.extend(clients)?;
     all_come(rt, rt.alloc(), nodes, &[&[], &[], &[], &[]])
 }
@@ -163,8 +163,8 @@ fn posts_for_an_actor_that_ended_move_nobody(rt: HostRuntime) -> Result<(), Fail
 #[test]
 fn a_held_parcel_moves_nobody(rt: HostRuntime) -> Result<(), Fail> {
     let (mut links, mut clients) = links_of_five(rt, rt.alloc(), 1_000)?;
-    first_sends(&mut clients, Actor::Node(node(2)?), 7)?;
-    first_sends(&mut links, Actor::Client(client(3)?), 8)?;
+    first_sends(&mut clients, Actor::Node(node(2)), 7)?;
+    first_sends(&mut links, Actor::Client(client(3)), 8)?;
     links.extend(clients)?;
     all_come(rt, rt.alloc(), links, &[&[], &[], &[102], &[], &[101]])
 }

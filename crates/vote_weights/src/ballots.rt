@@ -21,7 +21,7 @@ use std::marker::Model;
 /// A node may have no votes; it answers as the others do.
 ///
 /// Contracts see the votes of each node, `read` and `write`.
-#[derive(Clone, Copy, Debug, PartialEq, Eq, Hash)]
+#[derive(Clone, Copy, Debug, PartialEq, Eq)]
 pub struct Ballot {
     // The votes of node 1, node 2 and so on, and zeros behind them.
     room: [u8; MAX_NODES as usize],

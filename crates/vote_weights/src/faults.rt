@@ -6,7 +6,7 @@ ghost use Rattle.vote_weights.specs.Faults.{fault_number};
 use thiserror::Error;
 
 /// Why numbers make no ballot, and ballots no list.
-#[derive(Clone, Copy, Debug, PartialEq, Eq, Hash, Error)]
+#[derive(Clone, Copy, Debug, PartialEq, Eq, Error)]
 pub enum BallotFault {
     /// There is no node. Number 201.
     #[error("the ballot has no node")]

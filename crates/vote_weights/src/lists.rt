@@ -25,7 +25,7 @@ pub const MAX_BALLOTS: u8 = 8;
 /// in both with the nodes that are enough for anybody under the same or another one (our own rule).
 ///
 /// Contracts see the ballots in order.
-#[derive(Clone, Copy, Debug, PartialEq, Eq, Hash)]
+#[derive(Clone, Copy, Debug, PartialEq, Eq)]
 pub struct BallotList {
     // The ballots in order, and the first one again in each place behind them.
     room: [Ballot; MAX_BALLOTS as usize],

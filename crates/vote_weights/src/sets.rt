@@ -7,7 +7,7 @@ use lock_messages::{MAX_NODES, NodeId};
 use std::marker::Model;
 
 /// A set of nodes, of any ballot or none. Contracts see the ascending list of its members.
-#[derive(Clone, Copy, Debug, PartialEq, Eq, Hash)]
+#[derive(Clone, Copy, Debug, PartialEq, Eq)]
 pub struct NodeSet {
     // Whether node 1 is in the set, then node 2, and so on.
     room: [bool; MAX_NODES as usize],

@@ -7,7 +7,7 @@ use stable_record::RecordFault;
 use thiserror::Error;
 
 /// Why a node can't rise with a record, or why it can't take a message or another problem (memory alone).
-#[derive(Clone, Copy, Debug, PartialEq, Eq, Hash, PartialOrd, Ord, Error)]
+#[derive(Clone, Copy, Debug, PartialEq, Eq, Error)]
 pub enum VoterFault {
     /// 501: the bytes are no node record, with the first fault that reading them meets.
     #[error("the node record can't be read: {0}")]

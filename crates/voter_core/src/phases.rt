@@ -5,7 +5,7 @@ ghost use Rattle.lock_messages.specs.declared.messages.Message.{Message};
 ghost use Rattle.voter_core.specs.Voters.{state_of, state_after};
 
 /// What a node is about.
-#[derive(Clone, Copy, Debug, PartialEq, Eq, Hash, PartialOrd, Ord)]
+#[derive(Clone, Copy, Debug, PartialEq, Eq)]
 pub enum Phase {
     /// It takes messages.
     Idle,

@@ -65,7 +65,7 @@ pub(crate) fn ticket_inside(clients: &[WorldClient], id: ClientId) -> Option<Tic
 }
 
 /// Which tickets of a record are listed: those that wait for the node's vote, or those that hold it.
-#[derive(Clone, Copy, Debug)]
+#[derive(Clone, Copy)]
 pub(crate) enum Claims {
     Waiting,
     Holding,

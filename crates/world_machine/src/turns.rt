@@ -8,7 +8,7 @@ use lock_model::Problem;
 use world_model::{Age, Event};
 
 /// What a node does by itself.
-#[derive(Clone, Copy, Debug)]
+#[derive(Clone, Copy)]
 pub(crate) enum NodeAct {
     Try,
     Kept,
@@ -18,7 +18,7 @@ pub(crate) enum NodeAct {
 }
 
 /// What a client does by itself.
-#[derive(Clone, Copy, Debug)]
+#[derive(Clone, Copy)]
 pub(crate) enum ClientAct {
     Begin(Mode, ResourceName, u8),
     Try,
@@ -32,7 +32,7 @@ pub(crate) enum ClientAct {
 
 /// Whose turn it is, and what comes of it: the actor does something by itself, or it needs the list of
 /// messages.
-#[derive(Clone, Copy, Debug)]
+#[derive(Clone, Copy)]
 pub(crate) enum Turn {
     Node(NodeId, NodeAct),
     Client(ClientId, ClientAct),

@@ -122,7 +122,7 @@ fn client_total(world: &World) -> usize
 }
 
 /// What a client needs to have an attempt left: nothing, to rise, or to fall and to rise.
-#[derive(Clone, Copy, Debug)]
+#[derive(Clone, Copy)]
 enum Need {
     Nothing,
     Rise,

@@ -9,7 +9,7 @@ use lock_model::{Heard, Problem};
 use thiserror::Error;
 
 /// Which value an actor rises with, where its record was being written as it fell.
-#[derive(Clone, Copy, Debug, PartialEq, Eq, Hash)]
+#[derive(Clone, Copy, Debug, PartialEq, Eq)]
 pub enum Age {
     /// What it had kept before.
     Old,
@@ -18,7 +18,7 @@ pub enum Age {
 }
 
 /// What may happen: one atomic action of one actor.
-#[derive(Clone, Copy, Debug, PartialEq, Eq, Hash)]
+#[derive(Clone, Copy, Debug, PartialEq, Eq)]
 pub enum Event {
     /// The client begins its next attempt, in this mode, for this resource, by the ballot at this place.
     Begin(ClientId, Mode, ResourceName, u8),
@@ -69,7 +69,7 @@ impl Event {
 }
 
 /// What an event did.
-#[derive(Clone, Copy, Debug, PartialEq, Eq, Hash)]
+#[derive(Clone, Copy, Debug, PartialEq, Eq)]
 pub enum Effect {
     /// The attempt that a client chose.
     Chose(Attempt),
@@ -94,7 +94,7 @@ pub enum Effect {
 }
 
 /// Why an event was refused. Of several that apply, the one of the lowest number is answered.
-#[derive(Clone, Copy, Debug, PartialEq, Eq, Hash, Error)]
+#[derive(Clone, Copy, Debug, PartialEq, Eq, Error)]
 pub enum StepFault {
     #[error("there is no such node or client")]
     UnknownActor,

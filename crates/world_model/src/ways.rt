@@ -5,7 +5,7 @@ use lock_messages::{ClientId, Mode, NodeId, ResourceName};
 
 /// What a client wants: to be inside this resource in this mode, with its votes counted by the ballot at this
 /// place of the list, from 1 on.
-#[derive(Clone, Copy, Debug, PartialEq, Eq, Hash)]
+#[derive(Clone, Copy, Debug, PartialEq, Eq)]
 pub struct Want {
     pub client: ClientId,
     pub mode: Mode,
@@ -14,7 +14,7 @@ pub struct Want {
 }
 
 /// A move on the way in of a client.
-#[derive(Clone, Copy, Debug, PartialEq, Eq, Hash)]
+#[derive(Clone, Copy, Debug, PartialEq, Eq)]
 pub enum Move {
     /// One event.
     Alone(Event),

@@ -7,7 +7,7 @@ use lock_messages::Actor;
 use thiserror::Error;
 
 /// Why a world can't be opened.
-#[derive(Clone, Copy, Debug, PartialEq, Eq, Hash, Error)]
+#[derive(Clone, Copy, Debug, PartialEq, Eq, Error)]
 pub enum OpeningFault {
     /// 613: there was no memory.
     #[error("there was no memory")]
