@@ -1,8 +1,10 @@
 -- What a book tells of two berths is what their own logs tell, and whom it has inside was so where it was asked.
-use Rattle.std.proofs.Common.{◌≡◌, ℕ, Bool, true, List, Result, Ok, Err}
+use Rattle.std.proofs.Common.{◌≡◌, ℕ, Bool, true, List, Result, Ok, Err, sym, ap}
 use Rattle.std.specs.Prelude.{Vec, IfOk}
 use Rattle.std.specs.Global.{Global}
 use Rattle.lock_messages.specs.declared.tickets.Ticket.{Ticket}
+use Rattle.world_model.specs.declared.exact.ExactWorld.{ExactWorld}
+use Rattle.world_model.specs.Parts.{part}
 use Rattle.history_book.specs.declared.faults.BookFault.{BookFault}
 use Rattle.history_book.specs.Books.{BookValue, BerthValue, Known, sees, own_part, inside_ticket, IsMet, Reads}
 use Rattle.book_recorders.specs.Meeting.{HaveMet, TellsInside, HasSeenInside}
@@ -27,8 +29,14 @@ met_if (Err f) b k l k' l' is readers = tt
 
 has_seen : (b : BookValue) (k : BerthValue) (x : List ℕ) (tickets : List Ticket) (k' : BerthValue) → TellsInside b k x tickets k' → HasSeenInside (log_of k) x tickets (log_of k')
 has_seen b k x tickets k' told = record {
+  opening = b.opening;
+  history = b.history;
   world = b.world;
+  run = told.known.run;
+  opened = ap (λ (w : ExactWorld). part w k.actor) (sym told.known.opening);
+  events = told.known.own;
   own = told.known.part;
+  told = told.told;
   inside = told.inside;
   alone = told.alone;
   log = log_seen b k k' told.known told.seen;

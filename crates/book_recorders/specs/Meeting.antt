@@ -3,9 +3,13 @@ use Rattle.std.specs.Prelude.{◌≡◌, ℕ, Bool, true, List, [], ◌∷◌}
 use Rattle.lock_messages.specs.declared.tickets.Mode.TheVariants.{Write}
 use Rattle.lock_messages.specs.declared.tickets.Ticket.{Ticket}
 use Rattle.lock_model.specs.Decisions.{Among}
+use Rattle.world_model.specs.declared.events.Effect.{Effect}
+use Rattle.world_model.specs.declared.events.Event.{Event}
 use Rattle.world_model.specs.declared.exact.ExactWorld.{ExactWorld}
 use Rattle.world_model.specs.Forgetting.{forget}
+use Rattle.world_model.specs.Locality.{own_events, IsHistory}
 use Rattle.world_model.specs.Parts.{part}
+use Rattle.world_model.specs.Views.{inside}
 use Rattle.world_machine.specs.Listing.{AreInside}
 use Rattle.event_recorders.specs.OwnLogs.{OwnLog, part_now}
 use Rattle.history_book.specs.Books.{BookValue, BerthValue, Known, sees, are_together, inside_ticket, Reads}
@@ -22,19 +26,27 @@ pub record HaveMet (answer : Bool) (l m l' m' : OwnLog) : Type 0 where
 abbrev pub IsAloneIn : List Ticket → Type 0
 IsAloneIn tickets = (t : Ticket) → Among t tickets → t.mode ≡ Write → tickets ≡ t ∷ []
 
--- These are the tickets of those whom the book's world has inside the resource. The berth has seen all of the
--- history, and nothing else changed.
+-- These are the tickets of those whom the book's world has inside the resource, in the order of the clients. The
+-- berth has seen all of the history, and nothing else changed.
 pub record TellsInside (b : BookValue) (k : BerthValue) (x : List ℕ) (tickets : List Ticket) (k' : BerthValue) : Type 0 where
   pub known : Known b k
   pub seen : k' ≡ sees b k
+  pub told : tickets ≡ inside x b.world
   pub inside : AreInside (forget b.world) x tickets
   pub alone : IsAloneIn tickets
 
--- These are the tickets of those who were inside the resource in a world that the one history had come to, which
--- has the actor as its own log does. The log has not changed.
+-- These are the tickets of those who were inside the resource in a world that the one history had come to, in the
+-- order of the clients. The history has of the actor what its own log has, and so has the world. The log has not
+-- changed.
 pub record HasSeenInside (l : OwnLog) (x : List ℕ) (tickets : List Ticket) (l' : OwnLog) : Type 0 where
+  pub opening : ExactWorld
+  pub history : List (Event × Effect)
   pub world : ExactWorld
+  pub run : IsHistory opening history world
+  pub opened : part opening l.actor ≡ l.opening
+  pub events : own_events l.actor history ≡ l.events
   pub own : part world l.actor ≡ part_now l
+  pub told : tickets ≡ inside x world
   pub inside : AreInside (forget world) x tickets
   pub alone : IsAloneIn tickets
   pub log : l' ≡ l

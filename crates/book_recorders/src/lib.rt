@@ -6,7 +6,8 @@
 //! what a `Recorder` is, and of what is logged through the lock how the berth goes on: from all that it
 //! had seen, by what others logged, and then by its own event; and all of it is a run. It stands on
 //! `history_book`, `event_recorders`, `stable_record`, `berth_seats`, `world_machine`, `world_model` and
-//! `lock_messages`. A `SharedRecorder` can be asked who is inside a resource, and whether
+//! `lock_messages`; its definitions and proofs also on `lock_model`, `vote_weights`, `voter_core` and
+//! `world_actors`. A `SharedRecorder` can be asked who is inside a resource, and whether
 //! its client and another one are inside the same; where they are, both are readers.
 #![tactic(auto)]
 

@@ -183,7 +183,8 @@ where
 /// `output`, and `run`, which `--journal` may follow, as `run_service::serve_run` does: the status is that
 /// of the call, and nothing goes to `errors`; its fault is told there as `fault N`, with status 1.
 /// With `--explain`, in front of the command or behind it, the same is written to `output` and the status is
-/// the same, and words go to `errors`, a line for each refusal, fault and verdict (`explanations`).
+/// the same, and words go to `errors`, a line for each refusal, fault and verdict (`explanations`). A writer that
+/// fails while the input is read hears less of them, which `Ended::told` doesn't tell.
 /// `--help` and `--version`, also `script --help` and the like, go to `output`, with status 0 (`fault 932`
 /// and 1 where that fails). Other words are wrong, and so is one that is not UTF-8: a text on `errors`
 /// says so, and the status is 2. Where memory is refused while words are read, `fault 933` is told, with

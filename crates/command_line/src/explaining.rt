@@ -120,7 +120,7 @@ fn end_explained<E: Write>(
         Ok(status) => Ended { status, told: said },
         Err(fault) => {
             let number = fault.number();
-            let told = writeln!(errors, "fault {number}: {fault}").is_ok();
+            let told = writeln!(errors, "fault {number}: {fault}").is_ok() && said;
             Ended { status: 1, told }
         }
     }

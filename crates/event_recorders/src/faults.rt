@@ -14,8 +14,9 @@ pub enum RunFault {
     /// 912: the nodes that granted and those that aren't gone aren't enough.
     #[error("too few nodes are left")]
     TooFewNodes,
-    /// 913: it gave up after 1,000 nudges in one wish.
-    #[error("gave up after 1000 nudges")]
+    /// 913: it gave up at its last nudge: the thousandth of one wish in a run, and in a session the last that
+    /// the call allows.
+    #[error("gave up at its last nudge")]
     GaveUp,
     /// 914: memory was refused, or a thread couldn't be started.
     #[error("out of memory, or no thread could be started")]

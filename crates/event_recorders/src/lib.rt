@@ -8,7 +8,8 @@
 //!
 //! The crate promises the laws of the module `laws`, on what an own log tells. It stands on
 //! `history_book` for `BookFault`, `world_model`, `stable_record`, `entry_guard`, `client_core`,
-//! `lock_messages`, `lock_model` and `thiserror`.
+//! `lock_messages`, `lock_model` and `thiserror`; its definitions and proofs also on `world_machine` and
+//! `vote_weights`.
 #![tactic(auto)]
 
 mod faults;

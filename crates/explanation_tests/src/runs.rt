@@ -54,7 +54,7 @@ c1 entered 2 times: read a
 c2 entered once: soften b
 c1 entered once: write a
 n1 fault 911: the record failed to reopen three times in a row
-c1 fault 913: gave up after 1000 nudges in wish 7, write a
+c1 fault 913: gave up at its last nudge in wish 7, write a
 c2 fault 914: out of memory, or no thread could be started in wish 2, soften b
 c3 fault 912: too few nodes are left in wish 6, read a
 c4 fault 916: the record or the attempts are spent behind its last wish

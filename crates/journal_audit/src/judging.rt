@@ -1,6 +1,6 @@
 // The lines of a journal, one after another.
 
-ghost use Rattle.std.specs.Prelude.{◌≡◌, ◌≢◌, [], IfOk, IfErr};
+ghost use Rattle.std.specs.Prelude.{◌≡◌, ◌≢◌, [], IfOk, IfErr, OnErr};
 ghost use Rattle.history_check.specs.declared.words.TheConstants.{MAX_LINE_LEN};
 ghost use Rattle.line_streams.specs.Streams.{ReadsPiece, TakesLine, FitsLimit};
 ghost use Rattle.journal_audit.specs.Judging.{CutsShort, EndsLines, TakesLast};
@@ -47,6 +47,7 @@ pub fn read_piece<R: Read>(
 pub fn refused(number: u32, fault: StepFault) -> Result<Verdict, AuditFault>
     ensures verdict { IfOk result (λ v. (v ≡ Verdict.Unsound number (Cause.Refused fault)) × (fault ≢ StepFault.Memory)) }
     ensures memory { IfErr result (λ e. e ≡ AuditFault.Memory) }
+    ensures wanting { OnErr result (fault ≡ StepFault.Memory) }
 {
     match fault {
         StepFault::Memory => Err(AuditFault::Memory),

@@ -7,10 +7,11 @@ ghost use Rattle.lock_messages.specs.declared.tickets.Ticket.{Ticket as TicketVa
 ghost use Rattle.lock_model.specs.Ballots.{HasPlace};
 ghost use Rattle.history_book.specs.Books.{are_together};
 ghost use Rattle.client_core.specs.Clients.{softened_ticket};
+ghost use Rattle.client_loop.specs.Sendings.{SentFollows, SentUnlessMemory};
 ghost use Rattle.client_loop.specs.Visits.{AsksFor};
 ghost use Rattle.lock_session.specs.contracts.sessions.Session.{the_row};
 ghost use Rattle.lock_session.specs.Guards.{session_of, lender_of, guard_ticket, IsHeld};
-ghost use Rattle.lock_session.specs.Sessions.{IsResting, IsInside, GoesOut, StandsAfter, Settles, Softens, EndsSoftening, Enters, EndsEntering, EndsTrying, use_by};
+ghost use Rattle.lock_session.specs.Sessions.{IsResting, IsInside, GoesOut, StandsAfter, Settles, Softens, EndsSoftening, Enters, EndsEntering, EndsTrying, HasReleased, use_by};
 
 use crate::{OwnRecord, Session, TryFault};
 use book_recorders::SharedRecorder;
@@ -171,7 +172,10 @@ impl<S: OwnRecord, R: Recorder, L: Link> SessionGuard<'_, S, R, L> {
     /// before, by this fault: nothing is said.
     pub fn leave<W: Wait>(self, rt: &W, alloc: Global) -> Result<(), RunFault>
         ensures rests { OnOk result (IsResting self.exit.0.now) }
+        ensures released { OnOk result (IsHeld self.entry → HasReleased self.exit.0.now) }
         ensures settles { Settles (session_of self.entry) self.exit.0.now }
+        ensures sent { OnOk result (SentFollows (session_of self.entry).log self.exit.0.now.log (session_of self.entry).given self.exit.0.now.given) }
+        ensures faulted { IfErr result (λ f. SentUnlessMemory f (session_of self.entry).log self.exit.0.now.log (session_of self.entry).given self.exit.0.now.given) }
         ensures after { IfErr result (λ f. StandsAfter f self.exit.0.now) }
     {
         let SessionGuard { session, ticket: _ } = self;

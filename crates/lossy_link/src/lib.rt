@@ -15,8 +15,8 @@
 //! are closed: once every actor waits for a post and none is on its way, `receive` answers 902.
 //!
 //! Only `receive` of a `ChannelLink` waits for another actor. The crate stands on `lock_messages`,
-//! `bytes` for frames that several links share, `crossbeam_channel` for inboxes and `rand_pcg` for the
-//! weather's words.
+//! `bytes` for frames that several links share, `crossbeam_channel` for inboxes, `rand_pcg` and
+//! `rand_core` for the weather's words, and `thiserror`.
 #![tactic(auto)]
 
 mod channel_links;

@@ -4,7 +4,7 @@
 //! it again with each of its requests for memory refused in turn: then the call has to say so by the
 //! fault that its documentation names, and the test looks at what the refusal left before it ends
 //! with that want of memory. The crate has no code but tests, and stands on the crates that it tests;
-//! each file is named for the crate whose calls it makes.
+//! each file is named for what its calls are about.
 #![tactic(auto)]
 
 #[cfg(test)]

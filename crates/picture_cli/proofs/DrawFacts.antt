@@ -51,7 +51,7 @@ pub fault_shown : EventsAreSpelledOnce → (s : Start) (w : ExactWorld) (input l
 fault_shown spelled s w None left f h e k = tt
 fault_shown spelled s w (Some xs) None f h e k = absurd h
 fault_shown spelled s w (Some xs) (Some ys) serving.Read h e k = tt
-fault_shown spelled s w (Some xs) (Some ys) serving.Write h e k = tt
+fault_shown spelled s w (Some xs) (Some ys) serving.Write h e k = absurd k
 fault_shown spelled s w (Some xs) (Some ys) serving.Memory h e k = tt
 fault_shown spelled s w (Some xs) (Some ys) (serving.Audit audit.Read) h e k = tt
 fault_shown spelled s w (Some xs) (Some ys) (serving.Audit audit.Write) h e k = tt

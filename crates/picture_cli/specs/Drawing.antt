@@ -12,6 +12,8 @@ use Rattle.journal_audit.specs.declared.verdicts.Verdict.{Verdict}
 use Rattle.journal_audit.specs.declared.verdicts.Verdict.TheVariants.{Sound, Unsound}
 use Rattle.journal_audit.specs.Audits.{found_in}
 use Rattle.journal_audit.specs.Verdicts.{Finds, reaches, text_lines}
+use Rattle.journal_picture.specs.declared.canvases.CanvasFault.{CanvasFault}
+use Rattle.journal_picture.specs.declared.canvases.CanvasFault.TheVariants as canvas
 use Rattle.journal_picture.specs.Drawings.{all_marks}
 use Rattle.journal_picture.specs.Histories.{history_of}
 use Rattle.journal_picture.specs.Strokes.{Stroke, with_strokes}
@@ -43,12 +45,12 @@ IsFoundBehind (Err e) r = ⊥
 IsFoundBehind (Ok parts) r = found_in (all_down parts.0.settings) parts.1 ≡ r
 
 -- What came of an input that opens so: the verdict on its lines; or its settings are refused; or they are too
--- many lines. Of other faults nothing is said.
+-- many lines. That the picture can't be written is told as an audit tells it. Of other faults nothing is said.
 abbrev pub ShowsOpened : Result (Given × List (List ℕ)) SettingsFault → Result Shown ServeFault → Type 0
 ShowsOpened opening (Ok (shown.Drawn v)) = IsFoundBehind opening (Ok v)
 ShowsOpened opening (Ok (shown.Refused e)) = Refuses e opening
 ShowsOpened opening (Err serving.Read) = Unit {0}
-ShowsOpened opening (Err serving.Write) = Unit {0}
+ShowsOpened opening (Err serving.Write) = ⊥
 ShowsOpened opening (Err serving.Memory) = Unit {0}
 ShowsOpened opening (Err (serving.Audit audit.Read)) = Unit {0}
 ShowsOpened opening (Err (serving.Audit audit.Write)) = Unit {0}
@@ -156,11 +158,16 @@ TellsAsAnAudit = (input : List ℕ) (s : Shown) → ShowsInput (Some input) (Ok 
 -- Parts of it: what the functions of a drawing owe one another. Who reads what `run` and `draw_journal` promise
 -- has no need of them.
 
+-- a fault of a canvas, as one of an audit
+abbrev pub fault_on : CanvasFault → ServeFault
+fault_on canvas.Write = serving.Audit audit.Write
+fault_on canvas.Memory = serving.Audit audit.Memory
+
 -- what is found of the lines that are left, from this world on
 abbrev pub FindsBehind : ExactWorld → Option (List ℕ) → Result Verdict ServeFault → Type 0
 FindsBehind w left (Ok v) = Finds w left (Ok v)
-FindsBehind w left (Err serving.Read) = Unit {0}
-FindsBehind w left (Err serving.Write) = Unit {0}
+FindsBehind w left (Err serving.Read) = ⊥
+FindsBehind w left (Err serving.Write) = ⊥
 FindsBehind w left (Err serving.Memory) = Unit {0}
 FindsBehind w left (Err (serving.Audit f)) = Finds w left (Err f)
 

@@ -7,7 +7,7 @@ ghost use Rattle.lock_messages.specs.Ids.{IsNode, IsClient};
 ghost use Rattle.lock_model.specs.Ballots.{node_count};
 ghost use Rattle.world_model.specs.declared.exact.ExactWorld.{ExactWorld};
 ghost use Rattle.run_picture.specs.declared.marks.Lasting.TheVariants.{Down};
-ghost use Rattle.picture_cli.specs.Drawing.{FindsBehind, DrawsBehind, RefusesStart, ShowsInput, DrawsPart, KeepsRefused, node_down, client_down, down_at_first};
+ghost use Rattle.picture_cli.specs.Drawing.{fault_on, FindsBehind, DrawsBehind, RefusesStart, ShowsInput, DrawsPart, KeepsRefused, node_down, client_down, down_at_first};
 
 use history_check::laws::events_are_spelled_once;
 use journal_audit::{AuditFault, Verdict};
@@ -96,7 +96,8 @@ fn all_down(alloc: Global, nodes: u8, clients: u16) -> Result<Vec<Lasting>, Allo
 
 /// A canvas's fault, as one of an audit.
 fn told(fault: CanvasFault) -> ServeFault
-    ensures { (w : ExactWorld) (left : Option (List ℕ)) → FindsBehind w left (Err result) }
+    ensures told { result ≡ fault_on fault }
+    ensures found { (w : ExactWorld) (left : Option (List ℕ)) → FindsBehind w left (Err result) }
 {
     match fault {
         CanvasFault::Write => ServeFault::Audit(AuditFault::Write),

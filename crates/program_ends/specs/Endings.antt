@@ -1,5 +1,5 @@
 -- How a program ends: its status, what it wrote, and what it said on the second writer.
-use Rattle.std.specs.Prelude.{◌≡◌, ◌⊎◌, ℕ, Bool, true, false, List, ◌++◌, Option, codes}
+use Rattle.std.specs.Prelude.{◌≡◌, ◌⊎◌, ℕ, Bool, true, false, List, ◌++◌, Option, codes, string_bytes}
 use Rattle.std.specs.Fmt.{decimal}
 use Rattle.std.specs.Io.KnownBytes.{Keeps, Appends}
 use Rattle.line_streams.specs.Streams.{AppendsBeginning}
@@ -9,6 +9,8 @@ use Rattle.operator_cli.specs.Faults.{serve_fault_number}
 use Rattle.clap.specs.Words.{Kinds}
 use Rattle.program_ends.specs.declared.ending.Ended.{Ended}
 use Rattle.program_ends.specs.declared.wording.Sort.TheVariants as sort
+use Rattle.program_ends.specs.declared.wording.Unserved.{Unserved}
+use Rattle.program_ends.specs.declared.wording.Unserved.TheVariants as unserved
 use Rattle.program_ends.specs.Wordings.{HasSort}
 
 -- A text went to the second writer: all of it, or a beginning.
@@ -61,6 +63,13 @@ RefusesWords w e = (text : List ℕ) × Keeps w.old w.new × EndsSaying 2 text w
 -- memory was refused while the words were read
 abbrev pub LacksMemory : Writers → Ended → Type 0
 LacksMemory w e = Keeps w.old w.new × TellsFault fault.Memory w.errors_old w.errors_new e
+
+-- How a program ends that finds nothing to serve in its words, by what there is to say of them: its text is
+-- shown, or refuses them.
+abbrev pub EndsFor : Unserved → Writers → Ended → Type 0
+EndsFor unserved.NoMemory w e = LacksMemory w e
+EndsFor (unserved.Help text) w e = Shows (string_bytes text) w e
+EndsFor (unserved.Wrong text) w e = Keeps w.old w.new × EndsSaying 2 (string_bytes text) w.errors_old w.errors_new e
 
 -- How a program ends that finds nothing to serve in its words, for which `clap` has these kinds of faults: it
 -- lacked memory, or help is asked for, or they are wrong.

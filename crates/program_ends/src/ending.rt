@@ -4,7 +4,7 @@ ghost use Rattle.std.specs.Prelude.{◌≡◌};
 ghost use Rattle.std.specs.IoError.{error_kind};
 ghost use Rattle.clap.specs.Words.{Kinds};
 ghost use Rattle.operator_cli.specs.declared.faults.ServeFault.TheVariants as fault;
-ghost use Rattle.program_ends.specs.Endings.{EndsSaying, TellsFault, EndsUnread, EndsUnserved, Shows, fault_text};
+ghost use Rattle.program_ends.specs.Endings.{EndsSaying, TellsFault, EndsUnread, EndsFor, EndsUnserved, Shows, fault_text};
 ghost use Rattle.program_ends.specs.Wordings.{IsUnserved};
 
 use crate::Unserved;
@@ -105,7 +105,8 @@ fn show<W: Write, E: Write>(text: &str, output: &mut W, errors: &mut E) -> Ended
 /// status 0, that the words are wrong is said on the second, with status 2, and want of memory is told as
 /// `fault 933`, with status 1.
 pub fn end_unserved<W: Write, E: Write>(why: Unserved, output: &mut W, errors: &mut E) -> Ended
-    ensures { (kinds : Kinds) → IsUnserved kinds why → EndsUnserved kinds (record { old = W.contents output.old; new = W.contents output.new; errors_old = E.contents errors.old; errors_new = E.contents errors.new }) result }
+    ensures said { EndsFor why (record { old = W.contents output.old; new = W.contents output.new; errors_old = E.contents errors.old; errors_new = E.contents errors.new }) result }
+    ensures kinds { (kinds : Kinds) → IsUnserved kinds why → EndsUnserved kinds (record { old = W.contents output.old; new = W.contents output.new; errors_old = E.contents errors.old; errors_new = E.contents errors.new }) result }
 {
     match why {
         Unserved::NoMemory => tell_fault(ServeFault::Memory, errors),

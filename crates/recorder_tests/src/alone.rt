@@ -1,5 +1,4 @@
-//! An actor that logs in a book of its own. A test ends with an error that begins with `wrong` where an
-//! answer is wrong.
+//! An actor that logs in a book of its own.
 
 ghost use Rattle.std.specs.Prelude.{◌≡◌};
 ghost use Rattle.book_recorders.specs.Alone.{IsAlone};
@@ -8,11 +7,11 @@ use crate::worlds::{client, node, world};
 use book_recorders::{ListRecorder, Logs, open_alone};
 use history_book::{Berth, Book, BookFault};
 use lock_messages::Actor;
-use std::test::Fail;
+use test_outcomes::{Failure, Outcome, check_row};
 use world_model::{Age, Effect, Event, StepFault};
 
 /// Lets the actor rise, rise again, which is refused, and fall.
-fn rise_twice<K: Logs>(book: K, berth: Berth, actor: &Actor) -> (K, Result<(), Fail>)
+fn rise_twice<K: Logs>(book: K, berth: Berth, actor: &Actor) -> (K, Outcome)
     requires { IsAlone (K.book book) berth }
 {
     let mut recorder = ListRecorder::over(book, berth);
@@ -26,41 +25,32 @@ fn judged(
     risen: Result<Effect, BookFault>,
     again: Result<Effect, BookFault>,
     fallen: Result<Effect, BookFault>,
-) -> Result<(), Fail> {
+) -> Outcome {
     let (Ok(risen), Err(again), Ok(fallen)) = (risen, again, fallen) else {
-        return Err("no memory to log in".into());
+        return Err(Failure::Memory);
     };
-    if risen != Effect::Up || fallen != Effect::Down {
-        return Err("wrong: other effects".into());
-    }
-    if again != BookFault::NotAStep(StepFault::Up) {
-        return Err("wrong: it rises twice".into());
-    }
-    Ok(())
+    check_row(risen == Effect::Up && fallen == Effect::Down, 1)?;
+    check_row(again == BookFault::NotAStep(StepFault::Up), 2)
 }
 
 #[test]
-fn an_actor_alone(rt: HostRuntime) -> Result<(), Fail> {
-    let actor = client(2)?;
+fn an_actor_alone(rt: HostRuntime) -> Outcome {
+    let actor = Actor::Client(client(2)?);
     let Ok(opened) = open_alone(rt.alloc(), world(rt.alloc())?, actor) else {
-        return Err("no memory for a book".into());
+        return Err(Failure::Memory);
     };
-    let (book, berth) = opened.ok_or("wrong: no such actor")?;
-    let (book, done) = rise_twice::<Book>(book, berth, &client(2)?);
+    let (book, berth) = opened.ok_or(Failure::Wrong(3))?;
+    let (book, done) = rise_twice::<Book>(book, berth, &actor);
     done?;
-    if book.events() == 2 {
-        Ok(())
-    } else {
-        Err("wrong: not two events".into())
-    }
+    check_row(book.events() == 2, 4)
 }
 
 #[test]
-fn a_stranger_alone(rt: HostRuntime) -> Result<(), Fail> {
+fn a_stranger_alone(rt: HostRuntime) -> Outcome {
     let stranger = Actor::Node(node(2)?);
     match open_alone(rt.alloc(), world(rt.alloc())?, stranger) {
         Ok(None) => Ok(()),
-        Ok(Some(_)) => Err("wrong: a node that isn't there".into()),
-        Err(_) => Err("no memory for a book".into()),
+        Ok(Some(_)) => Err(Failure::Wrong(1)),
+        Err(_) => Err(Failure::Memory),
     }
 }

@@ -1,16 +1,15 @@
-//! A node that takes another problem, in a book that it shares with a client. A test ends with an error that
-//! begins with `wrong` where an answer is wrong.
+//! A node that takes another problem, in a book that it shares with a client.
 
 ghost use Rattle.std.specs.Prelude.{◌≡◌};
 
-use crate::worlds::{berth, client, node, world};
+use crate::worlds::{berth, book, client, node};
 use book_recorders::{BookName, BookRecorder, Logs, Named};
 use history_book::{Berth, Book, BookFault};
 use lock_messages::{Actor, Attempt, ClientId, Message, Mode, NodeId, ResourceName, Ticket};
 use lock_model::Problem;
 use std::marker::Brand;
 use std::sync::{Mutex, Wait};
-use std::test::Fail;
+use test_outcomes::{Failure, Outcome, check};
 use world_model::{Age, Effect, Event, StepFault};
 
 /// Logs an event, and compares the answer.
@@ -18,24 +17,21 @@ fn answers<B: BookName, K: Logs, R: Wait + Copy>(
     recorder: &mut BookRecorder<'_, B, K, R>,
     event: Event,
     expected: Result<Effect, BookFault>,
-) -> Result<(), Fail> {
+) -> Outcome {
     let answer = recorder.log_event(event);
     if answer == Err(BookFault::Memory) {
-        return Err("no memory to log in".into());
+        return Err(Failure::Memory);
     }
-    if answer != expected {
-        return Err("wrong: another answer".into());
-    }
-    Ok(())
+    check(answer == expected)
 }
 
 /// c1's first ticket, to read `a`.
-fn ticket(client: ClientId) -> Result<Ticket, Fail> {
+fn ticket(client: ClientId) -> Result<Ticket, Failure> {
     Ok(Ticket {
         client,
-        attempt: Attempt::of(1).ok_or("wrong: no attempt")?,
+        attempt: Attempt::of(1).ok_or(Failure::Wrong(0))?,
         mode: Mode::Read,
-        resource: ResourceName::of(b"a").ok_or("wrong: no resource")?,
+        resource: ResourceName::of(b"a").ok_or(Failure::Wrong(0))?,
     })
 }
 
@@ -44,7 +40,7 @@ fn asks<B: BookName, K: Logs, R: Wait + Copy>(
     recorder: &mut BookRecorder<'_, B, K, R>,
     from: ClientId,
     to: NodeId,
-) -> Result<(), Fail> {
+) -> Outcome {
     let (who, ticket) = (Actor::Client(from), ticket(from)?);
     let (begin, chose) = (
         Event::Begin(from, Mode::Read, ticket.resource, 1),
@@ -71,7 +67,7 @@ fn keeps_and_says<B: BookName, K: Logs, R: Wait + Copy>(
     recorder: &mut BookRecorder<'_, B, K, R>,
     at: NodeId,
     said: Effect,
-) -> Result<(), Fail> {
+) -> Outcome {
     let (tries, keeps) = (Event::Try(Actor::Node(at)), Event::Kept(Actor::Node(at)));
     let switch = Event::Switch(at, Problem::Second);
     answers(recorder, Event::Take(at, 1), not_now())?;
@@ -86,7 +82,7 @@ fn takes_both<B: BookName, K: Logs, R: Wait + Copy>(
     recorder: &mut BookRecorder<'_, B, K, R>,
     at: NodeId,
     message: Message,
-) -> Result<(), Fail> {
+) -> Outcome {
     let (other, rise) = (node(2)?, Event::Rise(Actor::Node(at), Age::Old));
     let switch = Event::Switch(at, Problem::Second);
     answers(recorder, rise, Ok(Effect::Up))?;
@@ -118,11 +114,11 @@ fn both<B: BookName, K: Logs, R: Wait + Copy>(
     book: &Mutex<Named<B, K>>,
     one: Berth,
     voter: Berth,
-) -> Result<(), Fail>
+) -> Outcome
     requires one { one.table ≡ B.table }
     requires voter { voter.table ≡ B.table }
 {
-    let (from, to) = (ClientId::of(1).ok_or("wrong: no client")?, node(1)?);
+    let (from, to) = (client(1)?, node(1)?);
     let mut one = BookRecorder::of(rt, book, one);
     let mut voter = BookRecorder::of(rt, book, voter);
     asks(&mut one, from, to)?;
@@ -135,7 +131,7 @@ fn whole<B: BookName, K: Logs, R: Wait + Copy>(
     book: K,
     one: Berth,
     voter: Berth,
-) -> (K, Result<(), Fail>)
+) -> (K, Outcome)
     requires book { (K.book book).table ≡ B.table }
     requires one { one.table ≡ B.table }
     requires voter { voter.table ≡ B.table }
@@ -146,7 +142,7 @@ fn whole<B: BookName, K: Logs, R: Wait + Copy>(
 }
 
 // The name of the book is picked here, where its berths are at hand.
-fn by_name<R: Wait + Copy>(rt: R, book: Book, one: Berth, voter: Berth) -> (Book, Result<(), Fail>)
+fn by_name<R: Wait + Copy>(rt: R, book: Book, one: Berth, voter: Berth) -> (Book, Outcome)
     requires one { one.table ≡ book.table }
     requires voter { voter.table ≡ book.table }
 {
@@ -154,17 +150,11 @@ fn by_name<R: Wait + Copy>(rt: R, book: Book, one: Berth, voter: Berth) -> (Book
 }
 
 #[test]
-fn a_node_switches_as_it_takes(rt: HostRuntime) -> Result<(), Fail> {
-    let Ok(mut book) = Book::over(rt.alloc(), 7, world(rt.alloc())?) else {
-        return Err("no memory for a book".into());
-    };
-    let one = berth(&mut book, &client(1)?)?;
+fn a_node_switches_as_it_takes(rt: HostRuntime) -> Outcome {
+    let mut book = book(rt.alloc())?;
+    let one = berth(&mut book, &Actor::Client(client(1)?))?;
     let voter = berth(&mut book, &Actor::Node(node(1)?))?;
     let (book, done) = by_name(rt, book, one, voter);
     done?;
-    if book.events() == 16 {
-        Ok(())
-    } else {
-        Err("wrong: not sixteen events".into())
-    }
+    check(book.events() == 16)
 }

@@ -1,9 +1,8 @@
-//! Two threads that log in one book at the same time. A test ends with an error that begins with `wrong`
-//! where an answer is wrong.
+//! Two threads that log in one book at the same time.
 
 ghost use Rattle.std.specs.Prelude.{◌≡◌};
 
-use crate::worlds::{berth, client, world};
+use crate::worlds::{berth, book, client, world};
 use book_recorders::{BookName, BookRecorder, Logs, Named};
 use history_book::{Berth, Book};
 use journal_audit::{Verdict, audit};
@@ -12,8 +11,8 @@ use std::alloc::Global;
 use std::marker::Brand;
 use std::str;
 use std::sync::{Mutex, Wait};
-use std::test::Fail;
 use std::thread::{Threads, join};
+use test_outcomes::{Failure, Outcome, check_row};
 use world_model::{Age, Event};
 
 /// How often each actor rises and falls.
@@ -88,50 +87,46 @@ fn count(journal: &str, line: &str) -> usize {
 }
 
 /// Whether the journal has each event of both actors, as often as it was logged.
-fn has_all(journal: &[u8]) -> Result<(), Fail> {
+fn has_all(journal: &[u8]) -> Outcome {
     let Ok(journal) = str::from_utf8(journal) else {
-        return Err("wrong: the journal is no text".into());
+        return Err(Failure::Wrong(1));
     };
     for line in ["rise c1 old", "fall c1", "rise c2 old", "fall c2"] {
-        if count(journal, line) != ROUNDS as usize {
-            return Err("wrong: an event is missing, or stands twice".into());
-        }
+        check_row(count(journal, line) == ROUNDS as usize, 2)?;
     }
     Ok(())
 }
 
 /// Whether an audit from the world finds the journal sound.
-fn is_sound(alloc: Global, journal: &[u8]) -> Result<(), Fail> {
+fn is_sound(alloc: Global, journal: &[u8]) -> Outcome {
     let mut told = Vec::new(alloc);
     match audit(alloc, world(alloc)?, journal, &mut told) {
         Ok(Verdict::Sound(lines)) if lines == 4 * ROUNDS => Ok(()),
-        Ok(_) => Err("wrong: the journal is not sound".into()),
-        Err(_) => Err("no memory for an audit".into()),
+        Ok(_) => Err(Failure::Wrong(3)),
+        Err(_) => Err(Failure::Memory),
     }
 }
 
-fn judge(alloc: Global, book: &Book) -> Result<(), Fail>
+fn judge(alloc: Global, book: &Book) -> Outcome
     requires { Unit {0} }
 {
     let mut journal = Vec::new(alloc);
     if book.write_journal(alloc, &mut journal).is_err() {
-        return Err("no memory for a journal".into());
+        return Err(Failure::Memory);
     }
     has_all(journal.as_slice())?;
     is_sound(alloc, journal.as_slice())
 }
 
 #[test]
-fn two_threads_log_in_one_book(rt: HostRuntime) -> Result<(), Fail> {
-    let Ok(mut book) = Book::over(rt.alloc(), 7, world(rt.alloc())?) else {
-        return Err("no memory for a book".into());
-    };
-    let (first, second) = (client(1)?, client(2)?);
+fn two_threads_log_in_one_book(rt: HostRuntime) -> Outcome {
+    let mut book = book(rt.alloc())?;
+    let (first, second) = (Actor::Client(client(1)?), Actor::Client(client(2)?));
     let one = berth(&mut book, &first)?;
     let two = berth(&mut book, &second)?;
     let (book, one, two) = in_two_threads(rt, book, (one, first), (two, second));
     if one != 2 * ROUNDS || two != 2 * ROUNDS {
-        return Err("no memory to log in".into());
+        return Err(Failure::Memory);
     }
     judge(rt.alloc(), &book)
 }

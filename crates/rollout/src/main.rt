@@ -7,7 +7,7 @@
 //!
 //! `docs/EMBEDDING.md` goes through it part by part. It stands on `run_service` and `node_threads` for the service,
 //! `lock_session` and `book_recorders` for its sessions, `operator_cli` for settings, `journal_audit`,
-//! `line_streams`, `event_recorders`, `lossy_link` and `lock_messages`.
+//! `line_streams`, `event_recorders`, `lossy_link`, `lock_messages` and `lock_model`.
 #![tactic(auto)]
 
 mod crews;

@@ -15,6 +15,7 @@ use Rattle.event_recorders.specs.Faults.{run_fault_number}
 use Rattle.history_check.specs.declared.wishes.Wish.{Wish}
 use Rattle.history_book.specs.Books.{enters}
 use Rattle.journal_text.specs.Journals.{history_text}
+use Rattle.node_threads.specs.Faults.{AreFaults}
 use Rattle.node_threads.specs.Wishes.{AllDidAsWished}
 use Rattle.operator_cli.specs.declared.settings.Settings.{Settings}
 use Rattle.operator_cli.specs.Openings.{all_down}
@@ -27,12 +28,14 @@ pub record End : Type 0 where
 
 -- The history begins with the world of the settings, in which all are down and nothing is kept. Each of
 -- its events may happen where it stands, so it is a run of the sets and maps too, and in the world that it
--- leaves a writer inside a resource is there alone. Each client began and entered its own wishes alone, in
+-- leaves a writer inside a resource is there alone. Who ended by a fault is told once, in order, nodes
+-- first, each by a fault by which its thread may end. Each client began and entered its own wishes alone, in
 -- order, and all of them unless it ended by a fault.
 pub record IsEndOf (s : Settings) (wishes : List Wish) (e : End) : Type 0 where
   pub history : IsHistory (all_down s) e.history e.world
   pub run : IsRunOf (all_down s) e.history e.world
   pub exclusive : IsExclusive (forget e.world)
+  pub faults : AreFaults (all_down s) e.faults
   pub wished : AllDidAsWished (all_down s) e.history wishes e.faults
 
 -- `c2 fault 913`

@@ -1,6 +1,6 @@
 // A whole run, from the bytes of its settings to what is told of its end.
 
-ghost use Rattle.std.specs.Prelude.{◌≡◌, ◌≤◌, ◌++◌, List, length, map, replicate, codes, IfOk, OnOk};
+ghost use Rattle.std.specs.Prelude.{◌≡◌, ◌≤◌, ◌++◌, List, length, map, replicate, codes, IfOk, IfErr, OnOk};
 ghost use Rattle.lock_messages.specs.declared.ids.TheConstants.{MAX_NODES, MAX_CLIENTS};
 ghost use Rattle.lock_model.specs.declared.problems.Problem.TheVariants.{First, Second};
 ghost use Rattle.history_book.specs.Books.{enters};
@@ -135,6 +135,7 @@ fn run<T: Threads + Wait + Copy + Send>(
     ensures opening { IfOk result (λ end. end.book.opening ≡ all_down settings.now) }
     ensures end { IfOk result (λ end. IsEndOf settings.now wishes.now (record { history = end.book.history; world = end.book.world; faults = end.faults.items })) }
     ensures entered { IfOk result (λ end. end.entered ≡ enters end.book.history) }
+    ensures err { IfErr result (λ fault. fault ≡ ServeFault.Memory) }
 {
     let nodes = settings.ballots.nodes();
     let Ok(world) = world_down(alloc, settings, for_world) else {

@@ -1,6 +1,6 @@
 // A new service with the caller inside, by its settings.
 
-ghost use Rattle.std.specs.Prelude.{◌≡◌, ◌≤◌, ◌∷◌, ◌++◌, [], length, map, replicate, IfOk, OnOk, IfErr};
+ghost use Rattle.std.specs.Prelude.{◌≡◌, ◌≤◌, ◌∷◌, ◌++◌, [], None, length, map, replicate, IfOk, OnOk, IfErr};
 ghost use Rattle.lock_messages.specs.declared.ids.TheConstants.{MAX_NODES, MAX_CLIENTS};
 ghost use Rattle.lock_model.specs.Ballots.{node_count};
 ghost use Rattle.history_book.specs.Books.{enters};
@@ -36,7 +36,8 @@ pub fn empty_client_records(alloc: Global, clients: u16) -> Result<Vec<MemoryRec
 
 /// The plain rule of each problem, for as many nodes as there may be. The only error is want of memory.
 pub fn plain_policies(alloc: Global) -> Result<Policies, AllocError>
-    ensures { IfOk result (λ policies. length policies.pairs.items ≡ MAX_NODES) }
+    ensures count { IfOk result (λ policies. length policies.pairs.items ≡ MAX_NODES) }
+    ensures plain { IfOk result (λ policies. policies.pairs.items ≡ replicate MAX_NODES (record { first = None; second = None })) }
 {
     let mut pairs = Vec::new(alloc);
     for _ in 0..MAX_NODES {

@@ -12,7 +12,7 @@
 //! changed. Beside its entries a core keeps their index by resource, which is always theirs: a decision
 //! costs what the resource of its message costs, and not what all entries cost; a switch costs what all
 //! do. The crate stands on `lock_messages`, `lock_model`, `stable_record` and `admission_policy`, by
-//! their public contracts alone.
+//! their public contracts alone, and on `thiserror`.
 #![tactic(auto)]
 
 mod consulting;

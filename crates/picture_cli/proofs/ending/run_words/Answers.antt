@@ -18,7 +18,7 @@ returns-in-Err-Unserved g c =
       errors_new = g.E.Write.contents c.end_unserved.new.errors;
     } in
     let unserved = read_same (fault_of app words) (rows_in words) c.in-Err-Unserved.field-0 _ c.in-Err-Unserved.ensures c.in-Err-Unserved.field-0-is in
-    runs_unserved (g.R.Read.remaining c.args.reader) (fault_of app words) (rows_in words) page w c.end_unserved.result _ (unserved_same (fault_of app words) c.in-Err-Unserved.why _ unserved (sym c.in-Err-Unserved.why-is)) c.end_unserved.ensures
+    runs_unserved (g.R.Read.remaining c.args.reader) (fault_of app words) (rows_in words) page w c.end_unserved.result _ (unserved_same (fault_of app words) c.in-Err-Unserved.why _ unserved (sym c.in-Err-Unserved.why-is)) c.end_unserved.ensures.kinds
 
 pub returns : goal.returns
 returns g c =

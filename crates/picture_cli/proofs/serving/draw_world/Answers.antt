@@ -4,10 +4,10 @@ use Rattle.picture_cli.proofs.DrawFacts.{picture_drawn}
 use Rattle.picture_cli.proofs.serving.draw_world.Goals as goal
 
 pub returns-in-Err-clause-found : goal.returns-in-Err-clause-found
-returns-in-Err-clause-found g c = c.told.ensures c.args.world c.args.source.now
+returns-in-Err-clause-found g c = c.told.ensures.found c.args.world c.args.source.now
 
 pub returns-in-Ok-draw_lines-clause-found : goal.returns-in-Ok-draw_lines-clause-found
-returns-in-Ok-draw_lines-clause-found g c = c.told-in-Err-end.ensures c.args.world c.args.source.now
+returns-in-Ok-draw_lines-clause-found g c = c.told-in-Err-end.ensures.found c.args.world c.args.source.now
 
 pub returns-in-Ok-end-clause-drawn : goal.returns-in-Ok-end-clause-drawn
 returns-in-Ok-end-clause-drawn g c =

@@ -1,5 +1,6 @@
 use Rattle.std.proofs.Common.{rules, subst}
 use Rattle.world_model.specs.declared.exact.ExactWorld.{ExactWorld}
+use Rattle.node_threads.specs.Faults.{AreFaults}
 use Rattle.node_threads.specs.Wishes.{AllDidAsWished}
 use Rattle.run_service.proofs.ReadyFacts.{may_run, theirs}
 use Rattle.run_service.proofs.serving.run.Goals as goal
@@ -16,5 +17,6 @@ returns-clause-end g c = record {
   history = search rules;
   run = search rules;
   exclusive = search rules;
+  faults = subst (λ (w : ExactWorld). AreFaults w c.in-Ok-run_all.end.faults.items) c.in-Ok.ensures c.in-Ok-run_all.ensures.faults;
   wished = subst (λ (w : ExactWorld). AllDidAsWished w c.in-Ok-run_all.end.book.history c.args.wishes.now c.in-Ok-run_all.end.faults.items) c.in-Ok.ensures c.in-Ok-run_all.ensures.wished;
 }
