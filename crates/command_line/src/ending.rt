@@ -11,7 +11,7 @@ ghost use Rattle.program_ends.specs.Endings.{EndsUnread};
 ghost use Rattle.command_line.specs.CommandLine.{EndsServed, ServesFor, RunsCommand, RunsAsked, Runs};
 
 use crate::explaining::explain_command;
-use crate::reading::read_words;
+use command_words::read_words;
 use operator_cli::{Command, Order, Policies, ServeFault, serve};
 use program_ends::{Ended, collected, end_unserved, tell_fault, tell_unread};
 use run_service::{Supplies, serve_run};

@@ -1,6 +1,6 @@
 //! The program's edge: from its words to the status that it ends with.
 //!
-//! `run` reads the words by `clap`, serves what they name, and says on a second writer what has no
+//! `run` reads the words (`command_words`), serves what they name, and says on a second writer what has no
 //! place on the first: faults, and what is wrong with words. The program itself is one call of it.
 //!
 //! The crate promises, by the contract of `run`, the status and what is written on both writers:
@@ -9,14 +9,14 @@
 //! `--explain` output and status are the same, and words go to the second writer, of which nothing is
 //! promised. `specs/CommandLine` says so.
 //!
-//! It stands on `program_ends` for what is said of faults and of words, `operator_cli`, `run_service`,
-//! `explanations` for the words, `line_streams`, `stable_record`, `lock_messages`, `lock_model` and `clap`.
+//! It stands on `command_words` for what the words ask for, `program_ends` for what is said of faults and of
+//! words, `operator_cli`, `run_service`, `explanations` for what is said in words, `line_streams`,
+//! `stable_record`, `lock_messages`, `lock_model` and `clap`.
 #![tactic(auto)]
 
 mod ending;
 mod explaining;
 mod following;
-mod reading;
 
 pub use ending::run;
 pub use program_ends::{Ended, end_without_memory};

@@ -1,7 +1,7 @@
 use Rattle.std.proofs.Common.{map, string_bytes}
 use Rattle.clap.specs.Words.{fault_of}
 use Rattle.program_ends.specs.Endings.{Writers}
-use Rattle.command_line.specs.CommandLine.{app, found_in}
+use Rattle.command_words.specs.Words.{app, found_in}
 use Rattle.command_line.proofs.WordFacts.{runs_unserved}
 use Rattle.command_line.proofs.ending.run_words.Goals as goal
 

@@ -1,0 +1,15 @@
+use Rattle.std.proofs.Common.{codes, ap, ◌∙◌}
+use Rattle.clap.specs.Words.{App}
+use Rattle.command_words.specs.Words.{top_app, with_command, run_shape}
+use Rattle.command_words.proofs.NameFacts.{with_sub}
+use Rattle.command_words.proofs.reading.words_taken.Goals as goal
+
+abbrev third : App
+third = with_command (with_command (with_command top_app (codes "script")) (codes "audit")) (codes "ballot")
+
+pub returns : goal.returns
+returns c =
+    let one = c.in_ok-with_script.ensures ∙ ap (λ (a : App). with_command a (codes "script")) c.in_ok-bare.ensures in
+    let two = c.in_ok-with_audit.ensures ∙ ap (λ (a : App). with_command a (codes "audit")) one in
+    let three = c.in_ok-with_ballot.ensures ∙ ap (λ (a : App). with_command a (codes "ballot")) two in
+    with_sub c.in_ok-with_ballot.with_ballot c.in_ok-run.run' c.in_ok-with_run.with_run third run_shape c.in_ok-with_run.ensures three c.in_ok-run.ensures.shape c.in_ok-run.ensures.local
