@@ -33,6 +33,7 @@ has_seen b k x tickets k' told = record {
   history = b.history;
   world = b.world;
   run = told.known.run;
+  ballots = ap (λ (w : ExactWorld). w.ballots) (sym told.known.opening);
   opened = ap (λ (w : ExactWorld). part w k.actor) (sym told.known.opening);
   events = told.known.own;
   own = told.known.part;

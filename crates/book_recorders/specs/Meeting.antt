@@ -36,13 +36,14 @@ pub record TellsInside (b : BookValue) (k : BerthValue) (x : List ℕ) (tickets 
   pub alone : IsAloneIn tickets
 
 -- These are the tickets of those who were inside the resource in a world that the one history had come to, in the
--- order of the clients. The history has of the actor what its own log has, and so has the world. The log has not
--- changed.
+-- order of the clients. The history has of the actor what its own log has, and so has the world; it is one of the
+-- log's ballots. The log has not changed.
 pub record HasSeenInside (l : OwnLog) (x : List ℕ) (tickets : List Ticket) (l' : OwnLog) : Type 0 where
   pub opening : ExactWorld
   pub history : List (Event × Effect)
   pub world : ExactWorld
   pub run : IsHistory opening history world
+  pub ballots : opening.ballots ≡ l.ballots
   pub opened : part opening l.actor ≡ l.opening
   pub events : own_events l.actor history ≡ l.events
   pub own : part world l.actor ≡ part_now l

@@ -2,77 +2,69 @@
 
 ghost use Rattle.std.specs.Prelude.{◌≡◌, ◌≢◌};
 
-use crate::journals::{is_sound, journal_of};
-use crate::logging::{berth_of, is_given, logs, opened};
-use crate::worlds::{attempt, client, node, three_nodes};
+use crate::courses::{Beside, play, try_beside};
+use crate::journals::Journal;
+use crate::logging::{berth_of, logs};
+use crate::scripts::Turn;
+use crate::worlds::{Start, Who};
 use history_book::{Berth, Book, BookFault};
-use std::alloc::Global;
+use lock_messages::Attempt;
 use test_outcomes::{Outcome, check, check_row};
-use world_machine::World;
 use world_model::{Effect, StepFault};
 
 /// c1 and c2 log with berths of the first book; the other one has its own number.
-fn fails(book: &mut Book, other: &mut Book, one: &mut Berth, two: &mut Berth) -> Outcome
+fn answers(book: &mut Book, other: &mut Book, one: &mut Berth, two: &mut Berth) -> Outcome
     requires one { one.old.table ≡ book.old.table }
     requires two { two.old.table ≡ book.old.table }
     requires other { one.old.number ≢ other.old.number }
 {
-    let chosen = Effect::Chose(attempt(1)?);
+    let chosen = Effect::Chose(Attempt::of(1).unwrap());
     let not_now = Err(BookFault::NotAStep(StepFault::WrongPhase));
-    logs(book, one, "rise c1 old", Ok(Effect::Up))?;
-    logs(book, one, "begin c1 read a", Ok(chosen))?;
-    logs(book, two, "enter c1", Err(BookFault::OtherActor))?;
-    logs(other, one, "enter c1", Err(BookFault::OtherBook))?;
-    logs(book, one, "enter c1", not_now)?;
-    check(book.events() == 2 && book.entered() == 0 && other.events() == 0)
+    let rises = logs(book, one, "rise c1 old", Ok(Effect::Up));
+    let begins = logs(book, one, "begin c1 read a", Ok(chosen));
+    let of_another = logs(book, two, "enter c1", Err(BookFault::OtherActor));
+    let in_another = logs(other, one, "enter c1", Err(BookFault::OtherBook));
+    let enters = logs(book, one, "enter c1", not_now);
+    let counted = check(book.events() == 2 && book.entered() == 0 && other.events() == 0);
+    let logged = rises.and(begins).and(of_another);
+    logged.and(in_another).and(enters).and(counted)
 }
 
 /// Of two books each has its own berths.
-fn fails_with(book: &mut Book, other: &mut Book) -> Outcome
+pub(crate) fn answers_beside_another(book: &mut Book, other: &mut Book) -> Outcome
     requires { book.old.number ≢ other.old.number }
 {
-    let mut one = berth_of(book, client(1)?)?;
-    let mut two = berth_of(book, client(2)?)?;
-    fails(book, other, &mut one, &mut two)
+    let mut one = berth_of(book, Who::C1.actor())?;
+    let mut two = berth_of(book, Who::C2.actor())?;
+    answers(book, other, &mut one, &mut two)
 }
 
-/// The journal of the book has its two events, and is sound from this world.
-fn is_short(alloc: Global, book: &Book, world: World) -> Outcome
-    requires { Unit {0} }
-{
-    let journal = journal_of(book, alloc)?;
-    check(journal.as_slice() == b"rise c1 old\nbegin c1 read a\n".as_slice())?;
-    is_sound(alloc, world, journal.as_slice(), 2)
-}
+const TWO_EVENTS: &str = "rise c1 old\nbegin c1 read a\n";
 
 #[test]
 fn book_faults(rt: HostRuntime) -> Outcome {
-    let alloc = rt.alloc();
-    let mut book = opened(alloc, 7, three_nodes(alloc)?)?;
-    let mut other = opened(alloc, 8, three_nodes(alloc)?)?;
-    fails_with(&mut book, &mut other)?;
-    is_short(alloc, &book, three_nodes(alloc)?)
+    let journal = Journal::Text(TWO_EVENTS);
+    try_beside(rt.alloc(), Start::ThreeNodes, Beside::Answers, &journal)
 }
 
 /// n1 and c4 have a berth each; n1 gets no other one, and who isn't there gets none.
-fn have_one_each(book: &mut Book) -> Outcome
-    requires { Unit {0} }
-{
-    let (first, last) = (node(1)?, client(4)?);
-    let (no_node, no_client) = (node(4)?, client(5)?);
-    let _one = berth_of(book, first)?;
-    let again = is_given(book, first);
-    let strangers = is_given(book, no_client) || is_given(book, no_node);
-    check(!again && !strangers)?;
-    let _last = berth_of(book, last)?;
-    Ok(())
-}
+const ONE_EACH: [Turn; 4] = [
+    Turn::Refuses(Who::N1),
+    Turn::Refuses(Who::FifthClient),
+    Turn::Refuses(Who::FourthNode),
+    Turn::Joins(Who::C4),
+];
 
 #[test]
 fn one_berth_each(rt: HostRuntime) -> Outcome {
-    let alloc = rt.alloc();
-    let mut book = opened(alloc, 7, three_nodes(alloc)?)?;
-    have_one_each(&mut book)
+    let crew = [Who::N1, Who::C1, Who::C2];
+    play(
+        rt.alloc(),
+        Start::ThreeNodes,
+        crew,
+        [&ONE_EACH, &[]],
+        &Journal::Any,
+    )
 }
 
 const NUMBERS: [(BookFault, u16); 5] = [

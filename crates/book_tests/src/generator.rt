@@ -7,17 +7,15 @@ use lock_messages::{Actor, ClientId, Message, Mode, NodeId, ResourceName};
 use lock_model::Problem;
 use rand_core::utils::NextWord;
 use rand_pcg::Pcg32;
-use test_outcomes::Failure;
 use world_machine::World;
 use world_model::{Age, Event};
 
-fn some_resource(words: &mut Pcg32) -> Result<ResourceName, Failure> {
-    let name: &[u8] = if words.next_word() % 2 == 0 {
-        b"a"
+fn some_resource(words: &mut Pcg32) -> ResourceName {
+    if words.next_word() % 2 == 0 {
+        ResourceName::of(b"a").unwrap()
     } else {
-        b"b"
-    };
-    ResourceName::of(name).ok_or(Failure::Wrong(0))
+        ResourceName::of(b"b").unwrap()
+    }
 }
 
 fn some_mode(words: &mut Pcg32) -> Mode {
@@ -49,8 +47,12 @@ fn some_message(words: &mut Pcg32, world: &World, who: Actor, sent: u32) -> u32 
     sent.saturating_add(1)
 }
 
-fn some_node(words: &mut Pcg32) -> Result<NodeId, Failure> {
-    node_id((words.next_word() % 3 + 1) as u8)
+fn some_node(words: &mut Pcg32) -> NodeId {
+    match words.next_word() % 3 {
+        0 => node_id(1),
+        1 => node_id(2),
+        _ => node_id(3),
+    }
 }
 
 /// A node takes the message, and answers it.
@@ -70,9 +72,9 @@ fn client_event(
     within: bool,
     turn: u32,
     message: u32,
-) -> Result<Event, Failure> {
-    let (name, node) = (some_resource(words)?, some_node(words)?);
-    Ok(match turn % 8 {
+) -> Event {
+    let (name, node) = (some_resource(words), some_node(words));
+    match turn % 8 {
         0 => Event::Begin(client, some_mode(words), name, 1),
         1 => Event::Try(Actor::Client(client)),
         2 => Event::Kept(Actor::Client(client)),
@@ -80,7 +82,7 @@ fn client_event(
         7 if within => Event::Soften(client),
         7 => Event::Enter(client),
         _ => Event::Hear(client, message),
-    })
+    }
 }
 
 /// An actor falls or rises, a client leaves or softens, or a node takes a problem.
@@ -103,14 +105,14 @@ pub(crate) fn event_of_turn(
     who: Actor,
     turn: u32,
     sent: u32,
-) -> Result<Event, Failure> {
+) -> Event {
     let who = &who;
     if words.next_word() % 8 == 0 {
-        return Ok(rare_event(words, *who));
+        return rare_event(words, *who);
     }
     let message = some_message(words, world, *who, sent);
     match *who {
-        Actor::Node(node) => Ok(node_event(node, turn, message)),
+        Actor::Node(node) => node_event(node, turn, message),
         Actor::Client(client) => {
             let within = world.ticket_inside(client).is_some();
             client_event(words, client, within, turn, message)

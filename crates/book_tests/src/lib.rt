@@ -9,6 +9,8 @@
 #[cfg(test)]
 mod books;
 #[cfg(test)]
+mod courses;
+#[cfg(test)]
 mod faults;
 #[cfg(test)]
 mod full;

@@ -4,22 +4,24 @@ ghost use Rattle.std.specs.Prelude.{◌≡◌, IfOk};
 ghost use Rattle.history_book.specs.Books.{BookValue, BerthValue};
 
 use crate::faults::of_book;
-use crate::worlds::{client, event};
+use crate::worlds::{Start, Who, client_id, event, node_id};
 use history_book::{Berth, Book, BookFault};
 use lock_messages::Actor;
 use std::alloc::Global;
 use test_outcomes::{Failure, Outcome, check};
-use world_machine::World;
 use world_model::{Age, Effect, Event};
 
-/// A book of this number over the world.
-pub(crate) fn opened(alloc: Global, number: u64, world: World) -> Result<Book, Failure>
+/// A book of this number over the world that starts so.
+pub(crate) fn opened(alloc: Global, number: u64, start: Start) -> Result<Book, Failure>
     requires { Unit {0} }
     ensures { IfOk result (λ b. b.number ≡ number) }
 {
+    let Ok(world) = start.world(alloc) else {
+        return Err(Failure::Memory);
+    };
     match Book::over(alloc, number, world) {
         Ok(book) => Ok(book),
-        Err((_, fault)) => Err(of_book(fault)),
+        Err((_world, fault)) => Err(of_book(fault)),
     }
 }
 
@@ -67,8 +69,7 @@ pub(crate) fn logs(
     let event = event(line)?;
     let before = book.events();
     let answer = log(book, berth, event);
-    if answer == Err(BookFault::Memory) {
-        check(book.events() == before)?;
+    if answer == Err(BookFault::Memory) && book.events() == before {
         return Err(Failure::Memory);
     }
     check(answer == expected)
@@ -106,11 +107,24 @@ pub(crate) fn rises(book: &mut Book, berth: &mut Berth, times: u32) -> Outcome
     ensures book { (book.new.number ≡ book.old.number) × (book.new.table ≡ book.old.table) }
     ensures berth { (berth.new.number ≡ berth.old.number) × (berth.new.table ≡ berth.old.table) }
 {
-    let who = &client(1)?;
+    let who = &Who::C1.actor();
     let (rise, fall) = (&Event::Rise(*who, Age::Old), &Event::Fall(*who));
     for _ in 0..times {
         takes(book, berth, *rise)?;
         takes(book, berth, *fall)?;
+    }
+    Ok(())
+}
+
+/// c1 says its request to n1, so many times.
+pub(crate) fn asks(book: &mut Book, berth: &mut Berth, times: u32) -> Outcome
+    requires { berth.old.number ≡ book.old.number → berth.old.table ≡ book.old.table }
+    ensures book { (book.new.number ≡ book.old.number) × (book.new.table ≡ book.old.table) }
+    ensures berth { (berth.new.number ≡ berth.old.number) × (berth.new.table ≡ berth.old.table) }
+{
+    let asks = &Event::SayTo(client_id(1), node_id(1));
+    for _ in 0..times {
+        takes(book, berth, *asks)?;
     }
     Ok(())
 }

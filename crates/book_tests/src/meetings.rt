@@ -2,15 +2,23 @@
 
 ghost use Rattle.std.specs.Prelude.{◌≡◌, ◌≢◌};
 
-use crate::logging::{berth_of, is_given, meets, opened};
-use crate::scripts::{Answer, Place, Turn, play};
-use crate::worlds::{Who, client, one_node};
+use crate::courses::{Beside, play, try_beside};
+use crate::journals::Journal;
+use crate::logging::{berth_of, is_given, meets};
+use crate::scripts::{Answer, Place, Turn};
+use crate::worlds::{Start, Who};
 use history_book::{Book, BookFault};
+use std::alloc::Global;
 use test_outcomes::{Outcome, check};
 use world_model::StepFault;
 
 /// The berths of a script are those of n1, c1 and c2.
-const CREW: [Who; 3] = [Who::Node(1), Who::Client(1), Who::Client(2)];
+const CREW: [Who; 3] = [Who::N1, Who::C1, Who::C2];
+
+/// Plays a script in a new book over the world of one node.
+fn play_one(alloc: Global, script: &[Turn]) -> Outcome {
+    play(alloc, Start::OneNode, CREW, [script, &[]], &Journal::Any)
+}
 
 const FIRST_ASKS: &str = "rise c1 old\nbegin c1 read a\ntry c1\nkept c1\nsayto c1 n1";
 
@@ -47,7 +55,7 @@ const BESIDE: [Turn; 10] = [
 
 #[test]
 fn readers_meet(rt: HostRuntime) -> Outcome {
-    play(rt.alloc(), one_node(rt.alloc())?, CREW, &BESIDE)
+    play_one(rt.alloc(), &BESIDE)
 }
 
 /// Nobody is met in another resource.
@@ -63,7 +71,7 @@ const APART: [Turn; 7] = [
 
 #[test]
 fn readers_of_two_resources(rt: HostRuntime) -> Outcome {
-    play(rt.alloc(), one_node(rt.alloc())?, CREW, &APART)
+    play_one(rt.alloc(), &APART)
 }
 
 const FIRST_WRITES: &str = "rise c1 old\nbegin c1 write a\ntry c1\nkept c1\nsayto c1 n1";
@@ -97,14 +105,14 @@ const SOFTENS: [Turn; 16] = [
 
 #[test]
 fn softened_writer_meets_a_reader(rt: HostRuntime) -> Outcome {
-    play(rt.alloc(), one_node(rt.alloc())?, CREW, &SOFTENS)
+    play_one(rt.alloc(), &SOFTENS)
 }
 
 /// A client has one berth of a book, so only that of another book could stand for the client itself.
-fn meets_only_others(book: &mut Book, other: &mut Book) -> Outcome
+pub(crate) fn meets_only_others(book: &mut Book, other: &mut Book) -> Outcome
     requires { book.old.number ≢ other.old.number }
 {
-    let client = client(1)?;
+    let client = Who::C1.actor();
     let mut one = berth_of(book, client)?;
     let mut same = berth_of(other, client)?;
     let there = meets(book, &mut one, &mut same) == Err(BookFault::OtherBook);
@@ -114,8 +122,10 @@ fn meets_only_others(book: &mut Book, other: &mut Book) -> Outcome
 
 #[test]
 fn nobody_meets_itself(rt: HostRuntime) -> Outcome {
-    let alloc = rt.alloc();
-    let mut book = opened(alloc, 7, one_node(alloc)?)?;
-    let mut other = opened(alloc, 8, one_node(alloc)?)?;
-    meets_only_others(&mut book, &mut other)
+    try_beside(
+        rt.alloc(),
+        Start::OneNode,
+        Beside::MeetsOnlyOthers,
+        &Journal::Any,
+    )
 }

@@ -3,10 +3,11 @@
 ghost use Rattle.std.specs.Prelude.{◌≡◌, All, IfOk};
 ghost use Rattle.book_tests.specs.Ties.{IsOf};
 
+use crate::courses::log_beside;
 use crate::generator::event_of_turn;
-use crate::journals::is_recorded;
-use crate::logging::{berth_of, log, opened};
-use crate::worlds::{client, node, three_nodes};
+use crate::journals::Journal;
+use crate::logging::{berth_of, log};
+use crate::worlds::{Start, Who};
 use history_book::{Berth, Book, BookFault};
 use lock_messages::Actor;
 use rand_core::utils::NextWord;
@@ -29,12 +30,17 @@ const TRIES: u32 = 20_000;
 const ACTORS: u32 = 7;
 
 /// The actor of this place.
-fn actor_at(place: u32) -> Result<Actor, Failure> {
-    if place < 3 {
-        node(place as u8 + 1)
-    } else {
-        client(place - 2)
-    }
+fn actor_at(place: u32) -> Actor {
+    let who = match place {
+        0 => Who::N1,
+        1 => Who::N2,
+        2 => Who::N3,
+        3 => Who::C1,
+        4 => Who::C2,
+        5 => Who::C3,
+        _ => Who::C4,
+    };
+    who.actor()
 }
 
 /// The berths of all actors, in their order.
@@ -45,8 +51,7 @@ fn berths_of(alloc: Global, book: &mut Book) -> Result<Vec<Berth>, Failure>
 {
     let mut berths = Vec::new(alloc);
     for place in 0..ACTORS {
-        let actor = actor_at(place)?;
-        let berth = berth_of(book, actor)?;
+        let berth = berth_of(book, actor_at(place))?;
         berths.push(berth)?;
     }
     Ok(berths)
@@ -88,22 +93,22 @@ fn agree(answer: Result<Effect, BookFault>, did: Result<Effect, StepFault>) -> O
     }
 }
 
-/// The berth at this place logs an event.
+/// The berth at this place logs an event. Where there is none, it is for another actor to log it.
 #[tactic(auto, using(crate::proofs::Owners::with_one_changed))]
 fn log_at(
     book: &mut Book,
     berths: &mut Vec<Berth>,
     place: u32,
     event: Event,
-) -> Result<Result<Effect, BookFault>, Failure>
+) -> Result<Effect, BookFault>
     requires { All (IsOf book.old) berths.old.items }
     ensures { All (IsOf book.new) berths.new.items }
 {
     let place = place as usize;
     if place >= berths.len() {
-        return Err(Failure::Wrong(0));
+        return Err(BookFault::OtherActor);
     }
-    Ok(log(book, &mut berths[place], event))
+    log(book, &mut berths[place], event)
 }
 
 /// Tries events of all actors until so many are logged; each is taken in a world beside the book too.
@@ -126,9 +131,9 @@ fn run(book: &mut Book, berths: &mut Vec<Berth>, world: &mut World) -> Result<Se
         if turn % 4 == 0 {
             place = words.next_word() % ACTORS;
         }
-        let actor = actor_at(place)?;
-        let event = &event_of_turn(&mut words, world, actor, turn, seen.sent)?;
-        let answer = log_at(book, berths, place, *event)?;
+        let actor = actor_at(place);
+        let event = &event_of_turn(&mut words, world, actor, turn, seen.sent);
+        let answer = log_at(book, berths, place, *event);
         seen = seen_with(seen, &answer);
         let did = world.step(event);
         agree(answer, did)?;
@@ -136,22 +141,39 @@ fn run(book: &mut Book, berths: &mut Vec<Berth>, world: &mut World) -> Result<Se
     Ok(seen)
 }
 
-/// A run logs enough of each kind, and the book has what was seen.
+/// Whether a history has enough of each kind, and the book has what was seen.
+fn has_enough(book: &Book, seen: Seen) -> Outcome {
+    let logged = check(book.events() == EVENTS && book.entered() == seen.entered);
+    let many = check(seen.refused >= 2_000 && seen.entered >= 5);
+    logged
+        .and(many)
+        .and(check(seen.softened >= 2 && seen.switched >= 10))
+}
+
+/// A run logs enough of each kind.
 fn logs_many(book: &mut Book, berths: &mut Vec<Berth>, world: &mut World) -> Outcome
     requires { All (IsOf book.old) berths.old.items }
 {
-    let seen = run(book, berths, world)?;
-    check(book.events() == EVENTS && book.entered() == seen.entered)?;
-    check(seen.refused >= 2_000 && seen.entered >= 5)?;
-    check(seen.softened >= 2 && seen.switched >= 10)
+    match run(book, berths, world) {
+        Ok(seen) => has_enough(book, seen),
+        Err(failure) => Err(failure),
+    }
+}
+
+/// The same with the berths of all actors.
+pub(crate) fn logs_beside(alloc: Global, book: &mut Book, world: &mut World) -> Outcome
+    requires { Unit {0} }
+{
+    match berths_of(alloc, book) {
+        Ok(berths) => {
+            let mut berths = berths;
+            logs_many(book, &mut berths, world)
+        }
+        Err(failure) => Err(failure),
+    }
 }
 
 #[test]
 fn random_history_is_sound(rt: HostRuntime) -> Outcome {
-    let alloc = rt.alloc();
-    let mut book = opened(alloc, 7, three_nodes(alloc)?)?;
-    let mut berths = berths_of(alloc, &mut book)?;
-    let mut beside = three_nodes(alloc)?;
-    logs_many(&mut book, &mut berths, &mut beside)?;
-    is_recorded(alloc, &book, three_nodes(alloc)?)
+    log_beside(rt.alloc(), Start::ThreeNodes, &Journal::Sound)
 }

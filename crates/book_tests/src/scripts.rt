@@ -2,14 +2,12 @@
 
 ghost use Rattle.std.specs.Prelude.{◌≡◌};
 
-use crate::logging::{berth_of, logs, meets, opened, takes_all};
-use crate::worlds::{Who, first_ticket, node_id};
+use crate::logging::{asks, berth_of, is_given, logs, meets, rises, takes_all};
+use crate::worlds::{Who, fourth_ticket, node_id};
 use history_book::{Berth, Book, BookFault};
 use lock_messages::Message;
 use lock_model::Heard;
-use std::alloc::Global;
 use test_outcomes::{Failure, Outcome, check};
-use world_machine::World;
 use world_model::{Effect, StepFault};
 
 /// One of the three berths.
@@ -28,45 +26,31 @@ pub(crate) enum Answer {
     Switched(bool),
     /// The number of the first message, and how many there are.
     Said(u32, u32),
-    /// The client of this number hears n1's Grant of its first ticket, to read `a`.
-    HearsGrant(u32),
+    /// c4 hears n1's Grant of its first ticket, to read `a`.
+    HearsGrant,
     /// It hears that n1 is busy for that.
-    HearsBusy(u32),
+    HearsBusy,
     /// The event may not happen now, and this is why.
     NotNow(StepFault),
     /// It is for another actor to log the event.
     OtherActor,
-}
-
-/// What a client hears of n1: a Grant of its first ticket, to read `a`, or that n1 is busy for that.
-fn heard(number: u32, granted: bool) -> Result<Effect, Failure> {
-    let (from, ticket) = (node_id(1)?, first_ticket(number)?);
-    Ok(if granted {
-        Effect::Heard(Message::Grant(from, ticket), Heard::Counted)
-    } else {
-        Effect::Heard(Message::Busy(from, ticket), Heard::Busy)
-    })
-}
-
-/// The same as an answer. A row that names no client has one that no script's book gives.
-fn hears(number: u32, granted: bool) -> Result<Effect, BookFault> {
-    match heard(number, granted) {
-        Ok(effect) => Ok(effect),
-        Err(_) => Err(BookFault::OtherBook),
-    }
+    /// The history is full, or the list of messages.
+    Full,
 }
 
 impl Answer {
     fn expected(self) -> Result<Effect, BookFault> {
+        let (from, ticket) = (node_id(1), fourth_ticket());
         match self {
             Answer::Up => Ok(Effect::Up),
             Answer::Softened => Ok(Effect::Softened),
             Answer::Switched(changed) => Ok(Effect::Switched(changed)),
             Answer::Said(first, count) => Ok(Effect::Said { first, count }),
-            Answer::HearsGrant(number) => hears(number, true),
-            Answer::HearsBusy(number) => hears(number, false),
+            Answer::HearsGrant => Ok(Effect::Heard(Message::Grant(from, ticket), Heard::Counted)),
+            Answer::HearsBusy => Ok(Effect::Heard(Message::Busy(from, ticket), Heard::Busy)),
             Answer::NotNow(fault) => Err(BookFault::NotAStep(fault)),
             Answer::OtherActor => Err(BookFault::OtherActor),
+            Answer::Full => Err(BookFault::Full),
         }
     }
 }
@@ -78,8 +62,14 @@ pub(crate) enum Turn {
     Takes(Place, &'static str),
     /// The berth logs the event of the line, and this is answered.
     Logs(Place, &'static str, Answer),
+    /// The second, that of c1, rises and falls so many times.
+    Rises(u32),
+    /// It says its request to n1 so many times.
+    Asks(u32),
     /// The actor is given a berth, which is the third from now on.
     Joins(Who),
+    /// The actor is given no berth.
+    Refuses(Who),
     /// Whether the second meets the third.
     Meets(bool),
     /// Whether the third meets the second.
@@ -90,15 +80,6 @@ pub(crate) enum Turn {
     Events(u32),
     /// So many have entered.
     Entered(u32),
-}
-
-/// Logs the event of a line, and compares the answer.
-fn answers(book: &mut Book, berth: &mut Berth, line: &str, answer: Answer) -> Outcome
-    requires { berth.old.number ≡ book.old.number → berth.old.table ≡ book.old.table }
-    ensures book { (book.new.number ≡ book.old.number) × (book.new.table ≡ book.old.table) }
-    ensures berth { (berth.new.number ≡ berth.old.number) × (berth.new.table ≡ berth.old.table) }
-{
-    logs(book, berth, line, answer.expected())
 }
 
 /// Takes a turn.
@@ -120,13 +101,16 @@ fn goes(
         Turn::Takes(Place::First, lines) => takes_all(book, first, lines),
         Turn::Takes(Place::Second, lines) => takes_all(book, second, lines),
         Turn::Takes(Place::Third, lines) => takes_all(book, third, lines),
-        Turn::Logs(Place::First, line, answer) => answers(book, first, line, answer),
-        Turn::Logs(Place::Second, line, answer) => answers(book, second, line, answer),
-        Turn::Logs(Place::Third, line, answer) => answers(book, third, line, answer),
+        Turn::Logs(Place::First, line, answer) => logs(book, first, line, answer.expected()),
+        Turn::Logs(Place::Second, line, answer) => logs(book, second, line, answer.expected()),
+        Turn::Logs(Place::Third, line, answer) => logs(book, third, line, answer.expected()),
+        Turn::Rises(times) => rises(book, second, times),
+        Turn::Asks(times) => asks(book, second, times),
         Turn::Joins(who) => {
-            *third = berth_of(book, who.actor()?)?;
+            *third = berth_of(book, who.actor())?;
             Ok(())
         }
+        Turn::Refuses(who) => check(!is_given(book, who.actor())),
         Turn::Meets(met) => check(meets(book, second, third) == Ok(met)),
         Turn::IsMet(met) => check(meets(book, third, second) == Ok(met)),
         Turn::MeetsFirst(met) => check(meets(book, second, first) == Ok(met)),
@@ -169,17 +153,9 @@ pub(crate) fn play_in(book: &mut Book, crew: [Who; 3], script: &[Turn], rest: &[
     requires { Unit {0} }
 {
     let [first, second, third] = crew;
-    let mut first = berth_of(book, first.actor()?)?;
-    let mut second = berth_of(book, second.actor()?)?;
-    let mut third = berth_of(book, third.actor()?)?;
-    plays(book, &mut first, &mut second, &mut third, script)?;
-    plays(book, &mut first, &mut second, &mut third, rest)
-}
-
-/// Plays a script in a new book over this world.
-pub(crate) fn play(alloc: Global, world: World, crew: [Who; 3], script: &[Turn]) -> Outcome
-    requires { Unit {0} }
-{
-    let mut book = opened(alloc, 7, world)?;
-    play_in(&mut book, crew, script, &[])
+    let mut first = berth_of(book, first.actor())?;
+    let mut second = berth_of(book, second.actor())?;
+    let mut third = berth_of(book, third.actor())?;
+    let played = plays(book, &mut first, &mut second, &mut third, script);
+    played.and(plays(book, &mut first, &mut second, &mut third, rest))
 }

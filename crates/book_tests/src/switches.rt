@@ -1,10 +1,9 @@
 // A node that takes another problem while it runs.
 
-use crate::journals::is_recorded;
-use crate::logging::opened;
-use crate::scripts::{Answer, Place, Turn, play, play_in};
-use crate::worlds::{Who, one_node_under, three_nodes};
-use lock_model::Problem;
+use crate::courses::play;
+use crate::journals::Journal;
+use crate::scripts::{Answer, Place, Turn};
+use crate::worlds::{Start, Who};
 use std::alloc::Global;
 use test_outcomes::Outcome;
 use world_model::StepFault;
@@ -33,8 +32,14 @@ const ITSELF: [Turn; 9] = [
 
 #[test]
 fn only_a_node_itself_switches(rt: HostRuntime) -> Outcome {
-    let crew = [Who::Node(1), Who::Node(2), Who::Client(1)];
-    play(rt.alloc(), three_nodes(rt.alloc())?, crew, &ITSELF)
+    let crew = [Who::N1, Who::N2, Who::C1];
+    play(
+        rt.alloc(),
+        Start::ThreeNodes,
+        crew,
+        [&ITSELF, &[]],
+        &Journal::Any,
+    )
 }
 
 const FIRST_ASKS: &str = "rise c1 old\nbegin c1 read a\ntry c1\nkept c1\nsayto c1 n1";
@@ -54,7 +59,7 @@ const ALL_ASK: [Turn; 14] = [
     Turn::Takes(Place::First, "take n1 1\ntry n1\nkept n1\nsay n1"),
     Turn::Takes(Place::Third, SECOND_ASKS),
     Turn::Takes(Place::First, "take n1 3\ntry n1\nkept n1\nsay n1"),
-    Turn::Joins(Who::Client(3)),
+    Turn::Joins(Who::C3),
     Turn::Takes(Place::Third, THIRD_ASKS),
     Turn::Takes(Place::First, "take n1 5\ntry n1\nkept n1\nsay n1"),
     Turn::Logs(Place::First, "switch n1 1", Answer::Switched(true)),
@@ -69,27 +74,32 @@ const ALL_ASK: [Turn; 14] = [
 /// asks.
 const LOSES: [Turn; 5] = [
     Turn::Takes(Place::First, "fall n1\nrise n1 old"),
-    Turn::Joins(Who::Client(4)),
+    Turn::Joins(Who::C4),
     Turn::Takes(Place::Third, FOURTH_ASKS),
     Turn::Takes(Place::First, "take n1 8\ntry n1\nkept n1\nsay n1"),
-    Turn::Logs(Place::Third, "hear c4 9", Answer::HearsGrant(4)),
+    Turn::Logs(Place::Third, "hear c4 9", Answer::HearsGrant),
 ];
 
 /// n1 falls while it tries to keep problem 2, rises with it, and is busy for c4.
 const FINDS: [Turn; 5] = [
     Turn::Takes(Place::First, "try n1\nfall n1\nrise n1 new"),
-    Turn::Joins(Who::Client(4)),
+    Turn::Joins(Who::C4),
     Turn::Takes(Place::Third, FOURTH_ASKS),
     Turn::Takes(Place::First, "take n1 8\ntry n1\nkept n1\nsay n1"),
-    Turn::Logs(Place::Third, "hear c4 9", Answer::HearsBusy(4)),
+    Turn::Logs(Place::Third, "hear c4 9", Answer::HearsBusy),
 ];
 
 /// All ask in a book under problem 2, and then this script is played. An audit finds the journal sound.
 fn is_answered(alloc: Global, script: &[Turn]) -> Outcome {
-    let crew = [Who::Node(1), Who::Client(1), Who::Client(2)];
-    let mut book = opened(alloc, 7, one_node_under(alloc, Problem::Second)?)?;
-    play_in(&mut book, crew, &ALL_ASK, script)?;
-    is_recorded(alloc, &book, one_node_under(alloc, Problem::Second)?)
+    let crew = [Who::N1, Who::C1, Who::C2];
+    let scripts = [ALL_ASK.as_slice(), script];
+    play(
+        alloc,
+        Start::OneNodeUnderSecond,
+        crew,
+        scripts,
+        &Journal::Sound,
+    )
 }
 
 #[test]

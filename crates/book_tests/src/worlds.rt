@@ -1,5 +1,8 @@
 // Worlds in which all are down and nothing is kept, and a few values.
 
+ghost use Rattle.std.specs.Prelude.{◌≡◌};
+ghost use Rattle.lock_messages.specs.Ids.{IsNode, IsClient};
+
 use admission_policy::{Admission, FirstProblem, Pair, SecondProblem};
 use history_check::read_event;
 use lock_messages::{Actor, Attempt, ClientId, Mode, NodeId, ResourceName, Ticket};
@@ -10,50 +13,64 @@ use vote_weights::{Ballot, BallotList};
 use world_machine::World;
 use world_model::Event;
 
-pub(crate) fn node_id(number: u8) -> Result<NodeId, Failure> {
-    NodeId::of(number).ok_or(Failure::Wrong(0))
+pub(crate) fn node_id(number: u8) -> NodeId
+    requires { IsNode number }
+    ensures { result ≡ number }
+{
+    let Some(id) = NodeId::of(number) else {
+        unreachable!()
+    };
+    id
 }
 
-pub(crate) fn client_id(number: u32) -> Result<ClientId, Failure> {
-    ClientId::of(number).ok_or(Failure::Wrong(0))
+pub(crate) fn client_id(number: u32) -> ClientId
+    requires { IsClient number }
+    ensures { result ≡ number }
+{
+    let Some(id) = ClientId::of(number) else {
+        unreachable!()
+    };
+    id
 }
 
-pub(crate) fn node(number: u8) -> Result<Actor, Failure> {
-    Ok(Actor::Node(node_id(number)?))
-}
-
-pub(crate) fn client(number: u32) -> Result<Actor, Failure> {
-    Ok(Actor::Client(client_id(number)?))
-}
-
-/// An actor, by its number.
+/// An actor of a table's row: a node of three, or a client of four. The last two are strangers to each world.
 #[derive(Clone, Copy)]
 pub(crate) enum Who {
-    Node(u8),
-    Client(u32),
+    N1,
+    N2,
+    N3,
+    C1,
+    C2,
+    C3,
+    C4,
+    FourthNode,
+    FifthClient,
 }
 
 impl Who {
-    pub(crate) fn actor(self) -> Result<Actor, Failure> {
+    pub(crate) fn actor(self) -> Actor {
         match self {
-            Who::Node(number) => node(number),
-            Who::Client(number) => client(number),
+            Who::N1 => Actor::Node(node_id(1)),
+            Who::N2 => Actor::Node(node_id(2)),
+            Who::N3 => Actor::Node(node_id(3)),
+            Who::C1 => Actor::Client(client_id(1)),
+            Who::C2 => Actor::Client(client_id(2)),
+            Who::C3 => Actor::Client(client_id(3)),
+            Who::C4 => Actor::Client(client_id(4)),
+            Who::FourthNode => Actor::Node(node_id(4)),
+            Who::FifthClient => Actor::Client(client_id(5)),
         }
     }
 }
 
-pub(crate) fn attempt(number: u64) -> Result<Attempt, Failure> {
-    Attempt::of(number).ok_or(Failure::Wrong(0))
-}
-
-/// The first ticket of a client, to read `a`.
-pub(crate) fn first_ticket(number: u32) -> Result<Ticket, Failure> {
-    Ok(Ticket {
-        client: client_id(number)?,
-        attempt: attempt(1)?,
+/// The first ticket of c4, to read `a`.
+pub(crate) fn fourth_ticket() -> Ticket {
+    Ticket {
+        client: client_id(4),
+        attempt: Attempt::of(1).unwrap(),
         mode: Mode::Read,
-        resource: ResourceName::of(b"a").ok_or(Failure::Wrong(0))?,
-    })
+        resource: ResourceName::of(b"a").unwrap(),
+    }
 }
 
 /// The event of a line.
@@ -71,13 +88,20 @@ fn pair(alloc: Global) -> Result<Pair, Failure> {
     Ok(Pair::of(first, second))
 }
 
-/// One such pair for each of so many nodes.
-fn pairs_of(alloc: Global, count: u8) -> Result<Vec<Pair>, Failure> {
+/// Adds such a pair, unless memory is refused.
+fn put_pair(alloc: Global, pairs: &mut Vec<Pair>) {
+    if let Ok(pair) = pair(alloc) {
+        let _refused = pairs.push(pair).is_err();
+    }
+}
+
+/// One such pair for each of so many nodes, or fewer where memory is refused.
+fn pairs_of(alloc: Global, count: u8) -> Vec<Pair> {
     let mut pairs = Vec::new(alloc);
     for _ in 0..count {
-        pairs.push(pair(alloc)?)?;
+        put_pair(alloc, &mut pairs);
     }
-    Ok(pairs)
+    pairs
 }
 
 /// The list of this one ballot.
@@ -85,32 +109,55 @@ fn ballots_of(votes: &[u8], read: u16, write: u16) -> Result<BallotList, Failure
     let Ok(ballot) = Ballot::of(votes, read, write) else {
         return Err(Failure::Wrong(0));
     };
-    BallotList::of(&[ballot]).map_err(|_| Failure::Wrong(0))
+    match BallotList::of(&[ballot]) {
+        Ok(ballots) => Ok(ballots),
+        Err(_) => Err(Failure::Wrong(0)),
+    }
 }
 
 /// A world of these ballots, under this problem, and of four clients.
 fn world_of(alloc: Global, ballots: BallotList, problem: Problem) -> Result<World, Failure> {
-    let pairs = pairs_of(alloc, ballots.nodes())?;
+    let pairs = pairs_of(alloc, ballots.nodes());
     if pairs.len() != ballots.nodes() as usize {
-        return Err(Failure::Wrong(0));
+        return Err(Failure::Memory);
     }
     match World::start(alloc, ballots, 4, problem, pairs) {
         Ok(world) => Ok(world),
-        Err(_) => Err(Failure::Memory),
+        Err((_fault, _pairs)) => Err(Failure::Memory),
     }
 }
 
-/// Three nodes with a vote each, of which two read and two write, under problem 1.
-pub(crate) fn three_nodes(alloc: Global) -> Result<World, Failure> {
-    world_of(alloc, ballots_of(&[1, 1, 1], 2, 2)?, Problem::First)
+/// How a world starts.
+#[derive(Clone, Copy)]
+pub(crate) enum Start {
+    /// Three nodes with a vote each, of which two read and two write, under problem 1.
+    ThreeNodes,
+    /// One node, whose vote is enough, under problem 1.
+    OneNode,
+    /// The same under problem 2.
+    OneNodeUnderSecond,
 }
 
-/// One node, whose vote is enough, under this problem.
-pub(crate) fn one_node_under(alloc: Global, problem: Problem) -> Result<World, Failure> {
-    world_of(alloc, ballots_of(&[1], 1, 1)?, problem)
-}
+impl Start {
+    fn ballots(self) -> Result<BallotList, Failure> {
+        match self {
+            Start::ThreeNodes => ballots_of(&[1, 1, 1], 2, 2),
+            Start::OneNode | Start::OneNodeUnderSecond => ballots_of(&[1], 1, 1),
+        }
+    }
 
-/// One node, whose vote is enough, under problem 1.
-pub(crate) fn one_node(alloc: Global) -> Result<World, Failure> {
-    one_node_under(alloc, Problem::First)
+    fn problem(self) -> Problem {
+        match self {
+            Start::ThreeNodes | Start::OneNode => Problem::First,
+            Start::OneNodeUnderSecond => Problem::Second,
+        }
+    }
+
+    /// The world that starts so.
+    pub(crate) fn world(self, alloc: Global) -> Result<World, Failure> {
+        match self.ballots() {
+            Ok(ballots) => world_of(alloc, ballots, self.problem()),
+            Err(failure) => Err(failure),
+        }
+    }
 }

@@ -1,7 +1,9 @@
 // Writers that are interrupted and that fail, under journals that are gathered once and more often.
 
-use crate::logging::{berth_of, opened, rises};
-use crate::worlds::{client, three_nodes};
+use crate::courses::play;
+use crate::journals::Journal;
+use crate::scripts::Turn;
+use crate::worlds::{Start, Who};
 use history_book::{Book, JournalFault};
 use std::alloc::Global;
 use std::io;
@@ -53,27 +55,26 @@ fn fits(alloc: Global, book: &Book, bytes: usize, room: usize) -> Outcome {
 }
 
 /// Whether that is so of each of these rooms.
-fn all_fit(alloc: Global, book: &Book, bytes: usize, rooms: &[usize]) -> Outcome {
+pub(crate) fn all_fit(alloc: Global, book: &Book, bytes: usize, rooms: &[usize]) -> Outcome {
     for room in rooms {
         fits(alloc, book, bytes, *room)?;
     }
     Ok(())
 }
 
-fn fits_or_not(alloc: Global, times: u32, bytes: usize, rooms: &[usize]) -> Outcome {
-    let mut book = opened(alloc, 7, three_nodes(alloc)?)?;
-    let mut berth = berth_of(&mut book, client(1)?)?;
-    rises(&mut book, &mut berth, times)?;
-    all_fit(alloc, &book, bytes, rooms)
+fn fits_or_not(alloc: Global, script: &[Turn], bytes: usize, rooms: &[usize]) -> Outcome {
+    let crew = [Who::N1, Who::C1, Who::C2];
+    let journal = Journal::Fits(bytes, rooms);
+    play(alloc, Start::ThreeNodes, crew, [script, &[]], &journal)
 }
 
 #[test]
 fn short_journal(rt: HostRuntime) -> Outcome {
-    fits_or_not(rt.alloc(), 2, 40, &[0, 1, 39, 40])
+    fits_or_not(rt.alloc(), &[Turn::Rises(2)], 40, &[0, 1, 39, 40])
 }
 
 #[test]
 fn journal_of_two_parts(rt: HostRuntime) -> Outcome {
     let rooms = [0, 1, 32_767, 32_768, 32_769, 39_999, 40_000];
-    fits_or_not(rt.alloc(), 2_000, 40_000, &rooms)
+    fits_or_not(rt.alloc(), &[Turn::Rises(2_000)], 40_000, &rooms)
 }

@@ -5,10 +5,10 @@ ghost use Rattle.lock_messages.specs.Ids.{IsNode, IsClient};
 use event_recorders::RunFault;
 use explanations::RunWords;
 use history_check::{Wish, read_wish};
-use lock_messages::{Actor, ClientId, NodeId};
+use lock_messages::Actor;
 use std::alloc::Global;
 use std::io::Write;
-use test_outcomes::{Failure, Outcome, check_row};
+use test_outcomes::{Failure, Outcome, check_row, client_id, node_id};
 
 /// What four clients wish.
 const WISHES: [&str; 7] = [
@@ -66,19 +66,13 @@ wish 7 is left: c1 write a
 fn client(number: u32) -> Actor
     requires { IsClient number }
 {
-    let Some(id) = ClientId::of(number) else {
-        unreachable!()
-    };
-    Actor::Client(id)
+    Actor::Client(client_id(number))
 }
 
 fn node(number: u8) -> Actor
     requires { IsNode number }
 {
-    let Some(id) = NodeId::of(number) else {
-        unreachable!()
-    };
-    Actor::Node(id)
+    Actor::Node(node_id(number))
 }
 
 #[test]

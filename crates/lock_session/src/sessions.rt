@@ -49,9 +49,13 @@ pub struct Session<S: OwnRecord, R: Recorder, L: Link> {
 /// What comes back where a client did not rise: by which fault, and what was handed in, with nothing logged.
 #[derive(Drop)]
 pub struct NotRisen<S: OwnRecord, R: Recorder, L: Link> {
+    /// Why the client did not rise: 911, 914 or 915.
     pub fault: RunFault,
+    /// Its record, as far as the fault left it: what it finds is not told.
     pub stable: S,
+    /// Its recorder, which has logged nothing.
     pub recorder: R,
+    /// Its link, over which nothing was sent.
     pub link: L,
 }
 

@@ -15,7 +15,7 @@ use crate::records::record_on;
 use crate::runs::{Answer, Beside, Run};
 use crate::scripts::{Others, Scripted};
 use crate::watches::{Watch, Watched};
-use crate::worlds::{ballots, client_id, node_id, opened, world};
+use crate::worlds::{ballots, opened, world};
 use book_recorders::{BookName, BookRecorder, ListRecorder, Logs, Named};
 use client_loop::run_client;
 use event_recorders::Recorder;
@@ -27,7 +27,7 @@ use stable_record::client_bytes;
 use std::alloc::Global;
 use std::marker::Brand;
 use std::sync::{Arc, Mutex, Wait};
-use test_outcomes::Failure;
+use test_outcomes::{Failure, client_id, node_id};
 use vote_weights::BallotList;
 
 /// Runs c1, which has made this attempt last, over this link.

@@ -5,12 +5,11 @@ use crate::journals::{Match, told};
 use crate::posts::add_sendings;
 use crate::runs::Answer;
 use crate::watches::Seen;
-use crate::worlds::node_id;
 use event_recorders::RunFault;
 use lock_messages::{Actor, NodeId};
 use lossy_link::{Post, Sending};
 use std::alloc::Global;
-use test_outcomes::{Failure, Outcome, check_row};
+use test_outcomes::{Failure, Outcome, check_row, node_id};
 
 /// What a run has to leave. Of a run for which memory was refused (914) less is checked.
 #[derive(Clone, Copy)]

@@ -10,7 +10,7 @@ use crate::records::record_on;
 use crate::runs::{Answer, Beside, Run};
 use crate::scripts::{Others, Scripted};
 use crate::watches::{Watch, Watched};
-use crate::worlds::{ballots, client_id, node_id, opened, pair, world};
+use crate::worlds::{ballots, opened, pair, world};
 use book_recorders::{BookName, BookRecorder, Logs, Named};
 use event_recorders::Recorder;
 use history_book::{Berth, Book};
@@ -22,7 +22,7 @@ use stable_record::{Entries, NodeRecord, node_bytes};
 use std::alloc::Global;
 use std::marker::Brand;
 use std::sync::{Arc, Mutex, Wait};
-use test_outcomes::Failure;
+use test_outcomes::{Failure, client_id, node_id};
 
 /// The record of a node for this problem that has kept nothing yet.
 fn nothing_kept(alloc: Global, problem: Problem) -> Result<Vec<u8>, Failure>

@@ -8,13 +8,13 @@ ghost use Rattle.book_recorders.specs.Sharing.{log_of};
 ghost use Rattle.loop_tests.specs.Clients.{HasKept, IsClientOf};
 
 use crate::faults::of_book;
-use crate::worlds::{client_id, pairs};
+use crate::worlds::pairs;
 use book_recorders::open_alone;
 use history_book::{Berth, Book};
 use lock_messages::Actor;
 use stable_record::client_bytes;
 use std::alloc::Global;
-use test_outcomes::Failure;
+use test_outcomes::{Failure, client_id};
 use vote_weights::BallotList;
 use world_machine::{OpeningFault, World};
 

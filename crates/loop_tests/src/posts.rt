@@ -1,11 +1,11 @@
 // Posts and sendings, as rows of tests spell them.
 
-use crate::worlds::{attempt, client_id, node_id, resource};
+use crate::worlds::{attempt, resource};
 use bytes::Bytes;
 use lock_messages::{Actor, ClientId, Message, Mode, NodeId, Ticket, encode};
 use lossy_link::{Parcel, Post, Sending};
 use std::alloc::Global;
-use test_outcomes::{Failure, Outcome};
+use test_outcomes::{Failure, Outcome, client_id, node_id};
 
 /// About which ticket for `a` a text is, by its end: the number of the client and of its attempt, and the mode.
 /// So `grant` is about c1's ticket to read, and `grant write` about c1's to write.

@@ -6,14 +6,13 @@ use crate::node_runs::end_of_node;
 use crate::posts::post_all;
 use crate::records::Device;
 use crate::watches::{ENOUGH, Room, Watch};
-use crate::worlds::{client_id, node_id};
 use event_recorders::RunFault;
 use lock_messages::Actor;
 use lock_model::Problem;
 use lossy_link::ListLink;
 use std::alloc::Global;
 use std::sync::{Arc, Wait};
-use test_outcomes::{Failure, Outcome};
+use test_outcomes::{Failure, Outcome, client_id, node_id};
 
 /// What a client's loop answers. A node's answer is told as that of a client that entered nothing.
 pub(crate) type Answer = Result<u32, (u32, RunFault)>;

@@ -1,38 +1,17 @@
 // Worlds in which all are down and nothing is kept, books over them, and a few values.
 
 ghost use Rattle.std.specs.Prelude.{◌≡◌, ◌∷◌, [], length, IfOk};
-ghost use Rattle.lock_messages.specs.Ids.{IsNode, IsClient};
 ghost use Rattle.loop_tests.specs.Fresh.{IsNew, IsNewBook, IsUnlogged, two_nodes};
 
 use crate::faults::of_book;
 use admission_policy::{Admission, FirstProblem, Pair, SecondProblem};
 use history_book::{Berth, Book};
-use lock_messages::{Actor, Attempt, ClientId, NodeId, ResourceName};
+use lock_messages::{Actor, Attempt, ResourceName};
 use lock_model::Problem;
 use std::alloc::Global;
-use test_outcomes::Failure;
+use test_outcomes::{Failure, client_id, node_id};
 use vote_weights::{Ballot, BallotList};
 use world_machine::World;
-
-pub(crate) fn node_id(number: u8) -> NodeId
-    requires { IsNode number }
-    ensures { result ≡ number }
-{
-    let Some(id) = NodeId::of(number) else {
-        unreachable!()
-    };
-    id
-}
-
-pub(crate) fn client_id(number: u32) -> ClientId
-    requires { IsClient number }
-    ensures { result ≡ number }
-{
-    let Some(id) = ClientId::of(number) else {
-        unreachable!()
-    };
-    id
-}
 
 pub(crate) fn attempt(number: u64) -> Result<Attempt, Failure> {
     Attempt::of(number).ok_or(Failure::Wrong(0))

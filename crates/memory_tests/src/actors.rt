@@ -1,11 +1,12 @@
 // A node of the world by itself: 613. After a refusal the same call does what it would have done.
 
-use crate::failures::{Failure, Kind, Outcome, check, message, node, refused};
+use crate::failures::{Failure, Kind, Outcome, check, message, refused};
 use crate::policies::told_once;
 use lock_messages::{Message, Mode};
 use lock_model::Problem;
 use stable_record::read_node;
 use std::alloc::Global;
+use test_outcomes::node_id;
 use world_actors::WorldNode;
 use world_model::{Age, StepFault};
 
@@ -18,7 +19,7 @@ const ONE: [u8; 28] = [
 
 /// n1 with that record, down.
 fn opened(alloc: Global) -> Result<WorldNode, Failure> {
-    let id = node(1)?;
+    let id = node_id(1);
     let record = read_node(alloc, &ONE)?;
     Ok(WorldNode::opened(alloc, id, record, told_once(alloc)?))
 }

@@ -12,6 +12,7 @@ use history_check::read_event;
 use lock_messages::Actor;
 use lock_model::Problem;
 use std::alloc::Global;
+use test_outcomes::{client_id, node_id};
 use vote_weights::{Ballot, BallotList};
 use world_machine::World;
 use world_model::Event;
@@ -135,7 +136,7 @@ fn logs_both(book: &mut Book, berth: &mut Berth, first: &str, second: &str) -> O
 fn reads(book: &mut Book, one: &mut Berth) -> Outcome
     requires { one.old.table ≡ book.old.table }
 {
-    let (first, second) = (Actor::Node(node(1)?), Actor::Node(node(2)?));
+    let (first, second) = (Actor::Node(node_id(1)), Actor::Node(node_id(2)));
     logs_all(book, one, ASKS)?;
     logs_of(book, first, GRANTS, "")?;
     logs_all(book, one, ASKS_ANOTHER)?;
@@ -146,7 +147,7 @@ fn reads(book: &mut Book, one: &mut Berth) -> Outcome
 fn first_reader(book: &mut Book) -> Outcome
     requires { Unit {0} }
 {
-    let mut one = berth_of(book, Actor::Client(client(1)?))?;
+    let mut one = berth_of(book, Actor::Client(client_id(1)))?;
     reads(book, &mut one)
 }
 
@@ -174,7 +175,7 @@ fn gives_berth(book: &mut Book, actor: Actor) -> Outcome
 fn gives_berths(book: &mut Book) -> Outcome
     requires { Unit {0} }
 {
-    let last = Actor::Node(node(3)?);
+    let last = Actor::Node(node_id(3));
     for number in 1..=4 {
         gives_berth(book, Actor::Client(client(number)?))?;
     }
@@ -200,7 +201,7 @@ const SWITCHES: &str = "switch n1 2\ntry n1\nkept n1\nsay n1\nswitch n1 2\nsay n
 fn has_logged_a_switch(book: &mut Book) -> Outcome
     requires { Unit {0} }
 {
-    let (one, first) = (Actor::Client(client(1)?), Actor::Node(node(1)?));
+    let (one, first) = (Actor::Client(client_id(1)), Actor::Node(node_id(1)));
     logs_of(book, one, ASKS, "")?;
     logs_of(book, first, GRANTS, SWITCHES)?;
     check(book.events() == 16)

@@ -6,6 +6,7 @@ use operator_cli::ServeFault;
 use slot_record::SlotFault;
 use stable_record::RecordFault;
 use std::alloc::{AllocError, AllocFailed};
+use test_outcomes::node_id;
 use voter_core::VoterFault;
 use world_model::StepFault;
 
@@ -136,7 +137,7 @@ pub(crate) enum Kind {
 
 /// The message of this kind between n1 and a client, by the client's first ticket.
 pub(crate) fn message(kind: Kind, number: u32, mode: Mode) -> Result<Message, Failure> {
-    let (node, ticket) = (node(1)?, ticket(number, mode)?);
+    let (node, ticket) = (node_id(1), ticket(number, mode)?);
     let (client, attempt) = (ticket.client, ticket.attempt);
     Ok(match kind {
         Kind::Request => Message::Request(node, ticket),

@@ -1,9 +1,10 @@
 // Lines of scripts and journals: want of memory where one is written. To read one takes none.
 
-use crate::failures::{Failure, Outcome, check, node};
+use crate::failures::{Failure, Outcome, check};
 use history_check::{Command, read_event, read_line, write_line};
 use lock_model::Problem;
 use std::alloc::Global;
+use test_outcomes::node_id;
 use world_model::Event;
 
 const COMMANDS: [Command; 16] = [
@@ -71,6 +72,6 @@ fn lines_are_written(rt: HostRuntime) -> Outcome {
 
 #[test]
 fn read_a_switch(_rt: HostRuntime) -> Outcome {
-    let switch = Event::Switch(node(16)?, Problem::Second);
+    let switch = Event::Switch(node_id(16), Problem::Second);
     check(read_event(b"switch n16 2") == Ok(switch))
 }

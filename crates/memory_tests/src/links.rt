@@ -1,12 +1,13 @@
 // Links: 903. After a refusal a link over a list is as it was; of one over channels a part may have
 // gone.
 
-use crate::failures::{Failure, Outcome, check, client, node, refused};
+use crate::failures::{Failure, Outcome, check, refused};
 use bytes::Bytes;
 use lock_messages::{Actor, NodeId};
 use lossy_link::{ChannelLink, Link, LinkFault, ListLink, Parcel, Post, Weather};
 use std::alloc::Global;
 use std::sync::Wait;
+use test_outcomes::{client_id, node_id};
 
 fn parcel(number: u32) -> Parcel {
     Parcel {
@@ -28,7 +29,7 @@ fn took(link: &ListLink, given: Result<(), LinkFault>, before: usize) -> Outcome
 }
 
 fn sends_five(link: &mut ListLink) -> Outcome {
-    let to = Actor::Node(node(1)?);
+    let to = Actor::Node(node_id(1));
     for before in 0..5usize {
         let given = link.send(to, parcel(1));
         took(link, given, before)?;
@@ -43,7 +44,7 @@ fn send_over_a_list(rt: HostRuntime) -> Outcome {
 
 #[test]
 fn tell_all_over_a_list(rt: HostRuntime) -> Outcome {
-    let post = Post::Nudge(node(1)?);
+    let post = Post::Nudge(node_id(1));
     let mut link = ListLink::of(Vec::new(rt.alloc()));
     let given = link.tell_all(post);
     took(&link, given, 0)
@@ -73,7 +74,7 @@ enum Given {
 }
 
 fn gives<L: Link>(of_node: &mut L, given: Given) -> Outcome {
-    let (to, one) = (Actor::Client(client(2)?), node(1)?);
+    let (to, one) = (Actor::Client(client_id(2)), node_id(1));
     let came = match given {
         Given::Parcel => of_node.send(to, parcel(7)),
         Given::Gone => of_node.tell_all(Post::Gone(one)),
@@ -104,14 +105,14 @@ fn send_over_channels(rt: HostRuntime) -> Outcome {
 /// A late parcel is held, and its client is nudged.
 #[test]
 fn send_late_over_channels(rt: HostRuntime) -> Outcome {
-    let nudge = Post::Nudge(node(1)?);
+    let nudge = Post::Nudge(node_id(1));
     let mut links = links(rt, rt.alloc(), 1_000)?;
     passes(&mut links, Given::Parcel, &nudge)
 }
 
 #[test]
 fn tell_all_over_channels(rt: HostRuntime) -> Outcome {
-    let gone = Post::Gone(node(1)?);
+    let gone = Post::Gone(node_id(1));
     let mut links = links(rt, rt.alloc(), 0)?;
     passes(&mut links, Given::Gone, &gone)
 }
@@ -167,7 +168,7 @@ fn passes_all<L: Link + Drop>(links: &mut Vec<L>, node: NodeId) -> Outcome {
 /// Behind an inbox that has no memory for a post the next client is told.
 #[test]
 fn tell_all_behind_a_refusal(rt: HostRuntime) -> Outcome {
-    let one = node(1)?;
+    let one = node_id(1);
     let mut links = links(rt, rt.alloc(), 0)?;
     links.reverse();
     passes_all(&mut links, one)

@@ -8,6 +8,7 @@ use stable_record::{
     ResourceIndex, StableRecord, node_bytes, read_node,
 };
 use std::alloc::{AllocError, Global};
+use test_outcomes::client_id;
 
 /// The record of problem 2 in which c1 holds `a` as a reader, c2 waits for it as a writer.
 const TWO: [u8; 52] = [
@@ -95,7 +96,7 @@ fn keep_a_record_with_its_index(rt: HostRuntime) -> Outcome {
 
 /// Announces c3 for a resource for which so many wait; where memory is refused nothing has changed.
 fn announces_in(index: &mut ResourceIndex, alloc: Global, name: &[u8], before: usize) -> Outcome {
-    let (name, client) = (ResourceName::of(name).ok_or(Failure::Wrong)?, client(3)?);
+    let (name, client) = (ResourceName::of(name).ok_or(Failure::Wrong)?, client_id(3));
     match index.announce(alloc, client, &name) {
         Ok(()) => check(index.waiting_count(&name) > before),
         Err(_) => refused(index.waiting_count(&name) == before && indexes_two(index)),

@@ -2,13 +2,14 @@
 //
 // A test is a script of steps, behind which the policies are seen when the node has fallen.
 
-use crate::failures::{Failure, Kind, Outcome, check, message, node, refused, ticket};
+use crate::failures::{Failure, Kind, Outcome, check, message, refused, ticket};
 use crate::policies::{have_let_in, told_once};
 use admission_policy::Pair;
 use lock_messages::{Message, Mode, ResourceName, Ticket};
 use lock_model::Problem;
 use stable_record::RecordFault;
 use std::alloc::Global;
+use test_outcomes::node_id;
 use voter_core::{NodeCore, Phase, VoterFault};
 
 const NONE: [u8; 4] = [1, 1, 0, 0];
@@ -63,7 +64,7 @@ const FIRST: [u8; 76] = [
 
 /// n1 with this record; where memory is refused the policies come back as they were.
 fn risen(alloc: Global, bytes: &[u8]) -> Result<NodeCore, Failure> {
-    let id = node(1)?;
+    let id = node_id(1);
     match NodeCore::rise(alloc, id, bytes, told_once(alloc)?) {
         Ok(core) => Ok(core),
         Err((policies, fault)) => refused(is_memory(fault) && are_as_made(&policies)),
@@ -156,7 +157,7 @@ fn long_request() -> Result<Message, Failure> {
     let name = b"abcdefghijklmnopqrstuvwxyz-01234";
     let resource = ResourceName::of(name).ok_or(Failure::Wrong)?;
     let ticket = ticket(2, Mode::Write)?;
-    Ok(Message::Request(node(1)?, Ticket { resource, ..ticket }))
+    Ok(Message::Request(node_id(1), Ticket { resource, ..ticket }))
 }
 
 /// Takes another problem or the same; where memory is refused the node rests with the record that it had.

@@ -4,7 +4,7 @@
 // A test is a script of steps, which are events and what is asked.
 
 use crate::failures::{
-    Failure, Kind, Outcome, check, client, first_attempt, message, node, refused, resource, ticket,
+    Failure, Kind, Outcome, check, first_attempt, message, refused, resource, ticket,
 };
 use crate::policies::{for_nodes, have_let_in};
 use admission_policy::Pair;
@@ -12,6 +12,7 @@ use history_check::read_event;
 use lock_messages::{Actor, Mode, Ticket};
 use lock_model::Problem;
 use std::alloc::Global;
+use test_outcomes::{client_id, node_id};
 use vote_weights::{Ballot, BallotList};
 use world_machine::{OpeningFault, World};
 use world_model::{Effect, Event, StepFault};
@@ -171,7 +172,7 @@ fn does(world: &mut World, line: &str, did: Did) -> Outcome {
 
 /// n1 takes problem 1 for problem 2; where memory is refused it has nothing to say, and takes it after that.
 fn switches(world: &mut World) -> Outcome {
-    let node = node(1)?;
+    let node = node_id(1);
     let switch = Event::Switch(node, Problem::First);
     let wanted = Ok(Effect::Switched(true));
     match takes(world, &switch, &wanted) {
@@ -237,7 +238,7 @@ fn has_kept(world: &World, who: Actor, bytes: &[u8]) -> Outcome {
 }
 
 fn plays_step(world: &mut World, step: &Step) -> Outcome {
-    let (at, resource) = (node(1)?, resource()?);
+    let (at, resource) = (node_id(1), resource()?);
     match *step {
         Step::Does(line, did) => does(world, line, did),
         Step::Switches => switches(world),
@@ -251,7 +252,7 @@ fn plays_step(world: &mut World, step: &Step) -> Outcome {
         Step::Holding(number, mode) => is_alone(world.holding(at, &resource), number, mode),
         Step::Waiting(number, mode) => is_alone(world.waiting(at, &resource), number, mode),
         Step::NodeHasKept(bytes) => has_kept(world, Actor::Node(at), bytes),
-        Step::ClientHasKept(bytes) => has_kept(world, Actor::Client(client(2)?), bytes),
+        Step::ClientHasKept(bytes) => has_kept(world, Actor::Client(client_id(2)), bytes),
     }
 }
 

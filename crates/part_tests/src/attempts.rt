@@ -1,7 +1,8 @@
 //! A client's attempts: scripts of calls, each with its answer, and what every message is in every
 //! phase.
 
-use crate::rows::{all, message, mode, node};
+use crate::rows::{all, both, message, mode, node};
+use crate::tables::{Table, each};
 use client_core::{ClientCore, Phase};
 use lock_messages::{ClientId, MAX_ATTEMPT, ResourceName};
 use std::alloc::Global;
@@ -10,7 +11,7 @@ use test_outcomes::{Outcome, check_answer, check_answers};
 use vote_weights::{Ballot, BallotList};
 
 /// Adds what there is, or `nothing`.
-fn tell<T: fmt::Display + Drop>(shown: &mut String, found: Option<T>) -> Option<()> {
+fn tell<T: fmt::Display>(shown: &mut String, found: &Option<T>) -> Option<()> {
     match found {
         Some(found) => write!(shown, "{found}").ok(),
         None => shown.push_str("nothing").ok(),
@@ -21,9 +22,13 @@ fn tell<T: fmt::Display + Drop>(shown: &mut String, found: Option<T>) -> Option<
 /// number or that of the fault.
 fn begins(shown: &mut String, core: &mut ClientCore, wish: &str) -> Option<()> {
     let mut words = wish.split(' ');
-    let (mode, name) = (mode(words.next()?)?, words.next()?);
-    let place = words.next().unwrap_or("1").parse().ok()?;
-    match core.begin(ResourceName::of(name.as_bytes())?, mode, place) {
+    let mode = mode(words.next().unwrap_or(""));
+    let resource = ResourceName::of(words.next().unwrap_or("").as_bytes());
+    let place = words.next().unwrap_or("1").parse().unwrap_or(0);
+    let (Some(mode), Some(resource)) = (mode, resource) else {
+        return None;
+    };
+    match core.begin(resource, mode, place) {
         Ok(attempt) => write!(shown, "{attempt}").ok(),
         Err(fault) => write!(shown, "{}", fault.number()).ok(),
     }
@@ -60,17 +65,34 @@ fn leaves(core: &mut ClientCore) -> bool {
     }
 }
 
+/// Hears a message, and adds what it is.
+fn hears(shown: &mut String, core: &mut ClientCore, row: &str) -> Option<()> {
+    match message(row) {
+        Some(message) => write!(shown, "{:?}", core.hear(&message)).ok(),
+        None => None,
+    }
+}
+
+/// Skips a node, or adds what the client says to it.
+fn meets(shown: &mut String, core: &mut ClientCore, skips: bool, word: &str) -> Option<()> {
+    match node(word) {
+        Some(node) if skips => {
+            core.skip(node);
+            Some(())
+        }
+        Some(node) => tell(shown, &core.message_for(node)),
+        None => None,
+    }
+}
+
 /// Makes a call that changes the client, and adds its answer.
 fn changes(shown: &mut String, core: &mut ClientCore, call: &str) -> Option<()> {
     let (verb, rest) = call.split_once(' ').unwrap_or((call, ""));
     match verb {
         "begin" => begins(shown, core, rest),
-        "hear" => write!(shown, "{:?}", core.hear(&message(rest)?)).ok(),
-        "skip" => {
-            core.skip(node(rest)?);
-            Some(())
-        }
-        "say" => tell(shown, core.message_for(node(rest)?)),
+        "hear" => hears(shown, core, rest),
+        "skip" => meets(shown, core, true, rest),
+        "say" => meets(shown, core, false, rest),
         _ => write!(shown, "{}", moves(core, call)).ok(),
     }
 }
@@ -80,8 +102,8 @@ fn answers(shown: &mut String, core: &mut ClientCore, call: &str) -> Option<()> 
     match call {
         "phase" => write!(shown, "{:?}", core.phase()).ok(),
         "attempt" => write!(shown, "{}", core.attempt()).ok(),
-        "ticket" => tell(shown, core.ticket()),
-        "next" => tell(shown, core.next_ask()),
+        "ticket" => tell(shown, &core.ticket()),
+        "next" => tell(shown, &core.next_ask()),
         "may" => write!(shown, "{}", core.may_enter()).ok(),
         "may_soften" => write!(shown, "{}", core.may_soften()).ok(),
         _ => changes(shown, core, call),
@@ -91,12 +113,15 @@ fn answers(shown: &mut String, core: &mut ClientCore, call: &str) -> Option<()> 
 /// Whether a call has this answer.
 fn has_answer(alloc: Global, core: &mut ClientCore, call: &str, want: &str) -> Option<bool> {
     let mut shown = String::new(alloc);
-    answers(&mut shown, core, call).and(Some(shown.as_str() == want))
+    match answers(&mut shown, core, call) {
+        Some(()) => Some(shown.as_str() == want),
+        None => None,
+    }
 }
 
 /// Whether the call of a row has the row's answer.
 fn goes(alloc: Global, core: &mut ClientCore, row: &str) -> Option<bool> {
-    let (call, want) = row.split_once(" > ")?;
+    let (call, want) = row.split_once(" > ").unwrap_or((row, ""));
     has_answer(alloc, core, call, want)
 }
 
@@ -121,34 +146,48 @@ fn ballot(votes: &Votes) -> Option<Ballot> {
 
 /// The ballots of these votes, of which there are one or two.
 fn ballots(votes: &[Votes]) -> Option<BallotList> {
-    match votes {
-        [one] => BallotList::of(&[ballot(one)?]).ok(),
-        [one, other] => BallotList::of(&[ballot(one)?, ballot(other)?]).ok(),
-        _ => None,
+    let (first, other) = match votes {
+        [one] => (ballot(one), None),
+        [one, other] => (ballot(one), ballot(other)),
+        _ => (None, None),
+    };
+    match (first, other) {
+        (Some(one), Some(other)) => BallotList::of(&[one, other]).ok(),
+        (Some(one), None) => BallotList::of(&[one]).ok(),
+        (None, _) => None,
     }
 }
 
 /// Client 1 after this attempt, under these ballots.
 pub(crate) fn risen(attempt: u64, votes: &[Votes]) -> Option<ClientCore> {
-    let ballots = ballots(votes)?;
-    if attempt > MAX_ATTEMPT {
-        return None;
+    match ballots(votes) {
+        Some(ballots) if attempt <= MAX_ATTEMPT => {
+            Some(ClientCore::rise(ClientId::of(1).unwrap(), attempt, ballots))
+        }
+        _ => None,
     }
-    Some(ClientCore::rise(ClientId::of(1).unwrap(), attempt, ballots))
 }
 
 /// A script, the attempt after which client 1 rises, and its ballots.
 type Script = (u64, &'static [Votes], &'static str);
 
-/// Plays a script.
-fn plays(alloc: Global, script: &Script) -> Outcome {
-    let Some(mut core) = risen(script.0, script.1) else {
-        return check_answer(None, 0);
-    };
-    for (row, text) in script.2.lines().enumerate() {
-        check_answer(goes(alloc, &mut core, text), row)?;
+/// Makes the call of each row.
+fn plays_on(alloc: Global, core: &mut ClientCore, rows: &str) -> Outcome {
+    for (row, text) in rows.lines().enumerate() {
+        check_answer(goes(alloc, core, text), row)?;
     }
     Ok(())
+}
+
+/// Plays a script.
+fn plays(alloc: Global, script: &Script) -> Outcome {
+    match risen(script.0, script.1) {
+        Some(core) => {
+            let mut core = core;
+            plays_on(alloc, &mut core, script.2)
+        }
+        None => check_answer(None, 0),
+    }
 }
 
 fn plays_all(alloc: Global, scripts: &[Script]) -> Outcome {
@@ -405,93 +444,93 @@ enter > true
 soften > true";
 
 /// Takes client 1 so many rows to the inside.
-fn goes_inside(alloc: Global, core: &mut ClientCore, rows: usize) -> Option<()> {
-    for row in TO_THE_INSIDE.lines().take(rows) {
-        goes(alloc, core, row)?;
+fn goes_inside(alloc: Global, core: &mut ClientCore, rows: usize) -> Option<bool> {
+    let mut right = Some(true);
+    for (place, row) in TO_THE_INSIDE.lines().enumerate() {
+        if place < rows {
+            right = both(right, goes(alloc, core, row));
+        }
     }
-    Some(())
-}
-
-/// Client 1 after attempt 1, and after so many rows to the inside.
-fn within(alloc: Global, rows: usize) -> Option<ClientCore> {
-    let mut core = risen(1, PLAIN)?;
-    goes_inside(alloc, &mut core, rows).and(Some(core))
+    right
 }
 
 /// Whether a call has the answer after so many rows. Only a vote that counts changes the client.
+fn is_answered(
+    alloc: Global,
+    core: &mut ClientCore,
+    rows: usize,
+    call: &str,
+    want: &str,
+) -> Option<bool> {
+    let inside = goes_inside(alloc, core, rows);
+    let before = core.copy();
+    let right = has_answer(alloc, core, call, want);
+    let same = *core == before;
+    all(&[inside, right, Some(same == (want != "Counted"))])
+}
+
+/// The same of client 1 after attempt 1.
 fn is_heard(alloc: Global, rows: usize, call: &str, want: &str) -> Option<bool> {
-    let (mut core, before) = (within(alloc, rows)?, within(alloc, rows)?);
-    let right = has_answer(alloc, &mut core, call, want);
-    let same = core == before;
-    all(&[right, Some(same == (want != "Counted"))])
-}
-
-/// A call, and its answers in the phases Idle, Chosen, Asking and Inside, and inside once it is softened.
-type Heard = (&'static str, [&'static str; 5]);
-
-fn in_each_phase(alloc: Global, row: &Heard) -> Option<bool> {
-    for (rows, want) in [0, 1, 4, 5, 6usize].iter().zip(&row.1) {
-        if !is_heard(alloc, *rows, row.0, want)? {
-            return Some(false);
+    match risen(1, PLAIN) {
+        Some(core) => {
+            let mut core = core;
+            is_answered(alloc, &mut core, rows, call, want)
         }
+        None => None,
     }
-    Some(true)
 }
 
-const HEARD: [Heard; 34] = [
-    (
-        "hear grant n3 c1 2 write a",
-        ["NotMine", "NotMine", "Counted", "Counted", "NotMine"],
-    ),
-    (
-        "hear grant n1 c1 2 write a",
-        ["NotMine", "NotMine", "Known", "Known", "NotMine"],
-    ),
-    ("hear grant n4 c1 2 write a", ["NotMine"; 5]),
-    ("hear grant n3 c2 2 write a", ["NotMine"; 5]),
-    ("hear grant n3 c1 1 write a", ["NotMine"; 5]),
-    ("hear grant n3 c1 2 read a", ["NotMine"; 5]),
-    ("hear grant n3 c1 2 write b", ["NotMine"; 5]),
-    (
-        "hear busy n1 c1 2 write a",
-        ["NotMine", "NotMine", "Busy", "Busy", "NotMine"],
-    ),
-    ("hear busy n1 c1 2 read a", ["NotMine"; 5]),
-    ("hear busy n4 c1 2 write a", ["NotMine"; 5]),
-    ("hear busy n1 c2 2 write a", ["NotMine"; 5]),
-    ("hear busy n1 c1 1 write a", ["NotMine"; 5]),
-    ("hear request n3 c1 2 write a", ["NotMine"; 5]),
-    ("hear release n3 c1 2", ["NotMine"; 5]),
-    ("hear release n3 c1 1", ["NotMine"; 5]),
-    ("hear over n3 c1 2", ["NotMine"; 5]),
-    ("hear over n3 c1 1", ["NotMine"; 5]),
-    (
-        "hear done n1 c1 1",
-        ["Done", "NotMine", "NotMine", "NotMine", "NotMine"],
-    ),
-    ("hear done n1 c1 2", ["NotMine"; 5]),
-    ("hear done n4 c1 1", ["NotMine"; 5]),
-    ("hear done n1 c2 1", ["NotMine"; 5]),
-    ("hear muddled n3 c1 2", ["NotMine"; 5]),
-    ("hear muddled n3 c1 1", ["NotMine"; 5]),
-    ("hear soften n3 c1 2", ["NotMine"; 5]),
-    ("hear soften n3 c1 1", ["NotMine"; 5]),
-    (
-        "hear softened n1 c1 2",
-        ["NotMine", "NotMine", "NotMine", "NotMine", "Softened"],
-    ),
-    (
-        "hear softened n3 c1 2",
-        ["NotMine", "NotMine", "NotMine", "NotMine", "Softened"],
-    ),
-    ("hear softened n4 c1 2", ["NotMine"; 5]),
-    ("hear softened n1 c2 2", ["NotMine"; 5]),
-    ("hear softened n1 c1 1", ["NotMine"; 5]),
-    ("hear softened n1 c1 3", ["NotMine"; 5]),
-    ("phase", ["Idle", "Chosen", "Asking", "Inside", "Inside"]),
-    ("attempt", ["1", "2", "2", "2", "2"]),
-    ("may_soften", ["false", "false", "false", "true", "false"]),
-];
+/// How many rows lead to the phases Idle, Chosen, Asking and Inside, and inside once it is softened.
+const PHASES: [usize; 5] = [0, 1, 4, 5, 6];
+
+/// Whether the call of a row has the row's answer in each of these phases.
+pub(crate) fn in_each_phase(alloc: Global, row: &str) -> Option<bool> {
+    let (call, wants) = row.split_once(" > ").unwrap_or((row, ""));
+    let mut wants = wants.split(' ');
+    let mut right = Some(true);
+    for rows in &PHASES {
+        let want = wants.next().unwrap_or("");
+        right = both(right, is_heard(alloc, *rows, call, want));
+    }
+    both(right, Some(wants.next().is_none()))
+}
+
+// A call, and its answers in these phases.
+const HEARD: &str = "\
+hear grant n3 c1 2 write a > NotMine NotMine Counted Counted NotMine
+hear grant n1 c1 2 write a > NotMine NotMine Known Known NotMine
+hear grant n4 c1 2 write a > NotMine NotMine NotMine NotMine NotMine
+hear grant n3 c2 2 write a > NotMine NotMine NotMine NotMine NotMine
+hear grant n3 c1 1 write a > NotMine NotMine NotMine NotMine NotMine
+hear grant n3 c1 2 read a > NotMine NotMine NotMine NotMine NotMine
+hear grant n3 c1 2 write b > NotMine NotMine NotMine NotMine NotMine
+hear busy n1 c1 2 write a > NotMine NotMine Busy Busy NotMine
+hear busy n1 c1 2 read a > NotMine NotMine NotMine NotMine NotMine
+hear busy n4 c1 2 write a > NotMine NotMine NotMine NotMine NotMine
+hear busy n1 c2 2 write a > NotMine NotMine NotMine NotMine NotMine
+hear busy n1 c1 1 write a > NotMine NotMine NotMine NotMine NotMine
+hear request n3 c1 2 write a > NotMine NotMine NotMine NotMine NotMine
+hear release n3 c1 2 > NotMine NotMine NotMine NotMine NotMine
+hear release n3 c1 1 > NotMine NotMine NotMine NotMine NotMine
+hear over n3 c1 2 > NotMine NotMine NotMine NotMine NotMine
+hear over n3 c1 1 > NotMine NotMine NotMine NotMine NotMine
+hear done n1 c1 1 > Done NotMine NotMine NotMine NotMine
+hear done n1 c1 2 > NotMine NotMine NotMine NotMine NotMine
+hear done n4 c1 1 > NotMine NotMine NotMine NotMine NotMine
+hear done n1 c2 1 > NotMine NotMine NotMine NotMine NotMine
+hear muddled n3 c1 2 > NotMine NotMine NotMine NotMine NotMine
+hear muddled n3 c1 1 > NotMine NotMine NotMine NotMine NotMine
+hear soften n3 c1 2 > NotMine NotMine NotMine NotMine NotMine
+hear soften n3 c1 1 > NotMine NotMine NotMine NotMine NotMine
+hear softened n1 c1 2 > NotMine NotMine NotMine NotMine Softened
+hear softened n3 c1 2 > NotMine NotMine NotMine NotMine Softened
+hear softened n4 c1 2 > NotMine NotMine NotMine NotMine NotMine
+hear softened n1 c2 2 > NotMine NotMine NotMine NotMine NotMine
+hear softened n1 c1 1 > NotMine NotMine NotMine NotMine NotMine
+hear softened n1 c1 3 > NotMine NotMine NotMine NotMine NotMine
+phase > Idle Chosen Asking Inside Inside
+attempt > 1 2 2 2 2
+may_soften > false false false true false";
 
 /// Whether an attempt that is under way refuses another one (701), and stays as it is.
 fn refuses(alloc: Global, rows: usize) -> Option<bool> {
@@ -500,13 +539,12 @@ fn refuses(alloc: Global, rows: usize) -> Option<bool> {
 
 #[test]
 fn every_message_in_every_phase(rt: HostRuntime) -> Outcome {
-    for (number, row) in HEARD.iter().enumerate() {
-        check_answer(in_each_phase(rt.alloc(), row), number)?;
-    }
-    check_answers(&[
+    let heard = each(rt.alloc(), Table::Heard, HEARD);
+    let refused = check_answers(&[
         refuses(rt.alloc(), 1),
         refuses(rt.alloc(), 4),
         refuses(rt.alloc(), 5),
         refuses(rt.alloc(), 6),
-    ])
+    ]);
+    heard.and(refused)
 }

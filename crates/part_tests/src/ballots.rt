@@ -1,16 +1,18 @@
 //! Weighted votes, refused ballots, sets of nodes, and the node that two quorums share.
 
 use lock_messages::{Mode, NodeId};
-use test_outcomes::{Outcome, check_answer, check_row};
+use test_outcomes::{Outcome, check_row};
 use vote_weights::{Ballot, NodeSet};
 
 /// The set of these nodes, each put in by its number.
-fn set_of(nodes: &[u8]) -> Option<NodeSet> {
+fn set_of(nodes: &[u8]) -> NodeSet {
     let mut set = NodeSet::empty();
     for number in nodes {
-        set = set.with(NodeId::of(*number)?);
+        if let Some(node) = NodeId::of(*number) {
+            set = set.with(node);
+        }
     }
-    Some(set)
+    set
 }
 
 /// Nodes, their votes, and whether these are enough for a reader and for a writer.
@@ -29,20 +31,20 @@ const WEIGHTED_VOTES: [Weighed; 9] = [
     (&[9, 1, 16, 1, 5], 3, true, false),
 ];
 
-fn weighs(row: &Weighed) -> Option<bool> {
-    let ballot = Ballot::of(&[3, 1, 1, 0], 2, 4).ok()?;
-    let set = set_of(row.0)?;
-    Some(
-        ballot.votes_in(set) == row.1
-            && ballot.enough(Mode::Read, set) == row.2
-            && ballot.enough(Mode::Write, set) == row.3,
-    )
+fn weighs(row: &Weighed) -> bool {
+    let Ok(ballot) = Ballot::of(&[3, 1, 1, 0], 2, 4) else {
+        return false;
+    };
+    let set = set_of(row.0);
+    ballot.votes_in(set) == row.1
+        && ballot.enough(Mode::Read, set) == row.2
+        && ballot.enough(Mode::Write, set) == row.3
 }
 
 #[test]
 fn weighted_votes() -> Outcome {
     for (number, row) in WEIGHTED_VOTES.iter().enumerate() {
-        check_answer(weighs(row), number)?;
+        check_row(weighs(row), number)?;
     }
     Ok(())
 }
@@ -131,20 +133,26 @@ const SETS: [(&[u8], &[u8]); 6] = [
     ),
 ];
 
-/// Whether a set has the nodes that it was made of and no others, and is the same set.
-fn has_just(nodes: &[u8], others: &[u8]) -> Option<bool> {
-    let set = set_of(nodes)?;
-    for number in 1..=16u8 {
-        if set.has(NodeId::of(number)?) != nodes.contains(&number) {
-            return Some(false);
-        }
+fn has(set: NodeSet, number: u8) -> bool {
+    match NodeId::of(number) {
+        Some(node) => set.has(node),
+        None => false,
     }
-    Some(set == set_of(others)?)
+}
+
+/// Whether a set has the nodes that it was made of and no others, and is the same set.
+fn has_just(nodes: &[u8], others: &[u8]) -> bool {
+    let set = set_of(nodes);
+    let mut right = set == set_of(others);
+    for number in 1..=16u8 {
+        right &= has(set, number) == nodes.contains(&number);
+    }
+    right
 }
 
 fn have_just() -> Outcome {
     for (number, row) in SETS.iter().enumerate() {
-        check_answer(has_just(row.0, row.1), number)?;
+        check_row(has_just(row.0, row.1), number)?;
     }
     Ok(())
 }
@@ -162,20 +170,23 @@ const SHARED_NODES: [Shared; 6] = [
     ((&[1, 1, 1], 2, 2), &[9, 2, 3], &[9, 2, 3], Mode::Read, 2),
 ];
 
-fn shares(row: &Shared) -> Option<bool> {
+fn shares(row: &Shared) -> bool {
     let (weights, mode) = (row.0, row.3);
-    let ballot = Ballot::of(weights.0, weights.1, weights.2).ok()?;
-    let (writers, others) = (set_of(row.1)?, set_of(row.2)?);
-    if !ballot.enough(Mode::Write, writers) || !ballot.enough(mode, others) {
-        return Some(false);
+    let (writers, others) = (set_of(row.1), set_of(row.2));
+    match Ballot::of(weights.0, weights.1, weights.2) {
+        Ok(ballot) => {
+            ballot.enough(Mode::Write, writers)
+                && ballot.enough(mode, others)
+                && ballot.shared_node(writers, others, mode).get() == row.4
+        }
+        Err(_) => false,
     }
-    Some(ballot.shared_node(writers, others, mode).get() == row.4)
 }
 
 #[test]
 fn sets_of_nodes() -> Outcome {
     for (number, row) in SHARED_NODES.iter().enumerate() {
-        check_answer(shares(row), number)?;
+        check_row(shares(row), number)?;
     }
     have_just()
 }

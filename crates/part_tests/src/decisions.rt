@@ -1,17 +1,18 @@
 //! What a node decides, by the plain decision and by a node's core, which answer the same: scripts
 //! of messages, each with its replies.
 
+use crate::courses::{Course, Left, follows};
 use crate::nodes::{SETTLED, WRITER_WAITS, has_record, new_core, same_step};
-use crate::replies::Replies;
-use crate::rows::{all, message, release};
-use lock_messages::Message;
+use crate::replies::{Replies, client_at};
+use crate::rows::{both, message, release};
 use lock_model::{Entry, Problem, Status, decide};
 use std::alloc::Global;
 use test_outcomes::{Outcome, check_answer};
 use voter_core::NodeCore;
 
-/// Adds an entry's client with its floor and, of a live ticket, whether it holds, and as what.
-fn tell_entry(shape: &mut String, entry: &Entry) -> Option<()> {
+/// Adds an entry's client with its floor and, of a live ticket, whether it holds, and as what; whether there
+/// was memory.
+fn tell_entry(shape: &mut String, entry: &Entry) -> bool {
     let (client, floor) = (entry.client, entry.floor);
     let live = match entry.live {
         None => "free",
@@ -21,34 +22,44 @@ fn tell_entry(shape: &mut String, entry: &Entry) -> Option<()> {
             Status::Softened => "softened",
         },
     };
-    write!(shape, ", {client} {floor} {live}").ok()
+    write!(shape, ", {client} {floor} {live}").is_ok()
 }
 
-/// Adds the clients in the order of their entries.
-fn tell_shape(shape: &mut String, entries: &[Entry]) -> Option<()> {
+/// Adds the clients in the order of their entries; whether there was memory.
+fn tell_shape(shape: &mut String, entries: &[Entry]) -> bool {
+    let mut told = true;
     for entry in entries {
-        tell_entry(shape, entry)?;
+        told &= tell_entry(shape, entry);
     }
-    Some(())
+    told
 }
 
 /// Whether entries have this shape.
 fn has_shape(alloc: Global, entries: &[Entry], left: &str) -> Option<bool> {
     let mut shape = String::new(alloc);
-    tell_shape(&mut shape, entries).and(Some(shape.get(2..) == Some(left)))
+    if tell_shape(&mut shape, entries) {
+        Some(shape.get(2..) == Some(left))
+    } else {
+        None
+    }
 }
 
-/// Takes the message of a row. Whether the entries change; none where its replies are others than the row's.
+/// Takes the message of a row; whether its replies are the row's.
 fn step(
     alloc: Global,
     problem: Problem,
     core: &mut NodeCore,
     entries: &mut Vec<Entry>,
     row: &str,
-) -> Option<bool> {
-    let (said, want) = row.split_once(" > ")?;
-    let want = Replies::Said(want);
-    same_step(alloc, problem, core, entries, &message(said)?, &want)
+) -> bool {
+    let (said, want) = row.split_once(" > ").unwrap_or((row, ""));
+    match message(said) {
+        Some(message) => {
+            let want = Replies::Said(want);
+            same_step(alloc, problem, core, entries, &message, &want).is_some()
+        }
+        None => false,
+    }
 }
 
 /// Whether a script goes to its end.
@@ -58,18 +69,12 @@ fn play(
     core: &mut NodeCore,
     entries: &mut Vec<Entry>,
     script: &str,
-) -> Option<bool> {
+) -> bool {
+    let mut right = true;
     for row in script.lines() {
-        step(alloc, problem, core, entries, row)?;
+        right &= step(alloc, problem, core, entries, row);
     }
-    Some(true)
-}
-
-/// What a script leaves: entries of this shape, or this record.
-#[derive(Clone, Copy)]
-enum Left {
-    Shape(&'static str),
-    Record(&'static str),
+    right
 }
 
 /// Problems, under each of which a script leads from no entries to this.
@@ -88,19 +93,24 @@ fn is_left(alloc: Global, core: &NodeCore, entries: &[Entry], left: Left) -> Opt
     }
 }
 
-fn leads(alloc: Global, problem: Problem, script: &str, left: Left) -> Option<bool> {
-    let mut core = new_core(alloc, problem)?;
-    let mut entries = Vec::new(alloc);
-    all(&[
-        play(alloc, problem, &mut core, &mut entries, script),
-        is_left(alloc, &core, &entries, left),
-    ])
+/// Whether a script leads to this.
+pub(crate) fn leads(
+    alloc: Global,
+    problem: Problem,
+    core: &mut NodeCore,
+    entries: &mut Vec<Entry>,
+    script: &str,
+    left: Left,
+) -> Option<bool> {
+    let right = play(alloc, problem, core, entries, script);
+    both(right.then_some(true), is_left(alloc, core, entries, left))
 }
 
 /// Plays a script under each of its problems.
 fn lead(alloc: Global, row: &Lead, number: usize) -> Outcome {
     for problem in row.0 {
-        check_answer(leads(alloc, *problem, row.1, row.2), number)?;
+        let course = Course::Leads(*problem, row.1, row.2);
+        check_answer(follows(alloc, new_core(alloc, *problem), &course), number)?;
     }
     Ok(())
 }
@@ -486,83 +496,93 @@ done n1 c1 1
 muddled n1 c1 1
 softened n1 c1 1";
 
-fn stays(alloc: Global, entries: &[Entry], message: &Message) -> Option<bool> {
-    let decision = decide(alloc, Problem::First, entries, message).ok()?;
-    let is_same = decision.entries.as_slice() == entries;
-    Some(is_same && !decision.changed && decision.replies.is_empty())
+/// Whether the message of a row changes nothing, and has no reply.
+fn stays(alloc: Global, entries: &[Entry], row: &str) -> Option<bool> {
+    let Some(message) = message(row) else {
+        return None;
+    };
+    match decide(alloc, Problem::First, entries, &message) {
+        Ok(decision) => {
+            let is_same = decision.entries.as_slice() == entries;
+            Some(is_same && !decision.changed && decision.replies.is_empty())
+        }
+        Err(_) => None,
+    }
 }
 
 /// Whether each of these messages changes nothing, and has no reply.
 fn stays_the_same(alloc: Global, entries: &[Entry]) -> Option<bool> {
+    let mut right = Some(true);
     for row in OTHER_MESSAGES.lines() {
-        if !stays(alloc, entries, &message(row)?)? {
-            return Some(false);
-        }
+        right = both(right, stays(alloc, entries, row));
     }
-    Some(true)
+    right
 }
 
 /// Whether they do so at a node where c1 reads `a`.
-fn others_change_nothing(alloc: Global) -> Option<bool> {
-    let mut core = new_core(alloc, Problem::First)?;
-    let mut entries = Vec::new(alloc);
-    all(&[
-        play(alloc, Problem::First, &mut core, &mut entries, FIRST_READER),
-        stays_the_same(alloc, &entries),
-    ])
+pub(crate) fn others_change_nothing(
+    alloc: Global,
+    core: &mut NodeCore,
+    entries: &mut Vec<Entry>,
+) -> Option<bool> {
+    let right = play(alloc, Problem::First, core, entries, FIRST_READER);
+    both(right.then_some(true), stays_the_same(alloc, entries))
 }
 
 #[test]
 fn other_messages_change_nothing(rt: HostRuntime) -> Outcome {
-    check_answer(others_change_nothing(rt.alloc()), 0)
+    let core = new_core(rt.alloc(), Problem::First);
+    check_answer(follows(rt.alloc(), core, &Course::ChangesNothing), 0)
 }
 
-/// Takes the release of the first digit's client; none where it lets in others than the clients of the
-/// other digits.
+/// Takes the release of the first digit's client; whether it lets in the clients of the other digits, and
+/// nobody else.
 fn releases(
     alloc: Global,
     problem: Problem,
     core: &mut NodeCore,
     entries: &mut Vec<Entry>,
     digits: &str,
-) -> Option<bool> {
-    let message = release(digits.chars().next()?.to_digit(10)?, 1)?;
-    let want = Replies::To(digits);
-    same_step(alloc, problem, core, entries, &message, &want)
+) -> bool {
+    match release(client_at(digits, 0), 1) {
+        Some(message) => {
+            let want = Replies::To(digits);
+            same_step(alloc, problem, core, entries, &message, &want).is_some()
+        }
+        None => false,
+    }
 }
 
-/// Takes the releases of an order, of which each word has the client that releases its attempt 1 and then
-/// the clients that this lets in.
-fn settles_on(
+/// Plays a beginning, and then takes the releases of an order, of which each word has the client that
+/// releases its attempt 1 and then the clients that this lets in.
+pub(crate) fn settles(
     alloc: Global,
     problem: Problem,
     core: &mut NodeCore,
     entries: &mut Vec<Entry>,
+    beginning: &str,
     order: &str,
 ) -> Option<bool> {
+    let mut right = play(alloc, problem, core, entries, beginning);
     for digits in order.split(' ') {
-        releases(alloc, problem, core, entries, digits)?;
+        right &= releases(alloc, problem, core, entries, digits);
     }
-    Some(true)
-}
-
-/// Plays a beginning, and then the releases of an order.
-fn settles(alloc: Global, problem: Problem, beginning: &str, order: &str) -> Option<bool> {
-    let mut core = new_core(alloc, problem)?;
-    let mut entries = Vec::new(alloc);
-    all(&[
-        play(alloc, problem, &mut core, &mut entries, beginning),
-        settles_on(alloc, problem, &mut core, &mut entries, order),
-    ])
+    right.then_some(true)
 }
 
 /// A problem, a beginning, and the orders that are played after it.
 type Settled = (Problem, &'static str, &'static str);
 
+/// Plays a beginning with an order, in a new node.
+fn settled(alloc: Global, problem: Problem, beginning: &str, order: &str) -> Option<bool> {
+    let course = Course::Settles(problem, beginning, order);
+    follows(alloc, new_core(alloc, problem), &course)
+}
+
 /// Plays a beginning with each order.
 fn settle(alloc: Global, row: &Settled) -> Outcome {
     for (number, order) in row.2.lines().enumerate() {
-        check_answer(settles(alloc, row.0, row.1, order), number)?;
+        check_answer(settled(alloc, row.0, row.1, order), number)?;
     }
     Ok(())
 }

@@ -9,9 +9,9 @@ use vote_weights::BallotFault;
 use voter_core::VoterFault;
 use world_opening::OpeningFault;
 
-/// Adds the row of a fault.
-fn tell<T: fmt::Display>(rows: &mut String, number: u16, fault: &T) -> Option<()> {
-    write!(rows, "{number} {fault}\n").ok()
+/// Adds the row of a fault; whether there was memory.
+fn tell<T: fmt::Display>(rows: &mut String, number: u16, fault: &T) -> bool {
+    write!(rows, "{number} {fault}\n").is_ok()
 }
 
 const FRAMES: [FrameFault; 11] = [
@@ -122,42 +122,45 @@ const TEXTS: &str = "\
 ";
 
 /// The rows of the faults of an opening, one of which names an actor.
-fn tell_openings(rows: &mut String) -> Option<()> {
+fn tell_openings(rows: &mut String) -> bool {
     let unread = OpeningFault::NoRecord(Actor::Node(NodeId::of(1).unwrap()));
-    for fault in [
+    let faults = [
         OpeningFault::Memory,
         OpeningFault::EntryAboveAttempt,
         unread,
-    ] {
-        tell(rows, fault.number(), &fault)?;
+    ];
+    let mut told = true;
+    for fault in &faults {
+        told &= tell(rows, fault.number(), fault);
     }
-    Some(())
+    told
 }
 
-/// The rows of all faults.
-fn tell_all(rows: &mut String) -> Option<()> {
+/// The rows of all faults; whether there was memory.
+fn tell_all(rows: &mut String) -> bool {
+    let mut told = true;
     for fault in &FRAMES {
-        tell(rows, fault.number(), fault)?;
+        told &= tell(rows, fault.number(), fault);
     }
     for fault in &BALLOTS {
-        tell(rows, fault.number(), fault)?;
+        told &= tell(rows, fault.number(), fault);
     }
     for fault in &RECORDS {
-        tell(rows, fault.number(), fault)?;
+        told &= tell(rows, fault.number(), fault);
     }
     for fault in &VOTERS {
-        tell(rows, fault.number(), fault)?;
+        told &= tell(rows, fault.number(), fault);
     }
-    tell_openings(rows)?;
+    told &= tell_openings(rows);
     for fault in &CLIENTS {
-        tell(rows, fault.number(), fault)?;
+        told &= tell(rows, fault.number(), fault);
     }
-    Some(())
+    told
 }
 
 #[test]
 fn texts_of_faults(rt: HostRuntime) -> Outcome {
     let mut rows = String::new(rt.alloc());
     let told = tell_all(&mut rows);
-    check_answer(told.and(Some(rows.as_str() == TEXTS)), 0)
+    check_answer(told.then_some(rows.as_str() == TEXTS), 0)
 }

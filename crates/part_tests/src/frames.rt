@@ -1,17 +1,63 @@
 //! Frames against bytes that were written by hand, and against a plain reader of the table of fields.
 
-use crate::changes::{Spelled, each_change};
-use crate::rows::{all, are_spelled, bytes, message, number, spells};
+use crate::rows::{are_spelled, both, message, number, spells};
+use crate::spellings::{Spelled, begin_short, each_change};
 use crate::tables::{Table, each};
-use lock_messages::{decode, encode};
+use lock_messages::{Message, decode, encode};
 use std::alloc::Global;
-use test_outcomes::{Outcome, check_answer};
+use test_outcomes::{Outcome, check_row};
 
 /// The number of the fault that reading a frame finds; 0 where it finds none.
-fn fault_of(frame: &[u8]) -> u16 {
+pub(crate) fn fault_of(frame: &[u8]) -> u16 {
     match decode(frame) {
         Ok(_) => 0,
         Err(fault) => fault.number(),
+    }
+}
+
+/// What is asked of the frame of a message.
+#[derive(Clone, Copy)]
+enum Asked<'a> {
+    /// Whether it is spelled so, and the message is read from it.
+    IsSpelled(&'a str),
+    /// Whether each beginning of it is short.
+    BeginsShort,
+    /// Whether it has so many bytes, and the message is read from it; no memory is wanting.
+    HasLength(usize),
+    /// Whether it is read as the table says with each byte changed to each other value.
+    Changed,
+}
+
+/// Whether a copy of a frame is read as the table says with each byte changed to each other value.
+fn copy_agrees(alloc: Global, frame: &[u8]) -> Option<bool> {
+    match frame.to_vec(alloc) {
+        Ok(copy) => {
+            let mut copy = copy;
+            each_change(alloc, Spelled::Frame, &mut copy)
+        }
+        Err(_) => None,
+    }
+}
+
+/// Whether what is asked of the frame of a message is so.
+fn is_so(alloc: Global, message: &Message, frame: &[u8], asked: &Asked) -> Option<bool> {
+    let is_read = decode(frame) == Ok(*message);
+    match asked {
+        Asked::IsSpelled(words) => both(Some(is_read), are_spelled(alloc, frame, words)),
+        Asked::BeginsShort => begin_short(alloc, Spelled::Frame, frame, 101),
+        Asked::HasLength(length) => Some(is_read && frame.len() == *length),
+        Asked::Changed => copy_agrees(alloc, frame),
+    }
+}
+
+/// The same of the message of a row.
+fn is_so_of(alloc: Global, row: &str, asked: &Asked) -> Option<bool> {
+    let Some(message) = message(row) else {
+        return None;
+    };
+    match encode(alloc, &message) {
+        Ok(frame) => is_so(alloc, &message, &frame, asked),
+        Err(_) => None,
     }
 }
 
@@ -26,13 +72,8 @@ softened n2 c1024 1000000000000=02 09 02 00000400 000000e8d4a51000";
 
 /// Whether a message has the frame of its row, and is read from it.
 pub(crate) fn is_spelled(alloc: Global, row: &str) -> Option<bool> {
-    let (said, spelled) = row.split_once('=')?;
-    let message = message(said)?;
-    let made = encode(alloc, &message).ok()?;
-    all(&[
-        are_spelled(alloc, &made, spelled),
-        Some(decode(&made) == Ok(message)),
-    ])
+    let (said, words) = row.split_once('=').unwrap_or((row, ""));
+    is_so_of(alloc, said, &Asked::IsSpelled(words))
 }
 
 // What is wrong with the frame of a request.
@@ -47,16 +88,10 @@ const REQUEST_FRAMES: &str = "\
 102 03 01 01 00000001 0000000000000001 00 01 61
 110 01 01 01 00000001 0000000000000001 00 01 61 00";
 
-/// Whether the bytes of a row have its fault.
-pub(crate) fn is_faulty(alloc: Global, row: &str) -> Option<bool> {
-    let (want, spelled) = row.split_once(' ')?;
-    Some(want.parse() == Ok(fault_of(&bytes(alloc, spelled)?)))
-}
-
 #[test]
 fn request_frame(rt: HostRuntime) -> Outcome {
-    each(rt.alloc(), Table::Spelled, FRAMES)?;
-    each(rt.alloc(), Table::Faulty, REQUEST_FRAMES)
+    let spelled = each(rt.alloc(), Table::Spelled, FRAMES);
+    spelled.and(each(rt.alloc(), Table::FaultyFrames, REQUEST_FRAMES))
 }
 
 // What is wrong with the frame of a softening: each version has its own kinds, and no ticket follows.
@@ -79,37 +114,28 @@ const SOFTENING_FRAMES: &str = "\
 
 /// Whether a version has the kinds from the first to the last, and no other.
 fn has_just_kinds(version: u8, first: u8, last: u8) -> bool {
+    let mut right = true;
     for kind in 0..=255u8 {
         let frame = [version, kind, 1, 0, 0, 0, 1, 0, 0, 0, 0, 0, 0, 0, 1];
         let is_kind = first <= kind && kind <= last;
-        if is_kind != (fault_of(&frame) != 103) {
-            return false;
-        }
+        right &= is_kind == (fault_of(&frame) != 103);
     }
-    true
+    right
 }
 
 #[test]
 fn softening_frame(rt: HostRuntime) -> Outcome {
-    each(rt.alloc(), Table::Faulty, SOFTENING_FRAMES)?;
-    check_answer(Some(has_just_kinds(1, 1, 7)), 101)?;
-    check_answer(Some(has_just_kinds(2, 8, 9)), 102)
+    let faulty = each(rt.alloc(), Table::FaultyFrames, SOFTENING_FRAMES);
+    let kinds = check_row(has_just_kinds(1, 1, 7), 101).and(check_row(
+        has_just_kinds(2, 8, 9),
+        102,
+    ));
+    faulty.and(kinds)
 }
 
-/// Whether each beginning of the frame is short.
-fn begin_short(frame: &[u8]) -> Option<bool> {
-    for end in 0..frame.len() {
-        if fault_of(frame.get(..end)?) != 101 {
-            return Some(false);
-        }
-    }
-    Some(true)
-}
-
-/// The same of the frame of a message.
+/// Whether each beginning of the frame of a message is short.
 pub(crate) fn begins_short(alloc: Global, row: &str) -> Option<bool> {
-    let frame = encode(alloc, &message(row)?).ok()?;
-    begin_short(&frame)
+    is_so_of(alloc, row, &Asked::BeginsShort)
 }
 
 // A request for the shortest name, and one message of each kind.
@@ -131,28 +157,21 @@ request n16 c1024 1000000000000 write zzzzzzzzzzzzzzzzzzzzzzzzzzzzzzzz
 grant n16 c1024 1000000000000 write zzzzzzzzzzzzzzzzzzzzzzzzzzzzzzzz
 busy n1 c1 1 read zzzzzzzzzzzzzzzzzzzzzzzzzzzzzzzz";
 
-/// Whether a message goes there and back by a frame of so many bytes; no memory is wanting.
-fn goes_by(alloc: Global, row: &str, length: usize) -> Option<bool> {
-    let message = message(row)?;
-    let frame = encode(alloc, &message).ok()?;
-    Some(decode(&frame) == Ok(message) && frame.len() == length)
-}
-
-/// Whether the message with each length of the name does.
+/// Whether a message with each length of its name goes there and back by a frame of so many bytes.
 pub(crate) fn goes_there_and_back(alloc: Global, row: &str) -> Option<bool> {
+    let mut right = Some(true);
     for cut in 0..32usize {
-        let shorter = row.get(..row.len().saturating_sub(cut))?;
-        if !goes_by(alloc, shorter, 49 - cut)? {
-            return Some(false);
-        }
+        let shorter = row.get(..row.len().saturating_sub(cut)).unwrap_or("");
+        let length = 49usize.saturating_sub(cut);
+        right = both(right, is_so_of(alloc, shorter, &Asked::HasLength(length)));
     }
-    Some(true)
+    right
 }
 
 #[test]
 fn frames_of_every_length(rt: HostRuntime) -> Outcome {
-    each(rt.alloc(), Table::Short, KINDS)?;
-    each(rt.alloc(), Table::NameLengths, LONGEST)
+    let short = each(rt.alloc(), Table::Short, KINDS);
+    short.and(each(rt.alloc(), Table::NameLengths, LONGEST))
 }
 
 // The fields from the front: how many bytes each has, its least and its greatest number, and the
@@ -211,20 +230,19 @@ fn by_the_table(frame: &[u8]) -> u16 {
 
 /// Whether the bytes are read as the table says; what is read is spelled so.
 pub(crate) fn agrees(alloc: Global, frame: &[u8]) -> Option<bool> {
+    let want = by_the_table(frame);
     match decode(frame) {
-        Ok(message) => {
-            let again = encode(alloc, &message).ok()?;
-            Some(by_the_table(frame) == 0 && again.as_slice() == frame)
-        }
-        Err(fault) => Some(by_the_table(frame) == fault.number()),
+        Ok(message) => match encode(alloc, &message) {
+            Ok(again) => Some(want == 0 && again.as_slice() == frame),
+            Err(_) => None,
+        },
+        Err(fault) => Some(want == fault.number()),
     }
 }
 
 /// Whether the frame of a message is read as the table says with each byte changed to each other value.
 pub(crate) fn all_agree(alloc: Global, row: &str) -> Option<bool> {
-    let frame = encode(alloc, &message(row)?).ok()?;
-    let mut frame = frame.to_vec(alloc).ok()?;
-    each_change(alloc, Spelled::Frame, &mut frame)
+    is_so_of(alloc, row, &Asked::Changed)
 }
 
 #[test]

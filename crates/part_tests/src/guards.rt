@@ -4,10 +4,10 @@ ghost use Rattle.std.specs.Prelude.{◌≡◌, ◌↔◌, IsTrue, false};
 ghost use Rattle.client_core.specs.Calls.{MayEnter, entered, left, ReleasesAll};
 
 use crate::attempts::{COSTLY_READS, PLAIN, Votes, risen};
-use crate::rows::{all, message, node, ticket};
+use crate::rows::message;
 use client_core::{ClientCore, Heard, Phase};
 use entry_guard::{Door, EntryGuard, OwnedEntry, enter_and_leave, enter_client};
-use lock_messages::{Mode, ResourceName, Ticket};
+use lock_messages::{Attempt, ClientId, Mode, NodeId, ResourceName, Ticket};
 use std::alloc::Global;
 use std::mem;
 use std::sync::Arc;
@@ -15,37 +15,70 @@ use std::sync::atomic::{AtomicUsize, Ordering};
 use test_outcomes::{Outcome, check_answers};
 
 /// Client 1's ticket of attempt 1 for `a`.
-fn first_ticket(mode: Mode) -> Option<Ticket> {
-    ticket(1, 1, mode, b"a")
-}
-
-/// A core that asks with that ticket, and has heard these votes.
-fn core_with(votes: &[Votes], mode: Mode, grants: &[&str]) -> Option<ClientCore> {
-    let mut core = risen(0, votes)?;
-    let Ok(_) = core.begin(ResourceName::of(b"a").unwrap(), mode, 1) else {
-        return None;
-    };
-    core.kept();
-    for row in grants {
-        core.hear(&message(row)?);
+fn first_ticket(mode: Mode) -> Ticket {
+    Ticket {
+        client: ClientId::of(1).unwrap(),
+        attempt: Attempt::of(1).unwrap(),
+        mode,
+        resource: ResourceName::of(b"a").unwrap(),
     }
-    Some(core)
 }
 
-/// A reader's core with the votes of two of three nodes, which are enough.
-fn reading_core() -> Option<ClientCore> {
-    let grants = ["grant n1 c1 1 read a", "grant n2 c1 1 read a"];
-    core_with(PLAIN, Mode::Read, &grants)
+/// Which core is tried: each asks with that ticket.
+#[derive(Clone, Copy)]
+enum Asker {
+    /// A reader's with the votes of two of three nodes, which are enough.
+    Reading,
+    /// A reader's with the vote of one node.
+    Poor,
+    /// A writer's with enough votes.
+    Writing,
 }
 
-/// One with the vote of one node.
-fn poor_core() -> Option<ClientCore> {
-    core_with(PLAIN, Mode::Read, &["grant n1 c1 1 read a"])
+/// Whether a message is this to a core.
+fn hears(core: &mut ClientCore, row: &str, want: Heard) -> bool {
+    match message(row) {
+        Some(message) => core.hear(&message) == want,
+        None => false,
+    }
 }
 
-/// A writer's core with enough votes.
-fn writing_core() -> Option<ClientCore> {
-    core_with(COSTLY_READS, Mode::Write, &["grant n1 c1 1 write a"])
+/// Asks, and hears these votes; whether each counts.
+fn asks(core: &mut ClientCore, mode: Mode, grants: &[&str]) -> bool {
+    let mut right = core.begin(ResourceName::of(b"a").unwrap(), mode, 1).is_ok();
+    if core.phase() == Phase::Chosen {
+        core.kept();
+    }
+    for row in grants {
+        right &= hears(core, row, Heard::Counted);
+    }
+    right
+}
+
+/// A core under these ballots that asks, and has heard these votes.
+fn core_with(votes: &[Votes], mode: Mode, grants: &[&str]) -> Option<ClientCore> {
+    match risen(0, votes) {
+        Some(core) => {
+            let mut core = core;
+            if asks(&mut core, mode, grants) {
+                Some(core)
+            } else {
+                None
+            }
+        }
+        None => None,
+    }
+}
+
+fn core_of(asker: Asker) -> Option<ClientCore> {
+    match asker {
+        Asker::Reading => {
+            let grants = ["grant n1 c1 1 read a", "grant n2 c1 1 read a"];
+            core_with(PLAIN, Mode::Read, &grants)
+        }
+        Asker::Poor => core_with(PLAIN, Mode::Read, &["grant n1 c1 1 read a"]),
+        Asker::Writing => core_with(COSTLY_READS, Mode::Write, &["grant n1 c1 1 write a"]),
+    }
 }
 
 /// How often a door left and softened.
@@ -162,45 +195,81 @@ fn client_by_a_question_mark(core: &mut ClientCore, value: Option<u8>) -> Option
     Some(value)
 }
 
+/// Whether what a core says to n3 is this message.
+fn says(core: &ClientCore, row: &str) -> bool {
+    core.message_for(NodeId::of(3).unwrap()) == message(row)
+}
+
 /// Whether a core with enough votes enters with its ticket, and is idle behind the guard's scope, with
 /// its release to say.
-fn is_guarded() -> Option<bool> {
-    let (mut core, held) = (reading_core()?, first_ticket(Mode::Read)?);
-    let same = EntryGuard::enter(&mut core)?.ticket() == held;
-    let release = core.message_for(node("n3")?);
+fn is_guarded(core: &mut ClientCore) -> bool {
+    let same = by_a_return(core, false) == Some(first_ticket(Mode::Read));
     let left = core.phase() == Phase::Idle && core.attempt() == 1;
-    Some(same && left && release == message("release n3 c1 1"))
+    same && left && says(core, "release n3 c1 1")
 }
 
 /// Whether a core with too few votes is refused, and still asks.
-fn is_refused() -> Option<bool> {
-    let (mut core, grant) = (poor_core()?, message("grant n1 c1 1 read a")?);
-    let refused = EntryGuard::enter(&mut core).is_none();
+fn is_refused(core: &mut ClientCore) -> bool {
+    let refused = EntryGuard::enter(core).is_none();
     let asks = core.phase() == Phase::Asking;
-    Some(refused && asks && core.hear(&grant) == Heard::Known)
+    refused && asks && hears(core, "grant n1 c1 1 read a", Heard::Known)
 }
 
-/// Whether a core leaves by a `?`, and is refused before it.
-fn leaves_by_a_question_mark() -> Option<bool> {
-    let (mut core, mut other) = (reading_core()?, poor_core()?);
-    let none = client_by_a_question_mark(&mut core, None).is_none()
-        && client_by_a_question_mark(&mut other, Some(1)).is_none();
-    Some(none && core.phase() == Phase::Idle && other.phase() == Phase::Asking)
+/// What is tried with a core.
+#[derive(Clone, Copy)]
+enum Tried {
+    Guarded,
+    Refused,
+    /// It leaves by a `?`.
+    LeavesByAQuestionMark,
+    /// It is refused before a `?`.
+    RefusedBeforeAQuestionMark,
+    Softened,
+    StaysSoftened,
+}
+
+fn tries(core: &mut ClientCore, tried: Tried) -> bool {
+    match tried {
+        Tried::Guarded => is_guarded(core),
+        Tried::Refused => is_refused(core),
+        Tried::LeavesByAQuestionMark => {
+            client_by_a_question_mark(core, None).is_none() && core.phase() == Phase::Idle
+        }
+        Tried::RefusedBeforeAQuestionMark => {
+            client_by_a_question_mark(core, Some(1)).is_none() && core.phase() == Phase::Asking
+        }
+        Tried::Softened => is_softened(core),
+        Tried::StaysSoftened => stays_softened(core),
+    }
+}
+
+/// Whether what is tried with a core is so.
+fn is_so(asker: Asker, tried: Tried) -> Option<bool> {
+    match core_of(asker) {
+        Some(core) => {
+            let mut core = core;
+            Some(tries(&mut core, tried))
+        }
+        None => None,
+    }
 }
 
 #[test]
 fn guard(rt: HostRuntime) -> Outcome {
     check_answers(&[
-        is_guarded(),
-        is_refused(),
-        leaves_by_a_question_mark(),
+        is_so(Asker::Reading, Tried::Guarded),
+        is_so(Asker::Poor, Tried::Refused),
+        is_so(Asker::Reading, Tried::LeavesByAQuestionMark),
+        is_so(Asker::Poor, Tried::RefusedBeforeAQuestionMark),
         owned_core_leaves(rt.alloc(), false),
         is_handed_back(rt.alloc()),
-        is_visited(rt.alloc()),
+        is_visited(rt.alloc(), true),
+        is_visited(rt.alloc(), false),
     ])
 }
 
-fn boxed(alloc: Global, core: ClientCore) -> Option<Box<dyn Door + Send>> {
+fn boxed(alloc: Global, asker: Asker) -> Option<Box<dyn Door + Send>> {
+    let core = core_of(asker)?;
     let door: Box<dyn Door + Send> = Box::new(alloc, core).ok()?;
     Some(door)
 }
@@ -214,45 +283,62 @@ fn softens_entry(entry: &mut OwnedEntry, reads: Ticket) -> bool {
     entry.ticket() == reads
 }
 
-/// Whether an entry has this ticket and, where it softens, the reader's after that.
-fn has_tickets(entry: &mut OwnedEntry, held: Ticket, softens: bool, reads: Ticket) -> bool {
-    entry.ticket() == held && (!softens || softens_entry(entry, reads))
+/// Whether an entry has the first ticket and, where it softens, the reader's after that.
+fn has_tickets(entry: &mut OwnedEntry, softens: bool) -> bool {
+    let reads = first_ticket(Mode::Read);
+    if softens {
+        entry.ticket() == first_ticket(Mode::Write) && softens_entry(entry, reads)
+    } else {
+        entry.ticket() == reads
+    }
 }
 
 /// Whether an owned door enters with its ticket, softens where it is a writer, and comes back outside.
 fn owned_core_leaves(alloc: Global, softens: bool) -> Option<bool> {
-    let mode = if softens { Mode::Write } else { Mode::Read };
-    let (held, reads) = (first_ticket(mode)?, first_ticket(Mode::Read)?);
-    let core = if softens {
-        writing_core()
+    let asker = if softens {
+        Asker::Writing
     } else {
-        reading_core()
+        Asker::Reading
     };
-    let Ok(mut entry) = OwnedEntry::enter(boxed(alloc, core?)?) else {
-        return Some(false);
+    let Some(door) = boxed(alloc, asker) else {
+        return None;
     };
-    let same = has_tickets(&mut entry, held, softens, reads);
-    let door = entry.leave();
-    Some(same && !door.inside() && !door.may_enter() && door.ticket().is_none())
+    match OwnedEntry::enter(door) {
+        Ok(entry) => {
+            let mut entry = entry;
+            let same = has_tickets(&mut entry, softens);
+            let door = entry.leave();
+            Some(same && !door.inside() && !door.may_enter() && door.ticket().is_none())
+        }
+        Err(_) => Some(false),
+    }
 }
 
-/// Whether a core in a box enters with its ticket, and leaves, and one with too few votes doesn't
-/// enter.
-fn is_visited(alloc: Global) -> Option<bool> {
-    let (core, other, held) = (reading_core()?, poor_core()?, first_ticket(Mode::Read)?);
-    let refused = enter_and_leave(alloc, other).ok()?.is_none();
-    let Some(seen) = enter_and_leave(alloc, core).ok()? else {
-        return Some(false);
+/// Whether a core in a box enters with its ticket, and leaves; or one with too few votes doesn't enter.
+fn is_visited(alloc: Global, may: bool) -> Option<bool> {
+    let asker = if may { Asker::Reading } else { Asker::Poor };
+    let Some(core) = core_of(asker) else {
+        return None;
     };
-    Some(refused && seen.with == held && seen.ticket.is_none() && !seen.inside)
+    match enter_and_leave(alloc, core) {
+        Ok(Some(seen)) => {
+            let left = seen.ticket.is_none() && !seen.inside;
+            Some(may && left && seen.with == first_ticket(Mode::Read))
+        }
+        Ok(None) => Some(!may),
+        Err(_) => None,
+    }
 }
 
 /// Whether an owned door that may not enter comes back as it was.
 fn is_handed_back(alloc: Global) -> Option<bool> {
-    let Err(door) = OwnedEntry::enter(boxed(alloc, poor_core()?)?) else {
-        return Some(false);
+    let Some(door) = boxed(alloc, Asker::Poor) else {
+        return None;
     };
-    Some(!door.inside() && door.ticket() == first_ticket(Mode::Read))
+    match OwnedEntry::enter(door) {
+        Ok(_) => Some(false),
+        Err(door) => Some(!door.inside() && door.ticket() == Some(first_ticket(Mode::Read))),
+    }
 }
 
 fn new_counts(alloc: Global) -> Option<Arc<Counts>> {
@@ -280,36 +366,58 @@ fn has_done(counts: &Counts, leaves: usize, softens: usize) -> bool {
 }
 
 fn new_counter(alloc: Global, mode: Mode) -> Option<Counter> {
-    let held = first_ticket(mode)?;
-    let counts = new_counts(alloc)?;
-    Some(door_with(held, counts))
+    match new_counts(alloc) {
+        Some(counts) => Some(door_with(first_ticket(mode), counts)),
+        None => None,
+    }
 }
 
 /// Whether the door leaves once on each path out of a guard's scope.
-fn leaves_once_on_each_path(alloc: Global) -> Option<bool> {
-    let mut door = new_counter(alloc, Mode::Read)?;
+fn leaves_once_on_each_path(door: &mut Counter) -> bool {
     let held = Some(door.held);
-    to_the_end(&mut door);
+    to_the_end(door);
     let end = has_done(&door.counts, 1, 0);
-    let none = by_a_question_mark(&mut door, None).is_none();
-    let value = by_a_question_mark(&mut door, Some(5)) == Some(5);
+    let none = by_a_question_mark(door, None).is_none();
+    let value = by_a_question_mark(door, Some(5)) == Some(5);
     let marks = none && value && has_done(&door.counts, 3, 0);
-    let none = by_a_return(&mut door, true).is_none();
-    let same = by_a_return(&mut door, false) == held;
+    let none = by_a_return(door, true).is_none();
+    let same = by_a_return(door, false) == held;
     let returns = none && same && has_done(&door.counts, 5, 0);
-    let entered = can_be_entered(&mut door) && has_done(&door.counts, 6, 0);
-    Some(end && marks && returns && entered)
+    let entered = can_be_entered(door) && has_done(&door.counts, 6, 0);
+    end && marks && returns && entered
 }
 
 /// Whether a door that may not enter never leaves, nor one whose guard is forgotten.
-fn stays(alloc: Global) -> Option<bool> {
-    let mut door = new_counter(alloc, Mode::Read)?;
+fn stays(door: &mut Counter) -> bool {
     door.may = false;
-    to_the_end(&mut door);
-    let refused = !can_be_entered(&mut door) && !door.within;
+    to_the_end(door);
+    let refused = !can_be_entered(door) && !door.within;
     door.may = true;
-    mem::forget(EntryGuard::enter(&mut door));
-    Some(refused && door.within && has_done(&door.counts, 0, 0))
+    mem::forget(EntryGuard::enter(door));
+    refused && door.within && has_done(&door.counts, 0, 0)
+}
+
+/// What is counted of a door.
+#[derive(Clone, Copy)]
+enum Counted {
+    LeavesOnce,
+    Stays,
+    SoftensOnce,
+}
+
+/// Whether what is counted of a door is so.
+fn is_counted(alloc: Global, mode: Mode, counted: Counted) -> Option<bool> {
+    match new_counter(alloc, mode) {
+        Some(door) => {
+            let mut door = door;
+            Some(match counted {
+                Counted::LeavesOnce => leaves_once_on_each_path(&mut door),
+                Counted::Stays => stays(&mut door),
+                Counted::SoftensOnce => softens_once(&mut door),
+            })
+        }
+        None => None,
+    }
 }
 
 /// An entry by an owned door that counts.
@@ -323,35 +431,53 @@ fn entered(alloc: Global, held: Ticket, counts: &Arc<Counts>) -> Option<OwnedEnt
 }
 
 /// Whether an entry ends outside, spent or dropped; where it is spent, its door is a reader's.
-fn ends_outside(entry: OwnedEntry, spent: bool, reads: Ticket) -> bool {
+fn ends_outside(entry: OwnedEntry, spent: bool) -> bool {
     if spent {
         let door = entry.leave();
-        !door.inside() && door.ticket() == Some(reads) && !door.may_soften()
+        let reads = Some(first_ticket(Mode::Read));
+        !door.inside() && door.ticket() == reads && !door.may_soften()
     } else {
         drop(entry);
         true
     }
 }
 
-/// Whether an owned door softens once where it is a writer's, and leaves once, where its entry is spent or
-/// dropped; and is dropped then.
-fn owned_door_leaves_once(alloc: Global, softens: bool, spent: bool) -> Option<bool> {
+/// Whether an owned door with these counts softens once where it is a writer's, and leaves once, where its
+/// entry is spent or dropped; and is dropped then.
+fn owned_door_counts(
+    alloc: Global,
+    counts: &Arc<Counts>,
+    softens: bool,
+    spent: bool,
+) -> Option<bool> {
     let mode = if softens { Mode::Write } else { Mode::Read };
-    let (held, reads) = (first_ticket(mode)?, first_ticket(Mode::Read)?);
-    let counts = new_counts(alloc)?;
-    let mut entry = entered(alloc, held, &counts)?;
-    let same = has_tickets(&mut entry, held, softens, reads);
-    let stays = has_done(&counts, 0, usize::from(softens));
-    let outside = ends_outside(entry, spent, reads);
-    let gone = Arc::strong_count(&counts) == 1;
-    Some(same && stays && outside && gone && has_done(&counts, 1, usize::from(softens)))
+    match entered(alloc, first_ticket(mode), counts) {
+        Some(entry) => {
+            let mut entry = entry;
+            let same = has_tickets(&mut entry, softens);
+            let stays = has_done(counts, 0, usize::from(softens));
+            let outside = ends_outside(entry, spent);
+            let gone = Arc::strong_count(counts) == 1;
+            let once = has_done(counts, 1, usize::from(softens));
+            Some(same && stays && outside && gone && once)
+        }
+        None => None,
+    }
+}
+
+/// The same of a door with new counts.
+fn owned_door_leaves_once(alloc: Global, softens: bool, spent: bool) -> Option<bool> {
+    match new_counts(alloc) {
+        Some(counts) => owned_door_counts(alloc, &counts, softens, spent),
+        None => None,
+    }
 }
 
 #[test]
 fn leaves_once(rt: HostRuntime) -> Outcome {
     check_answers(&[
-        leaves_once_on_each_path(rt.alloc()),
-        stays(rt.alloc()),
+        is_counted(rt.alloc(), Mode::Read, Counted::LeavesOnce),
+        is_counted(rt.alloc(), Mode::Read, Counted::Stays),
         owned_door_leaves_once(rt.alloc(), false, true),
         owned_door_leaves_once(rt.alloc(), false, false),
     ])
@@ -367,48 +493,59 @@ fn softens_guard<D: Door>(guard: &mut EntryGuard<'_, D>, reads: Ticket) -> bool 
 }
 
 /// Whether a door that is entered softens once, and its guard has the tickets before and after it.
-fn softens_within<D: Door>(door: &mut D) -> Option<bool> {
-    let (writes, reads) = (first_ticket(Mode::Write)?, first_ticket(Mode::Read)?);
-    let mut guard = EntryGuard::enter(door)?;
-    let before = guard.ticket() == writes;
-    Some(before && softens_guard(&mut guard, reads))
+fn softens_within<D: Door>(door: &mut D) -> bool {
+    match EntryGuard::enter(door) {
+        Some(guard) => {
+            let mut guard = guard;
+            let before = guard.ticket() == first_ticket(Mode::Write);
+            before && softens_guard(&mut guard, first_ticket(Mode::Read))
+        }
+        None => false,
+    }
 }
 
 /// Whether a core softens by its guard, and is idle behind the guard's scope, with its release to say.
-fn is_softened() -> Option<bool> {
-    let mut core = writing_core()?;
-    let softens = softens_within(&mut core)?;
+fn is_softened(core: &mut ClientCore) -> bool {
+    let softens = softens_within(core);
     let left = core.phase() == Phase::Idle && core.ticket().is_none();
-    let release = core.message_for(node("n3")?);
-    Some(softens && left && release == message("release n3 c1 1"))
+    softens && left && says(core, "release n3 c1 1")
+}
+
+/// Softens a core by its guard, and forgets the guard.
+fn softens_for_good(core: &mut ClientCore) -> bool {
+    match EntryGuard::enter(core) {
+        Some(guard) => {
+            let mut guard = guard;
+            let softens = softens_guard(&mut guard, first_ticket(Mode::Read));
+            mem::forget(guard);
+            softens
+        }
+        None => false,
+    }
 }
 
 /// Whether a core whose guard is softened and forgotten is still inside, as a reader.
-fn stays_softened() -> Option<bool> {
-    let (mut core, reads) = (writing_core()?, first_ticket(Mode::Read)?);
-    let mut guard = EntryGuard::enter(&mut core)?;
-    let softens = softens_guard(&mut guard, reads);
-    mem::forget(guard);
-    let inside = core.phase() == Phase::Inside && core.ticket() == Some(reads);
-    let told = core.message_for(node("n3")?) == message("soften n3 c1 1");
-    Some(softens && inside && told && !core.may_soften() && !core.may_enter())
+fn stays_softened(core: &mut ClientCore) -> bool {
+    let softens = softens_for_good(core);
+    let reads = core.ticket() == Some(first_ticket(Mode::Read));
+    let inside = core.phase() == Phase::Inside && reads;
+    let told = says(core, "soften n3 c1 1");
+    softens && inside && told && !core.may_soften() && !core.may_enter()
 }
 
 /// Whether a door softens once by its guard, and leaves once when that is dropped.
-fn softens_once(alloc: Global) -> Option<bool> {
-    let mut door = new_counter(alloc, Mode::Write)?;
+fn softens_once(door: &mut Counter) -> bool {
     let outside = !door.may_soften();
-    let softens = softens_within(&mut door);
-    let once = !door.within && has_done(&door.counts, 1, 1);
-    all(&[softens, Some(outside && once)])
+    let softens = softens_within(door);
+    outside && softens && !door.within && has_done(&door.counts, 1, 1)
 }
 
 #[test]
 fn softens(rt: HostRuntime) -> Outcome {
     check_answers(&[
-        is_softened(),
-        stays_softened(),
-        softens_once(rt.alloc()),
+        is_so(Asker::Writing, Tried::Softened),
+        is_so(Asker::Writing, Tried::StaysSoftened),
+        is_counted(rt.alloc(), Mode::Write, Counted::SoftensOnce),
         owned_door_leaves_once(rt.alloc(), true, true),
         owned_door_leaves_once(rt.alloc(), true, false),
         owned_core_leaves(rt.alloc(), true),

@@ -2,7 +2,7 @@
 
 use crate::nodes::{SOFTENED, WRITER_WAITS};
 use crate::rows::bytes;
-use lock_messages::ResourceName;
+use lock_messages::{ClientId, ResourceName};
 use stable_record::{Line, NodeRecord, ResourceIndex, read_node};
 use std::alloc::Global;
 use test_outcomes::{Outcome, check_answers};
@@ -37,13 +37,11 @@ const LINES_OF_A_SOFTENED: [Row; 2] = [(b"a", Some((2, false, 1, &[3]))), (b"b",
 
 /// Whether those who wait are these.
 fn waits(line: &Line, clients: &[u32]) -> bool {
+    let mut right = line.waiting().len() == clients.len();
     for (place, client) in clients.iter().enumerate() {
-        match line.waiting().get(place) {
-            Some(found) if found.get() == *client => {}
-            _ => return false,
-        }
+        right &= line.waiting().get(place).copied() == ClientId::of(*client);
     }
-    line.waiting().len() == clients.len()
+    right
 }
 
 fn says(line: &Line, held: Held) -> bool {
@@ -53,39 +51,46 @@ fn says(line: &Line, held: Held) -> bool {
         && waits(line, held.3)
 }
 
-fn has(index: &ResourceIndex, row: &Row) -> Option<bool> {
-    let name = ResourceName::of(row.0)?;
+fn has(index: &ResourceIndex, row: &Row) -> bool {
+    let Some(name) = ResourceName::of(row.0) else {
+        return false;
+    };
     match (index.line(&name), row.1) {
-        (Some(line), Some(held)) => Some(says(line, held)),
-        (None, None) => Some(true),
-        _ => Some(false),
+        (Some(line), Some(held)) => says(line, held),
+        (None, None) => true,
+        _ => false,
     }
 }
 
-fn has_all(index: &ResourceIndex, rows: &[Row]) -> Option<bool> {
+fn has_all(index: &ResourceIndex, rows: &[Row]) -> bool {
+    let mut right = true;
     for row in rows {
-        if !has(index, row)? {
-            return Some(false);
-        }
+        right &= has(index, row);
     }
-    Some(true)
+    right
 }
 
 fn is_indexed(alloc: Global, record: &NodeRecord, rows: &[Row]) -> Option<bool> {
-    let index = ResourceIndex::of(alloc, record).ok()?;
-    has_all(&index, rows)
+    match ResourceIndex::of(alloc, record) {
+        Ok(index) => Some(has_all(&index, rows)),
+        Err(_) => None,
+    }
 }
 
 /// The record that is spelled so.
 fn read(alloc: Global, record: &str) -> Option<NodeRecord> {
-    let bytes = bytes(alloc, record)?;
-    read_node(alloc, &bytes).ok()
+    match bytes(alloc, record) {
+        Some(bytes) => read_node(alloc, &bytes).ok(),
+        None => None,
+    }
 }
 
 /// Whether the index of the record that is spelled so has just these lines.
 fn indexes(alloc: Global, record: &str, rows: &[Row]) -> Option<bool> {
-    let record = read(alloc, record)?;
-    is_indexed(alloc, &record, rows)
+    match read(alloc, record) {
+        Some(record) => is_indexed(alloc, &record, rows),
+        None => None,
+    }
 }
 
 #[test]

@@ -1,5 +1,7 @@
 //! Records that are kept: in memory, and on a device that fails.
 
+ghost use Rattle.std.specs.Prelude.{◌≤◌};
+
 use stable_record::{
     FaultyRecord, Leaves, MAX_RECORD_LEN, MemoryRecord, RecordFault, StableRecord,
 };
@@ -9,15 +11,17 @@ use test_outcomes::{Outcome, check_answer};
 
 /// Adds the number of a fault that is not want of memory.
 fn tell_fault(shown: &mut String, fault: RecordFault) -> Option<()> {
-    if fault == RecordFault::Memory {
-        return None;
+    match fault {
+        RecordFault::Memory => None,
+        _ => write!(shown, "{}", fault.number()).ok(),
     }
-    write!(shown, "{}", fault.number()).ok()
 }
 
 /// Adds what a restart finds.
 fn tell_found(shown: &mut String, found: &[u8]) -> Option<()> {
-    shown.push_str(str::from_utf8(found).ok()?).ok()
+    shown
+        .push_str(str::from_utf8(found).unwrap_or("no text"))
+        .ok()
 }
 
 /// Adds what a keep answers.
@@ -39,18 +43,27 @@ fn answer(shown: &mut String, record: &mut dyn StableRecord, call: &str) -> Opti
     }
 }
 
-/// Makes a call, and adds its answer and whether the record is then stuck or free after so many failures.
-fn tell_all(shown: &mut String, record: &mut dyn StableRecord, call: &str) -> Option<()> {
-    answer(shown, record, call)?;
-    let stuck = if record.stuck() { "stuck" } else { "free" };
-    write!(shown, " {stuck} {}", record.failures()).ok()
+/// Adds whether a record is stuck or free, after so many failures; whether there was memory.
+fn tell_state(shown: &mut String, stuck: bool, failures: u64) -> bool {
+    let state = if stuck { "stuck" } else { "free" };
+    write!(shown, " {state} {failures}").is_ok()
+}
+
+/// Makes a call, and adds its answer and the state of the record then; whether there was memory.
+fn tell_all(shown: &mut String, record: &mut dyn StableRecord, call: &str) -> bool {
+    let told = answer(shown, record, call).is_some();
+    told & tell_state(shown, record.stuck(), record.failures())
 }
 
 /// Whether a call of a row has the row's answer.
 fn goes(alloc: Global, record: &mut dyn StableRecord, row: &str) -> Option<bool> {
-    let (call, want) = row.split_once(" > ")?;
+    let (call, want) = row.split_once(" > ").unwrap_or((row, ""));
     let mut shown = String::new(alloc);
-    tell_all(&mut shown, record, call).and(Some(shown.as_str() == want))
+    if tell_all(&mut shown, record, call) {
+        Some(shown.as_str() == want)
+    } else {
+        None
+    }
 }
 
 fn plays(alloc: Global, record: &mut dyn StableRecord, script: &str) -> Outcome {
@@ -79,10 +92,9 @@ keep F > 301 stuck 2
 reopen > E free 2";
 
 /// Plays a script on a record that has A, whose keeps of these numbers fail.
-fn plays_faulty(alloc: Global, every: u32, leaves: Leaves, bad: u32, script: &str) -> Outcome {
-    if every == 0 {
-        return Ok(());
-    }
+fn plays_faulty(alloc: Global, every: u32, leaves: Leaves, bad: u32, script: &str) -> Outcome
+    requires { 1 ≤ every }
+{
     match FaultyRecord::of(alloc, b"A", every, leaves) {
         Ok(record) => plays(alloc, &mut record.with_bad_reopens(bad), script),
         Err(_) => check_answer(None, 0),
@@ -91,9 +103,10 @@ fn plays_faulty(alloc: Global, every: u32, leaves: Leaves, bad: u32, script: &st
 
 #[test]
 fn faulty_record(rt: HostRuntime) -> Outcome {
-    plays_faulty(rt.alloc(), 2, Leaves::New, 0, LEAVES_NEW)?;
-    plays_faulty(rt.alloc(), 2, Leaves::Old, 0, LEAVES_OLD)?;
-    plays_faulty(rt.alloc(), 9, Leaves::New, 2, BAD_REOPENS)
+    let new = plays_faulty(rt.alloc(), 2, Leaves::New, 0, LEAVES_NEW);
+    let old = plays_faulty(rt.alloc(), 2, Leaves::Old, 0, LEAVES_OLD);
+    let reopened = plays_faulty(rt.alloc(), 9, Leaves::New, 2, BAD_REOPENS);
+    new.and(old).and(reopened)
 }
 
 const BAD_REOPENS: &str = "\
@@ -113,10 +126,13 @@ reopen > D free 0";
 
 /// The same of a record in memory.
 fn plays_in_memory(alloc: Global, script: &str) -> Outcome {
-    let Ok(mut record) = MemoryRecord::holding(alloc, b"A") else {
-        return check_answer(None, 0);
-    };
-    plays(alloc, &mut record, script)
+    match MemoryRecord::holding(alloc, b"A") {
+        Ok(record) => {
+            let mut record = record;
+            plays(alloc, &mut record, script)
+        }
+        Err(_) => check_answer(None, 0),
+    }
 }
 
 /// A record in a box.
@@ -128,31 +144,51 @@ fn boxed(alloc: Global) -> Option<Box<dyn StableRecord + Send>> {
 
 /// The same of a record in a box.
 fn plays_in_a_box(alloc: Global, script: &str) -> Outcome {
-    let Some(mut record) = boxed(alloc) else {
-        return check_answer(None, 0);
-    };
-    plays(alloc, &mut *record, script)
+    match boxed(alloc) {
+        Some(record) => {
+            let mut record = record;
+            plays(alloc, &mut *record, script)
+        }
+        None => check_answer(None, 0),
+    }
 }
 
 #[test]
 fn kept_by_generic_code(rt: HostRuntime) -> Outcome {
-    plays_in_memory(rt.alloc(), KEEPS)?;
-    plays_in_a_box(rt.alloc(), KEEPS)?;
-    plays_faulty(rt.alloc(), 9, Leaves::Old, 0, KEEPS)?;
-    check_answer(keeps_the_longest(rt.alloc()), 0)
+    let in_memory = plays_in_memory(rt.alloc(), KEEPS);
+    let in_a_box = plays_in_a_box(rt.alloc(), KEEPS);
+    let on_a_device = plays_faulty(rt.alloc(), 9, Leaves::Old, 0, KEEPS);
+    let longest = check_answer(keeps_the_longest(rt.alloc()), 0);
+    in_memory.and(in_a_box).and(on_a_device).and(longest)
 }
 
 /// Whether the longest record is kept, and one that is longer is refused and leaves it.
 fn keeps_just(record: &mut MemoryRecord, longest: &mut Vec<u8>) -> Option<bool> {
-    record.keep(longest).ok()?;
-    longest.push(7).ok()?;
+    let kept = record.keep(longest).is_ok() && longest.push(7).is_ok();
     let refused = record.keep(longest) == Err(RecordFault::TooLong);
-    let found = record.reopen().ok()?;
-    Some(refused && found.len() == MAX_RECORD_LEN)
+    match record.reopen() {
+        Ok(found) if kept => Some(refused && found.len() == MAX_RECORD_LEN),
+        _ => None,
+    }
+}
+
+/// The same of a record in memory.
+fn keeps_just_in_memory(alloc: Global, longest: &mut Vec<u8>) -> Option<bool> {
+    match MemoryRecord::holding(alloc, b"A") {
+        Ok(record) => {
+            let mut record = record;
+            keeps_just(&mut record, longest)
+        }
+        Err(_) => None,
+    }
 }
 
 fn keeps_the_longest(alloc: Global) -> Option<bool> {
-    let mut longest = vec![in alloc; 7u8; MAX_RECORD_LEN].ok()?;
-    let mut record = MemoryRecord::holding(alloc, b"A").ok()?;
-    keeps_just(&mut record, &mut longest)
+    match vec![in alloc; 7u8; MAX_RECORD_LEN] {
+        Ok(longest) => {
+            let mut longest = longest;
+            keeps_just_in_memory(alloc, &mut longest)
+        }
+        Err(_) => None,
+    }
 }

@@ -12,7 +12,7 @@ mod attempts;
 #[cfg(test)]
 mod ballots;
 #[cfg(test)]
-mod changes;
+mod courses;
 #[cfg(test)]
 mod decisions;
 #[cfg(test)]
@@ -45,6 +45,8 @@ mod restarts;
 mod rows;
 #[cfg(test)]
 mod scripts;
+#[cfg(test)]
+mod spellings;
 #[cfg(test)]
 mod switches;
 #[cfg(test)]

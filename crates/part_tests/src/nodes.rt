@@ -2,7 +2,7 @@
 
 use crate::pairs::plain;
 use crate::replies::{Replies, are};
-use crate::rows::{all, are_spelled, bytes, message};
+use crate::rows::{are_spelled, bytes, message};
 use admission_policy::Pair;
 use lock_messages::{Message, NodeId};
 use lock_model::{Decision, Entry, Problem, decide};
@@ -40,17 +40,22 @@ pub(crate) const SOFTENED: &str = "01 01 0003 \
 00000003 0000000000000000 01 0000000000000001 01 01 61";
 
 /// n1 with this record.
-pub(crate) fn risen(alloc: Global, record: &[u8], policies: Pair) -> Option<NodeCore> {
+pub(crate) fn risen(alloc: Global, record: &[u8], policies: Option<Pair>) -> Option<NodeCore> {
+    let Some(policies) = policies else {
+        return None;
+    };
     match NodeCore::rise(alloc, NodeId::of(1).unwrap(), record, policies) {
         Ok(core) => Some(core),
-        Err(_) => None,
+        Err((_policies, _fault)) => None,
     }
 }
 
 /// n1 with the record that a row spells, and plain policies.
 pub(crate) fn plain_node(alloc: Global, record: &str) -> Option<NodeCore> {
-    let record = bytes(alloc, record)?;
-    risen(alloc, &record, plain(alloc)?)
+    match bytes(alloc, record) {
+        Some(record) => risen(alloc, &record, plain(alloc)),
+        None => None,
+    }
 }
 
 /// A node without entries, and with plain policies.
@@ -59,19 +64,23 @@ pub(crate) fn new_core(alloc: Global, problem: Problem) -> Option<NodeCore> {
         Problem::First => FIRST,
         Problem::Second => SECOND,
     };
-    risen(alloc, &record, plain(alloc)?)
+    risen(alloc, &record, plain(alloc))
 }
 
 /// Whether a record is written as these bytes.
 pub(crate) fn is_written_so(alloc: Global, node: &NodeRecord, bytes: &[u8]) -> Option<bool> {
-    let written = node_bytes(alloc, node).ok()?;
-    Some(written.as_slice() == bytes)
+    match node_bytes(alloc, node) {
+        Ok(written) => Some(written.as_slice() == bytes),
+        Err(_) => None,
+    }
 }
 
 /// Whether the node's record is the one that the row spells.
 pub(crate) fn has_record(alloc: Global, core: &NodeCore, row: &str) -> Option<bool> {
-    let found = core.next_bytes(alloc).ok()?;
-    are_spelled(alloc, &found, row)
+    match core.next_bytes(alloc) {
+        Ok(found) => are_spelled(alloc, &found, row),
+        Err(_) => None,
+    }
 }
 
 /// Takes a message, and neither keeps the record nor replies. Whether it changes the record.
@@ -80,15 +89,6 @@ pub(crate) fn takes(core: &mut NodeCore, message: &Message) -> Option<bool> {
         core.take(message).ok()
     } else {
         None
-    }
-}
-
-/// The problem of this number.
-fn problem(number: &str) -> Option<Problem> {
-    match number {
-        "1" => Some(Problem::First),
-        "2" => Some(Problem::Second),
-        _ => None,
     }
 }
 
@@ -101,11 +101,21 @@ pub(crate) fn switches(core: &mut NodeCore, problem: Problem) -> Option<bool> {
     }
 }
 
+/// The problem that a call gives the node, if it gives one.
+fn problem_of(call: &str) -> Option<Problem> {
+    match call {
+        "switch 1" => Some(Problem::First),
+        "switch 2" => Some(Problem::Second),
+        _ => None,
+    }
+}
+
 /// Makes a call, as `switch 1` or a message; whether the record changes.
 pub(crate) fn calls(core: &mut NodeCore, call: &str) -> Option<bool> {
-    match call.strip_prefix("switch ") {
-        Some(number) => switches(core, problem(number)?),
-        None => takes(core, &message(call)?),
+    match (problem_of(call), message(call)) {
+        (Some(problem), _) => switches(core, problem),
+        (None, Some(message)) => takes(core, &message),
+        (None, None) => None,
     }
 }
 
@@ -127,37 +137,43 @@ pub(crate) fn speaks(core: &mut NodeCore) -> Option<Vec<Message>> {
 
 /// Whether the record has these entries.
 fn has_entries(record: &NodeRecord, entries: &[Entry]) -> bool {
+    let mut right = record.entries.len() == entries.len();
     for (place, entry) in entries.iter().enumerate() {
-        if record.entries.get(place) != Some(*entry) {
-            return false;
-        }
+        right &= record.entries.get(place) == Some(*entry);
     }
-    record.entries.len() == entries.len()
+    right
 }
 
 /// The record of a node, as it is read again.
 pub(crate) fn read_again(alloc: Global, core: &NodeCore) -> Option<NodeRecord> {
-    let bytes = core.next_bytes(alloc).ok()?;
-    read_node(alloc, &bytes).ok()
+    match core.next_bytes(alloc) {
+        Ok(bytes) => read_node(alloc, &bytes).ok(),
+        Err(_) => None,
+    }
 }
 
-/// Whether the node's record has these entries.
-fn keeps_entries(alloc: Global, core: &NodeCore, entries: &[Entry]) -> Option<bool> {
-    let record = read_again(alloc, core)?;
-    Some(has_entries(&record, entries))
+/// Whether the node's record can be read again, and has these entries.
+fn keeps_entries(alloc: Global, core: &NodeCore, entries: &[Entry]) -> bool {
+    match read_again(alloc, core) {
+        Some(record) => has_entries(&record, entries),
+        None => false,
+    }
+}
+
+/// Whether the node says these replies.
+fn says(core: &mut NodeCore, replies: &[Message]) -> bool {
+    match speaks(core) {
+        Some(said) => said.as_slice() == replies,
+        None => false,
+    }
 }
 
 /// Whether a core makes of a message what the plain decision did.
-fn is_same(
-    alloc: Global,
-    core: &mut NodeCore,
-    message: &Message,
-    plain: &Decision,
-) -> Option<bool> {
-    let changed = takes(core, message)? == plain.changed;
+fn is_same(alloc: Global, core: &mut NodeCore, message: &Message, plain: &Decision) -> bool {
+    let changed = takes(core, message) == Some(plain.changed);
     keeps(core);
-    let said = speaks(core)?.as_slice() == plain.replies.as_slice();
-    Some(changed && said && keeps_entries(alloc, core, &plain.entries)?)
+    let said = says(core, &plain.replies);
+    changed && said && keeps_entries(alloc, core, &plain.entries)
 }
 
 /// Takes a message by the plain decision and by a core. Whether the entries change; none where the core
@@ -170,13 +186,15 @@ pub(crate) fn same_step(
     message: &Message,
     want: &Replies,
 ) -> Option<bool> {
-    let plain = decide(alloc, problem, entries, message).ok()?;
-    let changed = plain.entries.as_slice() != entries.as_slice();
-    let right = all(&[
-        is_same(alloc, core, message, &plain),
-        are(alloc, &plain.replies, want),
-        Some(plain.changed == changed),
-    ]);
-    *entries = plain.entries;
-    (right == Some(true)).then_some(changed)
+    match decide(alloc, problem, entries, message) {
+        Ok(plain) => {
+            let changed = plain.entries.as_slice() != entries.as_slice();
+            let right = is_same(alloc, core, message, &plain)
+                && are(alloc, &plain.replies, want)
+                && plain.changed == changed;
+            *entries = plain.entries;
+            right.then_some(changed)
+        }
+        Err(_) => None,
+    }
 }

@@ -66,23 +66,24 @@ fn counts(pair: &mut Pair, words: &str, want: (Tally, Tally)) -> bool {
     has_counted(pair, want)
 }
 
-fn counting_counts(alloc: Global, words: &str, want: (Tally, Tally)) -> Option<bool> {
-    let mut pair = counting(alloc)?;
-    Some(counts(&mut pair, words, want))
-}
-
-fn plain_counts(alloc: Global, words: &str, want: (Tally, Tally)) -> Option<bool> {
-    let mut pair = plain(alloc)?;
-    Some(counts(&mut pair, words, want))
+/// The same of a pair that memory was found for.
+fn made_counts(pair: Option<Pair>, words: &str, want: (Tally, Tally)) -> Option<bool> {
+    match pair {
+        Some(pair) => {
+            let mut pair = pair;
+            Some(counts(&mut pair, words, want))
+        }
+        None => None,
+    }
 }
 
 /// Whether a counting pair counts what it is told, and one of plain policies or of none nothing.
 fn told(alloc: Global, words: &str, want: (Tally, Tally)) -> Option<bool> {
     let nothing = ((0, 0), (0, 0));
     all(&[
-        counting_counts(alloc, words, want),
-        plain_counts(alloc, words, nothing),
-        Some(counts(&mut without(), words, nothing)),
+        made_counts(counting(alloc), words, want),
+        made_counts(plain(alloc), words, nothing),
+        made_counts(Some(without()), words, nothing),
     ])
 }
 
@@ -120,22 +121,20 @@ fn answers(pair: &Pair) -> bool {
     right
 }
 
-fn plain_answers(alloc: Global) -> Option<bool> {
-    let pair = plain(alloc)?;
-    Some(answers(&pair))
-}
-
-fn counting_answers(alloc: Global) -> Option<bool> {
-    let pair = counting(alloc)?;
-    Some(answers(&pair))
+/// The same of a pair that memory was found for.
+fn made_answers(pair: Option<Pair>) -> Option<bool> {
+    match pair {
+        Some(pair) => Some(answers(&pair)),
+        None => None,
+    }
 }
 
 #[test]
 fn asked_by_the_problem(rt: HostRuntime) -> Outcome {
     check_answers(&[
-        plain_answers(rt.alloc()),
-        counting_answers(rt.alloc()),
-        Some(answers(&without())),
+        made_answers(plain(rt.alloc())),
+        made_answers(counting(rt.alloc())),
+        made_answers(Some(without())),
     ])
 }
 

@@ -1,8 +1,8 @@
 //! Each change of one byte of a node's record against a plain reader of the table of fields.
 
-use crate::changes::{Spelled, each_change};
 use crate::nodes::is_written_so;
-use crate::rows::{all, bytes, number, spells};
+use crate::rows::{both, bytes, number, spells};
+use crate::spellings::{Spelled, each_change};
 use stable_record::read_node;
 use std::alloc::Global;
 use test_outcomes::{Outcome, check_answers};
@@ -36,65 +36,78 @@ impl Row<'_> {
     }
 }
 
-/// The number of so many bytes at the front, and what is behind it; or 311, or the fault of one that
-/// does not lie from least to most.
-fn field(
-    bytes: &[u8],
-    width: usize,
-    (least, most): (u64, u64),
+/// What is left of the bytes, and the first fault of the fields before it; 0 for none.
+#[derive(Clone, Copy)]
+struct Fields<'a> {
+    rest: &'a [u8],
     fault: u16,
-) -> Result<(u64, &[u8]), u16> {
-    let Some((field, rest)) = bytes.split_at_checked(width) else {
-        return Err(311);
-    };
-    let value = number(field);
-    if value < least || most < value {
-        return Err(fault);
-    }
-    Ok((value, rest))
 }
 
-/// The ticket of a row behind its state, whose attempt is one above the floor. A softened one reads.
-fn ticket<'a>(bytes: &'a [u8], row: &mut Row<'a>, floor: u64) -> Result<&'a [u8], u16> {
-    let (attempt, rest) = field(bytes, 8, (1, 1_000_000_000_000), 314)?;
-    if attempt != floor.saturating_add(1) {
-        return Err(316);
-    }
-    let most = if row.state == 3 { 0 } else { 1 };
-    let (writes, rest) = field(rest, 1, (0, most), 314)?;
-    let (size, rest) = field(rest, 1, (1, 32), 314)?;
-    if !spells(rest, size as usize) {
-        return Err(314);
-    }
-    let Some((name, rest)) = rest.split_at_checked(size as usize) else {
-        return Err(311);
-    };
-    row.writes = writes == 1;
-    row.name = name;
-    Ok(rest)
-}
-
-/// The row at the front, of a client of which there is none yet, and what is behind it.
-fn entry<'a>(bytes: &'a [u8], rows: &[Row<'a>]) -> Result<(Row<'a>, &'a [u8]), u16> {
-    let (client, rest) = field(bytes, 4, (1, 1_024), 314)?;
-    for row in rows {
-        if row.client == client {
-            return Err(315);
+impl<'a> Fields<'a> {
+    /// Finds this fault where something is wrong, unless one was found before.
+    fn refuse(&mut self, wrong: bool, fault: u16) {
+        if wrong && self.fault == 0 {
+            self.fault = fault;
         }
     }
-    let (floor, rest) = field(rest, 8, (0, 1_000_000_000_000), 314)?;
-    let (state, rest) = field(rest, 1, (0, 3), 314)?;
-    let mut row = Row {
-        client,
-        state,
-        writes: false,
-        name: &[],
-    };
-    if state == 0 {
-        return Ok((row, rest));
+
+    /// The next bytes, so many of them; none where there are fewer, which is 311.
+    fn next(&mut self, count: usize) -> &'a [u8] {
+        match self.rest.split_at_checked(count) {
+            Some((front, rest)) => {
+                self.rest = rest;
+                front
+            }
+            None => {
+                self.refuse(true, 311);
+                &[]
+            }
+        }
     }
-    let rest = ticket(rest, &mut row, floor)?;
-    Ok((row, rest))
+
+    /// The number of so many bytes; this fault where it does not lie from least to most.
+    fn number(&mut self, width: usize, (least, most): (u64, u64), fault: u16) -> u64 {
+        let value = number(self.next(width));
+        self.refuse(value < least || most < value, fault);
+        value
+    }
+
+    /// The ticket of a row behind its state, whose attempt is one above the floor. A softened one reads.
+    fn ticket(&mut self, row: &mut Row<'a>, floor: u64) {
+        let attempt = self.number(8, (1, 1_000_000_000_000), 314);
+        self.refuse(attempt != floor.saturating_add(1), 316);
+        let most = if row.state == 3 { 0 } else { 1 };
+        row.writes = self.number(1, (0, most), 314) == 1;
+        let size = self.number(1, (1, 32), 314) as usize;
+        self.refuse(!spells(self.rest, size), 314);
+        row.name = self.next(size);
+    }
+
+    /// The next row, of a client of which there is none yet.
+    fn entry(&mut self, rows: &[Row<'a>]) -> Row<'a> {
+        let client = self.number(4, (1, 1_024), 314);
+        self.refuse(has_client(rows, client), 315);
+        let floor = self.number(8, (0, 1_000_000_000_000), 314);
+        let state = self.number(1, (0, 3), 314);
+        let mut row = Row {
+            client,
+            state,
+            writes: false,
+            name: &[],
+        };
+        if state != 0 {
+            self.ticket(&mut row, floor);
+        }
+        row
+    }
+}
+
+fn has_client(rows: &[Row], client: u64) -> bool {
+    let mut found = false;
+    for row in rows {
+        found |= row.client == client;
+    }
+    found
 }
 
 /// The fault of a row among the others: 317, 318, or 0 for none.
@@ -133,33 +146,33 @@ fn judged_all(policy: u64, rows: &[Row]) -> u16 {
     fault
 }
 
-/// Adds the rows that the bytes spell, and answers the policy, or the first fault of their fields; 320
-/// where memory is refused.
-fn put_rows<'a>(bytes: &'a [u8], rows: &mut Vec<Row<'a>>) -> Result<u64, u16> {
-    let (_, rest) = field(bytes, 1, (1, 1), 312)?;
-    let (policy, rest) = field(rest, 1, (1, 2), 313)?;
-    let (count, rest) = field(rest, 2, (0, 1_024), 314)?;
-    let mut rest = rest;
+/// Adds the rows that the bytes spell, and answers the policy; 320 is the fault where memory is refused.
+fn put_rows<'a>(fields: &mut Fields<'a>, rows: &mut Vec<Row<'a>>) -> u64 {
+    fields.number(1, (1, 1), 312);
+    let policy = fields.number(1, (1, 2), 313);
+    let count = fields.number(2, (0, 1_024), 314);
     for _ in 0..count {
-        let (row, behind) = entry(rest, rows)?;
-        let Ok(()) = rows.push(row) else {
-            return Err(320);
-        };
-        rest = behind;
+        if fields.fault == 0 {
+            let row = fields.entry(rows);
+            fields.refuse(rows.push(row).is_err(), 320);
+        }
     }
-    if rest.is_empty() {
-        Ok(policy)
-    } else {
-        Err(319)
-    }
+    fields.refuse(!fields.rest.is_empty(), 319);
+    policy
 }
 
 /// The number of the fault that the table of fields finds in the bytes; 320 where memory is refused.
 fn by_the_table(alloc: Global, bytes: &[u8]) -> u16 {
+    let mut fields = Fields {
+        rest: bytes,
+        fault: 0,
+    };
     let mut rows = Vec::new(alloc);
-    match put_rows(bytes, &mut rows) {
-        Ok(policy) => judged_all(policy, &rows),
-        Err(fault) => fault,
+    let policy = put_rows(&mut fields, &mut rows);
+    if fields.fault == 0 {
+        judged_all(policy, &rows)
+    } else {
+        fields.fault
     }
 }
 
@@ -167,7 +180,7 @@ fn by_the_table(alloc: Global, bytes: &[u8]) -> u16 {
 pub(crate) fn agrees(alloc: Global, bytes: &[u8]) -> Option<bool> {
     let want = by_the_table(alloc, bytes);
     match read_node(alloc, bytes) {
-        Ok(node) => all(&[Some(want == 0), is_written_so(alloc, &node, bytes)]),
+        Ok(node) => both(Some(want == 0), is_written_so(alloc, &node, bytes)),
         Err(fault) => match fault.number() {
             320 => None,
             found => Some(want == 320 || want == found),
@@ -177,8 +190,13 @@ pub(crate) fn agrees(alloc: Global, bytes: &[u8]) -> Option<bool> {
 
 /// Whether the record is read as the table says with each byte changed to each other value.
 fn all_agree(alloc: Global, row: &str) -> Option<bool> {
-    let mut record = bytes(alloc, row)?;
-    each_change(alloc, Spelled::Record, &mut record)
+    match bytes(alloc, row) {
+        Some(record) => {
+            let mut record = record;
+            each_change(alloc, Spelled::Record, &mut record)
+        }
+        None => None,
+    }
 }
 
 #[test]

@@ -1,7 +1,9 @@
 //! Node and client records against bytes that were written by hand, and entries.
 
 use crate::nodes::{SETTLED, SOFTENED, WRITER_WAITS, is_written_so};
-use crate::rows::{all, bytes, put_entry, ticket};
+use crate::rows::{all, both, bytes, put_entry, ticket};
+use crate::spellings::{Spelled, begin_short, has_fault, put};
+use crate::tables::{Table, each};
 use lock_messages::{ClientId, Mode, ResourceName, Ticket};
 use lock_model::Problem;
 use stable_record::{
@@ -11,7 +13,7 @@ use std::alloc::Global;
 use test_outcomes::{Outcome, check_answer, check_answers};
 
 /// The number of the fault that reading a node's record finds; 0 where it finds none.
-fn fault_of(alloc: Global, bytes: &[u8]) -> Option<u16> {
+pub(crate) fn fault_of(alloc: Global, bytes: &[u8]) -> Option<u16> {
     match read_node(alloc, bytes) {
         Ok(_) => Some(0),
         Err(RecordFault::NoMemory) => None,
@@ -49,25 +51,6 @@ const SOFTENED_RECORDS: &str = "\
 318 01 02 0002 00000001 0000000000000000 03 0000000000000001 00 01 61 00000002 0000000000000000 01 0000000000000001 00 01 61
 319 01 01 0001 00000001 0000000000000000 03 0000000000000001 00 01 61 00";
 
-/// Whether these bytes have this fault.
-fn has_fault(alloc: Global, bytes: &[u8], want: u16) -> Option<bool> {
-    Some(fault_of(alloc, bytes)? == want)
-}
-
-/// Whether the bytes of a row have its fault.
-fn is_faulty(alloc: Global, row: &str) -> Option<bool> {
-    let (want, spelled) = row.split_once(' ')?;
-    let record = bytes(alloc, spelled)?;
-    has_fault(alloc, &record, want.parse().unwrap_or(u16::MAX))
-}
-
-fn are_faulty(alloc: Global, rows: &str) -> Outcome {
-    for (number, row) in rows.lines().enumerate() {
-        check_answer(is_faulty(alloc, row), number)?;
-    }
-    Ok(())
-}
-
 // A place in the record in which a writer waits, another byte there, and the fault.
 const CHANGES: [(usize, u8, u16); 25] = [
     (1, 0x01, 318),
@@ -103,13 +86,14 @@ fn is_changed(
     record: &mut [u8],
     (place, byte, fault): (usize, u8, u16),
 ) -> Option<bool> {
-    let before = *record.get(place)?;
-    *record.get_mut(place)? = byte;
-    let right = has_fault(alloc, record, fault);
-    *record.get_mut(place)? = before;
+    let before = record.get(place).copied().unwrap_or(0);
+    put(record, place, byte);
+    let right = has_fault(alloc, Spelled::Record, record, fault);
+    put(record, place, before);
     right
 }
 
+/// Whether the record has the fault of each change.
 fn are_changed(alloc: Global, record: &mut [u8]) -> Outcome {
     for (number, row) in CHANGES.iter().enumerate() {
         check_answer(is_changed(alloc, record, *row), number)?;
@@ -128,59 +112,57 @@ fn all_are_changed(alloc: Global) -> Outcome {
     }
 }
 
-/// Whether each beginning of these bytes is short.
-fn begin_short(alloc: Global, record: &[u8]) -> Option<bool> {
-    for end in 0..record.len() {
-        if !has_fault(alloc, record.get(..end)?, 311)? {
-            return Some(false);
-        }
-    }
-    Some(true)
-}
-
 /// Whether each beginning of a record is short.
 fn begins_short(alloc: Global, record: &str) -> Option<bool> {
-    let record = bytes(alloc, record)?;
-    begin_short(alloc, &record)
+    match bytes(alloc, record) {
+        Some(record) => begin_short(alloc, Spelled::Record, &record, 311),
+        None => None,
+    }
 }
 
 #[test]
 fn node_record_faults(rt: HostRuntime) -> Outcome {
-    are_faulty(rt.alloc(), NODE_RECORDS)?;
-    are_faulty(rt.alloc(), SOFTENED_RECORDS)?;
-    all_are_changed(rt.alloc())?;
-    check_answers(&[
+    let faulty = each(rt.alloc(), Table::FaultyRecords, NODE_RECORDS);
+    let softened = each(rt.alloc(), Table::FaultyRecords, SOFTENED_RECORDS);
+    let changed = all_are_changed(rt.alloc());
+    let short = check_answers(&[
         begins_short(rt.alloc(), WRITER_WAITS),
         begins_short(rt.alloc(), SOFTENED),
-    ])
+    ]);
+    faulty.and(softened).and(changed).and(short)
 }
 
 /// Whether a record has so many entries, is lawful and caused, and is written as these bytes.
 fn is_written(alloc: Global, node: &NodeRecord, bytes: &[u8], entries: usize) -> Option<bool> {
     let is_good = node.entries.len() == entries && node.lawful() && node.caused();
-    Some(is_good && is_written_so(alloc, node, bytes)?)
+    both(Some(is_good), is_written_so(alloc, node, bytes))
 }
 
 /// Whether these bytes are a record of so many entries, and are written again.
 fn goes_there_and_back(alloc: Global, bytes: &[u8], entries: usize) -> Option<bool> {
-    let node = read_node(alloc, bytes).ok()?;
-    is_written(alloc, &node, bytes, entries)
+    match read_node(alloc, bytes) {
+        Ok(node) => is_written(alloc, &node, bytes, entries),
+        Err(_) => None,
+    }
 }
 
 /// Whether the record that is spelled so, which has three entries, is written again.
 fn is_written_again(alloc: Global, spelled: &str) -> Option<bool> {
-    let record = bytes(alloc, spelled)?;
-    goes_there_and_back(alloc, &record, 3)
+    match bytes(alloc, spelled) {
+        Some(record) => goes_there_and_back(alloc, &record, 3),
+        None => None,
+    }
 }
 
-/// Adds the record of problem 1 in which so many clients read the same resource in their last attempt.
-fn put_readers(out: &mut Vec<u8>, clients: u16) -> Option<()> {
-    out.extend_from_slice(&[1, 1]).ok()?;
-    out.extend_from_slice(&clients.to_be_bytes()).ok()?;
+/// Adds the record of problem 1 in which so many clients read the same resource in their last attempt; whether
+/// there was memory.
+fn put_readers(out: &mut Vec<u8>, clients: u16) -> bool {
+    let mut put = out.extend_from_slice(&[1, 1]).is_ok();
+    put &= out.extend_from_slice(&clients.to_be_bytes()).is_ok();
     for client in 1..=clients {
-        put_entry(out, client as u32, 1_000_000_000_000, (2, 0), &[b'z'; 32])?;
+        put &= put_entry(out, client as u32, 1_000_000_000_000, (2, 0), &[b'z'; 32]);
     }
-    Some(())
+    put
 }
 
 /// Whether a record of so many entries has the size that it is to have, and goes there and back.
@@ -189,7 +171,8 @@ fn has_size(alloc: Global, clients: u16) -> Option<bool> {
     let mut record = Vec::new(alloc);
     let put = put_readers(&mut record, clients);
     all(&[
-        put.and(Some(record.len() == 4 + 55 * entries)),
+        put.then_some(true),
+        Some(record.len() == 4 + 55 * entries),
         goes_there_and_back(alloc, &record, entries),
     ])
 }
@@ -233,11 +216,12 @@ fn idler() -> Entry {
     }
 }
 
-/// Pushes two entries; whether so many of their clients were new.
-fn pushes(entries: &mut Entries, first: Entry, second: Entry, new: u8) -> Option<bool> {
-    let one = entries.push(first).ok()?;
-    let other = entries.push(second).ok()?;
-    Some(u8::from(one) + u8::from(other) == new)
+/// Pushes two entries; whether the clients of both are new, or of neither.
+fn pushes(entries: &mut Entries, first: Entry, second: Entry, new: bool) -> Option<bool> {
+    match (entries.push(first), entries.push(second)) {
+        (Ok(one), Ok(other)) => Some(one == new && other == new),
+        _ => None,
+    }
 }
 
 /// Whether these two are the entries, in this order.
@@ -258,12 +242,14 @@ fn admits(entries: &Entries, resource: &ResourceName) -> bool {
 
 /// Whether entries stand in the order in which they were pushed, each client once.
 fn are_in_order(alloc: Global) -> Option<bool> {
-    let ticket = ticket(7, 1, Mode::Read, b"a")?;
+    let Some(ticket) = ticket(7, 1, Mode::Read, b"a") else {
+        return None;
+    };
     let (first, second) = (holder(ticket), idler());
     let mut entries = Entries::new(alloc);
     all(&[
-        pushes(&mut entries, first, second, 2),
-        pushes(&mut entries, first, second, 0),
+        pushes(&mut entries, first, second, true),
+        pushes(&mut entries, first, second, false),
         Some(are_these(&entries, first, second) && admits(&entries, &ticket.resource)),
     ])
 }
@@ -274,33 +260,37 @@ fn entries_in_order(rt: HostRuntime) -> Outcome {
 }
 
 // The attempt that a client's record has, or its fault.
-const CLIENT_RECORDS: [(u64, &str); 7] = [
-    (0, "01 0000000000000000"),
-    (1_000_000_000_000, "01 000000e8d4a51000"),
-    (321, "01 000000e8d4a510"),
-    (321, "01"),
-    (322, "02"),
-    (323, "01 000000e8d4a51001 00"),
-    (324, "01 0000000000000000 00"),
-];
+const CLIENT_RECORDS: &str = "\
+0 01 0000000000000000
+1000000000000 01 000000e8d4a51000
+321 01 000000e8d4a510
+321 01
+322 02
+323 01 000000e8d4a51001 00
+324 01 0000000000000000 00";
 
-fn is_read(alloc: Global, spelled: &str, want: u64) -> Option<bool> {
-    let record = bytes(alloc, spelled)?;
-    let found = match read_client(&record) {
+/// The attempt that a client's record has, or the number of its fault.
+fn found_in(record: &[u8]) -> u64 {
+    match read_client(record) {
         Ok(attempt) => attempt,
         Err(fault) => fault.number() as u64,
-    };
-    Some(want == found)
+    }
+}
+
+pub(crate) fn is_read(alloc: Global, row: &str) -> Option<bool> {
+    let (want, spelled) = row.split_once(' ').unwrap_or((row, ""));
+    match bytes(alloc, spelled) {
+        Some(record) => Some(found_in(&record) == want.parse().unwrap_or(u64::MAX)),
+        None => None,
+    }
 }
 
 #[test]
 fn client_records(rt: HostRuntime) -> Outcome {
-    for (number, row) in CLIENT_RECORDS.iter().enumerate() {
-        check_answer(is_read(rt.alloc(), row.1, row.0), number)?;
-    }
-    check_answers(&[
+    let read = each(rt.alloc(), Table::ClientRecords, CLIENT_RECORDS);
+    read.and(check_answers(&[
         Some(client_bytes(0) == [1, 0, 0, 0, 0, 0, 0, 0, 0]),
         Some(client_bytes(1_000_000_000_000) == [1, 0, 0, 0, 0xe8, 0xd4, 0xa5, 0x10, 0]),
         Some(read_client(&[]).is_err()),
-    ])
+    ]))
 }

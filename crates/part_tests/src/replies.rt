@@ -18,17 +18,24 @@ pub(crate) enum Replies<'a> {
     ToAll,
 }
 
-/// Adds replies as text, one after the other.
-pub(crate) fn tell(text: &mut String, replies: &[Message]) -> Option<()> {
+/// Adds replies as text, one after the other; whether there was memory.
+pub(crate) fn tell(text: &mut String, replies: &[Message]) -> bool {
+    let mut told = true;
     for reply in replies {
-        write!(text, ", {reply}").ok()?;
+        told &= write!(text, ", {reply}").is_ok();
     }
-    Some(())
+    told
 }
 
-fn say(alloc: Global, replies: &[Message], want: &str) -> Option<bool> {
+fn say(alloc: Global, replies: &[Message], want: &str) -> bool {
     let mut text = String::new(alloc);
-    tell(&mut text, replies).and(Some(text.get(2..) == Some(want)))
+    tell(&mut text, replies) && text.get(2..) == Some(want)
+}
+
+/// The number of the client of the digit at a place; 0 where there is none.
+pub(crate) fn client_at(digits: &str, place: usize) -> u32 {
+    let digit = digits.as_bytes().get(place).copied().unwrap_or(b'0');
+    digit.wrapping_sub(b'0') as u32
 }
 
 /// Whether a reply at this place is to a client, which has sent the message where the place is the first.
@@ -44,37 +51,34 @@ fn is_to(place: usize, reply: &Message, number: u32) -> bool {
 
 /// Whether the replies are to the clients of these digits, in this order.
 fn are_to(replies: &[Message], digits: &str) -> bool {
+    let mut right = replies.len() == digits.len();
     for (place, reply) in replies.iter().enumerate() {
-        let client = digits.as_bytes().get(place).copied().unwrap_or(b'0');
-        if !is_to(place, reply, client.wrapping_sub(b'0') as u32) {
-            return false;
-        }
+        right &= is_to(place, reply, client_at(digits, place));
     }
-    replies.len() == digits.len()
+    right
 }
 
 /// Whether the replies are to c1 to c1024, in this order.
 fn are_to_all(replies: &[Message]) -> bool {
+    let mut right = true;
     let mut number = 0u32;
     for (place, reply) in replies.iter().enumerate() {
         number = number.saturating_add(1);
-        if !is_to(place, reply, number) {
-            return false;
-        }
+        right &= is_to(place, reply, number);
     }
-    number == 1_024
+    right && number == 1_024
 }
 
 /// Whether the replies are what they have to be.
-pub(crate) fn are(alloc: Global, replies: &[Message], want: &Replies) -> Option<bool> {
+pub(crate) fn are(alloc: Global, replies: &[Message], want: &Replies) -> bool {
     match want {
-        Replies::Any => Some(true),
-        Replies::One => Some(replies.len() == 1),
+        Replies::Any => true,
+        Replies::One => replies.len() == 1,
         Replies::Said(text) => say(alloc, replies, text),
         Replies::To(digits) => {
             let is_done = matches!(replies.first(), Some(Message::Done(..)));
-            Some(is_done && are_to(replies, digits))
+            is_done && are_to(replies, digits)
         }
-        Replies::ToAll => Some(are_to_all(replies)),
+        Replies::ToAll => are_to_all(replies),
     }
 }

@@ -1,9 +1,10 @@
 //! Scripts of calls of one node.
 
+use crate::courses::{Course, follows};
 use crate::long_runs::keeps_its_index;
 use crate::nodes::{calls, has_record, keeps, plain_node, speaks};
 use crate::replies::tell;
-use crate::rows::{all, bytes};
+use crate::rows::{all, both, bytes};
 use stable_record::RecordFault;
 use std::alloc::Global;
 use voter_core::{NodeCore, Phase, VoterFault};
@@ -24,35 +25,45 @@ pub(crate) enum Step {
     Rests(&'static str),
 }
 
-/// What a call is answered.
-fn answered(core: &mut NodeCore, call: &str, shown: &mut String) -> Option<()> {
-    let changed = calls(core, call)?;
+/// Says the replies, and adds them; whether there was memory.
+fn tell_replies(core: &mut NodeCore, shown: &mut String) -> bool {
+    match speaks(core) {
+        Some(replies) => tell(shown, &replies),
+        None => false,
+    }
+}
+
+/// Adds what a call is answered; whether there was memory.
+fn tell_answer(core: &mut NodeCore, call: &str, shown: &mut String) -> bool {
+    let changed = match calls(core, call) {
+        Some(true) => "changed",
+        Some(false) => "same",
+        None => "refused",
+    };
     let about = core.phase();
     keeps(core);
-    let changed = if changed { "changed" } else { "same" };
-    write!(shown, "{changed} {about:?}").ok()?;
-    let replies = speaks(core)?;
-    tell(shown, &replies)
+    let told = write!(shown, "{changed} {about:?}").is_ok();
+    told && tell_replies(core, shown)
 }
 
 /// Whether the call of a row is answered as the row says, and the index that the core keeps is then that of
 /// its record.
 fn says(alloc: Global, core: &mut NodeCore, row: &str) -> Option<bool> {
-    let (call, want) = row.split_once(" > ")?;
+    let (call, want) = row.split_once(" > ").unwrap_or((row, ""));
     let mut shown = String::new(alloc);
-    all(&[
-        answered(core, call, &mut shown).and(Some(shown.as_str() == want)),
-        keeps_its_index(alloc, core),
-    ])
+    if tell_answer(core, call, &mut shown) {
+        both(Some(shown.as_str() == want), keeps_its_index(alloc, core))
+    } else {
+        None
+    }
 }
 
 fn says_all(alloc: Global, core: &mut NodeCore, rows: &str) -> Option<bool> {
+    let mut right = Some(true);
     for row in rows.lines() {
-        if !says(alloc, core, row)? {
-            return Some(false);
-        }
+        right = both(right, says(alloc, core, row));
     }
-    Some(true)
+    right
 }
 
 fn decides(
@@ -62,30 +73,34 @@ fn decides(
     replies: usize,
     record: &str,
 ) -> Option<bool> {
-    let changed = calls(core, call)?;
+    let changed = calls(core, call);
     let decided = core.phase() == Phase::Decided && core.replies() == replies;
-    Some(changed && decided && has_record(alloc, core, record)?)
+    all(&[changed, Some(decided), has_record(alloc, core, record)])
 }
 
 /// Whether the node is about nothing, with this record.
 fn rests(alloc: Global, core: &NodeCore, record: &str) -> Option<bool> {
     let is_idle = core.phase() == Phase::Idle && core.replies() == 0;
-    Some(is_idle && has_record(alloc, core, record)?)
+    both(Some(is_idle), has_record(alloc, core, record))
 }
 
 fn restarts(alloc: Global, core: &mut NodeCore, record: &str) -> Option<bool> {
-    let bytes = bytes(alloc, record)?;
-    let restarted = core.restart(&bytes).ok();
-    restarted.and(rests(alloc, core, record))
+    match bytes(alloc, record) {
+        Some(bytes) => {
+            let restarted = core.restart(&bytes).is_ok();
+            both(restarted.then_some(true), rests(alloc, core, record))
+        }
+        None => None,
+    }
 }
 
 fn refuses(alloc: Global, core: &mut NodeCore, record: &str) -> Option<bool> {
-    let found = core.restart(&[3]).err()?;
-    if found == VoterFault::Memory {
-        return None;
-    }
-    let version = VoterFault::Unreadable(RecordFault::Version);
-    Some(found == version && has_record(alloc, core, record)?)
+    let refused = match core.restart(&[3]) {
+        Ok(()) => Some(false),
+        Err(VoterFault::Memory) => None,
+        Err(found) => Some(found == VoterFault::Unreadable(RecordFault::Version)),
+    };
+    both(refused, has_record(alloc, core, record))
 }
 
 /// Whether a step goes as it should, and the index that the core keeps is then that of its record.
@@ -97,21 +112,19 @@ fn goes(alloc: Global, core: &mut NodeCore, step: Step) -> Option<bool> {
         Step::Refuses(record) => refuses(alloc, core, record),
         Step::Rests(record) => rests(alloc, core, record),
     };
-    all(&[right, keeps_its_index(alloc, core)])
+    both(right, keeps_its_index(alloc, core))
 }
 
 /// Whether a script goes to its end.
 pub(crate) fn plays(alloc: Global, core: &mut NodeCore, script: &[Step]) -> Option<bool> {
+    let mut right = Some(true);
     for step in script {
-        if !goes(alloc, core, *step)? {
-            return Some(false);
-        }
+        right = both(right, goes(alloc, core, *step));
     }
-    Some(true)
+    right
 }
 
 /// Whether a script goes to its end in a node that has risen with this record.
 pub(crate) fn plays_from(alloc: Global, record: &str, script: &[Step]) -> Option<bool> {
-    let mut core = plain_node(alloc, record)?;
-    plays(alloc, &mut core, script)
+    follows(alloc, plain_node(alloc, record), &Course::Plays(script))
 }

@@ -1,9 +1,10 @@
 //! A node that takes the other problem: whom it lets in, what it keeps, and what its policies count.
 
+use crate::courses::{Course, follows};
 use crate::long_runs::keeps_its_index;
 use crate::nodes::{SECOND, SWITCHED, WRITER_WAITS, keeps, read_again, risen, speaks, switches};
 use crate::pairs::{counting, has_counted, plain};
-use crate::rows::{all, put_entry};
+use crate::rows::{both, put_entry};
 use crate::scripts::{Step, plays, plays_from};
 use lock_messages::{Message, Ticket};
 use lock_model::{Entry, Live, Problem, Status};
@@ -172,10 +173,14 @@ switch 2 > changed Decided";
 
 /// Whether the policies of a node of problem 2 fall out of it with what was counted under each problem.
 fn counts(alloc: Global) -> Option<bool> {
-    let mut core = risen(alloc, &SECOND, counting(alloc)?)?;
-    let right = plays(alloc, &mut core, &[Step::Plays(COUNTED)]);
-    let counted = has_counted(&core.fall(), ((1, 1), (2, 2)));
-    all(&[right, Some(counted)])
+    match risen(alloc, &SECOND, counting(alloc)) {
+        Some(core) => {
+            let mut core = core;
+            let right = plays(alloc, &mut core, &[Step::Plays(COUNTED)]);
+            both(right, Some(has_counted(&core.fall(), ((1, 1), (2, 2)))))
+        }
+        None => None,
+    }
 }
 
 #[test]
@@ -183,8 +188,8 @@ fn counted_under_each_problem(rt: HostRuntime) -> Outcome {
     check_answer(counts(rt.alloc()), 0)
 }
 
-/// Adds the entry at a place of a record.
-fn put_entry_at(entries: &mut Vec<Entry>, record: &NodeRecord, place: usize) -> Option<()> {
+/// Adds the entry at a place of a record; whether there is one, and was memory.
+fn put_entry_at(entries: &mut Vec<Entry>, record: &NodeRecord, place: usize) -> bool {
     let Some(
         Entry {
             client,
@@ -193,36 +198,42 @@ fn put_entry_at(entries: &mut Vec<Entry>, record: &NodeRecord, place: usize) -> 
         },
     ) = record.entries.get(place)
     else {
-        return None;
+        return false;
     };
     let live: Option<Live> = live;
-    entries
-        .push(Entry {
-            client,
-            floor,
-            live,
-        })
-        .ok()
+    let entry = Entry {
+        client,
+        floor,
+        live,
+    };
+    entries.push(entry).is_ok()
 }
 
-/// Adds the entries of a record.
-fn put_entries(entries: &mut Vec<Entry>, record: &NodeRecord) -> Option<()> {
+/// Adds the entries of a record; whether there was memory.
+fn put_entries(entries: &mut Vec<Entry>, record: &NodeRecord) -> bool {
+    let mut put = true;
     for place in 0..record.entries.len() {
-        put_entry_at(entries, record, place)?;
+        put &= put_entry_at(entries, record, place);
     }
-    Some(())
+    put
 }
 
-/// Adds the entries of the node's record, as it can be read again.
-fn put_entries_of(alloc: Global, core: &NodeCore, entries: &mut Vec<Entry>) -> Option<()> {
-    let record = read_again(alloc, core)?;
-    put_entries(entries, &record)
+/// Adds the entries of the node's record, as it can be read again; whether it can.
+fn put_entries_of(alloc: Global, core: &NodeCore, entries: &mut Vec<Entry>) -> bool {
+    match read_again(alloc, core) {
+        Some(record) => put_entries(entries, &record),
+        None => false,
+    }
 }
 
 /// The entries of the node's record, as it can be read again.
 pub(crate) fn entries_of(alloc: Global, core: &NodeCore) -> Option<Vec<Entry>> {
     let mut entries = Vec::new(alloc);
-    put_entries_of(alloc, core, &mut entries).and(Some(entries))
+    if put_entries_of(alloc, core, &mut entries) {
+        Some(entries)
+    } else {
+        None
+    }
 }
 
 /// Whether a ticket waited that holds now, the rest of its entry as it was.
@@ -244,35 +255,19 @@ fn is_let_in(before: &Entry, after: &Entry) -> bool {
     }
 }
 
-/// The Grant of n1 to a ticket that holds.
-fn grant_of(core: &NodeCore, entry: &Entry) -> Option<Message> {
-    let live = entry.live?;
-    let ticket = Ticket {
-        client: entry.client,
-        attempt: live.attempt,
-        mode: live.mode,
-        resource: live.resource,
-    };
-    Some(Message::Grant(core.node(), ticket))
-}
-
-/// How many of the replies are said after this entry, of those that were before it: one more where its ticket
-/// is let in, and then the next reply is its Grant.
-fn said_after(
-    core: &NodeCore,
-    before: &Entry,
-    after: &Entry,
-    replies: &[Message],
-    said: usize,
-) -> Option<usize> {
-    if before == after {
-        return Some(said);
-    }
-    let grant = grant_of(core, after)?;
-    if is_let_in(before, after) && replies.get(said) == Some(&grant) {
-        Some(said.saturating_add(1))
-    } else {
-        None
+/// Whether a reply is the Grant of n1 to the ticket of an entry.
+fn is_granted(core: &NodeCore, entry: &Entry, reply: Option<&Message>) -> bool {
+    match (entry.live, reply) {
+        (Some(live), Some(Message::Grant(node, ticket))) => {
+            let wanted = Ticket {
+                client: entry.client,
+                attempt: live.attempt,
+                mode: live.mode,
+                resource: live.resource,
+            };
+            *node == core.node() && *ticket == wanted
+        }
+        _ => false,
     }
 }
 
@@ -284,24 +279,25 @@ fn count_let_in(
     after: &[Entry],
     replies: &[Message],
 ) -> Option<usize> {
+    let mut right = after.len() == before.len();
     let mut said = 0usize;
-    for (place, entry) in before.iter().enumerate() {
-        said = said_after(core, entry, after.get(place)?, replies, said)?;
+    for (old, new) in before.iter().zip(after) {
+        if old != new {
+            right &= is_let_in(old, new) && is_granted(core, new, replies.get(said));
+            said = said.saturating_add(1);
+        }
     }
-    if after.len() == before.len() && said == replies.len() {
-        Some(said)
-    } else {
-        None
-    }
+    (right && said == replies.len()).then_some(said)
 }
 
 /// The same of a node that has said these replies. None also where the index isn't that of the record.
 fn said(alloc: Global, core: &NodeCore, before: &[Entry], replies: &[Message]) -> Option<usize> {
-    if keeps_its_index(alloc, core) != Some(true) {
-        return None;
+    match entries_of(alloc, core) {
+        Some(after) if keeps_its_index(alloc, core) == Some(true) => {
+            count_let_in(core, before, &after, replies)
+        }
+        _ => None,
     }
-    let after = entries_of(alloc, core)?;
-    count_let_in(core, before, &after, replies)
 }
 
 fn switched_from(
@@ -310,24 +306,26 @@ fn switched_from(
     problem: Problem,
     before: &[Entry],
 ) -> Option<usize> {
-    if !switches(core, problem)? {
-        return None;
-    }
+    let is_other = switches(core, problem) == Some(true);
     keeps(core);
-    let replies = speaks(core)?;
-    said(alloc, core, before, &replies)
+    match speaks(core) {
+        Some(replies) if is_other => said(alloc, core, before, &replies),
+        _ => None,
+    }
 }
 
 /// Gives a node the other problem, keeps that, and counts whom it lets in. None where its record can't be
 /// read again, which no record can that has a waiting ticket without a cause; or where the index isn't that
 /// of the record.
 pub(crate) fn switched(alloc: Global, core: &mut NodeCore, problem: Problem) -> Option<usize> {
-    let before = entries_of(alloc, core)?;
-    switched_from(alloc, core, problem, &before)
+    match entries_of(alloc, core) {
+        Some(before) => switched_from(alloc, core, problem, &before),
+        None => None,
+    }
 }
 
-/// Adds the entry of a client to the record below.
-fn put_in_the_crowd(out: &mut Vec<u8>, problem: Problem, client: u32) -> Option<()> {
+/// Adds the entry of a client to the record below; whether there was memory.
+fn put_in_the_crowd(out: &mut Vec<u8>, problem: Problem, client: u32) -> bool {
     let (state, letter) = match (problem, client) {
         (Problem::First, 1) => ((2, 1), b'a'),
         (Problem::First, _) => ((1, 0), b'a'),
@@ -341,36 +339,35 @@ fn put_in_the_crowd(out: &mut Vec<u8>, problem: Problem, client: u32) -> Option<
 /// Adds the record of problem 1 in which c1 holds `a` as a writer, and c2 to c1024 wait for it as readers;
 /// or that of problem 2 in which c1 to c1024 ask for `a` to `h` in turn: of each resource the first client
 /// holds it as a reader, the next waits for it as a writer, and all others wait behind that one as readers.
-fn put_crowd(out: &mut Vec<u8>, problem: Problem) -> Option<()> {
+fn put_crowd(out: &mut Vec<u8>, problem: Problem) -> bool {
     let number = if problem == Problem::First { 1 } else { 2 };
-    out.extend_from_slice(&[1, number, 4, 0]).ok()?;
+    let mut put = out.extend_from_slice(&[1, number, 4, 0]).is_ok();
     for client in 1..=1_024u32 {
-        put_in_the_crowd(out, problem, client)?;
+        put &= put_in_the_crowd(out, problem, client);
     }
-    Some(())
+    put
 }
 
 /// The node that has risen with that record.
 pub(crate) fn crowded_node(alloc: Global, problem: Problem) -> Option<NodeCore> {
-    let policies = plain(alloc)?;
     let mut record = Vec::new(alloc);
-    put_crowd(&mut record, problem).and(risen(alloc, &record, policies))
+    if put_crowd(&mut record, problem) {
+        risen(alloc, &record, plain(alloc))
+    } else {
+        None
+    }
 }
 
 /// Whether a switch lets in all readers that wait, and later ones let in nobody more.
-fn lets_in_once(alloc: Global, core: &mut NodeCore) -> Option<bool> {
-    let all = switched(alloc, core, Problem::First)?;
-    let back = switched(alloc, core, Problem::Second)?;
-    let again = switched(alloc, core, Problem::First)?;
-    Some(all == 1_008 && back == 0 && again == 0)
-}
-
-fn lets_all_in(alloc: Global) -> Option<bool> {
-    let mut core = crowded_node(alloc, Problem::Second)?;
-    lets_in_once(alloc, &mut core)
+pub(crate) fn lets_in_once(alloc: Global, core: &mut NodeCore) -> Option<bool> {
+    let all_in = switched(alloc, core, Problem::First) == Some(1_008);
+    let back = switched(alloc, core, Problem::Second) == Some(0);
+    let again = switched(alloc, core, Problem::First) == Some(0);
+    (all_in && back && again).then_some(true)
 }
 
 #[test]
 fn many_lines_at_once(rt: HostRuntime) -> Outcome {
-    check_answer(lets_all_in(rt.alloc()), 0)
+    let core = crowded_node(rt.alloc(), Problem::Second);
+    check_answer(follows(rt.alloc(), core, &Course::LetsInOnce), 0)
 }

@@ -1,6 +1,7 @@
 //! How the rows of a table are asked.
 
-use crate::{frames, words};
+use crate::spellings::{Spelled, is_faulty};
+use crate::{attempts, frames, records, words};
 use std::alloc::Global;
 use test_outcomes::{Outcome, check_answer};
 
@@ -14,7 +15,10 @@ pub(crate) enum Table {
     Names,
     ForOne,
     Spelled,
-    Faulty,
+    FaultyFrames,
+    FaultyRecords,
+    ClientRecords,
+    Heard,
     Short,
     NameLengths,
     Changed,
@@ -29,7 +33,10 @@ fn holds(alloc: Global, table: Table, row: &str) -> Option<bool> {
         Table::Names => words::ascends(row),
         Table::ForOne => words::is_for_one(row),
         Table::Spelled => frames::is_spelled(alloc, row),
-        Table::Faulty => frames::is_faulty(alloc, row),
+        Table::FaultyFrames => is_faulty(alloc, Spelled::Frame, row),
+        Table::FaultyRecords => is_faulty(alloc, Spelled::Record, row),
+        Table::ClientRecords => records::is_read(alloc, row),
+        Table::Heard => attempts::in_each_phase(alloc, row),
         Table::Short => frames::begins_short(alloc, row),
         Table::NameLengths => frames::goes_there_and_back(alloc, row),
         Table::Changed => frames::all_agree(alloc, row),

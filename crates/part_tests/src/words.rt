@@ -5,7 +5,8 @@ use crate::tables::{Table, each};
 use lock_messages::{Actor, ClientId, NodeId, ResourceName};
 use std::alloc::Global;
 use std::cmp::Ordering;
-use test_outcomes::{Outcome, check_answer};
+use std::fmt;
+use test_outcomes::{Outcome, check_row};
 
 // Each kind of message, numbers and names at their limits.
 const MESSAGES: &str = "\
@@ -22,10 +23,20 @@ softened n16 c1024 1
 done n16 c1024 1
 request n16 c4 7 write abcdefghijklmnopqrstuvwxyz-12345";
 
+/// Whether a value prints as this text.
+fn shows<T: fmt::Display>(alloc: Global, value: &T, text: &str) -> Option<bool> {
+    match value.to_string(alloc) {
+        Ok(shown) => Some(shown.as_str() == text),
+        Err(_) => None,
+    }
+}
+
 /// Whether a message prints as it was read.
 pub(crate) fn prints(alloc: Global, row: &str) -> Option<bool> {
-    let shown = message(row)?.to_string(alloc).ok()?;
-    Some(shown.as_str() == row)
+    match message(row) {
+        Some(message) => shows(alloc, &message, row),
+        None => None,
+    }
 }
 
 const ACTORS: &str = "\
@@ -36,18 +47,16 @@ c1024";
 
 /// Whether an actor prints as it was read.
 pub(crate) fn actor_prints(alloc: Global, row: &str) -> Option<bool> {
-    let actor = match node(row) {
-        Some(node) => Actor::Node(node),
-        None => Actor::Client(client(row)?),
-    };
-    let shown = actor.to_string(alloc).ok()?;
-    Some(shown.as_str() == row)
+    match (node(row), client(row)) {
+        (Some(node), _) => shows(alloc, &Actor::Node(node), row),
+        (None, Some(client)) => shows(alloc, &Actor::Client(client), row),
+        (None, None) => None,
+    }
 }
 
 #[test]
 fn words_print(rt: HostRuntime) -> Outcome {
-    each(rt.alloc(), Table::Printed, MESSAGES)?;
-    each(rt.alloc(), Table::Actors, ACTORS)
+    each(rt.alloc(), Table::Printed, MESSAGES).and(each(rt.alloc(), Table::Actors, ACTORS))
 }
 
 // Each has a number or a name that is out of range.
@@ -73,19 +82,17 @@ pub(crate) fn is_no_message(row: &str) -> Option<bool> {
 
 /// Whether a name of one byte is a name for the bytes of names alone, and no name is empty.
 fn are_bytes_of_names() -> bool {
+    let mut right = ResourceName::of(b"").is_none();
     for byte in 0..=255u8 {
         let lawful = b"abcdefghijklmnopqrstuvwxyz0123456789-".contains(&byte);
-        if ResourceName::of(&[byte]).is_some() != lawful {
-            return false;
-        }
+        right &= ResourceName::of(&[byte]).is_some() == lawful;
     }
-    ResourceName::of(b"").is_none()
+    right
 }
 
 #[test]
 fn words_out_of_range(rt: HostRuntime) -> Outcome {
-    each(rt.alloc(), Table::NoMessages, NO_MESSAGES)?;
-    check_answer(Some(are_bytes_of_names()), 256)
+    each(rt.alloc(), Table::NoMessages, NO_MESSAGES).and(check_row(are_bytes_of_names(), 256))
 }
 
 // Two names, the lesser first.
@@ -100,10 +107,17 @@ aa b
 - b";
 
 pub(crate) fn ascends(row: &str) -> Option<bool> {
-    let (low, high) = row.split_once(' ')?;
-    let low = ResourceName::of(low.as_bytes())?;
-    let high = ResourceName::of(high.as_bytes())?;
-    Some(low < high && high > low && low != high && low.cmp(&low) == Ordering::Equal)
+    let (low, high) = row.split_once(' ').unwrap_or((row, ""));
+    match (
+        ResourceName::of(low.as_bytes()),
+        ResourceName::of(high.as_bytes()),
+    ) {
+        (Some(low), Some(high)) => {
+            let differ = low < high && high > low && low != high;
+            Some(differ && low.cmp(&low) == Ordering::Equal)
+        }
+        _ => None,
+    }
 }
 
 #[test]
@@ -129,12 +143,15 @@ muddled n1 c1 1
 softened n1 c1 1";
 
 pub(crate) fn is_for_one(row: &str) -> Option<bool> {
-    let (message, to_node) = (message(row)?, is_to_node(row));
+    let Some(message) = message(row) else {
+        return None;
+    };
+    let to_node = is_to_node(row);
     Some(
-        message.is_for_node(NodeId::of(1)?) == to_node
-            && message.is_for_client(ClientId::of(1)?) != to_node
-            && !message.is_for_node(NodeId::of(2)?)
-            && !message.is_for_client(ClientId::of(2)?),
+        message.is_for_node(NodeId::of(1).unwrap()) == to_node
+            && message.is_for_client(ClientId::of(1).unwrap()) != to_node
+            && !message.is_for_node(NodeId::of(2).unwrap())
+            && !message.is_for_client(ClientId::of(2).unwrap()),
     )
 }
 

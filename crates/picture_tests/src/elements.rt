@@ -1,16 +1,12 @@
 // Marks as SVG: of the least and of the greatest size.
 
-ghost use Rattle.lock_messages.specs.Ids.{IsNode};
-
 use history_check::LineFault;
-use lock_messages::{
-    Actor, Attempt, ClientId, MAX_ATTEMPT, Message, Mode, NodeId, ResourceName, Ticket,
-};
+use lock_messages::{Actor, Attempt, ClientId, MAX_ATTEMPT, Message, Mode, ResourceName, Ticket};
 use lock_model::Heard;
 use picture_svg::{Frame, push_end, push_head, push_mark};
 use run_picture::{Lasting, Mark, Part, Place, Sign};
 use std::alloc::Global;
-use test_outcomes::{Failure, Outcome, check_row};
+use test_outcomes::{Failure, Outcome, check_row, node_id};
 use world_model::{Effect, Event, StepFault};
 
 const LEAST: Frame = Frame {
@@ -66,19 +62,10 @@ fn ticket(client: u32, attempt: u64, name: &[u8]) -> Result<Ticket, Failure> {
     })
 }
 
-fn node(number: u8) -> NodeId
-    requires { IsNode number }
-{
-    let Some(id) = NodeId::of(number) else {
-        unreachable!()
-    };
-    id
-}
-
 /// Each mark of the least numbers has a title.
 #[test]
 fn least_marks(rt: HostRuntime) -> Outcome {
-    let (node, ticket) = (node(1), ticket(1, 1, b"a")?);
+    let (node, ticket) = (node_id(1), ticket(1, 1, b"a")?);
     let place = Place { line: 1, height: 1 };
     for index in 0..SIGNS {
         let mark = Mark {
@@ -95,7 +82,7 @@ fn least_marks(rt: HostRuntime) -> Outcome {
 /// So has each mark of the greatest.
 #[test]
 fn greatest_marks(rt: HostRuntime) -> Outcome {
-    let node = node(16);
+    let node = node_id(16);
     let ticket = ticket(1024, MAX_ATTEMPT, b"abcdefghijklmnopqrstuvwxyz-01234")?;
     let upto = Place {
         line: 4_194_304,

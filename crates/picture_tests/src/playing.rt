@@ -5,12 +5,12 @@ use admission_policy::{Admission, FirstProblem, Pair, SecondProblem};
 use journal_audit::AuditFault;
 use journal_picture::{Drawing, draw_lines};
 use line_streams::{LineReader, MAX_READS};
-use lock_messages::{Actor, ClientId, NodeId};
+use lock_messages::Actor;
 use lock_model::Problem;
 use run_picture::{Lasting, Part};
 use std::alloc::Global;
 use std::io::Read;
-use test_outcomes::Failure;
+use test_outcomes::{Failure, client_id, node_id};
 use vote_weights::{Ballot, BallotList};
 use world_machine::World;
 
@@ -48,16 +48,12 @@ fn world(alloc: Global) -> Result<World, Failure> {
 }
 
 /// The world's actors, all of them down.
-fn all_down() -> Result<[Lasting; 3], Failure> {
-    let (Some(node), Some(one), Some(two)) = (NodeId::of(1), ClientId::of(1), ClientId::of(2))
-    else {
-        return Err(Failure::Wrong(0));
-    };
-    Ok([
-        Lasting::Down(Actor::Node(node)),
-        Lasting::Down(Actor::Client(one)),
-        Lasting::Down(Actor::Client(two)),
-    ])
+fn all_down() -> [Lasting; 3] {
+    [
+        Lasting::Down(Actor::Node(node_id(1))),
+        Lasting::Down(Actor::Client(client_id(1))),
+        Lasting::Down(Actor::Client(client_id(2))),
+    ]
 }
 
 /// What comes of drawing a part of the journal that a reader gives, and its marks.
@@ -69,7 +65,7 @@ pub(crate) fn draw<R: Read>(
 where
     R: Drop,
 {
-    let down = all_down()?;
+    let down = all_down();
     let world = world(alloc)?;
     let mut source = LineReader::new(reader, MAX_READS);
     let mut canvas = Listing::new(alloc);

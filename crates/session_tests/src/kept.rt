@@ -5,12 +5,11 @@ ghost use Rattle.world_machine.specs.Opened.{IsResumed};
 ghost use Rattle.session_tests.specs.Fresh.{one_node};
 
 use crate::programs::{in_memory, pairs};
-use crate::worlds::{client_id, node_id};
 use history_book::Book;
 use lock_messages::Actor;
 use stable_record::{MemoryRecord, StableRecord};
 use std::alloc::Global;
-use test_outcomes::{Failure, Outcome};
+use test_outcomes::{Failure, Outcome, client_id, node_id};
 use vote_weights::BallotList;
 use world_machine::World;
 

@@ -8,7 +8,7 @@ use crate::audits::journal_of;
 use crate::faults::of_book;
 use crate::neighbours::Neighbour;
 use crate::programs::in_memory;
-use crate::worlds::{Berths, ballots, book, frame_for, give_berths, node_id, resource, world};
+use crate::worlds::{Berths, ballots, book, frame_for, give_berths, resource, world};
 use book_recorders::{BookName, BookRecorder, Logs, Named, SharedRecorder};
 use event_recorders::Recorder;
 use history_book::Book;
@@ -19,7 +19,7 @@ use stable_record::{MemoryRecord, client_bytes};
 use std::alloc::Global;
 use std::marker::Brand;
 use std::sync::{Mutex, Wait};
-use test_outcomes::{Failure, Outcome, check_row};
+use test_outcomes::{Failure, Outcome, check_row, node_id};
 use vote_weights::BallotList;
 use world_machine::World;
 

@@ -1,41 +1,18 @@
 // A world of one node and two clients in which all are down and nothing is kept, and a book over it.
 
 ghost use Rattle.std.specs.Prelude.{◌≡◌, IfOk};
-ghost use Rattle.lock_messages.specs.Ids.{IsNode, IsClient};
 ghost use Rattle.session_tests.specs.Fresh.{IsNewBook, IsUnlogged, new_world, one_node};
 
 use crate::faults::of_book;
 use admission_policy::{Admission, FirstProblem, Pair, SecondProblem};
 use bytes::Bytes;
 use history_book::{Berth, Book};
-use lock_messages::{
-    Actor, Attempt, ClientId, Message, Mode, NodeId, ResourceName, Ticket, encode,
-};
+use lock_messages::{Actor, Attempt, ClientId, Message, Mode, ResourceName, Ticket, encode};
 use lock_model::Problem;
 use std::alloc::Global;
-use test_outcomes::Failure;
+use test_outcomes::{Failure, client_id, node_id};
 use vote_weights::{Ballot, BallotList};
 use world_machine::World;
-
-pub(crate) fn node_id(number: u8) -> NodeId
-    requires { IsNode number }
-    ensures { result ≡ number }
-{
-    let Some(id) = NodeId::of(number) else {
-        unreachable!()
-    };
-    id
-}
-
-pub(crate) fn client_id(number: u32) -> ClientId
-    requires { IsClient number }
-    ensures { result ≡ number }
-{
-    let Some(id) = ClientId::of(number) else {
-        unreachable!()
-    };
-    id
-}
 
 pub(crate) fn resource(name: &[u8]) -> Result<ResourceName, Failure> {
     ResourceName::of(name).ok_or(Failure::Wrong(0))

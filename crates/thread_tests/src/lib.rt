@@ -1,7 +1,7 @@
 //! Tests of what threads share, by its public calls alone: weathers and links.
 //!
 //! It has no code but tests, and stands on the crates that it tests. Each file is named for what it
-//! shows.
+//! shows; `sending` has what the tests share.
 #![tactic(auto)]
 
 #[cfg(test)]
@@ -12,5 +12,7 @@ mod links;
 mod links_of_threads;
 #[cfg(test)]
 mod rests;
+#[cfg(test)]
+mod sending;
 #[cfg(test)]
 mod weathers;

@@ -1,191 +1,188 @@
-//! Links over lists, and links over channels on one thread. A test ends with an error that begins with
-//! `wrong` where an answer is wrong.
+//! Links over lists, and links over channels on one thread.
 
-ghost use Rattle.lock_messages.specs.Ids.{IsNode, IsClient};
-
-use bytes::Bytes;
-use lock_messages::{Actor, ClientId, NodeId};
-use lossy_link::{ChannelLink, Fate, Link, ListLink, Parcel, Post, Sending, Weather};
+use crate::sending::{brings, links_of, next_is, number_of, parcel, sends, taken};
+use lock_messages::Actor;
+use lossy_link::{ChannelLink, Fate, Link, ListLink, Post, Sending, Weather};
 use std::alloc::Global;
+use std::mem::drop;
 use std::sync::Wait;
-use std::test::Fail;
+use test_outcomes::{Outcome, check_answer, check_answers, client_id, node_id};
 
-pub(crate) fn node(number: u8) -> NodeId
-    requires { IsNode number }
-{
-    let Some(id) = NodeId::of(number) else {
-        unreachable!()
-    };
-    id
+/// A post of each kind, and a switch to the greatest number.
+fn one_of_each(alloc: Global) -> Option<Vec<Post>> {
+    let mut posts = Vec::new(alloc);
+    let mut all = posts.push(Post::Parcel(parcel(1))).is_ok();
+    all &= posts.push(Post::Nudge(node_id(2))).is_ok();
+    all &= posts.push(Post::Gone(node_id(3))).is_ok();
+    all &= posts.push(Post::Switch(2)).is_ok();
+    all &= posts.push(Post::Switch(255)).is_ok();
+    if all { Some(posts) } else { None }
 }
 
-pub(crate) fn client(number: u32) -> ClientId
-    requires { IsClient number }
-{
-    let Some(id) = ClientId::of(number) else {
-        unreachable!()
-    };
-    id
-}
-
-pub(crate) fn parcel(number: u32) -> Parcel {
-    Parcel {
-        number,
-        frame: Bytes::from_static(b"frame"),
-    }
-}
-
-/// A post by a number: a parcel by its own, a nudge by 100 and its node, an end by 200 and its node, a switch
-/// by 300 and its problem's number.
-pub(crate) fn number_of(post: &Post) -> u32 {
-    match post {
-        Post::Parcel(parcel) => parcel.number,
-        Post::Nudge(node) => 100 + u32::from(node.get()),
-        Post::Gone(node) => 200 + u32::from(node.get()),
-        Post::Switch(number) => 300 + u32::from(*number),
-    }
-}
-
-/// What comes over a link until it is closed, by numbers.
-fn received<L: Link>(alloc: Global, link: &mut L) -> Result<Vec<u32>, Fail> {
-    let mut numbers = Vec::new(alloc);
-    for _ in 0..20 {
-        let Ok(post) = link.receive() else {
-            return Ok(numbers);
-        };
-        numbers.push(number_of(&post))?;
-    }
-    Err("wrong: it is never closed".into())
-}
-
-pub(crate) fn same_numbers(found: &[u32], want: &[u32], what: &str) -> Result<(), Fail> {
-    if found == want {
-        Ok(())
-    } else {
-        Err(Fail::new(format_args!("wrong: {what}: {found:?}, and not {want:?}")))
-    }
+/// Whether a list gives its posts, and is closed behind them from then on.
+fn gives_its_posts(alloc: Global) -> Option<bool> {
+    let mut link = ListLink::of(one_of_each(alloc)?);
+    Some(brings(&mut link, &[1, 102, 203, 302, 555]) && brings(&mut link, &[]))
 }
 
 #[test]
-fn posts_of_a_list(rt: HostRuntime) -> Result<(), Fail> {
-    let mut posts = Vec::new(rt.alloc());
-    posts.push(Post::Parcel(parcel(1)))?;
-    posts.push(Post::Nudge(node(2)))?;
-    posts.push(Post::Gone(node(3)))?;
-    posts.push(Post::Switch(2))?;
-    posts.push(Post::Switch(255))?;
-    let mut link = ListLink::of(posts);
-    same_numbers(
-        &received(rt.alloc(), &mut link)?,
-        &[1, 102, 203, 302, 555],
-        "the posts",
-    )?;
-    same_numbers(
-        &received(rt.alloc(), &mut link)?,
-        &[],
-        "the posts behind them",
-    )
+fn posts_of_a_list(rt: HostRuntime) -> Outcome {
+    check_answers(&[gives_its_posts(rt.alloc())])
 }
 
-/// Sends, and where memory is refused sends again: then nothing has changed.
-fn send_again(link: &mut ListLink, number: u32) -> Result<(), Fail> {
+/// Sends, and where memory is refused sends again; whether nothing had changed then.
+fn send_again(link: &mut ListLink, number: u32) -> Option<bool> {
     let before = link.sent().len();
-    if link.send(Actor::Node(node(1)), parcel(number)).is_ok() {
-        return Ok(());
+    if link.send(Actor::Node(node_id(1)), parcel(number)).is_ok() {
+        return Some(true);
     }
     if link.sent().len() != before {
-        return Err("wrong: a refused parcel is remembered".into());
+        return Some(false);
     }
-    Ok(link.send(Actor::Node(node(1)), parcel(number))?)
+    match link.send(Actor::Node(node_id(1)), parcel(number)) {
+        Ok(()) => Some(true),
+        Err(_) => None,
+    }
 }
 
-/// What was given to a link, by numbers.
-fn given(alloc: Global, link: &ListLink) -> Result<Vec<u32>, Fail> {
-    let mut numbers = Vec::new(alloc);
-    for sending in link.sent() {
-        let number = match sending {
-            Sending::Sent(_, parcel) => parcel.number,
-            Sending::Told(post) => number_of(post),
-        };
-        numbers.push(number)?;
+fn number_given(sending: &Sending) -> u32 {
+    match sending {
+        Sending::Sent(_, parcel) => parcel.number,
+        Sending::Told(post) => number_of(post),
     }
-    Ok(numbers)
+}
+
+/// Whether just these were given to a link, by their numbers.
+fn was_given(link: &ListLink, numbers: &[u32]) -> bool {
+    let mut right = link.sent().len() == numbers.len();
+    for (sending, number) in link.sent().iter().zip(numbers.iter()) {
+        right &= number_given(sending) == *number;
+    }
+    right
+}
+
+/// Whether a link over lists remembers what it is given, also where memory was refused in between.
+fn remembers(link: &mut ListLink) -> Option<bool> {
+    let mut right = send_again(link, 1)?;
+    if link.tell_all(Post::Gone(node_id(3))).is_err() {
+        return None;
+    }
+    for number in 2..6 {
+        right &= send_again(link, number)?;
+    }
+    Some(right && was_given(link, &[1, 203, 2, 3, 4, 5]))
 }
 
 #[test]
-fn what_a_list_was_given(rt: HostRuntime) -> Result<(), Fail> {
-    let mut link = ListLink::of(Vec::new(rt.alloc()));
-    send_again(&mut link, 1)?;
-    link.tell_all(Post::Gone(node(3)))?;
-    for number in 2..6 {
-        send_again(&mut link, number)?;
-    }
-    same_numbers(
-        &given(rt.alloc(), &link)?,
-        &[1, 203, 2, 3, 4, 5],
-        "what was given",
-    )
+fn what_a_list_was_given(rt: HostRuntime) -> Outcome {
+    check_answers(&[remembers(&mut ListLink::of(Vec::new(rt.alloc())))])
 }
 
-/// A weather whose first fates at the place are these.
-fn weather_with(place: u32, fates: &[Fate]) -> Result<Weather, Fail> {
+/// Whether the next fates of a weather are these.
+fn brings_fates(weather: &mut Weather, fates: &[Fate]) -> bool {
+    let mut fits = true;
+    for fate in fates {
+        fits &= weather.fate() == *fate;
+    }
+    fits
+}
+
+/// Whether the first fates at a place are these, in the weather of a seed.
+fn begins_with(seed: u64, place: u32, fates: &[Fate]) -> bool {
+    match Weather::of(seed, 250, 250, 250) {
+        Ok(weather) => brings_fates(&mut weather.at(place), fates),
+        Err(_) => false,
+    }
+}
+
+/// The first seed in whose weather the first fates at a place are these.
+fn seed_with(place: u32, fates: &[Fate]) -> Option<u64> {
     for seed in 0..100_000u64 {
-        let weather = Weather::of(seed, 250, 250, 250)?;
-        let mut tried = weather.at(place);
-        let mut fits = true;
-        for fate in fates {
-            fits = tried.fate() == *fate && fits;
-        }
-        if fits {
-            return Ok(weather);
+        if begins_with(seed, place, fates) {
+            return Some(seed);
         }
     }
-    Err("wrong: no weather begins so".into())
+    None
 }
 
-/// The links of one node and one client.
-#[derive(Drop)]
-struct Linked<R: Wait + Copy> {
-    of_node: ChannelLink<R>,
-    of_client: ChannelLink<R>,
-}
+/// The place of the node's link, where one node and one client are linked.
+const NODE: u8 = 0;
+/// The place of the client's.
+const CLIENT: u8 = 1;
 
-/// Links one node and one client.
-fn link_both<R: Wait + Copy>(rt: R, alloc: Global, weather: &Weather) -> Result<Linked<R>, Fail> {
-    let mut links = ChannelLink::all(rt, alloc, 1, 1, weather)?;
-    let (Some(of_client), Some(of_node)) = (links.pop(), links.pop()) else {
-        return Err("wrong: a link is missing".into());
-    };
-    Ok(Linked { of_node, of_client })
+/// Between a node and a client: over whose link parcels are sent, to whom, and whose link is dropped then.
+#[derive(Clone, Copy)]
+struct Course {
+    from: u8,
+    to: Actor,
+    dropped: u8,
 }
 
 /// Fates of parcels, and the numbers that come for them.
 type Fated = (&'static [Fate], &'static [u32]);
 
-/// Sends so many parcels, numbered from 1, to the actor.
-fn send_all<L: Link>(link: &mut L, to: &Actor, count: usize) -> Result<(), Fail> {
+/// The links of one node and one client, where the first fates over that at a place are these.
+fn link_both<R: Wait + Copy>(
+    rt: R,
+    alloc: Global,
+    place: u8,
+    fates: &[Fate],
+) -> Option<Vec<ChannelLink<R>>> {
+    let place = u32::from(place);
+    let weather = Weather::of(seed_with(place, fates)?, 250, 250, 250).ok()?;
+    ChannelLink::all(rt, alloc, 1, 1, &weather).ok()
+}
+
+/// Whether the link at a place takes so many parcels, numbered from 1, for an actor.
+fn send_all<L: Link>(links: &mut [L], place: usize, to: &Actor, count: usize) -> bool {
+    let mut sent = true;
     let mut number = 0u32;
     for _ in 0..count {
         number = number.wrapping_add(1);
-        link.send(*to, parcel(number))?;
+        sent &= sends(links, place, to, number);
+    }
+    sent
+}
+
+/// Whether over each link just the posts of its numbers come, and then it is closed.
+fn all_bring<L: Link>(links: &mut [L], wanted: &[&[u32]]) -> bool {
+    let mut right = links.len() == wanted.len();
+    for (link, want) in links.iter_mut().zip(wanted.iter()) {
+        right &= brings(link, want);
+    }
+    right
+}
+
+/// Whether just these come over the link that is left, where parcels meet these fates on this course.
+fn come<R: Wait + Copy>(
+    rt: R,
+    alloc: Global,
+    course: &Course,
+    fates: &[Fate],
+    want: &[u32],
+) -> Option<bool> {
+    let mut links = link_both(rt, alloc, course.from, fates)?;
+    let from = usize::from(course.from);
+    let sent = send_all(&mut links, from, &course.to, fates.len());
+    drop(taken(&mut links, usize::from(course.dropped)));
+    sent.then_some(all_bring(&mut links, &[want]))
+}
+
+/// Ends the test unless in each row the numbers come for the fates on this course.
+fn all_come<R: Wait + Copy>(rt: R, alloc: Global, course: &Course, rows: &[Fated]) -> Outcome {
+    for (row, (fates, want)) in rows.iter().enumerate() {
+        check_answer(come(rt, alloc, course, fates, want), row)?;
     }
     Ok(())
 }
 
-/// What comes to the node, where a client's parcels meet these fates.
-fn to_node<R: Wait + Copy>(rt: R, alloc: Global, fates: &[Fate], want: &[u32]) -> Result<(), Fail> {
-    let weather = weather_with(1, fates)?;
-    let Linked {
-        mut of_node,
-        mut of_client,
-    } = link_both(rt, alloc, &weather)?;
-    send_all(&mut of_client, &Actor::Node(node(1)), fates.len())?;
-    drop(of_client);
-    same_numbers(
-        &received(alloc, &mut of_node)?,
-        want,
-        "what comes to the node",
-    )
+/// What comes to the node, of a client's parcels.
+fn to_node() -> Course {
+    Course {
+        from: CLIENT,
+        to: Actor::Node(node_id(1)),
+        dropped: CLIENT,
+    }
 }
 
 /// Late parcels of a client.
@@ -199,11 +196,8 @@ const LATE: [Fated; 6] = [
 ];
 
 #[test]
-fn late_parcels(rt: HostRuntime) -> Result<(), Fail> {
-    for (fates, want) in &LATE {
-        to_node(rt, rt.alloc(), fates, want)?;
-    }
-    Ok(())
+fn late_parcels(rt: HostRuntime) -> Outcome {
+    all_come(rt, rt.alloc(), &to_node(), &LATE)
 }
 
 /// Parcels of a client that are not late.
@@ -214,35 +208,11 @@ const PLAIN: [Fated; 3] = [
 ];
 
 #[test]
-fn plain_and_repeated_parcels(rt: HostRuntime) -> Result<(), Fail> {
-    for (fates, want) in &PLAIN {
-        to_node(rt, rt.alloc(), fates, want)?;
-    }
-    Ok(())
+fn plain_and_repeated_parcels(rt: HostRuntime) -> Outcome {
+    all_come(rt, rt.alloc(), &to_node(), &PLAIN)
 }
 
-/// The nudges that a client gets for its own parcels, where they meet these fates.
-fn own_nudges<R: Wait + Copy>(
-    rt: R,
-    alloc: Global,
-    fates: &[Fate],
-    want: &[u32],
-) -> Result<(), Fail> {
-    let weather = weather_with(1, fates)?;
-    let Linked {
-        of_node,
-        mut of_client,
-    } = link_both(rt, alloc, &weather)?;
-    send_all(&mut of_client, &Actor::Node(node(1)), fates.len())?;
-    drop(of_node);
-    same_numbers(
-        &received(alloc, &mut of_client)?,
-        want,
-        "the client's own nudges",
-    )
-}
-
-/// A client's parcels, and its nudges for them.
+/// A client's parcels, and its own nudges for them.
 const OWN: [Fated; 3] = [
     (&[Fate::Plain, Fate::Twice], &[]),
     (&[Fate::Lost], &[101]),
@@ -250,32 +220,13 @@ const OWN: [Fated; 3] = [
 ];
 
 #[test]
-fn nudges_for_requests(rt: HostRuntime) -> Result<(), Fail> {
-    for (fates, want) in &OWN {
-        own_nudges(rt, rt.alloc(), fates, want)?;
-    }
-    Ok(())
-}
-
-/// What comes to a client, where a node's parcels meet these fates.
-fn to_client<R: Wait + Copy>(
-    rt: R,
-    alloc: Global,
-    fates: &[Fate],
-    want: &[u32],
-) -> Result<(), Fail> {
-    let weather = weather_with(0, fates)?;
-    let Linked {
-        mut of_node,
-        mut of_client,
-    } = link_both(rt, alloc, &weather)?;
-    send_all(&mut of_node, &Actor::Client(client(1)), fates.len())?;
-    drop(of_node);
-    same_numbers(
-        &received(alloc, &mut of_client)?,
-        want,
-        "what comes to the client",
-    )
+fn nudges_for_requests(rt: HostRuntime) -> Outcome {
+    let own = Course {
+        from: CLIENT,
+        to: Actor::Node(node_id(1)),
+        dropped: NODE,
+    };
+    all_come(rt, rt.alloc(), &own, &OWN)
 }
 
 /// A node's parcels, and what comes to the client.
@@ -286,126 +237,149 @@ const REPLIES: [Fated; 3] = [
 ];
 
 #[test]
-fn nudges_for_replies(rt: HostRuntime) -> Result<(), Fail> {
-    for (fates, want) in &REPLIES {
-        to_client(rt, rt.alloc(), fates, want)?;
-    }
-    Ok(())
+fn nudges_for_replies(rt: HostRuntime) -> Outcome {
+    let to_client = Course {
+        from: NODE,
+        to: Actor::Client(client_id(1)),
+        dropped: NODE,
+    };
+    all_come(rt, rt.alloc(), &to_client, &REPLIES)
+}
+
+/// Whether nothing comes to a client whose parcels go to a node that has ended, and to actors that never were.
+fn nothing_comes<R: Wait + Copy>(rt: R, alloc: Global) -> Option<bool> {
+    let mut links = links_of(rt, alloc, 1, 1, (0, 0))?;
+    drop(taken(&mut links, 0));
+    let mut sent = send_all(&mut links, 0, &Actor::Node(node_id(1)), 3);
+    sent &= send_all(&mut links, 0, &Actor::Node(node_id(16)), 3);
+    sent &= send_all(&mut links, 0, &Actor::Client(client_id(2)), 3);
+    sent.then_some(all_bring(&mut links, &[&[]]))
 }
 
 #[test]
-fn actors_that_have_ended(rt: HostRuntime) -> Result<(), Fail> {
-    let weather = Weather::of(1, 0, 0, 0)?;
-    let Linked {
-        of_node,
-        mut of_client,
-    } = link_both(rt, rt.alloc(), &weather)?;
-    drop(of_node);
-    send_all(&mut of_client, &Actor::Node(node(1)), 3)?;
-    send_all(&mut of_client, &Actor::Node(node(16)), 3)?;
-    send_all(&mut of_client, &Actor::Client(client(2)), 3)?;
-    same_numbers(
-        &received(rt.alloc(), &mut of_client)?,
-        &[],
-        "what comes from nobody",
-    )
+fn actors_that_have_ended(rt: HostRuntime) -> Outcome {
+    check_answers(&[nothing_comes(rt, rt.alloc())])
 }
 
-/// Sends parcels, numbered from this number on, to one actor after the other.
-fn send_to_each<L: Link>(link: &mut L, from: u32, actors: &[Actor]) -> Result<(), Fail> {
+/// Whether a link takes parcels, numbered from this number on, for one actor after the other.
+fn send_to_each<L: Link>(link: &mut L, from: u32, actors: &[Actor]) -> bool {
+    let mut sent = true;
     let mut number = from;
     for actor in actors {
-        link.send(*actor, parcel(number))?;
+        sent &= link.send(*actor, parcel(number)).is_ok();
         number = number.wrapping_add(1);
     }
-    Ok(())
+    sent
 }
 
-/// So many parcels come over a link, each numbered ten above the one before.
-fn come<L: Link>(alloc: Global, link: &mut L, first: u32, count: usize) -> Result<(), Fail> {
-    let mut numbers = Vec::new(alloc);
-    let mut want = Vec::new(alloc);
+/// Whether each of some links takes a parcel for each of these actors, numbered from 10, 20 and so on.
+fn all_send<L: Link>(links: &mut [L], actors: &[Actor]) -> bool {
+    let mut sent = true;
+    let mut number = 10u32;
+    for link in links.iter_mut() {
+        sent &= send_to_each(link, number, actors);
+        number = number.wrapping_add(10);
+    }
+    sent
+}
+
+/// Whether so many parcels come over a link, each numbered ten above the one before.
+fn brings_tens<L: Link>(link: &mut L, first: u32, count: usize) -> bool {
+    let mut right = true;
     let mut number = first;
     for _ in 0..count {
-        numbers.push(number_of(&link.receive()?))?;
-        want.push(number)?;
+        right &= next_is(link, number);
         number = number.wrapping_add(10);
     }
-    same_numbers(&numbers, &want, "what comes to an actor")
+    right
 }
 
-/// Each of some links sends a parcel to each of these actors, whose links are the others.
-fn all_reach<L: Link>(
-    alloc: Global,
-    senders: &mut [L],
-    actors: &[Actor],
-    receivers: &mut [L],
-) -> Result<(), Fail> {
+/// Whether over each of some links its parcel comes from each of so many.
+fn all_bring_tens<L: Link>(links: &mut [L], count: usize) -> bool {
+    let mut right = true;
     let mut number = 10u32;
-    for link in senders.iter_mut() {
-        send_to_each(link, number, actors)?;
-        number = number.wrapping_add(10);
-    }
-    let mut number = 10u32;
-    for link in receivers.iter_mut() {
-        come(alloc, link, number, senders.len())?;
+    for link in links.iter_mut() {
+        right &= brings_tens(link, number, count);
         number = number.wrapping_add(1);
     }
-    Ok(())
+    right
 }
 
-#[test]
-fn parcels_reach_their_actors(rt: HostRuntime) -> Result<(), Fail> {
-    let weather = Weather::of(1, 0, 0, 0)?;
-    let mut nodes = ChannelLink::all(rt, rt.alloc(), 3, 2, &weather)?;
-    let mut clients = nodes.split_off(3)?;
-    let to_nodes = [
-        Actor::Node(node(1)),
-        Actor::Node(node(2)),
-        Actor::Node(node(3)),
-    ];
-    let to_clients = [Actor::Client(client(1)), Actor::Client(client(2))];
-    all_reach(rt.alloc(), &mut clients, &to_nodes, &mut nodes)?;
-    all_reach(rt.alloc(), &mut nodes, &to_clients, &mut clients)
-}
-
-#[test]
-fn told_to_every_client(rt: HostRuntime) -> Result<(), Fail> {
-    let weather = Weather::of(1, 1_000, 0, 0)?;
-    let mut links = ChannelLink::all(rt, rt.alloc(), 2, 3, &weather)?;
-    let mut clients = links.split_off(2)?;
-    let mut second = links.pop().ok_or("wrong: no node's link")?;
-    let mut first = links.pop().ok_or("wrong: no node's link")?;
-    second.tell_all(Post::Nudge(node(2)))?;
-    first.tell_all(Post::Gone(node(1)))?;
-    drop((first, second));
-    for link in clients.iter_mut() {
-        same_numbers(&received(rt.alloc(), link)?, &[102, 201], "what was told")?;
+/// Whether what each of some links sends to each of these actors comes over the others, which are theirs.
+fn all_reach<L: Link>(senders: &mut [L], actors: &[Actor], receivers: &mut [L]) -> Option<bool> {
+    if !all_send(senders, actors) {
+        return None;
     }
-    Ok(())
+    Some(all_bring_tens(receivers, senders.len()))
 }
 
-/// So many nodes and clients have so many links.
-fn links_of<R: Wait + Copy>(
+/// Whether three nodes, whose links come first, and two clients reach one another.
+fn reach_each_other<L: Link>(links: &mut [L]) -> Option<bool> {
+    let to_nodes = [
+        Actor::Node(node_id(1)),
+        Actor::Node(node_id(2)),
+        Actor::Node(node_id(3)),
+    ];
+    let to_clients = [Actor::Client(client_id(1)), Actor::Client(client_id(2))];
+    let (nodes, clients) = links.split_at_mut_checked(3)?;
+    let there = all_reach(clients, &to_nodes, nodes);
+    let back = all_reach(nodes, &to_clients, clients);
+    Some(there? && back?)
+}
+
+/// Whether the links of three nodes and two clients do.
+fn links_reach<R: Wait + Copy>(rt: R, alloc: Global) -> Option<bool> {
+    let mut links = links_of(rt, alloc, 3, 2, (0, 0))?;
+    reach_each_other(&mut links)
+}
+
+#[test]
+fn parcels_reach_their_actors(rt: HostRuntime) -> Outcome {
+    check_answers(&[links_reach(rt, rt.alloc())])
+}
+
+/// Whether the link at a place takes a post for every client.
+fn tells<L: Link>(links: &mut [L], place: usize, post: Post) -> bool {
+    match links.get_mut(place) {
+        Some(link) => link.tell_all(post).is_ok(),
+        None => false,
+    }
+}
+
+/// Whether what two nodes tell, past the weather, comes to each of three clients.
+fn all_are_told<R: Wait + Copy>(rt: R, alloc: Global) -> Option<bool> {
+    let mut links = links_of(rt, alloc, 2, 3, (1_000, 0))?;
+    let mut told = tells(&mut links, 1, Post::Nudge(node_id(2)));
+    told &= tells(&mut links, 0, Post::Gone(node_id(1)));
+    drop(taken(&mut links, 1));
+    drop(taken(&mut links, 0));
+    told.then_some(all_bring(&mut links, &[&[102, 201], &[102, 201], &[102, 201]]))
+}
+
+#[test]
+fn told_to_every_client(rt: HostRuntime) -> Outcome {
+    check_answers(&[all_are_told(rt, rt.alloc())])
+}
+
+/// Numbers of nodes and of clients, and of their links.
+const COUNTS: [(u8, u16, usize); 4] = [(0, 0, 0), (3, 4, 7), (17, 1, 17), (1, 1_025, 1_025)];
+
+/// Whether so many nodes and clients have so many links.
+fn have_links<R: Wait + Copy>(
     rt: R,
     alloc: Global,
     nodes: u8,
     clients: u16,
-    want: u32,
-) -> Result<(), Fail> {
-    let weather = Weather::of(1, 0, 0, 0)?;
-    let links = ChannelLink::all(rt, alloc, nodes, clients, &weather)?;
-    let mut count = 0u32;
-    for _ in &links {
-        count = count.wrapping_add(1);
-    }
-    same_numbers(&[count], &[want], "the number of links")
+    want: usize,
+) -> Option<bool> {
+    let links = links_of(rt, alloc, nodes, clients, (0, 0))?;
+    Some(links.len() == want)
 }
 
 #[test]
-fn no_more_links_than_actors(rt: HostRuntime) -> Result<(), Fail> {
-    links_of(rt, rt.alloc(), 0, 0, 0)?;
-    links_of(rt, rt.alloc(), 3, 4, 7)?;
-    links_of(rt, rt.alloc(), 17, 1, 17)?;
-    links_of(rt, rt.alloc(), 1, 1_025, 1_025)
+fn no_more_links_than_actors(rt: HostRuntime) -> Outcome {
+    for (row, (nodes, clients, want)) in COUNTS.iter().enumerate() {
+        check_answer(have_links(rt, rt.alloc(), *nodes, *clients, *want), row)?;
+    }
+    Ok(())
 }

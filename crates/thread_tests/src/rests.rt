@@ -1,170 +1,202 @@
-//! Links come to rest, and are closed, once every actor waits and nothing lies in an inbox. A test ends
-//! with an error that begins with `wrong` where an answer is wrong.
+//! Links come to rest, and are closed, once every actor waits and nothing lies in an inbox.
 
-use crate::links::{client, node, number_of, parcel, same_numbers};
+use crate::sending::{brings, is_closed, links_of, parcel, sends, taken};
 use lock_messages::Actor;
-use lossy_link::{ChannelLink, Link, LinkFault, Post, Weather};
+use lossy_link::{ChannelLink, Link, Post};
 use std::alloc::Global;
+use std::mem::drop;
 use std::sync::Wait;
-use std::test::Fail;
 use std::thread;
 use std::thread::{JoinHandle, Threads};
 use std::time::{Clock, Duration};
-
-/// What comes to an actor until its link is closed, by numbers, or what is wrong.
-type Came = Result<Vec<u32>, &'static str>;
+use test_outcomes::{Outcome, check_answer, check_answers, client_id, node_id};
 
 /// Gives actors the time to rest. What comes of a test doesn't hang on it.
 fn give_time<C: Clock>(clock: &C) {
     thread::sleep(clock, Duration::from_millis(10));
 }
 
-fn is_closed<L: Link>(link: &mut L) -> bool {
-    link.receive().err() == Some(LinkFault::Closed)
+/// What is to come to each of some actors until its link is closed, by numbers.
+type Wanted = &'static [&'static [u32]];
+
+/// Whether just these come over a link until it is closed, as it has to stay then.
+fn rests_behind<L: Link>(link: &mut L, numbers: &[u32]) -> bool {
+    let mut rests = brings(link, numbers);
+    rests &= is_closed(link);
+    rests &= is_closed(link);
+    rests
 }
 
-/// Waits until the link is closed. It has to stay so.
-fn awaited<R: Wait + Copy>(alloc: Global, link: ChannelLink<R>) -> Came {
+/// Waits until the link is closed, and drops it; whether just what is wanted came.
+fn awaited<R: Wait + Copy>(link: ChannelLink<R>, want: Option<&[u32]>) -> bool {
     let mut link = link;
-    let mut numbers = Vec::new(alloc);
-    for _ in 0..20 {
-        let Ok(post) = link.receive() else {
-            let stays = is_closed(&mut link) && is_closed(&mut link);
-            return stays.then_some(numbers).ok_or("wrong: it is open again");
-        };
-        if numbers.push(number_of(&post)).is_err() {
-            return Err("no memory to count in");
-        }
+    match want {
+        Some(numbers) => rests_behind(&mut link, numbers),
+        None => false,
     }
-    Err("wrong: it is never closed")
 }
 
-/// A thread for each link, which waits until the link is closed.
+/// A thread for each link, which waits until the link is closed, and answers whether just what is wanted came.
 fn waiting<R: Threads + Wait + Copy + Send + 'static>(
     rt: R,
     alloc: Global,
     links: Vec<ChannelLink<R>>,
-) -> Result<Vec<JoinHandle<Came>>, Fail> {
+    wanted: Wanted,
+) -> Option<Vec<JoinHandle<bool>>> {
     let mut threads = Vec::new(alloc);
     for link in links {
-        let thread = thread::spawn(&rt, move || awaited(alloc, link)).ok();
-        threads.push(thread.ok_or("no memory for a thread")?)?;
+        let want = wanted.get(threads.len()).copied();
+        let thread = thread::spawn(&rt, move || awaited(link, want)).ok();
+        if threads.push(thread?).is_err() {
+            return None;
+        }
     }
-    Ok(threads)
+    Some(threads)
 }
 
-/// What came to each of those that waited.
-fn all_came<R: Threads + Wait + Copy + Send + 'static>(
-    rt: R,
-    threads: Vec<JoinHandle<Came>>,
-    want: &[&[u32]],
-) -> Result<(), Fail> {
-    let mut wanted = want.iter();
+/// Whether just what is wanted came to each of those that waited, and whether they are so many.
+fn all_came<R: Threads>(rt: &R, threads: Vec<JoinHandle<bool>>, count: usize) -> bool {
+    let mut right = threads.len() == count;
     for thread in threads {
-        let came = thread.join(&rt)?;
-        let want = wanted.next().ok_or("wrong: more actors than wanted")?;
-        same_numbers(&came, want, "what came")?;
+        right &= thread.join(rt);
     }
-    match wanted.next() {
-        None => Ok(()),
-        Some(_) => Err("wrong: fewer actors than wanted".into()),
-    }
+    right
 }
 
-/// All of the links wait, and these numbers come to their actors.
+/// All of the links wait; whether just what is wanted comes to their actors.
 fn all_come<R: Threads + Wait + Copy + Send + 'static>(
     rt: R,
     alloc: Global,
     links: Vec<ChannelLink<R>>,
-    want: &[&[u32]],
-) -> Result<(), Fail> {
-    let threads = waiting(rt, alloc, links)?;
-    all_came(rt, threads, want)
+    wanted: Wanted,
+) -> Option<bool> {
+    let threads = waiting(rt, alloc, links, wanted)?;
+    Some(all_came(&rt, threads, wanted.len()))
 }
 
-/// The links of two nodes and of three clients, all in a weather in which so many of a thousand
-/// parcels are late.
-fn links_of_five<R: Wait + Copy>(
+/// The places of the links of n1, n2, c1 and c3, where two nodes and three clients are linked.
+const FIRST_NODE: usize = 0;
+
+const SECOND_NODE: usize = 1;
+
+const FIRST_CLIENT: usize = 2;
+
+const LAST_CLIENT: usize = 4;
+
+/// Whether just what is wanted comes to five actors that all wait from the start.
+fn nobody_sends<R: Threads + Wait + Copy + Send + 'static>(
+    rt: R,
+    alloc: Global,
+    wanted: Wanted,
+) -> Option<bool> {
+    let links = links_of(rt, alloc, 2, 3, (0, 0))?;
+    all_come(rt, alloc, links, wanted)
+}
+
+#[test]
+fn all_wait_from_the_start(rt: HostRuntime) -> Outcome {
+    for row in 0..20 {
+        check_answer(
+            nobody_sends(rt, rt.alloc(), &[&[], &[], &[], &[], &[]]),
+            row,
+        )?;
+    }
+    Ok(())
+}
+
+/// Whether just what is wanted comes to five actors, of which c1 sends 7 to n2, and n1 sends 8 to c3, before all
+/// wait.
+fn two_send<R: Threads + Wait + Copy + Send + 'static>(
     rt: R,
     alloc: Global,
     late: u16,
-) -> Result<(Vec<ChannelLink<R>>, Vec<ChannelLink<R>>), Fail> {
-    let weather = Weather::of(1, 0, 0, late)?;
-    let mut nodes = ChannelLink::all(rt, alloc, 2, 3, &weather)?;
-    let clients = nodes.split_off(2)?;
-    Ok((nodes, clients))
-}
-
-/// The first of some links sends this parcel.
-fn first_sends<L: Link>(links: &mut [L], to: Actor, number: u32) -> Result<(), Fail> {
-    let first = links.first_mut().ok_or("wrong: no link")?;
-    first.send(to, parcel(number))?;
-    Ok(())
+    wanted: Wanted,
+) -> Option<bool> {
+    let mut links = links_of(rt, alloc, 2, 3, (0, late))?;
+    let mut sent = sends(&mut links, FIRST_CLIENT, &Actor::Node(node_id(2)), 7);
+    sent &= sends(&mut links, FIRST_NODE, &Actor::Client(client_id(3)), 8);
+    let come = all_come(rt, alloc, links, wanted)?;
+    sent.then_some(come)
 }
 
 #[test]
-fn all_wait_from_the_start(rt: HostRuntime) -> Result<(), Fail> {
-    for _ in 0..20 {
-        let (mut links, clients) = links_of_five(rt, rt.alloc(), 0)?;
-        links.extend(clients)?;
-        all_come(rt, rt.alloc(), links, &[&[], &[], &[], &[], &[]])?;
+fn what_was_sent_comes_first(rt: HostRuntime) -> Outcome {
+    for row in 0..20 {
+        let come = two_send(rt, rt.alloc(), 0, &[&[], &[7], &[], &[], &[8]]);
+        check_answer(come, row)?;
     }
     Ok(())
 }
 
-#[test]
-fn what_was_sent_comes_first(rt: HostRuntime) -> Result<(), Fail> {
-    for _ in 0..20 {
-        let (mut links, mut clients) = links_of_five(rt, rt.alloc(), 0)?;
-        first_sends(&mut clients, Actor::Node(node(2)), 7)?;
-        first_sends(&mut links, Actor::Client(client(3)), 8)?;
-        links.extend(clients)?;
-        all_come(rt, rt.alloc(), links, &[&[], &[7], &[], &[], &[8]])?;
-    }
-    Ok(())
+/// Whether a link takes what wakes others, once these have had the time to rest: a parcel for c2, and later that n2 is
+/// gone.
+fn wakes<C: Clock, L: Link>(clock: &C, link: &mut L) -> bool {
+    give_time(clock);
+    let mut takes = link.send(Actor::Client(client_id(2)), parcel(7)).is_ok();
+    give_time(clock);
+    takes &= link.tell_all(Post::Gone(node_id(2))).is_ok();
+    takes
+}
+
+/// Whether just what n2 sends and tells, when all others wait, comes to them, and nothing to n2 itself.
+fn second_wakes<R: Threads + Wait + Clock + Copy + Send + 'static>(
+    rt: R,
+    alloc: Global,
+) -> Option<bool> {
+    let mut links = links_of(rt, alloc, 2, 3, (0, 0))?;
+    let mut second = taken(&mut links, SECOND_NODE)?;
+    let threads = waiting(rt, alloc, links, &[&[], &[202], &[7, 202], &[202]])?;
+    let woken = wakes(&rt, &mut second);
+    let rests = awaited(second, Some(&[]));
+    let came = all_came(&rt, threads, 4);
+    woken.then_some(rests && came)
 }
 
 #[test]
-fn one_wakes_those_that_wait(rt: HostRuntime) -> Result<(), Fail> {
-    let (mut nodes, clients) = links_of_five(rt, rt.alloc(), 0)?;
-    let mut second = nodes.pop().ok_or("wrong: no node's link")?;
-    nodes.extend(clients)?;
-    let threads = waiting(rt, rt.alloc(), nodes)?;
-    give_time(&rt);
-    second.send(Actor::Client(client(2)), parcel(7))?;
-    give_time(&rt);
-    second.tell_all(Post::Gone(node(2)))?;
-    same_numbers(&awaited(rt.alloc(), second)?, &[], "what comes to the node")?;
-    all_came(rt, threads, &[&[], &[202], &[7, 202], &[202]])
+fn one_wakes_those_that_wait(rt: HostRuntime) -> Outcome {
+    check_answers(&[second_wakes(rt, rt.alloc())])
 }
 
-#[test]
-fn the_last_that_ends_closes_the_others(rt: HostRuntime) -> Result<(), Fail> {
-    let (mut nodes, mut clients) = links_of_five(rt, rt.alloc(), 0)?;
-    let last = clients.pop().ok_or("wrong: no client's link")?;
-    nodes.extend(clients)?;
-    let threads = waiting(rt, rt.alloc(), nodes)?;
+/// Whether four actors that wait are at rest, with nothing to come, once the fifth has ended.
+fn last_ends<R: Threads + Wait + Clock + Copy + Send + 'static>(
+    rt: R,
+    alloc: Global,
+) -> Option<bool> {
+    let mut links = links_of(rt, alloc, 2, 3, (0, 0))?;
+    let last = taken(&mut links, LAST_CLIENT)?;
+    let threads = waiting(rt, alloc, links, &[&[], &[], &[], &[]])?;
     give_time(&rt);
     drop(last);
-    all_came(rt, threads, &[&[], &[], &[], &[]])
+    Some(all_came(&rt, threads, 4))
 }
 
 #[test]
-fn posts_for_an_actor_that_ended_move_nobody(rt: HostRuntime) -> Result<(), Fail> {
-    let (mut nodes, mut clients) = links_of_five(rt, rt.alloc(), 0)?;
-    first_sends(&mut clients, Actor::Node(node(2)), 7)?;
-    first_sends(&mut clients, Actor::Node(node(2)), 8)?;
-    drop(nodes.pop());
-    first_sends(&mut clients, Actor::Node(node(2)), 9)?;
-    nodes.extend(clients)?;
-    all_come(rt, rt.alloc(), nodes, &[&[], &[], &[], &[]])
+fn the_last_that_ends_closes_the_others(rt: HostRuntime) -> Outcome {
+    check_answers(&[last_ends(rt, rt.alloc())])
+}
+
+/// Whether nothing comes to four actors, of which c1 sends to n2 before and after that has ended.
+fn one_sends_to_the_ended<R: Threads + Wait + Copy + Send + 'static>(
+    rt: R,
+    alloc: Global,
+) -> Option<bool> {
+    let to = Actor::Node(node_id(2));
+    let mut links = links_of(rt, alloc, 2, 3, (0, 0))?;
+    let mut sent = sends(&mut links, FIRST_CLIENT, &to, 7);
+    sent &= sends(&mut links, FIRST_CLIENT, &to, 8);
+    drop(taken(&mut links, SECOND_NODE));
+    sent &= sends(&mut links, FIRST_CLIENT - 1, &to, 9);
+    let come = all_come(rt, alloc, links, &[&[], &[], &[], &[]])?;
+    sent.then_some(come)
 }
 
 #[test]
-fn a_held_parcel_moves_nobody(rt: HostRuntime) -> Result<(), Fail> {
-    let (mut links, mut clients) = links_of_five(rt, rt.alloc(), 1_000)?;
-    first_sends(&mut clients, Actor::Node(node(2)), 7)?;
-    first_sends(&mut links, Actor::Client(client(3)), 8)?;
-    links.extend(clients)?;
-    all_come(rt, rt.alloc(), links, &[&[], &[], &[102], &[], &[101]])
+fn posts_for_an_actor_that_ended_move_nobody(rt: HostRuntime) -> Outcome {
+    check_answers(&[one_sends_to_the_ended(rt, rt.alloc())])
+}
+
+#[test]
+fn a_held_parcel_moves_nobody(rt: HostRuntime) -> Outcome {
+    let wanted: Wanted = &[&[], &[], &[102], &[], &[101]];
+    check_answers(&[two_send(rt, rt.alloc(), 1_000, wanted)])
 }

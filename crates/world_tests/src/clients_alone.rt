@@ -2,7 +2,7 @@
 
 use crate::rows::Note;
 use crate::steps::{ballot_of, done, in_row};
-use crate::values::{attempt, client, node, resource, ticket};
+use crate::values::{attempt, client_id, node_id, resource, ticket};
 use lock_messages::Mode;
 use lock_model::Heard;
 use test_outcomes::{Failure, Outcome, check};
@@ -66,8 +66,8 @@ fn goes(one: &mut WorldClient, turn: &Turn) -> Outcome {
         Turn::NoSoften(fault) => check(one.soften() == Err(fault)),
         Turn::Hear(note, heard) => check(one.hear(&note.message()?) == heard),
         Turn::MayNotHear => check(one.may_hear() == Err(StepFault::Down)),
-        Turn::Message(note) => check(one.message_for(node(1)?)? == note.message()?),
-        Turn::NotStored => check(one.message_for(node(1)?) == Err(StepFault::NotStored)),
+        Turn::Message(note) => check(one.message_for(node_id(1))? == note.message()?),
+        Turn::NotStored => check(one.message_for(node_id(1)) == Err(StepFault::NotStored)),
         Turn::Inside(mode) => check(one.inside() == Some(ticket(1, mode)?)),
         Turn::Outside => check(one.inside().is_none()),
         Turn::Kept(number) => check(one.kept() == number),
@@ -84,16 +84,21 @@ fn plays(one: &mut WorldClient, script: &[Turn]) -> Outcome {
 
 /// c1 under a ballot of one node, down, with nothing kept.
 fn empty() -> Result<WorldClient, Failure> {
-    Ok(WorldClient::opened(client(1)?, 0, ballot_of(&[1], 1, 1)?))
+    let ballots = ballot_of(&[1], 1, 1)?;
+    Ok(WorldClient::opened(client_id(1), 0, ballots))
+}
+
+fn plays_all(one: &mut WorldClient, scripts: &[&[Turn]]) -> Outcome {
+    for script in scripts {
+        plays(one, script)?;
+    }
+    Ok(())
 }
 
 /// Plays scripts with that client.
 fn play_all(scripts: &[&[Turn]]) -> Outcome {
     let mut one = empty()?;
-    for script in scripts {
-        plays(&mut one, script)?;
-    }
-    Ok(())
+    plays_all(&mut one, scripts)
 }
 
 /// c1 rises, chooses its first attempt and tries to keep its number.

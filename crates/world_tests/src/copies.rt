@@ -2,7 +2,8 @@
 
 use crate::rows::{Deed, Done, Note, Who};
 use crate::sights::{Sight, keeps};
-use crate::steps::{Step, begins, play_all, plays, runs, world};
+use crate::steps::{Step, begins, happens, play_all, plays, world};
+use crate::values::client;
 use lock_messages::{Actor, Mode};
 use lock_model::Problem;
 use std::alloc::Global;
@@ -58,9 +59,11 @@ enum Turn {
     KeptMore(Who),
 }
 
-fn kept_the_same(world: &World, copy: &World, who: Who) -> Result<bool, Failure> {
-    let kept = world.kept_bytes(who.actor()?)?;
-    keeps(copy, who, &kept)
+fn kept_the_same(world: &World, copy: &World, who: &Actor) -> Result<bool, Failure> {
+    match world.kept_bytes(*who) {
+        Ok(kept) => keeps(copy, who, &kept),
+        Err(fault) => Err(Failure::from(fault)),
+    }
 }
 
 fn kept_more(world: &World, copy: &World, who: Actor) -> Result<bool, Failure> {
@@ -73,7 +76,7 @@ fn goes(world: &mut World, copy: &mut World, turn: &Turn) -> Outcome {
     match *turn {
         Turn::World(script) => plays(world, script),
         Turn::Copy(script) => plays(copy, script),
-        Turn::KeptTheSame(who) => check(kept_the_same(world, copy, who)?),
+        Turn::KeptTheSame(who) => check(kept_the_same(world, copy, &who.actor()?)?),
         Turn::KeptMore(who) => check(kept_more(world, copy, who.actor()?)?),
     }
 }
@@ -85,12 +88,22 @@ fn go_apart(world: &mut World, copy: &mut World, turns: &[Turn]) -> Outcome {
     Ok(())
 }
 
+/// Takes these turns in a world and a copy of it.
+fn go_copied(world: &mut World, turns: &[Turn]) -> Outcome {
+    let mut copy = world.copy()?;
+    go_apart(world, &mut copy, turns)
+}
+
+/// The same once n1 is busy in the world, and a script was played.
+fn go_busy(world: &mut World, script: &[Step], turns: &[Turn]) -> Outcome {
+    play_all(world, &[&BUSY, script])?;
+    go_copied(world, turns)
+}
+
 /// Plays a script in the world in which n1 is busy, and then these turns in that world and a copy of it.
 fn play_copied(alloc: Global, script: &[Step], turns: &[Turn]) -> Outcome {
     let mut world = world(alloc, Problem::Second, 2)?;
-    play_all(&mut world, &[&BUSY, script])?;
-    let mut copy = world.copy()?;
-    go_apart(&mut world, &mut copy, turns)
+    go_busy(&mut world, script, turns)
 }
 
 const COPY_FIRST: [Turn; 4] = [
@@ -117,11 +130,21 @@ fn world_goes_on_alone(rt: HostRuntime) -> Outcome {
     play_copied(rt.alloc(), &[], &WORLD_FIRST)
 }
 
+fn copy_of_copy(world: &World) -> Result<World, Failure> {
+    let copy = world.copy()?;
+    Ok(copy.copy()?)
+}
+
+/// A copy of a copy of this world, once n1 is busy in it.
+fn copy_of_busy(world: &mut World) -> Result<World, Failure> {
+    plays(world, &BUSY)?;
+    copy_of_copy(world)
+}
+
 /// A copy of a copy of the world in which n1 is busy.
 fn second_copy(alloc: Global) -> Result<World, Failure> {
     let mut world = world(alloc, Problem::Second, 2)?;
-    plays(&mut world, &BUSY)?;
-    Ok(world.copy()?.copy()?)
+    copy_of_busy(&mut world)
 }
 
 /// A copy of a copy, once the world is gone.
@@ -171,26 +194,37 @@ fn copy_decides_by_the_problem(rt: HostRuntime) -> Outcome {
 fn crowd(world: &mut World) -> Outcome {
     for number in 1..=MANY as u32 {
         begins(world, number, Mode::Read)?;
-        runs(world, &[Deed::SayTo(number, 1).event()?])?;
+        happens(world, Deed::SayTo(number, 1))?;
     }
     Ok(())
 }
 
+/// Whether the client has kept the same in both, and its message is there and is the same.
+fn is_same(world: &World, copy: &World, number: u32) -> Result<bool, Failure> {
+    let who = Actor::Client(client(number)?);
+    let kept = kept_the_same(world, copy, &who)?;
+    let sent = world.sent(number);
+    Ok(kept && sent.is_some() && sent == copy.sent(number))
+}
+
 fn same_crowd(world: &World, copy: &World) -> Outcome {
     for number in 1..=MANY as u32 {
-        let kept = kept_the_same(world, copy, Who::Client(number))?;
-        let sent = world.sent(number);
-        check(kept && sent.is_some() && sent == copy.sent(number))?;
+        check(is_same(world, copy, number)?)?;
     }
     check(copy.sent(MANY as u32 + 1).is_none())
+}
+
+/// Whether a copy of the crowded world has what that has.
+fn copies_crowd(world: &mut World) -> Outcome {
+    crowd(world)?;
+    let copy = world.copy()?;
+    same_crowd(world, &copy)
 }
 
 #[test]
 fn copy_of_a_crowd(rt: HostRuntime) -> Outcome {
     let mut world = world(rt.alloc(), Problem::First, MANY)?;
-    crowd(&mut world)?;
-    let copy = world.copy()?;
-    same_crowd(&world, &copy)
+    copies_crowd(&mut world)
 }
 
 const NOTHING: [Turn; 3] = [
@@ -206,6 +240,5 @@ const NOTHING: [Turn; 3] = [
 #[test]
 fn copy_of_nothing(rt: HostRuntime) -> Outcome {
     let mut world = world(rt.alloc(), Problem::First, 1)?;
-    let mut copy = world.copy()?;
-    go_apart(&mut world, &mut copy, &NOTHING)
+    go_copied(&mut world, &NOTHING)
 }

@@ -2,7 +2,7 @@
 // order, or never; actors fall and rise, and nodes take problems; every client in turn asks, enters, softens
 // and releases.
 
-use crate::values;
+use crate::values::{client_id, node_id};
 use lock_messages::{Actor, ClientId, Message, Mode, NodeId, ResourceName};
 use lock_model::Problem;
 use rand_core::utils::NextWord;
@@ -15,12 +15,12 @@ pub(crate) const NODES: u8 = 5;
 
 pub(crate) const CLIENTS: u16 = 6;
 
-pub(crate) fn node(number: u32) -> Result<NodeId, Failure> {
-    values::node((number % NODES as u32 + 1) as u8)
+pub(crate) fn node(number: u32) -> NodeId {
+    node_id((number % NODES as u32 + 1) as u8)
 }
 
-pub(crate) fn client(number: u32) -> Result<ClientId, Failure> {
-    values::client(number % CLIENTS as u32 + 1)
+fn client(number: u32) -> ClientId {
+    client_id(number % CLIENTS as u32 + 1)
 }
 
 pub(crate) fn name(number: u32) -> Result<ResourceName, Failure> {
@@ -28,12 +28,12 @@ pub(crate) fn name(number: u32) -> Result<ResourceName, Failure> {
     ResourceName::of(name).ok_or(Failure::Wrong(0))
 }
 
-fn some_actor(words: &mut Pcg32) -> Result<Actor, Failure> {
+fn some_actor(words: &mut Pcg32) -> Actor {
     let number = words.next_word();
     if words.next_word() % 2 == 0 {
-        Ok(Actor::Node(node(number)?))
+        Actor::Node(node(number))
     } else {
-        Ok(Actor::Client(client(number)?))
+        Actor::Client(client(number))
     }
 }
 
@@ -53,24 +53,24 @@ fn delivery(message: Message, number: u32) -> Event {
 
 /// The last message comes to its actor, or now and then one of the two before it, again perhaps; before
 /// there is one, a node takes what was never sent.
-fn some_delivery(words: &mut Pcg32, world: &World, sent: u32) -> Result<Event, Failure> {
+fn some_delivery(words: &mut Pcg32, world: &World, sent: u32) -> Event {
     let back = (words.next_word() % 8).saturating_sub(5);
     let number = sent.saturating_sub(back);
     match world.sent(number) {
-        Some(message) => Ok(delivery(message, number)),
-        None => Ok(Event::Take(node(number)?, number)),
+        Some(message) => delivery(message, number),
+        None => Event::Take(node(number), number),
     }
 }
 
 /// A node takes a problem, its own or the other.
-fn some_switch(words: &mut Pcg32) -> Result<Event, Failure> {
-    let node = node(words.next_word())?;
+fn some_switch(words: &mut Pcg32) -> Event {
+    let node = node(words.next_word());
     let problem = if words.next_word() % 2 == 0 {
         Problem::First
     } else {
         Problem::Second
     };
-    Ok(Event::Switch(node, problem))
+    Event::Switch(node, problem)
 }
 
 /// The steps of an attempt.
@@ -79,9 +79,9 @@ const STEPS: u32 = 28;
 /// A step of an attempt: it is begun and kept, nodes are asked; where it is softened they are told, and
 /// where it was left.
 fn attempt_step(words: &mut Pcg32, round: u32) -> Result<Event, Failure> {
-    let client = client(round / STEPS)?;
+    let client = client(round / STEPS);
     let name = name(words.next_word())?;
-    let node = node(round)?;
+    let node = node(round);
     let mode = if words.next_word() % 2 == 0 {
         Mode::Write
     } else {
@@ -100,18 +100,18 @@ fn attempt_step(words: &mut Pcg32, round: u32) -> Result<Event, Failure> {
 
 /// Mostly the client whose attempt it is enters; now and then an actor falls or rises, the client softens,
 /// or a node takes a problem.
-fn rare_event(words: &mut Pcg32, round: u32) -> Result<Event, Failure> {
-    let who = some_actor(words)?;
-    let client = client(round / STEPS)?;
-    let switch = some_switch(words)?;
-    Ok(match words.next_word() % 20 {
+fn rare_event(words: &mut Pcg32, round: u32) -> Event {
+    let who = some_actor(words);
+    let client = client(round / STEPS);
+    let switch = some_switch(words);
+    match words.next_word() % 20 {
         0 => Event::Fall(who),
         1..=3 => Event::Rise(who, Age::New),
         4..=8 => Event::Rise(who, Age::Old),
         9 => Event::Soften(client),
         10 => switch,
         _ => Event::Enter(client),
-    })
+    }
 }
 
 /// The event of a turn, where this node was to take a message last and so many messages were sent.
@@ -124,12 +124,12 @@ pub(crate) fn event_of_turn(
 ) -> Result<Event, Failure> {
     let round = turn / 8;
     match turn % 8 {
-        0 if round % 8 == 5 => some_switch(words),
+        0 if round % 8 == 5 => Ok(some_switch(words)),
         1 => Ok(Event::Try(Actor::Node(last))),
         2 => Ok(Event::Kept(Actor::Node(last))),
         3 => Ok(Event::Say(last)),
         5 | 6 => attempt_step(words, round),
-        7 => rare_event(words, round),
-        _ => some_delivery(words, world, sent),
+        7 => Ok(rare_event(words, round)),
+        _ => Ok(some_delivery(words, world, sent)),
     }
 }

@@ -3,7 +3,7 @@
 use crate::pairs::plain;
 use crate::rows::Note;
 use crate::steps::{done, in_row};
-use crate::values::node;
+use crate::values::node_id;
 use lock_messages::{Message, Mode};
 use lock_model::Problem;
 use stable_record::read_node;
@@ -69,13 +69,20 @@ enum Turn {
     Problem(Problem),
 }
 
+fn is(message: &Message, note: Note) -> bool {
+    match note.message() {
+        Ok(wanted) => wanted == *message,
+        Err(_) => false,
+    }
+}
+
 /// Whether the messages are just these.
 fn are(messages: &[Message], notes: &[Note]) -> bool {
-    messages.len() == notes.len()
-        && messages
-            .iter()
-            .zip(notes)
-            .all(|(message, note)| note.message() == Ok(*message))
+    let mut same = messages.len() == notes.len();
+    for (message, note) in messages.iter().zip(notes) {
+        same &= is(message, *note);
+    }
+    same
 }
 
 fn says(one: &mut WorldNode, notes: &[Note]) -> Result<bool, Failure> {
@@ -83,11 +90,17 @@ fn says(one: &mut WorldNode, notes: &[Note]) -> Result<bool, Failure> {
     Ok(are(&said, notes))
 }
 
+fn is_refused(answer: Result<bool, StepFault>, fault: StepFault) -> bool {
+    match answer {
+        Ok(_) => false,
+        Err(found) => found == fault,
+    }
+}
+
 /// Whether n1 takes neither problem, and this is why.
 fn refuses(one: &mut WorldNode, fault: StepFault) -> bool {
-    let first = one.switch(Problem::First);
-    let second = one.switch(Problem::Second);
-    first == Err(fault) && second == Err(fault)
+    let first = is_refused(one.switch(Problem::First), fault);
+    is_refused(one.switch(Problem::Second), fault) && first
 }
 
 fn goes(one: &mut WorldNode, turn: &Turn) -> Outcome {
@@ -123,28 +136,35 @@ fn play_all(one: &mut WorldNode, scripts: &[&[Turn]]) -> Outcome {
     Ok(())
 }
 
-/// Plays scripts with n1 under problem 1, down, with nothing kept.
-fn play_empty(alloc: Global, scripts: &[&[Turn]]) -> Outcome {
-    let pair = plain(alloc)?;
-    let mut one = WorldNode::empty(alloc, node(1)?, Problem::First, pair);
-    play_all(&mut one, scripts)
+/// Plays scripts with a node that is n1.
+fn play_numbered(one: &mut WorldNode, scripts: &[&[Turn]]) -> Outcome {
+    check(one.number() == node_id(1))?;
+    play_all(one, scripts)
 }
 
-/// n1 with this record, down.
-fn opened(alloc: Global, record: &[u8]) -> Result<WorldNode, Failure> {
-    let id = node(1)?;
-    let Ok(record) = read_node(alloc, record) else {
-        return Err(Failure::Memory);
-    };
+/// n1, down, with this record or, under problem 1, with nothing kept. (A pair of policies is dear to prove, so one
+/// function makes both.)
+fn opened(alloc: Global, record: Option<&[u8]>) -> Result<WorldNode, Failure> {
     let pair = plain(alloc)?;
-    Ok(WorldNode::opened(alloc, id, record, pair))
+    let Some(bytes) = record else {
+        return Ok(WorldNode::empty(alloc, node_id(1), Problem::First, pair));
+    };
+    match read_node(alloc, bytes) {
+        Ok(record) => Ok(WorldNode::opened(alloc, node_id(1), record, pair)),
+        Err(_) => Err(Failure::Memory),
+    }
+}
+
+/// Plays scripts with n1, down, with nothing kept.
+fn play_empty(alloc: Global, scripts: &[&[Turn]]) -> Outcome {
+    let mut one = opened(alloc, None)?;
+    play_numbered(&mut one, scripts)
 }
 
 /// Plays scripts with n1 with this record, down.
 fn play_opened(alloc: Global, record: &[u8], scripts: &[&[Turn]]) -> Outcome {
-    let mut one = opened(alloc, record)?;
-    check(one.number() == node(1)?)?;
-    play_all(&mut one, scripts)
+    let mut one = opened(alloc, Some(record))?;
+    play_numbered(&mut one, scripts)
 }
 
 /// n1 rises, decides on c1's request and tries to keep that.

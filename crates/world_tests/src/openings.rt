@@ -4,20 +4,14 @@ use crate::pairs::{are_back, told_pairs};
 use crate::records::{record, records};
 use crate::rows::{Deed, Done, Who};
 use crate::sights::{Sight, keeps};
-use crate::steps::{Step, ballot_of, plays};
+use crate::steps::{Step, plays, three_votes};
 use admission_policy::Pair;
 use lock_messages::{MAX_CLIENTS, Mode};
 use lock_model::Problem;
 use std::alloc::Global;
 use test_outcomes::{Failure, Outcome, check, check_row};
-use vote_weights::BallotList;
 use world_machine::{OpeningFault, World};
 use world_model::{Age, StepFault};
-
-/// Three nodes of one vote each.
-fn ballots() -> Result<BallotList, Failure> {
-    ballot_of(&[1, 1, 1], 2, 2)
-}
 
 /// Why there is no world.
 #[derive(Clone, Copy)]
@@ -63,7 +57,7 @@ fn opened(answer: Result<World, (OpeningFault, Vec<Pair>)>) -> Result<World, NoW
 
 /// What comes of these records.
 fn resumed(alloc: Global, nodes: &[Vec<u8>], clients: &[Vec<u8>]) -> Result<World, NoWorld> {
-    let ballots = ballots()?;
+    let ballots = three_votes()?;
     let pairs = told_pairs(alloc)?;
     let count = ballots.nodes() as usize;
     let are_few = !clients.is_empty() && clients.len() <= MAX_CLIENTS as usize;
@@ -195,12 +189,18 @@ fn next(who: Who) -> Who {
     }
 }
 
+/// Whether the actor has kept the record of this name.
+fn has_kept(alloc: Global, world: &World, name: &str, who: Who) -> Result<bool, Failure> {
+    let actor = who.actor()?;
+    let bytes = record(alloc, name)?;
+    keeps(world, &actor, &bytes)
+}
+
 /// Whether this actor, the next one and so on have kept the records of these names.
 fn have_kept(alloc: Global, world: &World, names: &str, first: Who) -> Outcome {
     let mut who = first;
     for name in names.split_whitespace() {
-        let bytes = record(alloc, name)?;
-        check(keeps(world, who, &bytes)?)?;
+        check(has_kept(alloc, world, name, who)?)?;
         who = next(who);
     }
     Ok(())
@@ -287,18 +287,23 @@ const PROBLEMS: [(&str, [Problem; 3]); 4] = [
     ),
 ];
 
+/// Whether the nodes of these records have these problems.
+fn resume_with(alloc: Global, names: &str, problems: [Problem; 3]) -> Outcome {
+    let mut world = world_from(alloc, names, "three three three")?;
+    have_problems(&mut world, problems)
+}
+
 #[test]
 fn problems_of_records(rt: HostRuntime) -> Outcome {
     for (names, problems) in &PROBLEMS {
-        let mut world = world_from(rt.alloc(), names, "three three three")?;
-        have_problems(&mut world, *problems)?;
+        resume_with(rt.alloc(), names, *problems)?;
     }
     Ok(())
 }
 
 /// The world in which nothing is kept, with four clients, of this problem.
 fn started(alloc: Global, problem: Problem) -> Result<World, Failure> {
-    let ballots = ballots()?;
+    let ballots = three_votes()?;
     let pairs = told_pairs(alloc)?;
     if pairs.len() != ballots.nodes() as usize {
         return Err(Failure::Wrong(0));
@@ -306,13 +311,16 @@ fn started(alloc: Global, problem: Problem) -> Result<World, Failure> {
     Ok(opened(World::start(alloc, ballots, 4, problem, pairs))?)
 }
 
+/// Whether the nodes of a world that starts with this problem have it.
+fn start_with(alloc: Global, problem: Problem) -> Outcome {
+    let mut world = started(alloc, problem)?;
+    have_problems(&mut world, [problem; 3])
+}
+
 #[test]
 fn one_first_problem(rt: HostRuntime) -> Outcome {
-    for problem in [Problem::First, Problem::Second] {
-        let mut world = started(rt.alloc(), problem)?;
-        have_problems(&mut world, [problem; 3])?;
-    }
-    Ok(())
+    start_with(rt.alloc(), Problem::First)?;
+    start_with(rt.alloc(), Problem::Second)
 }
 
 const EMPTY: [Step; 3] = [

@@ -2,7 +2,7 @@
 
 use crate::rows::{Deed, Note, Who};
 use crate::sights::Sight;
-use crate::steps::{Step, ballot_of, play_all, world_by};
+use crate::steps::{Step, ballot_of, played_by};
 use lock_messages::Mode;
 use lock_model::Problem;
 use std::alloc::Global;
@@ -36,8 +36,7 @@ const CROWDED: [Step; 9] = [
 /// Plays a script in such a world, of n1 under problem 1 and of c1 to c3.
 fn play_crowded(alloc: Global, script: &[Step]) -> Outcome {
     let ballots = ballot_of(&[1], 1, 1)?;
-    let mut world = world_by(alloc, ballots, Problem::First, 3)?;
-    play_all(&mut world, &[&CROWDED, script])
+    played_by(alloc, ballots, Problem::First, 3, &[&CROWDED, script])
 }
 
 const INSIDE: [Step; 2] = [

@@ -2,8 +2,9 @@
 // has a cause under the node's present problem. Contracts say so of every world; this shows that they say it
 // of worlds in which clients enter and soften, and nodes take other problems.
 
-use crate::generator::{CLIENTS, NODES, client, event_of_turn, name, node};
-use crate::steps::world_by;
+use crate::generator::{CLIENTS, NODES, event_of_turn, name, node};
+use crate::rows::{Deed, Who};
+use crate::steps::{happens, world_by};
 use lock_messages::{Actor, Mode, NodeId, ResourceName, Ticket};
 use lock_model::Problem;
 use rand_pcg::Pcg32;
@@ -42,20 +43,24 @@ pub(crate) fn new_world(
     world_by(alloc, ballots, problem, CLIENTS)
 }
 
-/// All actors rise.
+/// All actors rise: the nodes, and then the clients.
 pub(crate) fn raise(world: &mut World) -> Outcome {
-    for number in 0..NODES as u32 {
-        world.step(&Event::Rise(Actor::Node(node(number)?), Age::Old))?;
+    for number in 1..=NODES {
+        happens(world, Deed::Rise(Who::Node(number), Age::Old))?;
     }
-    for number in 0..CLIENTS as u32 {
-        world.step(&Event::Rise(Actor::Client(client(number)?), Age::Old))?;
+    for number in 1..=u32::from(CLIENTS) {
+        happens(world, Deed::Rise(Who::Client(number), Age::Old))?;
     }
     Ok(())
 }
 
 /// Whether a writer is among these.
 fn have_writer(tickets: &[Ticket]) -> bool {
-    tickets.iter().any(|ticket| ticket.mode == Mode::Write)
+    let mut found = false;
+    for ticket in tickets {
+        found |= ticket.mode == Mode::Write;
+    }
+    found
 }
 
 /// Whether these are readers, or one writer alone.
@@ -77,19 +82,30 @@ fn are_caused(problem: Problem, holding: &[Ticket], waiting: &[Ticket]) -> bool 
         Problem::Second => have_writer(holding) || have_writer(waiting),
     };
     let stops_writers = !holding.is_empty();
-    waiting.iter().all(|ticket| match ticket.mode {
-        Mode::Read => stops_readers,
-        Mode::Write => stops_writers,
-    })
+    let mut caused = true;
+    for ticket in waiting {
+        caused &= match ticket.mode {
+            Mode::Read => stops_readers,
+            Mode::Write => stops_writers,
+        };
+    }
+    caused
+}
+
+/// The problem of a node's record.
+fn problem_in(record: &[u8]) -> Result<Problem, Failure> {
+    match record.get(1).copied() {
+        Some(1) => Ok(Problem::First),
+        Some(2) => Ok(Problem::Second),
+        _ => Err(Failure::Wrong(0)),
+    }
 }
 
 /// The problem of the record that the node has kept.
 fn present_problem(world: &World, node: NodeId) -> Result<Problem, Failure> {
-    let kept = world.kept_bytes(Actor::Node(node))?;
-    match kept.get(1) {
-        Some(1) => Ok(Problem::First),
-        Some(2) => Ok(Problem::Second),
-        _ => Err(Failure::Wrong(0)),
+    match world.kept_bytes(Actor::Node(node)) {
+        Ok(kept) => problem_in(&kept),
+        Err(fault) => Err(Failure::from(fault)),
     }
 }
 
@@ -206,14 +222,14 @@ pub(crate) fn goes_on(
 fn is_long(world: &mut World) -> Outcome {
     raise(world)?;
     let mut words = Pcg32::new(SEED, 1);
-    let mut last = node(0)?;
+    let mut last = node(0);
     let mut seen = NOTHING;
     for turn in 0..TURNS {
         let (after, next) = goes_on(&mut words, world, turn, last, seen)?;
         seen = after;
         last = next;
         look(world, last)?;
-        look(world, node(turn)?)?;
+        look(world, node(turn))?;
     }
     check_row(seen.taken >= 3_000, 1)?;
     check_row(seen.entered >= 20, 2)?;

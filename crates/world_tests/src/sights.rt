@@ -1,8 +1,8 @@
 // What is looked at in a world, in the rows of scripts.
 
 use crate::rows::{Note, Who};
-use crate::values::{client, node, ticket};
-use lock_messages::{Mode, ResourceName, Ticket};
+use crate::values::{client, node, node_id, ticket};
+use lock_messages::{Actor, Mode, ResourceName, Ticket};
 use test_outcomes::{Failure, Outcome, check};
 use world_machine::World;
 
@@ -36,16 +36,27 @@ pub(crate) enum Sight {
     IsUnknown(Who),
 }
 
-/// Whether the tickets are just these.
-fn are(tickets: &[Ticket], holders: Holders) -> bool {
-    tickets.len() == holders.len()
-        && tickets.iter().zip(holders).all(|(found, (number, mode))| ticket(*number, *mode)
-            == Ok(*found))
+fn is(found: &Ticket, number: u32, mode: Mode) -> bool {
+    match ticket(number, mode) {
+        Ok(wanted) => wanted == *found,
+        Err(_) => false,
+    }
 }
 
-pub(crate) fn keeps(world: &World, who: Who, bytes: &[u8]) -> Result<bool, Failure> {
-    let kept = world.kept_bytes(who.actor()?)?;
-    Ok(kept.as_slice() == bytes)
+/// Whether the tickets are just these.
+fn are(tickets: &[Ticket], holders: Holders) -> bool {
+    let mut same = tickets.len() == holders.len();
+    for (found, (number, mode)) in tickets.iter().zip(holders) {
+        same &= is(found, *number, *mode);
+    }
+    same
+}
+
+pub(crate) fn keeps(world: &World, who: &Actor, bytes: &[u8]) -> Result<bool, Failure> {
+    match world.kept_bytes(*who) {
+        Ok(kept) => Ok(kept.as_slice() == bytes),
+        Err(fault) => Err(Failure::from(fault)),
+    }
 }
 
 fn resource(name: &[u8]) -> Result<ResourceName, Failure> {
@@ -53,23 +64,35 @@ fn resource(name: &[u8]) -> Result<ResourceName, Failure> {
 }
 
 fn are_inside(world: &World, name: &[u8], holders: Holders) -> Result<bool, Failure> {
-    let tickets = world.inside(&resource(name)?)?;
-    Ok(are(&tickets, holders))
+    let name = resource(name)?;
+    match world.inside(&name) {
+        Ok(tickets) => Ok(are(&tickets, holders)),
+        Err(fault) => Err(Failure::from(fault)),
+    }
 }
 
 fn are_holding(world: &World, at: u8, name: &[u8], holders: Holders) -> Result<bool, Failure> {
-    let tickets = world.holding(node(at)?, &resource(name)?)?;
-    Ok(are(&tickets, holders))
+    let (at, name) = (node(at)?, resource(name)?);
+    match world.holding(at, &name) {
+        Ok(tickets) => Ok(are(&tickets, holders)),
+        Err(fault) => Err(Failure::from(fault)),
+    }
 }
 
 fn are_waiting(world: &World, at: u8, name: &[u8], holders: Holders) -> Result<bool, Failure> {
-    let tickets = world.waiting(node(at)?, &resource(name)?)?;
-    Ok(are(&tickets, holders))
+    let (at, name) = (node(at)?, resource(name)?);
+    match world.waiting(at, &name) {
+        Ok(tickets) => Ok(are(&tickets, holders)),
+        Err(fault) => Err(Failure::from(fault)),
+    }
 }
 
 fn holding_so(world: &World, count: usize) -> Result<bool, Failure> {
-    let tickets = world.holding(node(1)?, &resource(b"a")?)?;
-    Ok(tickets.len() == count)
+    let name = resource(b"a")?;
+    match world.holding(node_id(1), &name) {
+        Ok(tickets) => Ok(tickets.len() == count),
+        Err(fault) => Err(Failure::from(fault)),
+    }
 }
 
 /// Whether this is so in the world.
@@ -78,7 +101,7 @@ pub(crate) fn is_so(world: &World, sight: &Sight) -> Result<bool, Failure> {
         Sight::Sent(number, note) => world.sent(number) == Some(note.message()?),
         Sight::IsSent(number) => world.sent(number).is_some(),
         Sight::Unsent(number) => world.sent(number).is_none(),
-        Sight::Keeps(who, bytes) => keeps(world, who, bytes)?,
+        Sight::Keeps(who, bytes) => keeps(world, &who.actor()?, bytes)?,
         Sight::Inside(name, holders) => are_inside(world, name, holders)?,
         Sight::Holding(at, name, holders) => are_holding(world, at, name, holders)?,
         Sight::Waiting(at, name, holders) => are_waiting(world, at, name, holders)?,

@@ -16,12 +16,20 @@ pub(crate) fn ballot_of(votes: &[u8], read: u16, write: u16) -> Result<BallotLis
     let Ok(ballot) = Ballot::of(votes, read, write) else {
         return Err(Failure::Wrong(0));
     };
-    BallotList::of(&[ballot]).map_err(|_| Failure::Wrong(0))
+    match BallotList::of(&[ballot]) {
+        Ok(ballots) => Ok(ballots),
+        Err(_) => Err(Failure::Wrong(0)),
+    }
+}
+
+/// Three nodes of one vote each.
+pub(crate) fn three_votes() -> Result<BallotList, Failure> {
+    ballot_of(&[1, 1, 1], 2, 2)
 }
 
 /// A world of three nodes with a vote each under this problem, and of so many clients.
 pub(crate) fn world(alloc: Global, problem: Problem, clients: u16) -> Result<World, Failure> {
-    world_by(alloc, ballot_of(&[1, 1, 1], 2, 2)?, problem, clients)
+    world_by(alloc, three_votes()?, problem, clients)
 }
 
 /// A world with plain policies, all down, nothing kept.
@@ -37,7 +45,7 @@ pub(crate) fn world_by(
     }
     match World::start(alloc, ballots, clients, problem, pairs) {
         Ok(world) => Ok(world),
-        Err(_) => Err(Failure::Memory),
+        Err((_fault, _pairs)) => Err(Failure::Memory),
     }
 }
 
@@ -69,15 +77,17 @@ pub(crate) fn runs(world: &mut World, events: &[Event]) -> Outcome {
     }
 }
 
-fn run_four(world: &mut World, deeds: [Deed; 4]) -> Outcome {
-    let [first, second, third, fourth] = deeds;
-    let events = [
-        first.event()?,
-        second.event()?,
-        third.event()?,
-        fourth.event()?,
-    ];
-    runs(world, &events)
+/// The event happens.
+pub(crate) fn happens(world: &mut World, deed: Deed) -> Outcome {
+    runs(world, &[deed.event()?])
+}
+
+/// The events happen.
+fn all_happen(world: &mut World, deeds: &[Deed]) -> Outcome {
+    for deed in deeds {
+        happens(world, *deed)?;
+    }
+    Ok(())
 }
 
 /// A client rises, and asks with its first ticket.
@@ -89,7 +99,7 @@ pub(crate) fn begins(world: &mut World, number: u32, mode: Mode) -> Outcome {
         Deed::Try(who),
         Deed::Kept(who),
     ];
-    run_four(world, deeds)
+    all_happen(world, &deeds)
 }
 
 /// A node takes the message of this number, which changes its record, and answers.
@@ -101,17 +111,14 @@ fn answers(world: &mut World, number: u8, message: u32) -> Outcome {
         Deed::Kept(who),
         Deed::Say(number),
     ];
-    run_four(world, deeds)
+    all_happen(world, &deeds)
 }
 
 /// A client asks a node by a message of this number, and hears the answer, which is the next message.
 fn asks(world: &mut World, number: u32, to: u8, message: u32) -> Outcome {
-    runs(world, &[Deed::SayTo(number, to).event()?])?;
+    happens(world, Deed::SayTo(number, to))?;
     answers(world, to, message)?;
-    runs(
-        world,
-        &[Deed::Hear(number, message.saturating_add(1)).event()?],
-    )
+    happens(world, Deed::Hear(number, message.saturating_add(1)))
 }
 
 /// Takes the same event so many times.
@@ -172,6 +179,17 @@ pub(crate) fn played(
     clients: u16,
     scripts: &[&[Step]],
 ) -> Outcome {
-    let mut world = world(alloc, problem, clients)?;
+    played_by(alloc, three_votes()?, problem, clients, scripts)
+}
+
+/// Takes these scripts in a new world of these ballots.
+pub(crate) fn played_by(
+    alloc: Global,
+    ballots: BallotList,
+    problem: Problem,
+    clients: u16,
+    scripts: &[&[Step]],
+) -> Outcome {
+    let mut world = world_by(alloc, ballots, problem, clients)?;
     play_all(&mut world, scripts)
 }

@@ -7,8 +7,8 @@ use crate::random_events::{NOTHING, SEED, ballots, goes_on, new_world, raise};
 use crate::rows::{Deed, Who};
 use crate::sights::{Sight, are_so};
 use crate::steps::{Step, ballot_of, in_row, plays, runs, world};
-use crate::values::{client, node, resource};
-use lock_messages::Mode;
+use crate::values::{client, node_id, resource};
+use lock_messages::{Mode, Ticket};
 use lock_model::Problem;
 use rand_pcg::Pcg32;
 use std::alloc::Global;
@@ -40,22 +40,26 @@ struct Wish(u32, Mode, u8);
 
 fn want(wish: Wish) -> Result<Want, Failure> {
     let Wish(number, mode, place) = wish;
+    let (client, resource) = (client(number)?, resource()?);
     Ok(Want {
-        client: client(number)?,
+        client,
         mode,
-        resource: resource()?,
+        resource,
         place,
     })
+}
+
+fn is_wanted(ticket: &Ticket, want: &Want) -> bool {
+    let mut wanted = ticket.client == want.client;
+    wanted &= ticket.mode == want.mode;
+    wanted &= ticket.resource.bytes() == want.resource.bytes();
+    wanted
 }
 
 /// Whether the client is inside as it wants to be.
 fn is_inside(world: &World, want: &Want) -> bool {
     match world.ticket_inside(want.client) {
-        Some(ticket) => {
-            ticket.client == want.client
-                && ticket.mode == want.mode
-                && ticket.resource.bytes() == want.resource.bytes()
-        }
+        Some(ticket) => is_wanted(&ticket, want),
         None => false,
     }
 }
@@ -104,7 +108,7 @@ fn gets_everywhere(world: &World, number: u32, sent: u32, places: u8) -> Outcome
 fn all_get_in(world: &mut World, places: u8) -> Outcome {
     raise(world)?;
     let mut words = Pcg32::new(SEED, 1);
-    let mut last = node(1)?;
+    let mut last = node_id(1);
     let mut seen = NOTHING;
     for turn in 0..TURNS {
         let (after, next) = goes_on(&mut words, world, turn, last, seen)?;
@@ -158,13 +162,20 @@ enum Turn {
     NoWay(Wish, StepFault),
 }
 
+fn is(event: &Event, deed: Deed) -> bool {
+    match deed.event() {
+        Ok(wanted) => wanted == *event,
+        Err(_) => false,
+    }
+}
+
 /// Whether the events are just these.
 fn are(events: &[Event], deeds: &[Deed]) -> bool {
-    events.len() == deeds.len()
-        && events
-            .iter()
-            .zip(deeds)
-            .all(|(event, deed)| deed.event() == Ok(*event))
+    let mut same = events.len() == deeds.len();
+    for (event, deed) in events.iter().zip(deeds) {
+        same &= is(event, *deed);
+    }
+    same
 }
 
 fn is_way(world: &World, wish: Wish, deeds: &[Deed]) -> Outcome {
@@ -180,10 +191,18 @@ fn way_begins(world: &World, wish: Wish, deeds: &[Deed]) -> Outcome {
     })
 }
 
+/// Whether this is among the events.
+fn has(events: &[Event], deed: Deed) -> bool {
+    let mut found = false;
+    for event in events {
+        found |= is(event, deed);
+    }
+    found
+}
+
 fn way_has(world: &World, wish: Wish, deed: Deed) -> Outcome {
-    let wanted = deed.event()?;
     let way = world.way_in(&want(wish)?)?;
-    check(way.iter().any(|event| *event == wanted))
+    check(has(&way, deed))
 }
 
 fn has_none(world: &World, want: &Want, fault: StepFault) -> Outcome {
@@ -220,11 +239,16 @@ const NODES_UP: [Step; 3] = [
     Step::Now(Deed::Rise(Who::Node(3), Age::Old)),
 ];
 
+/// Takes these turns in a world once its nodes are up.
+fn go_up(world: &mut World, turns: &[Turn]) -> Outcome {
+    plays(world, &NODES_UP)?;
+    all_go(world, turns)
+}
+
 /// Takes these turns in a world of nodes that are up, and of so many clients.
 fn play(alloc: Global, clients: u16, turns: &[Turn]) -> Outcome {
     let mut world = world(alloc, Problem::First, clients)?;
-    plays(&mut world, &NODES_UP)?;
-    all_go(&mut world, turns)
+    go_up(&mut world, turns)
 }
 
 /// c1 rises, begins, asks each node, which takes its request, keeps what it decided, and says it; c1 hears

@@ -1,5 +1,5 @@
 use Rattle.std.proofs.Common.{◌≡◌}
-use Rattle.book_tests.proofs.full.asks_on.Given as goal
+use Rattle.book_tests.proofs.logging.asks.Given as goal
 
 abbrev pub invariant-loop : goal.invariant-loop
 invariant-loop g l = record {
