@@ -2,11 +2,11 @@
 // the order in which it gets on; messages come late, again and out of order, or to another than theirs;
 // actors fall and rise, and nodes take the one problem or the other.
 
-use crate::worlds::node_id;
 use lock_messages::{Actor, ClientId, Message, Mode, NodeId, ResourceName};
 use lock_model::Problem;
 use rand_core::utils::NextWord;
 use rand_pcg::Pcg32;
+use test_outcomes::node_id;
 use world_machine::World;
 use world_model::{Age, Event};
 

@@ -4,11 +4,11 @@ ghost use Rattle.std.specs.Prelude.{◌≡◌, IfOk};
 ghost use Rattle.history_book.specs.Books.{BookValue, BerthValue};
 
 use crate::faults::of_book;
-use crate::worlds::{Start, Who, client_id, event, node_id};
+use crate::worlds::{Start, Who, event};
 use history_book::{Berth, Book, BookFault};
 use lock_messages::Actor;
 use std::alloc::Global;
-use test_outcomes::{Failure, Outcome, check};
+use test_outcomes::{Failure, Outcome, check, client_id, node_id};
 use world_model::{Age, Effect, Event};
 
 /// A book of this number over the world that starts so.

@@ -3,11 +3,11 @@
 ghost use Rattle.std.specs.Prelude.{◌≡◌};
 
 use crate::logging::{asks, berth_of, is_given, logs, meets, rises, takes_all};
-use crate::worlds::{Who, fourth_ticket, node_id};
+use crate::worlds::{Who, fourth_ticket};
 use history_book::{Berth, Book, BookFault};
 use lock_messages::Message;
 use lock_model::Heard;
-use test_outcomes::{Failure, Outcome, check};
+use test_outcomes::{Failure, Outcome, check, node_id};
 use world_model::{Effect, StepFault};
 
 /// One of the three berths.

@@ -1,37 +1,14 @@
 // Worlds in which all are down and nothing is kept, and a few values.
 
-ghost use Rattle.std.specs.Prelude.{◌≡◌};
-ghost use Rattle.lock_messages.specs.Ids.{IsNode, IsClient};
-
 use admission_policy::{Admission, FirstProblem, Pair, SecondProblem};
 use history_check::read_event;
-use lock_messages::{Actor, Attempt, ClientId, Mode, NodeId, ResourceName, Ticket};
+use lock_messages::{Actor, Attempt, Mode, ResourceName, Ticket};
 use lock_model::Problem;
 use std::alloc::Global;
-use test_outcomes::Failure;
+use test_outcomes::{Failure, client_id, node_id};
 use vote_weights::{Ballot, BallotList};
 use world_machine::World;
 use world_model::Event;
-
-pub(crate) fn node_id(number: u8) -> NodeId
-    requires { IsNode number }
-    ensures { result ≡ number }
-{
-    let Some(id) = NodeId::of(number) else {
-        unreachable!()
-    };
-    id
-}
-
-pub(crate) fn client_id(number: u32) -> ClientId
-    requires { IsClient number }
-    ensures { result ≡ number }
-{
-    let Some(id) = ClientId::of(number) else {
-        unreachable!()
-    };
-    id
-}
 
 /// An actor of a table's row: a node of three, or a client of four. The last two are strangers to each world.
 #[derive(Clone, Copy)]

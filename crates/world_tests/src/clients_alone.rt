@@ -2,10 +2,10 @@
 
 use crate::rows::Note;
 use crate::steps::{ballot_of, done, in_row};
-use crate::values::{attempt, client_id, node_id, resource, ticket};
+use crate::values::{attempt, resource, ticket};
 use lock_messages::Mode;
 use lock_model::Heard;
-use test_outcomes::{Failure, Outcome, check};
+use test_outcomes::{Failure, Outcome, check, client_id, node_id};
 use world_actors::WorldClient;
 use world_model::{Age, StepFault};
 

@@ -2,12 +2,11 @@
 // order, or never; actors fall and rise, and nodes take problems; every client in turn asks, enters, softens
 // and releases.
 
-use crate::values::{client_id, node_id};
 use lock_messages::{Actor, ClientId, Message, Mode, NodeId, ResourceName};
 use lock_model::Problem;
 use rand_core::utils::NextWord;
 use rand_pcg::Pcg32;
-use test_outcomes::Failure;
+use test_outcomes::{Failure, client_id, node_id};
 use world_machine::World;
 use world_model::{Age, Event};
 

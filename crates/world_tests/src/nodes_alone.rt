@@ -3,12 +3,11 @@
 use crate::pairs::plain;
 use crate::rows::Note;
 use crate::steps::{done, in_row};
-use crate::values::node_id;
 use lock_messages::{Message, Mode};
 use lock_model::Problem;
 use stable_record::read_node;
 use std::alloc::Global;
-use test_outcomes::{Failure, Outcome, check};
+use test_outcomes::{Failure, Outcome, check, node_id};
 use world_actors::WorldNode;
 use world_model::{Age, StepFault};
 

@@ -1,9 +1,9 @@
 // What is looked at in a world, in the rows of scripts.
 
 use crate::rows::{Note, Who};
-use crate::values::{client, node, node_id, ticket};
+use crate::values::{client, node, ticket};
 use lock_messages::{Actor, Mode, ResourceName, Ticket};
-use test_outcomes::{Failure, Outcome, check};
+use test_outcomes::{Failure, Outcome, check, node_id};
 use world_machine::World;
 
 /// The clients of tickets, each a client's first and for `a`, with their modes.

@@ -1,28 +1,8 @@
 // The few values that tests share. A number that stands in a test names an actor by `node_id` and `client_id`, one
 // of a row by `node` and `client`.
 
-ghost use Rattle.lock_messages.specs.Ids.{IsNode, IsClient};
-
 use lock_messages::{Attempt, ClientId, Mode, NodeId, ResourceName, Ticket};
 use test_outcomes::Failure;
-
-pub(crate) fn node_id(number: u8) -> NodeId
-    requires { IsNode number }
-{
-    let Some(id) = NodeId::of(number) else {
-        unreachable!()
-    };
-    id
-}
-
-pub(crate) fn client_id(number: u32) -> ClientId
-    requires { IsClient number }
-{
-    let Some(id) = ClientId::of(number) else {
-        unreachable!()
-    };
-    id
-}
 
 pub(crate) fn node(number: u8) -> Result<NodeId, Failure> {
     NodeId::of(number).ok_or(Failure::Wrong(0))
