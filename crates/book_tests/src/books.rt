@@ -62,7 +62,8 @@ fn one_berth_each(rt: HostRuntime) -> Outcome {
         rt.alloc(),
         Start::ThreeNodes,
         crew,
-        [&ONE_EACH, &[]],
+        &ONE_EACH,
+        &[],
         &Journal::Any,
     )
 }

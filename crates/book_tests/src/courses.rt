@@ -19,13 +19,13 @@ pub(crate) fn play(
     alloc: Global,
     start: Start,
     crew: [Who; 3],
-    scripts: [&[Turn]; 2],
+    script: &[Turn],
+    rest: &[Turn],
     journal: &Journal,
 ) -> Outcome {
     match opened(alloc, 7, start) {
         Ok(book) => {
             let mut book = book;
-            let [script, rest] = scripts;
             let played = play_in(&mut book, crew, script, rest);
             played.and(is_written(alloc, &book, start, journal))
         }

@@ -33,7 +33,8 @@ fn full_history(rt: HostRuntime) -> Outcome {
         rt.alloc(),
         Start::OneNode,
         CREW,
-        [&NO_MORE_EVENTS, &[]],
+        &NO_MORE_EVENTS,
+        &[],
         &Journal::Any,
     )
 }
@@ -61,7 +62,8 @@ fn full_list_of_messages(rt: HostRuntime) -> Outcome {
         rt.alloc(),
         Start::OneNode,
         CREW,
-        [&NO_MORE_MESSAGES, &[]],
+        &NO_MORE_MESSAGES,
+        &[],
         &Journal::Any,
     )
 }

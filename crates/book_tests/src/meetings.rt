@@ -17,7 +17,7 @@ const CREW: [Who; 3] = [Who::N1, Who::C1, Who::C2];
 
 /// Plays a script in a new book over the world of one node.
 fn play_one(alloc: Global, script: &[Turn]) -> Outcome {
-    play(alloc, Start::OneNode, CREW, [script, &[]], &Journal::Any)
+    play(alloc, Start::OneNode, CREW, script, &[], &Journal::Any)
 }
 
 const FIRST_ASKS: &str = "rise c1 old\nbegin c1 read a\ntry c1\nkept c1\nsayto c1 n1";

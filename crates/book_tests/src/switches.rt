@@ -37,7 +37,8 @@ fn only_a_node_itself_switches(rt: HostRuntime) -> Outcome {
         rt.alloc(),
         Start::ThreeNodes,
         crew,
-        [&ITSELF, &[]],
+        &ITSELF,
+        &[],
         &Journal::Any,
     )
 }
@@ -92,14 +93,8 @@ const FINDS: [Turn; 5] = [
 /// All ask in a book under problem 2, and then this script is played. An audit finds the journal sound.
 fn is_answered(alloc: Global, script: &[Turn]) -> Outcome {
     let crew = [Who::N1, Who::C1, Who::C2];
-    let scripts = [ALL_ASK.as_slice(), script];
-    play(
-        alloc,
-        Start::OneNodeUnderSecond,
-        crew,
-        scripts,
-        &Journal::Sound,
-    )
+    let start = Start::OneNodeUnderSecond;
+    play(alloc, start, crew, &ALL_ASK, script, &Journal::Sound)
 }
 
 #[test]

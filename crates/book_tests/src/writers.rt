@@ -65,7 +65,7 @@ pub(crate) fn all_fit(alloc: Global, book: &Book, bytes: usize, rooms: &[usize])
 fn fits_or_not(alloc: Global, script: &[Turn], bytes: usize, rooms: &[usize]) -> Outcome {
     let crew = [Who::N1, Who::C1, Who::C2];
     let journal = Journal::Fits(bytes, rooms);
-    play(alloc, Start::ThreeNodes, crew, [script, &[]], &journal)
+    play(alloc, Start::ThreeNodes, crew, script, &[], &journal)
 }
 
 #[test]
