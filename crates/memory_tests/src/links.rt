@@ -29,9 +29,8 @@ fn took(link: &ListLink, given: Result<(), LinkFault>, before: usize) -> Outcome
 }
 
 fn sends_five(link: &mut ListLink) -> Outcome {
-    let to = Actor::Node(node_id(1));
     for before in 0..5usize {
-        let given = link.send(to, parcel(1));
+        let given = link.send(Actor::Node(node_id(1)), parcel(1));
         took(link, given, before)?;
     }
     Ok(())
