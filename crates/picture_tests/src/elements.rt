@@ -1,7 +1,9 @@
 // Marks as SVG: of the least and of the greatest size.
 
 use history_check::LineFault;
-use lock_messages::{Actor, Attempt, ClientId, MAX_ATTEMPT, Message, Mode, ResourceName, Ticket};
+use lock_messages::{
+    Actor, Attempt, ClientId, MAX_ATTEMPT, Message, Mode, NodeId, ResourceName, Ticket,
+};
 use lock_model::Heard;
 use picture_svg::{Frame, push_end, push_head, push_mark};
 use run_picture::{Lasting, Mark, Part, Place, Sign};
