@@ -1,12 +1,13 @@
 // Readers that give little, fail in the middle or bring too much, and a writer that takes nothing.
 
 use crate::auditing::{audited, found, world};
+use crate::sips::sips_of;
 use history_check::LineFault;
 use journal_audit::{AuditFault, Cause, Verdict, audit, audit_lines};
 use line_streams::LineReader;
 use std::alloc::Global;
 use std::io;
-use std::io::{Error, ErrorKind, Read, Write};
+use std::io::{Read, Write};
 use test_outcomes::{Failure, Outcome, check, check_row};
 use world_model::StepFault;
 
@@ -18,48 +19,10 @@ sayto c1 n2\ntake n2 3\ntry n2\nkept n2\nsay n2\nhear c1 4\nenter c1\n";
 
 const UNSOUND: &str = "rise c1 old\nbegin c1 read a\nenter c1\n";
 
-/// A reader that gives at most so many bytes a read, is interrupted before each, and fails after so
-/// many reads.
-#[derive(Drop)]
-struct Sips<'a> {
-    bytes: &'a [u8],
-    most: usize,
-    reads: u32,
-    interrupted: bool,
-}
-
-impl Read for Sips<'_> {
-    fn read(&mut self, buf: &mut [u8]) -> io::Result<usize> {
-        if self.interrupted {
-            self.interrupted = false;
-            return Err(Error::from(ErrorKind::Interrupted));
-        }
-        self.interrupted = true;
-        if self.reads == 0 {
-            return Err(Error::from(ErrorKind::BrokenPipe));
-        }
-        self.reads -= 1;
-        let count = self.most.min(self.bytes.len()).min(buf.len());
-        let (now, later) = self.bytes.split_at(count);
-        buf[..count].copy_from_slice(now);
-        self.bytes = later;
-        Ok(count)
-    }
-}
-
-fn sips_of(text: &str, most: usize, reads: u32) -> Sips<'_> {
-    Sips {
-        bytes: text.as_bytes(),
-        most,
-        reads,
-        interrupted: true,
-    }
-}
-
 #[test]
 fn pieces_of_any_size(rt: HostRuntime) -> Outcome {
     for most in [1, 2, 7, 4_096] {
-        let out = audited(rt.alloc(), sips_of(FIRST_READER, most, u32::MAX))?;
+        let out = audited(rt.alloc(), sips_of(FIRST_READER.as_bytes(), most, u32::MAX))?;
         check_row(out.as_slice() == b"sound 23\n".as_slice(), most)?;
     }
     Ok(())
@@ -70,7 +33,12 @@ fn pieces_of_any_size(rt: HostRuntime) -> Outcome {
 fn fails_behind(alloc: Global, bytes: u32) -> Outcome {
     let world = world(alloc)?;
     let mut out = Vec::new(alloc);
-    let found = audit(alloc, world, sips_of(UNSOUND, 1, bytes), &mut out);
+    let found = audit(
+        alloc,
+        world,
+        sips_of(UNSOUND.as_bytes(), 1, bytes),
+        &mut out,
+    );
     if matches!(found, Err(AuditFault::Memory | AuditFault::Write)) {
         return Err(Failure::Memory);
     }
@@ -253,8 +221,8 @@ fn long_line(rt: HostRuntime) -> Outcome {
         0123456789012345678901234567890123456789012345678901234567890123456789\
         012345678901234567890123456789012345678901234567890123456789";
     let words = Cause::Line(LineFault::Words);
-    let cut = found(rt.alloc(), sips_of(long, 1, 128))?;
+    let cut = found(rt.alloc(), sips_of(long.as_bytes(), 1, 128))?;
     check_row(cut == Err(AuditFault::Read), 128)?;
-    let whole = found(rt.alloc(), sips_of(long, 1, 129))?;
+    let whole = found(rt.alloc(), sips_of(long.as_bytes(), 1, 129))?;
     check_row(whole == Ok(Verdict::Unsound(1, words)), 129)
 }

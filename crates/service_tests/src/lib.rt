@@ -4,8 +4,9 @@
 //! What the contracts of these calls say is proved, and is not tried here again. Tried are the worked
 //! values, which say that the definitions mean what they should, worked journals with their verdicts as they
 //! are written, each number that the program prints, the texts of faults, and what no contract sees: readers
-//! that give little, readers and writers that fail, and the greatest sizes. The crate has no code but tests, and stands on the crates that it
-//! tests; each file is named for what it shows. The scripts of `examples/` are run by `.ci/run`.
+//! that give little, readers and writers that fail, and the greatest sizes. The crate has no code but tests,
+//! and stands on the crates that it tests; each file is named for what it shows. The scripts of `examples/`
+//! are run by `.ci/run`.
 #![tactic(auto)]
 
 #[cfg(test)]
@@ -34,6 +35,8 @@ mod restarts;
 mod run_settings;
 #[cfg(test)]
 mod scripts;
+#[cfg(test)]
+mod sips;
 #[cfg(test)]
 mod softenings;
 #[cfg(test)]

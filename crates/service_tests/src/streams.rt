@@ -1,10 +1,11 @@
 // Readers that give little, inputs that are cut, and readers and writers that fail.
 
 use crate::playing::{serve_script, serves_reader};
+use crate::sips::sips_of;
 use operator_cli::ServeFault;
 use std::alloc::Global;
 use std::io;
-use std::io::{Error, ErrorKind, Read, Write};
+use std::io::{Error, ErrorKind, Write};
 use test_outcomes::{Failure, Outcome, check, check_row};
 
 const SCRIPT: &str = "\
@@ -18,44 +19,6 @@ kept\nsent 2 grant n1 c1 1 read a\ncounted\nrefused 609\ninside a: nobody\n";
 
 /// Where the lines behind the settings begin.
 const BODY: usize = 65;
-
-/// A reader that gives at most so many bytes a read, is interrupted before each, and fails after so
-/// many reads.
-#[derive(Drop)]
-struct Sips<'a> {
-    bytes: &'a [u8],
-    most: usize,
-    reads: u32,
-    interrupted: bool,
-}
-
-impl Read for Sips<'_> {
-    fn read(&mut self, buf: &mut [u8]) -> io::Result<usize> {
-        if self.interrupted {
-            self.interrupted = false;
-            return Err(Error::from(ErrorKind::Interrupted));
-        }
-        self.interrupted = true;
-        if self.reads == 0 {
-            return Err(Error::from(ErrorKind::BrokenPipe));
-        }
-        self.reads -= 1;
-        let count = self.most.min(self.bytes.len()).min(buf.len());
-        let (now, later) = self.bytes.split_at(count);
-        buf[..count].copy_from_slice(now);
-        self.bytes = later;
-        Ok(count)
-    }
-}
-
-fn sips_of(bytes: &[u8], most: usize, reads: u32) -> Sips<'_> {
-    Sips {
-        bytes,
-        most,
-        reads,
-        interrupted: true,
-    }
-}
 
 /// Runs the script by reads of so many bytes at most.
 fn plays_pieces(alloc: Global, most: usize) -> Outcome {
