@@ -4,8 +4,7 @@
 //! Each step logs just the events that it names, each while the actor's record finds what the actor has
 //! kept by then, so it meets the condition of `Recorder::log`. It answers a `RunFault` only for the
 //! cause that it names, and then it has logged no more than a beginning of its events. The crate stands
-//! on `event_recorders`, `history_book`, `world_model`, `world_machine`, `stable_record`,
-//! `lock_messages` and `lock_model`.
+//! on `event_recorders`, `history_book`, `world_model`, `stable_record`, `lock_messages` and `lock_model`.
 #![tactic(auto)]
 
 mod keeping;

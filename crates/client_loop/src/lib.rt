@@ -11,8 +11,8 @@
 //!
 //! It stands on `client_core` for what a client decides, `entry_guard` for being inside, `actor_steps`
 //! for the steps that nodes and clients share, `event_recorders`, `lossy_link`, `stable_record`,
-//! `history_check` for wishes, `history_book`, `world_model`, `vote_weights`, `lock_messages`,
-//! `lock_model` and `bytes`; the definitions of `world_actors` tie a core to its part of the world.
+//! `history_check` for wishes, `world_model`, `vote_weights`, `lock_messages` and `lock_model`; the
+//! definitions of `world_actors` tie a core to its part of the world.
 #![tactic(auto)]
 
 mod asking;

@@ -11,7 +11,7 @@
 //!
 //! It stands on `command_words` for what the words ask for, `program_ends` for what is said of faults and of
 //! words, `operator_cli`, `run_service`, `explanations` for what is said in words, `line_streams`,
-//! `stable_record`, `lock_messages`, `lock_model` and `clap`.
+//! `lock_messages`, `lock_model` and `clap`.
 #![tactic(auto)]
 
 mod ending;

@@ -13,7 +13,7 @@
 //!
 //! What a door is, is in the ghost members of `Door`; for a client core these are the words of
 //! `client_core`, and `specs/Doors` says what softening and leaving make of it. The crate stands on
-//! `client_core`, `lock_messages`, `lock_model` and `vote_weights`.
+//! `client_core` and `lock_messages`.
 #![tactic(auto)]
 
 mod boxed;

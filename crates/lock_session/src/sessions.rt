@@ -351,6 +351,7 @@ impl<S: OwnRecord, R: SharedRecorder, L: Link> Session<S, R, L> {
     {
         self.recorder.meet(&mut other.recorder)
     }
+
     /// The tickets of the clients that are inside the resource, in the order of the clients, as the one history of
     /// all has it when it is asked; a writer among them is the only one. Nothing of the session changes. It waits
     /// for the lock of the book.

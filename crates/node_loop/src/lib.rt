@@ -11,8 +11,8 @@
 //! it was said; and by which faults it ends. It promises nothing of what comes over the link, nor that the
 //! loop ends. It stands on `actor_steps` and `event_recorders` for what the threads of nodes and clients do
 //! alike, on `voter_core` for decisions, and on `lossy_link`, `stable_record`, `admission_policy`,
-//! `lock_messages`, `lock_model`, `world_machine`, `world_model` and `bytes`; the definitions of `world_actors` tie a core to its
-//! part of the world.
+//! `lock_messages`, `lock_model` and `world_model`; the definitions of `world_actors` tie a core to its part
+//! of the world.
 #![tactic(auto)]
 
 mod attending;

@@ -13,7 +13,7 @@
 //!
 //! It stands on `operator_cli` for settings and the world that they open, `program_ends` for what is said of
 //! faults and of words, `journal_picture`, `picture_svg`, `run_picture`, `journal_audit`, `history_check`,
-//! `line_streams`, `world_machine`, `world_model`, `vote_weights`, `lock_model`, `lock_messages` and `clap`.
+//! `line_streams`, `world_machine`, `world_model`, `lock_model`, `lock_messages` and `clap`.
 #![tactic(auto)]
 
 mod canvases;

@@ -16,7 +16,7 @@
 //! didn't succeed, of one that somebody else writes, or of a real disk: what a disk does is stated
 //! once, as the clauses of `Plate`.
 //!
-//! The crate stands on `stable_record`, `lock_model`, `lock_messages` and `thiserror`.
+//! The crate stands on `stable_record`, `lock_model` and `thiserror`.
 #![tactic(auto)]
 
 mod entries;
