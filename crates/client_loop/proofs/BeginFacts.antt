@@ -1,5 +1,6 @@
 -- What a client's log has begun.
-use Rattle.std.proofs.Common.{◌≡◌, inl, inr, ℕ, zero, suc, ◌<◌, get_or, List, [], ◌∷◌, length, map, refl, sym, ap, subst, ◌∙◌, arith}
+use Rattle.std.proofs.Common.{◌≡◌, inl, inr, ℕ, zero, suc, ◌<◌, ◌≤◌, ◌+◌, get_or, List, [], ◌∷◌, length, map, refl, sym, ap, subst, ◌∙◌, arith}
+use Rattle.std.proofs.lemmas.List.{length-append}
 use Rattle.std.proofs.lemmas.List.Elements.{All-nil, All-push}
 use Rattle.lock_messages.specs.declared.ids.Actor.{Actor}
 use Rattle.lock_model.specs.Ballots.{Ballot, HasPlace}
@@ -11,7 +12,7 @@ use Rattle.world_model.specs.declared.events.Event.TheVariants as event
 use Rattle.history_check.specs.declared.wishes.Wish.{Wish}
 use Rattle.event_recorders.specs.OwnLogs.{OwnLog}
 use Rattle.client_loop.specs.Standing.{Stands, IsSameClient}
-use Rattle.client_loop.specs.Visits.{Use, Visits, AreWished, BeginsOnly, BeginsNothing, HasBegun, ArePlaced, use_of, visits_after, visits_from, visits_of, visits_entering, visits_softening, visits_beginning}
+use Rattle.client_loop.specs.Visits.{Use, Visits, AreWished, BeginsOnly, BeginsNothing, BeginsMore, HasBegun, ArePlaced, use_of, visits_after, visits_from, visits_of, visits_entering, visits_softening, visits_beginning}
 
 pub begins_none : (u : Use) (a b : Visits) → b ≡ a → BeginsOnly u a b
 begins_none u a b same = record { whose = ap (λ (v : Visits). v.whose) same; ballots = ap (λ (v : Visits). v.ballots) same; only = λ wished is before. subst (λ (v : Visits). AreWished wished v.begins) (sym same) before }
@@ -22,6 +23,27 @@ begins_one u a b more = record {
   ballots = ap (λ (v : Visits). v.ballots) more;
   only = λ wished is before. subst (λ (v : Visits). AreWished wished v.begins) (sym more) (All-push (λ (x : Use). Among x wished) a.begins u before is);
 }
+
+pub more_one : (u : Use) (a b : Visits) → b ≡ visits_beginning u a → BeginsMore a b
+more_one u a b more =
+    let longer : length b.begins ≡ length a.begins + 1 = ap (λ (v : Visits). length v.begins) more ∙ length-append a.begins (u ∷ []) in
+    record { more = omega (arith, longer) }
+
+pub at_least : (a b : Visits) → BeginsMore a b → length a.begins ≤ length b.begins
+at_least a b h = let more = h.more in omega (arith, more)
+
+-- as many, then more, and then the same
+pub more_between : (a b c d : Visits) → length a.begins ≤ length b.begins → BeginsMore b c → d ≡ c → BeginsMore a d
+more_between a b c d before h same =
+    let still : length d.begins ≡ length c.begins = ap (λ (v : Visits). length v.begins) same in
+    let more = h.more in
+    record { more = omega (arith, before, more, still) }
+
+pub more_then_none : (a b c : Visits) → BeginsMore a b → BeginsNothing b c → BeginsMore a c
+more_then_none a b c h then =
+    let still : length c.begins ≡ length b.begins = ap (λ (us : List Use). length us) then.none in
+    let more = h.more in
+    record { more = omega (arith, more, still) }
 
 pub begins_on : (u : Use) (a b c : Visits) → BeginsOnly u a b → BeginsOnly u b c → BeginsOnly u a c
 begins_on u a b c first second = record { whose = second.whose ∙ first.whose; ballots = second.ballots ∙ first.ballots; only = λ wished is before. second.only wished is (first.only wished is before) }

@@ -4,6 +4,7 @@ use Rattle.lock_messages.specs.declared.ids.Actor.TheVariants as actor
 use Rattle.lock_messages.specs.declared.messages.Message.{Message}
 use Rattle.lock_messages.specs.Messages.{named_node}
 use Rattle.lock_model.specs.declared.hearing.Heard.{Heard}
+use Rattle.lock_model.specs.declared.hearing.Heard.TheVariants as heard
 use Rattle.lock_model.specs.Ballots.{node_count}
 use Rattle.lock_model.specs.ExactHearing.{is_counted}
 use Rattle.client_core.specs.declared.phases.State.{State}
@@ -85,3 +86,12 @@ stays l l' before core h = (rw h.core refl, h.log)
 
 pub takes_nothing : (number : ℕ) (l l' : OwnLog) (before : Progress) (core : Client) → HearsNothing l l' before.core core → TakesParcel number l l' before (record before { core = core })
 takes_nothing number l l' before core h = inl (h.log, rw h.core refl)
+
+-- what lets it wait is not forgotten by what comes behind it
+pub busy_still : (h : Heard) (busy : Bool) → busy ≡ true → busy_after h busy ≡ true
+busy_still heard.Counted busy is = is
+busy_still heard.Known busy is = is
+busy_still heard.Busy busy is = refl
+busy_still heard.Done busy is = is
+busy_still heard.Softened busy is = is
+busy_still heard.NotMine busy is = is

@@ -3,6 +3,7 @@ pub mod Attempts
 pub mod EnterFacts
 pub mod SoftFacts
 pub mod NodeFacts
+pub mod NudgeFacts
 pub mod HearFacts
 pub mod SentFacts
 pub mod EndFacts

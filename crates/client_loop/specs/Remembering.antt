@@ -1,5 +1,5 @@
 -- What a client remembers from post to post, to those who hold it.
-use Rattle.std.specs.Prelude.{ℕ, List}
+use Rattle.std.specs.Prelude.{ℕ, ◌≤◌, Bool, List}
 use Rattle.client_core.specs.Clients.{Client}
 use Rattle.client_loop.specs.declared.progress.Progress.{Progress}
 use Rattle.client_loop.specs.Nodes.{IsReleased}
@@ -26,6 +26,25 @@ released_of p = p.released
 
 abbrev pub gone_of : Progress → List ℕ
 gone_of p = p.gone
+
+-- whether a node let the present wish wait
+abbrev pub busy_of : Progress → Bool
+busy_of p = p.busy
+
+-- how many nudges the present wish had, and how many it may have
+abbrev pub nudges_of : Progress → ℕ
+nudges_of p = p.nudges
+
+abbrev pub most_of : Progress → ℕ
+most_of p = p.most_nudges
+
+-- a wish that may have so many nudges had its last
+pub record IsLast (most nudges : ℕ) : Type 0 where
+  pub enough : most ≤ nudges
+
+-- so the present wish had
+abbrev pub HasHadLast : Progress → Type 0
+HasHadLast p = IsLast p.most_nudges p.nudges
 
 -- each node to which something was sent in the present wish has answered the release, or is gone
 abbrev pub HasReleased : Progress → Type 0

@@ -1,5 +1,5 @@
 -- What a client's own events say of its wishes.
-use Rattle.std.specs.Prelude.{◌≡◌, ℕ, ◌+◌, ◌-◌, ◌≤◌, ◌⊎◌, ◌&&◌, Bool, false, List, [], ◌∷◌, ◌++◌, length, map, filter, take, if◌then◌else◌, Option, Some, None, Result, Ok, Err}
+use Rattle.std.specs.Prelude.{◌≡◌, ℕ, ◌+◌, ◌-◌, ◌<◌, ◌≤◌, ◌⊎◌, ◌&&◌, Bool, false, List, [], ◌∷◌, ◌++◌, length, map, filter, take, if◌then◌else◌, Option, Some, None, Result, Ok, Err}
 use Rattle.std.specs.List.{All}
 use Rattle.lock_messages.specs.declared.ids.Actor.{Actor}
 use Rattle.lock_messages.specs.declared.tickets.Mode.{Mode}
@@ -142,6 +142,10 @@ pub record BeginsOnly (u : Use) (before after : Visits) : Type 0 where
   pub whose : after.whose ≡ before.whose
   pub ballots : after.ballots ≡ before.ballots
   pub only : (wished : List Use) → Among u wished → AreWished wished before.begins → AreWished wished after.begins
+
+-- something was begun since
+pub record BeginsMore (before after : Visits) : Type 0 where
+  pub more : length before.begins < length after.begins
 
 -- of the same actor, nothing was begun since
 pub record BeginsNothing (before after : Visits) : Type 0 where

@@ -5,6 +5,7 @@ ghost use Rattle.lock_model.specs.Ballots.{HasPlace};
 ghost use Rattle.client_core.specs.Calls.{MayEnter};
 ghost use Rattle.client_loop.specs.Sendings.{SentFollows, SentUnlessMemory};
 ghost use Rattle.client_loop.specs.Standing.{Stands};
+ghost use Rattle.client_loop.specs.Remembering.{HasHadLast};
 ghost use Rattle.client_loop.specs.Visits.{visits_of};
 ghost use Rattle.client_core.specs.Clients.{phase_of, ticket_of};
 ghost use Rattle.client_loop.specs.Endings.{IsAskFault};
@@ -38,6 +39,7 @@ fn ask_on<R: Recorder, L: Link>(
     ensures visits { visits_of (R.own_log recorder.new) ≡ visits_of (R.own_log recorder.old) }
     ensures phase { phase_of progress.new.core ≡ phase_of progress.old.core }
     ensures ticket { ticket_of progress.new.core ≡ ticket_of progress.old.core }
+    ensures most { progress.new.most_nudges ≡ progress.old.most_nudges }
     ensures falls { falls_of (R.own_log recorder.new) ≡ falls_of (R.own_log recorder.old) }
     ensures faults { IfErr result IsBookFault }
 {
@@ -55,7 +57,7 @@ fn ask_on<R: Recorder, L: Link>(
 /// Asks one node after another until the votes are enough for the wish, or, where it isn't to wait, until a
 /// node lets it wait; whether they are enough. 912: the nodes that granted and those that aren't gone are not
 /// enough.
-#[tactic(auto, using(crate::proofs::SentFacts::follows_none, crate::proofs::SentFacts::follows_on, crate::proofs::SentFacts::unless_on, crate::proofs::SentFacts::unless_follows))]
+#[tactic(auto, using(crate::proofs::SentFacts::follows_none, crate::proofs::SentFacts::follows_on, crate::proofs::SentFacts::unless_on, crate::proofs::SentFacts::unless_follows, crate::proofs::NudgeFacts::book_has_none))]
 pub(crate) fn ask<W: Wait, R: Recorder, L: Link>(
     rt: &W,
     alloc: Global,
@@ -78,7 +80,10 @@ pub(crate) fn ask<W: Wait, R: Recorder, L: Link>(
     ensures phase { phase_of progress.new.core ≡ phase_of progress.old.core }
     ensures ticket { ticket_of progress.new.core ≡ ticket_of progress.old.core }
     ensures falls { falls_of (R.own_log recorder.new) ≡ falls_of (R.own_log recorder.old) }
+    ensures most { progress.new.most_nudges ≡ progress.old.most_nudges }
     ensures faults { IfErr result IsAskFault }
+    // 913: only where the wish had its last nudge.
+    ensures last { IfErr result (λ f. f ≡ RunFault.GaveUp → HasHadLast progress.new) }
     // 912: only where the nodes that granted and those that aren't gone are not enough.
     ensures too_few { result ≡ Err RunFault.TooFewNodes → CanSuffice progress.new.core.ballots wish.now.place wish.now.mode progress.new.granted progress.new.gone → ⊥ }
 {

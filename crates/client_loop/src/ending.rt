@@ -37,7 +37,10 @@ fn give_up<R: Recorder, L: Link>(
     ensures falls { falls_of (R.own_log recorder.new) ≡ falls_of (R.own_log recorder.old) }
     ensures faults { IfErr result IsBookFault }
     ensures outside { OnOk result (IsOutside (part_now (R.own_log recorder.new))) }
-    ensures rests { OnOk result (Stands (R.own_log recorder.new) (finds stable.now) progress.new.core × (phase_of progress.new.core ≡ phase.Idle)) }
+    ensures idle { phase_of progress.new.core ≡ phase.Idle }
+    ensures most { progress.new.most_nudges ≡ progress.old.most_nudges }
+    ensures nudges { progress.new.nudges ≡ progress.old.nudges }
+    ensures rests { OnOk result (Stands (R.own_log recorder.new) (finds stable.now) progress.new.core) }
 {
     if let Phase::Asking = progress.core.phase() {
         progress.core.leave();
@@ -66,6 +69,9 @@ pub(crate) fn end<R: Recorder, L: Link>(
     ensures falls { falls_of (R.own_log recorder.new) ≡ falls_of (R.own_log recorder.old) }
     ensures ended { EndsAsking result (R.own_log recorder.new) }
     ensures told { (result ≡ fault) ⊎ IsBookFault result }
+    ensures idle { phase_of progress.old.core ≡ phase.Idle → phase_of progress.new.core ≡ phase.Idle }
+    ensures most { progress.new.most_nudges ≡ progress.old.most_nudges }
+    ensures nudges { progress.new.nudges ≡ progress.old.nudges }
     ensures again { EndsOneAttempt result → Stands (R.own_log recorder.new) (finds stable.now) progress.new.core × (phase_of progress.new.core ≡ phase.Idle) }
 {
     match fault {

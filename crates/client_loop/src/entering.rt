@@ -7,11 +7,11 @@ ghost use Rattle.client_core.specs.declared.phases.Phase.TheVariants as phase;
 ghost use Rattle.client_core.specs.Calls.{MayEnter, entered as inside_of};
 ghost use Rattle.client_loop.specs.Sendings.{sent_of, SentFollows, SentUnlessMemory};
 ghost use Rattle.client_loop.specs.Standing.{Stands, IsSameClient};
-ghost use Rattle.client_loop.specs.Remembering.{core_of};
+ghost use Rattle.client_loop.specs.Remembering.{core_of, busy_of, most_of, HasHadLast};
 ghost use Rattle.client_loop.specs.Endings.{ClientEndsFrom, EndsAsking, EndsOneAttempt, IsAtRest};
 ghost use Rattle.actor_steps.specs.Steps.{IsBookFault};
 ghost use Rattle.actor_steps.specs.Endings.{falls_of, FailuresFollow};
-ghost use Rattle.client_loop.specs.Visits.{visits_of, use_of, AsksFor, visits_entering, BeginsNothing, BeginsOnly};
+ghost use Rattle.client_loop.specs.Visits.{visits_of, use_of, AsksFor, visits_entering, BeginsNothing, BeginsOnly, BeginsMore};
 
 use crate::asking::ask;
 use crate::attempting::attempt;
@@ -64,7 +64,10 @@ fn take_back<W: Wait, R: Recorder, L: Link>(
     ensures sent { OnOk result (SentFollows (R.own_log recorder.old) (R.own_log recorder.new) (L.given link.old) (L.given link.new)) }
     ensures faulted { IfErr result (λ f. SentUnlessMemory f (R.own_log recorder.old) (R.own_log recorder.new) (L.given link.old) (L.given link.new)) }
     ensures stands { OnOk result (Stands (R.own_log recorder.new) (finds stable.now) progress.new.core) }
-    ensures idle { OnOk result (phase_of progress.new.core ≡ phase.Idle) }
+    ensures idle { phase_of progress.new.core ≡ phase.Idle }
+    ensures busy { OnOk result (progress.old.busy ≡ true → progress.new.busy ≡ true) }
+    ensures most { progress.new.most_nudges ≡ progress.old.most_nudges }
+    ensures last { IfErr result (λ f. f ≡ RunFault.GaveUp → HasHadLast progress.new) }
     ensures again { IfErr result (λ f. EndsOneAttempt f → Stands (R.own_log recorder.new) (finds stable.now) progress.new.core × (phase_of progress.new.core ≡ phase.Idle)) }
     ensures visits { visits_of (R.own_log recorder.new) ≡ visits_of (R.own_log recorder.old) }
     ensures falls { falls_of (R.own_log recorder.new) ≡ falls_of (R.own_log recorder.old) }
@@ -75,7 +78,7 @@ fn take_back<W: Wait, R: Recorder, L: Link>(
 }
 
 /// Asks for what is wished and, once the votes are enough, logs the Enter; whether it did.
-#[tactic(auto, using(crate::proofs::SentFacts::follows_from, crate::proofs::SentFacts::follows_on, crate::proofs::SentFacts::follows_none, crate::proofs::SentFacts::unless_none, crate::proofs::SentFacts::unless_on, crate::proofs::SentFacts::unless_both, crate::proofs::BeginFacts::nothing_begun, crate::proofs::BeginFacts::nothing_after))]
+#[tactic(auto, using(crate::proofs::SentFacts::follows_from, crate::proofs::SentFacts::follows_on, crate::proofs::SentFacts::follows_none, crate::proofs::SentFacts::unless_none, crate::proofs::SentFacts::unless_on, crate::proofs::SentFacts::unless_both, crate::proofs::BeginFacts::nothing_begun, crate::proofs::BeginFacts::nothing_after, crate::proofs::NudgeFacts::last_ended, crate::proofs::NudgeFacts::book_has_none))]
 fn ask_and_enter<W: Wait, R: Recorder, L: Link>(
     rt: &W,
     alloc: Global,
@@ -96,7 +99,9 @@ fn ask_and_enter<W: Wait, R: Recorder, L: Link>(
     ensures inside { result ≡ Ok true → Stands (R.own_log recorder.new) (finds stable.now) (inside_of progress.new.core) }
     ensures entered { result ≡ Ok true → visits_of (R.own_log recorder.new) ≡ visits_entering (visits_of (R.own_log recorder.old)) }
     ensures outside { (result ≡ Ok true → ⊥) → visits_of (R.own_log recorder.new) ≡ visits_of (R.own_log recorder.old) }
-    ensures waits { result ≡ Ok false → waits ≡ false }
+    ensures waits { result ≡ Ok false → (waits ≡ false) × (progress.new.busy ≡ true) }
+    ensures most { progress.new.most_nudges ≡ progress.old.most_nudges }
+    ensures last { IfErr result (λ f. f ≡ RunFault.GaveUp → HasHadLast progress.new) }
     ensures back { result ≡ Ok false → Stands (R.own_log recorder.new) (finds stable.now) progress.new.core × (phase_of progress.new.core ≡ phase.Idle) }
     ensures again { IfErr result (λ f. EndsOneAttempt f → Stands (R.own_log recorder.new) (finds stable.now) progress.new.core × (phase_of progress.new.core ≡ phase.Idle)) }
     ensures falls { falls_of (R.own_log recorder.new) ≡ falls_of (R.own_log recorder.old) }
@@ -135,7 +140,7 @@ fn ask_and_enter<W: Wait, R: Recorder, L: Link>(
 /// isn't gone, and rests, so that it may enter anew. Three reopens of the record failed in a row (911); memory
 /// was refused (914); the book is full or another's (915); no change of the record can be numbered any more,
 /// or no attempt is left (916).
-#[tactic(auto, using(crate::proofs::SentFacts::follows_from, crate::proofs::SentFacts::follows_on, crate::proofs::SentFacts::follows_none, crate::proofs::SentFacts::unless_none, crate::proofs::SentFacts::unless_on, crate::proofs::SentFacts::unless_from, crate::proofs::SentFacts::unless_both, crate::proofs::EndFacts::client_ends_on, crate::proofs::EndFacts::asking_ends, crate::proofs::EndFacts::book_ends, crate::proofs::EndFacts::failures_same, actor_steps::proofs::EndFacts::failures_on, crate::proofs::BeginFacts::begins_still, crate::proofs::BeginFacts::begins_no_more))]
+#[tactic(auto, using(crate::proofs::SentFacts::follows_from, crate::proofs::SentFacts::follows_on, crate::proofs::SentFacts::follows_none, crate::proofs::SentFacts::unless_none, crate::proofs::SentFacts::unless_on, crate::proofs::SentFacts::unless_from, crate::proofs::SentFacts::unless_both, crate::proofs::EndFacts::client_ends_on, crate::proofs::EndFacts::asking_ends, crate::proofs::EndFacts::book_ends, crate::proofs::EndFacts::failures_same, actor_steps::proofs::EndFacts::failures_on, crate::proofs::BeginFacts::begins_still, crate::proofs::BeginFacts::begins_no_more, crate::proofs::NudgeFacts::attempt_has_none))]
 pub fn enter<W: Wait, R: Recorder, L: Link, G: Gate>(
     rt: &W,
     alloc: Global,
@@ -159,12 +164,17 @@ pub fn enter<W: Wait, R: Recorder, L: Link, G: Gate>(
     ensures asked { result ≡ Ok true → IfSome (ticket_of (core_of progress.new)) (AsksFor (use_of wish.now)) }
     ensures inside { result ≡ Ok true → Stands (R.own_log recorder.new) (finds stable.new) (inside_of (core_of progress.new)) }
     ensures entered { result ≡ Ok true → (visits_of (R.own_log recorder.new)).entered ≡ (visits_of (R.own_log recorder.old)).entered ++ Some (use_of wish.now) ∷ [] }
-    ensures begun { result ≡ Ok true → (visits_of (R.own_log recorder.new)).begun ≡ Some (use_of wish.now) }
+    // It made an attempt for that, whether or not it entered.
+    ensures begun { OnOk result ((visits_of (R.own_log recorder.new)).begun ≡ Some (use_of wish.now)) }
+    ensures more { OnOk result (BeginsMore (visits_of (R.own_log recorder.old)) (visits_of (R.own_log recorder.new))) }
     ensures outside { (result ≡ Ok true → ⊥) → (visits_of (R.own_log recorder.new)).entered ≡ (visits_of (R.own_log recorder.old)).entered }
     ensures softened { (visits_of (R.own_log recorder.new)).softened ≡ (visits_of (R.own_log recorder.old)).softened }
     ensures free { OnOk result (stuck_of stable.new ≡ false) }
-    // It waits where it is to, and rests where it took the wish back, or gave up.
-    ensures waits { result ≡ Ok false → patience.waits ≡ false }
+    // It takes a wish back only where it isn't to wait and a node let it, and rests then, as where it gave up.
+    ensures waits { result ≡ Ok false → (patience.waits ≡ false) × (busy_of progress.new ≡ true) }
+    // It has as many nudges as its caller says, and gives up only where it had the last.
+    ensures most { most_of progress.new ≡ patience.nudges }
+    ensures last { IfErr result (λ f. f ≡ RunFault.GaveUp → HasHadLast progress.new) }
     ensures back { result ≡ Ok false → IsAtRest (R.own_log recorder.new) (finds stable.new) (stuck_of stable.new) (core_of progress.new) }
     ensures again { IfErr result (λ f. EndsOneAttempt f → IsAtRest (R.own_log recorder.new) (finds stable.new) (stuck_of stable.new) (core_of progress.new)) }
     ensures ended { IfErr result (λ fault. ClientEndsFrom fault (falls_of (R.own_log recorder.old)) (R.own_log recorder.new) (stuck_of stable.new) (spent_of stable.new) (failures_of stable.old) (failures_of stable.new)) }

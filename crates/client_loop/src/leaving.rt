@@ -1,11 +1,11 @@
 // Leaving: it is logged, and the nodes that were asked are told, until each has answered or is gone.
 
-ghost use Rattle.std.specs.Prelude.{◌≡◌, ◌⊎◌, OnOk, OnErr, IfErr};
+ghost use Rattle.std.specs.Prelude.{◌≡◌, ◌⊎◌, true, OnOk, OnErr, IfErr};
 ghost use Rattle.client_core.specs.Clients.{phase_of};
 ghost use Rattle.client_core.specs.declared.phases.Phase.TheVariants as phase;
 ghost use Rattle.client_loop.specs.Sendings.{sent_of, SentFollows, SentUnlessMemory};
 ghost use Rattle.client_loop.specs.Standing.{Stands, HasLeft, IsSameClient};
-ghost use Rattle.client_loop.specs.Remembering.{core_of, HasReleased};
+ghost use Rattle.client_loop.specs.Remembering.{core_of, busy_of, most_of, HasHadLast, HasReleased};
 ghost use Rattle.client_loop.specs.Endings.{EndsAsking, IsAskFault};
 ghost use Rattle.client_loop.specs.Visits.{visits_of};
 ghost use Rattle.actor_steps.specs.Steps.{IsBookFault};
@@ -52,7 +52,7 @@ pub(crate) fn log_leave<R: Recorder>(
 ///
 /// The attempt had its last nudge (913), and then the client has said its release once more to each asked
 /// node that isn't gone, and rests; memory was refused (914), or the book is full or another's (915).
-#[tactic(auto, using(crate::proofs::SentFacts::follows_from, crate::proofs::SentFacts::unless_none, crate::proofs::SentFacts::unless_from, crate::proofs::SentFacts::unless_both, crate::proofs::BeginFacts::still_client))]
+#[tactic(auto, using(crate::proofs::SentFacts::follows_from, crate::proofs::SentFacts::unless_none, crate::proofs::SentFacts::unless_from, crate::proofs::SentFacts::unless_both, crate::proofs::BeginFacts::still_client, crate::proofs::NudgeFacts::last_ended))]
 pub fn leave<W: Wait, R: Recorder, L: Link>(
     rt: &W,
     alloc: Global,
@@ -67,8 +67,13 @@ pub fn leave<W: Wait, R: Recorder, L: Link>(
     ensures client { IsSameClient (R.own_log recorder.old) (R.own_log recorder.new) }
     // It rests by its own log, and each node that it asked has answered, or is gone.
     ensures stands { OnOk result (Stands (R.own_log recorder.new) (finds stable.now) (core_of progress.new)) }
-    ensures idle { OnOk result (phase_of (core_of progress.new) ≡ phase.Idle) }
+    ensures idle { phase_of (core_of progress.new) ≡ phase.Idle }
     ensures released { OnOk result (HasReleased progress.new) }
+    // That a node let it wait is remembered.
+    ensures busy { OnOk result (busy_of progress.old ≡ true → busy_of progress.new ≡ true) }
+    // 913: only where the wish had its last nudge; how many it may have stays.
+    ensures most { most_of progress.new ≡ most_of progress.old }
+    ensures last { IfErr result (λ f. f ≡ RunFault.GaveUp → HasHadLast progress.new) }
     ensures again { IfErr result (λ f. f ≡ RunFault.GaveUp → Stands (R.own_log recorder.new) (finds stable.now) (core_of progress.new) × (phase_of (core_of progress.new) ≡ phase.Idle)) }
     ensures visits { visits_of (R.own_log recorder.new) ≡ visits_of (R.own_log recorder.old) }
     ensures falls { falls_of (R.own_log recorder.new) ≡ falls_of (R.own_log recorder.old) }

@@ -5,6 +5,7 @@ ghost use Rattle.client_core.specs.Clients.{phase_of, ticket_of};
 ghost use Rattle.client_loop.specs.Hearing.{IsFrameFor, TakesParcel};
 ghost use Rattle.client_loop.specs.Sendings.{sent_of, SentFollows, SentUnlessMemory};
 ghost use Rattle.client_loop.specs.Standing.{Stands};
+ghost use Rattle.client_loop.specs.Remembering.{HasHadLast};
 ghost use Rattle.client_loop.specs.Visits.{visits_of};
 ghost use Rattle.client_loop.specs.Endings.{IsPostFault};
 ghost use Rattle.vote_weights.specs.Sets.{has_node};
@@ -20,7 +21,7 @@ use stable_record::StableRecord;
 use std::alloc::Global;
 
 /// Hears a parcel, and remembers a vote that was counted, a release that was answered, and that it is to wait.
-#[tactic(auto, using(crate::proofs::HearFacts::remembers, crate::proofs::HearFacts::takes_nothing, crate::proofs::HearFacts::stays))]
+#[tactic(auto, using(crate::proofs::HearFacts::remembers, crate::proofs::HearFacts::takes_nothing, crate::proofs::HearFacts::stays, crate::proofs::HearFacts::busy_still))]
 fn take_parcel<R: Recorder>(
     progress: &mut Progress,
     parcel: &Parcel,
@@ -35,6 +36,8 @@ fn take_parcel<R: Recorder>(
     ensures stands { Stands (R.own_log recorder.new) (finds stable.now) progress.new.core }
     ensures phase { phase_of progress.new.core ≡ phase_of progress.old.core }
     ensures ticket { ticket_of progress.new.core ≡ ticket_of progress.old.core }
+    ensures busy { progress.old.busy ≡ true → progress.new.busy ≡ true }
+    ensures most { progress.new.most_nudges ≡ progress.old.most_nudges }
     ensures visits { visits_of (R.own_log recorder.new) ≡ visits_of (R.own_log recorder.old) }
     ensures falls { falls_of (R.own_log recorder.new) ≡ falls_of (R.own_log recorder.old) }
     ensures faults { IfErr result IsBookFault }
@@ -49,7 +52,7 @@ fn take_parcel<R: Recorder>(
 /// Sends again to a node that nudges. A nudge of a node to which nothing was sent in the present wish is
 /// dropped; the last nudge of those that one wish may have ends it, and what is sent to a node that is
 /// gone goes nowhere.
-#[tactic(auto, using(crate::proofs::SentFacts::follows_none, crate::proofs::SentFacts::unless_none))]
+#[tactic(auto, using(crate::proofs::SentFacts::follows_none, crate::proofs::SentFacts::unless_none, crate::proofs::NudgeFacts::book_has_none))]
 fn take_nudge<R: Recorder, L: Link>(
     alloc: Global,
     progress: &mut Progress,
@@ -64,6 +67,9 @@ fn take_nudge<R: Recorder, L: Link>(
     ensures stands { Stands (R.own_log recorder.new) (finds stable.now) progress.new.core }
     ensures phase { phase_of progress.new.core ≡ phase_of progress.old.core }
     ensures ticket { ticket_of progress.new.core ≡ ticket_of progress.old.core }
+    ensures busy { progress.old.busy ≡ true → progress.new.busy ≡ true }
+    ensures most { progress.new.most_nudges ≡ progress.old.most_nudges }
+    ensures last { IfErr result (λ f. f ≡ RunFault.GaveUp → HasHadLast progress.new) }
     ensures visits { visits_of (R.own_log recorder.new) ≡ visits_of (R.own_log recorder.old) }
     ensures falls { falls_of (R.own_log recorder.new) ≡ falls_of (R.own_log recorder.old) }
     ensures faults { IfErr result IsPostFault }
@@ -86,7 +92,7 @@ fn take_nudge<R: Recorder, L: Link>(
 }
 
 /// Takes the next post. A link over which nothing comes any more has lost every node.
-#[tactic(auto, using(crate::proofs::SentFacts::follows_none, crate::proofs::SentFacts::unless_none))]
+#[tactic(auto, using(crate::proofs::SentFacts::follows_none, crate::proofs::SentFacts::unless_none, crate::proofs::NudgeFacts::book_has_none))]
 pub(crate) fn take_post<R: Recorder, L: Link>(
     alloc: Global,
     progress: &mut Progress,
@@ -100,6 +106,9 @@ pub(crate) fn take_post<R: Recorder, L: Link>(
     ensures stands { Stands (R.own_log recorder.new) (finds stable.now) progress.new.core }
     ensures phase { phase_of progress.new.core ≡ phase_of progress.old.core }
     ensures ticket { ticket_of progress.new.core ≡ ticket_of progress.old.core }
+    ensures busy { progress.old.busy ≡ true → progress.new.busy ≡ true }
+    ensures most { progress.new.most_nudges ≡ progress.old.most_nudges }
+    ensures last { IfErr result (λ f. f ≡ RunFault.GaveUp → HasHadLast progress.new) }
     ensures visits { visits_of (R.own_log recorder.new) ≡ visits_of (R.own_log recorder.old) }
     ensures falls { falls_of (R.own_log recorder.new) ≡ falls_of (R.own_log recorder.old) }
     ensures faults { IfErr result IsPostFault }

@@ -1,9 +1,10 @@
 // Telling the nodes that an attempt is over.
 
-ghost use Rattle.std.specs.Prelude.{◌≡◌, OnOk, IfErr};
+ghost use Rattle.std.specs.Prelude.{◌≡◌, true, OnOk, IfErr};
 ghost use Rattle.client_core.specs.Clients.{phase_of};
 ghost use Rattle.client_loop.specs.Sendings.{SentFollows, SentUnlessMemory};
 ghost use Rattle.client_loop.specs.Standing.{Stands};
+ghost use Rattle.client_loop.specs.Remembering.{HasHadLast};
 ghost use Rattle.client_loop.specs.Visits.{visits_of};
 ghost use Rattle.client_loop.specs.Endings.{IsPostFault};
 ghost use Rattle.client_loop.specs.Nodes.{IsReleased};
@@ -49,7 +50,7 @@ pub(crate) fn tell_releases<R: Recorder, L: Link>(
 }
 
 /// Says the release to each node that was asked, until each has answered or is gone.
-#[tactic(auto, using(crate::proofs::SentFacts::follows_on, crate::proofs::SentFacts::unless_on))]
+#[tactic(auto, using(crate::proofs::SentFacts::follows_on, crate::proofs::SentFacts::unless_on, crate::proofs::NudgeFacts::book_has_none))]
 pub(crate) fn release<W: Wait, R: Recorder, L: Link>(
     rt: &W,
     alloc: Global,
@@ -63,6 +64,9 @@ pub(crate) fn release<W: Wait, R: Recorder, L: Link>(
     ensures faulted { IfErr result (λ f. SentUnlessMemory f (R.own_log recorder.old) (R.own_log recorder.new) (L.given link.old) (L.given link.new)) }
     ensures stands { Stands (R.own_log recorder.new) (finds stable.now) progress.new.core }
     ensures phase { phase_of progress.new.core ≡ phase_of progress.old.core }
+    ensures busy { progress.old.busy ≡ true → progress.new.busy ≡ true }
+    ensures most { progress.new.most_nudges ≡ progress.old.most_nudges }
+    ensures last { IfErr result (λ f. f ≡ RunFault.GaveUp → HasHadLast progress.new) }
     ensures visits { visits_of (R.own_log recorder.new) ≡ visits_of (R.own_log recorder.old) }
     ensures falls { falls_of (R.own_log recorder.new) ≡ falls_of (R.own_log recorder.old) }
     ensures faults { IfErr result IsPostFault }

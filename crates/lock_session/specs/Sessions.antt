@@ -15,20 +15,20 @@ use Rattle.event_recorders.specs.OwnLogs.{OwnLog, part_now}
 use Rattle.actor_steps.specs.Steps.{IsBookFault}
 use Rattle.actor_steps.specs.Endings.{falls_of, FailuresFollow}
 use Rattle.client_loop.specs.declared.progress.Progress.{Progress}
-use Rattle.client_loop.specs.Remembering.{core_of, granted_of, asked_of, released_of, gone_of}
+use Rattle.client_loop.specs.Remembering.{core_of, granted_of, asked_of, released_of, gone_of, busy_of, nudges_of, most_of, IsLast}
 use Rattle.client_loop.specs.Sendings.{SentFollows, SentUnlessMemory, TellsSoftened}
 use Rattle.client_loop.specs.Standing.{Stands, HasLeft}
-use Rattle.client_loop.specs.Endings.{ClientEndsFrom, EndsAsking, IsAtRest}
+use Rattle.client_loop.specs.Endings.{ClientEndsFrom, EndsAsking, IsPostFault, IsAtRest}
 use Rattle.client_loop.specs.Nodes.{IsReleased}
-use Rattle.client_loop.specs.Visits.{Use, AsksFor, BeginsOnly, visits_of, visits_softening}
+use Rattle.client_loop.specs.Visits.{Use, AsksFor, BeginsOnly, BeginsMore, visits_of, visits_softening}
 use Rattle.lock_session.specs.declared.faults.TryFault.{TryFault}
 use Rattle.lock_session.specs.declared.faults.TryFault.TheVariants as trying
 
 -- The client and its ballots; its core; the nodes whose vote was counted in the present attempt, those to which
--- something was sent in it, those that answered its release, and those that are gone; the client's own log; what
--- a restart finds of its record, whether that is stuck and spent, and how often its device has failed; what was
--- given to its link; whether it has left and its log has yet to say so; and the fault by which it is over, if
--- it is.
+-- something was sent in it, those that answered its release, and those that are gone; whether a node let it wait;
+-- how many nudges it had, and how many it may have; the client's own log; what a restart finds of its record, whether that is stuck and spent, and how often its
+-- device has failed; what was given to its link; whether it has left and its log has yet to say so; and the fault by
+-- which it is over, if it is.
 pub record SessionValue : Type 0 where
   pub client : ℕ
   pub ballots : List Ballot
@@ -37,6 +37,9 @@ pub record SessionValue : Type 0 where
   pub asked : List ℕ
   pub released : List ℕ
   pub gone : List ℕ
+  pub busy : Bool
+  pub nudges : ℕ
+  pub most : ℕ
   pub log : OwnLog
   pub finds : List (List ℕ)
   pub stuck : Bool
@@ -56,6 +59,9 @@ session_of_parts client ballots p log finds stuck spent failures given left over
   asked = asked_of p;
   released = released_of p;
   gone = gone_of p;
+  busy = busy_of p;
+  nudges = nudges_of p;
+  most = most_of p;
   log = log;
   finds = finds;
   stuck = stuck;
@@ -126,10 +132,25 @@ StandsAfter fault.Memory v = v.over ≡ Some fault.Memory
 StandsAfter fault.Book v = v.over ≡ Some fault.Book
 StandsAfter fault.Spent v = v.over ≡ Some fault.Spent
 
--- Why a call ended: the session was over before, by the same fault, and nothing has changed; or leaving ended so, or
--- entering did.
+-- How a call ended by a fault, by that of which the session was over before: where it was, the fault is the same, and
+-- the first holds; else the second.
+abbrev pub UnlessOver : Option RunFault → RunFault → Type 0 → Type 0 → Type 0
+UnlessOver (Some g) f Still Ended = (f ≡ g) × Still
+UnlessOver None f Still Ended = Ended
+
+-- by 913 a call ends only where the present attempt had its last nudge
+abbrev pub GivesUpAtLast : RunFault → SessionValue → Type 0
+GivesUpAtLast f v = f ≡ fault.GaveUp → IsLast v.most v.nudges
+
+-- leaving ended by this fault: the client had its last nudge, and is outside; memory was refused, or the book did
+pub record EndsLeaving (f : RunFault) (v : SessionValue) : Type 0 where
+  pub which : IsPostFault f
+  pub log : EndsAsking f v.log
+  pub last : GivesUpAtLast f v
+
+-- Why a call ended: the session was over before, and nothing has changed; or leaving ended so, or entering did.
 abbrev pub EndsBy : RunFault → SessionValue → SessionValue → Type 0
-EndsBy f v v' = ((v.over ≡ Some f) × (v' ≡ v)) ⊎ (EndsAsking f v'.log ⊎ ClientEndsFrom f (falls_of v.log) v'.log v'.stuck v'.spent v.failures v'.failures)
+EndsBy f v v' = UnlessOver v.over f (v' ≡ v) (GivesUpAtLast f v' × (EndsAsking f v'.log ⊎ ClientEndsFrom f (falls_of v.log) v'.log v'.stuck v'.spent v.failures v'.failures))
 
 -- what the session did on its way, for this use: it began none but this, softened nothing, and fell as often as its
 -- record's device failed
@@ -139,26 +160,36 @@ pub record Attempts (u : Use) (v v' : SessionValue) : Type 0 where
   pub softened : (visits_of v'.log).softened ≡ (visits_of v.log).softened
   pub falls : FailuresFollow (falls_of v.log) (falls_of v'.log) v.failures v'.failures
 
--- This use was entered, once; and what was sent is what the log tells.
-pub record Enters (u : Use) (v v' : SessionValue) : Type 0 where
+-- The session was not over. This use was entered, once, with so many nudges for its attempt; and what was sent is
+-- what the log tells.
+pub record Enters (u : Use) (nudges : ℕ) (v v' : SessionValue) : Type 0 where
+  pub on : v.over ≡ None
+  pub most : v'.most ≡ nudges
   pub attempts : Attempts u v v'
   pub entered : (visits_of v'.log).entered ≡ (visits_of v.log).entered ++ Some u ∷ []
   pub sent : SentFollows v.log v'.log v.given v'.given
 
--- Nothing was entered, and the session rests.
-pub record TakesBack (u : Use) (v v' : SessionValue) : Type 0 where
+-- The session was not over. An attempt was made for this use, with so many nudges, a node let it wait, nothing was
+-- entered, and the session rests.
+pub record TakesBack (u : Use) (nudges : ℕ) (v v' : SessionValue) : Type 0 where
+  pub on : v.over ≡ None
+  pub most : v'.most ≡ nudges
   pub attempts : Attempts u v v'
+  pub begun : (visits_of v'.log).begun ≡ Some u
+  pub more : BeginsMore (visits_of v.log) (visits_of v'.log)
+  pub let_wait : v'.busy ≡ true
   pub entered : (visits_of v'.log).entered ≡ (visits_of v.log).entered
   pub sent : SentFollows v.log v'.log v.given v'.given
   pub rests : IsResting v'
 
--- Nothing was entered, and the call ended by this fault.
-pub record EndsEntering (u : Use) (f : RunFault) (v v' : SessionValue) : Type 0 where
+-- Nothing was entered, and the call ended by this fault: in an attempt with so many nudges, or before it was begun.
+pub record EndsEntering (u : Use) (nudges : ℕ) (f : RunFault) (v v' : SessionValue) : Type 0 where
   pub attempts : Attempts u v v'
   pub entered : (visits_of v'.log).entered ≡ (visits_of v.log).entered
   pub sent : SentUnlessMemory f v.log v'.log v.given v'.given
   pub after : StandsAfter f v'
   pub ended : EndsBy f v v'
+  pub most : (v'.most ≡ nudges) ⊎ ((v'.most ≡ v.most) × (visits_of v'.log ≡ visits_of v.log))
 
 -- each node to which something was sent in the present attempt has answered its release, or is gone
 abbrev pub HasReleased : SessionValue → Type 0
@@ -175,9 +206,20 @@ pub record GoesOut (v v' : SessionValue) : Type 0 where
   pub left : phase_of v.core ≡ phase.Inside → (v'.core ≡ core_left v.core) × (v'.left ≡ true)
   pub kept : (phase_of v.core ≡ phase.Inside → ⊥) → v' ≡ v
 
--- Why settling ended: the session was over before, by the same fault, and nothing has changed; or leaving ended so.
+-- Why settling ended: the session was over before, and nothing has changed; or leaving ended so.
 abbrev pub EndsSettling : RunFault → SessionValue → SessionValue → Type 0
-EndsSettling f v v' = ((v.over ≡ Some f) × (v' ≡ v)) ⊎ EndsAsking f v'.log
+EndsSettling f v v' = UnlessOver v.over f (v' ≡ v) (EndsLeaving f v')
+
+-- Why a guard's leaving ended: the session was over before, and its core has left, but nothing else has changed; or
+-- leaving ended so.
+abbrev pub EndsGuard : RunFault → SessionValue → SessionValue → Type 0
+EndsGuard f v v' = UnlessOver v.over f (GoesOut v v') (EndsLeaving f v')
+
+-- neither is the session over, nor is it inside, nor has it anything left to say
+pub record HasNothingLeft (v : SessionValue) : Type 0 where
+  pub on : v.over ≡ None
+  pub settled : v.left ≡ false
+  pub outside : phase_of v.core ≡ phase.Inside → ⊥
 
 -- What the session had left open is said: its log has nothing new begun, entered or softened, and it has not
 -- fallen.
@@ -186,6 +228,7 @@ pub record Settles (v v' : SessionValue) : Type 0 where
   pub visits : visits_of v'.log ≡ visits_of v.log
   pub falls : falls_of v'.log ≡ falls_of v.log
   pub failures : v'.failures ≡ v.failures
+  pub most : v'.most ≡ v.most
 
 -- The session's own log has the client inside, with a ticket for this use.
 pub record IsInsideFor (u : Use) (v : SessionValue) : Type 0 where
@@ -209,9 +252,9 @@ pub record FailsToSoften (f : RunFault) (v v' : SessionValue) : Type 0 where
   pub visits : (visits_of v'.log ≡ visits_of v.log) ⊎ (visits_of v'.log ≡ visits_softening (visits_of v.log))
   pub sent : SentUnlessMemory f v.log v'.log v.given v'.given
 
--- Why softening ended: the session was over before, by the same fault, and nothing has changed; or it failed.
+-- Why softening ended: the session was over before, and nothing has changed; or it failed.
 abbrev pub EndsSoftening : RunFault → SessionValue → SessionValue → Type 0
-EndsSoftening f v v' = ((v.over ≡ Some f) × (v' ≡ v)) ⊎ FailsToSoften f v v'
+EndsSoftening f v v' = UnlessOver v.over f (v' ≡ v) (FailsToSoften f v v')
 
 -- the ticket with which a client is inside still: the same, or that as a reader's
 pub record IsInsideStill (t : Ticket) (v : SessionValue) : Type 0 where
@@ -220,6 +263,6 @@ pub record IsInsideStill (t : Ticket) (v : SessionValue) : Type 0 where
   pub same : (ticket ≡ t) ⊎ (ticket ≡ softened_ticket t)
 
 -- Why nothing was entered that isn't to wait: a node let it, and it was taken back; or it ended as entering does.
-abbrev pub EndsTrying : Use → TryFault → SessionValue → SessionValue → Type 0
-EndsTrying u trying.Busy v v' = TakesBack u v v'
-EndsTrying u (trying.Ended f) v v' = EndsEntering u f v v'
+abbrev pub EndsTrying : Use → ℕ → TryFault → SessionValue → SessionValue → Type 0
+EndsTrying u nudges trying.Busy v v' = TakesBack u nudges v v'
+EndsTrying u nudges (trying.Ended f) v v' = EndsEntering u nudges f v v'

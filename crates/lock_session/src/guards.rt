@@ -1,17 +1,18 @@
 // A guard of a session that is inside.
 
-ghost use Rattle.std.specs.Prelude.{◌≡◌, ◌⊎◌, true, Some, OnOk, OnErr, IfOk, IfErr};
+ghost use Rattle.std.specs.Prelude.{◌≡◌, ◌⊎◌, true, None, Some, OnOk, OnErr, IfOk, IfErr};
 ghost use Rattle.std.specs.Borrow.{sem, RestsIfErr};
 ghost use Rattle.lock_messages.specs.declared.tickets.Mode.TheVariants.{Read, Write};
 ghost use Rattle.lock_messages.specs.declared.tickets.Ticket.{Ticket as TicketValue};
 ghost use Rattle.lock_model.specs.Ballots.{HasPlace};
 ghost use Rattle.history_book.specs.Books.{are_together};
-ghost use Rattle.client_core.specs.Clients.{softened_ticket};
+ghost use Rattle.client_core.specs.Clients.{phase_of, softened_ticket};
+ghost use Rattle.client_core.specs.declared.phases.Phase.TheVariants as phase;
 ghost use Rattle.client_loop.specs.Sendings.{SentFollows, SentUnlessMemory};
 ghost use Rattle.client_loop.specs.Visits.{AsksFor};
 ghost use Rattle.lock_session.specs.contracts.sessions.Session.{the_row};
 ghost use Rattle.lock_session.specs.Guards.{session_of, lender_of, guard_ticket, IsHeld};
-ghost use Rattle.lock_session.specs.Sessions.{IsResting, IsInside, GoesOut, StandsAfter, Settles, Softens, EndsSoftening, Enters, EndsEntering, EndsTrying, HasReleased, use_by};
+ghost use Rattle.lock_session.specs.Sessions.{IsResting, IsInside, GoesOut, StandsAfter, Settles, Softens, EndsSoftening, EndsGuard, Enters, EndsEntering, EndsTrying, HasReleased, use_by};
 
 use crate::{OwnRecord, Session, TryFault};
 use book_recorders::SharedRecorder;
@@ -72,11 +73,11 @@ impl<S: OwnRecord, R: Recorder, L: Link> Session<S, R, L> {
         nudges: u32,
     ) -> Result<SessionGuard<'_, S, R, L>, RunFault>
         requires placed { HasPlace self.old.ballots place }
-        ensures* ended { sem 𝓛 (RestsIfErr (the_row S.row R.row L.row S.StableRecord R.Recorder L.Link) self.entry (λ guard. guard.session.ghost_name) result (λ last. IfErr result (λ f. EndsEntering (use_by mode resource place) f self.old last))) }
+        ensures* ended { sem 𝓛 (RestsIfErr (the_row S.row R.row L.row S.StableRecord R.Recorder L.Link) self.entry (λ guard. guard.session.ghost_name) result (λ last. IfErr result (λ f. EndsEntering (use_by mode resource place) nudges f self.old last))) }
         ensures same_session { IfOk result (λ guard. lender_of guard ≡ self.entry.ghost_name) }
         ensures held { IfOk result IsHeld }
         ensures asked { IfOk result (λ guard. AsksFor (use_by mode resource place) (guard_ticket guard)) }
-        ensures entered { IfOk result (λ guard. Enters (use_by mode resource place) self.old (session_of guard)) }
+        ensures entered { IfOk result (λ guard. Enters (use_by mode resource place) nudges self.old (session_of guard)) }
     {
         let patience = Patience {
             nudges,
@@ -106,11 +107,11 @@ impl<S: OwnRecord, R: Recorder, L: Link> Session<S, R, L> {
         nudges: u32,
     ) -> Result<SessionGuard<'_, S, R, L>, TryFault>
         requires placed { HasPlace self.old.ballots place }
-        ensures* ended { sem 𝓛 (RestsIfErr (the_row S.row R.row L.row S.StableRecord R.Recorder L.Link) self.entry (λ guard. guard.session.ghost_name) result (λ last. IfErr result (λ f. EndsTrying (use_by mode resource place) f self.old last))) }
+        ensures* ended { sem 𝓛 (RestsIfErr (the_row S.row R.row L.row S.StableRecord R.Recorder L.Link) self.entry (λ guard. guard.session.ghost_name) result (λ last. IfErr result (λ f. EndsTrying (use_by mode resource place) nudges f self.old last))) }
         ensures same_session { IfOk result (λ guard. lender_of guard ≡ self.entry.ghost_name) }
         ensures held { IfOk result IsHeld }
         ensures asked { IfOk result (λ guard. AsksFor (use_by mode resource place) (guard_ticket guard)) }
-        ensures entered { IfOk result (λ guard. Enters (use_by mode resource place) self.old (session_of guard)) }
+        ensures entered { IfOk result (λ guard. Enters (use_by mode resource place) nudges self.old (session_of guard)) }
     {
         let patience = Patience {
             nudges,
@@ -153,6 +154,7 @@ impl<S: OwnRecord, R: Recorder, L: Link> SessionGuard<'_, S, R, L> {
         ensures same_session { lender_of self.new ≡ lender_of self.old }
         ensures held { IsHeld self.old → IsHeld self.new }
         ensures softened { OnOk result (IsHeld self.old → (guard_ticket self.new ≡ softened_ticket (guard_ticket self.old)) × Softens (session_of self.old) (session_of self.new)) }
+        ensures on { OnOk result ((session_of self.old).over ≡ None) }
         ensures ended { IfErr result (λ f. EndsSoftening f (session_of self.old) (session_of self.new)) }
     {
         let told = self.session.soften(alloc);
@@ -170,6 +172,7 @@ impl<S: OwnRecord, R: Recorder, L: Link> SessionGuard<'_, S, R, L> {
     /// The client is outside in any case. It had its last nudge (913), and has said its releases once more: the
     /// session rests. Memory was refused (914), or the book takes no more (915): the session is over. It was over
     /// before, by this fault: nothing is said.
+    #[tactic(auto, using(crate::proofs::EndFacts::leaves_by))]
     pub fn leave<W: Wait>(self, rt: &W, alloc: Global) -> Result<(), RunFault>
         ensures rests { OnOk result (IsResting self.exit.0.now) }
         ensures released { OnOk result (IsHeld self.entry → HasReleased self.exit.0.now) }
@@ -177,6 +180,9 @@ impl<S: OwnRecord, R: Recorder, L: Link> SessionGuard<'_, S, R, L> {
         ensures sent { OnOk result (SentFollows (session_of self.entry).log self.exit.0.now.log (session_of self.entry).given self.exit.0.now.given) }
         ensures faulted { IfErr result (λ f. SentUnlessMemory f (session_of self.entry).log self.exit.0.now.log (session_of self.entry).given self.exit.0.now.given) }
         ensures after { IfErr result (λ f. StandsAfter f self.exit.0.now) }
+        ensures on { OnOk result ((session_of self.entry).over ≡ None) }
+        ensures outside { phase_of self.exit.0.now.core ≡ phase.Inside → ⊥ }
+        ensures ended { IfErr result (λ f. EndsGuard f (session_of self.entry) self.exit.0.now) }
     {
         let SessionGuard { session, ticket: _ } = self;
         session.go_out();

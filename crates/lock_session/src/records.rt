@@ -10,9 +10,9 @@ ghost use Rattle.actor_steps.specs.Steps.{IsBookFault};
 ghost use Rattle.actor_steps.specs.Endings.{falls_of, FailuresFollow};
 ghost use Rattle.client_loop.specs.Sendings.{sent_of, SentFollows, SentUnlessMemory, TellsSoftened};
 ghost use Rattle.client_loop.specs.Standing.{Stands, HasLeft, KeepsAttempt, IsSameClient};
-ghost use Rattle.client_loop.specs.Remembering.{core_of, with_core, granted_of, HasReleased};
+ghost use Rattle.client_loop.specs.Remembering.{core_of, with_core, granted_of, busy_of, most_of, HasHadLast, HasReleased};
 ghost use Rattle.client_loop.specs.Endings.{ClientEndsFrom, EndsAsking, EndsOneAttempt, IsAtRest};
-ghost use Rattle.client_loop.specs.Visits.{visits_of, use_of, AsksFor, visits_softening, BeginsOnly};
+ghost use Rattle.client_loop.specs.Visits.{visits_of, use_of, AsksFor, visits_softening, BeginsOnly, BeginsMore};
 
 use client_loop::{Patience, Progress, enter, leave, rise, soften};
 use event_recorders::{Gate, Recorder, RunFault};
@@ -79,12 +79,17 @@ pub trait OwnRecord: StableRecord {
         ensures asked { result ≡ Ok true → IfSome (ticket_of (core_of progress.new)) (AsksFor (use_of wish.now)) }
         ensures inside { result ≡ Ok true → Stands (R.own_log recorder.new) (Self.finds self.new) (inside_of (core_of progress.new)) }
         ensures entered { result ≡ Ok true → (visits_of (R.own_log recorder.new)).entered ≡ (visits_of (R.own_log recorder.old)).entered ++ Some (use_of wish.now) ∷ [] }
-        ensures begun { result ≡ Ok true → (visits_of (R.own_log recorder.new)).begun ≡ Some (use_of wish.now) }
+        // It made an attempt for that, whether or not it entered.
+        ensures begun { OnOk result ((visits_of (R.own_log recorder.new)).begun ≡ Some (use_of wish.now)) }
+        ensures more { OnOk result (BeginsMore (visits_of (R.own_log recorder.old)) (visits_of (R.own_log recorder.new))) }
         ensures outside { (result ≡ Ok true → ⊥) → (visits_of (R.own_log recorder.new)).entered ≡ (visits_of (R.own_log recorder.old)).entered }
         ensures softened { (visits_of (R.own_log recorder.new)).softened ≡ (visits_of (R.own_log recorder.old)).softened }
         ensures free { OnOk result (Self.stuck_of self.new ≡ false) }
-        // It waits where it is to, and rests where it took the wish back, or gave up.
-        ensures waits { result ≡ Ok false → patience.waits ≡ false }
+        // It takes a wish back only where it isn't to wait and a node let it, and rests then, as where it gave up.
+        ensures waits { result ≡ Ok false → (patience.waits ≡ false) × (busy_of progress.new ≡ true) }
+        // It has as many nudges as its caller says, and gives up only where it had the last.
+        ensures most { most_of progress.new ≡ patience.nudges }
+        ensures last { IfErr result (λ f. f ≡ RunFault.GaveUp → HasHadLast progress.new) }
         ensures back { result ≡ Ok false → IsAtRest (R.own_log recorder.new) (Self.finds self.new) (Self.stuck_of self.new) (core_of progress.new) }
         ensures again { IfErr result (λ f. EndsOneAttempt f → IsAtRest (R.own_log recorder.new) (Self.finds self.new) (Self.stuck_of self.new) (core_of progress.new)) }
         ensures ended { IfErr result (λ fault. ClientEndsFrom fault (falls_of (R.own_log recorder.old)) (R.own_log recorder.new) (Self.stuck_of self.new) (Self.spent_of self.new) (Self.failures_of self.old) (Self.failures_of self.new)) }
@@ -128,8 +133,13 @@ pub trait OwnRecord: StableRecord {
         ensures client { IsSameClient (R.own_log recorder.old) (R.own_log recorder.new) }
         // It rests by its own log, and each node that it asked has answered, or is gone.
         ensures stands { OnOk result (Stands (R.own_log recorder.new) (Self.finds self.now) (core_of progress.new)) }
-        ensures idle { OnOk result (phase_of (core_of progress.new) ≡ phase.Idle) }
+        ensures idle { phase_of (core_of progress.new) ≡ phase.Idle }
         ensures released { OnOk result (HasReleased progress.new) }
+        // That a node let it wait is remembered.
+        ensures busy { OnOk result (busy_of progress.old ≡ true → busy_of progress.new ≡ true) }
+        // 913: only where the wish had its last nudge; how many it may have stays.
+        ensures most { most_of progress.new ≡ most_of progress.old }
+        ensures last { IfErr result (λ f. f ≡ RunFault.GaveUp → HasHadLast progress.new) }
         ensures again { IfErr result (λ f. f ≡ RunFault.GaveUp → Stands (R.own_log recorder.new) (Self.finds self.now) (core_of progress.new) × (phase_of (core_of progress.new) ≡ phase.Idle)) }
         ensures visits { visits_of (R.own_log recorder.new) ≡ visits_of (R.own_log recorder.old) }
         ensures falls { falls_of (R.own_log recorder.new) ≡ falls_of (R.own_log recorder.old) }

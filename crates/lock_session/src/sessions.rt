@@ -13,7 +13,7 @@ ghost use Rattle.client_loop.specs.Sendings.{sent_of, SentFollows, SentUnlessMem
 ghost use Rattle.client_loop.specs.Standing.{KeepsAttempt};
 ghost use Rattle.client_loop.specs.Endings.{ClientEndsFrom};
 ghost use Rattle.client_loop.specs.Visits.{visits_of};
-ghost use Rattle.lock_session.specs.Sessions.{IsResting, IsInside, IsInsideStill, IsInsideFor, Softens, EndsSoftening, GoesOut, Settles, StandsAfter, EndsSettling, Enters, TakesBack, EndsEntering, HasReleased, use_by, over_by};
+ghost use Rattle.lock_session.specs.Sessions.{IsResting, IsInside, IsInsideStill, IsInsideFor, Softens, EndsSoftening, GoesOut, Settles, StandsAfter, EndsSettling, HasNothingLeft, Enters, TakesBack, EndsEntering, HasReleased, use_by, over_by};
 
 use crate::OwnRecord;
 use crate::gates::OpenGate;
@@ -176,6 +176,7 @@ impl<S: OwnRecord, R: Recorder, L: Link> Session<S, R, L> {
     }
 
     /// Says that the core has left.
+    #[tactic(auto, using(crate::proofs::EndFacts::leaving_ends))]
     fn say_leave<W: Wait>(&mut self, rt: &W, alloc: Global) -> Result<(), RunFault>
         requires on { self.old.over ≡ None }
         requires left { self.old.left ≡ true }
@@ -185,6 +186,7 @@ impl<S: OwnRecord, R: Recorder, L: Link> Session<S, R, L> {
         ensures sent { OnOk result (SentFollows self.old.log self.new.log self.old.given self.new.given) }
         ensures faulted { IfErr result (λ f. SentUnlessMemory f self.old.log self.new.log self.old.given self.new.given) }
         ensures after { IfErr result (λ f. StandsAfter f self.new) }
+        ensures outside { phase_of self.new.core ≡ phase.Inside → ⊥ }
         ensures ended { IfErr result (λ f. EndsSettling f self.old self.new) }
     {
         let told = self.stable.leave(
@@ -210,6 +212,7 @@ impl<S: OwnRecord, R: Recorder, L: Link> Session<S, R, L> {
     /// The attempt had its last nudge (913), and then the session has left, and rests; the session was over by
     /// this fault, and nothing is done; memory was refused (914), or the book is full or another's (915), and
     /// then it is over.
+    #[tactic(auto, using(crate::proofs::EndFacts::over_before, crate::proofs::EndFacts::settles_out))]
     pub fn settle<W: Wait>(&mut self, rt: &W, alloc: Global) -> Result<(), RunFault>
         ensures settles { Settles self.old self.new }
         ensures rests { OnOk result (IsResting self.new) }
@@ -217,6 +220,10 @@ impl<S: OwnRecord, R: Recorder, L: Link> Session<S, R, L> {
         ensures sent { OnOk result (SentFollows self.old.log self.new.log self.old.given self.new.given) }
         ensures faulted { IfErr result (λ f. SentUnlessMemory f self.old.log self.new.log self.old.given self.new.given) }
         ensures after { IfErr result (λ f. StandsAfter f self.new) }
+        ensures on { OnOk result (self.old.over ≡ None) }
+        ensures nothing { HasNothingLeft self.old → OnErr result ⊥ × (self.new ≡ self.old) }
+        // It is outside then, unless it was over in the middle of being inside.
+        ensures outside { (phase_of self.old.core ≡ phase.Inside → self.old.over ≡ None) → phase_of self.new.core ≡ phase.Inside → ⊥ }
         ensures ended { IfErr result (λ f. EndsSettling f self.old self.new) }
     {
         if let Some(fault) = self.ended {
@@ -230,6 +237,7 @@ impl<S: OwnRecord, R: Recorder, L: Link> Session<S, R, L> {
     }
 
     /// Asks for a use and is inside; whether it is.
+    #[tactic(auto, using(crate::proofs::EndFacts::entering_ends))]
     fn ask<W: Wait>(
         &mut self,
         rt: &W,
@@ -241,11 +249,11 @@ impl<S: OwnRecord, R: Recorder, L: Link> Session<S, R, L> {
     ) -> Result<bool, RunFault>
         requires rests { IsResting self.old }
         requires placed { HasPlace self.old.ballots place }
-        ensures entered { result ≡ Ok true → Enters (use_by mode resource place) self.old self.new }
+        ensures entered { result ≡ Ok true → Enters (use_by mode resource place) patience.nudges self.old self.new }
         ensures inside { result ≡ Ok true → IsInsideFor (use_by mode resource place) self.new }
-        ensures back { result ≡ Ok false → TakesBack (use_by mode resource place) self.old self.new }
+        ensures back { result ≡ Ok false → TakesBack (use_by mode resource place) patience.nudges self.old self.new }
         ensures waits { result ≡ Ok false → patience.waits ≡ false }
-        ensures ended { IfErr result (λ f. EndsEntering (use_by mode resource place) f self.old self.new) }
+        ensures ended { IfErr result (λ f. EndsEntering (use_by mode resource place) patience.nudges f self.old self.new) }
     {
         let wish = Wish {
             client: self.client,
@@ -278,6 +286,7 @@ impl<S: OwnRecord, R: Recorder, L: Link> Session<S, R, L> {
     }
 
     /// Says what is left to say, asks for a use and is inside; whether it is.
+    #[tactic(auto, using(crate::proofs::EndFacts::settling_ends, crate::proofs::EndFacts::ends_later, crate::proofs::EndFacts::more_since))]
     pub(crate) fn come_in<W: Wait>(
         &mut self,
         rt: &W,
@@ -288,20 +297,22 @@ impl<S: OwnRecord, R: Recorder, L: Link> Session<S, R, L> {
         patience: Patience,
     ) -> Result<bool, RunFault>
         requires placed { HasPlace self.old.ballots place }
-        ensures entered { result ≡ Ok true → Enters (use_by mode resource place) self.old self.new }
+        ensures entered { result ≡ Ok true → Enters (use_by mode resource place) patience.nudges self.old self.new }
         ensures inside { result ≡ Ok true → IsInsideFor (use_by mode resource place) self.new }
-        ensures back { result ≡ Ok false → TakesBack (use_by mode resource place) self.old self.new }
+        ensures back { result ≡ Ok false → TakesBack (use_by mode resource place) patience.nudges self.old self.new }
         ensures waits { result ≡ Ok false → patience.waits ≡ false }
-        ensures ended { IfErr result (λ f. EndsEntering (use_by mode resource place) f self.old self.new) }
+        ensures ended { IfErr result (λ f. EndsEntering (use_by mode resource place) patience.nudges f self.old self.new) }
     {
         self.settle(rt, alloc)?;
         self.ask(rt, alloc, mode, resource, place, patience)
     }
 
     /// Goes on inside as a reader, where it is inside as a writer.
+    #[tactic(auto, using(crate::proofs::EndFacts::over_before, crate::proofs::EndFacts::softening_ends))]
     pub(crate) fn soften(&mut self, alloc: Global) -> Result<(), RunFault>
         ensures still { (t : TicketValue) → IsInside self.old t → IsInsideStill t self.new }
         ensures softened { OnOk result ((t : TicketValue) → IsInside self.old t → t.mode ≡ Write → IsInside self.new (softened_ticket t) × Softens self.old self.new) }
+        ensures on { OnOk result (self.old.over ≡ None) }
         ensures ended { IfErr result (λ f. EndsSoftening f self.old self.new) }
     {
         if let Some(fault) = self.ended {

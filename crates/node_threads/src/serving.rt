@@ -4,6 +4,7 @@ ghost use denote.Param.Send.{IsSend, IsSync};
 ghost use Rattle.std.specs.Prelude.{◌≡◌, ◌≤◌, map, length, All, IfOk, IfErr};
 ghost use Rattle.std.specs.List.{range_with_len};
 ghost use Rattle.lock_messages.specs.declared.ids.TheConstants.{MAX_CLIENTS};
+ghost use Rattle.lock_session.specs.Sessions.{IsResting};
 ghost use Rattle.node_threads.specs.Ends.{AreNodeEnds};
 ghost use Rattle.node_threads.specs.SessionEnds.{AreSessionEnds};
 ghost use Rattle.node_threads.specs.Tasks.{IsNodeTask, IsClientBerth};
@@ -41,11 +42,13 @@ fn work_each<
     L: Link + Send,
     J: Work + Sync,
 >(rt: W, alloc: Global, sessions: &mut [Session<S, R, L>], work: &J)
+    requires { All IsResting sessions.old }
     ensures { map (λ s. s.client) sessions.new ≡ map (λ s. s.client) sessions.old }
 {
     let count = sessions.len();
     if count > 0 {
         let one = move |_place: usize, session: &mut Session<S, R, L>|
+            requires { IsResting session.old }
             ensures { session.new.client ≡ session.old.client }
         {
             work.work(&rt, alloc, session);

@@ -1,6 +1,7 @@
 // What a program does while its service runs.
 
 ghost use Rattle.std.specs.Prelude.{◌≡◌};
+ghost use Rattle.lock_session.specs.Sessions.{IsResting};
 
 use book_recorders::SharedRecorder;
 use lock_session::{OwnRecord, Session};
@@ -25,5 +26,6 @@ pub trait Work {
         alloc: Global,
         session: &mut Session<S, R, L>,
     )
+        requires { IsResting session.old }
         ensures { session.new.client ≡ session.old.client };
 }

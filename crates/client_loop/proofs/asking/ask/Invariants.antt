@@ -15,5 +15,6 @@ invariant-loop g l = record {
   sent : SentFollows (g.R.Recorder.own_log l.fn.recorder) (g.R.Recorder.own_log l.recorder) (g.L.Link.given l.fn.link) (g.L.Link.given l.link);
   phase : phase_of l.progress.core ≡ phase_of l.fn.progress.core;
   ticket : ticket_of l.progress.core ≡ ticket_of l.fn.progress.core;
+  most : l.progress.most_nudges ≡ l.fn.progress.most_nudges;
   falls : falls_of (g.R.Recorder.own_log l.recorder) ≡ falls_of (g.R.Recorder.own_log l.fn.recorder);
 }

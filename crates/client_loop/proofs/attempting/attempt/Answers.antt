@@ -1,7 +1,7 @@
 use Rattle.std.proofs.Common.{rules}
 use Rattle.actor_steps.proofs.EndFacts.{failures_on}
-use Rattle.client_loop.specs.Visits.{use_of}
-use Rattle.client_loop.proofs.BeginFacts.{begins_on, begins_still, placed_on}
+use Rattle.client_loop.specs.Visits.{use_of, visits_of}
+use Rattle.client_loop.proofs.BeginFacts.{begins_on, begins_still, placed_on, more_between, at_least}
 use Rattle.client_loop.proofs.EndFacts.{failures_same}
 use Rattle.client_loop.proofs.attempting.attempt.Goals as goal
 
@@ -15,6 +15,9 @@ returns-in_err-keep_chosen-clause-begins g c = begins_still _ _ _ _ (begins_on _
 pub returns-then-branch-clause-begins : goal.returns-then-branch-clause-begins
 returns-then-branch-clause-begins g c = begins_still _ _ _ _ (begins_on _ _ _ _ c.loop.invariant.begins c.begin.ensures.begins) c.keep_chosen.ensures.visits
 
+pub returns-then-branch-clause-more : goal.returns-then-branch-clause-more
+returns-then-branch-clause-more g c = more_between _ _ _ _ c.loop.invariant.counted c.in_ok-begin.ensures.more c.keep_chosen.ensures.visits
+
 pub loop-preserved : goal.loop-preserved
 loop-preserved g c = record {
   next = search rules;
@@ -24,6 +27,8 @@ loop-preserved g c = record {
   idle = search rules;
   entered = search rules;
   softened = search rules;
+  most = search rules;
+  counted = at_least (visits_of (g.R.Recorder.own_log c.args.recorder.now)) (visits_of (g.R.Recorder.own_log c.keep_chosen.new.recorder)) (more_between _ _ _ _ c.loop.invariant.counted c.in_ok-begin.ensures.more c.keep_chosen.ensures.visits);
   silent = search rules;
   falls = failures_on _ _ _ _ _ _ c.loop.invariant.falls (failures_on _ _ _ _ _ _ (failures_same _ _ _ c.begin.ensures.falls) c.keep_chosen.ensures.falls);
   begins = begins_still _ _ _ _ (begins_on _ _ _ _ c.loop.invariant.begins c.begin.ensures.begins) c.keep_chosen.ensures.visits;

@@ -1,4 +1,4 @@
-use Rattle.std.proofs.Common.{◌≡◌, false}
+use Rattle.std.proofs.Common.{◌≡◌, ◌≤◌, length, false}
 use Rattle.client_core.specs.Clients.{phase_of}
 use Rattle.client_core.specs.declared.phases.Phase.TheVariants as phase
 use Rattle.actor_steps.specs.Endings.{falls_of, FailuresFollow}
@@ -16,6 +16,8 @@ invariant-loop g l = record {
   idle : phase_of l.progress.core ≡ phase.Idle;
   entered : (visits_of (g.R.Recorder.own_log l.recorder)).entered ≡ (visits_of (g.R.Recorder.own_log l.fn.recorder)).entered;
   softened : (visits_of (g.R.Recorder.own_log l.recorder)).softened ≡ (visits_of (g.R.Recorder.own_log l.fn.recorder)).softened;
+  most : l.progress.most_nudges ≡ l.fn.progress.most_nudges;
+  counted : length (visits_of (g.R.Recorder.own_log l.fn.recorder)).begins ≤ length (visits_of (g.R.Recorder.own_log l.recorder)).begins;
   silent : sent_of (g.R.Recorder.own_log l.recorder) ≡ sent_of (g.R.Recorder.own_log l.fn.recorder);
   falls : FailuresFollow (falls_of (g.R.Recorder.own_log l.fn.recorder)) (falls_of (g.R.Recorder.own_log l.recorder)) ((goal.StableRecord-dyn g l.fn.stable.now).failures_of l.fn.stable.now.1)
       ((goal.StableRecord-dyn g l.stable.now).failures_of l.stable.now.1);

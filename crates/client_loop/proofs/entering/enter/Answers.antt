@@ -1,6 +1,6 @@
-use Rattle.std.proofs.lemmas.Result.{err_from_is_err_and}
+use Rattle.std.proofs.lemmas.Result.{err_from_is_err_and, on_ok_weaker}
 use Rattle.client_loop.specs.Visits.{use_of}
-use Rattle.client_loop.proofs.BeginFacts.{placed_on, beginning_client, begins_no_more}
+use Rattle.client_loop.proofs.BeginFacts.{placed_on, beginning_client, begins_no_more, more_then_none}
 use Rattle.client_loop.proofs.EndFacts.{attempt_ends_all}
 use Rattle.client_loop.proofs.entering.enter.Goals as goal
 
@@ -18,3 +18,6 @@ returns-in_err-attempt-clause-client g c = beginning_client (use_of c.args.wish.
 
 pub returns-clause-client : goal.returns-clause-client
 returns-clause-client g c = beginning_client (use_of c.args.wish.now) _ _ (begins_no_more _ _ _ _ c.attempt.ensures.begins c.ask_and_enter.ensures.begins)
+
+pub returns-clause-more : goal.returns-clause-more
+returns-clause-more g c = on_ok_weaker c.ask_and_enter.result (λ sent. more_then_none _ _ _ c.in_ok-attempt.ensures.more c.ask_and_enter.ensures.begins) c.ask_and_enter.ensures.sent

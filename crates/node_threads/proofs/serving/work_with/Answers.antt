@@ -4,6 +4,7 @@ use Rattle.std.specs.Prelude.{IfNone}
 use Rattle.std.proofs.lemmas.List.Elements.{All-weaker}
 use Rattle.event_recorders.specs.declared.faults.RunFault.{RunFault}
 use Rattle.lock_model.specs.Decisions.{Among}
+use Rattle.lock_session.specs.Sessions.{IsResting}
 use Rattle.node_threads.specs.Sessions.{IsSessionEnd, RestsBy}
 use Rattle.node_threads.proofs.Amongst.{all_among, among_behind, among_front}
 use Rattle.node_threads.proofs.Lists.{written_back}
@@ -18,6 +19,10 @@ end_all-requires-clause-ends g c =
     any : (o : Option RunFault) (P : Type 0) → IfNone o ⊥ → IfNone o P
     any None P told = absurd told
     any (Some f) P told = tt
+
+-- the sessions rest before the work with them
+pub work_each-requires-after_bounds : goal.work_each-requires-after_bounds
+work_each-requires-after_bounds g c κs within = subst (All IsResting) (sym c.as_mut_slice.ensures.value) c.in_ok-sessions.ensures.rest
 
 -- each client has an end: of its session, or it did not rise
 pub in_order-requires-clause-whole : goal.in_order-requires-clause-whole

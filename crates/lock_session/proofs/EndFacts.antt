@@ -1,0 +1,59 @@
+-- How the calls of a session end by a fault.
+use Rattle.std.proofs.Common.{◌≡◌, ◌⊎◌, inl, inr, ℕ, Option, None, Some, refl, sym, ap, subst, ◌∙◌}
+use Rattle.event_recorders.specs.declared.faults.RunFault.{RunFault}
+use Rattle.actor_steps.specs.Endings.{falls_of}
+use Rattle.client_loop.specs.Endings.{ClientEndsFrom, EndsAsking, IsPostFault}
+use Rattle.client_loop.specs.Visits.{Visits, BeginsMore}
+use Rattle.lock_session.specs.Sessions.{SessionValue, UnlessOver, EndsLeaving, EndsBy, GivesUpAtLast, EndsSettling, EndsGuard, EndsSoftening, FailsToSoften, GoesOut}
+
+pub over_before : (over : Option RunFault) (f : RunFault) (Still Ended : Type 0) → over ≡ Some f → Still → UnlessOver over f Still Ended
+over_before over f Still Ended is still = subst (λ (o : Option RunFault). UnlessOver o f Still Ended) (sym is) (refl, still)
+
+not_over : (over : Option RunFault) (f : RunFault) (Still Ended : Type 0) → over ≡ None → Ended → UnlessOver over f Still Ended
+not_over over f Still Ended on ended = subst (λ (o : Option RunFault). UnlessOver o f Still Ended) (sym on) ended
+
+how_ended : (over : Option RunFault) (f : RunFault) (Still Ended : Type 0) → over ≡ None → UnlessOver over f Still Ended → Ended
+how_ended over f Still Ended on ended = subst (λ (o : Option RunFault). UnlessOver o f Still Ended) on ended
+
+weaker : (over : Option RunFault) (f : RunFault) (Still Still' Ended Ended' : Type 0) → (Still → Still') → (Ended → Ended') → UnlessOver over f Still Ended → UnlessOver over f Still' Ended'
+weaker (Some g) f Still Still' Ended Ended' one other ends = (ends.0, one ends.1)
+weaker None f Still Still' Ended Ended' one other ends = other ends
+
+-- a core that has left is of a session that is over as before
+over_still : (v v' : SessionValue) → GoesOut v v' → v'.over ≡ v.over
+over_still v v' out = ap (λ (x : SessionValue). x.over) out.others
+
+pub leaving_ends : (f : RunFault) (v v' : SessionValue) → v.over ≡ None → IsPostFault f → EndsAsking f v'.log → GivesUpAtLast f v' → EndsSettling f v v'
+leaving_ends f v v' on is ends last = not_over v.over f (v' ≡ v) (EndsLeaving f v') on (record { which = is; log = ends; last = last })
+
+pub softening_ends : (f : RunFault) (v v' : SessionValue) → v.over ≡ None → FailsToSoften f v v' → EndsSoftening f v v'
+softening_ends f v v' on fails = not_over v.over f (v' ≡ v) (FailsToSoften f v v') on fails
+
+-- how entering ends, by what a log and a record have before and behind it
+abbrev Entering : RunFault → ℕ → ℕ → SessionValue → Type 0
+Entering f falls failures v' = GivesUpAtLast f v' × (EndsAsking f v'.log ⊎ ClientEndsFrom f falls v'.log v'.stuck v'.spent failures v'.failures)
+
+pub entering_ends : (f : RunFault) (v v' : SessionValue) → v.over ≡ None → ClientEndsFrom f (falls_of v.log) v'.log v'.stuck v'.spent v.failures v'.failures → GivesUpAtLast f v' → EndsBy f v v'
+entering_ends f v v' on ends last = not_over v.over f (v' ≡ v) (Entering f (falls_of v.log) v.failures v') on (last, inr ends)
+
+pub settles_out : (f : RunFault) (v m v' : SessionValue) → v.over ≡ None → GoesOut v m → EndsSettling f m v' → EndsSettling f v v'
+settles_out f v m v' on out ends = not_over v.over f (v' ≡ v) (EndsLeaving f v') on (how_ended m.over f (v' ≡ m) (EndsLeaving f v') (over_still v m out ∙ on) ends)
+
+pub leaves_by : (f : RunFault) (v m v' : SessionValue) → GoesOut v m → EndsSettling f m v' → EndsGuard f v v'
+leaves_by f v m v' out ends =
+    subst (λ (o : Option RunFault). UnlessOver o f (GoesOut v v') (EndsLeaving f v')) (over_still v m out)
+    (weaker m.over f (v' ≡ m) (GoesOut v v') (EndsLeaving f v') (EndsLeaving f v') (λ same. subst (λ (x : SessionValue). GoesOut v x) (sym same) out) (λ how. how) ends)
+
+pub settling_ends : (f : RunFault) (v v' : SessionValue) → EndsSettling f v v' → EndsBy f v v'
+settling_ends f v v' ends = weaker v.over f (v' ≡ v) (v' ≡ v) (EndsLeaving f v') (Entering f (falls_of v.log) v.failures v') (λ same. same) (λ how. (how.last, inl how.log)) ends
+
+-- entering ended behind a settling that went well
+pub ends_later : (f : RunFault) (v m v' : SessionValue) → v.over ≡ None → m.over ≡ None → falls_of m.log ≡ falls_of v.log → m.failures ≡ v.failures → EndsBy f m v' → EndsBy f v v'
+ends_later f v m v' on still falls failures ends =
+    not_over v.over f (v' ≡ v) (Entering f (falls_of v.log) v.failures v') on
+    (subst (λ (n : ℕ). Entering f (falls_of v.log) n v') failures
+    (subst (λ (n : ℕ). Entering f n m.failures v') falls
+    (how_ended m.over f (v' ≡ m) (Entering f (falls_of m.log) m.failures v') still ends)))
+
+pub more_since : (a b c : Visits) → b ≡ a → BeginsMore b c → BeginsMore a c
+more_since a b c same more = subst (λ (v : Visits). BeginsMore v c) same more
