@@ -26,9 +26,9 @@ use Rattle.lock_session.specs.declared.faults.TryFault.TheVariants as trying
 
 -- The client and its ballots; its core; the nodes whose vote was counted in the present attempt, those to which
 -- something was sent in it, those that answered its release, and those that are gone; whether a node let it wait;
--- how many nudges it had, and how many it may have; the client's own log; what a restart finds of its record, whether that is stuck and spent, and how often its
--- device has failed; what was given to its link; whether it has left and its log has yet to say so; and the fault by
--- which it is over, if it is.
+-- how many nudges it had, and how many it may have; the client's own log; what a restart finds of its record, whether
+-- that is stuck and spent, and how often its device has failed; what was given to its link; whether it has left and
+-- its log has yet to say so; and the fault by which it is over, if it is.
 pub record SessionValue : Type 0 where
   pub client : ℕ
   pub ballots : List Ballot
@@ -237,16 +237,18 @@ pub record IsInsideFor (u : Use) (v : SessionValue) : Type 0 where
   pub asked : AsksFor u ticket
 
 -- The session softened: its log has one Soften more, of the use that was begun last, and each node whose vote was
--- counted was told so, once.
+-- counted was told so, once. The attempt may have as many nudges as before.
 pub record Softens (v v' : SessionValue) : Type 0 where
   pub same : IsSameSession v v'
   pub visits : visits_of v'.log ≡ visits_softening (visits_of v.log)
+  pub most : v'.most ≡ v.most
   pub told : TellsSoftened v.core v.granted v.log v'.log
   pub sent : SentFollows v.log v'.log v.given v'.given
 
 -- softening failed, by want of memory or by the book, before its Soften was logged or after that
 pub record FailsToSoften (f : RunFault) (v v' : SessionValue) : Type 0 where
   pub cause : IsBookFault f
+  pub most : v'.most ≡ v.most
   pub over : v'.over ≡ Some f
   pub same : IsSameSession v v'
   pub visits : (visits_of v'.log ≡ visits_of v.log) ⊎ (visits_of v'.log ≡ visits_softening (visits_of v.log))
