@@ -3,13 +3,13 @@
 ghost use Rattle.std.specs.Prelude.{◌≡◌, ◌≤◌, [], OnOk, IfOk, All, false, length, IfErr};
 ghost use Rattle.client_core.specs.Clients.{phase_of};
 ghost use Rattle.client_core.specs.declared.phases.Phase.TheVariants as phase;
-ghost use Rattle.event_recorders.specs.OwnLogs.{IsUnused, FindsPart};
+ghost use Rattle.event_recorders.specs.OwnLogs.{IsUnused, FindsPart, part_now};
 ghost use Rattle.lossy_link.specs.Links.{all_more};
 ghost use Rattle.client_loop.specs.Sendings.{sent_of, SentFollows, SentUnlessMemory, ToldUnlessMemory};
 ghost use Rattle.client_loop.specs.Standing.{Stands, KeepsAttempt};
 ghost use Rattle.actor_steps.specs.Steps.{HasFailed};
 ghost use Rattle.actor_steps.specs.Endings.{falls_of, FailuresFollow};
-ghost use Rattle.client_loop.specs.Endings.{ClientEndsFrom, ClientEndsBy, ClientEndsSomehow};
+ghost use Rattle.client_loop.specs.Endings.{ClientEndsFrom, ClientEndsBy, ClientEndsSomehow, IsOutside};
 ghost use Rattle.client_loop.specs.Visits.{visits_of, HasEntered, HasBegun, SoftensAsWished, ArePlaced, entries_of};
 
 use crate::progress::Progress;
@@ -25,7 +25,7 @@ use std::sync::Wait;
 use vote_weights::BallotList;
 
 /// Fulfils the wishes in order.
-#[tactic(auto, using(crate::proofs::SentFacts::follows_on, crate::proofs::SentFacts::unless_on, crate::proofs::EndFacts::client_ends_on, actor_steps::proofs::EndFacts::failures_on))]
+#[tactic(auto, using(crate::proofs::SentFacts::follows_on, crate::proofs::SentFacts::unless_on, crate::proofs::EndFacts::client_ends_on, crate::proofs::EndFacts::is_outside, actor_steps::proofs::EndFacts::failures_on))]
 fn fulfil_all<W: Wait, R: Recorder, L: Link, G: Gate>(
     rt: &W,
     alloc: Global,
@@ -49,6 +49,7 @@ fn fulfil_all<W: Wait, R: Recorder, L: Link, G: Gate>(
     ensures entered { HasEntered wishes.now (entries_of result) (R.own_log recorder.new) }
     ensures softened { SoftensAsWished wishes.now result (R.own_log recorder.new) }
     ensures all { IfOk result (λ n. n ≡ length wishes.now) }
+    ensures outside { OnOk result (IsOutside (part_now (R.own_log recorder.new))) }
     ensures ended { IfErr result (λ p. ClientEndsFrom p.1 (falls_of (R.own_log recorder.old)) (R.own_log recorder.new) (stuck_of stable.new) (spent_of stable.new) (failures_of stable.old) (failures_of stable.new)) }
     ensures falls { FailuresFollow (falls_of (R.own_log recorder.old)) (falls_of (R.own_log recorder.new)) (failures_of stable.old) (failures_of stable.new) }
     ensures begun { HasBegun (R.own_log recorder.old).actor wishes.now (R.own_log recorder.new) }
@@ -102,6 +103,7 @@ pub fn run_client_over<W: Wait, R: Recorder, L: Link, G: Gate>(
     ensures entered { HasEntered wishes.now (entries_of result) (R.own_log recorder.new) }
     ensures softened { SoftensAsWished wishes.now result (R.own_log recorder.new) }
     ensures all { IfOk result (λ n. n ≡ length wishes.now) }
+    ensures outside { OnOk result (IsOutside (part_now (R.own_log recorder.new))) }
     ensures ended { IfErr result (λ p. ClientEndsBy p.1 (R.own_log recorder.new) (stuck_of stable.new) (spent_of stable.new) (failures_of stable.old) (failures_of stable.new)) }
     ensures falls { HasFailed (falls_of (R.own_log recorder.new)) (failures_of stable.old) (failures_of stable.new) }
     ensures begun { HasBegun (R.own_log recorder.old).actor wishes.now (R.own_log recorder.new) }
@@ -114,7 +116,8 @@ pub fn run_client_over<W: Wait, R: Recorder, L: Link, G: Gate>(
 }
 
 /// Runs a client: it rises with what its record holds, also where it has no wish, and fulfils its wishes
-/// in order. Answers how many it entered, which is all of them or, in an error, those before the fault.
+/// in order. Answers how many it entered, which is all of them, and then it is outside by its own log, or, in
+/// an error, those before the fault.
 ///
 /// For each wish it makes an attempt, whose number it keeps before it is used, asks the nodes one after
 /// another for their votes, is inside by a guard while the gate keeps it, leaves, and says its release to
@@ -164,6 +167,7 @@ pub fn run_client<W: Wait, R: Recorder, L: Link, G: Gate>(
     ensures entered { HasEntered wishes.now (entries_of result) (R.own_log recorder.new) }
     ensures softened { SoftensAsWished wishes.now result (R.own_log recorder.new) }
     ensures all { IfOk result (λ n. n ≡ length wishes.now) }
+    ensures outside { OnOk result (IsOutside (part_now (R.own_log recorder.new))) }
     ensures ended { IfErr result (λ p. ClientEndsSomehow p.1 (R.own_log recorder.new)) }
     ensures begun { HasBegun (R.own_log recorder.old).actor wishes.now (R.own_log recorder.new) }
 {

@@ -3,7 +3,7 @@
 ghost use Rattle.std.specs.Prelude.{◌≡◌, ◌⊎◌, None, OnOk, OnErr, IfErr, if◌then◌else◌};
 ghost use Rattle.lock_messages.specs.declared.tickets.Mode.TheVariants.{Write};
 ghost use Rattle.vote_weights.specs.Sets.{has_node};
-ghost use Rattle.client_core.specs.Clients.{ticket_of};
+ghost use Rattle.client_core.specs.Clients.{ticket_of, softened_ticket};
 ghost use Rattle.client_core.specs.Calls.{MaySoften, softened, SoftensAll, message_for};
 ghost use Rattle.entry_guard.specs.Doors.{is_client_inside};
 ghost use Rattle.entry_guard.specs.Guards.{door_of, lender_of, guard_ticket, IsHeld};
@@ -155,6 +155,8 @@ pub(crate) fn soften_guard<R: Recorder, L: Link>(
     ensures held { IsHeld is_client_inside ticket_of guard.new }
     ensures told { OnOk result (TellsSoftened (door_of guard.old) granted (R.own_log recorder.old) (R.own_log recorder.new)) }
     ensures lender { lender_of guard.new ≡ lender_of guard.old }
+    ensures ticket { OnOk result (guard_ticket guard.new ≡ softened_ticket (guard_ticket guard.old)) }
+    ensures still { OnErr result ((guard_ticket guard.new ≡ guard_ticket guard.old) ⊎ (guard_ticket guard.new ≡ softened_ticket (guard_ticket guard.old))) }
     ensures stands { OnOk result (Stands (R.own_log recorder.new) (finds stable.now) (door_of guard.new)) }
     ensures sent { OnOk result (SentFollows (R.own_log recorder.old) (R.own_log recorder.new) (L.given link.old) (L.given link.new)) }
     ensures faulted { IfErr result (λ f. SentUnlessMemory f (R.own_log recorder.old) (R.own_log recorder.new) (L.given link.old) (L.given link.new)) }

@@ -1,10 +1,14 @@
 -- How the calls of a session end by a fault.
-use Rattle.std.proofs.Common.{◌≡◌, ◌⊎◌, inl, inr, ℕ, Option, None, Some, refl, sym, ap, subst, ◌∙◌}
+use Rattle.std.proofs.Common.{◌≡◌, ◌⊎◌, inl, inr, ℕ, Bool, true, false, List, Option, None, Some, refl, sym, ap, subst, ◌∙◌}
+use Rattle.client_core.specs.declared.phases.Phase.TheVariants as phase
+use Rattle.client_core.specs.Clients.{Client, phase_of}
 use Rattle.event_recorders.specs.declared.faults.RunFault.{RunFault}
+use Rattle.event_recorders.specs.OwnLogs.{OwnLog}
 use Rattle.actor_steps.specs.Endings.{falls_of}
 use Rattle.client_loop.specs.Endings.{ClientEndsFrom, EndsAsking, IsPostFault}
 use Rattle.client_loop.specs.Visits.{Visits, BeginsMore}
-use Rattle.lock_session.specs.Sessions.{SessionValue, UnlessOver, EndsLeaving, EndsBy, GivesUpAtLast, EndsSettling, EndsGuard, EndsSoftening, FailsToSoften, GoesOut}
+use Rattle.client_loop.proofs.EndFacts.{asking_ends}
+use Rattle.lock_session.specs.Sessions.{SessionValue, UnlessOver, EndsLeaving, EndsBy, GivesUpAtLast, EndsSettling, EndsGuard, EndsSoftening, FailsToSoften, GoesOn, GoesOut}
 
 pub over_before : (over : Option RunFault) (f : RunFault) (Still Ended : Type 0) → over ≡ Some f → Still → UnlessOver over f Still Ended
 over_before over f Still Ended is still = subst (λ (o : Option RunFault). UnlessOver o f Still Ended) (sym is) (refl, still)
@@ -23,18 +27,24 @@ weaker None f Still Still' Ended Ended' one other ends = other ends
 over_still : (v v' : SessionValue) → GoesOut v v' → v'.over ≡ v.over
 over_still v v' out = ap (λ (x : SessionValue). x.over) out.others
 
-pub leaving_ends : (f : RunFault) (v v' : SessionValue) → v.over ≡ None → IsPostFault f → EndsAsking f v'.log → GivesUpAtLast f v' → EndsSettling f v v'
-leaving_ends f v v' on is ends last = not_over v.over f (v' ≡ v) (EndsLeaving f v') on (record { which = is; log = ends; last = last })
+-- the record of a session that goes on isn't stuck
+pub goes_free : (over : Option RunFault) (left : Bool) (l : OwnLog) (finds : List (List ℕ)) (stuck : Bool) (core : Client) → over ≡ None → GoesOn over left l finds stuck core → stuck ≡ false
+goes_free (Some f) left l finds stuck core on h = absurd (let clash : Some f ≡ None = on in cc)
+goes_free None true l finds stuck core on h = h.free
+goes_free None false l finds stuck core on h = h.free
+
+pub leaving_ends : (f : RunFault) (v v' : SessionValue) → v.over ≡ None → IsPostFault f → EndsAsking f v'.log → GivesUpAtLast f v' → v'.stuck ≡ false → EndsSettling f v v'
+leaving_ends f v v' on is ends last free = not_over v.over f (v' ≡ v) (EndsLeaving f v') on (record { which = is; log = ends; last = last; free = free })
 
 pub softening_ends : (f : RunFault) (v v' : SessionValue) → v.over ≡ None → FailsToSoften f v v' → EndsSoftening f v v'
 softening_ends f v v' on fails = not_over v.over f (v' ≡ v) (FailsToSoften f v v') on fails
 
 -- how entering ends, by what a log and a record have before and behind it
 abbrev Entering : RunFault → ℕ → ℕ → SessionValue → Type 0
-Entering f falls failures v' = GivesUpAtLast f v' × (EndsAsking f v'.log ⊎ ClientEndsFrom f falls v'.log v'.stuck v'.spent failures v'.failures)
+Entering f falls failures v' = GivesUpAtLast f v' × ClientEndsFrom f falls v'.log v'.stuck v'.spent failures v'.failures
 
 pub entering_ends : (f : RunFault) (v v' : SessionValue) → v.over ≡ None → ClientEndsFrom f (falls_of v.log) v'.log v'.stuck v'.spent v.failures v'.failures → GivesUpAtLast f v' → EndsBy f v v'
-entering_ends f v v' on ends last = not_over v.over f (v' ≡ v) (Entering f (falls_of v.log) v.failures v') on (last, inr ends)
+entering_ends f v v' on ends last = not_over v.over f (v' ≡ v) (Entering f (falls_of v.log) v.failures v') on (last, ends)
 
 pub settles_out : (f : RunFault) (v m v' : SessionValue) → v.over ≡ None → GoesOut v m → EndsSettling f m v' → EndsSettling f v v'
 settles_out f v m v' on out ends = not_over v.over f (v' ≡ v) (EndsLeaving f v') on (how_ended m.over f (v' ≡ m) (EndsLeaving f v') (over_still v m out ∙ on) ends)
@@ -45,7 +55,7 @@ leaves_by f v m v' out ends =
     (weaker m.over f (v' ≡ m) (GoesOut v v') (EndsLeaving f v') (EndsLeaving f v') (λ same. subst (λ (x : SessionValue). GoesOut v x) (sym same) out) (λ how. how) ends)
 
 pub settling_ends : (f : RunFault) (v v' : SessionValue) → EndsSettling f v v' → EndsBy f v v'
-settling_ends f v v' ends = weaker v.over f (v' ≡ v) (v' ≡ v) (EndsLeaving f v') (Entering f (falls_of v.log) v.failures v') (λ same. same) (λ how. (how.last, inl how.log)) ends
+settling_ends f v v' ends = weaker v.over f (v' ≡ v) (v' ≡ v) (EndsLeaving f v') (Entering f (falls_of v.log) v.failures v') (λ same. same) (λ how. (how.last, asking_ends f (falls_of v.log) v'.log v'.stuck v'.spent v.failures v'.failures how.log how.free)) ends
 
 -- entering ended behind a settling that went well
 pub ends_later : (f : RunFault) (v m v' : SessionValue) → v.over ≡ None → m.over ≡ None → falls_of m.log ≡ falls_of v.log → m.failures ≡ v.failures → EndsBy f m v' → EndsBy f v v'
@@ -54,6 +64,17 @@ ends_later f v m v' on still falls failures ends =
     (subst (λ (n : ℕ). Entering f (falls_of v.log) n v') failures
     (subst (λ (n : ℕ). Entering f n m.failures v') falls
     (how_ended m.over f (v' ≡ m) (Entering f (falls_of m.log) m.failures v') still ends)))
+
+-- a session with nothing left to say once its core has left had nothing left before
+pub nothing_left : (v m : SessionValue) → GoesOut v m → m.left ≡ false → (v.left ≡ true) ⊎ (phase_of v.core ≡ phase.Inside) → ⊥
+nothing_left v m out settled had = not_inside had
+  where
+    outside : phase_of v.core ≡ phase.Inside → ⊥
+    outside inside = let yes = (out.left inside).1 in cc
+
+    not_inside : (v.left ≡ true) ⊎ (phase_of v.core ≡ phase.Inside) → ⊥
+    not_inside (inl was) = let same = ap (λ (x : SessionValue). x.left) (out.kept outside) in cc
+    not_inside (inr inside) = outside inside
 
 pub more_since : (a b c : Visits) → b ≡ a → BeginsMore b c → BeginsMore a c
 more_since a b c same more = subst (λ (v : Visits). BeginsMore v c) same more

@@ -75,3 +75,14 @@ held_by t x v h has =
 
 pub inside_one : (t x : Ticket) (v : SessionValue) → IsInside v t → ticket_of v.core ≡ Some x → x ≡ t
 inside_one t x v h has = let own = h.ticket in cc
+
+-- the same ticket, or that as a reader's
+pub still_one : (t x : Ticket) (v : SessionValue) → IsInsideStill t v → ticket_of v.core ≡ Some x → (x ≡ t) ⊎ (x ≡ softened_ticket t)
+still_one t x v h has = so h.same
+  where
+    one : x ≡ h.ticket
+    one = inside_one h.ticket x v h.inside has
+
+    so : (h.ticket ≡ t) ⊎ (h.ticket ≡ softened_ticket t) → (x ≡ t) ⊎ (x ≡ softened_ticket t)
+    so (inl same) = inl (one ∙ same)
+    so (inr soft) = inr (one ∙ soft)

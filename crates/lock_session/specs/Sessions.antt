@@ -142,15 +142,17 @@ UnlessOver None f Still Ended = Ended
 abbrev pub GivesUpAtLast : RunFault → SessionValue → Type 0
 GivesUpAtLast f v = f ≡ fault.GaveUp → IsLast v.most v.nudges
 
--- leaving ended by this fault: the client had its last nudge, and is outside; memory was refused, or the book did
+-- Leaving ended by this fault: the client had its last nudge, and is outside; memory was refused, or the book did.
+-- Its record has left no failure behind.
 pub record EndsLeaving (f : RunFault) (v : SessionValue) : Type 0 where
   pub which : IsPostFault f
   pub log : EndsAsking f v.log
   pub last : GivesUpAtLast f v
+  pub free : v.stuck ≡ false
 
 -- Why a call ended: the session was over before, and nothing has changed; or leaving ended so, or entering did.
 abbrev pub EndsBy : RunFault → SessionValue → SessionValue → Type 0
-EndsBy f v v' = UnlessOver v.over f (v' ≡ v) (GivesUpAtLast f v' × (EndsAsking f v'.log ⊎ ClientEndsFrom f (falls_of v.log) v'.log v'.stuck v'.spent v.failures v'.failures))
+EndsBy f v v' = UnlessOver v.over f (v' ≡ v) (GivesUpAtLast f v' × ClientEndsFrom f (falls_of v.log) v'.log v'.stuck v'.spent v.failures v'.failures)
 
 -- what the session did on its way, for this use: it began none but this, softened nothing, and fell as often as its
 -- record's device failed

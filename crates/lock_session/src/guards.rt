@@ -28,8 +28,8 @@ use std::sync::Wait;
 /// own log.
 ///
 /// `leave` logs the Leave and says the releases. A guard that is dropped instead, on whatever path, is outside at
-/// once, and takes no memory and does not wait; the session's next call logs it then and says the releases,
-/// before anything else. So does the next call after a guard that was forgotten.
+/// once, and takes no memory and does not wait; the next call that enters or settles logs it then and says the
+/// releases, before anything else. So does the next such call after a guard that was forgotten.
 pub struct SessionGuard<'a, S: OwnRecord, R: Recorder, L: Link> {
     session: &'a mut Session<S, R, L>,
     ticket: Ticket,
@@ -153,6 +153,7 @@ impl<S: OwnRecord, R: Recorder, L: Link> SessionGuard<'_, S, R, L> {
         requires writes { (guard_ticket self.old).mode ≡ Write }
         ensures same_session { lender_of self.new ≡ lender_of self.old }
         ensures held { IsHeld self.old → IsHeld self.new }
+        ensures still { IsHeld self.old → (guard_ticket self.new ≡ guard_ticket self.old) ⊎ (guard_ticket self.new ≡ softened_ticket (guard_ticket self.old)) }
         ensures softened { OnOk result (IsHeld self.old → (guard_ticket self.new ≡ softened_ticket (guard_ticket self.old)) × Softens (session_of self.old) (session_of self.new)) }
         ensures on { OnOk result ((session_of self.old).over ≡ None) }
         ensures ended { IfErr result (λ f. EndsSoftening f (session_of self.old) (session_of self.new)) }

@@ -3,7 +3,7 @@
 //! A `Session` owns a client's record, recorder and link. `enter` makes an attempt, asks for it, and answers a
 //! `SessionGuard`, which is alive only while the session's own log has the client inside with the guard's
 //! ticket. `leave` takes the guard, logs the Leave and says the releases; a guard that is dropped instead is
-//! outside at once, and the session's next call logs it and says the releases before anything else. Where an
+//! outside at once, and the next call that enters or settles logs it and says the releases first. Where an
 //! attempt ends by too few nodes (912) or too many nudges (913) the session goes on; every other fault ends it.
 //!
 //! The crate promises what `client_loop` promises of each of its calls, whose parts a session is: what is

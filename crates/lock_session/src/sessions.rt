@@ -33,7 +33,7 @@ use vote_weights::BallotList;
 /// A client's session: its record, its recorder and its link, and what it remembers between two calls.
 ///
 /// It rests, or is inside by a guard that borrows it. A guard that was dropped, or forgotten, has left it
-/// something to say, which the next call does first.
+/// something to say, which the next call that enters or settles does first.
 #[derive(Drop)]
 pub struct Session<S: OwnRecord, R: Recorder, L: Link> {
     client: ClientId,
@@ -176,7 +176,7 @@ impl<S: OwnRecord, R: Recorder, L: Link> Session<S, R, L> {
     }
 
     /// Says that the core has left.
-    #[tactic(auto, using(crate::proofs::EndFacts::leaving_ends))]
+    #[tactic(auto, using(crate::proofs::EndFacts::leaving_ends, crate::proofs::EndFacts::goes_free))]
     fn say_leave<W: Wait>(&mut self, rt: &W, alloc: Global) -> Result<(), RunFault>
         requires on { self.old.over ≡ None }
         requires left { self.old.left ≡ true }
@@ -212,11 +212,11 @@ impl<S: OwnRecord, R: Recorder, L: Link> Session<S, R, L> {
     /// The attempt had its last nudge (913), and then the session has left, and rests; the session was over by
     /// this fault, and nothing is done; memory was refused (914), or the book is full or another's (915), and
     /// then it is over.
-    #[tactic(auto, using(crate::proofs::EndFacts::over_before, crate::proofs::EndFacts::settles_out))]
+    #[tactic(auto, using(crate::proofs::EndFacts::over_before, crate::proofs::EndFacts::settles_out, crate::proofs::EndFacts::nothing_left))]
     pub fn settle<W: Wait>(&mut self, rt: &W, alloc: Global) -> Result<(), RunFault>
         ensures settles { Settles self.old self.new }
         ensures rests { OnOk result (IsResting self.new) }
-        ensures released { OnOk result (self.old.left ≡ true → HasReleased self.new) }
+        ensures released { OnOk result ((self.old.left ≡ true) ⊎ (phase_of self.old.core ≡ phase.Inside) → HasReleased self.new) }
         ensures sent { OnOk result (SentFollows self.old.log self.new.log self.old.given self.new.given) }
         ensures faulted { IfErr result (λ f. SentUnlessMemory f self.old.log self.new.log self.old.given self.new.given) }
         ensures after { IfErr result (λ f. StandsAfter f self.new) }
@@ -340,6 +340,9 @@ impl<S: OwnRecord, R: Recorder, L: Link> Session<S, R, L> {
     pub fn into_parts(self) -> (S, R, L)
         ensures log { R.own_log result.1 ≡ self.log }
         ensures finds { S.StableRecord.finds result.0 ≡ self.finds }
+        ensures stuck { S.StableRecord.stuck_of result.0 ≡ self.stuck }
+        ensures spent { S.StableRecord.spent_of result.0 ≡ self.spent }
+        ensures failures { S.StableRecord.failures_of result.0 ≡ self.failures }
         ensures given { L.given result.2 ≡ self.given }
     {
         let Session {

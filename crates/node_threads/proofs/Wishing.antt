@@ -16,8 +16,9 @@ use Rattle.world_model.specs.Parts.{part}
 use Rattle.history_check.specs.declared.wishes.Wish.{Wish}
 use Rattle.history_book.specs.Books.{BookValue, BerthValue, Known, own_of}
 use Rattle.event_recorders.specs.declared.faults.RunFault.{RunFault}
-use Rattle.event_recorders.specs.OwnLogs.{OwnLog}
+use Rattle.event_recorders.specs.OwnLogs.{OwnLog, part_now}
 use Rattle.book_recorders.specs.Sharing.{log_of}
+use Rattle.client_loop.specs.Endings.{IsOutside}
 use Rattle.client_loop.specs.Visits.{HasBegun, HasEntered, HasSoftened}
 use Rattle.node_threads.specs.declared.ends.ClientEnd.{ClientEnd}
 use Rattle.node_threads.specs.Ends.{IsClientEnd, AreClientEnds, with_wishes, client_in, client_fault}
@@ -83,6 +84,7 @@ did w b wishes faults clients before e c opening told there num ends known own =
       all = λ none. so none (e.entered ≡ length e.wishes.items) ends.all e.fault refl ∙ ap length mine;
       softened = λ none. subst (λ (ws : List Wish). HasSoftened ws e.entered (log_in w b.history (actor.Client c))) mine
           (subst (λ (l : OwnLog). HasSoftened e.wishes.items e.entered l) log (so none (HasSoftened e.wishes.items e.entered (log_of e.berth)) ends.softened e.fault refl));
+      outside = λ none. subst (λ (l : OwnLog). IsOutside (part_now l)) log (so none (IsOutside (part_now (log_of e.berth))) ends.outside e.fault refl);
     }
   where
     -- who isn't told ended without a fault

@@ -6,7 +6,9 @@ use Rattle.lock_messages.specs.declared.ids.Actor.{Actor}
 use Rattle.lock_messages.specs.declared.ids.Actor.TheVariants as actor
 use Rattle.event_recorders.specs.declared.faults.RunFault.{RunFault}
 use Rattle.history_check.specs.declared.wishes.Wish.{Wish}
+use Rattle.event_recorders.specs.OwnLogs.{part_now}
 use Rattle.book_recorders.specs.Sharing.{log_of}
+use Rattle.client_loop.specs.Endings.{IsOutside}
 use Rattle.client_loop.specs.Visits.{HasBegun, HasEntered, HasSoftened}
 use Rattle.node_loop.specs.Standing.{IsNodeFault}
 use Rattle.node_threads.specs.declared.ends.NodeEnd.{NodeEnd}
@@ -18,13 +20,14 @@ IsNodeEnd e = IfSome e.fault IsNodeFault
 
 -- A client that ended without a fault entered all its wishes, and none entered more than it has. Its log is
 -- its berth's; it begins nothing but what it wishes, and enters so many of its wishes, in order; without a
--- fault it softens just those that say so.
+-- fault it softens just those that say so, and is outside at its end.
 pub record IsClientEnd (e : ClientEnd) : Type 0 where
   pub all : IfNone e.fault (e.entered ≡ length e.wishes.items)
   pub few : e.entered ≤ length e.wishes.items
   pub begun : HasBegun (actor.Client e.client) e.wishes.items (log_of e.berth)
   pub entries : HasEntered e.wishes.items e.entered (log_of e.berth)
   pub softened : IfNone e.fault (HasSoftened e.wishes.items e.entered (log_of e.berth))
+  pub outside : IfNone e.fault (IsOutside (part_now (log_of e.berth)))
 
 -- the ends of just these nodes, in order
 pub record AreNodeEnds (nodes : List ℕ) (ends : List NodeEnd) : Type 0 where

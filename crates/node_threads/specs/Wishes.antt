@@ -10,7 +10,8 @@ use Rattle.world_model.specs.Locality.{own_events}
 use Rattle.world_model.specs.Parts.{part}
 use Rattle.history_check.specs.declared.wishes.Wish.{Wish}
 use Rattle.event_recorders.specs.declared.faults.RunFault.{RunFault}
-use Rattle.event_recorders.specs.OwnLogs.{OwnLog}
+use Rattle.event_recorders.specs.OwnLogs.{OwnLog, part_now}
+use Rattle.client_loop.specs.Endings.{IsOutside}
 use Rattle.client_loop.specs.Visits.{HasBegun, HasEntered, HasSoftened}
 use Rattle.node_threads.specs.Tasks.{own_wishes}
 
@@ -20,13 +21,14 @@ log_in w history who = record { actor = who; ballots = w.ballots; opening = part
 
 -- By its own events in the history the client has begun nothing but its own wishes among these, and entered
 -- so many of them, each once and in order. Unless it is among those that ended by a fault, it entered all of
--- them, and softened just those that say so.
+-- them, softened just those that say so, and is outside at the end.
 pub record DidAsWished (w : ExactWorld) (history : List (Event × Effect)) (wishes : List Wish) (faults : List (Actor × RunFault)) (c : ℕ) : Type 0 where
   pub entered : ℕ
   pub begun : HasBegun (actor.Client c) (own_wishes c wishes) (log_in w history (actor.Client c))
   pub entries : HasEntered (own_wishes c wishes) entered (log_in w history (actor.Client c))
   pub all : ((f : RunFault) → Among (actor.Client c, f) faults → ⊥) → entered ≡ length (own_wishes c wishes)
   pub softened : ((f : RunFault) → Among (actor.Client c, f) faults → ⊥) → HasSoftened (own_wishes c wishes) entered (log_in w history (actor.Client c))
+  pub outside : ((f : RunFault) → Among (actor.Client c, f) faults → ⊥) → IsOutside (part_now (log_in w history (actor.Client c)))
 
 -- so did each client of the world
 abbrev pub AllDidAsWished : ExactWorld → List (Event × Effect) → List Wish → List (Actor × RunFault) → Type 0
