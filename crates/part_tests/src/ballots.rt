@@ -2,7 +2,7 @@
 
 use lock_messages::{Mode, NodeId};
 use test_outcomes::{Outcome, check_row};
-use vote_weights::{Ballot, NodeSet};
+use vote_weights::{Ballot, BallotFault, BallotList, NodeSet};
 
 /// The set of these nodes, each put in by its number.
 fn set_of(nodes: &[u8]) -> NodeSet {
@@ -189,4 +189,52 @@ fn sets_of_nodes() -> Outcome {
         check_row(shares(row), number)?;
     }
     have_just()
+}
+
+/// Two ballots, and whether they cross.
+type Pair = (Weights, Weights, bool);
+
+// Those that don't cross are refused with their places, 1 and 2.
+const PAIRS: [Pair; 3] = [
+    ((&[1, 1, 1], 2, 2), (&[1, 1, 1], 1, 3), false),
+    ((&[2, 1, 1], 2, 3), (&[1, 1, 1], 2, 2), false),
+    ((&[2, 1, 1], 2, 3), (&[1, 1, 1], 2, 3), true),
+];
+
+/// The list of two ballots, if each is one.
+fn list_of(one: Weights, other: Weights) -> Option<Result<BallotList, BallotFault>> {
+    let one = Ballot::of(one.0, one.1, one.2).ok()?;
+    let other = Ballot::of(other.0, other.1, other.2).ok()?;
+    Some(BallotList::of(&[one, other]))
+}
+
+fn is_told(pair: &Pair) -> bool {
+    match list_of(pair.0, pair.1) {
+        Some(Ok(list)) => pair.2 && list.count() == 2,
+        Some(Err(BallotFault::BallotsMiss(1, 2))) => !pair.2,
+        _ => false,
+    }
+}
+
+/// Whether who writes by the first ballot and who reads by the second share node 2, where both ballots have
+/// votes.
+fn list_shares() -> bool {
+    let Some(Ok(list)) = list_of(PAIRS[2].0, PAIRS[2].1) else {
+        return false;
+    };
+    let (Some(first), Some(second)) = (list.ballot(1), list.ballot(2)) else {
+        return false;
+    };
+    let (writers, readers) = (set_of(&[1, 2]), set_of(&[2, 3]));
+    first.enough(Mode::Write, writers)
+        && second.enough(Mode::Read, readers)
+        && list.shared_node(1, 2, writers, readers, Mode::Read).get() == 2
+}
+
+#[test]
+fn ballots_that_cross() -> Outcome {
+    for (number, pair) in PAIRS.iter().enumerate() {
+        check_row(is_told(pair), number)?;
+    }
+    check_row(list_shares(), PAIRS.len())
 }
