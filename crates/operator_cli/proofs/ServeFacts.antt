@@ -1,5 +1,6 @@
 -- From the settings to the whole output.
 use Rattle.std.proofs.Common.{◌≡◌, ◌⊎◌, inl, inr, ℕ, ◌<◌, ◌≤◌, nat_le, Bool, true, false, cond, Vec, List, [], ◌++◌, Option, Some, None, Result, Ok, Err, refl, sym, ap, subst, ◌∙◌, append_assoc}
+use Rattle.std.specs.Prelude.{IfErr}
 use Rattle.std.specs.Global.{Global}
 use Rattle.std.specs.Io.KnownBytes.{Appends}
 use Rattle.std.proofs.lemmas.Bool.{leb-true, leb-false}
@@ -26,7 +27,7 @@ use Rattle.operator_cli.specs.Settings.{Given, given, settings_of, Refuses}
 use Rattle.history_check.specs.declared.faults.LineFault.{LineFault}
 use Rattle.lossy_link.specs.declared.faults.WeatherFault.{WeatherFault}
 use Rattle.line_streams.specs.Streams.{pieces, lines_in, AppendsBeginning, Grows, LetsOut, with_gathered}
-use Rattle.operator_cli.specs.Outputs.{Output, output_of, opened, start_of, with_lines, head_of, lines_output, settings_output, command_output, verdict_output, verdict_status, refusal_output, refused_ballot_output, refused_output, KeepsLimit, IsLimited, IsLimitedIn, Writes, Serves}
+use Rattle.operator_cli.specs.Outputs.{Output, output_of, opened, start_of, with_lines, head_of, lines_output, settings_output, command_output, verdict_output, verdict_status, refusal_output, refused_ballot_output, refused_output, KeepsLimit, IsLimited, IsLimitedIn, IsCommonFault, MayEndBy, Writes, Serves}
 use Rattle.operator_cli.specs.Texts.{ballots_text}
 use Rattle.operator_cli.specs.PartOutputs.{FindsHead, Starts, RefusesStart, WritesLines, WritesBehind, WritesVerdict, Finishes}
 use Rattle.operator_cli.proofs.ScriptFacts.{appends_nothing}
@@ -80,34 +81,43 @@ refused c (Some xs) (Some ys) head text e h same r =
 nothing_yet : (o : Output) (old new : Option (List ℕ)) → new ≡ old → AppendsBeginning old new o.text
 nothing_yet o old new e = ([], o.text, refl, subst (λ (n : Option (List ℕ)). Appends old n []) (sym e) (appends_nothing old))
 
--- the faults that are not an audit's own
-abbrev pub IsOwnFault : ServeFault → Type 0
-IsOwnFault fault.Read = Unit {0}
-IsOwnFault fault.Write = Unit {0}
-IsOwnFault fault.Memory = Unit {0}
-IsOwnFault (fault.Audit f) = ⊥
+-- an audit may end by each fault
+pub any_fault : (r : Result ℕ ServeFault) → IfErr r (MayEndBy command.Audit)
+any_fault (Ok status) = tt
+any_fault (Err f) = tt
 
-nothing_limited : (v : Verdict) (f : ServeFault) → IsOwnFault f → KeepsLimit v (Err f)
+-- each command may end by a common fault
+pub common_fault : (c : Command) (f : ServeFault) → IsCommonFault f → MayEndBy c f
+common_fault command.Script f common = common
+common_fault command.Audit f common = tt
+common_fault command.Ballot f common = common
+common_fault (command.Run journal) f common = common
+
+pub common_faults : (c : Command) (r : Result ℕ ServeFault) → IfErr r IsCommonFault → IfErr r (MayEndBy c)
+common_faults c (Ok status) common = tt
+common_faults c (Err f) common = common_fault c f common
+
+nothing_limited : (v : Verdict) (f : ServeFault) → IsCommonFault f → KeepsLimit v (Err f)
 nothing_limited v fault.Read h = tt
 nothing_limited v fault.Write h = tt
 nothing_limited v fault.Memory h = tt
 nothing_limited v (fault.Audit f) h = absurd h
 
-no_limit : (c : Command) (s : Settings) (lines : List (List ℕ)) (f : ServeFault) → IsOwnFault f → IsLimited c s lines (Err f)
+no_limit : (c : Command) (s : Settings) (lines : List (List ℕ)) (f : ServeFault) → IsCommonFault f → IsLimited c s lines (Err f)
 no_limit command.Script s lines f h = tt
 no_limit command.Audit s lines f h = nothing_limited (verdict_of (all_down s) lines) f h
 no_limit command.Ballot s lines f h = tt
 no_limit (command.Run journal) s lines f h = tt
 
-no_limit_in : (c : Command) (o : Result (Given × List (List ℕ)) SettingsFault) (f : ServeFault) → IsOwnFault f → IsLimitedIn c o (Err f)
+no_limit_in : (c : Command) (o : Result (Given × List (List ℕ)) SettingsFault) (f : ServeFault) → IsCommonFault f → IsLimitedIn c o (Err f)
 no_limit_in c (Err e) f h = tt
 no_limit_in c (Ok parts) f h = no_limit c parts.0.settings parts.1 f h
 
-pub nothing_behind : (c : Command) (s : Settings) (left old new : Option (List ℕ)) (f : ServeFault) → IsOwnFault f → new ≡ old → WritesBehind c s left old new (Err f)
+pub nothing_behind : (c : Command) (s : Settings) (left old new : Option (List ℕ)) (f : ServeFault) → IsCommonFault f → new ≡ old → WritesBehind c s left old new (Err f)
 nothing_behind c s None old new f h e = tt
 nothing_behind c s (Some xs) old new f h e = (nothing_yet (settings_output c s (lines_in (pieces xs))) old new e, no_limit c s (lines_in (pieces xs)) f h)
 
-pub serves_nothing : (c : Command) (input old new : Option (List ℕ)) (f : ServeFault) → IsOwnFault f → new ≡ old → Serves c input old new (Err f)
+pub serves_nothing : (c : Command) (input old new : Option (List ℕ)) (f : ServeFault) → IsCommonFault f → new ≡ old → Serves c input old new (Err f)
 serves_nothing c None old new f h e = tt
 serves_nothing c (Some xs) old new f h e = inl (nothing_yet (output_of c xs) old new e, no_limit_in c (opened c xs) f h)
 

@@ -171,6 +171,20 @@ abbrev pub Writes : Output → Option (List ℕ) → Option (List ℕ) → Resul
 Writes o old new (Ok status) = Appends old new o.text × (status ≡ o.status)
 Writes o old new (Err e) = AppendsBeginning old new o.text
 
+-- the faults by which each command may end
+abbrev pub IsCommonFault : ServeFault → Type 0
+IsCommonFault serving.Read = Unit {0}
+IsCommonFault serving.Write = Unit {0}
+IsCommonFault serving.Memory = Unit {0}
+IsCommonFault (serving.Audit f) = ⊥
+
+-- the faults by which a command may end: those of an audit only where a journal is judged
+abbrev pub MayEndBy : Command → ServeFault → Type 0
+MayEndBy command.Script f = IsCommonFault f
+MayEndBy command.Audit f = Unit {0}
+MayEndBy command.Ballot f = IsCommonFault f
+MayEndBy (command.Run journal) f = IsCommonFault f
+
 -- the commands that `serve` takes: all but the run of all parts
 abbrev pub IsServed : Command → Type 0
 IsServed command.Script = Unit {0}

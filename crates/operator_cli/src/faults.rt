@@ -13,7 +13,7 @@ use vote_weights::BallotFault;
 #[derive(Clone, Copy, Debug, PartialEq, Eq, Error)]
 pub enum SettingsFault {
     /// 924: no line that is exactly `---` begins within the first 65,536 bytes.
-    #[error("the settings don't end with a line `---`")]
+    #[error("no line `---` begins within the first 65,536 bytes")]
     NoEnd,
     /// 921: they aren't a TOML document.
     #[error("the settings aren't a TOML document")]
@@ -24,13 +24,13 @@ pub enum SettingsFault {
     /// 922: a key that is needed is missing, or a value is of the wrong kind or out of range.
     #[error("a value of the settings is missing or wrong")]
     Value,
-    /// 201 to 205: the votes make no ballot.
+    /// 201 to 208: the votes make no ballot, or the ballots no list.
     #[error("the votes make no ballot: {0}")]
     Ballot(BallotFault),
     /// 901: of a thousand parcels more than a thousand would be lost, go twice or be late.
     #[error("the settings make no weather: {0}")]
     Weather(WeatherFault),
-    /// 801, 802, 804 or 805: what is wrong with the first wish that is none.
+    /// 801 to 805: what is wrong with the first wish that is none.
     #[error("a wish of the settings is none: {0}")]
     Wish(LineFault),
     /// 925: memory was refused.
@@ -39,7 +39,7 @@ pub enum SettingsFault {
 }
 
 impl SettingsFault {
-    /// The number by which programs print the fault: 921 to 925, or that of the ballot (201 to 205), of
+    /// The number by which programs print the fault: 921 to 925, or that of the ballots (201 to 208), of
     /// the weather (901) or of the wish.
     pub fn number(self) -> u16
         ensures { result ≡ settings_fault_number self }

@@ -1,11 +1,11 @@
 // The lines of a script, one after another.
 
-ghost use Rattle.std.specs.Prelude.{◌≡◌, ◌||◌, IfOk};
+ghost use Rattle.std.specs.Prelude.{◌≡◌, ◌||◌, IfOk, IfErr};
 ghost use Rattle.std.specs.Io.KnownBytes.{Keeps};
 ghost use Rattle.line_streams.specs.Streams.{ReadsPiece, Grows, with_gathered, Puts};
 ghost use Rattle.history_check.specs.Faults.{line_fault_number};
 ghost use Rattle.history_check.specs.declared.words.TheConstants.{MAX_LINE_LEN};
-ghost use Rattle.operator_cli.specs.Outputs.{Writes, told};
+ghost use Rattle.operator_cli.specs.Outputs.{Writes, IsCommonFault, told};
 ghost use Rattle.operator_cli.specs.PartOutputs.{WritesAnswer, WritesLines, status_of};
 ghost use Rattle.operator_cli.specs.Texts.{line_fault_text};
 
@@ -37,6 +37,7 @@ fn either(a: bool, b: bool) -> bool
 fn put<W: Write>(out: &mut Gathered, writer: &mut W, text: &[u8]) -> Result<(), ServeFault>
     ensures text { Puts (with_gathered (W.contents writer.old) out.old) (with_gathered (W.contents writer.new) out.new) text.now result }
     ensures grows { Grows (W.contents writer.old) (W.contents writer.new) }
+    ensures common { IfErr result IsCommonFault }
 {
     match out.put(writer, text) {
         Ok(()) => Ok(()),
@@ -55,6 +56,7 @@ fn tell<W: Write>(
 ) -> Result<bool, ServeFault>
     ensures told { WritesAnswer (told world.old line.now) (with_gathered (W.contents writer.old) out.old) (with_gathered (W.contents writer.new) out.new) result world.new }
     ensures grows { Grows (W.contents writer.old) (W.contents writer.new) }
+    ensures common { IfErr result IsCommonFault }
 {
     text.clear();
     let refused = answer_line(alloc, world, line, text)?;
@@ -72,6 +74,7 @@ fn tell_fault<W: Write>(
 ) -> Result<u8, ServeFault>
     ensures told { Writes (record { text = line_fault_text number (line_fault_number fault); status = 1 }) (with_gathered (W.contents writer.old) out.old) (with_gathered (W.contents writer.new) out.new) result }
     ensures grows { Grows (W.contents writer.old) (W.contents writer.new) }
+    ensures common { IfErr result IsCommonFault }
 {
     text.clear();
     if push_line_fault(text, number, fault.number()).is_err() {
@@ -90,6 +93,7 @@ fn let_out_before_reading<R: Read, W: Write>(
 ) -> Result<(), ServeFault>
     ensures kept { Keeps (with_gathered (W.contents writer.old) out.old) (with_gathered (W.contents writer.new) out.new) }
     ensures grows { Grows (W.contents writer.old) (W.contents writer.new) }
+    ensures common { IfErr result IsCommonFault }
 {
     if source.has_line() {
         return Ok(());
@@ -102,7 +106,8 @@ fn let_out_before_reading<R: Read, W: Write>(
 
 /// Reads a line.
 fn read_piece<R: Read>(source: &mut LineReader<R>, piece: &mut Vec<u8>) -> Result<End, ServeFault>
-    ensures { IfOk result (λ end. ReadsPiece MAX_LINE_LEN source.old source.new piece.new.items end) }
+    ensures line { IfOk result (λ end. ReadsPiece MAX_LINE_LEN source.old source.new piece.new.items end) }
+    ensures common { IfErr result IsCommonFault }
 {
     match source.read_line(piece, MAX_LINE_LEN) {
         Ok(end) => Ok(end),
@@ -121,6 +126,7 @@ fn next_line<R: Read, W: Write>(
     ensures line { IfOk result (λ end. ReadsPiece MAX_LINE_LEN source.old source.new piece.new.items end) }
     ensures kept { Keeps (with_gathered (W.contents writer.old) out.old) (with_gathered (W.contents writer.new) out.new) }
     ensures grows { Grows (W.contents writer.old) (W.contents writer.new) }
+    ensures common { IfErr result IsCommonFault }
 {
     match let_out_before_reading(source, out, writer) {
         Ok(()) => read_piece(source, piece),
@@ -138,6 +144,7 @@ pub fn tell_lines<R: Read, W: Write>(
 ) -> Result<u8, ServeFault>
     ensures told { WritesLines world.old source.old (with_gathered (W.contents writer.old) out.old) (with_gathered (W.contents writer.new) out.new) result }
     ensures grows { Grows (W.contents writer.old) (W.contents writer.new) }
+    ensures common { IfErr result IsCommonFault }
 {
     let mut piece = Vec::new(alloc);
     let mut text = String::new(alloc);

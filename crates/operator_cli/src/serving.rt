@@ -1,13 +1,13 @@
 // A whole run of the program, from the bytes that come in to the bytes that go out.
 
-ghost use Rattle.std.specs.Prelude.{◌≡◌, ◌≤◌, length, IfOk};
+ghost use Rattle.std.specs.Prelude.{◌≡◌, ◌≤◌, length, IfOk, IfErr};
 ghost use Rattle.lock_messages.specs.declared.ids.TheConstants.{MAX_NODES, MAX_CLIENTS};
 ghost use Rattle.vote_weights.specs.Faults.{fault_number};
 ghost use Rattle.history_check.specs.Faults.{line_fault_number};
 ghost use Rattle.lossy_link.specs.Faults.{weather_fault_number};
 ghost use Rattle.operator_cli.specs.Faults.{settings_fault_number};
 ghost use Rattle.operator_cli.specs.Openings.{all_down};
-ghost use Rattle.operator_cli.specs.Outputs.{IsServed, Serves, Writes, refusal_output, refused_ballot_output, refused_output, verdict_status};
+ghost use Rattle.operator_cli.specs.Outputs.{IsServed, IsCommonFault, MayEndBy, Serves, Writes, refusal_output, refused_ballot_output, refused_output, verdict_status};
 ghost use Rattle.operator_cli.specs.PartOutputs.{WritesLines, Finishes, RefusesStart, WritesBehind, WritesVerdict};
 ghost use Rattle.operator_cli.specs.Texts.{settings_fault_text, refused_text, ballots_text};
 ghost use Rattle.operator_cli.specs.declared.faults.SettingsFault.TheVariants as settings;
@@ -84,7 +84,8 @@ fn settings_text(fault: SettingsFault) -> &'static str
 
 /// Prints a text, and answers the status that goes with it.
 fn print<W: Write>(text: &[u8], status: u8, writer: &mut W) -> Result<u8, ServeFault>
-    ensures { Writes (record { text = text.now; status = status }) (W.contents writer.old) (W.contents writer.new) result }
+    ensures told { Writes (record { text = text.now; status = status }) (W.contents writer.old) (W.contents writer.new) result }
+    ensures common { IfErr result IsCommonFault }
 {
     match write_text(writer, text) {
         Ok(()) => Ok(status),
@@ -94,7 +95,8 @@ fn print<W: Write>(text: &[u8], status: u8, writer: &mut W) -> Result<u8, ServeF
 
 /// Prints that settings are refused.
 fn refuse_settings<W: Write>(fault: SettingsFault, writer: &mut W) -> Result<u8, ServeFault>
-    ensures { Writes (refusal_output fault) (W.contents writer.old) (W.contents writer.new) result }
+    ensures told { Writes (refusal_output fault) (W.contents writer.old) (W.contents writer.new) result }
+    ensures common { IfErr result IsCommonFault }
 {
     print(settings_text(fault).as_bytes(), 2, writer)
 }
@@ -117,14 +119,16 @@ fn refused_ballot_text(fault: BallotFault) -> &'static str
 
 /// Prints that the ballot which is asked for is none.
 fn refuse_ballot<W: Write>(fault: BallotFault, writer: &mut W) -> Result<u8, ServeFault>
-    ensures { Writes (refused_ballot_output (settings.Ballot fault)) (W.contents writer.old) (W.contents writer.new) result }
+    ensures told { Writes (refused_ballot_output (settings.Ballot fault)) (W.contents writer.old) (W.contents writer.new) result }
+    ensures common { IfErr result IsCommonFault }
 {
     print(refused_ballot_text(fault).as_bytes(), 1, writer)
 }
 
 /// Prints that settings are refused where the ballot is asked for.
 fn refuse_asked<W: Write>(fault: SettingsFault, writer: &mut W) -> Result<u8, ServeFault>
-    ensures { Writes (refused_ballot_output fault) (W.contents writer.old) (W.contents writer.new) result }
+    ensures told { Writes (refused_ballot_output fault) (W.contents writer.old) (W.contents writer.new) result }
+    ensures common { IfErr result IsCommonFault }
 {
     match fault {
         SettingsFault::Ballot(fault) => refuse_ballot(fault, writer),
@@ -144,7 +148,8 @@ fn refuse_for<W: Write>(
     fault: SettingsFault,
     writer: &mut W,
 ) -> Result<u8, ServeFault>
-    ensures { Writes (refused_output command fault) (W.contents writer.old) (W.contents writer.new) result }
+    ensures told { Writes (refused_output command fault) (W.contents writer.old) (W.contents writer.new) result }
+    ensures common { IfErr result IsCommonFault }
 {
     match command {
         Command::Script => refuse_settings(fault, writer),
@@ -162,7 +167,8 @@ pub fn refuse_start<W: Write>(
     fault: StartFault,
     writer: &mut W,
 ) -> Result<u8, ServeFault>
-    ensures { RefusesStart command fault (W.contents writer.old) (W.contents writer.new) result }
+    ensures told { RefusesStart command fault (W.contents writer.old) (W.contents writer.new) result }
+    ensures faults { IfErr result IsCommonFault }
 {
     match fault {
         StartFault::Read => Err(ServeFault::Read),
@@ -177,7 +183,8 @@ fn finish<W: Write>(
     out: &mut Gathered,
     writer: &mut W,
 ) -> Result<u8, ServeFault>
-    ensures { Finishes (W.contents writer.old) (W.contents writer.new) out.old came result }
+    ensures told { Finishes (W.contents writer.old) (W.contents writer.new) out.old came result }
+    ensures common { IfErr came IsCommonFault → IfErr result IsCommonFault }
 {
     if let Err(ServeFault::Write) = came {
         return Err(ServeFault::Write);
@@ -198,7 +205,8 @@ fn serve_lines<R: Read, W: Write>(
     source: &mut LineReader<R>,
     writer: &mut W,
 ) -> Result<u8, ServeFault>
-    ensures { WritesLines world.old source.old (W.contents writer.old) (W.contents writer.new) result }
+    ensures told { WritesLines world.old source.old (W.contents writer.old) (W.contents writer.new) result }
+    ensures common { IfErr result IsCommonFault }
 {
     let mut out = Gathered::new();
     let came = tell_lines(alloc, world, source, &mut out, writer);
@@ -218,7 +226,8 @@ pub fn world_down(
     requires some_client { 1 ≤ settings.now.clients }
     requires few_clients { settings.now.clients ≤ MAX_CLIENTS }
     requires policies { length policies.pairs.items ≡ MAX_NODES }
-    ensures { IfOk result (λ w. w ≡ all_down settings.now) }
+    ensures world { IfOk result (λ w. w ≡ all_down settings.now) }
+    ensures memory { IfErr result (λ f. f ≡ ServeFault.Memory) }
 {
     let pairs = chosen(policies, settings.ballots.nodes());
     match World::start(
@@ -244,7 +253,8 @@ fn serve_script<R: Read, W: Write>(
     requires some_client { 1 ≤ settings.now.clients }
     requires few_clients { settings.now.clients ≤ MAX_CLIENTS }
     requires policies { length policies.pairs.items ≡ MAX_NODES }
-    ensures { WritesBehind command.Script settings.now source.old (W.contents writer.old) (W.contents writer.new) result }
+    ensures told { WritesBehind command.Script settings.now source.old (W.contents writer.old) (W.contents writer.new) result }
+    ensures common { IfErr result IsCommonFault }
 {
     let Ok(mut world) = world_down(alloc, settings, policies) else {
         return Err(ServeFault::Memory);
@@ -306,7 +316,8 @@ fn serve_ballots<W: Write>(
     ballots: &BallotList,
     writer: &mut W,
 ) -> Result<u8, ServeFault>
-    ensures { Writes (record { text = ballots_text ballots.now; status = 0 }) (W.contents writer.old) (W.contents writer.new) result }
+    ensures told { Writes (record { text = ballots_text ballots.now; status = 0 }) (W.contents writer.old) (W.contents writer.new) result }
+    ensures common { IfErr result IsCommonFault }
 {
     let mut text = String::new(alloc);
     if push_ballots(&mut text, ballots).is_err() {
@@ -316,6 +327,7 @@ fn serve_ballots<W: Write>(
 }
 
 /// Does what the order says with the lines that are left behind the settings.
+#[tactic(auto, using(crate::proofs::ServeFacts::any_fault))]
 fn serve_behind<R: Read, W: Write>(
     alloc: Global,
     order: Order,
@@ -327,7 +339,8 @@ fn serve_behind<R: Read, W: Write>(
     requires few_clients { settings.now.clients ≤ MAX_CLIENTS }
     requires policies { length order.policies.pairs.items ≡ MAX_NODES }
     requires served { IsServed order.command }
-    ensures { WritesBehind order.command settings.now source.old (W.contents writer.old) (W.contents writer.new) result }
+    ensures told { WritesBehind order.command settings.now source.old (W.contents writer.old) (W.contents writer.new) result }
+    ensures faults { IfErr result (MayEndBy order.command) }
 {
     let Order { command, policies } = order;
     match command {
@@ -370,9 +383,9 @@ fn serve_behind<R: Read, W: Write>(
 ///
 /// `Read` (931) where the reader fails or 600,000,000 reads were made, `Write` (932) where the writer
 /// fails or takes nothing, `Memory` (933) where memory was refused. Once the world of a journal stands,
-/// the faults are those of the audit, `Audit` (816 to 819); 819 comes just where the verdict would speak
-/// of a line behind the greatest number. A read or a write that a signal interrupts is made again.
-/// After a fault a beginning of the output was written.
+/// the faults are those of the audit, `Audit` (816 to 819), and no other command ends by one of these; 819
+/// comes just where the verdict would speak of a line behind the greatest number. A read or a write that a
+/// signal interrupts is made again. After a fault a beginning of the output was written.
 pub fn serve<R: Read, W: Write>(
     alloc: Global,
     order: Order,
@@ -384,6 +397,7 @@ where
     requires policies { length order.policies.pairs.items ≡ MAX_NODES }
     requires served { IsServed order.command }
     ensures output { Serves order.command (R.remaining reader) (W.contents writer.old) (W.contents writer.new) result }
+    ensures faults { IfErr result (MayEndBy order.command) }
 {
     let mut source = LineReader::new(reader, MAX_READS);
     let start = match read_start(alloc, order.command, &mut source) {

@@ -8,6 +8,7 @@ ghost use Rattle.journal_text.specs.Journals.{IsRecorded};
 ghost use Rattle.line_streams.specs.Streams.{Puts};
 ghost use Rattle.history_check.specs.declared.wishes.Wish.{Wish as WishValue};
 ghost use Rattle.operator_cli.specs.Openings.{all_down};
+ghost use Rattle.operator_cli.specs.Outputs.{IsCommonFault};
 ghost use Rattle.operator_cli.specs.Settings.{AreAmong};
 ghost use Rattle.run_service.specs.Empty.{empty_node, empty_client};
 ghost use Rattle.run_service.specs.Ends.{IsEndOf, end_text, end_status, journal_behind};
@@ -36,7 +37,8 @@ use std::thread::Threads;
 
 /// Writes a text.
 fn put<W: Write>(text: &[u8], writer: &mut W) -> Result<(), ServeFault>
-    ensures { Puts (W.contents writer.old) (W.contents writer.new) text.now result }
+    ensures text { Puts (W.contents writer.old) (W.contents writer.new) text.now result }
+    ensures common { IfErr result IsCommonFault }
 {
     match write_text(writer, text) {
         Ok(()) => Ok(()),
@@ -47,7 +49,8 @@ fn put<W: Write>(text: &[u8], writer: &mut W) -> Result<(), ServeFault>
 /// Tells what a run came to.
 fn tell_end<W: Write>(alloc: Global, end: &RunEnd, writer: &mut W) -> Result<(), ServeFault>
     requires { end.now.entered ≡ enters end.now.book.history }
-    ensures { Puts (W.contents writer.old) (W.contents writer.new) (end_text end.now.book.history end.now.faults.items) result }
+    ensures text { Puts (W.contents writer.old) (W.contents writer.new) (end_text end.now.book.history end.now.faults.items) result }
+    ensures common { IfErr result IsCommonFault }
 {
     let mut text = String::new(alloc);
     if push_end(&mut text, end).is_err() {
@@ -59,7 +62,8 @@ fn tell_end<W: Write>(alloc: Global, end: &RunEnd, writer: &mut W) -> Result<(),
 /// Writes the settings and the line that ends them.
 #[tactic(auto, using(crate::proofs::WriteFacts::puts_both, crate::proofs::WriteFacts::first_begun))]
 fn put_head<W: Write>(head: &[u8], writer: &mut W) -> Result<(), ServeFault>
-    ensures { Puts (W.contents writer.old) (W.contents writer.new) (head.now ++ codes "---\n") result }
+    ensures text { Puts (W.contents writer.old) (W.contents writer.new) (head.now ++ codes "---\n") result }
+    ensures common { IfErr result IsCommonFault }
 {
     match put(head, writer) {
         Ok(()) => put(b"---\n", writer),
@@ -77,6 +81,7 @@ fn put_journal<W: Write>(
 ) -> Result<(), ServeFault>
     ensures text { Puts (W.contents writer.old) (W.contents writer.new) (journal_behind head.now end.now.book.history) result }
     ensures recorded { OnOk result (IsRecorded end.now.book.opening end.now.book.history end.now.book.world) }
+    ensures common { IfErr result IsCommonFault }
 {
     match put_head(head, writer) {
         Ok(()) => {}
@@ -100,7 +105,8 @@ fn tell<W: Write>(
 ) -> Result<u8, ServeFault>
     requires entered { end.now.entered ≡ enters end.now.book.history }
     requires opening { end.now.book.opening ≡ all_down settings.now }
-    ensures { (wishes : List WishValue) → IsEndOf settings.now wishes (record { history = end.now.book.history; world = end.now.book.world; faults = end.now.faults.items }) → TellsEnd journal head.now settings.now wishes (W.contents writer.old) (W.contents writer.new) result }
+    ensures told { (wishes : List WishValue) → IsEndOf settings.now wishes (record { history = end.now.book.history; world = end.now.book.world; faults = end.now.faults.items }) → TellsEnd journal head.now settings.now wishes (W.contents writer.old) (W.contents writer.new) result }
+    ensures common { IfErr result IsCommonFault }
 {
     let told = if journal {
         put_journal(alloc, head, end, writer)
@@ -192,7 +198,8 @@ fn run_head<T: Threads + Wait + Copy + Send, W: Write>(
     requires records_first { map (λ r. finds r) supplies.records.first.items ≡ replicate MAX_NODES (empty_node First) }
     requires records_second { map (λ r. finds r) supplies.records.second.items ≡ replicate MAX_NODES (empty_node Second) }
     requires records_clients { map (λ r. finds r) supplies.records.clients.items ≡ replicate MAX_CLIENTS empty_client }
-    ensures { RunsHead journal head.now (W.contents writer.old) (W.contents writer.new) result }
+    ensures told { RunsHead journal head.now (W.contents writer.old) (W.contents writer.new) result }
+    ensures common { IfErr result IsCommonFault }
 {
     let command = Command::Run { journal };
     let start = match read_settings(alloc, command, head) {
@@ -263,6 +270,7 @@ where
     requires records_second { map (λ r. finds r) supplies.records.second.items ≡ replicate MAX_NODES (empty_node Second) }
     requires records_clients { map (λ r. finds r) supplies.records.clients.items ≡ replicate MAX_CLIENTS empty_client }
     ensures output { ServesRun order.command (R.remaining reader) (W.contents writer.old) (W.contents writer.new) result }
+    ensures faults { IfErr result IsCommonFault }
 {
     let Order {
         command,

@@ -94,7 +94,7 @@ const SETTINGS: [(SettingsFault, &str); 8] = [
     ),
     (
         SettingsFault::NoEnd,
-        "924 the settings don't end with a line `---`",
+        "924 no line `---` begins within the first 65,536 bytes",
     ),
     (
         SettingsFault::Memory,

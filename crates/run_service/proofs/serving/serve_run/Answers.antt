@@ -12,7 +12,8 @@ returns-in-Err g c =
     let h = subst (λ (s : Option (List ℕ)). FindsHead s c.read_head.new.source (Err c.in-Err.fault)) c.new-source.ensures c.in-Err.ensures in
     record {
       output = subst (λ (d : Command). ServesRun d input (out c.args.writer.now) (out c.refuse_start.new.writer) c.refuse_start.result) (sym c.in-Run.is)
-          (not_started c.in-Run.journal input c.read_head.new.source (out c.args.writer.now) (out c.refuse_start.new.writer) c.in-Err.fault c.refuse_start.result h c.refuse_start.ensures);
+          (not_started c.in-Run.journal input c.read_head.new.source (out c.args.writer.now) (out c.refuse_start.new.writer) c.in-Err.fault c.refuse_start.result h c.refuse_start.ensures.told);
+      faults = c.refuse_start.ensures.faults;
     }
 
 pub returns : goal.returns
@@ -23,5 +24,6 @@ returns g c =
     record {
       output = subst (λ (d : Command). ServesRun d input (out c.args.writer.now) (out c.run_head.new.writer) c.run_head.result) (sym c.in-Run.is)
           (serves c.in-Run.journal input c.read_head.new.source (out c.args.writer.now) (out c.run_head.new.writer) c.in-Ok.head c.as_slice.result.now c.run_head.result
-          c.journals_are_sound.ensures.sound c.verdicts_are_exact.ensures h c.as_slice.ensures.value c.run_head.ensures);
+          c.journals_are_sound.ensures.sound c.verdicts_are_exact.ensures h c.as_slice.ensures.value c.run_head.ensures.told);
+      faults = c.run_head.ensures.common;
     }
