@@ -4,7 +4,7 @@ use crate::hearing::{says, says_of_lines};
 use operator_cli::Command;
 use test_outcomes::Outcome;
 
-const ROWS: [(&str, &str); 9] = [
+const ROWS: [(&str, &str); 13] = [
     (
         "",
         "sound 0: all lines are events that can follow each other\n",
@@ -31,15 +31,31 @@ const ROWS: [(&str, &str); 9] = [
     ),
     (
         "rise n1 old\ninside a\n",
-        "unsound 2 fault 801: no event or query has this word: \"inside a\" (line 8 of the input)\nhint: the line is a query, which `rwvote script` answers; a journal has events alone\n",
+        "unsound 2 fault 801: no event has this word: \"inside a\" (line 8 of the input)\nhint: the line begins as a query does; `rwvote script` answers queries, and a journal has events alone\n",
+    ),
+    (
+        "rise n1 old\ninside\n",
+        "unsound 2 fault 801: no event has this word: \"inside\" (line 8 of the input)\nhint: the line begins as a query does; `rwvote script` answers queries, and a journal has events alone\n",
+    ),
+    (
+        "rise n1 old\ninside A\n",
+        "unsound 2 fault 801: no event has this word: \"inside A\" (line 8 of the input)\nhint: the line begins as a query does; `rwvote script` answers queries, and a journal has events alone\n",
+    ),
+    (
+        "rise n1 old\nwaiting n0 a\n",
+        "unsound 2 fault 801: no event has this word: \"waiting n0 a\" (line 8 of the input)\nhint: the line begins as a query does; `rwvote script` answers queries, and a journal has events alone\n",
+    ),
+    (
+        "rise n1 old\nholding n1 a b\n",
+        "unsound 2 fault 801: no event has this word: \"holding n1 a b\" (line 8 of the input)\nhint: the line begins as a query does; `rwvote script` answers queries, and a journal has events alone\n",
     ),
     (
         "rise n1 old\n\n",
-        "unsound 2 fault 801: no event or query has this word: \"\" (line 8 of the input)\nhint: the line is blank; behind `---` each line is an event or a query\n",
+        "unsound 2 fault 801: no event has this word: \"\" (line 8 of the input)\nhint: the line is blank; behind `---` each line is an event\n",
     ),
     (
         "rise n1 old\nrise n2 now\nfoo\n",
-        "unsound 2 fault 801: no event or query has this word: \"rise n2 now\" (line 8 of the input)\n",
+        "unsound 2 fault 801: no event has this word: \"rise n2 now\" (line 8 of the input)\n",
     ),
 ];
 

@@ -215,19 +215,19 @@ fn asked_ballots(rt: HostRuntime) -> Outcome {
 const NO_END: [(&str, &str); 4] = [
     (
         "",
-        "settings fault 924: the settings don't end with a line `---`\n",
+        "settings fault 924: no line `---` begins within the first 65,536 bytes\n",
     ),
     (
         "votes = [1]\n--- \n",
-        "settings fault 924: the settings don't end with a line `---`\n",
+        "settings fault 924: no line `---` begins within the first 65,536 bytes\n",
     ),
     (
         "votes = [1]\r\n---\r\nbegin c1 read a\r\n",
-        "settings fault 924: the settings don't end with a line `---`\nhint: line 2 of the input is `---` with a carriage return; lines end with a line feed alone\n",
+        "settings fault 924: no line `---` begins within the first 65,536 bytes\nhint: line 2 of the input is `---` with a carriage return; lines end with a line feed alone\n",
     ),
     (
         "votes = [1]\n---\r",
-        "settings fault 924: the settings don't end with a line `---`\nhint: line 2 of the input is `---` with a carriage return; lines end with a line feed alone\n",
+        "settings fault 924: no line `---` begins within the first 65,536 bytes\nhint: line 2 of the input is `---` with a carriage return; lines end with a line feed alone\n",
     ),
 ];
 

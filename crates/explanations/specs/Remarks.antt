@@ -1,15 +1,16 @@
 -- What there is to say of a line: of which kind, by which number, and of which event or query.
-use Rattle.std.specs.Prelude.{Bool, true, false, List, Option, Some, None, Result, Ok, Err}
+use Rattle.std.specs.Prelude.{ℕ, Bool, true, false, List, Option, Some, None, Result, Ok, Err}
 use Rattle.lock_messages.specs.declared.tickets.Ticket.{Ticket}
 use Rattle.world_model.specs.declared.events.Event.{Event}
 use Rattle.world_model.specs.declared.events.StepFault.TheVariants as refusal
 use Rattle.world_model.specs.declared.exact.ExactWorld.{ExactWorld}
 use Rattle.world_model.specs.ExactWorlds.{Steps, step}
 use Rattle.history_check.specs.declared.faults.LineFault.{LineFault}
-use Rattle.history_check.specs.declared.faults.LineFault.TheVariants as fault
 use Rattle.history_check.specs.declared.lines.Line.{Line}
 use Rattle.history_check.specs.declared.lines.Line.TheVariants as line
 use Rattle.history_check.specs.declared.lines.Query.{Query}
+use Rattle.history_check.specs.Events.{event_of}
+use Rattle.operator_cli.specs.Lines.{line_of}
 use Rattle.operator_cli.specs.Outputs.{found, told}
 use Rattle.explanations.specs.declared.remarks.Kind.{Kind}
 use Rattle.explanations.specs.declared.remarks.Kind.TheVariants.{Script, Journal}
@@ -26,18 +27,16 @@ abbrev pub query_remark : Query → Option (List Ticket) → Remark
 query_remark q (Some tickets) = remark.Nothing
 query_remark q None = remark.Refused (line.Query q) refusal.UnknownActor
 
--- what a line says, by what it says in a script: in a journal a query is none
-abbrev pub event_alone : Line → Result Line LineFault
-event_alone (line.Event e) = Ok (line.Event e)
-event_alone (line.Query q) = Err fault.Word
+-- an event as a line, or what is wrong
+abbrev pub as_line : Result Event LineFault → Result Line LineFault
+as_line (Ok e) = Ok (line.Event e)
+as_line (Err f) = Err f
 
-abbrev pub events_alone : Result Line LineFault → Result Line LineFault
-events_alone (Ok l) = event_alone l
-events_alone (Err f) = Err f
-
-abbrev pub line_in : Kind → Result Line LineFault → Result Line LineFault
-line_in Script said = said
-line_in Journal said = events_alone said
+-- What a line says: of a script an event or a query, of a journal an event alone, so that the words of queries are none
+-- there.
+abbrev pub line_in : Kind → List ℕ → Result Line LineFault
+line_in Script text = line_of text
+line_in Journal text = as_line (event_of text)
 
 abbrev pub remark_on : ExactWorld → Line → Remark
 remark_on w (line.Event e) = step_remark e (step w e)

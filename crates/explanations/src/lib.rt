@@ -16,6 +16,7 @@ mod ballots;
 mod explaining;
 mod faulty;
 mod heads;
+pub mod laws;
 mod plays;
 mod refusals;
 mod remarks;

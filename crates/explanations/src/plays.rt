@@ -4,7 +4,7 @@ ghost use Rattle.std.specs.Prelude.{◌≡◌, ◌≤◌, length};
 ghost use Rattle.lock_messages.specs.declared.ids.TheConstants.{MAX_NODES, MAX_CLIENTS};
 
 use crate::refusals::{Scene, push_no_node, push_refusal};
-use crate::remarks::{Kind, Remark, goes_on, is_query, remark_on};
+use crate::remarks::{Kind, Remark, begins_query, goes_on, remark_on};
 use crate::stages::Stages;
 use history_check::{Line, LineFault, write_line};
 use journal_audit::MAX_LINES;
@@ -15,9 +15,9 @@ use std::str;
 use world_machine::World;
 use world_model::{Age, Event, StepFault};
 
-/// What is said where a journal has a query.
+/// What is said where a line of a journal begins as a query does.
 const QUERY_HINT: &str =
-    "hint: the line is a query, which `rwvote script` answers; a journal has events alone\n";
+    "hint: the line begins as a query does; `rwvote script` answers queries, and a journal has events alone\n";
 
 /// Lines that are played once more, beside the command that serves them: they have a world of their own.
 #[derive(Drop)]
@@ -75,12 +75,30 @@ fn push_quoted(text: &mut String, line: &[u8]) -> Result<(), AllocError> {
     }
 }
 
-/// Adds a hint on a line that is no event and no query.
-fn push_line_hint(text: &mut String, line: &[u8]) -> Result<(), AllocError> {
-    if line.is_empty() {
-        return text.push_str(
+/// Adds that a line of this kind is blank.
+fn push_blank_hint(text: &mut String, kind: Kind) -> Result<(), AllocError> {
+    match kind {
+        Kind::Script => text.push_str(
             "hint: the line is blank; behind `---` each line is an event or a query\n",
-        );
+        ),
+        Kind::Journal => {
+            text.push_str("hint: the line is blank; behind `---` each line is an event\n")
+        }
+    }
+}
+
+/// Adds what is wrong with a line of this kind.
+fn push_line_fault(text: &mut String, kind: Kind, fault: LineFault) -> Result<(), AllocError> {
+    match (kind, fault) {
+        (Kind::Journal, LineFault::Word) => text.push_str("no event has this word"),
+        _ => write!(text, "{fault}"),
+    }
+}
+
+/// Adds a hint on a line that is no event and no query.
+fn push_line_hint(text: &mut String, kind: Kind, line: &[u8]) -> Result<(), AllocError> {
+    if line.is_empty() {
+        return push_blank_hint(text, kind);
     }
     if line.starts_with(b"#".as_slice()) {
         return text.push_str("hint: comments stand in front of `---` alone\n");
@@ -193,15 +211,16 @@ impl Play {
     ) -> Result<(), AllocError> {
         let (number, place, read) = (fault.number(), self.line_of_input(), self.read);
         match self.kind {
-            Kind::Script => write!(text, "line {read} fault {number}: {fault}")?,
-            Kind::Journal => write!(text, "unsound {read} fault {number}: {fault}")?,
+            Kind::Script => write!(text, "line {read} fault {number}: ")?,
+            Kind::Journal => write!(text, "unsound {read} fault {number}: ")?,
         }
+        push_line_fault(text, self.kind, fault)?;
         push_quoted(text, line)?;
         writeln!(text, " (line {place} of the input)")?;
-        if self.kind == Kind::Journal && is_query(line) {
+        if self.kind == Kind::Journal && begins_query(line) {
             return text.push_str(QUERY_HINT);
         }
-        push_line_hint(text, line)
+        push_line_hint(text, self.kind, line)
     }
 
     /// Says that a line is refused.

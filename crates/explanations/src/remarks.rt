@@ -2,16 +2,16 @@
 
 ghost use Rattle.std.specs.Prelude.{◌≡◌, IfOk, OnOk};
 ghost use Rattle.world_model.specs.ExactWorlds.{step};
-ghost use Rattle.operator_cli.specs.Lines.{line_of};
 ghost use Rattle.operator_cli.specs.Outputs.{found, told_step};
 ghost use Rattle.operator_cli.specs.PartOutputs.{Finds};
 ghost use Rattle.explanations.specs.Remarks.{step_remark, query_remark, line_in, remark_of, world_behind, goes_on};
 
 use crate::stages::Stages;
-use history_check::{Line, LineFault, Query};
+use history_check::{Line, LineFault, Query, read_event};
 use lock_messages::Ticket;
 use operator_cli::read_line;
 use std::alloc::AllocError;
+use std::str;
 use world_machine::World;
 use world_model::{Event, StepFault};
 
@@ -35,19 +35,28 @@ pub enum Remark {
     Bad(LineFault),
 }
 
-/// What a line says to a reader of this kind: in a journal a query is none.
+/// What a line says to a reader of this kind: in a journal the words of queries are none.
 fn line_in(kind: Kind, line: &[u8]) -> Result<Line, LineFault>
-    ensures { result ≡ line_in kind (line_of line.now) }
+    ensures { result ≡ line_in kind line.now }
 {
-    match (kind, read_line(line)) {
-        (Kind::Journal, Ok(Line::Query(_))) => Err(LineFault::Word),
-        (_, said) => said,
+    match kind {
+        Kind::Script => read_line(line),
+        Kind::Journal => match read_event(line) {
+            Ok(event) => Ok(Line::Event(event)),
+            Err(fault) => Err(fault),
+        },
     }
 }
 
-/// Whether the line is a query of a script.
-pub fn is_query(line: &[u8]) -> bool {
-    matches!(read_line(line), Ok(Line::Query(_)))
+/// Whether the line begins with the word of a query.
+pub fn begins_query(line: &[u8]) -> bool {
+    let Ok(text) = str::from_utf8(line) else {
+        return false;
+    };
+    match text.split(' ').next() {
+        Some(word) => word == "inside" || word == "waiting" || word == "holding",
+        None => false,
+    }
 }
 
 /// The tickets that a query asks for.
@@ -103,8 +112,8 @@ pub fn remark_on(
     line: &[u8],
 ) -> Result<Remark, AllocError>
     requires { Unit {0} }
-    ensures remark { IfOk result (λ r. r ≡ remark_of world.old (line_in kind (line_of line.now))) }
-    ensures world { OnOk result (world.new ≡ world_behind world.old (line_in kind (line_of line.now))) }
+    ensures remark { IfOk result (λ r. r ≡ remark_of world.old (line_in kind line.now)) }
+    ensures world { OnOk result (world.new ≡ world_behind world.old (line_in kind line.now)) }
 {
     match line_in(kind, line) {
         Ok(Line::Event(event)) => remark_on_event(world, stages, &event),
