@@ -150,7 +150,7 @@ pub record EndsLeaving (f : RunFault) (v : SessionValue) : Type 0 where
   pub last : GivesUpAtLast f v
   pub free : v.stuck ≡ false
 
--- Why a call ended: the session was over before, and nothing has changed; or leaving ended so, or entering did.
+-- Why a call ended: the session was over before, and nothing has changed; or its log and its record tell the cause.
 abbrev pub EndsBy : RunFault → SessionValue → SessionValue → Type 0
 EndsBy f v v' = UnlessOver v.over f (v' ≡ v) (GivesUpAtLast f v' × ClientEndsFrom f (falls_of v.log) v'.log v'.stuck v'.spent v.failures v'.failures)
 
