@@ -120,6 +120,8 @@ impl<'l, 'a, B: BookName, K: Logs, R: Wait + Copy> Link for Neighbour<'l, 'a, B,
 
     ghost given = { λ _. None };
 
+    ghost refused = { λ _. None };
+
     /// Brings what the node answers or, where it goes to another, that a node is gone.
     fn send(&mut self, to: Actor, parcel: Parcel) -> Result<(), LinkFault> {
         if to != Actor::Node(self.node) {

@@ -114,6 +114,8 @@ impl<'l, 'a, B: BookName, K: Logs, R: Wait + Copy> Link for Scripted<'l, 'a, B, 
 
     ghost given = { λ _. None };
 
+    ghost refused = { λ _. None };
+
     fn send(&mut self, to: Actor, parcel: Parcel) -> Result<(), LinkFault> {
         if self.room == 0 {
             return Err(LinkFault::Memory);

@@ -1,5 +1,5 @@
 -- What links say of themselves.
-use Rattle.std.specs.Prelude.{◌≡◌, List, [], ◌∷◌, ◌++◌, Option, Some, None, Result, Ok, Err}
+use Rattle.std.specs.Prelude.{◌≡◌, Bool, true, List, [], ◌∷◌, ◌++◌, Option, Some, None, Result, Ok, Err}
 use Rattle.lossy_link.specs.declared.parcels.Post.{Post}
 use Rattle.lossy_link.specs.declared.parcels.Sending.{Sending}
 use Rattle.lossy_link.specs.declared.faults.LinkFault.{LinkFault}
@@ -11,6 +11,8 @@ pub record Listed : Type 0 where
   pub coming : List Post
   -- what was sent and told over it, in order
   pub given : List Sending
+  -- whether memory was refused in a call
+  pub refused : Bool
 
 -- the list one longer, where it is known
 abbrev pub one_more : {X : Type 0} → Option (List X) → X → Option (List X)
@@ -21,6 +23,17 @@ one_more (Some xs) x = Some (xs ++ x ∷ [])
 abbrev pub all_more : {X : Type 0} → Option (List X) → List X → Option (List X)
 all_more None more = None
 all_more (Some xs) more = Some (xs ++ more)
+
+-- whether memory was refused in a call, after one more call, where that is known
+abbrev pub refused_after : {X : Type 0} → Option Bool → Result X LinkFault → Option Bool
+refused_after None answer = None
+refused_after (Some before) (Ok x) = Some before
+refused_after (Some before) (Err fault) = Some true
+
+-- memory was refused in a call, as far as that is known
+abbrev pub IsRefused : Option Bool → Type 0
+IsRefused None = Unit {0}
+IsRefused (Some refused) = refused ≡ true
 
 -- where it is known what comes, the first of it is brought, and the rest is still to come; where
 -- nothing comes, the link is closed

@@ -377,6 +377,8 @@ impl<R: Wait + Copy> Link for ChannelLink<R> {
 
     ghost given = { λ _. None };
 
+    ghost refused = { λ _. None };
+
     /// Sends a parcel through the link's weather, and what was held behind it. It waits for no other
     /// actor. 903: memory was refused; a part may have gone, and what was held may be lost.
     fn send(&mut self, to: Actor, parcel: Parcel) -> Result<(), LinkFault>

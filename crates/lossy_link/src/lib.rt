@@ -8,8 +8,9 @@
 //! The crate promises that each fate is a stated function of the generator's next word; that a link
 //! draws one for each parcel, holds just the late one that is to go next, and brings its own actor
 //! what the fates make of its parcels, in order; that a `ListLink` gives just the posts that it was
-//! made of, in order, and lists all that was sent and told; and that no call answers another fault
-//! than it tells. It promises nothing of what a `ChannelLink` brings from others: of a post that is
+//! made of, in order, lists all that was sent and told, and knows whether memory was refused for that;
+//! that a call which is refused memory adds nothing to what a link remembers to have been given; and that
+//! no call answers another fault than it tells. It promises nothing of what a `ChannelLink` brings from others: of a post that is
 //! received only its type is known, and any parcel may be missing, come again or come in another
 //! order. That parcels come as their fates say is tested, and so is that links which have come to rest
 //! are closed: once every actor waits for a post and none is on its way, `receive` answers 902.

@@ -1,5 +1,5 @@
-// Links: 903. After a refusal a link over a list is as it was; of one over channels a part may have
-// gone.
+// Links: 903. After a refusal a link over a list has what it had, and knows of the refusal; of one over
+// channels a part may have gone.
 
 use crate::failures::{Failure, Outcome, check, refused};
 use bytes::Bytes;
@@ -20,9 +20,9 @@ fn parcel(number: u32) -> Parcel {
 fn took(link: &ListLink, given: Result<(), LinkFault>, before: usize) -> Outcome {
     let now = link.sent().len();
     match given {
-        Ok(()) => check(now == before.saturating_add(1)),
+        Ok(()) => check(now == before.saturating_add(1) && !link.was_refused()),
         Err(fault) => {
-            check(now == before)?;
+            check(now == before && link.was_refused())?;
             Err(fault.into())
         }
     }

@@ -1,5 +1,5 @@
 pub mod KeepFacts
-pub mod SendFacts
 pub mod SentFacts
 pub mod SwitchFacts
 mod EndFacts
+pub mod UnsentFacts

@@ -21,7 +21,11 @@ use Rattle.event_recorders.specs.OwnLogs.{OwnLog, part_now, adds, IsAdded, IsUnu
 use Rattle.actor_steps.specs.Steps.{IsKept, IsRisenAgain}
 use Rattle.node_loop.specs.Standing.{StandsBy}
 use Rattle.node_loop.specs.Replies.{sendings, sent_for, sent_by, sent_of, first_of, SentFollows}
-use Rattle.node_loop.proofs.SendFacts.{none_more}
+
+-- nothing more
+pub none_more : (given : Option (List Sending)) → all_more given [] ≡ given
+none_more None = refl
+none_more (Some ys) = ap Some (append-nil ys)
 
 -- one event more sends what it sends from the part before it
 by_one_more : (b : List Ballot) (p : Part) (own : List (Event × Effect)) (e : Event) (done : Effect) →
@@ -47,6 +51,10 @@ switch_sends_nothing l l' n p done added = silent l l' (event.Switch n p) done a
 pub first_rise_sends_nothing : (l l' : OwnLog) (who : Actor) (age : Age) → IsUnused l who → IsAdded l (event.Rise who age) effect.Up l' → sent_of l' ≡ []
 first_rise_sends_nothing l l' who age unused added = silent l l' (event.Rise who age) effect.Up added refl ∙ ap (sent_by l.ballots l.opening) unused.events
 
+-- nor has a node sent anything that has not risen
+pub unused_sends_nothing : (l l' : OwnLog) (who : Actor) → IsUnused l who → l' ≡ l → sent_of l' ≡ []
+unused_sends_nothing l l' who unused same = ap sent_of same ∙ ap (sent_by l.ballots l.opening) unused.events
+
 pub keeping_sends_nothing : (l l' : OwnLog) (who : Actor) → IsKept l who l' → sent_of l' ≡ sent_of l
 keeping_sends_nothing l l' who kept =
     let tried = adds l (event.Try who) effect.Tried in
@@ -63,24 +71,29 @@ rising_tells l l' n m age same again =
     ∙ sent_more l fallen (event.Fall (actor.Node n)) effect.Down again.fallen
     ∙ ap (λ k. sent_of l ++ sending.Told (post.Nudge k) ∷ []) same
 
-more_and_more : (before : Option (List Sending)) (xs ys : List Sending) → all_more (all_more before xs) ys ≡ all_more before (xs ++ ys)
+pub more_and_more : (before : Option (List Sending)) (xs ys : List Sending) → all_more (all_more before xs) ys ≡ all_more before (xs ++ ys)
 more_and_more None xs ys = refl
 more_and_more (Some zs) xs ys = ap Some (append_assoc zs xs ys)
 
-one_is_more : (before : Option (List Sending)) (x : Sending) → one_more before x ≡ all_more before (x ∷ [])
+pub one_is_more : (before : Option (List Sending)) (x : Sending) → one_more before x ≡ all_more before (x ∷ [])
 one_is_more None x = refl
 one_is_more (Some zs) x = refl
 
--- Say: what was sent is what is said
+-- Say: what is sent is what is said
+pub said_is_sent : (l : OwnLog) (v : Voter) (n first count : ℕ) (done : Effect) (strings : List (List ℕ)) (stuck : Bool) (replies : List Message) →
+    StandsBy (Stored (replies_in v.state)) l v (record_of v) strings stuck → n ≡ v.node → done ≡ effect.Said first count → replies ≡ replies_in v.state →
+    sent_for l.ballots (event.Say n) done (part_now l) ≡ sendings first replies
+said_is_sent l v n first count done strings stuck replies s same kind all =
+    ap (λ d. sendings (first_of d) (said_by l.ballots (event.Say n) (part_now l))) kind
+    ∙ ap (sendings first) (ap (said_by l.ballots (event.Say n)) s.part ∙ sym all)
+
+-- what was sent is what is said
 pub say_is_told : (l l' : OwnLog) (v : Voter) (n first count : ℕ) (done : Effect) (strings : List (List ℕ)) (stuck : Bool) (replies : List Message) (given given' : Option (List Sending)) →
     StandsBy (Stored (replies_in v.state)) l v (record_of v) strings stuck → n ≡ v.node → done ≡ effect.Said first count → IsAdded l (event.Say n) done l' → replies ≡ replies_in v.state →
     given' ≡ all_more given (sendings first replies) → SentFollows l l' given given'
 say_is_told l l' v n first count done strings stuck replies given given' s same kind added all sent before was =
-    let said : said_by l.ballots (event.Say n) (part_now l) ≡ replies = ap (said_by l.ballots (event.Say n)) s.part ∙ sym all in
     let so : sent_of l' ≡ sent_of l ++ sendings first replies =
-    sent_more l l' (event.Say n) done added
-    ∙ ap (λ d. sent_of l ++ sendings (first_of d) (said_by l.ballots (event.Say n) (part_now l))) kind
-    ∙ ap (λ ms. sent_of l ++ sendings first ms) said in
+    sent_more l l' (event.Say n) done added ∙ ap (λ xs. sent_of l ++ xs) (said_is_sent l v n first count done strings stuck replies s same kind all) in
     sent ∙ ap (λ g. all_more g (sendings first replies)) was ∙ more_and_more before (sent_of l) (sendings first replies) ∙ ap (all_more before) (sym so)
 
 -- a nudge that was told after a fall

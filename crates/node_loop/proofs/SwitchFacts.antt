@@ -8,13 +8,13 @@ use Rattle.lock_model.specs.ExactDecisions.{Outcome, switches, same_problem}
 use Rattle.lock_model.specs.Laws.{SwitchToTheSame, ProblemsAreCompared}
 use Rattle.stable_record.specs.declared.node_records.NodeRecord.{NodeRecord}
 use Rattle.stable_record.specs.Records.{IsNodeRecord, node_record_of}
-use Rattle.voter_core.specs.Voters.{Voter, Decided, Stored, record_of, state_after, switched}
+use Rattle.voter_core.specs.Voters.{Voter, record_of, state_after, switched}
 use Rattle.world_model.specs.declared.events.Effect.TheVariants as effect
 use Rattle.world_model.specs.declared.events.Event.TheVariants as event
 use Rattle.world_model.specs.declared.exact.ExactNode.{ExactNode}
 use Rattle.world_model.specs.declared.exact.ExactNodePhase.{ExactNodePhase}
 use Rattle.world_model.specs.declared.exact.ExactNodePhase.TheVariants as node
-use Rattle.world_model.specs.Parts.{Part, NodePart, after_own}
+use Rattle.world_model.specs.Parts.{NodePart, after_own}
 use Rattle.world_actors.specs.Nodes.{station_in}
 use Rattle.event_recorders.specs.OwnLogs.{OwnLog, part_now, IsAdded}
 use Rattle.node_loop.specs.Standing.{StandsIdle, HasTaken, HasSwitched}

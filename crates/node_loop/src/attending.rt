@@ -1,6 +1,6 @@
 // A node's turn: from a post to the replies.
 
-ghost use Rattle.std.specs.Prelude.{◌≡◌, ◌≢◌, [], ◌∷◌, ◌++◌, ◌+◌, IfOk, IfErr, IfSome, IfNone, IsOk, OnOk, IsOkUnless};
+ghost use Rattle.std.specs.Prelude.{◌≡◌, ◌≢◌, [], ◌∷◌, ◌++◌, ◌+◌, IfOk, IfErr, IfSome, IfNone, IsOk, OnOk, OnErr, IsOkUnless};
 ghost use Rattle.lock_model.specs.declared.problems.Problem.{Problem as ProblemValue};
 ghost use Rattle.admission_policy.specs.Policies.{problem_number};
 ghost use Rattle.stable_record.specs.declared.node_records.NodeRecord.{NodeRecord};
@@ -9,6 +9,7 @@ ghost use Rattle.lossy_link.specs.Links.{one_more};
 ghost use Rattle.lossy_link.specs.declared.parcels.Post.{Post as PostValue};
 ghost use Rattle.lossy_link.specs.declared.parcels.Sending.{Sending as SendingValue};
 ghost use Rattle.node_loop.specs.Replies.{sent_of, SentFollows, IsSentIn};
+ghost use Rattle.node_loop.specs.Unsent.{HasSent, SentAsFar};
 ghost use Rattle.node_loop.specs.Standing.{StandsBy, StandsIdle, HasTaken, HasSwitched, HasKept, FailsToKeep, IsNodeFault};
 ghost use Rattle.actor_steps.specs.Steps.{IsBookFault};
 ghost use Rattle.actor_steps.specs.Endings.{falls_of, FailuresFollow, EndsFrom};
@@ -39,7 +40,7 @@ fn take<R: Recorder>(
     requires { StandsIdle (R.own_log recorder.old) core.old (finds stable.now) (stuck_of stable.now) }
     ensures dropped { IfOk result (λ o. IfNone o ((core.new ≡ core.old) × (R.own_log recorder.new ≡ R.own_log recorder.old))) }
     ensures taken { IfOk result (λ o. IfSome o (λ changed. HasTaken changed (R.own_log recorder.new) core.new (record_of core.old) (finds stable.now) (stuck_of stable.now))) }
-    ensures silent { OnOk result (sent_of (R.own_log recorder.new) ≡ sent_of (R.own_log recorder.old)) }
+    ensures silent { sent_of (R.own_log recorder.new) ≡ sent_of (R.own_log recorder.old) }
     ensures faults { IfErr result IsBookFault }
     ensures falls { falls_of (R.own_log recorder.new) ≡ falls_of (R.own_log recorder.old) }
 {
@@ -79,7 +80,7 @@ fn switch<R: Recorder>(
 ) -> Result<bool, RunFault>
     requires { StandsIdle (R.own_log recorder.old) core.old (finds stable.now) (stuck_of stable.now) }
     ensures switched { IfOk result (λ changed. HasSwitched problem changed (R.own_log recorder.old) (R.own_log recorder.new) core.new (record_of core.old) (finds stable.now) (stuck_of stable.now)) }
-    ensures silent { OnOk result (sent_of (R.own_log recorder.new) ≡ sent_of (R.own_log recorder.old)) }
+    ensures silent { sent_of (R.own_log recorder.new) ≡ sent_of (R.own_log recorder.old) }
     ensures faults { IfErr result IsBookFault }
     ensures falls { falls_of (R.own_log recorder.new) ≡ falls_of (R.own_log recorder.old) }
 {
@@ -94,7 +95,7 @@ fn switch<R: Recorder>(
 
 /// Keeps what the node decided. Where the record's device fails, the node falls and rises again with
 /// what is found.
-#[tactic(auto, using(crate::proofs::SentFacts::keeping_sends_nothing, crate::proofs::SentFacts::trying_sends_nothing, actor_steps::proofs::EndFacts::failures_stay, actor_steps::proofs::EndFacts::failures_rise, actor_steps::proofs::EndFacts::failures_on))]
+#[tactic(auto, using(crate::proofs::SentFacts::keeping_sends_nothing, crate::proofs::SentFacts::trying_sends_nothing, actor_steps::proofs::EndFacts::failures_stay, actor_steps::proofs::EndFacts::failures_rise, actor_steps::proofs::EndFacts::failures_on, crate::proofs::UnsentFacts::none_left, crate::proofs::UnsentFacts::trying_leaves, crate::proofs::UnsentFacts::sent_before))]
 fn keep<R: Recorder, G: Gate>(
     alloc: Global,
     core: &mut NodeCore,
@@ -104,6 +105,7 @@ fn keep<R: Recorder, G: Gate>(
 ) -> Result<Keeping, RunFault>
     requires { (before : NodeRecord) × StandsBy (Decided (replies_in core.old.state)) (R.own_log recorder.old) core.old before (finds stable.old) (stuck_of stable.old) }
     ensures sent { IfOk result (λ keeping. IsSentIn keeping core.new.node (R.own_log recorder.old) (R.own_log recorder.new)) }
+    ensures unsent { HasSent (R.own_log recorder.new) (sent_of (R.own_log recorder.old)) }
     ensures kept { IfOk result (λ keeping. HasKept keeping (R.own_log recorder.new) core.new (finds stable.new) (stuck_of stable.new)) }
     ensures faults { IfErr result IsNodeFault }
     ensures ended { IfErr result (λ fault. EndsFrom fault (falls_of (R.own_log recorder.old)) (R.own_log recorder.new) (stuck_of stable.new) (spent_of stable.new) (failures_of stable.old) (failures_of stable.new)) }
@@ -129,6 +131,7 @@ fn keep<R: Recorder, G: Gate>(
 }
 
 /// The node falls, and rises again with what its record is found to be.
+#[tactic(auto, using(crate::proofs::UnsentFacts::failing_leaves, crate::proofs::UnsentFacts::rising_leaves))]
 fn restart<R: Recorder>(
     tried: &[u8],
     core: &mut NodeCore,
@@ -138,6 +141,7 @@ fn restart<R: Recorder>(
     requires { (before : NodeRecord) × FailsToKeep (R.own_log recorder.old) core.old before tried.now (finds stable.old) }
     ensures idle { OnOk result (StandsIdle (R.own_log recorder.new) core.new (finds stable.new) (stuck_of stable.new)) }
     ensures sent { OnOk result (sent_of (R.own_log recorder.new) ≡ sent_of (R.own_log recorder.old) ++ SendingValue.Told (PostValue.Nudge core.new.node) ∷ []) }
+    ensures unsent { HasSent (R.own_log recorder.new) (sent_of (R.own_log recorder.old)) }
     ensures faults { IfErr result IsNodeFault }
     ensures ended { IfErr result (λ fault. EndsFrom fault (falls_of (R.own_log recorder.old) + 1) (R.own_log recorder.new) (stuck_of stable.new) (spent_of stable.new) (failures_of stable.old) (failures_of stable.new)) }
     ensures falls { FailuresFollow (falls_of (R.own_log recorder.old) + 1) (falls_of (R.own_log recorder.new)) (failures_of stable.old) (failures_of stable.new) }
@@ -152,7 +156,7 @@ fn restart<R: Recorder>(
 }
 
 /// Says the node's replies, and sends them.
-#[tactic(auto, using(crate::proofs::SentFacts::say_is_told))]
+#[tactic(auto, using(crate::proofs::SentFacts::say_is_told, crate::proofs::UnsentFacts::nothing_given, crate::proofs::UnsentFacts::none_left))]
 fn say<R: Recorder, L: Link>(
     alloc: Global,
     core: &mut NodeCore,
@@ -163,6 +167,7 @@ fn say<R: Recorder, L: Link>(
     requires { StandsBy (Stored (replies_in core.old.state)) (R.own_log recorder.old) core.old (record_of core.old) (finds stable.now) (stuck_of stable.now) }
     ensures idle { OnOk result (StandsIdle (R.own_log recorder.new) core.new (finds stable.now) (stuck_of stable.now)) }
     ensures sent { OnOk result (SentFollows (R.own_log recorder.old) (R.own_log recorder.new) (L.given link.old) (L.given link.new)) }
+    ensures faulted { OnErr result (SentAsFar (R.own_log recorder.old) (R.own_log recorder.new) (L.given link.old) (L.given link.new)) }
     ensures faults { IfErr result IsBookFault }
     ensures falls { falls_of (R.own_log recorder.new) ≡ falls_of (R.own_log recorder.old) }
 {
@@ -177,6 +182,7 @@ fn say<R: Recorder, L: Link>(
 /// Tells every client that it should ask the node again, since replies are lost.
 fn tell_lost<L: Link>(node: NodeId, link: &mut L) -> Result<(), RunFault>
     ensures told { OnOk result (L.given link.new ≡ one_more (L.given link.old) (SendingValue.Told (PostValue.Nudge node))) }
+    ensures still { OnErr result (L.given link.new ≡ L.given link.old) }
     ensures memory { IsOkUnless result RunFault.Memory }
 {
     if link.tell_all(Post::Nudge(node)).is_err() {
@@ -186,7 +192,7 @@ fn tell_lost<L: Link>(node: NodeId, link: &mut L) -> Result<(), RunFault>
 }
 
 /// Keeps what the node took, where it changed the record, and sends the replies.
-#[tactic(auto, using(crate::proofs::SentFacts::follows_none, crate::proofs::SentFacts::follows_from, crate::proofs::SentFacts::nudge_follows, actor_steps::proofs::EndFacts::failures_stay, actor_steps::proofs::EndFacts::failures_on))]
+#[tactic(auto, using(crate::proofs::SentFacts::follows_none, crate::proofs::SentFacts::follows_from, crate::proofs::SentFacts::nudge_follows, actor_steps::proofs::EndFacts::failures_stay, actor_steps::proofs::EndFacts::failures_on, crate::proofs::UnsentFacts::nothing_given, crate::proofs::UnsentFacts::far_from))]
 fn finish<R: Recorder, L: Link, G: Gate>(
     alloc: Global,
     changed: bool,
@@ -199,6 +205,7 @@ fn finish<R: Recorder, L: Link, G: Gate>(
     requires { (before : NodeRecord) × HasTaken changed (R.own_log recorder.old) core.old before (finds stable.old) (stuck_of stable.old) }
     ensures idle { OnOk result (StandsIdle (R.own_log recorder.new) core.new (finds stable.new) (stuck_of stable.new)) }
     ensures sent { OnOk result (SentFollows (R.own_log recorder.old) (R.own_log recorder.new) (L.given link.old) (L.given link.new)) }
+    ensures faulted { OnErr result (SentAsFar (R.own_log recorder.old) (R.own_log recorder.new) (L.given link.old) (L.given link.new)) }
     ensures faults { IfErr result IsNodeFault }
     ensures ended { IfErr result (λ fault. EndsFrom fault (falls_of (R.own_log recorder.old)) (R.own_log recorder.new) (stuck_of stable.new) (spent_of stable.new) (failures_of stable.old) (failures_of stable.new)) }
     ensures falls { FailuresFollow (falls_of (R.own_log recorder.old)) (falls_of (R.own_log recorder.new)) (failures_of stable.old) (failures_of stable.new) }
@@ -213,7 +220,7 @@ fn finish<R: Recorder, L: Link, G: Gate>(
 }
 
 /// A turn: takes the message of the number, keeps what it changes, and sends the replies.
-#[tactic(auto, using(crate::proofs::SentFacts::follows_none, crate::proofs::SentFacts::follows_from, actor_steps::proofs::EndFacts::failures_stay, actor_steps::proofs::EndFacts::failures_on))]
+#[tactic(auto, using(crate::proofs::SentFacts::follows_none, crate::proofs::SentFacts::follows_from, actor_steps::proofs::EndFacts::failures_stay, actor_steps::proofs::EndFacts::failures_on, crate::proofs::UnsentFacts::nothing_given, crate::proofs::UnsentFacts::none_left, crate::proofs::UnsentFacts::far_from))]
 fn take_turn<R: Recorder, L: Link, G: Gate>(
     alloc: Global,
     number: u32,
@@ -226,6 +233,7 @@ fn take_turn<R: Recorder, L: Link, G: Gate>(
     requires { StandsIdle (R.own_log recorder.old) core.old (finds stable.old) (stuck_of stable.old) }
     ensures idle { OnOk result (StandsIdle (R.own_log recorder.new) core.new (finds stable.new) (stuck_of stable.new)) }
     ensures sent { OnOk result (SentFollows (R.own_log recorder.old) (R.own_log recorder.new) (L.given link.old) (L.given link.new)) }
+    ensures faulted { OnErr result (SentAsFar (R.own_log recorder.old) (R.own_log recorder.new) (L.given link.old) (L.given link.new)) }
     ensures faults { IfErr result IsNodeFault }
     ensures ended { IfErr result (λ fault. EndsFrom fault (falls_of (R.own_log recorder.old)) (R.own_log recorder.new) (stuck_of stable.new) (spent_of stable.new) (failures_of stable.old) (failures_of stable.new)) }
     ensures falls { FailuresFollow (falls_of (R.own_log recorder.old)) (falls_of (R.own_log recorder.new)) (failures_of stable.old) (failures_of stable.new) }
@@ -238,7 +246,7 @@ fn take_turn<R: Recorder, L: Link, G: Gate>(
 
 /// A turn: takes the problem of this number, keeps what that changes, and sends the replies. A number that
 /// no problem has is dropped.
-#[tactic(auto, using(crate::proofs::SentFacts::follows_none, crate::proofs::SentFacts::follows_from, actor_steps::proofs::EndFacts::failures_stay, actor_steps::proofs::EndFacts::failures_on))]
+#[tactic(auto, using(crate::proofs::SentFacts::follows_none, crate::proofs::SentFacts::follows_from, actor_steps::proofs::EndFacts::failures_stay, actor_steps::proofs::EndFacts::failures_on, crate::proofs::UnsentFacts::nothing_given, crate::proofs::UnsentFacts::none_left, crate::proofs::UnsentFacts::far_from))]
 fn switch_turn<R: Recorder, L: Link, G: Gate>(
     alloc: Global,
     number: u8,
@@ -252,6 +260,7 @@ fn switch_turn<R: Recorder, L: Link, G: Gate>(
     ensures idle { OnOk result (StandsIdle (R.own_log recorder.new) core.new (finds stable.new) (stuck_of stable.new)) }
     ensures dropped { ((problem : ProblemValue) → problem_number problem ≢ number) → IsOk result × (core.new ≡ core.old) × (R.own_log recorder.new ≡ R.own_log recorder.old) × (L.given link.new ≡ L.given link.old) }
     ensures sent { OnOk result (SentFollows (R.own_log recorder.old) (R.own_log recorder.new) (L.given link.old) (L.given link.new)) }
+    ensures faulted { OnErr result (SentAsFar (R.own_log recorder.old) (R.own_log recorder.new) (L.given link.old) (L.given link.new)) }
     ensures faults { IfErr result IsNodeFault }
     ensures ended { IfErr result (λ fault. EndsFrom fault (falls_of (R.own_log recorder.old)) (R.own_log recorder.new) (stuck_of stable.new) (spent_of stable.new) (failures_of stable.old) (failures_of stable.new)) }
     ensures falls { FailuresFollow (falls_of (R.own_log recorder.old)) (falls_of (R.own_log recorder.new)) (failures_of stable.old) (failures_of stable.new) }
@@ -277,6 +286,7 @@ fn parcel_turn<R: Recorder, L: Link, G: Gate>(
     requires { StandsIdle (R.own_log recorder.old) core.old (finds stable.old) (stuck_of stable.old) }
     ensures idle { OnOk result (StandsIdle (R.own_log recorder.new) core.new (finds stable.new) (stuck_of stable.new)) }
     ensures sent { OnOk result (SentFollows (R.own_log recorder.old) (R.own_log recorder.new) (L.given link.old) (L.given link.new)) }
+    ensures faulted { OnErr result (SentAsFar (R.own_log recorder.old) (R.own_log recorder.new) (L.given link.old) (L.given link.new)) }
     ensures faults { IfErr result IsNodeFault }
     ensures ended { IfErr result (λ fault. EndsFrom fault (falls_of (R.own_log recorder.old)) (R.own_log recorder.new) (stuck_of stable.new) (spent_of stable.new) (failures_of stable.old) (failures_of stable.new)) }
     ensures falls { FailuresFollow (falls_of (R.own_log recorder.old)) (falls_of (R.own_log recorder.new)) (failures_of stable.old) (failures_of stable.new) }
@@ -304,6 +314,7 @@ pub(crate) fn attend<R: Recorder, L: Link, G: Gate>(
     requires { StandsIdle (R.own_log recorder.old) core.old (finds stable.old) (stuck_of stable.old) }
     ensures idle { OnOk result (StandsIdle (R.own_log recorder.new) core.new (finds stable.new) (stuck_of stable.new)) }
     ensures sent { OnOk result (SentFollows (R.own_log recorder.old) (R.own_log recorder.new) (L.given link.old) (L.given link.new)) }
+    ensures faulted { OnErr result (SentAsFar (R.own_log recorder.old) (R.own_log recorder.new) (L.given link.old) (L.given link.new)) }
     ensures faults { IfErr result IsNodeFault }
     ensures ended { IfErr result (λ fault. EndsFrom fault (falls_of (R.own_log recorder.old)) (R.own_log recorder.new) (stuck_of stable.new) (spent_of stable.new) (failures_of stable.old) (failures_of stable.new)) }
     ensures falls { FailuresFollow (falls_of (R.own_log recorder.old)) (falls_of (R.own_log recorder.new)) (failures_of stable.old) (failures_of stable.new) }

@@ -1,11 +1,12 @@
 // A node's whole run.
 
-ghost use Rattle.std.specs.Prelude.{◌≡◌, [], IfOk, IfErr, OnOk};
+ghost use Rattle.std.specs.Prelude.{◌≡◌, [], IfOk, IfErr, OnOk, OnErr};
 ghost use Rattle.stable_record.specs.declared.node_records.NodeRecord.{NodeRecord};
 ghost use Rattle.event_recorders.specs.OwnLogs.{part_now};
 ghost use Rattle.lossy_link.specs.Links.{all_more};
 ghost use Rattle.node_loop.specs.Endings.{EndsSomehow};
 ghost use Rattle.node_loop.specs.Replies.{sent_of, SentFollows};
+ghost use Rattle.node_loop.specs.Unsent.{SentAsFar, ToldAsFar, TellsGone, HasGone};
 ghost use Rattle.node_loop.specs.Standing.{StandsIdle, IsReady, IsIdleNode, IsAtEnd, IsNodeFault};
 ghost use Rattle.actor_steps.specs.Steps.{HasFailed};
 ghost use Rattle.actor_steps.specs.Endings.{falls_of, FailuresFollow, EndsFrom, EndsBy};
@@ -23,6 +24,7 @@ use std::sync::Wait;
 use voter_core::{NodeCore, VoterFault};
 
 /// The node rises with what its record is found to be.
+#[tactic(auto, using(crate::proofs::SentFacts::first_rise_sends_nothing, crate::proofs::SentFacts::unused_sends_nothing))]
 fn rise<R: Recorder>(
     alloc: Global,
     node: NodeId,
@@ -32,7 +34,7 @@ fn rise<R: Recorder>(
 ) -> Result<NodeCore, RunFault>
     requires { (kept : NodeRecord) × IsReady (R.own_log recorder.old) node kept (finds stable.old) }
     ensures idle { IfOk result (λ core. StandsIdle (R.own_log recorder.new) core (finds stable.new) (stuck_of stable.new)) }
-    ensures silent { OnOk result (sent_of (R.own_log recorder.new) ≡ []) }
+    ensures silent { sent_of (R.own_log recorder.new) ≡ [] }
     ensures faults { IfErr result IsNodeFault }
     ensures ended { IfErr result (λ fault. EndsFrom fault (falls_of (R.own_log recorder.old)) (R.own_log recorder.new) (stuck_of stable.new) (spent_of stable.new) (failures_of stable.old) (failures_of stable.new)) }
     ensures falls { FailuresFollow (falls_of (R.own_log recorder.old)) (falls_of (R.own_log recorder.new)) (failures_of stable.old) (failures_of stable.new) }
@@ -47,7 +49,7 @@ fn rise<R: Recorder>(
 }
 
 /// Attends to one post after the other, until no more come.
-#[tactic(auto, using(crate::proofs::SentFacts::follows_on, crate::proofs::SentFacts::follows_none, actor_steps::proofs::EndFacts::failures_on, actor_steps::proofs::EndFacts::ends_on))]
+#[tactic(auto, using(crate::proofs::SentFacts::follows_on, crate::proofs::SentFacts::follows_none, actor_steps::proofs::EndFacts::failures_on, actor_steps::proofs::EndFacts::ends_on, crate::proofs::UnsentFacts::far_on))]
 fn serve<W: Wait, R: Recorder, L: Link, G: Gate>(
     rt: &W,
     alloc: Global,
@@ -60,6 +62,7 @@ fn serve<W: Wait, R: Recorder, L: Link, G: Gate>(
     requires { StandsIdle (R.own_log recorder.old) core.old (finds stable.old) (stuck_of stable.old) }
     ensures idle { OnOk result (StandsIdle (R.own_log recorder.new) core.new (finds stable.new) (stuck_of stable.new)) }
     ensures sent { OnOk result (SentFollows (R.own_log recorder.old) (R.own_log recorder.new) (L.given link.old) (L.given link.new)) }
+    ensures faulted { OnErr result (SentAsFar (R.own_log recorder.old) (R.own_log recorder.new) (L.given link.old) (L.given link.new)) }
     ensures closed { OnOk result (IsAtEnd (L.coming link.new)) }
     ensures faults { IfErr result IsNodeFault }
     ensures ended { IfErr result (λ fault. EndsFrom fault (falls_of (R.own_log recorder.old)) (R.own_log recorder.new) (stuck_of stable.new) (spent_of stable.new) (failures_of stable.old) (failures_of stable.new)) }
@@ -75,7 +78,7 @@ fn serve<W: Wait, R: Recorder, L: Link, G: Gate>(
 }
 
 /// The node rises, and attends to its posts until no more come.
-#[tactic(auto, using(crate::proofs::SentFacts::all_told))]
+#[tactic(auto, using(crate::proofs::SentFacts::all_told, crate::proofs::UnsentFacts::told_far, crate::proofs::UnsentFacts::none_told))]
 fn live<W: Wait, R: Recorder, L: Link, G: Gate>(
     rt: &W,
     alloc: Global,
@@ -89,6 +92,7 @@ fn live<W: Wait, R: Recorder, L: Link, G: Gate>(
     requires { (kept : NodeRecord) × IsReady (R.own_log recorder.old) node kept (finds stable.old) }
     ensures idle { OnOk result (IsIdleNode (part_now (R.own_log recorder.new))) }
     ensures sent { OnOk result (L.given link.new ≡ all_more (L.given link.old) (sent_of (R.own_log recorder.new))) }
+    ensures faulted { OnErr result (ToldAsFar (R.own_log recorder.new) (L.given link.old) (L.given link.new)) }
     ensures closed { OnOk result (IsAtEnd (L.coming link.new)) }
     ensures faults { IfErr result IsNodeFault }
     ensures ended { IfErr result (λ fault. EndsBy fault (R.own_log recorder.new) (stuck_of stable.new) (spent_of stable.new) (failures_of stable.old) (failures_of stable.new)) }
@@ -98,10 +102,19 @@ fn live<W: Wait, R: Recorder, L: Link, G: Gate>(
     serve(rt, alloc, &mut core, stable, recorder, link, gate)
 }
 
+/// Tells every client that the node is gone, as far as there is memory for it.
+#[tactic(auto, using(crate::proofs::UnsentFacts::gone_is_told))]
+fn tell_gone<L: Link>(node: NodeId, link: &mut L)
+    ensures gone { TellsGone node (L.given link.old) (L.given link.new) (L.refused link.new) }
+{
+    let _ = link.tell_all(Post::Gone(node));
+}
+
 /// Runs a node as `run_node` does, over a record that is lent to it: so its contract also ties each fall, and
 /// each fault, to what that record answers afterwards.
 ///
 /// The caller owes what it owes `run_node`, and gets its errors.
+#[tactic(auto, using(crate::proofs::UnsentFacts::has_gone))]
 pub fn run_node_over<W: Wait, R: Recorder, L: Link, G: Gate>(
     rt: &W,
     alloc: Global,
@@ -117,6 +130,9 @@ pub fn run_node_over<W: Wait, R: Recorder, L: Link, G: Gate>(
     ensures idle { OnOk result (IsIdleNode (part_now (R.own_log recorder.new))) }
     // What was sent is what its own log tells: its replies, and after each fall its nudge.
     ensures sent { OnOk result (L.given link.new ≡ all_more (L.given link.old) (sent_of (R.own_log recorder.new))) }
+    // Where it ends by a fault, that is so but perhaps for an end of what the last event sends that sends
+    // anything; and then every client was told that the node is gone, unless memory was refused.
+    ensures faulted { OnErr result (HasGone node (R.own_log recorder.new) (L.given link.old) (L.given link.new) (L.refused link.new)) }
     // It ends without a fault only where nothing comes any more.
     ensures closed { OnOk result (IsAtEnd (L.coming link.new)) }
     // Each fall that it logged has a failure of its record's device.
@@ -128,7 +144,7 @@ pub fn run_node_over<W: Wait, R: Recorder, L: Link, G: Gate>(
 {
     let ended = live(rt, alloc, node, stable, policies, recorder, link, gate);
     if ended.is_err() {
-        let _ = link.tell_all(Post::Gone(node));
+        tell_gone(node, link);
     }
     ended
 }
@@ -169,6 +185,9 @@ pub fn run_node<W: Wait, R: Recorder, L: Link, G: Gate>(
     ensures idle { OnOk result (IsIdleNode (part_now (R.own_log recorder.new))) }
     // What was sent is what its own log tells: its replies, and after each fall its nudge.
     ensures sent { OnOk result (L.given link.new ≡ all_more (L.given link.old) (sent_of (R.own_log recorder.new))) }
+    // Where it ends by a fault, that is so but perhaps for an end of what the last event sends that sends
+    // anything; and then every client was told that the node is gone, unless memory was refused.
+    ensures faulted { OnErr result (HasGone node (R.own_log recorder.new) (L.given link.old) (L.given link.new) (L.refused link.new)) }
     // It ends without a fault only where nothing comes any more.
     ensures closed { OnOk result (IsAtEnd (L.coming link.new)) }
     // 911, 914, 915 or 916,

@@ -28,6 +28,8 @@ impl<R: Wait + Copy> Link for SwitchingLink<R> {
 
     ghost given = { λ _. None };
 
+    ghost refused = { λ _. None };
+
     fn send(&mut self, to: Actor, parcel: Parcel) -> Result<(), LinkFault> {
         self.link.send(to, parcel)
     }

@@ -55,6 +55,8 @@ impl<B: BookName, K: Logs, R: Wait + Copy> Link for Shared<'_, '_, B, K, R> {
 
     ghost given = { λ _. None };
 
+    ghost refused = { λ _. None };
+
     fn send(&mut self, to: Actor, parcel: Parcel) -> Result<(), LinkFault> {
         self.inner.lock(&self.rt).send(to, parcel)
     }

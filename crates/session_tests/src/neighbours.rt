@@ -160,6 +160,8 @@ impl<'a, B: BookName, K: Logs, R: Wait + Copy> Link for Neighbour<'a, B, K, R> {
 
     ghost given = { λ _. None };
 
+    ghost refused = { λ _. None };
+
     fn send(&mut self, to: Actor, parcel: Parcel) -> Result<(), LinkFault> {
         let _ = to;
         self.pass(parcel.number)

@@ -30,13 +30,13 @@ fn posts_of_a_list(rt: HostRuntime) -> Outcome {
     check_answers(&[gives_its_posts(rt.alloc())])
 }
 
-/// Sends, and where memory is refused sends again; whether nothing had changed then.
+/// Sends, and where memory is refused sends again; whether nothing but the refusal was remembered then.
 fn send_again(link: &mut ListLink, number: u32) -> Option<bool> {
     let before = link.sent().len();
     if link.send(Actor::Node(node_id(1)), parcel(number)).is_ok() {
         return Some(true);
     }
-    if link.sent().len() != before {
+    if link.sent().len() != before || !link.was_refused() {
         return Some(false);
     }
     match link.send(Actor::Node(node_id(1)), parcel(number)) {

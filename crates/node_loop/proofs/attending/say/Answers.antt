@@ -1,6 +1,7 @@
 use Rattle.std.proofs.Common.{◌∙◌}
-use Rattle.std.proofs.lemmas.Result.{on_ok_weaker}
+use Rattle.std.proofs.lemmas.Result.{on_ok_weaker, on_err_weaker}
 use Rattle.node_loop.proofs.SentFacts.{say_is_told}
+use Rattle.node_loop.proofs.UnsentFacts.{said_as_far}
 use Rattle.node_loop.proofs.attending.say.Goals as goal
 
 pub returns-clause-sent : goal.returns-clause-sent
@@ -9,3 +10,10 @@ returns-clause-sent g c =
     on_ok_weaker c.send_all.result
     (λ sent. say_is_told _ _ c.args.core.now c.node.result c.in-Said.first c.in-Said.count c.in_ok-done.done _ _ c.deref.result.now _ _ c.requires c.node.ensures c.in-Said.is c.in_ok-done.ensures.logged replies sent)
     c.send_all.ensures.sent
+
+pub returns-clause-faulted : goal.returns-clause-faulted
+returns-clause-faulted g c =
+    let replies = c.deref.ensures.value ∙ c.speak-replies.ensures.replies in
+    on_err_weaker c.send_all.result
+    (λ some. said_as_far _ _ c.args.core.now c.node.result c.in-Said.first c.in-Said.count c.in_ok-done.done _ _ c.deref.result.now _ _ c.requires c.node.ensures c.in-Said.is c.in_ok-done.ensures.logged replies some)
+    c.send_all.ensures.faulted

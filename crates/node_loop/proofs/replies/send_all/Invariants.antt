@@ -1,9 +1,9 @@
-use Rattle.std.proofs.Common.{◌≡◌, drop}
-use Rattle.lossy_link.specs.Links.{all_more}
+use Rattle.std.proofs.Common.{drop}
 use Rattle.node_loop.specs.Replies.{sendings}
+use Rattle.node_loop.specs.Unsent.{HasGiven}
 use Rattle.node_loop.proofs.replies.send_all.Given as goal
 
--- what was sent, with what is left to send, is all
+-- of all that is to be sent a beginning was, and the rest is left
 abbrev pub invariant-loop-reply : goal.invariant-loop-reply
 invariant-loop-reply g l =
-    all_more (g.L.Link.given l.link) (sendings l.number (drop l.reply-index l.replies)) ≡ all_more (g.L.Link.given l.fn.link) (sendings l.fn.first l.replies)
+    HasGiven (sendings l.fn.first l.replies) (sendings l.number (drop l.reply-index l.replies)) (g.L.Link.given l.fn.link) (g.L.Link.given l.link)
