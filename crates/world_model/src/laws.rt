@@ -25,11 +25,12 @@ pub fn writers_are_alone()
 }
 
 /// Nobody is locked out. From every world that a run from a lawful opening reaches there is a run that ends
-/// with the client inside, for each client that has an attempt left, each resource, each mode and the ballot of
-/// each place. Where all actors are up it has no fall and no rise in it, and of the other clients nobody begins
-/// or enters: they only go. And where the nodes that can be won have votes enough, no other actor that is down
-/// does anything in it: a node can be won that is up, and at which no ticket of another client that is down
-/// stands in the way.
+/// with the client inside, for each client that has kept less than the greatest attempt, each resource, each mode
+/// and the ballot of each place, under ballots each two of which cross. Where what the client has chosen is below
+/// the greatest attempt too, two things more are so. With all actors up it has no fall and no rise in it, and of
+/// the other clients nobody begins or enters: they only go. And where the nodes that can be won have votes enough,
+/// no other actor that is down does anything in it: a node can be won that is up, and at which no ticket of
+/// another client that is down stands in the way.
 pub fn nobody_is_locked_out()
     ensures way { NobodyIsLockedOut }
     ensures gently { OthersOnlyGo }
@@ -38,7 +39,8 @@ pub fn nobody_is_locked_out()
 
 /// The same at the exact world, for as long as the list of messages has room for what the way may say (`load`):
 /// each sound world has events of which each is taken and that end with the client inside; and where the nodes
-/// that can be won have votes enough, nobody else is disturbed by them.
+/// that can be won have votes enough, and what the client has chosen is below the greatest attempt, nobody else is
+/// disturbed by them.
 pub fn ways_in_are_taken()
     ensures way { ExactWayIn }
     ensures without_the_dead { ExactWayWithoutTheDead }
