@@ -9,11 +9,12 @@
 //! draws one for each parcel, holds just the late one that is to go next, and brings its own actor
 //! what the fates make of its parcels, in order; that a `ListLink` gives just the posts that it was
 //! made of, in order, lists all that was sent and told, and knows whether memory was refused for that;
-//! that a call which is refused memory adds nothing to what a link remembers to have been given; and that
-//! no call answers another fault than it tells. It promises nothing of what a `ChannelLink` brings from others: of a post that is
-//! received only its type is known, and any parcel may be missing, come again or come in another
-//! order. That parcels come as their fates say is tested, and so is that links which have come to rest
-//! are closed: once every actor waits for a post and none is on its way, `receive` answers 902.
+//! that a call which is refused memory adds nothing to what a link remembers to have been given; and
+//! that no call answers another fault than it tells. It promises nothing of what a `ChannelLink` brings
+//! from others: of a post that is received only its type is known, and any parcel may be missing, come
+//! again or come in another order. That parcels come as their fates say is tested, and so is that links
+//! which have come to rest are closed: once every actor waits for a post and none is on its way,
+//! `receive` answers 902.
 //!
 //! Only `receive` of a `ChannelLink` waits for another actor. The crate stands on `lock_messages`,
 //! `bytes` for frames that several links share, `crossbeam_channel` for inboxes, `rand_pcg` and
