@@ -1,3 +1,4 @@
 pub mod ReopenFacts
 pub mod StepFacts
 pub mod EndFacts
+pub mod FindingFacts

@@ -1,12 +1,17 @@
 -- One reopen after others that failed.
-use Rattle.std.proofs.Common.{◌≡◌, ◌+◌, ◌≤◌, ℕ, Bool, List, Option, Some, None, inl, inr, subst, arith}
+use Rattle.std.proofs.Common.{◌≡◌, ◌+◌, ◌≤◌, ℕ, Bool, List, Option, Some, None, inl, inr, subst, sym, arith}
 use Rattle.std.specs.Prelude.{IfSome, IfNone}
-use Rattle.stable_record.specs.Finding.{Counts}
+use Rattle.lock_model.specs.Decisions.{Among}
+use Rattle.stable_record.specs.Finding.{Counts, FindsOnly}
 use Rattle.actor_steps.specs.Steps.{HasFailed, HasNotReopened, IsReopened}
+use Rattle.actor_steps.proofs.StepFacts.{is_one}
 
 pub found_since : (times : ℕ) (bytes : List ℕ) (first before now : List (List ℕ)) (count count' : ℕ) (stuck : Bool) → HasNotReopened times first before count count' →
     IsReopened bytes before now stuck → IsReopened bytes first now stuck
 found_since times bytes first before now count count' stuck so is = record { among = so.found bytes is.among; found = is.found; free = is.free }
+
+pub reopened_only : (bytes : List ℕ) (first before now : List (List ℕ)) (stuck : Bool) → FindsOnly first before → IsReopened bytes before now stuck → FindsOnly first now
+reopened_only bytes first before now stuck only is = λ x there. only x (subst (λ b. Among b before) (sym (is_one bytes x (subst (λ s. Among x s) is.found there))) is.among)
 
 failed-since : (times a b c : ℕ) → HasFailed times a b → HasFailed 1 b c → HasFailed (times + 1) a c
 failed-since times a b c (inl p) (inl q) = inl (omega (arith, p, q))

@@ -61,15 +61,15 @@ rise_own l who age bytes is = is-its l.actor who (event.Rise who age) is.actor (
 just : (p : Part) (bytes : List ℕ) (strings : List (List ℕ)) → kept_in p ≡ bytes → tried_in p ≡ None → strings ≡ bytes ∷ [] → FindsPart p strings
 just p bytes strings kept nothing found = subst (λ o. FindsKept (kept_in p) o strings) (sym nothing) (found ∙ ap (λ x. x ∷ []) (sym kept))
 
-is-one : (kept found : List ℕ) → Among found (kept ∷ []) → found ≡ kept
-is-one kept found (inl e) = e
-is-one kept found (inr e) = absurd e
+pub is_one : (kept found : List ℕ) → Among found (kept ∷ []) → found ≡ kept
+is_one kept found (inl e) = e
+is_one kept found (inr e) = absurd e
 
 one-of-two : (kept tried : List ℕ) (strings : List (List ℕ)) → strings ≡ kept ∷ [] → FindsKept kept (Some tried) strings
-one-of-two kept tried strings e = λ found is. inl (is-one kept found (subst (λ s. Among found s) e is))
+one-of-two kept tried strings e = λ found is. inl (is_one kept found (subst (λ s. Among found s) e is))
 
-tries-to : (p : Part) (bytes : List ℕ) (strings : List (List ℕ)) → tried_in p ≡ Some bytes → FindsKept (kept_in p) (Some bytes) strings → FindsPart p strings
-tries-to p bytes strings tried finds = subst (λ o. FindsKept (kept_in p) o strings) (sym tried) finds
+pub tries_to : (p : Part) (bytes : List ℕ) (strings : List (List ℕ)) → tried_in p ≡ Some bytes → FindsKept (kept_in p) (Some bytes) strings → FindsPart p strings
+tries_to p bytes strings tried finds = subst (λ o. FindsKept (kept_in p) o strings) (sym tried) finds
 
 -- Try
 
@@ -117,7 +117,7 @@ pub try_found : (l : OwnLog) (who : Actor) (bytes : List ℕ) (strings : List (L
     tried_in (after_own l.ballots (event.Try who) effect.Tried (part_now l)) ≡ Some bytes → FindsPart (part_now l) strings → FindsAfter l (event.Try who) strings
 try_found l who bytes strings allowed tried finds =
     λ done is. subst (λ d. FindsPart (after_own l.ballots (event.Try who) d (part_now l)) strings) (sym is)
-    (tries-to (after_own l.ballots (event.Try who) effect.Tried (part_now l)) bytes strings tried (try-finds l.ballots who (part_now l) bytes strings allowed finds))
+    (tries_to (after_own l.ballots (event.Try who) effect.Tried (part_now l)) bytes strings tried (try-finds l.ballots who (part_now l) bytes strings allowed finds))
 
 pub try_added : (l l' : OwnLog) (who : Actor) (done : Effect) → IsAdded l (event.Try who) done l' → IsAdded l (event.Try who) effect.Tried l'
 try_added l l' who done is = subst (λ d. IsAdded l (event.Try who) d l') is.kind is
@@ -215,7 +215,7 @@ pub failed_finds : (l : OwnLog) (who : Actor) (bytes : List ℕ) (before strings
     IsPut k bytes before strings stuck count count' → k ≡ keeping.Failed → FindsPart (part_now l) strings
 failed_finds l who bytes before strings k stuck count count' is put failed =
     let kept : HasFailedPut bytes before strings stuck count count' = subst (λ (x : Keeping). IsPut x bytes before strings stuck count count') failed put in
-    tries-to (part_now l) bytes strings is.tried (λ found there. either found (kept.only found there))
+    tries_to (part_now l) bytes strings is.tried (λ found there. either found (kept.only found there))
   where
     either : (found : List ℕ) → Among found before ⊎ (found ≡ bytes) → (found ≡ kept_in (part_now l)) ⊎ (found ≡ bytes)
     either found (inl a) = is.finds found a
@@ -271,7 +271,7 @@ pub fall_found : (l : OwnLog) (who : Actor) (bytes : List ℕ) (strings : List (
 fall_found l who bytes strings allowed tried finds =
     let to = falls-to l.ballots who (part_now l) bytes allowed tried in
     λ done is. subst (λ d. FindsPart (after_own l.ballots (event.Fall who) d (part_now l)) strings) (sym is)
-    (tries-to (after_own l.ballots (event.Fall who) effect.Down (part_now l)) bytes strings to.tries (fall-finds l.ballots who (part_now l) bytes strings allowed tried finds))
+    (tries_to (after_own l.ballots (event.Fall who) effect.Down (part_now l)) bytes strings to.tries (fall-finds l.ballots who (part_now l) bytes strings allowed tried finds))
 
 pub fall_added : (l l' : OwnLog) (who : Actor) (done : Effect) → IsAdded l (event.Fall who) done l' → IsAdded l (event.Fall who) effect.Down l'
 fall_added l l' who done is = subst (λ d. IsAdded l (event.Fall who) d l') is.kind is
@@ -288,6 +288,7 @@ fallen l l' who done bytes strings own allowed tried finds is =
       new = ap (λ b. own_refusal b (event.Rise who New) (part_now l')) ballot ∙ ap (λ p. own_refusal l.ballots (event.Rise who New) p) after ∙ to.new;
       kept = ap (λ b. kept_in (after_own b (event.Rise who Old) effect.Up (part_now l'))) ballot ∙ ap (λ p. kept_in (after_own l.ballots (event.Rise who Old) effect.Up p)) after ∙ to.kept ∙ ap kept_in (sym after);
       tried = ap (λ b. kept_in (after_own b (event.Rise who New) effect.Up (part_now l'))) ballot ∙ ap (λ p. kept_in (after_own l.ballots (event.Rise who New) effect.Up p)) after ∙ to.tried;
+      tries = ap tried_in after ∙ to.tries;
       finds = subst (λ p. FindsKept (kept_in p) (Some bytes) strings) (sym after) (fall-finds l.ballots who (part_now l) bytes strings allowed tried finds);
     }
 
@@ -381,7 +382,7 @@ pub rising_first : (l : OwnLog) (who : Actor) (bytes : List ℕ) (strings : List
 rising_first l who bytes strings is finds there =
     let rest = at-rest l.ballots who l.opening is.down in
     let just-kept : strings ≡ kept_in l.opening ∷ [] = subst (λ o. FindsKept (kept_in l.opening) o strings) rest.nothing finds in
-    let same : bytes ≡ kept_in l.opening = is-one (kept_in l.opening) bytes (subst (λ s. Among bytes s) just-kept there) in
+    let same : bytes ≡ kept_in l.opening = is_one (kept_in l.opening) bytes (subst (λ s. Among bytes s) just-kept there) in
     let now : part_now l ≡ l.opening = ap (λ events. part_now (record { actor = l.actor; ballots = l.ballots; opening = l.opening; events = events })) is.events in
     record {
       actor = is.actor;

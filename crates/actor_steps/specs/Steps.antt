@@ -120,6 +120,7 @@ pub record IsFallen (l : OwnLog) (who : Actor) (bytes : List ℕ) (strings : Lis
   pub new : own_refusal l.ballots (event.Rise who New) (part_now l) ≡ None
   pub kept : kept_in (after_own l.ballots (event.Rise who Old) effect.Up (part_now l)) ≡ kept_in (part_now l)
   pub tried : kept_in (after_own l.ballots (event.Rise who New) effect.Up (part_now l)) ≡ bytes
+  pub tries : tried_in (part_now l) ≡ Some bytes
   pub finds : FindsKept (kept_in (part_now l)) (Some bytes) strings
 
 -- the actor may rise, and has kept these bytes then

@@ -91,8 +91,8 @@ fn put(bytes: &[u8], stable: &mut dyn StableRecord) -> Result<Keeping, RunFault>
 /// record isn't stuck. The errors log nothing but, perhaps, the Try and, where the book refuses the Kept,
 /// no more: memory was refused (914), the book is full or another's (915), no change of the record can be
 /// numbered any more (916, which comes only where that is so). A failure of the device is told by none of
-/// them: the record isn't stuck then.
-#[tactic(auto, using(crate::proofs::StepFacts::both_kept, crate::proofs::StepFacts::still_added, crate::proofs::StepFacts::failed_finds))]
+/// them: the record isn't stuck then. However it ends, a restart finds what the log tells that it may.
+#[tactic(auto, using(crate::proofs::StepFacts::both_kept, crate::proofs::StepFacts::still_added, crate::proofs::StepFacts::failed_finds, crate::proofs::FindingFacts::still_finds, crate::proofs::FindingFacts::trying_finds, crate::proofs::FindingFacts::put_finds))]
 pub fn keep_next<R: Recorder, G: Gate>(
     actor: Actor,
     bytes: &[u8],
@@ -107,7 +107,10 @@ pub fn keep_next<R: Recorder, G: Gate>(
     requires found { FindsPart (part_now (R.own_log recorder.old)) (finds stable.old) }
     requires free { stuck_of stable.old ≡ false }
     ensures kept { result ≡ Ok Keeping.Kept → IsKept (R.own_log recorder.old) actor (R.own_log recorder.new) × HasFound bytes.now (R.own_log recorder.new) (finds stable.new) (stuck_of stable.new) }
-    ensures failed { result ≡ Ok Keeping.Failed → IsAdded (R.own_log recorder.old) (Event.Try actor) Effect.Tried (R.own_log recorder.new) × FindsPart (part_now (R.own_log recorder.new)) (finds stable.new) }
+    ensures failed { result ≡ Ok Keeping.Failed → IsAdded (R.own_log recorder.old) (Event.Try actor) Effect.Tried (R.own_log recorder.new) }
+    // However it ends, a restart finds what is kept or, while something is tried, nothing but that and what is
+    // tried.
+    ensures finds { FindsPart (part_now (R.own_log recorder.new)) (finds stable.new) }
     ensures refused { IfErr result (λ fault. IsKeepingFault fault × ((R.own_log recorder.new ≡ R.own_log recorder.old) ⊎ IsAdded (R.own_log recorder.old) (Event.Try actor) Effect.Tried (R.own_log recorder.new))) }
     ensures spent { result ≡ Err RunFault.Spent → spent_of stable.old ≡ true }
     // The device failed in this call, or its count stands at the greatest.

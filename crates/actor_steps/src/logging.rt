@@ -69,7 +69,7 @@ pub fn log_plain<R: Recorder>(
     requires stays { changes_record event ≡ false }
     requires found { FindsPart (part_now (R.own_log recorder.old)) (finds stable.now) }
     ensures logged { IfOk result (λ done. IsAdded (R.own_log recorder.old) event done (R.own_log recorder.new)) }
-    ensures found { OnOk result (FindsPart (part_now (R.own_log recorder.new)) (finds stable.now)) }
+    ensures found { FindsPart (part_now (R.own_log recorder.new)) (finds stable.now) }
     ensures refused { IfErr result (λ fault. IsBookFault fault × (R.own_log recorder.new ≡ R.own_log recorder.old)) }
     ensures falls { is_fall event ≡ false → falls_of (R.own_log recorder.new) ≡ falls_of (R.own_log recorder.old) }
 {
@@ -93,7 +93,7 @@ pub fn log_switch<R: Recorder>(
     requires allowed { own_refusal (R.own_log recorder.old).ballots (Event.Switch node problem) (part_now (R.own_log recorder.old)) ≡ None }
     requires found { FindsPart (part_now (R.own_log recorder.old)) (finds stable.now) }
     ensures logged { IfOk result (λ changed. IsAdded (R.own_log recorder.old) (Event.Switch node problem) (Effect.Switched changed) (R.own_log recorder.new)) }
-    ensures found { OnOk result (FindsPart (part_now (R.own_log recorder.new)) (finds stable.now)) }
+    ensures found { FindsPart (part_now (R.own_log recorder.new)) (finds stable.now) }
     ensures refused { IfErr result (λ fault. IsBookFault fault × (R.own_log recorder.new ≡ R.own_log recorder.old)) }
     ensures falls { falls_of (R.own_log recorder.new) ≡ falls_of (R.own_log recorder.old) }
 {
@@ -132,7 +132,7 @@ pub fn log_reading<R: Recorder>(
     requires found { FindsPart (part_now (R.own_log recorder.old)) (finds stable.now) }
     ensures logged { IfOk result (λ o. IfSome o (λ done. IsAdded (R.own_log recorder.old) event done (R.own_log recorder.new))) }
     ensures dropped { IfOk result (λ o. IfNone o (R.own_log recorder.new ≡ R.own_log recorder.old)) }
-    ensures found { OnOk result (FindsPart (part_now (R.own_log recorder.new)) (finds stable.now)) }
+    ensures found { FindsPart (part_now (R.own_log recorder.new)) (finds stable.now) }
     ensures refused { IfErr result (λ fault. IsBookFault fault × (R.own_log recorder.new ≡ R.own_log recorder.old)) }
     ensures falls { falls_of (R.own_log recorder.new) ≡ falls_of (R.own_log recorder.old) }
 {

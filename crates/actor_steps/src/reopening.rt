@@ -1,6 +1,7 @@
 // Reopening a record whose device may fail.
 
 ghost use Rattle.std.specs.Prelude.{◌≡◌, ◌+◌, ◌<◌, OnOk, IfOk, IfErr, IfSome, IfNone};
+ghost use Rattle.stable_record.specs.Finding.{FindsOnly};
 ghost use Rattle.actor_steps.specs.Steps.{HasFailed, HasNotReopened, IsReopened, EndsReopening};
 
 use event_recorders::RunFault;
@@ -34,11 +35,13 @@ fn reopen_once(stable: &mut dyn StableRecord, failed: &mut u8) -> Result<Option<
 /// reopens that failed.
 ///
 /// The errors: each of them failed (911), or memory was refused before (914).
+#[tactic(auto, using(crate::proofs::ReopenFacts::reopened_only))]
 pub(crate) fn reopened(stable: &mut dyn StableRecord, failed: &mut u8) -> Result<Vec<u8>, RunFault>
     requires { failed.old ≡ 0 }
     ensures found { IfOk result (λ bytes. IsReopened bytes.items (finds stable.old) (finds stable.new) (stuck_of stable.new)) }
     ensures few { OnOk result (failed.new < MAX_REOPENS) }
     ensures ended { IfErr result (λ fault. EndsReopening fault failed.new) }
+    ensures only { FindsOnly (finds stable.old) (finds stable.new) }
     ensures failed { HasFailed failed.new (failures_of stable.old) (failures_of stable.new) }
 {
     while *failed < MAX_REOPENS {

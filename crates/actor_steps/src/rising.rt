@@ -3,7 +3,7 @@
 ghost use Rattle.std.specs.Prelude.{◌≡◌, ◌+◌, ◌≤◌, ◌⊎◌, ◌↔◌, false, None, Some, OnOk, IfOk, IfErr, Err, [], ◌∷◌};
 ghost use Rattle.world_model.specs.Parts.{own_refusal};
 ghost use Rattle.world_model.specs.declared.events.Age.{Age as AgeValue};
-ghost use Rattle.event_recorders.specs.OwnLogs.{part_now, FindsPart, IsAdded, IsUnused, tried_in};
+ghost use Rattle.event_recorders.specs.OwnLogs.{part_now, FindsPart, IsAdded, IsUnused, tried_in, FindsItsOwn};
 ghost use Rattle.actor_steps.specs.Steps.{HasFound, IsBookFault, IsRiseFault, IsRisenAgain, HasFailed, IsRising, IsFallen};
 ghost use Rattle.actor_steps.specs.Endings.{falls_of, EndsFrom};
 
@@ -61,8 +61,8 @@ fn log_fall<R: Recorder>(
 ///
 /// The caller owes that the actor has logged nothing and is down with nothing tried, and that a restart
 /// finds in the record just what it has kept. The errors log nothing: three reopens failed (911), memory
-/// was refused (914), the book is full or another's (915).
-#[tactic(auto, using(crate::proofs::StepFacts::rising_first))]
+/// was refused (914), the book is full or another's (915). A restart finds nothing but what is kept then too.
+#[tactic(auto, using(crate::proofs::StepFacts::rising_first, crate::proofs::FindingFacts::unused_own, crate::proofs::FindingFacts::found_own))]
 pub fn rise_first<R: Recorder>(
     actor: Actor,
     stable: &mut dyn StableRecord,
@@ -72,6 +72,8 @@ pub fn rise_first<R: Recorder>(
     requires found { FindsPart (R.own_log recorder.old).opening (finds stable.old) }
     ensures risen { IfOk result (λ bytes. IsAdded (R.own_log recorder.old) (Event.Rise actor Age.Old) Effect.Up (R.own_log recorder.new)) }
     ensures found { IfOk result (λ bytes. HasFound bytes.items (R.own_log recorder.new) (finds stable.new) (stuck_of stable.new)) }
+    // However it ends, a restart finds nothing but what is kept.
+    ensures finds { FindsItsOwn (part_now (R.own_log recorder.new)) (finds stable.new) }
     ensures refused { IfErr result (λ fault. IsRiseFault fault × (R.own_log recorder.new ≡ R.own_log recorder.old)) }
     ensures failed { result ≡ Err RunFault.NotReopened → HasFailed MAX_REOPENS (failures_of stable.old) (failures_of stable.new) }
     ensures ended { IfErr result (λ fault. EndsFrom fault (falls_of (R.own_log recorder.old)) (R.own_log recorder.new) (stuck_of stable.new) (spent_of stable.new) (failures_of stable.old) (failures_of stable.new)) }
@@ -98,8 +100,8 @@ fn age_of(found: &[u8], tried: &[u8]) -> Age
 /// The caller owes that the actor's own log allows the fall and has these bytes tried, and that a
 /// restart finds nothing in the record but what is kept and what is tried. The errors log nothing but,
 /// perhaps, the fall: three reopens failed (911), memory was refused (914), the book is full or
-/// another's (915).
-#[tactic(auto, using(crate::proofs::StepFacts::rising_again, crate::proofs::StepFacts::both_risen, crate::proofs::StepFacts::still_added))]
+/// another's (915). A restart finds nothing but what is kept and what is tried then too.
+#[tactic(auto, using(crate::proofs::StepFacts::rising_again, crate::proofs::StepFacts::both_risen, crate::proofs::StepFacts::still_added, crate::proofs::FindingFacts::still_finds))]
 pub fn rise_again<R: Recorder>(
     actor: Actor,
     tried: &[u8],
@@ -112,6 +114,9 @@ pub fn rise_again<R: Recorder>(
     requires found { FindsPart (part_now (R.own_log recorder.old)) (finds stable.old) }
     ensures risen { IfOk result (λ bytes. (age : AgeValue) × IsRisenAgain (R.own_log recorder.old) actor age (R.own_log recorder.new) × ((age ≡ Age.New) ↔ (bytes.items ≡ tried.now))) }
     ensures found { IfOk result (λ bytes. HasFound bytes.items (R.own_log recorder.new) (finds stable.new) (stuck_of stable.new)) }
+    // However it ends, a restart finds what is kept or, while something is tried, nothing but that and what is
+    // tried.
+    ensures finds { FindsPart (part_now (R.own_log recorder.new)) (finds stable.new) }
     ensures refused { IfErr result (λ fault. IsRiseFault fault × ((R.own_log recorder.new ≡ R.own_log recorder.old) ⊎ IsAdded (R.own_log recorder.old) (Event.Fall actor) Effect.Down (R.own_log recorder.new))) }
     ensures failed { result ≡ Err RunFault.NotReopened → HasFailed MAX_REOPENS (failures_of stable.old) (failures_of stable.new) }
     ensures ended { IfErr result (λ fault. EndsFrom fault (falls_of (R.own_log recorder.old) + 1) (R.own_log recorder.new) (stuck_of stable.new) (spent_of stable.new) (failures_of stable.old) (failures_of stable.new)) }

@@ -1,5 +1,5 @@
 -- What a client's own log tells of what it sends.
-use Rattle.std.proofs.Common.{◌≡◌, ◌↔◌, ◌⊎◌, inl, inr, ℕ, Bool, true, false, List, [], ◌∷◌, ◌++◌, Option, None, Some, refl, sym, ap, ◌∙◌, append_assoc, append-nil, if◌then◌else◌, map, ◌==◌}
+use Rattle.std.proofs.Common.{◌≡◌, ◌↔◌, ◌⊎◌, inl, inr, ℕ, Bool, true, false, List, [], ◌∷◌, ◌++◌, Option, None, Some, refl, sym, ap, ◌∙◌, append_assoc, append-nil, if◌then◌else◌, map, ◌==◌, subst, arith}
 use Rattle.lock_messages.specs.declared.ids.Actor.{Actor}
 use Rattle.lock_messages.specs.declared.ids.Actor.TheVariants as actor
 use Rattle.lock_messages.specs.declared.messages.Message.{Message}
@@ -27,7 +27,7 @@ use Rattle.event_recorders.specs.declared.faults.RunFault.TheVariants as fault
 use Rattle.event_recorders.specs.OwnLogs.{OwnLog, part_now, adds, IsAdded, IsUnused}
 use Rattle.actor_steps.specs.Steps.{IsKept, IsRisenAgain}
 use Rattle.client_loop.specs.Standing.{Stands, part_of}
-use Rattle.client_loop.specs.Sendings.{sent_for, sent_by, sent_of, sending_to, number_of, SentFollows, SentUnlessMemory, ToldUnlessMemory}
+use Rattle.client_loop.specs.Sendings.{sent_for, sent_by, sent_of, sending_to, number_of, SentFollows, SentUnlessMemory, ToldUnlessMemory, EndsHere}
 
 -- one event more sends what it sends from the part before it
 by_one_more : (b : List Ballot) (p : Part) (own : List (Event × Effect)) (e : Event) (done : Effect) →
@@ -160,30 +160,58 @@ all_told l l' given given' nothing follows = follows.follows given (sym (ap (all
 
 -- The same where it ends by a fault.
 
-pub unless_memory : (l l' : OwnLog) (given given' : Option (List Sending)) → SentUnlessMemory fault.Memory l l' given given'
-unless_memory l l' given given' = record { sent = λ other. absurd (other refl) }
+-- memory was refused before what was said last was sent
+pub unless_memory : (l l' : OwnLog) (x : Sending) (given given' : Option (List Sending)) → sent_of l' ≡ sent_of l ++ x ∷ [] → given' ≡ given → SentUnlessMemory fault.Memory l l' given given'
+unless_memory l l' x given given' said still =
+    record { sent = sent_of l; left = x ∷ []; all = said; last = omega arith; none = λ other. absurd (other refl); follows = λ before was. still ∙ was }
 
+-- all that the log tells was sent
 pub unless_follows : (f : RunFault) (l l' : OwnLog) (given given' : Option (List Sending)) → SentFollows l l' given given' → SentUnlessMemory f l l' given given'
-unless_follows f l l' given given' follows = record { sent = λ other. follows }
+unless_follows f l l' given given' follows =
+    record { sent = sent_of l'; left = []; all = sym (append-nil (sent_of l')); last = omega arith; none = λ other. refl; follows = follows.follows }
 
-pub unless_none : (f : RunFault) (l l' : OwnLog) (given : Option (List Sending)) → sent_of l' ≡ sent_of l → SentUnlessMemory f l l' given given
-unless_none f l l' given same = record { sent = λ other. follows_none l l' given same }
+-- nothing more in either
+pub unless_none : (f : RunFault) (l l' : OwnLog) (given given' : Option (List Sending)) → sent_of l' ≡ sent_of l → given' ≡ given → SentUnlessMemory f l l' given given'
+unless_none f l l' given given' same still = unless_follows f l l' given given' (record { follows = λ before was. still ∙ was ∙ ap (all_more before) (sym same) })
 
 pub unless_on : (f : RunFault) (l m l' : OwnLog) (given between given' : Option (List Sending)) → SentFollows l m given between → SentUnlessMemory f m l' between given' → SentUnlessMemory f l l' given given'
-unless_on f l m l' given between given' first second = record { sent = λ other. follows_on l m l' given between given' first (second.sent other) }
+unless_on f l m l' given between given' first second =
+    record { sent = second.sent; left = second.left; all = second.all; last = second.last; none = second.none; follows = λ before was. second.follows before (first.follows before was) }
 
 pub unless_from : (f : RunFault) (l m l' : OwnLog) (given given' : Option (List Sending)) → sent_of m ≡ sent_of l → SentUnlessMemory f m l' given given' → SentUnlessMemory f l l' given given'
-unless_from f l m l' given given' same later = record { sent = λ other. follows_from l m l' given given' same (later.sent other) }
+unless_from f l m l' given given' same later = unless_on f l m l' given given given' (follows_none l m given same) later
 
--- a fault, and the one by which the thread ends behind it
-pub unless_both : (f later : RunFault) (l m l' : OwnLog) (given between given' : Option (List Sending)) → (f ≡ fault.Memory → later ≡ fault.Memory) →
-    SentUnlessMemory f l m given between → SentUnlessMemory later m l' between given' → SentUnlessMemory later l l' given given'
-unless_both f later l m l' given between given' memory first second = record {
-  sent = λ other. follows_on l m l' given between given' (first.sent (λ is. other (memory is))) (second.sent other);
+-- where memory wasn't refused, nothing is left
+none-left : (f : RunFault) (l l' : OwnLog) (given given' : Option (List Sending)) → (f ≡ fault.Memory → ⊥) → SentUnlessMemory f l l' given given' → SentFollows l l' given given'
+none-left f l l' given given' other is = record {
+  follows = λ before was. is.follows before was ∙ ap (all_more before) (sym (is.all ∙ ap (λ xs. is.sent ++ xs) (is.none other) ∙ append-nil is.sent));
 }
 
+-- nothing more was logged, nor given, and the fault is the same
+ended-there : (f later : RunFault) (l m l' : OwnLog) (given between given' : Option (List Sending)) → f ≡ fault.Memory → EndsHere later m l' between given' → SentUnlessMemory f l m given between →
+    SentUnlessMemory later l l' given given'
+ended-there f later l m l' given between given' memory here first =
+    subst (λ g. SentUnlessMemory later l l' given g) (sym here.still)
+    (subst (λ x. SentUnlessMemory later l x given between) (sym here.log) (subst (λ k. SentUnlessMemory k l m given between) (memory ∙ sym here.same) first))
+
+-- A fault, and the one by which the thread ends behind it; behind want of memory nothing more is done.
+pub unless_both : (f later : RunFault) (l m l' : OwnLog) (given between given' : Option (List Sending)) → (f ≡ fault.Memory → EndsHere later m l' between given') →
+    SentUnlessMemory f l m given between → SentUnlessMemory later m l' between given' → SentUnlessMemory later l l' given given'
+unless_both fault.Memory later l m l' given between given' memory first second = ended-there fault.Memory later l m l' given between given' refl (memory refl) first
+unless_both fault.NotReopened later l m l' given between given' memory first second =
+    unless_on later l m l' given between given' (none-left fault.NotReopened l m given between (λ is. absurd (cc is)) first) second
+unless_both fault.Book later l m l' given between given' memory first second = unless_on later l m l' given between given' (none-left fault.Book l m given between (λ is. absurd (cc is)) first) second
+unless_both fault.Spent later l m l' given between given' memory first second = unless_on later l m l' given between given' (none-left fault.Spent l m given between (λ is. absurd (cc is)) first) second
+unless_both fault.TooFewNodes later l m l' given between given' memory first second =
+    unless_on later l m l' given between given' (none-left fault.TooFewNodes l m given between (λ is. absurd (cc is)) first) second
+unless_both fault.GaveUp later l m l' given between given' memory first second = unless_on later l m l' given between given' (none-left fault.GaveUp l m given between (λ is. absurd (cc is)) first) second
+
+-- on top of what was there before a log that sends nothing
+
 pub told_unless : (f : RunFault) (l l' : OwnLog) (given given' : Option (List Sending)) → sent_of l ≡ [] → SentUnlessMemory f l l' given given' → ToldUnlessMemory f l' given given'
-told_unless f l l' given given' nothing unless = record { told = λ other. all_told l l' given given' nothing (unless.sent other) }
+told_unless f l l' given given' nothing is =
+    record { sent = is.sent; left = is.left; all = is.all; last = is.last; none = is.none; now = is.follows given (sym (ap (all_more given) nothing ∙ none_more given)) }
 
 pub told_nothing : (f : RunFault) (l : OwnLog) (given : Option (List Sending)) → sent_of l ≡ [] → ToldUnlessMemory f l given given
-told_nothing f l given nothing = record { told = λ other. sym (ap (all_more given) nothing ∙ none_more given) }
+told_nothing f l given nothing =
+    record { sent = []; left = []; all = nothing; last = omega arith; none = λ other. refl; now = sym (none_more given) }

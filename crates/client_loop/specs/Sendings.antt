@@ -1,5 +1,5 @@
 -- What a client sends.
-use Rattle.std.specs.Prelude.{◌≡◌, ℕ, Bool, true, false, List, [], ◌∷◌, ◌++◌, map, filter, Option, None, Some}
+use Rattle.std.specs.Prelude.{◌≡◌, ℕ, ◌≤◌, length, Bool, true, false, List, [], ◌∷◌, ◌++◌, map, filter, Option, None, Some}
 use Rattle.std.specs.List.{range_with_len}
 use Rattle.lock_messages.specs.declared.ids.Actor.TheVariants as actor
 use Rattle.lock_messages.specs.declared.messages.Message.{Message}
@@ -70,10 +70,21 @@ sent_of l = sent_by l.ballots l.opening l.events
 pub record SentFollows (l l' : OwnLog) (given given' : Option (List Sending)) : Type 0 where
   pub follows : (before : Option (List Sending)) → given ≡ all_more before (sent_of l) → given' ≡ all_more before (sent_of l')
 
--- The same, unless it ended by want of memory, which may come between a message's line in the log and its
--- sending.
+-- The same where it ended by a fault, but for what is left of what the other log tells: its last message at most, and
+-- nothing unless memory was refused, which may come between a message's line in the log and its sending.
 pub record SentUnlessMemory (f : RunFault) (l l' : OwnLog) (given given' : Option (List Sending)) : Type 0 where
-  pub sent : (f ≡ fault.Memory → ⊥) → SentFollows l l' given given'
+  pub sent : List Sending
+  pub left : List Sending
+  pub all : sent_of l' ≡ sent ++ left
+  pub last : length left ≤ 1
+  pub none : (f ≡ fault.Memory → ⊥) → left ≡ []
+  pub follows : (before : Option (List Sending)) → given ≡ all_more before (sent_of l) → given' ≡ all_more before sent
+
+-- it ends here, by want of memory: nothing more is logged, and nothing more is given
+pub record EndsHere (f : RunFault) (l l' : OwnLog) (given given' : Option (List Sending)) : Type 0 where
+  pub same : f ≡ fault.Memory
+  pub log : l' ≡ l
+  pub still : given' ≡ given
 
 -- what the one log tells beyond the other: that the message went to the node, once, or nothing where there is
 -- none
@@ -113,6 +124,12 @@ abbrev pub TellsSoftenedIf : Bool → Client → List ℕ → OwnLog → OwnLog 
 TellsSoftenedIf true c set l l' = TellsSoftened c set l l'
 TellsSoftenedIf false c set l l' = sent_of l' ≡ sent_of l
 
--- all that the log tells was sent, on top of what was sent before, unless it ended by want of memory
+-- What the log tells was sent, on top of what was sent before, but for what is left of it: its last message at most, and
+-- nothing unless memory was refused.
 pub record ToldUnlessMemory (f : RunFault) (l : OwnLog) (given given' : Option (List Sending)) : Type 0 where
-  pub told : (f ≡ fault.Memory → ⊥) → given' ≡ all_more given (sent_of l)
+  pub sent : List Sending
+  pub left : List Sending
+  pub all : sent_of l ≡ sent ++ left
+  pub last : length left ≤ 1
+  pub none : (f ≡ fault.Memory → ⊥) → left ≡ []
+  pub now : given' ≡ all_more given sent

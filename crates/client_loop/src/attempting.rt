@@ -9,6 +9,7 @@ ghost use Rattle.client_loop.specs.Standing.{Stands, HasChosen, HasTried};
 ghost use Rattle.actor_steps.specs.Endings.{falls_of, FailuresFollow};
 ghost use Rattle.client_loop.specs.Endings.{ClientEndsFrom, IsAttemptFault};
 ghost use Rattle.client_loop.specs.Visits.{visits_of, use_of, AsksFor, BeginsOnly, BeginsMore};
+ghost use Rattle.event_recorders.specs.OwnLogs.{FindsItsOwn, part_now};
 
 use crate::progress::Progress;
 use actor_steps::{Keeping, keep_next, log_plain, rise_again};
@@ -22,7 +23,7 @@ use std::sync::Wait;
 use world_model::Event;
 
 /// Chooses the next attempt, for the wish. 916: none is left.
-#[tactic(auto, using(crate::proofs::SentFacts::begin_sends_nothing, crate::proofs::EndFacts::book_ends, crate::proofs::BeginFacts::begins_none))]
+#[tactic(auto, using(crate::proofs::SentFacts::begin_sends_nothing, crate::proofs::EndFacts::book_ends, crate::proofs::BeginFacts::begins_none, actor_steps::proofs::FindingFacts::part_own, crate::proofs::FindingFacts::stands_own))]
 fn begin<R: Recorder>(
     core: &mut ClientCore,
     wish: &Wish,
@@ -41,6 +42,7 @@ fn begin<R: Recorder>(
     ensures entered { (visits_of (R.own_log recorder.new)).entered ≡ (visits_of (R.own_log recorder.old)).entered }
     ensures softened { (visits_of (R.own_log recorder.new)).softened ≡ (visits_of (R.own_log recorder.old)).softened }
     ensures falls { falls_of (R.own_log recorder.new) ≡ falls_of (R.own_log recorder.old) }
+    ensures own { FindsItsOwn (part_now (R.own_log recorder.new)) (finds stable.now) }
     ensures ended { IfErr result (λ fault. ClientEndsFrom fault (falls_of (R.own_log recorder.old)) (R.own_log recorder.new) (stuck_of stable.now) (spent_of stable.now) (failures_of stable.now) (failures_of stable.now)) }
     ensures faults { IfErr result IsAttemptFault }
     ensures begins { BeginsOnly (use_of wish.now) (visits_of (R.own_log recorder.old)) (visits_of (R.own_log recorder.new)) }
@@ -66,7 +68,7 @@ fn begin<R: Recorder>(
 }
 
 /// Rises again with the attempt that the record holds, after it failed to keep the chosen one.
-#[tactic(auto, using(crate::proofs::EndFacts::client_ends, actor_steps::proofs::EndFacts::failures_stay))]
+#[tactic(auto, using(crate::proofs::EndFacts::client_ends, actor_steps::proofs::EndFacts::failures_stay, actor_steps::proofs::FindingFacts::part_own))]
 fn rise_anew<R: Recorder>(
     core: &mut ClientCore,
     stable: &mut dyn StableRecord,
@@ -78,6 +80,7 @@ fn rise_anew<R: Recorder>(
     ensures idle { OnOk result (phase_of core.new ≡ phase.Idle) }
     ensures silent { sent_of (R.own_log recorder.new) ≡ sent_of (R.own_log recorder.old) }
     ensures visits { visits_of (R.own_log recorder.new) ≡ visits_of (R.own_log recorder.old) }
+    ensures own { FindsItsOwn (part_now (R.own_log recorder.new)) (finds stable.new) }
     ensures ended { IfErr result (λ fault. ClientEndsFrom fault (falls_of (R.own_log recorder.old) + 1) (R.own_log recorder.new) (stuck_of stable.new) (spent_of stable.new) (failures_of stable.old) (failures_of stable.new)) }
     ensures faults { IfErr result IsAttemptFault }
     ensures falls { FailuresFollow (falls_of (R.own_log recorder.old) + 1) (falls_of (R.own_log recorder.new)) (failures_of stable.old) (failures_of stable.new) }
@@ -93,7 +96,7 @@ fn rise_anew<R: Recorder>(
 
 /// Keeps the chosen attempt, with which the client then asks. Whether it was kept; where the record
 /// failed, the client has risen again.
-#[tactic(auto, using(crate::proofs::SentFacts::keeping_sends_nothing, crate::proofs::SentFacts::trying_sends_nothing, crate::proofs::SentFacts::tried_sends_nothing, crate::proofs::EndFacts::client_ends, crate::proofs::EndFacts::client_ends_on, actor_steps::proofs::EndFacts::failures_stay, actor_steps::proofs::EndFacts::failures_rise, actor_steps::proofs::EndFacts::failures_on))]
+#[tactic(auto, using(crate::proofs::SentFacts::keeping_sends_nothing, crate::proofs::SentFacts::trying_sends_nothing, crate::proofs::SentFacts::tried_sends_nothing, crate::proofs::EndFacts::client_ends, crate::proofs::EndFacts::client_ends_on, actor_steps::proofs::EndFacts::failures_stay, actor_steps::proofs::EndFacts::failures_rise, actor_steps::proofs::EndFacts::failures_on, actor_steps::proofs::FindingFacts::part_own))]
 fn keep_chosen<R: Recorder, G: Gate>(
     core: &mut ClientCore,
     stable: &mut dyn StableRecord,
@@ -109,6 +112,7 @@ fn keep_chosen<R: Recorder, G: Gate>(
     ensures visits { visits_of (R.own_log recorder.new) ≡ visits_of (R.own_log recorder.old) }
     ensures asking { result ≡ Ok true → phase_of core.new ≡ phase.Asking }
     ensures ticket { result ≡ Ok true → ticket_of core.new ≡ ticket_of core.old }
+    ensures own { FindsItsOwn (part_now (R.own_log recorder.new)) (finds stable.new) }
     ensures ended { IfErr result (λ fault. ClientEndsFrom fault (falls_of (R.own_log recorder.old)) (R.own_log recorder.new) (stuck_of stable.new) (spent_of stable.new) (failures_of stable.old) (failures_of stable.new)) }
     ensures faults { IfErr result IsAttemptFault }
     ensures falls { FailuresFollow (falls_of (R.own_log recorder.old)) (falls_of (R.own_log recorder.new)) (failures_of stable.old) (failures_of stable.new) }
@@ -153,6 +157,7 @@ pub(crate) fn attempt<W: Wait, R: Recorder, G: Gate>(
     ensures asking { OnOk result (phase_of progress.new.core ≡ phase.Asking) }
     ensures most { progress.new.most_nudges ≡ progress.old.most_nudges }
     ensures asks { OnOk result (IfSome (ticket_of progress.new.core) (AsksFor (use_of wish.now))) }
+    ensures own { FindsItsOwn (part_now (R.own_log recorder.new)) (finds stable.new) }
     ensures ended { IfErr result (λ fault. ClientEndsFrom fault (falls_of (R.own_log recorder.old)) (R.own_log recorder.new) (stuck_of stable.new) (spent_of stable.new) (failures_of stable.old) (failures_of stable.new)) }
     ensures faults { IfErr result IsAttemptFault }
     ensures falls { FailuresFollow (falls_of (R.own_log recorder.old)) (falls_of (R.own_log recorder.new)) (failures_of stable.old) (failures_of stable.new) }

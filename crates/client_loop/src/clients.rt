@@ -3,7 +3,7 @@
 ghost use Rattle.std.specs.Prelude.{◌≡◌, ◌≤◌, [], OnOk, IfOk, All, false, length, IfErr};
 ghost use Rattle.client_core.specs.Clients.{phase_of};
 ghost use Rattle.client_core.specs.declared.phases.Phase.TheVariants as phase;
-ghost use Rattle.event_recorders.specs.OwnLogs.{IsUnused, FindsPart, part_now};
+ghost use Rattle.event_recorders.specs.OwnLogs.{IsUnused, FindsPart, part_now, FindsItsOwn};
 ghost use Rattle.lossy_link.specs.Links.{all_more};
 ghost use Rattle.client_loop.specs.Sendings.{sent_of, SentFollows, SentUnlessMemory, ToldUnlessMemory};
 ghost use Rattle.client_loop.specs.Standing.{Stands, KeepsAttempt};
@@ -25,7 +25,7 @@ use std::sync::Wait;
 use vote_weights::BallotList;
 
 /// Fulfils the wishes in order.
-#[tactic(auto, using(crate::proofs::SentFacts::follows_on, crate::proofs::SentFacts::unless_on, crate::proofs::EndFacts::client_ends_on, crate::proofs::EndFacts::is_outside, actor_steps::proofs::EndFacts::failures_on))]
+#[tactic(auto, using(crate::proofs::SentFacts::follows_on, crate::proofs::SentFacts::unless_on, crate::proofs::EndFacts::client_ends_on, crate::proofs::EndFacts::is_outside, actor_steps::proofs::EndFacts::failures_on, crate::proofs::FindingFacts::stands_own))]
 fn fulfil_all<W: Wait, R: Recorder, L: Link, G: Gate>(
     rt: &W,
     alloc: Global,
@@ -50,6 +50,7 @@ fn fulfil_all<W: Wait, R: Recorder, L: Link, G: Gate>(
     ensures softened { SoftensAsWished wishes.now result (R.own_log recorder.new) }
     ensures all { IfOk result (λ n. n ≡ length wishes.now) }
     ensures outside { OnOk result (IsOutside (part_now (R.own_log recorder.new))) }
+    ensures own { FindsItsOwn (part_now (R.own_log recorder.new)) (finds stable.new) }
     ensures ended { IfErr result (λ p. ClientEndsFrom p.1 (falls_of (R.own_log recorder.old)) (R.own_log recorder.new) (stuck_of stable.new) (spent_of stable.new) (failures_of stable.old) (failures_of stable.new)) }
     ensures falls { FailuresFollow (falls_of (R.own_log recorder.old)) (falls_of (R.own_log recorder.new)) (failures_of stable.old) (failures_of stable.new) }
     ensures begun { HasBegun (R.own_log recorder.old).actor wishes.now (R.own_log recorder.new) }
@@ -104,6 +105,8 @@ pub fn run_client_over<W: Wait, R: Recorder, L: Link, G: Gate>(
     ensures softened { SoftensAsWished wishes.now result (R.own_log recorder.new) }
     ensures all { IfOk result (λ n. n ≡ length wishes.now) }
     ensures outside { OnOk result (IsOutside (part_now (R.own_log recorder.new))) }
+    // However it ends, a restart finds in its record nothing but what it has kept and what it tries to keep.
+    ensures own { FindsItsOwn (part_now (R.own_log recorder.new)) (finds stable.new) }
     ensures ended { IfErr result (λ p. ClientEndsBy p.1 (R.own_log recorder.new) (stuck_of stable.new) (spent_of stable.new) (failures_of stable.old) (failures_of stable.new)) }
     ensures falls { HasFailed (falls_of (R.own_log recorder.new)) (failures_of stable.old) (failures_of stable.new) }
     ensures begun { HasBegun (R.own_log recorder.old).actor wishes.now (R.own_log recorder.new) }

@@ -1,12 +1,12 @@
 // Giving up a wish.
 
 ghost use Rattle.std.specs.Prelude.{◌≡◌, ◌⊎◌, OnOk, IfErr};
-ghost use Rattle.client_loop.specs.Sendings.{SentFollows, SentUnlessMemory};
+ghost use Rattle.client_loop.specs.Sendings.{SentFollows, SentUnlessMemory, EndsHere};
 ghost use Rattle.client_loop.specs.Standing.{Stands};
 ghost use Rattle.client_loop.specs.Visits.{visits_of};
 ghost use Rattle.client_core.specs.Clients.{phase_of};
 ghost use Rattle.client_core.specs.declared.phases.Phase.TheVariants as phase;
-ghost use Rattle.event_recorders.specs.OwnLogs.{part_now};
+ghost use Rattle.event_recorders.specs.OwnLogs.{part_now, FindsItsOwn};
 ghost use Rattle.client_loop.specs.Endings.{IsAskFault, IsOutside, EndsAsking, EndsOneAttempt};
 ghost use Rattle.actor_steps.specs.Steps.{IsBookFault};
 ghost use Rattle.actor_steps.specs.Endings.{falls_of};
@@ -21,7 +21,7 @@ use stable_record::StableRecord;
 use std::alloc::Global;
 
 /// Leaves, where the client asks, and says the release once to each node that was asked and isn't gone.
-#[tactic(auto, using(crate::proofs::SentFacts::follows_from, crate::proofs::SentFacts::unless_none, crate::proofs::SentFacts::unless_from, crate::proofs::EndFacts::is_outside))]
+#[tactic(auto, using(crate::proofs::SentFacts::follows_from, crate::proofs::SentFacts::unless_none, crate::proofs::SentFacts::unless_from, crate::proofs::EndFacts::is_outside, crate::proofs::FindingFacts::stands_own, crate::proofs::FindingFacts::stands_still))]
 fn give_up<R: Recorder, L: Link>(
     alloc: Global,
     progress: &mut Progress,
@@ -35,6 +35,7 @@ fn give_up<R: Recorder, L: Link>(
     ensures faulted { IfErr result (λ f. SentUnlessMemory f (R.own_log recorder.old) (R.own_log recorder.new) (L.given link.old) (L.given link.new)) }
     ensures visits { visits_of (R.own_log recorder.new) ≡ visits_of (R.own_log recorder.old) }
     ensures falls { falls_of (R.own_log recorder.new) ≡ falls_of (R.own_log recorder.old) }
+    ensures own { FindsItsOwn (part_now (R.own_log recorder.new)) (finds stable.now) }
     ensures faults { IfErr result IsBookFault }
     ensures outside { OnOk result (IsOutside (part_now (R.own_log recorder.new))) }
     ensures idle { phase_of progress.new.core ≡ phase.Idle }
@@ -51,7 +52,7 @@ fn give_up<R: Recorder, L: Link>(
 
 /// Ends the attempt by the fault: a client that has too few nodes left, or gave up, takes back what it asked
 /// for, and rests. Should that fail, it ends by the later fault.
-#[tactic(auto, using(crate::proofs::SentFacts::unless_follows, crate::proofs::SentFacts::unless_none))]
+#[tactic(auto, using(crate::proofs::SentFacts::unless_follows, crate::proofs::SentFacts::unless_none, crate::proofs::FindingFacts::stands_own))]
 pub(crate) fn end<R: Recorder, L: Link>(
     alloc: Global,
     fault: RunFault,
@@ -64,9 +65,10 @@ pub(crate) fn end<R: Recorder, L: Link>(
     requires phase { (phase_of progress.old.core ≡ phase.Asking) ⊎ (phase_of progress.old.core ≡ phase.Idle) }
     requires fault { IsAskFault fault }
     ensures faulted { SentUnlessMemory result (R.own_log recorder.old) (R.own_log recorder.new) (L.given link.old) (L.given link.new) }
-    ensures memory { fault ≡ RunFault.Memory → result ≡ RunFault.Memory }
+    ensures memory { fault ≡ RunFault.Memory → EndsHere result (R.own_log recorder.old) (R.own_log recorder.new) (L.given link.old) (L.given link.new) }
     ensures visits { visits_of (R.own_log recorder.new) ≡ visits_of (R.own_log recorder.old) }
     ensures falls { falls_of (R.own_log recorder.new) ≡ falls_of (R.own_log recorder.old) }
+    ensures own { FindsItsOwn (part_now (R.own_log recorder.new)) (finds stable.now) }
     ensures ended { EndsAsking result (R.own_log recorder.new) }
     ensures told { (result ≡ fault) ⊎ IsBookFault result }
     ensures idle { phase_of progress.old.core ≡ phase.Idle → phase_of progress.new.core ≡ phase.Idle }

@@ -12,6 +12,7 @@ ghost use Rattle.client_loop.specs.Endings.{ClientEndsFrom, EndsAsking, EndsOneA
 ghost use Rattle.actor_steps.specs.Steps.{IsBookFault};
 ghost use Rattle.actor_steps.specs.Endings.{falls_of, FailuresFollow};
 ghost use Rattle.client_loop.specs.Visits.{visits_of, use_of, AsksFor, visits_entering, BeginsNothing, BeginsOnly, BeginsMore};
+ghost use Rattle.event_recorders.specs.OwnLogs.{FindsItsOwn, part_now};
 
 use crate::asking::ask;
 use crate::attempting::attempt;
@@ -71,6 +72,7 @@ fn take_back<W: Wait, R: Recorder, L: Link>(
     ensures again { IfErr result (λ f. EndsOneAttempt f → Stands (R.own_log recorder.new) (finds stable.now) progress.new.core × (phase_of progress.new.core ≡ phase.Idle)) }
     ensures visits { visits_of (R.own_log recorder.new) ≡ visits_of (R.own_log recorder.old) }
     ensures falls { falls_of (R.own_log recorder.new) ≡ falls_of (R.own_log recorder.old) }
+    ensures own { FindsItsOwn (part_now (R.own_log recorder.new)) (finds stable.now) }
     ensures ended { IfErr result (λ f. EndsAsking f (R.own_log recorder.new)) }
 {
     progress.core.leave();
@@ -78,7 +80,7 @@ fn take_back<W: Wait, R: Recorder, L: Link>(
 }
 
 /// Asks for what is wished and, once the votes are enough, logs the Enter; whether it did.
-#[tactic(auto, using(crate::proofs::SentFacts::follows_from, crate::proofs::SentFacts::follows_on, crate::proofs::SentFacts::follows_none, crate::proofs::SentFacts::unless_none, crate::proofs::SentFacts::unless_on, crate::proofs::SentFacts::unless_both, crate::proofs::BeginFacts::nothing_begun, crate::proofs::BeginFacts::nothing_after, crate::proofs::NudgeFacts::last_ended, crate::proofs::NudgeFacts::book_has_none))]
+#[tactic(auto, using(crate::proofs::SentFacts::follows_from, crate::proofs::SentFacts::follows_on, crate::proofs::SentFacts::follows_none, crate::proofs::SentFacts::unless_none, crate::proofs::SentFacts::unless_on, crate::proofs::BeginFacts::nothing_begun, crate::proofs::BeginFacts::nothing_after, crate::proofs::NudgeFacts::last_ended, crate::proofs::NudgeFacts::book_has_none, crate::proofs::FindingFacts::stands_own, crate::proofs::FindingFacts::stands_still))]
 fn ask_and_enter<W: Wait, R: Recorder, L: Link>(
     rt: &W,
     alloc: Global,
@@ -105,6 +107,7 @@ fn ask_and_enter<W: Wait, R: Recorder, L: Link>(
     ensures back { result ≡ Ok false → Stands (R.own_log recorder.new) (finds stable.now) progress.new.core × (phase_of progress.new.core ≡ phase.Idle) }
     ensures again { IfErr result (λ f. EndsOneAttempt f → Stands (R.own_log recorder.new) (finds stable.now) progress.new.core × (phase_of progress.new.core ≡ phase.Idle)) }
     ensures falls { falls_of (R.own_log recorder.new) ≡ falls_of (R.own_log recorder.old) }
+    ensures own { FindsItsOwn (part_now (R.own_log recorder.new)) (finds stable.now) }
     ensures ended { IfErr result (λ f. EndsAsking f (R.own_log recorder.new)) }
     ensures begins { BeginsNothing (visits_of (R.own_log recorder.old)) (visits_of (R.own_log recorder.new)) }
 {
@@ -140,7 +143,7 @@ fn ask_and_enter<W: Wait, R: Recorder, L: Link>(
 /// isn't gone, and rests, so that it may enter anew. Three reopens of the record failed in a row (911); memory
 /// was refused (914); the book is full or another's (915); no change of the record can be numbered any more,
 /// or no attempt is left (916).
-#[tactic(auto, using(crate::proofs::SentFacts::follows_from, crate::proofs::SentFacts::follows_on, crate::proofs::SentFacts::follows_none, crate::proofs::SentFacts::unless_none, crate::proofs::SentFacts::unless_on, crate::proofs::SentFacts::unless_from, crate::proofs::SentFacts::unless_both, crate::proofs::EndFacts::client_ends_on, crate::proofs::EndFacts::asking_ends, crate::proofs::EndFacts::book_ends, crate::proofs::EndFacts::failures_same, actor_steps::proofs::EndFacts::failures_on, crate::proofs::BeginFacts::begins_still, crate::proofs::BeginFacts::begins_no_more, crate::proofs::NudgeFacts::attempt_has_none))]
+#[tactic(auto, using(crate::proofs::SentFacts::follows_from, crate::proofs::SentFacts::follows_on, crate::proofs::SentFacts::follows_none, crate::proofs::SentFacts::unless_none, crate::proofs::SentFacts::unless_on, crate::proofs::SentFacts::unless_from, crate::proofs::EndFacts::client_ends_on, crate::proofs::EndFacts::asking_ends, crate::proofs::EndFacts::book_ends, crate::proofs::EndFacts::failures_same, actor_steps::proofs::EndFacts::failures_on, crate::proofs::BeginFacts::begins_still, crate::proofs::BeginFacts::begins_no_more, crate::proofs::NudgeFacts::attempt_has_none))]
 pub fn enter<W: Wait, R: Recorder, L: Link, G: Gate>(
     rt: &W,
     alloc: Global,
@@ -177,6 +180,8 @@ pub fn enter<W: Wait, R: Recorder, L: Link, G: Gate>(
     ensures last { IfErr result (λ f. f ≡ RunFault.GaveUp → HasHadLast progress.new) }
     ensures back { result ≡ Ok false → IsAtRest (R.own_log recorder.new) (finds stable.new) (stuck_of stable.new) (core_of progress.new) }
     ensures again { IfErr result (λ f. EndsOneAttempt f → IsAtRest (R.own_log recorder.new) (finds stable.new) (stuck_of stable.new) (core_of progress.new)) }
+    // However it ends, a restart finds in its record nothing but what it has kept and what it tries to keep.
+    ensures own { FindsItsOwn (part_now (R.own_log recorder.new)) (finds stable.new) }
     ensures ended { IfErr result (λ fault. ClientEndsFrom fault (falls_of (R.own_log recorder.old)) (R.own_log recorder.new) (stuck_of stable.new) (spent_of stable.new) (failures_of stable.old) (failures_of stable.new)) }
     ensures falls { FailuresFollow (falls_of (R.own_log recorder.old)) (falls_of (R.own_log recorder.new)) (failures_of stable.old) (failures_of stable.new) }
     ensures begins { BeginsOnly (use_of wish.now) (visits_of (R.own_log recorder.old)) (visits_of (R.own_log recorder.new)) }

@@ -10,6 +10,7 @@ ghost use Rattle.client_loop.specs.Endings.{EndsAsking, IsAskFault};
 ghost use Rattle.client_loop.specs.Visits.{visits_of};
 ghost use Rattle.actor_steps.specs.Steps.{IsBookFault};
 ghost use Rattle.actor_steps.specs.Endings.{falls_of};
+ghost use Rattle.event_recorders.specs.OwnLogs.{FindsItsOwn, part_now};
 
 use crate::ending::end;
 use crate::progress::Progress;
@@ -52,7 +53,7 @@ pub(crate) fn log_leave<R: Recorder>(
 ///
 /// The attempt had its last nudge (913), and then the client has said its release once more to each asked
 /// node that isn't gone, and rests; memory was refused (914), or the book is full or another's (915).
-#[tactic(auto, using(crate::proofs::SentFacts::follows_from, crate::proofs::SentFacts::unless_none, crate::proofs::SentFacts::unless_from, crate::proofs::SentFacts::unless_both, crate::proofs::BeginFacts::still_client, crate::proofs::NudgeFacts::last_ended))]
+#[tactic(auto, using(crate::proofs::SentFacts::follows_from, crate::proofs::SentFacts::unless_none, crate::proofs::SentFacts::unless_from, crate::proofs::BeginFacts::still_client, crate::proofs::NudgeFacts::last_ended, crate::proofs::FindingFacts::stands_own, crate::proofs::FindingFacts::left_still))]
 pub fn leave<W: Wait, R: Recorder, L: Link>(
     rt: &W,
     alloc: Global,
@@ -77,6 +78,7 @@ pub fn leave<W: Wait, R: Recorder, L: Link>(
     ensures again { IfErr result (λ f. f ≡ RunFault.GaveUp → Stands (R.own_log recorder.new) (finds stable.now) (core_of progress.new) × (phase_of (core_of progress.new) ≡ phase.Idle)) }
     ensures visits { visits_of (R.own_log recorder.new) ≡ visits_of (R.own_log recorder.old) }
     ensures falls { falls_of (R.own_log recorder.new) ≡ falls_of (R.own_log recorder.old) }
+    ensures own { FindsItsOwn (part_now (R.own_log recorder.new)) (finds stable.now) }
     ensures faults { IfErr result (λ f. (f ≡ RunFault.GaveUp) ⊎ IsBookFault f) }
     ensures ended { IfErr result (λ f. EndsAsking f (R.own_log recorder.new)) }
 {

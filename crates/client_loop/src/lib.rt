@@ -5,9 +5,11 @@
 //! allows, each while the record finds what the client has kept by then; that the gate is called inside
 //! with a live guard whose ticket the log has inside, a writer's before it softens and a reader's after
 //! that; that the client's Enters are those of its first wishes, in order, and its Softens those of the ones
-//! among them that soften, but for the last where a fault comes first; and that what it answers is the
-//! number of its Enters, `Ok` only with every wish entered. It promises nothing of what a link brings, and
-//! not that it ends.
+//! among them that soften, but for the last where a fault comes first; that what it answers is the
+//! number of its Enters, `Ok` only with every wish entered; that over a link which remembers what is sent,
+//! this is what the log tells, but perhaps for the last message where it ends by want of memory; and that,
+//! however it ends, a restart finds in its record nothing but what it has kept and what it tries to keep. It
+//! promises nothing of what a link brings, and not that it ends.
 //!
 //! It stands on `client_core` for what a client decides, `entry_guard` for being inside, `actor_steps`
 //! for the steps that nodes and clients share, `event_recorders`, `lossy_link`, `stable_record`,

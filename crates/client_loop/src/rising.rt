@@ -3,7 +3,7 @@
 ghost use Rattle.std.specs.Prelude.{◌≡◌, [], OnOk, IfOk, false, IfErr};
 ghost use Rattle.client_core.specs.Clients.{phase_of};
 ghost use Rattle.client_core.specs.declared.phases.Phase.TheVariants as phase;
-ghost use Rattle.event_recorders.specs.OwnLogs.{IsUnused, FindsPart};
+ghost use Rattle.event_recorders.specs.OwnLogs.{IsUnused, FindsPart, FindsItsOwn, part_now};
 ghost use Rattle.client_loop.specs.Sendings.{sent_of};
 ghost use Rattle.client_loop.specs.Standing.{Stands, KeepsAttempt, IsSameClient};
 ghost use Rattle.client_loop.specs.Remembering.{core_of};
@@ -50,6 +50,7 @@ pub fn rise<R: Recorder>(
     ensures begins { (visits_of (R.own_log recorder.new)).begins ≡ [] }
     ensures whose { (visits_of (R.own_log recorder.new)).whose ≡ (R.own_log recorder.old).actor }
     ensures ballots { (visits_of (R.own_log recorder.new)).ballots ≡ (R.own_log recorder.old).ballots }
+    ensures own { FindsItsOwn (part_now (R.own_log recorder.new)) (finds stable.new) }
     ensures ended { IfErr result (λ fault. ClientEndsFrom fault (falls_of (R.own_log recorder.old)) (R.own_log recorder.new) (stuck_of stable.new) (spent_of stable.new) (failures_of stable.old) (failures_of stable.new)) }
     ensures falls { FailuresFollow (falls_of (R.own_log recorder.old)) (falls_of (R.own_log recorder.new)) (failures_of stable.old) (failures_of stable.new) }
     ensures unlogged { IfErr result (λ _. R.own_log recorder.new ≡ R.own_log recorder.old) }

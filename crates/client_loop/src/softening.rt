@@ -13,6 +13,7 @@ ghost use Rattle.client_loop.specs.Remembering.{core_of, with_core, granted_of};
 ghost use Rattle.actor_steps.specs.Steps.{IsBookFault};
 ghost use Rattle.actor_steps.specs.Endings.{falls_of};
 ghost use Rattle.client_loop.specs.Visits.{visits_of, visits_softening};
+ghost use Rattle.event_recorders.specs.OwnLogs.{FindsItsOwn, part_now};
 
 use crate::progress::Progress;
 use crate::talking::tell;
@@ -112,7 +113,7 @@ fn log_soften<R: Recorder>(
 ///
 /// Memory was refused (914), or the book is full or another's (915). The client is still inside then, as its
 /// core is: as a reader where the Soften was logged, else as a writer.
-#[tactic(auto, using(crate::proofs::BeginFacts::still_client, crate::proofs::BeginFacts::softening_client))]
+#[tactic(auto, using(crate::proofs::BeginFacts::still_client, crate::proofs::BeginFacts::softening_client, crate::proofs::SentFacts::unless_none, crate::proofs::SentFacts::unless_from))]
 pub fn soften<R: Recorder, L: Link>(
     alloc: Global,
     progress: &mut Progress,
@@ -141,6 +142,7 @@ pub fn soften<R: Recorder, L: Link>(
 }
 
 /// Softens what the guard has entered: logs it, softens the guard, and says it to each node of the set.
+#[tactic(auto, using(crate::proofs::FindingFacts::stands_own, crate::proofs::FindingFacts::stands_still, crate::proofs::SentFacts::unless_none, crate::proofs::SentFacts::unless_from))]
 pub(crate) fn soften_guard<R: Recorder, L: Link>(
     alloc: Global,
     granted: NodeSet,
@@ -163,6 +165,7 @@ pub(crate) fn soften_guard<R: Recorder, L: Link>(
     ensures visits { OnOk result (visits_of (R.own_log recorder.new) ≡ visits_softening (visits_of (R.own_log recorder.old))) }
     ensures fewer { OnErr result ((visits_of (R.own_log recorder.new) ≡ visits_of (R.own_log recorder.old)) ⊎ (visits_of (R.own_log recorder.new) ≡ visits_softening (visits_of (R.own_log recorder.old)))) }
     ensures falls { falls_of (R.own_log recorder.new) ≡ falls_of (R.own_log recorder.old) }
+    ensures own { FindsItsOwn (part_now (R.own_log recorder.new)) (finds stable.now) }
     ensures faults { IfErr result IsBookFault }
 {
     log_soften(guard.door(), stable, recorder)?;

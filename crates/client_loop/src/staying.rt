@@ -8,6 +8,7 @@ ghost use Rattle.client_loop.specs.Standing.{Stands, HasLeft};
 ghost use Rattle.actor_steps.specs.Steps.{IsBookFault};
 ghost use Rattle.actor_steps.specs.Endings.{falls_of};
 ghost use Rattle.client_loop.specs.Visits.{visits_of, softens, use_of, AsksFor, visits_softening_if};
+ghost use Rattle.event_recorders.specs.OwnLogs.{FindsItsOwn, part_now};
 
 use crate::softening::soften_guard;
 use client_core::ClientCore;
@@ -33,6 +34,7 @@ fn does_soften(wish: &Wish) -> bool
 
 /// Is inside by a guard for as long as the gate keeps it. Where the wish softens, it then does, and is inside
 /// as a reader for as long as the gate keeps it again. The entering is logged already.
+#[tactic(auto, using(crate::proofs::FindingFacts::stands_own))]
 pub(crate) fn stay<R: Recorder, L: Link, G: Gate>(
     alloc: Global,
     wish: &Wish,
@@ -53,6 +55,7 @@ pub(crate) fn stay<R: Recorder, L: Link, G: Gate>(
     ensures visits { OnOk result (visits_of (R.own_log recorder.new) ≡ visits_softening_if (softens wish.now) (visits_of (R.own_log recorder.old))) }
     ensures fewer { OnErr result ((visits_of (R.own_log recorder.new) ≡ visits_of (R.own_log recorder.old)) ⊎ (visits_of (R.own_log recorder.new) ≡ visits_softening_if (softens wish.now) (visits_of (R.own_log recorder.old)))) }
     ensures falls { falls_of (R.own_log recorder.new) ≡ falls_of (R.own_log recorder.old) }
+    ensures own { FindsItsOwn (part_now (R.own_log recorder.new)) (finds stable.now) }
     ensures faults { IfErr result IsBookFault }
 {
     let Some(mut guard) = enter_client(core) else {

@@ -10,6 +10,7 @@ ghost use Rattle.actor_steps.specs.Endings.{falls_of, FailuresFollow};
 ghost use Rattle.client_loop.specs.Remembering.{most_of, HasHadLast};
 ghost use Rattle.client_loop.specs.Endings.{ClientEndsFrom};
 ghost use Rattle.client_loop.specs.Visits.{visits_of, tally, AddsUse, AddsAtMost, BeginsOnly, softens, use_of};
+ghost use Rattle.event_recorders.specs.OwnLogs.{FindsItsOwn, part_now};
 
 use crate::entering::enter;
 use crate::leaving::leave;
@@ -24,7 +25,7 @@ use std::sync::Wait;
 
 /// Fulfils the wish: enters, is inside by a guard for as long as the gate keeps it, and leaves. The entering is
 /// counted, also where the client ends by a fault after it. A wish may have `MAX_NUDGES` nudges.
-#[tactic(auto, using(crate::proofs::SentFacts::follows_from, crate::proofs::SentFacts::follows_on, crate::proofs::SentFacts::follows_none, crate::proofs::SentFacts::unless_none, crate::proofs::SentFacts::unless_on, crate::proofs::SentFacts::unless_from, crate::proofs::SentFacts::unless_both, crate::proofs::EndFacts::client_ends_on, crate::proofs::EndFacts::asking_ends, crate::proofs::EndFacts::book_ends, crate::proofs::EndFacts::failures_same, actor_steps::proofs::EndFacts::failures_on, crate::proofs::BeginFacts::begins_still, crate::proofs::BeginFacts::begins_no_more, crate::proofs::TallyFacts::adds_nothing, crate::proofs::TallyFacts::adds_use, crate::proofs::TallyFacts::adds_half, crate::proofs::NudgeFacts::book_has_none))]
+#[tactic(auto, using(crate::proofs::SentFacts::follows_from, crate::proofs::SentFacts::follows_on, crate::proofs::SentFacts::follows_none, crate::proofs::SentFacts::unless_none, crate::proofs::SentFacts::unless_on, crate::proofs::SentFacts::unless_from, crate::proofs::EndFacts::client_ends_on, crate::proofs::EndFacts::asking_ends, crate::proofs::EndFacts::book_ends, crate::proofs::EndFacts::failures_same, actor_steps::proofs::EndFacts::failures_on, crate::proofs::BeginFacts::begins_still, crate::proofs::BeginFacts::begins_no_more, crate::proofs::TallyFacts::adds_nothing, crate::proofs::TallyFacts::adds_use, crate::proofs::TallyFacts::adds_half, crate::proofs::NudgeFacts::book_has_none))]
 pub(crate) fn fulfil<W: Wait, R: Recorder, L: Link, G: Gate>(
     rt: &W,
     alloc: Global,
@@ -50,6 +51,7 @@ pub(crate) fn fulfil<W: Wait, R: Recorder, L: Link, G: Gate>(
     ensures last { IfErr result (λ f. f ≡ RunFault.GaveUp → HasHadLast progress.new) }
     ensures entered { OnOk result (AddsUse (Some (use_of wish.now)) (softens wish.now) (tally entered.old (R.own_log recorder.old)) (tally entered.new (R.own_log recorder.new))) }
     ensures counted { AddsAtMost (Some (use_of wish.now)) (softens wish.now) (tally entered.old (R.own_log recorder.old)) (tally entered.new (R.own_log recorder.new)) }
+    ensures own { FindsItsOwn (part_now (R.own_log recorder.new)) (finds stable.new) }
     ensures ended { IfErr result (λ fault. ClientEndsFrom fault (falls_of (R.own_log recorder.old)) (R.own_log recorder.new) (stuck_of stable.new) (spent_of stable.new) (failures_of stable.old) (failures_of stable.new)) }
     ensures falls { FailuresFollow (falls_of (R.own_log recorder.old)) (falls_of (R.own_log recorder.new)) (failures_of stable.old) (failures_of stable.new) }
     ensures begins { BeginsOnly (use_of wish.now) (visits_of (R.own_log recorder.old)) (visits_of (R.own_log recorder.new)) }

@@ -63,6 +63,11 @@ tried_in (ClientPart k) = option_map client_record_of k.tried
 abbrev pub FindsPart : Part → List (List ℕ) → Type 0
 FindsPart p strings = FindsKept (kept_in p) (tried_in p) strings
 
+-- A restart finds nothing but what the actor has kept and, where it tries to keep something, that: so the actor may
+-- rise with whatever is found. This is weaker only where nothing is tried: what is kept may be found in two ways.
+pub record FindsItsOwn (p : Part) (strings : List (List ℕ)) : Type 0 where
+  pub only : (found : List ℕ) → Among found strings → (found ≡ kept_in p) ⊎ (tried_in p ≡ Some found)
+
 -- a restart may find what the actor has kept once the event has happened, whatever it does
 abbrev pub FindsAfter : OwnLog → Event → List (List ℕ) → Type 0
 FindsAfter l e strings = (done : Effect) → IsEffectOf e done → FindsPart (after_own l.ballots e done (part_now l)) strings

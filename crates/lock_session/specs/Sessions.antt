@@ -11,7 +11,7 @@ use Rattle.client_core.specs.Clients.{Client, phase_of, ticket_of, softened_tick
 use Rattle.history_book.specs.Books.{inside_ticket}
 use Rattle.event_recorders.specs.declared.faults.RunFault.{RunFault}
 use Rattle.event_recorders.specs.declared.faults.RunFault.TheVariants as fault
-use Rattle.event_recorders.specs.OwnLogs.{OwnLog, part_now}
+use Rattle.event_recorders.specs.OwnLogs.{OwnLog, part_now, FindsItsOwn}
 use Rattle.actor_steps.specs.Steps.{IsBookFault}
 use Rattle.actor_steps.specs.Endings.{falls_of, FailuresFollow}
 use Rattle.client_loop.specs.declared.progress.Progress.{Progress}
@@ -98,10 +98,12 @@ GoesOn (Some f) left l finds stuck core = over_by f ≡ Some f
 GoesOn None true l finds stuck core = HasYetToLeave l finds stuck core
 GoesOn None false l finds stuck core = MayGoOn l finds stuck core
 
--- what holds of each session: its log is its client's, with its ballots
+-- What holds of each session: its log is its client's, with its ballots; and a restart finds in its record nothing but
+-- what the client has kept and what it tries to keep.
 pub record IsSession (v : SessionValue) : Type 0 where
   pub actor : v.log.actor ≡ actor.Client v.client
   pub ballots : v.log.ballots ≡ v.ballots
+  pub own : FindsItsOwn (part_now v.log) v.finds
   pub goes_on : GoesOn v.over v.left v.log v.finds v.stuck v.core
 
 -- of the same client, with the same ballots

@@ -5,7 +5,7 @@ ghost use Rattle.lock_model.specs.Ballots.{HasPlace};
 ghost use Rattle.client_core.specs.Clients.{phase_of, ticket_of};
 ghost use Rattle.client_core.specs.declared.phases.Phase.TheVariants as phase;
 ghost use Rattle.client_core.specs.Calls.{MayEnter, MaySoften, softened, entered as inside_of};
-ghost use Rattle.event_recorders.specs.OwnLogs.{IsUnused, FindsPart};
+ghost use Rattle.event_recorders.specs.OwnLogs.{IsUnused, FindsPart, FindsItsOwn, part_now};
 ghost use Rattle.actor_steps.specs.Steps.{IsBookFault};
 ghost use Rattle.actor_steps.specs.Endings.{falls_of, FailuresFollow};
 ghost use Rattle.client_loop.specs.Sendings.{sent_of, SentFollows, SentUnlessMemory, TellsSoftened};
@@ -51,6 +51,7 @@ pub trait OwnRecord: StableRecord {
         ensures begins { (visits_of (R.own_log recorder.new)).begins ≡ [] }
         ensures whose { (visits_of (R.own_log recorder.new)).whose ≡ (R.own_log recorder.old).actor }
         ensures ballots { (visits_of (R.own_log recorder.new)).ballots ≡ (R.own_log recorder.old).ballots }
+        ensures own { FindsItsOwn (part_now (R.own_log recorder.new)) (Self.finds self.new) }
         ensures ended { IfErr result (λ fault. ClientEndsFrom fault (falls_of (R.own_log recorder.old)) (R.own_log recorder.new) (Self.stuck_of self.new) (Self.spent_of self.new) (Self.failures_of self.old) (Self.failures_of self.new)) }
         ensures falls { FailuresFollow (falls_of (R.own_log recorder.old)) (falls_of (R.own_log recorder.new)) (Self.failures_of self.old) (Self.failures_of self.new) }
         ensures unlogged { IfErr result (λ _. R.own_log recorder.new ≡ R.own_log recorder.old) };
@@ -92,6 +93,8 @@ pub trait OwnRecord: StableRecord {
         ensures last { IfErr result (λ f. f ≡ RunFault.GaveUp → HasHadLast progress.new) }
         ensures back { result ≡ Ok false → IsAtRest (R.own_log recorder.new) (Self.finds self.new) (Self.stuck_of self.new) (core_of progress.new) }
         ensures again { IfErr result (λ f. EndsOneAttempt f → IsAtRest (R.own_log recorder.new) (Self.finds self.new) (Self.stuck_of self.new) (core_of progress.new)) }
+        // However it ends, a restart finds in its record nothing but what it has kept and what it tries to keep.
+        ensures own { FindsItsOwn (part_now (R.own_log recorder.new)) (Self.finds self.new) }
         ensures ended { IfErr result (λ fault. ClientEndsFrom fault (falls_of (R.own_log recorder.old)) (R.own_log recorder.new) (Self.stuck_of self.new) (Self.spent_of self.new) (Self.failures_of self.old) (Self.failures_of self.new)) }
         ensures falls { FailuresFollow (falls_of (R.own_log recorder.old)) (falls_of (R.own_log recorder.new)) (Self.failures_of self.old) (Self.failures_of self.new) }
         ensures begins { BeginsOnly (use_of wish.now) (visits_of (R.own_log recorder.old)) (visits_of (R.own_log recorder.new)) };
@@ -143,6 +146,7 @@ pub trait OwnRecord: StableRecord {
         ensures again { IfErr result (λ f. f ≡ RunFault.GaveUp → Stands (R.own_log recorder.new) (Self.finds self.now) (core_of progress.new) × (phase_of (core_of progress.new) ≡ phase.Idle)) }
         ensures visits { visits_of (R.own_log recorder.new) ≡ visits_of (R.own_log recorder.old) }
         ensures falls { falls_of (R.own_log recorder.new) ≡ falls_of (R.own_log recorder.old) }
+        ensures own { FindsItsOwn (part_now (R.own_log recorder.new)) (Self.finds self.now) }
         ensures faults { IfErr result (λ f. (f ≡ RunFault.GaveUp) ⊎ IsBookFault f) }
         ensures ended { IfErr result (λ f. EndsAsking f (R.own_log recorder.new)) };
 }

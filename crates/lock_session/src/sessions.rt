@@ -6,7 +6,7 @@ ghost use Rattle.lock_messages.specs.declared.tickets.Mode.TheVariants.{Write};
 ghost use Rattle.lock_messages.specs.declared.tickets.Ticket.{Ticket as TicketValue};
 ghost use Rattle.client_core.specs.Clients.{phase_of, ticket_of, softened_ticket};
 ghost use Rattle.client_core.specs.declared.phases.Phase.TheVariants as phase;
-ghost use Rattle.event_recorders.specs.OwnLogs.{IsUnused, FindsPart};
+ghost use Rattle.event_recorders.specs.OwnLogs.{IsUnused, FindsPart, FindsItsOwn, part_now};
 ghost use Rattle.actor_steps.specs.Endings.{falls_of, FailuresFollow};
 ghost use Rattle.book_recorders.specs.Meeting.{HaveMet, HasSeenInside};
 ghost use Rattle.client_loop.specs.Sendings.{sent_of, SentFollows, SentUnlessMemory};
@@ -51,7 +51,7 @@ pub struct Session<S: OwnRecord, R: Recorder, L: Link> {
 pub struct NotRisen<S: OwnRecord, R: Recorder, L: Link> {
     /// Why the client did not rise: 911, 914 or 915.
     pub fault: RunFault,
-    /// Its record, as far as the fault left it: what it finds is not told.
+    /// Its record, as far as the fault left it: a restart finds in it nothing but what the client has kept.
     pub stable: S,
     /// Its recorder, which has logged nothing.
     pub recorder: R,
@@ -108,6 +108,7 @@ impl<S: OwnRecord, R: Recorder, L: Link> Session<S, R, L> {
         ensures visits { IfOk result (λ s. ((visits_of s.log).begins ≡ []) × ((visits_of s.log).entered ≡ []) × ((visits_of s.log).softened ≡ [])) }
         ensures falls { IfOk result (λ s. FailuresFollow 0 (falls_of s.log) (S.StableRecord.failures_of stable) s.failures) }
         ensures ended { IfErr result (λ e. ClientEndsFrom e.fault 0 (R.own_log e.recorder) (S.StableRecord.stuck_of e.stable) (S.StableRecord.spent_of e.stable) (S.StableRecord.failures_of stable) (S.StableRecord.failures_of e.stable)) }
+        ensures own { IfErr result (λ e. FindsItsOwn (part_now (R.own_log e.recorder)) (S.StableRecord.finds e.stable)) }
         ensures back { IfErr result (λ e. (R.own_log e.recorder ≡ R.own_log recorder) × (e.link ≡ link)) }
     {
         let (mut stable, mut recorder) = (stable, recorder);
@@ -212,7 +213,7 @@ impl<S: OwnRecord, R: Recorder, L: Link> Session<S, R, L> {
     /// The attempt had its last nudge (913), and then the session has left, and rests; the session was over by
     /// this fault, and nothing is done; memory was refused (914), or the book is full or another's (915), and
     /// then it is over.
-    #[tactic(auto, using(crate::proofs::EndFacts::over_before, crate::proofs::EndFacts::settles_out, crate::proofs::EndFacts::nothing_left))]
+    #[tactic(auto, using(crate::proofs::EndFacts::over_before, crate::proofs::EndFacts::settles_out, crate::proofs::EndFacts::nothing_left, client_loop::proofs::SentFacts::unless_none))]
     pub fn settle<W: Wait>(&mut self, rt: &W, alloc: Global) -> Result<(), RunFault>
         ensures settles { Settles self.old self.new }
         ensures rests { OnOk result (IsResting self.new) }
@@ -308,7 +309,7 @@ impl<S: OwnRecord, R: Recorder, L: Link> Session<S, R, L> {
     }
 
     /// Goes on inside as a reader, where it is inside as a writer.
-    #[tactic(auto, using(crate::proofs::EndFacts::over_before, crate::proofs::EndFacts::softening_ends))]
+    #[tactic(auto, using(crate::proofs::EndFacts::over_before, crate::proofs::EndFacts::softening_ends, client_loop::proofs::FindingFacts::stands_own))]
     pub(crate) fn soften(&mut self, alloc: Global) -> Result<(), RunFault>
         ensures still { (t : TicketValue) → IsInside self.old t → IsInsideStill t self.new }
         ensures softened { OnOk result ((t : TicketValue) → IsInside self.old t → t.mode ≡ Write → IsInside self.new (softened_ticket t) × Softens self.old self.new) }
@@ -336,10 +337,12 @@ impl<S: OwnRecord, R: Recorder, L: Link> Session<S, R, L> {
         }
     }
 
-    /// What the session owned. It has to be at rest, or over, for its log to be told whole.
+    /// What the session owned. It has to be at rest, or over, for its log to be told whole. However the session
+    /// ended, a restart finds in the record nothing but what the client has kept and what it tries to keep.
     pub fn into_parts(self) -> (S, R, L)
         ensures log { R.own_log result.1 ≡ self.log }
         ensures finds { S.StableRecord.finds result.0 ≡ self.finds }
+        ensures own { FindsItsOwn (part_now (R.own_log result.1)) (S.StableRecord.finds result.0) }
         ensures stuck { S.StableRecord.stuck_of result.0 ≡ self.stuck }
         ensures spent { S.StableRecord.spent_of result.0 ≡ self.spent }
         ensures failures { S.StableRecord.failures_of result.0 ≡ self.failures }

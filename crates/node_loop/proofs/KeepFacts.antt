@@ -4,7 +4,7 @@ use Rattle.lock_messages.specs.declared.ids.Actor.TheVariants as actor
 use Rattle.stable_record.specs.declared.node_records.NodeRecord.{NodeRecord}
 use Rattle.stable_record.specs.Records.{IsNodeRecord, node_record_of}
 use Rattle.stable_record.specs.Laws.{OneSpelling}
-use Rattle.voter_core.specs.Voters.{Voter, record_of, risen, IsRecordOf}
+use Rattle.voter_core.specs.Voters.{State, Voter, record_of, risen, IsRecordOf}
 use Rattle.world_model.specs.declared.events.Age.{Age}
 use Rattle.world_model.specs.declared.events.Age.TheVariants.{Old, New}
 use Rattle.world_model.specs.declared.events.Effect.TheVariants as effect
@@ -15,9 +15,14 @@ use Rattle.world_model.specs.Openings.{down_node}
 use Rattle.world_model.specs.Locality.{local_part}
 use Rattle.world_model.specs.Parts.{Part, NodePart, after_own}
 use Rattle.world_actors.specs.Nodes.{station_in}
-use Rattle.event_recorders.specs.OwnLogs.{OwnLog, part_now, IsAdded, kept_in}
-use Rattle.node_loop.specs.Standing.{StandsIdle, FailsToKeep, IsReady}
+use Rattle.event_recorders.specs.OwnLogs.{OwnLog, part_now, FindsPart, IsAdded, kept_in, FindsItsOwn}
+use Rattle.node_loop.specs.Standing.{StandsBy, StandsIdle, FailsToKeep, IsReady}
 use Rattle.actor_steps.specs.Steps.{HasFound, IsRisenAgain}
+use Rattle.actor_steps.proofs.FindingFacts.{part_own}
+
+-- a restart of a node that is up finds just what it has kept
+pub stands_own : (s : State) (l : OwnLog) (v : Voter) (kept : NodeRecord) (strings : List (List ℕ)) (stuck : Bool) → StandsBy s l v kept strings stuck → FindsItsOwn (part_now l) strings
+stands_own s l v kept strings stuck is = part_own (part_now l) strings (subst (λ p. FindsPart p strings) (sym is.part) is.finds)
 
 -- a node that is up with this record kept, idle
 abbrev pub idle_with : NodeRecord → ExactNode

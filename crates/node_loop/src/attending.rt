@@ -13,6 +13,7 @@ ghost use Rattle.node_loop.specs.Unsent.{HasSent, SentAsFar};
 ghost use Rattle.node_loop.specs.Standing.{StandsBy, StandsIdle, HasTaken, HasSwitched, HasKept, FailsToKeep, IsNodeFault};
 ghost use Rattle.actor_steps.specs.Steps.{IsBookFault};
 ghost use Rattle.actor_steps.specs.Endings.{falls_of, FailuresFollow, EndsFrom};
+ghost use Rattle.event_recorders.specs.OwnLogs.{FindsItsOwn, part_now};
 
 use crate::replies::send_all;
 use actor_steps::{Keeping, keep_next, log_plain, log_reading, log_switch, rise_again};
@@ -30,7 +31,7 @@ use world_model::{Effect, Event};
 
 /// Takes the message that was sent under this number, and answers whether it changes the node's
 /// record; `None` where no message of the number was sent to the node.
-#[tactic(auto, using(crate::proofs::SentFacts::take_sends_nothing))]
+#[tactic(auto, using(crate::proofs::SentFacts::take_sends_nothing, actor_steps::proofs::FindingFacts::part_own))]
 fn take<R: Recorder>(
     number: u32,
     core: &mut NodeCore,
@@ -41,6 +42,7 @@ fn take<R: Recorder>(
     ensures dropped { IfOk result (λ o. IfNone o ((core.new ≡ core.old) × (R.own_log recorder.new ≡ R.own_log recorder.old))) }
     ensures taken { IfOk result (λ o. IfSome o (λ changed. HasTaken changed (R.own_log recorder.new) core.new (record_of core.old) (finds stable.now) (stuck_of stable.now))) }
     ensures silent { sent_of (R.own_log recorder.new) ≡ sent_of (R.own_log recorder.old) }
+    ensures own { FindsItsOwn (part_now (R.own_log recorder.new)) (finds stable.now) }
     ensures faults { IfErr result IsBookFault }
     ensures falls { falls_of (R.own_log recorder.new) ≡ falls_of (R.own_log recorder.old) }
 {
@@ -71,7 +73,7 @@ fn problem_numbered(number: u8) -> Option<Problem>
 }
 
 /// Takes this problem from now on, and answers whether it is another one, which changes the node's record.
-#[tactic(auto, using(crate::proofs::SentFacts::switch_sends_nothing))]
+#[tactic(auto, using(crate::proofs::SentFacts::switch_sends_nothing, actor_steps::proofs::FindingFacts::part_own))]
 fn switch<R: Recorder>(
     problem: Problem,
     core: &mut NodeCore,
@@ -81,6 +83,7 @@ fn switch<R: Recorder>(
     requires { StandsIdle (R.own_log recorder.old) core.old (finds stable.now) (stuck_of stable.now) }
     ensures switched { IfOk result (λ changed. HasSwitched problem changed (R.own_log recorder.old) (R.own_log recorder.new) core.new (record_of core.old) (finds stable.now) (stuck_of stable.now)) }
     ensures silent { sent_of (R.own_log recorder.new) ≡ sent_of (R.own_log recorder.old) }
+    ensures own { FindsItsOwn (part_now (R.own_log recorder.new)) (finds stable.now) }
     ensures faults { IfErr result IsBookFault }
     ensures falls { falls_of (R.own_log recorder.new) ≡ falls_of (R.own_log recorder.old) }
 {
@@ -95,7 +98,7 @@ fn switch<R: Recorder>(
 
 /// Keeps what the node decided. Where the record's device fails, the node falls and rises again with
 /// what is found.
-#[tactic(auto, using(crate::proofs::SentFacts::keeping_sends_nothing, crate::proofs::SentFacts::trying_sends_nothing, actor_steps::proofs::EndFacts::failures_stay, actor_steps::proofs::EndFacts::failures_rise, actor_steps::proofs::EndFacts::failures_on, crate::proofs::UnsentFacts::none_left, crate::proofs::UnsentFacts::trying_leaves, crate::proofs::UnsentFacts::sent_before))]
+#[tactic(auto, using(crate::proofs::SentFacts::keeping_sends_nothing, crate::proofs::SentFacts::trying_sends_nothing, actor_steps::proofs::EndFacts::failures_stay, actor_steps::proofs::EndFacts::failures_rise, actor_steps::proofs::EndFacts::failures_on, crate::proofs::UnsentFacts::none_left, crate::proofs::UnsentFacts::trying_leaves, crate::proofs::UnsentFacts::sent_before, actor_steps::proofs::FindingFacts::part_own, crate::proofs::KeepFacts::stands_own))]
 fn keep<R: Recorder, G: Gate>(
     alloc: Global,
     core: &mut NodeCore,
@@ -107,6 +110,7 @@ fn keep<R: Recorder, G: Gate>(
     ensures sent { IfOk result (λ keeping. IsSentIn keeping core.new.node (R.own_log recorder.old) (R.own_log recorder.new)) }
     ensures unsent { HasSent (R.own_log recorder.new) (sent_of (R.own_log recorder.old)) }
     ensures kept { IfOk result (λ keeping. HasKept keeping (R.own_log recorder.new) core.new (finds stable.new) (stuck_of stable.new)) }
+    ensures own { FindsItsOwn (part_now (R.own_log recorder.new)) (finds stable.new) }
     ensures faults { IfErr result IsNodeFault }
     ensures ended { IfErr result (λ fault. EndsFrom fault (falls_of (R.own_log recorder.old)) (R.own_log recorder.new) (stuck_of stable.new) (spent_of stable.new) (failures_of stable.old) (failures_of stable.new)) }
     ensures falls { FailuresFollow (falls_of (R.own_log recorder.old)) (falls_of (R.own_log recorder.new)) (failures_of stable.old) (failures_of stable.new) }
@@ -131,7 +135,7 @@ fn keep<R: Recorder, G: Gate>(
 }
 
 /// The node falls, and rises again with what its record is found to be.
-#[tactic(auto, using(crate::proofs::UnsentFacts::failing_leaves, crate::proofs::UnsentFacts::rising_leaves))]
+#[tactic(auto, using(crate::proofs::UnsentFacts::failing_leaves, crate::proofs::UnsentFacts::rising_leaves, actor_steps::proofs::FindingFacts::part_own))]
 fn restart<R: Recorder>(
     tried: &[u8],
     core: &mut NodeCore,
@@ -142,6 +146,7 @@ fn restart<R: Recorder>(
     ensures idle { OnOk result (StandsIdle (R.own_log recorder.new) core.new (finds stable.new) (stuck_of stable.new)) }
     ensures sent { OnOk result (sent_of (R.own_log recorder.new) ≡ sent_of (R.own_log recorder.old) ++ SendingValue.Told (PostValue.Nudge core.new.node) ∷ []) }
     ensures unsent { HasSent (R.own_log recorder.new) (sent_of (R.own_log recorder.old)) }
+    ensures own { FindsItsOwn (part_now (R.own_log recorder.new)) (finds stable.new) }
     ensures faults { IfErr result IsNodeFault }
     ensures ended { IfErr result (λ fault. EndsFrom fault (falls_of (R.own_log recorder.old) + 1) (R.own_log recorder.new) (stuck_of stable.new) (spent_of stable.new) (failures_of stable.old) (failures_of stable.new)) }
     ensures falls { FailuresFollow (falls_of (R.own_log recorder.old) + 1) (falls_of (R.own_log recorder.new)) (failures_of stable.old) (failures_of stable.new) }
@@ -156,7 +161,7 @@ fn restart<R: Recorder>(
 }
 
 /// Says the node's replies, and sends them.
-#[tactic(auto, using(crate::proofs::SentFacts::say_is_told, crate::proofs::UnsentFacts::nothing_given, crate::proofs::UnsentFacts::none_left))]
+#[tactic(auto, using(crate::proofs::SentFacts::say_is_told, crate::proofs::UnsentFacts::nothing_given, crate::proofs::UnsentFacts::none_left, actor_steps::proofs::FindingFacts::part_own))]
 fn say<R: Recorder, L: Link>(
     alloc: Global,
     core: &mut NodeCore,
@@ -168,6 +173,7 @@ fn say<R: Recorder, L: Link>(
     ensures idle { OnOk result (StandsIdle (R.own_log recorder.new) core.new (finds stable.now) (stuck_of stable.now)) }
     ensures sent { OnOk result (SentFollows (R.own_log recorder.old) (R.own_log recorder.new) (L.given link.old) (L.given link.new)) }
     ensures faulted { OnErr result (SentAsFar (R.own_log recorder.old) (R.own_log recorder.new) (L.given link.old) (L.given link.new)) }
+    ensures own { FindsItsOwn (part_now (R.own_log recorder.new)) (finds stable.now) }
     ensures faults { IfErr result IsBookFault }
     ensures falls { falls_of (R.own_log recorder.new) ≡ falls_of (R.own_log recorder.old) }
 {
@@ -206,6 +212,7 @@ fn finish<R: Recorder, L: Link, G: Gate>(
     ensures idle { OnOk result (StandsIdle (R.own_log recorder.new) core.new (finds stable.new) (stuck_of stable.new)) }
     ensures sent { OnOk result (SentFollows (R.own_log recorder.old) (R.own_log recorder.new) (L.given link.old) (L.given link.new)) }
     ensures faulted { OnErr result (SentAsFar (R.own_log recorder.old) (R.own_log recorder.new) (L.given link.old) (L.given link.new)) }
+    ensures own { FindsItsOwn (part_now (R.own_log recorder.new)) (finds stable.new) }
     ensures faults { IfErr result IsNodeFault }
     ensures ended { IfErr result (λ fault. EndsFrom fault (falls_of (R.own_log recorder.old)) (R.own_log recorder.new) (stuck_of stable.new) (spent_of stable.new) (failures_of stable.old) (failures_of stable.new)) }
     ensures falls { FailuresFollow (falls_of (R.own_log recorder.old)) (falls_of (R.own_log recorder.new)) (failures_of stable.old) (failures_of stable.new) }
@@ -220,7 +227,7 @@ fn finish<R: Recorder, L: Link, G: Gate>(
 }
 
 /// A turn: takes the message of the number, keeps what it changes, and sends the replies.
-#[tactic(auto, using(crate::proofs::SentFacts::follows_none, crate::proofs::SentFacts::follows_from, actor_steps::proofs::EndFacts::failures_stay, actor_steps::proofs::EndFacts::failures_on, crate::proofs::UnsentFacts::nothing_given, crate::proofs::UnsentFacts::none_left, crate::proofs::UnsentFacts::far_from))]
+#[tactic(auto, using(crate::proofs::SentFacts::follows_none, crate::proofs::SentFacts::follows_from, actor_steps::proofs::EndFacts::failures_stay, actor_steps::proofs::EndFacts::failures_on, crate::proofs::UnsentFacts::nothing_given, crate::proofs::UnsentFacts::none_left, crate::proofs::UnsentFacts::far_from, crate::proofs::KeepFacts::stands_own))]
 fn take_turn<R: Recorder, L: Link, G: Gate>(
     alloc: Global,
     number: u32,
@@ -234,6 +241,7 @@ fn take_turn<R: Recorder, L: Link, G: Gate>(
     ensures idle { OnOk result (StandsIdle (R.own_log recorder.new) core.new (finds stable.new) (stuck_of stable.new)) }
     ensures sent { OnOk result (SentFollows (R.own_log recorder.old) (R.own_log recorder.new) (L.given link.old) (L.given link.new)) }
     ensures faulted { OnErr result (SentAsFar (R.own_log recorder.old) (R.own_log recorder.new) (L.given link.old) (L.given link.new)) }
+    ensures own { FindsItsOwn (part_now (R.own_log recorder.new)) (finds stable.new) }
     ensures faults { IfErr result IsNodeFault }
     ensures ended { IfErr result (λ fault. EndsFrom fault (falls_of (R.own_log recorder.old)) (R.own_log recorder.new) (stuck_of stable.new) (spent_of stable.new) (failures_of stable.old) (failures_of stable.new)) }
     ensures falls { FailuresFollow (falls_of (R.own_log recorder.old)) (falls_of (R.own_log recorder.new)) (failures_of stable.old) (failures_of stable.new) }
@@ -246,7 +254,7 @@ fn take_turn<R: Recorder, L: Link, G: Gate>(
 
 /// A turn: takes the problem of this number, keeps what that changes, and sends the replies. A number that
 /// no problem has is dropped.
-#[tactic(auto, using(crate::proofs::SentFacts::follows_none, crate::proofs::SentFacts::follows_from, actor_steps::proofs::EndFacts::failures_stay, actor_steps::proofs::EndFacts::failures_on, crate::proofs::UnsentFacts::nothing_given, crate::proofs::UnsentFacts::none_left, crate::proofs::UnsentFacts::far_from))]
+#[tactic(auto, using(crate::proofs::SentFacts::follows_none, crate::proofs::SentFacts::follows_from, actor_steps::proofs::EndFacts::failures_stay, actor_steps::proofs::EndFacts::failures_on, crate::proofs::UnsentFacts::nothing_given, crate::proofs::UnsentFacts::none_left, crate::proofs::UnsentFacts::far_from, crate::proofs::KeepFacts::stands_own))]
 fn switch_turn<R: Recorder, L: Link, G: Gate>(
     alloc: Global,
     number: u8,
@@ -261,6 +269,7 @@ fn switch_turn<R: Recorder, L: Link, G: Gate>(
     ensures dropped { ((problem : ProblemValue) → problem_number problem ≢ number) → IsOk result × (core.new ≡ core.old) × (R.own_log recorder.new ≡ R.own_log recorder.old) × (L.given link.new ≡ L.given link.old) }
     ensures sent { OnOk result (SentFollows (R.own_log recorder.old) (R.own_log recorder.new) (L.given link.old) (L.given link.new)) }
     ensures faulted { OnErr result (SentAsFar (R.own_log recorder.old) (R.own_log recorder.new) (L.given link.old) (L.given link.new)) }
+    ensures own { FindsItsOwn (part_now (R.own_log recorder.new)) (finds stable.new) }
     ensures faults { IfErr result IsNodeFault }
     ensures ended { IfErr result (λ fault. EndsFrom fault (falls_of (R.own_log recorder.old)) (R.own_log recorder.new) (stuck_of stable.new) (spent_of stable.new) (failures_of stable.old) (failures_of stable.new)) }
     ensures falls { FailuresFollow (falls_of (R.own_log recorder.old)) (falls_of (R.own_log recorder.new)) (failures_of stable.old) (failures_of stable.new) }
@@ -273,7 +282,7 @@ fn switch_turn<R: Recorder, L: Link, G: Gate>(
 }
 
 /// Does what a parcel asks for. What is no message for the node is dropped.
-#[tactic(auto, using(crate::proofs::SentFacts::follows_none))]
+#[tactic(auto, using(crate::proofs::SentFacts::follows_none, crate::proofs::KeepFacts::stands_own))]
 fn parcel_turn<R: Recorder, L: Link, G: Gate>(
     alloc: Global,
     parcel: &Parcel,
@@ -287,6 +296,7 @@ fn parcel_turn<R: Recorder, L: Link, G: Gate>(
     ensures idle { OnOk result (StandsIdle (R.own_log recorder.new) core.new (finds stable.new) (stuck_of stable.new)) }
     ensures sent { OnOk result (SentFollows (R.own_log recorder.old) (R.own_log recorder.new) (L.given link.old) (L.given link.new)) }
     ensures faulted { OnErr result (SentAsFar (R.own_log recorder.old) (R.own_log recorder.new) (L.given link.old) (L.given link.new)) }
+    ensures own { FindsItsOwn (part_now (R.own_log recorder.new)) (finds stable.new) }
     ensures faults { IfErr result IsNodeFault }
     ensures ended { IfErr result (λ fault. EndsFrom fault (falls_of (R.own_log recorder.old)) (R.own_log recorder.new) (stuck_of stable.new) (spent_of stable.new) (failures_of stable.old) (failures_of stable.new)) }
     ensures falls { FailuresFollow (falls_of (R.own_log recorder.old)) (falls_of (R.own_log recorder.new)) (failures_of stable.old) (failures_of stable.new) }
@@ -301,7 +311,7 @@ fn parcel_turn<R: Recorder, L: Link, G: Gate>(
 }
 
 /// Does what a post asks for. A nudge and a node that is gone are dropped.
-#[tactic(auto, using(crate::proofs::SentFacts::follows_none))]
+#[tactic(auto, using(crate::proofs::SentFacts::follows_none, crate::proofs::KeepFacts::stands_own))]
 pub(crate) fn attend<R: Recorder, L: Link, G: Gate>(
     alloc: Global,
     post: Post,
@@ -315,6 +325,7 @@ pub(crate) fn attend<R: Recorder, L: Link, G: Gate>(
     ensures idle { OnOk result (StandsIdle (R.own_log recorder.new) core.new (finds stable.new) (stuck_of stable.new)) }
     ensures sent { OnOk result (SentFollows (R.own_log recorder.old) (R.own_log recorder.new) (L.given link.old) (L.given link.new)) }
     ensures faulted { OnErr result (SentAsFar (R.own_log recorder.old) (R.own_log recorder.new) (L.given link.old) (L.given link.new)) }
+    ensures own { FindsItsOwn (part_now (R.own_log recorder.new)) (finds stable.new) }
     ensures faults { IfErr result IsNodeFault }
     ensures ended { IfErr result (λ fault. EndsFrom fault (falls_of (R.own_log recorder.old)) (R.own_log recorder.new) (stuck_of stable.new) (spent_of stable.new) (failures_of stable.old) (failures_of stable.new)) }
     ensures falls { FailuresFollow (falls_of (R.own_log recorder.old)) (falls_of (R.own_log recorder.new)) (failures_of stable.old) (failures_of stable.new) }

@@ -2,7 +2,7 @@
 
 ghost use Rattle.std.specs.Prelude.{◌≡◌, [], IfOk, IfErr, OnOk, OnErr};
 ghost use Rattle.stable_record.specs.declared.node_records.NodeRecord.{NodeRecord};
-ghost use Rattle.event_recorders.specs.OwnLogs.{part_now};
+ghost use Rattle.event_recorders.specs.OwnLogs.{part_now, FindsItsOwn};
 ghost use Rattle.lossy_link.specs.Links.{all_more};
 ghost use Rattle.node_loop.specs.Endings.{EndsSomehow};
 ghost use Rattle.node_loop.specs.Replies.{sent_of, SentFollows};
@@ -35,6 +35,7 @@ fn rise<R: Recorder>(
     requires { (kept : NodeRecord) × IsReady (R.own_log recorder.old) node kept (finds stable.old) }
     ensures idle { IfOk result (λ core. StandsIdle (R.own_log recorder.new) core (finds stable.new) (stuck_of stable.new)) }
     ensures silent { sent_of (R.own_log recorder.new) ≡ [] }
+    ensures own { FindsItsOwn (part_now (R.own_log recorder.new)) (finds stable.new) }
     ensures faults { IfErr result IsNodeFault }
     ensures ended { IfErr result (λ fault. EndsFrom fault (falls_of (R.own_log recorder.old)) (R.own_log recorder.new) (stuck_of stable.new) (spent_of stable.new) (failures_of stable.old) (failures_of stable.new)) }
     ensures falls { FailuresFollow (falls_of (R.own_log recorder.old)) (falls_of (R.own_log recorder.new)) (failures_of stable.old) (failures_of stable.new) }
@@ -49,7 +50,7 @@ fn rise<R: Recorder>(
 }
 
 /// Attends to one post after the other, until no more come.
-#[tactic(auto, using(crate::proofs::SentFacts::follows_on, crate::proofs::SentFacts::follows_none, actor_steps::proofs::EndFacts::failures_on, actor_steps::proofs::EndFacts::ends_on, crate::proofs::UnsentFacts::far_on))]
+#[tactic(auto, using(crate::proofs::SentFacts::follows_on, crate::proofs::SentFacts::follows_none, actor_steps::proofs::EndFacts::failures_on, actor_steps::proofs::EndFacts::ends_on, crate::proofs::UnsentFacts::far_on, crate::proofs::KeepFacts::stands_own))]
 fn serve<W: Wait, R: Recorder, L: Link, G: Gate>(
     rt: &W,
     alloc: Global,
@@ -64,6 +65,7 @@ fn serve<W: Wait, R: Recorder, L: Link, G: Gate>(
     ensures sent { OnOk result (SentFollows (R.own_log recorder.old) (R.own_log recorder.new) (L.given link.old) (L.given link.new)) }
     ensures faulted { OnErr result (SentAsFar (R.own_log recorder.old) (R.own_log recorder.new) (L.given link.old) (L.given link.new)) }
     ensures closed { OnOk result (IsAtEnd (L.coming link.new)) }
+    ensures own { FindsItsOwn (part_now (R.own_log recorder.new)) (finds stable.new) }
     ensures faults { IfErr result IsNodeFault }
     ensures ended { IfErr result (λ fault. EndsFrom fault (falls_of (R.own_log recorder.old)) (R.own_log recorder.new) (stuck_of stable.new) (spent_of stable.new) (failures_of stable.old) (failures_of stable.new)) }
     ensures falls { FailuresFollow (falls_of (R.own_log recorder.old)) (falls_of (R.own_log recorder.new)) (failures_of stable.old) (failures_of stable.new) }
@@ -94,6 +96,7 @@ fn live<W: Wait, R: Recorder, L: Link, G: Gate>(
     ensures sent { OnOk result (L.given link.new ≡ all_more (L.given link.old) (sent_of (R.own_log recorder.new))) }
     ensures faulted { OnErr result (ToldAsFar (R.own_log recorder.new) (L.given link.old) (L.given link.new)) }
     ensures closed { OnOk result (IsAtEnd (L.coming link.new)) }
+    ensures own { FindsItsOwn (part_now (R.own_log recorder.new)) (finds stable.new) }
     ensures faults { IfErr result IsNodeFault }
     ensures ended { IfErr result (λ fault. EndsBy fault (R.own_log recorder.new) (stuck_of stable.new) (spent_of stable.new) (failures_of stable.old) (failures_of stable.new)) }
     ensures falls { HasFailed (falls_of (R.own_log recorder.new)) (failures_of stable.old) (failures_of stable.new) }
@@ -137,6 +140,8 @@ pub fn run_node_over<W: Wait, R: Recorder, L: Link, G: Gate>(
     ensures closed { OnOk result (IsAtEnd (L.coming link.new)) }
     // Each fall that it logged has a failure of its record's device.
     ensures falls { HasFailed (falls_of (R.own_log recorder.new)) (failures_of stable.old) (failures_of stable.new) }
+    // However it ends, a restart finds in its record nothing but what it has kept and what it tries to keep.
+    ensures own { FindsItsOwn (part_now (R.own_log recorder.new)) (finds stable.new) }
     // 911, 914, 915 or 916,
     ensures faults { IfErr result IsNodeFault }
     // each only where its log and its record tell the cause.

@@ -1,18 +1,14 @@
 -- A world that was resumed from records may run with these.
-use Rattle.std.proofs.Common.{◌≡◌, ℕ, ◌+◌, ◌-◌, ◌<◌, ◌≤◌, cond, List, [], ◌∷◌, ◌++◌, length, get_or, map, slice_get, Option, Some, None, ◌⊎◌, inl, inr, refl, sym, ◌∙◌, ap, subst, arith}
+use Rattle.std.proofs.Common.{◌≡◌, ℕ, ◌+◌, ◌-◌, ◌<◌, ◌≤◌, cond, List, [], ◌∷◌, ◌++◌, length, get_or, map, slice_get, Some, None, ◌⊎◌, inl, inr, sym, ◌∙◌, ap, arith}
 use Rattle.std.specs.Option.{option_map}
 use Rattle.std.proofs.lemmas.Bool.{ne_eqb}
 use Rattle.std.proofs.lemmas.List.{same_lists, length-map}
 use Rattle.std.proofs.lemmas.Option.{slice_get-map, slice_get_cases, get_or_from_slice_get}
-use Rattle.lock_model.specs.Ballots.{Ballot}
 use Rattle.stable_record.specs.declared.node_records.NodeRecord.{NodeRecord}
 use Rattle.stable_record.specs.Records.{node_record_of, client_record_of}
-use Rattle.world_model.specs.declared.exact.ExactStation.{ExactStation}
-use Rattle.world_model.specs.declared.exact.ExactWorld.{ExactWorld}
 use Rattle.world_model.specs.ExactWorlds.{numbered}
 use Rattle.world_opening.specs.Openings.{IsEach, NodeFinds, ClientFinds, station_in, stations_in}
-use Rattle.world_machine.specs.Opened.{IsResumed}
-use Rattle.node_threads.specs.Conditions.{MayRun, finds_station, finds_attempt}
+use Rattle.node_threads.specs.Conditions.{finds_station, finds_attempt}
 use Rattle.node_threads.specs.Laws.{ResumedMayRun, finds_each}
 use Rattle.node_threads.proofs.Returned.{image_of_image}
 

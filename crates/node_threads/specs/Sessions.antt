@@ -10,6 +10,7 @@ use Rattle.world_model.specs.declared.exact.ExactClientPhase.TheVariants as clie
 use Rattle.world_model.specs.declared.exact.ExactWorld.{ExactWorld}
 use Rattle.world_model.specs.Parts.{Part, ClientPart, part}
 use Rattle.event_recorders.specs.declared.faults.RunFault.{RunFault}
+use Rattle.event_recorders.specs.OwnLogs.{FindsItsOwn}
 use Rattle.history_book.specs.Books.{BerthValue, own_part}
 
 -- each of these is in one of the two lists
@@ -31,16 +32,25 @@ pub record RestsBy (c : ℕ) (k : BerthValue) (strings : List (List ℕ)) : Type
   pub actor : k.actor ≡ actor.Client c
   pub rests : RestsWith (own_part k) strings
 
--- a session that ended without a fault rests
-abbrev pub IsSessionEnd : ℕ → Option RunFault → BerthValue → List (List ℕ) → Type 0
-IsSessionEnd c fault k strings = IfNone fault (RestsBy c k strings)
+-- The berth is the client's, and a restart finds nothing but what the client has kept, and tries to keep, by its own
+-- list.
+pub record FindsBy (c : ℕ) (k : BerthValue) (strings : List (List ℕ)) : Type 0 where
+  pub actor : k.actor ≡ actor.Client c
+  pub own : FindsItsOwn (own_part k) strings
+
+-- However a session ended, its record is the client's own; and one that ended without a fault rests.
+pub record IsSessionEnd (c : ℕ) (fault : Option RunFault) (k : BerthValue) (strings : List (List ℕ)) : Type 0 where
+  pub found : FindsBy c k strings
+  pub rests : IfNone fault (RestsBy c k strings)
 
 -- the actor is not among those that ended by faults
 abbrev pub IsUntold : List (Actor × RunFault) → Actor → Type 0
 IsUntold faults who = (f : RunFault) → Among (who, f) faults → ⊥
 
 -- The records of clients that come back, by what a restart finds of each: one of each client of the opening, in
--- order. A client that isn't told rests in this world, which the history leaves.
+-- order. It finds nothing but what the client has kept, and tries to keep, in this world, which the history leaves;
+-- and a client that isn't told rests there.
 pub record AreRecords (opening world : ExactWorld) (faults : List (Actor × RunFault)) (records : List (ℕ × List (List ℕ))) : Type 0 where
   pub clients : map (λ p. p.0) records ≡ range_with_len 1 (length opening.clients)
+  pub own : All (λ p. FindsItsOwn (part world (actor.Client p.0)) p.1) records
   pub rest : All (λ p. IsUntold faults (actor.Client p.0) → RestsWith (part world (actor.Client p.0)) p.1) records

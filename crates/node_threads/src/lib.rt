@@ -6,8 +6,9 @@
 //! that the book was opened with that world, so its history is a run from it, that they tell as many entries as
 //! the history has, and that they tell each actor that ended by a fault once, nodes first, with a fault that the
 //! actor may have. Of a client that isn't told `run_all` promises that it did as it was wished, and `with_sessions`
-//! that it rests, with just its attempt in the record that comes back. The crate holds no lock of its own round
-//! the threads. It promises nothing of what they do or send beyond what `node_loop`, `client_loop` and
+//! that it rests, with just its attempt in the record that comes back; and the record of each comes back with
+//! nothing in it but what the client has kept or tries to keep. The crate holds no lock of its own round the
+//! threads. It promises nothing of what they do or send beyond what `node_loop`, `client_loop` and
 //! `lock_session` promise, and not that they end.
 //!
 //! It stands on `node_loop` and `client_loop` for what a thread runs, `lock_session` for sessions,

@@ -42,6 +42,7 @@ pub(crate) fn begin_session<'a, B: BookName, K: Logs, S: OwnRecord, R: Wait + Co
     ensures same { IfErr result (λ e. e.client ≡ task.client) }
     ensures told { IfErr result (λ e. IfNone e.fault ⊥) }
     ensures table { IfErr result (λ e. e.berth.table ≡ B.table) }
+    ensures end { IfErr result (λ e. IsSessionEnd e.client e.fault e.berth (S.StableRecord.finds e.stable)) }
 {
     let SessionTask {
         client,

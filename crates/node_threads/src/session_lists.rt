@@ -35,6 +35,7 @@ pub(crate) fn begin_all<'a, B: BookName, K: Logs, S: OwnRecord, R: Wait + Copy>(
     ensures all { IfOk result (λ r. AreDivided (map (λ t. t.client) tasks.items) (map (λ s. s.client) r.0.items) (map (λ e. e.client) r.1.items)) }
     ensures told { IfOk result (λ r. All (λ e. IfNone e.fault ⊥) r.1.items) }
     ensures tables { IfOk result (λ r. All (λ e. e.berth.table ≡ B.table) r.1.items) }
+    ensures ends { IfOk result (λ r. All (λ e. IsSessionEnd e.client e.fault e.berth (S.StableRecord.finds e.stable)) r.1.items) }
     ensures err { IfErr result (λ f. f ≡ RunFault.Memory) }
 {
     let mut sessions = Vec::new(alloc);

@@ -1,4 +1,5 @@
 use Rattle.std.proofs.Common.{◌≡◌, ◌+◌, arith, subst, sym}
+use Rattle.lock_model.specs.Decisions.{Among}
 use Rattle.actor_steps.specs.Steps.{HasNotReopened, IsReopened}
 use Rattle.actor_steps.proofs.ReopenFacts.{found_since, once_more, if_some, if_none}
 use Rattle.actor_steps.proofs.reopening.reopened.Goals as goal
@@ -25,3 +26,7 @@ loop-failed-preserved g c =
       few = omega (arith, once.1);
       so = subst (λ times. HasNotReopened times first now since counts) (sym once.1) more;
     }
+
+-- memory was refused, and so nothing has changed since
+pub returns-in_err-found-clause-only : goal.returns-in_err-found-clause-only
+returns-in_err-found-clause-only g c = λ x there. c.loop-failed.invariant.so.found x (subst (λ s. Among x s) c.in_err-found.ensures.unchanged.0 there)

@@ -9,7 +9,7 @@ returns-in_err-keeping-clause-visits g c = tried-visits _ _ _ c.in_err-keeping.e
 pub returns-in_err-rise_anew-in-Failed-clause-visits : goal.returns-in_err-rise_anew-in-Failed-clause-visits
 returns-in_err-rise_anew-in-Failed-clause-visits g c =
     let failed = c.in_ok-keeping.ensures.failed cc in
-    c.rise_anew.ensures.visits ∙ visits-adds _ _ _ _ failed.0
+    c.rise_anew.ensures.visits ∙ visits-adds _ _ _ _ failed
 
 pub returns-in-Kept-clause-visits : goal.returns-in-Kept-clause-visits
 returns-in-Kept-clause-visits g c =
@@ -19,7 +19,7 @@ returns-in-Kept-clause-visits g c =
 pub returns-in_ok-rise_anew-in-Failed-clause-visits : goal.returns-in_ok-rise_anew-in-Failed-clause-visits
 returns-in_ok-rise_anew-in-Failed-clause-visits g c =
     let failed = c.in_ok-keeping.ensures.failed cc in
-    c.rise_anew.ensures.visits ∙ visits-adds _ _ _ _ failed.0
+    c.rise_anew.ensures.visits ∙ visits-adds _ _ _ _ failed
 
 -- the keep failed, and then the client fell
 

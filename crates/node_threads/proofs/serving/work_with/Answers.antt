@@ -1,24 +1,12 @@
-use Rattle.std.proofs.Common.{◌≡◌, ◌++◌, ◌⊎◌, inl, inr, ℕ, map, length, None, Some, sym, ◌∙◌, ap, subst, Option}
+use Rattle.std.proofs.Common.{◌≡◌, ◌++◌, ◌⊎◌, inl, inr, map, length, sym, ◌∙◌, ap, subst}
 use Rattle.std.specs.List.{All, range_with_len}
-use Rattle.std.specs.Prelude.{IfNone}
 use Rattle.std.proofs.lemmas.List.Elements.{All-weaker}
-use Rattle.event_recorders.specs.declared.faults.RunFault.{RunFault}
 use Rattle.lock_model.specs.Decisions.{Among}
 use Rattle.lock_session.specs.Sessions.{IsResting}
-use Rattle.node_threads.specs.Sessions.{IsSessionEnd, RestsBy}
+use Rattle.node_threads.specs.Sessions.{IsSessionEnd}
 use Rattle.node_threads.proofs.Amongst.{all_among, among_behind, among_front}
 use Rattle.node_threads.proofs.Lists.{written_back}
 use Rattle.node_threads.proofs.serving.work_with.Goals as goal
-
--- those that did not rise have a fault
-pub end_all-requires-clause-ends : goal.end_all-requires-clause-ends
-end_all-requires-clause-ends g c =
-    All-weaker (λ e. IfNone e.fault ⊥) (λ e. IsSessionEnd e.client e.fault e.berth (g.S.StableRecord.finds e.stable)) (λ e told. any e.fault (RestsBy e.client e.berth (g.S.StableRecord.finds e.stable)) told) c.in_ok-sessions.fallen.items
-    c.in_ok-sessions.ensures.told
-  where
-    any : (o : Option RunFault) (P : Type 0) → IfNone o ⊥ → IfNone o P
-    any None P told = absurd told
-    any (Some f) P told = tt
 
 -- the sessions rest before the work with them
 pub work_each-requires-after_bounds : goal.work_each-requires-after_bounds

@@ -4,6 +4,7 @@ use Rattle.std.specs.Vec.Iter.{into_iter_items}
 use Rattle.std.proofs.lemmas.List.{nil_from_length}
 use Rattle.std.proofs.lemmas.List.Elements.{All-nil}
 use Rattle.lock_session.specs.Sessions.{IsResting}
+use Rattle.node_threads.specs.Sessions.{IsSessionEnd}
 use Rattle.node_threads.specs.Tasks.{IsClientBerth}
 use Rattle.node_threads.proofs.Lists.{all_and_one}
 use Rattle.node_threads.proofs.Sorting.{spread_first, to_sessions, to_ends, spread}
@@ -23,6 +24,7 @@ loop-task-init g c =
       all = spread_first (λ t. t.client) _ _ _ _ gives;
       told = subst (All (λ e. IfNone e.fault ⊥)) (sym no_ends) (All-nil (λ e. IfNone e.fault ⊥));
       tables = subst (All (λ e. e.berth.table ≡ g.B.BookName.table)) (sym no_ends) (All-nil (λ e. e.berth.table ≡ g.B.BookName.table));
+      each = subst (All (λ e. IsSessionEnd e.client e.fault e.berth (g.S.StableRecord.finds e.stable))) (sym no_ends) (All-nil (λ e. IsSessionEnd e.client e.fault e.berth (g.S.StableRecord.finds e.stable)));
     }
 
 pub begin_session-requires : goal.begin_session-requires
@@ -42,6 +44,7 @@ loop-task-preserved-in-Ok-push g c =
       all = to_sessions (λ s. s.client) (λ t. t.client) c.loop-task.sessions.items c.push.new.self.items c.in-Ok.session _ _ _ c.in-Some.task _ is at c.in-Ok.ensures.client before.all;
       told = before.told;
       tables = before.tables;
+      each = before.each;
     }
 
 pub loop-task-preserved : goal.loop-task-preserved
@@ -57,6 +60,7 @@ loop-task-preserved g c =
       all = to_ends (λ e. e.client) (λ t. t.client) _ c.loop-task.ends.items c.push-in-Err.new.self.items c.in-Err.end _ _ c.in-Some.task _ is at c.in-Err.ensures.same before.all;
       told = all_and_one (λ e. IfNone e.fault ⊥) c.loop-task.ends.items c.push-in-Err.new.self.items c.in-Err.end before.told c.in-Err.ensures.told is;
       tables = all_and_one (λ e. e.berth.table ≡ g.B.BookName.table) c.loop-task.ends.items c.push-in-Err.new.self.items c.in-Err.end before.tables c.in-Err.ensures.table is;
+      each = all_and_one (λ e. IsSessionEnd e.client e.fault e.berth (g.S.StableRecord.finds e.stable)) c.loop-task.ends.items c.push-in-Err.new.self.items c.in-Err.end before.each c.in-Err.ensures.end is;
     }
 
 pub returns-clause-all : goal.returns-clause-all

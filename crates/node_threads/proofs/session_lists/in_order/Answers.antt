@@ -1,6 +1,6 @@
 use Rattle.std.proofs.Common.{◌≡◌, ◌≢◌, ◌⊎◌, ◌+◌, ◌∙◌, All, subst, arith}
 use Rattle.lock_model.specs.Decisions.{Among}
-use Rattle.node_threads.proofs.Sorting.{Sorting, sorting_begins, sorting_takes, none_named}
+use Rattle.node_threads.proofs.Sorting.{sorting_begins, sorting_takes, none_named}
 use Rattle.node_threads.proofs.session_lists.in_order.Goals as goal
 
 pub loop-place-init : goal.loop-place-init

@@ -1,3 +1,4 @@
+use Rattle.event_recorders.specs.OwnLogs.{FindsItsOwn, part_now}
 use Rattle.std.proofs.Common.{ℕ, [], ◌∷◌, ◌≡◌, refl, sym, subst, ◌∙◌, false, IfOk, OnOk, IfErr}
 use borrow.Pointer.Hide.{carried_sameᵐ}
 use borrow.Rule.Reborrow.{re_n}
@@ -35,3 +36,8 @@ returns-clause-falls g c =
     (the_row.coded.inj _ _ c.self-1.given.2.codes ∙ sym (c.self-2-1.given.1 refl))
     (subst (λ (n : ℕ). FailuresFollow (falls_of (g.R.Recorder.own_log c.args.recorder.now)) (falls_of (g.R.Recorder.own_log c.rise.new.recorder)) (n) c.rise.new.stable.failures)
     (carried_sameᵐ Members Dict _ _ same-1-1 ℕ (λ j b. j.1.failures_of b.now) (re_n c.rise-arg-1.given c.args.self)) c.rise.ensures.falls)
+
+pub returns-clause-own : goal.returns-clause-own
+returns-clause-own g c =
+    subst (λ (m : Faulty). FindsItsOwn (part_now (g.R.Recorder.own_log c.rise.new.recorder)) (m.bytes ∷ []))
+    (the_row.coded.inj _ _ c.self-1.given.2.codes ∙ sym (c.self-2-1.given.1 refl)) c.rise.ensures.own
