@@ -1,5 +1,5 @@
 -- What is left unsent where a node ends by a fault.
-use Rattle.std.proofs.Common.{◌≡◌, ◌⊎◌, ◌+◌, ◌%◌, ◌^◌, ◌<◌, ℕ, suc, Bool, drop, get_or, length, arith, List, [], ◌∷◌, ◌++◌, Option, None, Some, Result, Ok, Err, OnOk, OnErr, inl, inr, refl, sym, ap, ◌∙◌, subst, append_assoc, append-nil}
+use Rattle.std.proofs.Common.{◌≡◌, ◌⊎◌, ◌+◌, ◌%◌, ◌^◌, ◌<◌, ℕ, suc, Bool, drop, get_or, length, arith, List, [], ◌∷◌, ◌++◌, Option, None, Some, Result, Ok, Err, OnOk, OnErr, IfErr, IsOkUnless, inl, inr, refl, sym, ap, ◌∙◌, subst, append_assoc, append-nil}
 use Rattle.std.proofs.Math.Seq.{drop-cons}
 use Rattle.lock_messages.specs.declared.ids.Actor.{Actor}
 use Rattle.lock_messages.specs.declared.ids.Actor.TheVariants as actor
@@ -11,6 +11,7 @@ use Rattle.lossy_link.specs.declared.parcels.Post.TheVariants as post
 use Rattle.lossy_link.specs.declared.parcels.Sending.{Sending}
 use Rattle.lossy_link.specs.declared.parcels.Sending.TheVariants as sending
 use Rattle.lossy_link.specs.Links.{one_more, all_more, refused_after, IsRefused}
+use Rattle.stable_record.specs.declared.node_records.NodeRecord.{NodeRecord}
 use Rattle.voter_core.specs.Voters.{Voter, Stored, record_of, replies_in}
 use Rattle.world_model.specs.declared.events.Age.{Age}
 use Rattle.world_model.specs.declared.events.Effect.{Effect}
@@ -19,11 +20,14 @@ use Rattle.world_model.specs.declared.events.Event.{Event}
 use Rattle.world_model.specs.declared.events.Event.TheVariants as event
 use Rattle.world_model.specs.Locality.{local_part}
 use Rattle.world_model.specs.Parts.{Part, after_own}
+use Rattle.event_recorders.specs.declared.faults.RunFault.{RunFault}
+use Rattle.event_recorders.specs.declared.faults.RunFault.TheVariants as fault
 use Rattle.event_recorders.specs.OwnLogs.{OwnLog, part_now, adds, IsAdded}
+use Rattle.actor_steps.specs.Endings.{IsDown}
 use Rattle.actor_steps.specs.Steps.{IsRisenAgain}
-use Rattle.node_loop.specs.Standing.{StandsBy}
+use Rattle.node_loop.specs.Standing.{StandsBy, FailsToKeep}
 use Rattle.node_loop.specs.Replies.{addressee, sendings, sent_for, sent_of, SentFollows}
-use Rattle.node_loop.specs.Unsent.{latest, last_by, last_sent, HasGiven, GivesSome, HasSent, SentAsFar, ToldAsFar, TellsGone, HasGone}
+use Rattle.node_loop.specs.Unsent.{latest, last_by, last_sent, HasGiven, GivesSome, HasSent, IsWhole, SentAsFar, ToldAsFar, TellsGone, HasGone}
 use Rattle.node_loop.proofs.SentFacts.{none_more, sent_more, trying_sends_nothing, said_is_sent, more_and_more, one_is_more}
 
 latest_of_none : {X : Type 0} (xs : List X) → latest [] xs ≡ xs
@@ -91,10 +95,32 @@ ends_last a [] [] left is = (a, sym (append-nil a) ∙ ap (λ ys. a ++ ys) is)
 ends_last a [] (y ∷ ys) left is = absurd (cc is)
 ends_last a (x ∷ xs) begun left is = (begun, is)
 
+-- what is left whole: where memory was refused nothing is asked
+pub memory_whole : (l : OwnLog) (sent : List Sending) → IsWhole fault.Memory l sent
+memory_whole l sent = λ other up. absurd (other refl)
+
+pub silent_whole : (f : RunFault) (l l' : OwnLog) → sent_of l' ≡ sent_of l → IsWhole f l' (sent_of l)
+silent_whole f l l' same = λ other up. same
+
+-- a keep that is refused, whether it was tried or not
+pub trying_whole : (f : RunFault) (l l' : OwnLog) (who : Actor) → (l' ≡ l) ⊎ IsAdded l (event.Try who) effect.Tried l' → IsWhole f l' (sent_of l)
+trying_whole f l l' who (inl same) = silent_whole f l l' (ap sent_of same)
+trying_whole f l l' who (inr added) = silent_whole f l l' (trying_sends_nothing l l' who added)
+
+-- a node that could not rise, or not even fall
+pub failing_whole : (f : RunFault) (l l' : OwnLog) (n : ℕ) (v : Voter) (before : NodeRecord) (tried : List ℕ) (strings : List (List ℕ)) → FailsToKeep l v before tried strings →
+    (l' ≡ l) ⊎ IsAdded l (event.Fall (actor.Node n)) effect.Down l' → IsWhole f l' (sent_of l)
+failing_whole f l l' n v before tried strings is (inl same) = silent_whole f l l' (ap sent_of same)
+failing_whole f l l' n v before tried strings is (inr added) =
+    λ other up. absurd (up (subst IsDown (sym (added.part ∙ ap (after_own l.ballots (event.Fall (actor.Node n)) effect.Down) is.part)) refl))
+
+pub whole_from : (f : RunFault) (l m l' : OwnLog) → sent_of m ≡ sent_of l → IsWhole f l' (sent_of m) → IsWhole f l' (sent_of l)
+whole_from f l m l' same whole = subst (IsWhole f l') same whole
+
 -- what was sent of what the node says
 pub said_as_far : (l l' : OwnLog) (v : Voter) (n first count : ℕ) (done : Effect) (strings : List (List ℕ)) (stuck : Bool) (replies : List Message) (given given' : Option (List Sending)) →
     StandsBy (Stored (replies_in v.state)) l v (record_of v) strings stuck → n ≡ v.node → done ≡ effect.Said first count → IsAdded l (event.Say n) done l' → replies ≡ replies_in v.state →
-    GivesSome (sendings first replies) given given' → SentAsFar l l' given given'
+    GivesSome (sendings first replies) given given' → SentAsFar fault.Memory l l' given given'
 said_as_far l l' v n first count done strings stuck replies given given' s same kind added all some =
     let xs = sendings first replies in
     let left = some.0 in
@@ -108,28 +134,38 @@ said_as_far l l' v n first count done strings stuck replies given given' s same 
         all = sent_more l l' (event.Say n) done added ∙ ap (λ ys. sent_of l ++ ys) (is ∙ some.1.whole) ∙ sym (append_assoc (sent_of l) some.1.begun left);
         last = last_more l l' (event.Say n) done added ∙ ap (latest (last_sent l)) is ∙ last.1;
       };
+      whole = memory_whole l' (sent_of l ++ some.1.begun);
       follows = λ before was. some.1.now ∙ ap (λ g. all_more g some.1.begun) was ∙ more_and_more before (sent_of l) some.1.begun;
     }
 
+-- where an answer fails, it is for want of memory
+pub fails_for_memory : {X : Type 0} (r : Result X RunFault) (Given : Type 0) (P : RunFault → Type 0) → IsOkUnless r fault.Memory → OnErr r Given → (Given → P fault.Memory) → IfErr r P
+fails_for_memory (Ok x) Given P memory given then = tt
+fails_for_memory (Err f) Given P memory given then = subst P (sym memory) (then given)
+
 -- nothing was given since
-pub nothing_given : (l l' : OwnLog) (given given' : Option (List Sending)) → given' ≡ given → HasSent l' (sent_of l) → SentAsFar l l' given given'
-nothing_given l l' given given' same far = record { sent = sent_of l; far = far; follows = λ before was. same ∙ was }
+pub nothing_given : (f : RunFault) (l l' : OwnLog) (given given' : Option (List Sending)) → given' ≡ given → HasSent l' (sent_of l) → IsWhole f l' (sent_of l) → SentAsFar f l l' given given'
+nothing_given f l l' given given' same far whole = record { sent = sent_of l; far = far; whole = whole; follows = λ before was. same ∙ was }
 
 -- one after the other
-pub far_on : (l m l' : OwnLog) (given between given' : Option (List Sending)) → SentFollows l m given between → SentAsFar m l' between given' → SentAsFar l l' given given'
-far_on l m l' given between given' first second = record { sent = second.sent; far = second.far; follows = λ before was. second.follows before (first before was) }
+pub far_on : (f : RunFault) (l m l' : OwnLog) (given between given' : Option (List Sending)) → SentFollows l m given between → SentAsFar f m l' between given' → SentAsFar f l l' given given'
+far_on f l m l' given between given' first second =
+    record { sent = second.sent; far = second.far; whole = second.whole; follows = λ before was. second.follows before (first before was) }
 
 -- behind a log that tells nothing more
-pub far_from : (l m l' : OwnLog) (given given' : Option (List Sending)) → sent_of m ≡ sent_of l → SentAsFar m l' given given' → SentAsFar l l' given given'
-far_from l m l' given given' same later = record { sent = later.sent; far = later.far; follows = λ before was. later.follows before (was ∙ ap (all_more before) (sym same)) }
+pub far_from : (f : RunFault) (l m l' : OwnLog) (given given' : Option (List Sending)) → sent_of m ≡ sent_of l → SentAsFar f m l' given given' → SentAsFar f l l' given given'
+far_from f l m l' given given' same later =
+    record { sent = later.sent; far = later.far; whole = later.whole; follows = λ before was. later.follows before (was ∙ ap (all_more before) (sym same)) }
 
 -- on top of what was there before a log that tells nothing
-pub told_far : (l l' : OwnLog) (given given' : Option (List Sending)) → sent_of l ≡ [] → SentAsFar l l' given given' → ToldAsFar l' given given'
-told_far l l' given given' nothing later = record { sent = later.sent; far = later.far; now = later.follows given (sym (ap (all_more given) nothing ∙ none_more given)) }
+pub told_far : (f : RunFault) (l l' : OwnLog) (given given' : Option (List Sending)) → sent_of l ≡ [] → SentAsFar f l l' given given' → ToldAsFar f l' given given'
+told_far f l l' given given' nothing later =
+    record { sent = later.sent; far = later.far; whole = later.whole; now = later.follows given (sym (ap (all_more given) nothing ∙ none_more given)) }
 
 -- a log that tells nothing
-pub none_told : (l : OwnLog) (given : Option (List Sending)) → sent_of l ≡ [] → ToldAsFar l given given
-none_told l given nothing = record { sent = []; far = record { begun = last_sent l; left = []; all = nothing; last = sym (append-nil (last_sent l)) }; now = sym (none_more given) }
+pub none_told : (f : RunFault) (l : OwnLog) (given : Option (List Sending)) → sent_of l ≡ [] → ToldAsFar f l given given
+none_told f l given nothing =
+    record { sent = []; far = record { begun = last_sent l; left = []; all = nothing; last = sym (append-nil (last_sent l)) }; whole = λ other up. nothing; now = sym (none_more given) }
 
 -- nothing was begun yet
 pub none_given : (all : List Sending) (given : Option (List Sending)) → HasGiven all all given given
@@ -175,5 +211,5 @@ pub gone_is_told : {X : Type 0} (answer : Result X LinkFault) (n : ℕ) (given g
 gone_is_told (Ok x) n given given' before after told still was = inl told
 gone_is_told (Err fault) n given given' before after told still was = inr (still, subst IsRefused (sym was) (is_refused _ before fault))
 
-pub has_gone : (n : ℕ) (l : OwnLog) (given between given' : Option (List Sending)) (refused : Option Bool) → ToldAsFar l given between → TellsGone n between given' refused → HasGone n l given given' refused
-has_gone n l given between given' refused told gone = record { between = between; told = told; gone = gone }
+pub has_gone : (n : ℕ) (f : RunFault) (l : OwnLog) (given between given' : Option (List Sending)) (refused : Option Bool) → ToldAsFar f l given between → TellsGone n between given' refused → HasGone n f l given given' refused
+has_gone n f l given between given' refused told gone = record { between = between; told = told; gone = gone }

@@ -8,7 +8,10 @@ use Rattle.lossy_link.specs.Links.{one_more, all_more, IsRefused}
 use Rattle.world_model.specs.declared.events.Effect.{Effect}
 use Rattle.world_model.specs.declared.events.Event.{Event}
 use Rattle.world_model.specs.Parts.{Part, after_own}
-use Rattle.event_recorders.specs.OwnLogs.{OwnLog}
+use Rattle.event_recorders.specs.declared.faults.RunFault.{RunFault}
+use Rattle.event_recorders.specs.declared.faults.RunFault.TheVariants as fault
+use Rattle.event_recorders.specs.OwnLogs.{OwnLog, part_now}
+use Rattle.actor_steps.specs.Endings.{IsDown}
 use Rattle.node_loop.specs.Replies.{sent_for, sent_of}
 
 -- the later of two lists, or the earlier one where that is empty
@@ -40,26 +43,33 @@ pub record HasSent (l : OwnLog) (sent : List Sending) : Type 0 where
   pub all : sent_of l ≡ sent ++ left
   pub last : last_sent l ≡ begun ++ left
 
+-- Nothing is left unsent but where memory was refused (914), or where the node is down, since it fell and did not
+-- rise.
+abbrev pub IsWhole : RunFault → OwnLog → List Sending → Type 0
+IsWhole f l sent = (f ≡ fault.Memory → ⊥) → (IsDown (part_now l) → ⊥) → sent_of l ≡ sent
+
 -- Where what was given to a link before is what one log tells, on top of what was there, what was given
--- since is what the other log tells, but perhaps for such an end.
-pub record SentAsFar (l l' : OwnLog) (given given' : Option (List Sending)) : Type 0 where
+-- since is what the other log tells, but perhaps for such an end, where it ended by this fault.
+pub record SentAsFar (f : RunFault) (l l' : OwnLog) (given given' : Option (List Sending)) : Type 0 where
   pub sent : List Sending
   pub far : HasSent l' sent
+  pub whole : IsWhole f l' sent
   pub follows : (before : Option (List Sending)) → given ≡ all_more before (sent_of l) → given' ≡ all_more before sent
 
 -- what the log tells was given, on top of what was there, but perhaps for such an end
-pub record ToldAsFar (l : OwnLog) (given given' : Option (List Sending)) : Type 0 where
+pub record ToldAsFar (f : RunFault) (l : OwnLog) (given given' : Option (List Sending)) : Type 0 where
   pub sent : List Sending
   pub far : HasSent l sent
+  pub whole : IsWhole f l sent
   pub now : given' ≡ all_more given sent
 
 -- every client is told that the node is gone, unless memory was refused
 abbrev pub TellsGone : ℕ → Option (List Sending) → Option (List Sending) → Option Bool → Type 0
 TellsGone n given given' refused = (given' ≡ one_more given (sending.Told (post.Gone n))) ⊎ ((given' ≡ given) × IsRefused refused)
 
--- What a node that ended by a fault has given to its link, on top of what was there: what its log tells, but
+-- What a node that ended by this fault has given to its link, on top of what was there: what its log tells, but
 -- perhaps for such an end, and behind it that the node is gone, unless memory was refused.
-pub record HasGone (n : ℕ) (l : OwnLog) (given given' : Option (List Sending)) (refused : Option Bool) : Type 0 where
+pub record HasGone (n : ℕ) (f : RunFault) (l : OwnLog) (given given' : Option (List Sending)) (refused : Option Bool) : Type 0 where
   pub between : Option (List Sending)
-  pub told : ToldAsFar l given between
+  pub told : ToldAsFar f l given between
   pub gone : TellsGone n between given' refused

@@ -9,7 +9,7 @@ ghost use Rattle.lossy_link.specs.Links.{one_more};
 ghost use Rattle.lossy_link.specs.declared.parcels.Post.{Post as PostValue};
 ghost use Rattle.lossy_link.specs.declared.parcels.Sending.{Sending as SendingValue};
 ghost use Rattle.node_loop.specs.Replies.{sent_of, SentFollows, IsSentIn};
-ghost use Rattle.node_loop.specs.Unsent.{HasSent, SentAsFar};
+ghost use Rattle.node_loop.specs.Unsent.{HasSent, IsWhole, SentAsFar};
 ghost use Rattle.node_loop.specs.Standing.{StandsBy, StandsIdle, HasTaken, HasSwitched, HasKept, FailsToKeep, IsNodeFault};
 ghost use Rattle.actor_steps.specs.Steps.{IsBookFault};
 ghost use Rattle.actor_steps.specs.Endings.{falls_of, FailuresFollow, EndsFrom};
@@ -98,7 +98,7 @@ fn switch<R: Recorder>(
 
 /// Keeps what the node decided. Where the record's device fails, the node falls and rises again with
 /// what is found.
-#[tactic(auto, using(crate::proofs::SentFacts::keeping_sends_nothing, crate::proofs::SentFacts::trying_sends_nothing, actor_steps::proofs::EndFacts::failures_stay, actor_steps::proofs::EndFacts::failures_rise, actor_steps::proofs::EndFacts::failures_on, crate::proofs::UnsentFacts::none_left, crate::proofs::UnsentFacts::trying_leaves, crate::proofs::UnsentFacts::sent_before, actor_steps::proofs::FindingFacts::part_own, crate::proofs::KeepFacts::stands_own))]
+#[tactic(auto, using(crate::proofs::SentFacts::keeping_sends_nothing, crate::proofs::SentFacts::trying_sends_nothing, actor_steps::proofs::EndFacts::failures_stay, actor_steps::proofs::EndFacts::failures_rise, actor_steps::proofs::EndFacts::failures_on, crate::proofs::UnsentFacts::none_left, crate::proofs::UnsentFacts::trying_leaves, crate::proofs::UnsentFacts::sent_before, actor_steps::proofs::FindingFacts::part_own, crate::proofs::KeepFacts::stands_own, crate::proofs::UnsentFacts::memory_whole, crate::proofs::UnsentFacts::silent_whole, crate::proofs::UnsentFacts::trying_whole, crate::proofs::UnsentFacts::whole_from))]
 fn keep<R: Recorder, G: Gate>(
     alloc: Global,
     core: &mut NodeCore,
@@ -109,6 +109,7 @@ fn keep<R: Recorder, G: Gate>(
     requires { (before : NodeRecord) × StandsBy (Decided (replies_in core.old.state)) (R.own_log recorder.old) core.old before (finds stable.old) (stuck_of stable.old) }
     ensures sent { IfOk result (λ keeping. IsSentIn keeping core.new.node (R.own_log recorder.old) (R.own_log recorder.new)) }
     ensures unsent { HasSent (R.own_log recorder.new) (sent_of (R.own_log recorder.old)) }
+    ensures whole { IfErr result (λ f. IsWhole f (R.own_log recorder.new) (sent_of (R.own_log recorder.old))) }
     ensures kept { IfOk result (λ keeping. HasKept keeping (R.own_log recorder.new) core.new (finds stable.new) (stuck_of stable.new)) }
     ensures own { FindsItsOwn (part_now (R.own_log recorder.new)) (finds stable.new) }
     ensures faults { IfErr result IsNodeFault }
@@ -135,7 +136,7 @@ fn keep<R: Recorder, G: Gate>(
 }
 
 /// The node falls, and rises again with what its record is found to be.
-#[tactic(auto, using(crate::proofs::UnsentFacts::failing_leaves, crate::proofs::UnsentFacts::rising_leaves, actor_steps::proofs::FindingFacts::part_own))]
+#[tactic(auto, using(crate::proofs::UnsentFacts::failing_leaves, crate::proofs::UnsentFacts::rising_leaves, actor_steps::proofs::FindingFacts::part_own, crate::proofs::UnsentFacts::memory_whole, crate::proofs::UnsentFacts::failing_whole))]
 fn restart<R: Recorder>(
     tried: &[u8],
     core: &mut NodeCore,
@@ -146,6 +147,7 @@ fn restart<R: Recorder>(
     ensures idle { OnOk result (StandsIdle (R.own_log recorder.new) core.new (finds stable.new) (stuck_of stable.new)) }
     ensures sent { OnOk result (sent_of (R.own_log recorder.new) ≡ sent_of (R.own_log recorder.old) ++ SendingValue.Told (PostValue.Nudge core.new.node) ∷ []) }
     ensures unsent { HasSent (R.own_log recorder.new) (sent_of (R.own_log recorder.old)) }
+    ensures whole { IfErr result (λ f. IsWhole f (R.own_log recorder.new) (sent_of (R.own_log recorder.old))) }
     ensures own { FindsItsOwn (part_now (R.own_log recorder.new)) (finds stable.new) }
     ensures faults { IfErr result IsNodeFault }
     ensures ended { IfErr result (λ fault. EndsFrom fault (falls_of (R.own_log recorder.old) + 1) (R.own_log recorder.new) (stuck_of stable.new) (spent_of stable.new) (failures_of stable.old) (failures_of stable.new)) }
@@ -161,7 +163,7 @@ fn restart<R: Recorder>(
 }
 
 /// Says the node's replies, and sends them.
-#[tactic(auto, using(crate::proofs::SentFacts::say_is_told, crate::proofs::UnsentFacts::nothing_given, crate::proofs::UnsentFacts::none_left, actor_steps::proofs::FindingFacts::part_own))]
+#[tactic(auto, using(crate::proofs::SentFacts::say_is_told, crate::proofs::UnsentFacts::nothing_given, crate::proofs::UnsentFacts::none_left, actor_steps::proofs::FindingFacts::part_own, crate::proofs::UnsentFacts::silent_whole))]
 fn say<R: Recorder, L: Link>(
     alloc: Global,
     core: &mut NodeCore,
@@ -172,7 +174,7 @@ fn say<R: Recorder, L: Link>(
     requires { StandsBy (Stored (replies_in core.old.state)) (R.own_log recorder.old) core.old (record_of core.old) (finds stable.now) (stuck_of stable.now) }
     ensures idle { OnOk result (StandsIdle (R.own_log recorder.new) core.new (finds stable.now) (stuck_of stable.now)) }
     ensures sent { OnOk result (SentFollows (R.own_log recorder.old) (R.own_log recorder.new) (L.given link.old) (L.given link.new)) }
-    ensures faulted { OnErr result (SentAsFar (R.own_log recorder.old) (R.own_log recorder.new) (L.given link.old) (L.given link.new)) }
+    ensures faulted { IfErr result (λ f. SentAsFar f (R.own_log recorder.old) (R.own_log recorder.new) (L.given link.old) (L.given link.new)) }
     ensures own { FindsItsOwn (part_now (R.own_log recorder.new)) (finds stable.now) }
     ensures faults { IfErr result IsBookFault }
     ensures falls { falls_of (R.own_log recorder.new) ≡ falls_of (R.own_log recorder.old) }
@@ -198,7 +200,7 @@ fn tell_lost<L: Link>(node: NodeId, link: &mut L) -> Result<(), RunFault>
 }
 
 /// Keeps what the node took, where it changed the record, and sends the replies.
-#[tactic(auto, using(crate::proofs::SentFacts::follows_none, crate::proofs::SentFacts::follows_from, crate::proofs::SentFacts::nudge_follows, actor_steps::proofs::EndFacts::failures_stay, actor_steps::proofs::EndFacts::failures_on, crate::proofs::UnsentFacts::nothing_given, crate::proofs::UnsentFacts::far_from))]
+#[tactic(auto, using(crate::proofs::SentFacts::follows_none, crate::proofs::SentFacts::follows_from, crate::proofs::SentFacts::nudge_follows, actor_steps::proofs::EndFacts::failures_stay, actor_steps::proofs::EndFacts::failures_on, crate::proofs::UnsentFacts::nothing_given, crate::proofs::UnsentFacts::far_from, crate::proofs::UnsentFacts::memory_whole))]
 fn finish<R: Recorder, L: Link, G: Gate>(
     alloc: Global,
     changed: bool,
@@ -211,7 +213,7 @@ fn finish<R: Recorder, L: Link, G: Gate>(
     requires { (before : NodeRecord) × HasTaken changed (R.own_log recorder.old) core.old before (finds stable.old) (stuck_of stable.old) }
     ensures idle { OnOk result (StandsIdle (R.own_log recorder.new) core.new (finds stable.new) (stuck_of stable.new)) }
     ensures sent { OnOk result (SentFollows (R.own_log recorder.old) (R.own_log recorder.new) (L.given link.old) (L.given link.new)) }
-    ensures faulted { OnErr result (SentAsFar (R.own_log recorder.old) (R.own_log recorder.new) (L.given link.old) (L.given link.new)) }
+    ensures faulted { IfErr result (λ f. SentAsFar f (R.own_log recorder.old) (R.own_log recorder.new) (L.given link.old) (L.given link.new)) }
     ensures own { FindsItsOwn (part_now (R.own_log recorder.new)) (finds stable.new) }
     ensures faults { IfErr result IsNodeFault }
     ensures ended { IfErr result (λ fault. EndsFrom fault (falls_of (R.own_log recorder.old)) (R.own_log recorder.new) (stuck_of stable.new) (spent_of stable.new) (failures_of stable.old) (failures_of stable.new)) }
@@ -227,7 +229,7 @@ fn finish<R: Recorder, L: Link, G: Gate>(
 }
 
 /// A turn: takes the message of the number, keeps what it changes, and sends the replies.
-#[tactic(auto, using(crate::proofs::SentFacts::follows_none, crate::proofs::SentFacts::follows_from, actor_steps::proofs::EndFacts::failures_stay, actor_steps::proofs::EndFacts::failures_on, crate::proofs::UnsentFacts::nothing_given, crate::proofs::UnsentFacts::none_left, crate::proofs::UnsentFacts::far_from, crate::proofs::KeepFacts::stands_own))]
+#[tactic(auto, using(crate::proofs::SentFacts::follows_none, crate::proofs::SentFacts::follows_from, actor_steps::proofs::EndFacts::failures_stay, actor_steps::proofs::EndFacts::failures_on, crate::proofs::UnsentFacts::nothing_given, crate::proofs::UnsentFacts::none_left, crate::proofs::UnsentFacts::far_from, crate::proofs::KeepFacts::stands_own, crate::proofs::UnsentFacts::silent_whole))]
 fn take_turn<R: Recorder, L: Link, G: Gate>(
     alloc: Global,
     number: u32,
@@ -240,7 +242,7 @@ fn take_turn<R: Recorder, L: Link, G: Gate>(
     requires { StandsIdle (R.own_log recorder.old) core.old (finds stable.old) (stuck_of stable.old) }
     ensures idle { OnOk result (StandsIdle (R.own_log recorder.new) core.new (finds stable.new) (stuck_of stable.new)) }
     ensures sent { OnOk result (SentFollows (R.own_log recorder.old) (R.own_log recorder.new) (L.given link.old) (L.given link.new)) }
-    ensures faulted { OnErr result (SentAsFar (R.own_log recorder.old) (R.own_log recorder.new) (L.given link.old) (L.given link.new)) }
+    ensures faulted { IfErr result (λ f. SentAsFar f (R.own_log recorder.old) (R.own_log recorder.new) (L.given link.old) (L.given link.new)) }
     ensures own { FindsItsOwn (part_now (R.own_log recorder.new)) (finds stable.new) }
     ensures faults { IfErr result IsNodeFault }
     ensures ended { IfErr result (λ fault. EndsFrom fault (falls_of (R.own_log recorder.old)) (R.own_log recorder.new) (stuck_of stable.new) (spent_of stable.new) (failures_of stable.old) (failures_of stable.new)) }
@@ -254,7 +256,7 @@ fn take_turn<R: Recorder, L: Link, G: Gate>(
 
 /// A turn: takes the problem of this number, keeps what that changes, and sends the replies. A number that
 /// no problem has is dropped.
-#[tactic(auto, using(crate::proofs::SentFacts::follows_none, crate::proofs::SentFacts::follows_from, actor_steps::proofs::EndFacts::failures_stay, actor_steps::proofs::EndFacts::failures_on, crate::proofs::UnsentFacts::nothing_given, crate::proofs::UnsentFacts::none_left, crate::proofs::UnsentFacts::far_from, crate::proofs::KeepFacts::stands_own))]
+#[tactic(auto, using(crate::proofs::SentFacts::follows_none, crate::proofs::SentFacts::follows_from, actor_steps::proofs::EndFacts::failures_stay, actor_steps::proofs::EndFacts::failures_on, crate::proofs::UnsentFacts::nothing_given, crate::proofs::UnsentFacts::none_left, crate::proofs::UnsentFacts::far_from, crate::proofs::KeepFacts::stands_own, crate::proofs::UnsentFacts::silent_whole))]
 fn switch_turn<R: Recorder, L: Link, G: Gate>(
     alloc: Global,
     number: u8,
@@ -268,7 +270,7 @@ fn switch_turn<R: Recorder, L: Link, G: Gate>(
     ensures idle { OnOk result (StandsIdle (R.own_log recorder.new) core.new (finds stable.new) (stuck_of stable.new)) }
     ensures dropped { ((problem : ProblemValue) → problem_number problem ≢ number) → IsOk result × (core.new ≡ core.old) × (R.own_log recorder.new ≡ R.own_log recorder.old) × (L.given link.new ≡ L.given link.old) }
     ensures sent { OnOk result (SentFollows (R.own_log recorder.old) (R.own_log recorder.new) (L.given link.old) (L.given link.new)) }
-    ensures faulted { OnErr result (SentAsFar (R.own_log recorder.old) (R.own_log recorder.new) (L.given link.old) (L.given link.new)) }
+    ensures faulted { IfErr result (λ f. SentAsFar f (R.own_log recorder.old) (R.own_log recorder.new) (L.given link.old) (L.given link.new)) }
     ensures own { FindsItsOwn (part_now (R.own_log recorder.new)) (finds stable.new) }
     ensures faults { IfErr result IsNodeFault }
     ensures ended { IfErr result (λ fault. EndsFrom fault (falls_of (R.own_log recorder.old)) (R.own_log recorder.new) (stuck_of stable.new) (spent_of stable.new) (failures_of stable.old) (failures_of stable.new)) }
@@ -295,7 +297,7 @@ fn parcel_turn<R: Recorder, L: Link, G: Gate>(
     requires { StandsIdle (R.own_log recorder.old) core.old (finds stable.old) (stuck_of stable.old) }
     ensures idle { OnOk result (StandsIdle (R.own_log recorder.new) core.new (finds stable.new) (stuck_of stable.new)) }
     ensures sent { OnOk result (SentFollows (R.own_log recorder.old) (R.own_log recorder.new) (L.given link.old) (L.given link.new)) }
-    ensures faulted { OnErr result (SentAsFar (R.own_log recorder.old) (R.own_log recorder.new) (L.given link.old) (L.given link.new)) }
+    ensures faulted { IfErr result (λ f. SentAsFar f (R.own_log recorder.old) (R.own_log recorder.new) (L.given link.old) (L.given link.new)) }
     ensures own { FindsItsOwn (part_now (R.own_log recorder.new)) (finds stable.new) }
     ensures faults { IfErr result IsNodeFault }
     ensures ended { IfErr result (λ fault. EndsFrom fault (falls_of (R.own_log recorder.old)) (R.own_log recorder.new) (stuck_of stable.new) (spent_of stable.new) (failures_of stable.old) (failures_of stable.new)) }
@@ -324,7 +326,7 @@ pub(crate) fn attend<R: Recorder, L: Link, G: Gate>(
     requires { StandsIdle (R.own_log recorder.old) core.old (finds stable.old) (stuck_of stable.old) }
     ensures idle { OnOk result (StandsIdle (R.own_log recorder.new) core.new (finds stable.new) (stuck_of stable.new)) }
     ensures sent { OnOk result (SentFollows (R.own_log recorder.old) (R.own_log recorder.new) (L.given link.old) (L.given link.new)) }
-    ensures faulted { OnErr result (SentAsFar (R.own_log recorder.old) (R.own_log recorder.new) (L.given link.old) (L.given link.new)) }
+    ensures faulted { IfErr result (λ f. SentAsFar f (R.own_log recorder.old) (R.own_log recorder.new) (L.given link.old) (L.given link.new)) }
     ensures own { FindsItsOwn (part_now (R.own_log recorder.new)) (finds stable.new) }
     ensures faults { IfErr result IsNodeFault }
     ensures ended { IfErr result (λ fault. EndsFrom fault (falls_of (R.own_log recorder.old)) (R.own_log recorder.new) (stuck_of stable.new) (spent_of stable.new) (failures_of stable.old) (failures_of stable.new)) }

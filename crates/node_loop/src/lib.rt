@@ -9,9 +9,10 @@
 //! what the node has kept by then; that its core is always what its log tells of it; that over a link
 //! which remembers what is sent, this is just what the log tells, each reply as its frame and numbered as
 //! it was said; by which faults it ends; and that over such a link it then has sent as much, but perhaps
-//! for an end of its last replies or for the nudge of its last fall, and has told every client that it is
-//! gone, unless memory was refused. However it ends, a restart finds in its record nothing but what it has
-//! kept and what it tries to keep. It promises nothing of what comes over the link, nor that the loop ends.
+//! for an end of its last replies where memory was refused, or for the nudge of its last fall where it did
+//! not rise either, and has told every client that it is gone, unless memory was refused. However it ends, a
+//! restart finds in its record nothing but what it has kept and what it tries to keep. It promises nothing of
+//! what comes over the link, nor that the loop ends.
 //!
 //! It stands on `actor_steps` and `event_recorders` for what the threads of nodes and clients do alike, on
 //! `voter_core` for decisions, and on `lossy_link`, `stable_record`, `admission_policy`, `lock_messages`,

@@ -63,7 +63,7 @@ fn serve<W: Wait, R: Recorder, L: Link, G: Gate>(
     requires { StandsIdle (R.own_log recorder.old) core.old (finds stable.old) (stuck_of stable.old) }
     ensures idle { OnOk result (StandsIdle (R.own_log recorder.new) core.new (finds stable.new) (stuck_of stable.new)) }
     ensures sent { OnOk result (SentFollows (R.own_log recorder.old) (R.own_log recorder.new) (L.given link.old) (L.given link.new)) }
-    ensures faulted { OnErr result (SentAsFar (R.own_log recorder.old) (R.own_log recorder.new) (L.given link.old) (L.given link.new)) }
+    ensures faulted { IfErr result (λ f. SentAsFar f (R.own_log recorder.old) (R.own_log recorder.new) (L.given link.old) (L.given link.new)) }
     ensures closed { OnOk result (IsAtEnd (L.coming link.new)) }
     ensures own { FindsItsOwn (part_now (R.own_log recorder.new)) (finds stable.new) }
     ensures faults { IfErr result IsNodeFault }
@@ -94,7 +94,7 @@ fn live<W: Wait, R: Recorder, L: Link, G: Gate>(
     requires { (kept : NodeRecord) × IsReady (R.own_log recorder.old) node kept (finds stable.old) }
     ensures idle { OnOk result (IsIdleNode (part_now (R.own_log recorder.new))) }
     ensures sent { OnOk result (L.given link.new ≡ all_more (L.given link.old) (sent_of (R.own_log recorder.new))) }
-    ensures faulted { OnErr result (ToldAsFar (R.own_log recorder.new) (L.given link.old) (L.given link.new)) }
+    ensures faulted { IfErr result (λ f. ToldAsFar f (R.own_log recorder.new) (L.given link.old) (L.given link.new)) }
     ensures closed { OnOk result (IsAtEnd (L.coming link.new)) }
     ensures own { FindsItsOwn (part_now (R.own_log recorder.new)) (finds stable.new) }
     ensures faults { IfErr result IsNodeFault }
@@ -134,8 +134,9 @@ pub fn run_node_over<W: Wait, R: Recorder, L: Link, G: Gate>(
     // What was sent is what its own log tells: its replies, and after each fall its nudge.
     ensures sent { OnOk result (L.given link.new ≡ all_more (L.given link.old) (sent_of (R.own_log recorder.new))) }
     // Where it ends by a fault, that is so but perhaps for an end of what the last event sends that sends
-    // anything; and then every client was told that the node is gone, unless memory was refused.
-    ensures faulted { OnErr result (HasGone node (R.own_log recorder.new) (L.given link.old) (L.given link.new) (L.refused link.new)) }
+    // anything, and for nothing unless memory was refused or it is down; and then every client was told that
+    // the node is gone, unless memory was refused.
+    ensures faulted { IfErr result (λ f. HasGone node f (R.own_log recorder.new) (L.given link.old) (L.given link.new) (L.refused link.new)) }
     // It ends without a fault only where nothing comes any more.
     ensures closed { OnOk result (IsAtEnd (L.coming link.new)) }
     // Each fall that it logged has a failure of its record's device.
@@ -191,8 +192,9 @@ pub fn run_node<W: Wait, R: Recorder, L: Link, G: Gate>(
     // What was sent is what its own log tells: its replies, and after each fall its nudge.
     ensures sent { OnOk result (L.given link.new ≡ all_more (L.given link.old) (sent_of (R.own_log recorder.new))) }
     // Where it ends by a fault, that is so but perhaps for an end of what the last event sends that sends
-    // anything; and then every client was told that the node is gone, unless memory was refused.
-    ensures faulted { OnErr result (HasGone node (R.own_log recorder.new) (L.given link.old) (L.given link.new) (L.refused link.new)) }
+    // anything, and for nothing unless memory was refused or it is down; and then every client was told that
+    // the node is gone, unless memory was refused.
+    ensures faulted { IfErr result (λ f. HasGone node f (R.own_log recorder.new) (L.given link.old) (L.given link.new) (L.refused link.new)) }
     // It ends without a fault only where nothing comes any more.
     ensures closed { OnOk result (IsAtEnd (L.coming link.new)) }
     // 911, 914, 915 or 916,

@@ -38,7 +38,8 @@ pub record FindsBy (c : ℕ) (k : BerthValue) (strings : List (List ℕ)) : Type
   pub actor : k.actor ≡ actor.Client c
   pub own : FindsItsOwn (own_part k) strings
 
--- However a session ended, its record is the client's own; and one that ended without a fault rests.
+-- However a session ended, a restart finds nothing but what its client has kept, and tries to keep; and one that ended
+-- without a fault rests.
 pub record IsSessionEnd (c : ℕ) (fault : Option RunFault) (k : BerthValue) (strings : List (List ℕ)) : Type 0 where
   pub found : FindsBy c k strings
   pub rests : IfNone fault (RestsBy c k strings)
@@ -48,8 +49,8 @@ abbrev pub IsUntold : List (Actor × RunFault) → Actor → Type 0
 IsUntold faults who = (f : RunFault) → Among (who, f) faults → ⊥
 
 -- The records of clients that come back, by what a restart finds of each: one of each client of the opening, in
--- order. It finds nothing but what the client has kept, and tries to keep, in this world, which the history leaves;
--- and a client that isn't told rests there.
+-- order. A restart finds in each nothing but what its client has kept, and tries to keep, in this world, which the
+-- history leaves; and a client that isn't told rests there.
 pub record AreRecords (opening world : ExactWorld) (faults : List (Actor × RunFault)) (records : List (ℕ × List (List ℕ))) : Type 0 where
   pub clients : map (λ p. p.0) records ≡ range_with_len 1 (length opening.clients)
   pub own : All (λ p. FindsItsOwn (part world (actor.Client p.0)) p.1) records

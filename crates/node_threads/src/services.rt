@@ -236,7 +236,8 @@ fn told<S: OwnRecord>(
 /// session for it. When the work with a session returns, its client says what a guard that was dropped, or
 /// forgotten, has left to say. When all have returned, each session is taken apart: nodes learn that it is gone, and
 /// they end once all are. A session that is over by a fault is told in `faults`, behind nodes. Each record comes back
-/// with its client; a client that isn't told is up and outside, and a restart finds just the attempt that it has kept.
+/// with its client, and a restart finds in it nothing but what the client has kept or tries to keep; a client that
+/// isn't told is up and outside, and a restart finds just the attempt that it has kept.
 ///
 /// Links have the weather, each at its own place, nodes first. Between two events no lock is held.
 ///
@@ -269,7 +270,8 @@ pub fn with_sessions<S: OwnRecord + Send, R: Threads + Wait + Copy + Send + Sync
     ensures entered { IfOk result (λ end. end.entered ≡ enters end.book.history) }
     // Each actor that ended by a fault is told once, in order, with a fault that it may have.
     ensures faults { IfOk result (λ end. AreFaults world end.faults.items) }
-    // The record of each client comes back, in order; one that isn't told rests, with just its attempt in its record.
+    // The record of each client comes back, in order, with nothing in it but what the client has kept or tries to
+    // keep; one that isn't told rests, with just its attempt in its record.
     ensures records { IfOk result (λ end. AreRecords world end.book.world end.faults.items (map (λ r. (r.0, S.StableRecord.finds r.1)) end.records.items)) }
     ensures err { IfErr result (λ f. f ≡ RunFault.Memory) }
 {

@@ -1,7 +1,7 @@
 use Rattle.std.proofs.Common.{◌∙◌}
-use Rattle.std.proofs.lemmas.Result.{on_ok_weaker, on_err_weaker}
+use Rattle.std.proofs.lemmas.Result.{on_ok_weaker}
 use Rattle.node_loop.proofs.SentFacts.{say_is_told}
-use Rattle.node_loop.proofs.UnsentFacts.{said_as_far}
+use Rattle.node_loop.proofs.UnsentFacts.{said_as_far, fails_for_memory}
 use Rattle.node_loop.proofs.attending.say.Goals as goal
 
 pub returns-clause-sent : goal.returns-clause-sent
@@ -14,6 +14,5 @@ returns-clause-sent g c =
 pub returns-clause-faulted : goal.returns-clause-faulted
 returns-clause-faulted g c =
     let replies = c.deref.ensures.value ∙ c.speak-replies.ensures.replies in
-    on_err_weaker c.send_all.result
+    fails_for_memory c.send_all.result _ _ c.send_all.ensures.memory c.send_all.ensures.faulted
     (λ some. said_as_far _ _ c.args.core.now c.node.result c.in-Said.first c.in-Said.count c.in_ok-done.done _ _ c.deref.result.now _ _ c.requires c.node.ensures c.in-Said.is c.in_ok-done.ensures.logged replies some)
-    c.send_all.ensures.faulted

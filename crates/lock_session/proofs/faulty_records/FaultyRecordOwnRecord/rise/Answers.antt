@@ -1,8 +1,8 @@
-use Rattle.event_recorders.specs.OwnLogs.{FindsItsOwn, part_now}
 use Rattle.std.proofs.Common.{ℕ, [], ◌∷◌, ◌≡◌, refl, sym, subst, ◌∙◌, false, IfOk, OnOk, IfErr}
 use borrow.Pointer.Hide.{carried_sameᵐ}
 use borrow.Rule.Reborrow.{re_n}
 use mir.Syntax.{Dict}
+use Rattle.event_recorders.specs.OwnLogs.{FindsItsOwn, part_now}
 use Rattle.stable_record.specs.contracts.faulty_records.FaultyRecord.{the_row}
 use Rattle.stable_record.specs.Faulty.{Faulty}
 use Rattle.actor_steps.specs.Endings.{falls_of, FailuresFollow}

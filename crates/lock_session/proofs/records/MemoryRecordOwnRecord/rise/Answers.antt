@@ -1,5 +1,5 @@
-use Rattle.event_recorders.specs.OwnLogs.{FindsItsOwn, part_now}
 use Rattle.std.proofs.Common.{ℕ, List, [], ◌∷◌, refl, sym, subst, ◌∙◌, IfOk}
+use Rattle.event_recorders.specs.OwnLogs.{FindsItsOwn, part_now}
 use Rattle.stable_record.specs.contracts.memory_records.MemoryRecord.{the_row}
 use Rattle.client_loop.specs.Standing.{Stands}
 use Rattle.client_loop.specs.Remembering.{core_of}

@@ -7,6 +7,7 @@ use Rattle.std.specs.Prelude.{nat_le}
 use Rattle.slot_record.specs.declared.slots.TheConstants.{MAX_SEQUENCE}
 use Rattle.slot_record.specs.MemoryPlates.{state_of}
 use Rattle.session_tests.specs.declared.plates.PlateRecord.{PlateRecord}
+use Rattle.event_recorders.specs.OwnLogs.{FindsItsOwn, part_now}
 use Rattle.actor_steps.specs.Endings.{falls_of, FailuresFollow}
 use Rattle.client_core.specs.Calls.{entered as inside_of}
 use Rattle.client_loop.specs.Endings.{ClientEndsFrom, EndsOneAttempt, IsAtRest}
@@ -49,3 +50,8 @@ returns-clause-falls g c =
     (the_row.coded.inj _ _ c.self-1.given.2.codes ∙ sym (c.self-2-1.given.1 refl))
     (subst (λ (n : ℕ). FailuresFollow (falls_of (g.R.Recorder.own_log c.args.recorder.now)) (falls_of (g.R.Recorder.own_log c.enter.new.recorder)) (n) (state_of c.enter.new.stable.record.plate).failures)
     (carried_sameᵐ Members Dict _ _ same-1-1 ℕ (λ j b. j.1.failures_of b.now) (re_n c.enter-arg-2-1.given c.args.self)) c.enter.ensures.falls)
+
+pub returns-clause-own : goal.returns-clause-own
+returns-clause-own g c =
+    subst (λ (m : PlateRecord). FindsItsOwn (part_now (g.R.Recorder.own_log c.enter.new.recorder)) m.record.finds)
+    (the_row.coded.inj _ _ c.self-1.given.2.codes ∙ sym (c.self-2-1.given.1 refl)) c.enter.ensures.own
