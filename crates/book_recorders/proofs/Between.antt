@@ -18,7 +18,7 @@ use Rattle.book_recorders.specs.Sharing.{after_seeing, Between, HasLogged, HasRe
 pub own-append : (who : Actor) (xs ys : List (Event × Effect)) → own_events who (xs ++ ys) ≡ own_events who xs ++ own_events who ys
 own-append who xs ys = filter-append (λ (p : Event × Effect). is_own who p.0) xs ys
 
-between_of : (b : BookValue) (k : BerthValue) (known : Known b k) → Between k known.begins.0 b.world
+pub between_of : (b : BookValue) (k : BerthValue) (known : Known b k) → Between k known.begins.0 b.world
 between_of b k known = record {
   run = subst (λ h. IsHistory k.opening h b.world) (sym known.begins.1) (subst (λ w. IsHistory w b.history b.world) (sym known.opening) known.run);
   others =

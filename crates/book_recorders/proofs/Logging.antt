@@ -5,15 +5,15 @@ use Rattle.world_model.specs.declared.events.Effect.{Effect}
 use Rattle.world_model.specs.declared.events.Event.{Event}
 use Rattle.world_model.specs.declared.events.Event.TheVariants as event
 use Rattle.world_model.specs.declared.events.StepFault.{StepFault}
-use Rattle.world_model.specs.Locality.{own_events, EffectsAreOfTheirEvents, IsLocalRefusal}
+use Rattle.world_model.specs.Locality.{own_events, EffectsAreOfTheirEvents, IsAsListed, IsLocalRefusal}
 use Rattle.world_model.specs.Parts.{is_own, part, own_refusal, IsListFault}
 use Rattle.world_model.proofs.StayFacts.{local-append}
 use Rattle.event_recorders.specs.OwnLogs.{OwnLog, part_now, adds, IsAdded, IsUnread, IsRecorderFault}
 use Rattle.history_book.specs.declared.faults.BookFault.{BookFault}
 use Rattle.history_book.specs.declared.faults.BookFault.TheVariants as book
-use Rattle.history_book.specs.Books.{BerthValue, own_of, own_part, IsOfEvent}
+use Rattle.history_book.specs.Books.{BookValue, BerthValue, own_of, own_part, IsLogged, IsRefused, IsOfEvent}
 use Rattle.book_recorders.specs.Sharing.{after_seeing, HasLogged, HasRefused, MayRefuse, log_of}
-use Rattle.book_recorders.proofs.Between.{own-append}
+use Rattle.book_recorders.proofs.Between.{own-append, logged_if, refused_if}
 
 -- the own list after what others logged
 own_stays : (k : BerthValue) (between : List (Event × Effect)) → own_events k.actor between ≡ [] → own_events k.actor (k.seen ++ between) ≡ own_of k
@@ -86,3 +86,11 @@ added_if effects (Err f) k e k' logged = tt
 pub recorder_if : (r : Result Effect BookFault) (k : BerthValue) (e : Event) (k' : BerthValue) → is_own k.actor e ≡ true → own_refusal k.opening.ballots e (own_part k) ≡ None → IfErr r (λ f. MayRefuse f k e k') → IfErr r (λ f. IsRecorderFault e f × (log_of k' ≡ log_of k))
 recorder_if (Ok done) k e k' own allowed refused = tt
 recorder_if (Err f) k e k' own allowed refused = is_refused f k e k' own allowed refused
+
+-- the same of a book of one's own
+
+pub added_alone : EffectsAreOfTheirEvents → (r : Result Effect BookFault) (b : BookValue) (k : BerthValue) (e : Event) (b' : BookValue) (k' : BerthValue) → IfOk r (λ done. IsLogged b k e done b' k') → IfOk r (λ done. IsAsListed b.world e done) → IfOk r (λ done. IsAdded (log_of k) e done (log_of k'))
+added_alone effects r b k e b' k' logged listed = added_if effects r k e k' (logged_if r b k e b' k' logged listed)
+
+pub refused_alone : (r : Result Effect BookFault) (b : BookValue) (k : BerthValue) (e : Event) (b' : BookValue) (k' : BerthValue) → is_own k.actor e ≡ true → own_refusal k.opening.ballots e (own_part k) ≡ None → IfErr r (λ f. IsRefused f b k e b' k') → IfErr r (λ f. IsRecorderFault e f × (log_of k' ≡ log_of k))
+refused_alone r b k e b' k' own allowed refused = recorder_if r k e k' own allowed (refused_if r b k e b' k' refused)

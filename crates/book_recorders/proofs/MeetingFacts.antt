@@ -1,5 +1,5 @@
 -- What a book tells of two berths is what their own logs tell, and whom it has inside was so where it was asked.
-use Rattle.std.proofs.Common.{◌≡◌, ℕ, Bool, true, List, Result, Ok, Err, sym, ap}
+use Rattle.std.proofs.Common.{◌≡◌, ℕ, Bool, true, List, Result, Ok, Err, sym, ap, ◌∙◌}
 use Rattle.std.specs.Prelude.{Vec, IfOk}
 use Rattle.std.specs.Global.{Global}
 use Rattle.lock_messages.specs.declared.tickets.Ticket.{Ticket}
@@ -7,8 +7,9 @@ use Rattle.world_model.specs.declared.exact.ExactWorld.{ExactWorld}
 use Rattle.world_model.specs.Parts.{part}
 use Rattle.history_book.specs.declared.faults.BookFault.{BookFault}
 use Rattle.history_book.specs.Books.{BookValue, BerthValue, Known, sees, own_part, inside_ticket, IsMet, Reads}
-use Rattle.book_recorders.specs.Meeting.{HaveMet, TellsInside, HasSeenInside}
-use Rattle.book_recorders.specs.Sharing.{log_of}
+use Rattle.book_recorders.specs.Meeting.{HaveMet, TellsInside, SeesInside, HasSeenInside}
+use Rattle.book_recorders.specs.Sharing.{after_seeing, log_of}
+use Rattle.book_recorders.proofs.Between.{between_of}
 use Rattle.book_recorders.proofs.Logging.{log_after}
 
 -- a berth that sees all of the history has its own log still
@@ -46,3 +47,18 @@ has_seen b k x tickets k' told = record {
 pub seen_if : (r : Result (Vec Ticket Global) BookFault) (b : BookValue) (k : BerthValue) (x : List ℕ) (k' : BerthValue) → IfOk r (λ tickets. TellsInside b k x tickets.items k') → IfOk r (λ tickets. HasSeenInside (log_of k) x tickets.items (log_of k'))
 seen_if (Ok tickets) b k x k' told = has_seen b k x tickets.items k' told
 seen_if (Err f) b k x k' told = tt
+
+sees_inside : (b : BookValue) (k : BerthValue) (x : List ℕ) (tickets : List Ticket) (k' : BerthValue) → TellsInside b k x tickets k' → SeesInside k x tickets k'
+sees_inside b k x tickets k' told = record {
+  between = told.known.begins.0;
+  now = b.world;
+  others = between_of b k told.known;
+  told = told.told;
+  inside = told.inside;
+  alone = told.alone;
+  berth = told.seen ∙ ap (after_seeing k) (sym told.known.begins.1);
+}
+
+pub shown_if : (r : Result (Vec Ticket Global) BookFault) (b : BookValue) (k : BerthValue) (x : List ℕ) (k' : BerthValue) → IfOk r (λ tickets. TellsInside b k x tickets.items k') → IfOk r (λ tickets. SeesInside k x tickets.items k')
+shown_if (Ok tickets) b k x k' told = sees_inside b k x tickets.items k' told
+shown_if (Err f) b k x k' told = tt

@@ -13,6 +13,7 @@ pub record Alone : Type 0 where
 
 -- the berth is the book's own, and has seen all of its history
 pub record IsAlone (b : BookValue) (k : BerthValue) : Type 0 where
+  pub number : k.number ≡ b.number
   pub table : k.table ≡ b.table
   pub seen : k.seen ≡ b.history
 

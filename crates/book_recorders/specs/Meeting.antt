@@ -1,5 +1,5 @@
 -- What a recorder over a shared book is told of others: whether two are inside one resource, and who is inside.
-use Rattle.std.specs.Prelude.{◌≡◌, ℕ, Bool, true, List, [], ◌∷◌}
+use Rattle.std.specs.Prelude.{◌≡◌, ℕ, Bool, true, List, [], ◌∷◌, ◌++◌}
 use Rattle.lock_messages.specs.declared.tickets.Mode.TheVariants.{Write}
 use Rattle.lock_messages.specs.declared.tickets.Ticket.{Ticket}
 use Rattle.lock_model.specs.Decisions.{Among}
@@ -13,6 +13,7 @@ use Rattle.world_model.specs.Views.{inside}
 use Rattle.world_machine.specs.Listing.{AreInside}
 use Rattle.event_recorders.specs.OwnLogs.{OwnLog, part_now}
 use Rattle.history_book.specs.Books.{BookValue, BerthValue, Known, sees, are_together, inside_ticket, Reads}
+use Rattle.book_recorders.specs.Sharing.{after_seeing, Between}
 
 -- The answer is whether the two own logs leave tickets of two clients for one resource; then both read. Neither log
 -- has changed.
@@ -34,6 +35,17 @@ pub record TellsInside (b : BookValue) (k : BerthValue) (x : List ℕ) (tickets 
   pub told : tickets ≡ inside x b.world
   pub inside : AreInside (forget b.world) x tickets
   pub alone : IsAloneIn tickets
+
+-- These are the tickets of those who are inside the resource, in the order of the clients, in the world to which all
+-- leads that the berth has seen now: what it had seen before, and what others logged since.
+pub record SeesInside (k : BerthValue) (x : List ℕ) (tickets : List Ticket) (k' : BerthValue) : Type 0 where
+  pub between : List (Event × Effect)
+  pub now : ExactWorld
+  pub others : Between k between now
+  pub told : tickets ≡ inside x now
+  pub inside : AreInside (forget now) x tickets
+  pub alone : IsAloneIn tickets
+  pub berth : k' ≡ after_seeing k (k.seen ++ between)
 
 -- These are the tickets of those who were inside the resource in a world that the one history had come to, in the
 -- order of the clients. The history has of the actor what its own log has, and so has the world; it is one of the

@@ -1,10 +1,11 @@
 // A recorder with a book of its own.
 
-ghost use Rattle.std.specs.Prelude.{◌≡◌, true, false, IfOk, IfErr, IfSome, IfNone};
+ghost use Rattle.std.specs.Prelude.{◌≡◌, ◌≢◌, true, false, IfOk, IfErr, IfSome, IfNone};
 ghost use Rattle.world_machine.specs.Listing.{has_actor};
-ghost use Rattle.world_model.specs.Laws.{Takes};
+ghost use Rattle.world_model.specs.Locality.{IsAsListed};
+ghost use Rattle.history_book.specs.Books.{IsLogged, IsRefused};
 ghost use Rattle.book_recorders.specs.Alone.{Alone, IsAlone, IsUnloggedOf};
-ghost use Rattle.book_recorders.specs.Sharing.{HasLogged, MayRefuse, log_of};
+ghost use Rattle.book_recorders.specs.Sharing.{log_of};
 
 use crate::Logs;
 use event_recorders::Recorder;
@@ -78,13 +79,15 @@ impl<K: Logs> ListRecorder<K> {
         self.book
     }
 
-    /// Logs an event of the actor in the recorder's own book, with the errors of `Book::log`; after one the
-    /// world is as it was.
+    /// Logs an event of the actor in the recorder's own book, as `Book::log` does: takes it in the world, and
+    /// adds it with its effect to the history. The errors are those of `Book::log` but 815, since the berth is
+    /// this book's; after one the world and the history are as they were.
     pub fn log_event(&mut self, event: Event) -> Result<Effect, BookFault>
-        ensures goes_on { IfOk result (λ done. HasLogged self.old.berth event done self.new.berth) }
-        ensures stays { IfErr result (λ fault. MayRefuse fault self.old.berth event self.new.berth) }
-        ensures world { IfOk result (λ done. Takes self.old.book.world event done self.new.book.world) }
-        ensures same { IfErr result (λ fault. self.new.book ≡ self.old.book) }
+        ensures ok { IfOk result (λ done. IsLogged self.old.book self.old.berth event done self.new.book self.new.berth) }
+        // What was taken or heard is the message that was sent under the number.
+        ensures listed { IfOk result (λ done. IsAsListed self.old.book.world event done) }
+        ensures err { IfErr result (λ f. IsRefused f self.old.book self.old.berth event self.new.book self.new.berth) }
+        ensures own { IfErr result (λ f. f ≢ BookFault.OtherBook) }
     {
         self.book.log(&mut self.berth, event)
     }
@@ -94,7 +97,7 @@ impl<K: Logs> Recorder for ListRecorder<K> {
     ghost own_log = { λ r. log_of r.berth };
 
     /// Logs an event of the actor in the recorder's own book, as `log_event` does.
-    #[tactic(auto, using(crate::proofs::Logging::added_if, crate::proofs::Logging::recorder_if))]
+    #[tactic(auto, using(crate::proofs::Logging::refused_alone))]
     fn log(&mut self, event: Event, stable: &dyn StableRecord) -> Result<Effect, BookFault> {
         let _ = stable;
         steps_change_one_part();

@@ -3,7 +3,7 @@
 ghost use Rattle.std.specs.Prelude.{◌≡◌, ◌⊎◌, IfOk, IfErr};
 ghost use Rattle.berth_seats.specs.Views.{TableId};
 ghost use Rattle.history_book.specs.Books.{BookValue};
-ghost use Rattle.book_recorders.specs.Meeting.{HaveMet, HasSeenInside};
+ghost use Rattle.book_recorders.specs.Meeting.{HaveMet, HasSeenInside, SeesInside};
 ghost use Rattle.book_recorders.specs.Sharing.{HasLogged, MayRefuse, log_of, no_table};
 
 use crate::Logs;
@@ -92,7 +92,7 @@ impl<B: BookName, K: Logs> Named<B, K> {
         self.book.meet(one, other)
     }
     /// The tickets of the clients that are inside the resource, in the order of the clients; a writer among them is
-    /// the only one. The berth's own log stays as it is.
+    /// the only one. The berth has seen all of the history then, and its own log stays as it is.
     ///
     /// The errors: the berth has another book's number (815), or memory was refused (813). The caller owes that the
     /// berth is of the book of this name.
@@ -104,6 +104,7 @@ impl<B: BookName, K: Logs> Named<B, K> {
     ) -> Result<Vec<Ticket>, BookFault>
         requires { berth.old.table ≡ B.table }
         ensures seen { IfOk result (λ tickets. HasSeenInside (log_of berth.old) resource.now tickets.items (log_of berth.new)) }
+        ensures shown { IfOk result (λ tickets. SeesInside berth.old resource.now tickets.items berth.new) }
         ensures table { berth.new.table ≡ B.table }
         ensures err { IfErr result (λ f. ((f ≡ BookFault.OtherBook) ⊎ (f ≡ BookFault.Memory)) × (log_of berth.new ≡ log_of berth.old)) }
     {

@@ -1,7 +1,8 @@
 // One actor's way to a book that threads share.
 
-ghost use Rattle.std.specs.Prelude.{◌≡◌, IfOk, IfErr};
+ghost use Rattle.std.specs.Prelude.{◌≡◌, ◌⊎◌, IfOk, IfErr};
 ghost use Rattle.history_book.specs.Books.{BerthValue};
+ghost use Rattle.book_recorders.specs.Meeting.{HasSeenInside, SeesInside};
 ghost use Rattle.book_recorders.specs.Sharing.{HasLogged, MayRefuse, log_of};
 
 use crate::{BookName, Logs, Named, SharedRecorder};
@@ -87,8 +88,14 @@ impl<'a, B: BookName, K: Logs, R: Wait + Copy> SharedRecorder for BookRecorder<'
             .lock(&self.rt)
             .meet(&mut self.berth, &mut other.berth)
     }
-    /// Asks the book, under its lock, for which it may wait.
-    fn inside(&mut self, resource: &ResourceName) -> Result<Vec<Ticket>, BookFault> {
+
+    /// Asks the book, under its lock, for which it may wait. The berth has seen the history then to which the
+    /// answer belongs.
+    fn inside(&mut self, resource: &ResourceName) -> Result<Vec<Ticket>, BookFault>
+        ensures seen { IfOk result (λ tickets. HasSeenInside (log_of self.old) resource.now tickets.items (log_of self.new)) }
+        ensures shown { IfOk result (λ tickets. SeesInside self.old resource.now tickets.items self.new) }
+        ensures err { IfErr result (λ f. ((f ≡ BookFault.OtherBook) ⊎ (f ≡ BookFault.Memory)) × (log_of self.new ≡ log_of self.old)) }
+    {
         self.book.lock(&self.rt).inside(&mut self.berth, resource)
     }
 }

@@ -14,7 +14,7 @@ use Rattle.event_recorders.specs.OwnLogs.{OwnLog, part_now, adds, FindsPart, cha
 abbrev pub PartsFollow : Type 0
 PartsFollow = (l : OwnLog) (e : Event) (done : Effect) → part_now (adds l e done) ≡ after_own l.ballots e done (part_now l)
 
--- all events but Try, Kept and Rise leave what is kept and tried, so a record goes on to find it
+-- after any event but a Try, a Kept and a Rise a record still finds what is kept and tried
 abbrev pub RecordsStay : Type 0
 RecordsStay = (b : List Ballot) (e : Event) (done : Effect) (p : Part) (strings : List (List ℕ)) → changes_record e ≡ false → FindsPart p strings →
     FindsPart (after_own b e done p) strings

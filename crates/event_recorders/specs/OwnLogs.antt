@@ -64,7 +64,8 @@ abbrev pub FindsPart : Part → List (List ℕ) → Type 0
 FindsPart p strings = FindsKept (kept_in p) (tried_in p) strings
 
 -- A restart finds nothing but what the actor has kept and, where it tries to keep something, that: so the actor may
--- rise with whatever is found. This is weaker only where nothing is tried: what is kept may be found in two ways.
+-- rise with whatever is found. This is weaker than the above only where nothing is tried: then two copies of what is
+-- kept may be found, as after a reopening that failed.
 pub record FindsItsOwn (p : Part) (strings : List (List ℕ)) : Type 0 where
   pub only : (found : List ℕ) → Among found strings → (found ≡ kept_in p) ⊎ (tried_in p ≡ Some found)
 

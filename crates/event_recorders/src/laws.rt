@@ -2,8 +2,8 @@
 
 ghost use Rattle.event_recorders.specs.Laws.{PartsFollow, RecordsStay, NodeRecordsFit, ClientRecordsFit};
 
-/// One event more makes of the actor's part what it makes of the part before; and what the actor keeps
-/// and tries to keep is changed by a Try, a Kept and a Rise alone.
+/// One event more makes of the actor's part what it makes of the part before; and where a restart finds what
+/// the actor keeps and tries to keep, it still does after any event but a Try, a Kept and a Rise.
 pub fn own_logs_tell_parts()
     ensures parts { PartsFollow }
     ensures records { RecordsStay }

@@ -1,16 +1,16 @@
 -- Reading a line, and writing a text, a part at a time.
-use Rattle.std.proofs.Common.{◌≡◌, ℕ, suc, ◌+◌, ◌-◌, ◌<◌, ◌≤◌, min, Bool, true, false, cond, List, [], ◌∷◌, ◌++◌, length, take, drop, Option, Some, None, IfSome, Ok, refl, sym, ap, subst, ◌∙◌, arith, append_assoc}
+use Rattle.std.proofs.Common.{◌≡◌, ℕ, suc, ◌+◌, ◌-◌, ◌<◌, ◌≤◌, min, Bool, true, false, cond, List, [], ◌∷◌, ◌++◌, length, take, drop, Option, Some, None, IfSome, Ok, inl, inr, ◌⊎◌, refl, sym, ap, subst, ◌∙◌, arith, append_assoc}
 use Rattle.std.specs.List.{All, onto_first, slice_split, slice_range, copy_within, list_any}
 use Rattle.std.specs.Io.KnownBytes.{prepend_known, Consumes, Keeps, Appends, IsAtEnd}
 use Rattle.std.proofs.lemmas.List.{append-nil, take-append-drop, length-take, length-take-le, length-drop, drop-take, drop-drop, take_all, take_at}
 use Rattle.std.proofs.lemmas.List.Elements.{All-append}
-use Rattle.std.proofs.lemmas.List.Folds.{list_any-append}
-use Rattle.std.proofs.Math.Nat.{min-le_left}
+use Rattle.std.proofs.lemmas.List.Folds.{list_any-append, list_any_none}
+use Rattle.std.proofs.Math.Nat.{min-le_left, le-min}
 use Rattle.std.proofs.Math.Seq.{take-add}
 use Rattle.std.proofs.lemmas.List.Splits.{slice_split_none, slice_split_at, slice_split-cons_no}
 use Rattle.line_streams.specs.declared.faults.StreamFault.{StreamFault}
 use Rattle.line_streams.specs.declared.reading.End.TheVariants.{LineFeed, Input, Limit}
-use Rattle.line_streams.specs.Streams.{is_line_feed, pieces, IsPlain, Fetches, TakesHeld, ReadsPiece, AppendsBeginning, Grows, LetsOut, with_gathered}
+use Rattle.line_streams.specs.Streams.{is_line_feed, pieces, IsPlain, Fetches, TakesHeld, EndsLine, ReadsPiece, AppendsBeginning, Grows, LetsOut, with_gathered}
 
 -- the first part of a list that is cut
 
@@ -99,6 +99,23 @@ is_too_long limit (Some xs) None line taken plain long = absurd taken
 is_too_long limit (Some xs) (Some ys) line taken plain long =
     let (q, qs, e) = split_front is_line_feed line ys plain in
     (q, qs, ap pieces taken ∙ e, long)
+
+pub plain_whole : (held : List ℕ) (count : ℕ) → count ≡ length held → IsPlain (take count held) → list_any is_line_feed held ≡ false
+plain_whole held count is plain = list_any_none is_line_feed held (subst (λ (bs : List ℕ). IsPlain bs) (take_all count held (omega arith)) plain)
+
+-- what is held ends no line where the first round over it met neither a line feed nor the limit
+pub no_end_yet : (limit ahead : ℕ) (held : List ℕ) (before after : ℕ) → before ≡ 0 → length held ≤ ahead
+    → ((after ≡ before + (min (limit - before) ahead + 1)) × (min (limit - before) ahead + 1 ≤ length held)) ⊎ ((after ≡ before + length held) × (list_any is_line_feed held ≡ false))
+    → after ≤ limit → EndsLine limit held → ⊥
+no_end_yet limit ahead held before after none few (inl (is, some)) within ends =
+    let least : after ≤ min (limit - before) ahead = le-min (omega arith) (omega arith) in omega arith
+no_end_yet limit ahead held before after none few (inr (is, plain)) within (inl feed) = absurd (let z : true ≡ false = sym feed ∙ plain in cc)
+no_end_yet limit ahead held before after none few (inr (is, plain)) within (inr long) = absurd (omega arith)
+
+pub some_held : (limit : ℕ) (held : List ℕ) → EndsLine limit held → 0 < length held
+some_held limit [] (inl feed) = absurd (let z : false ≡ true = feed in cc)
+some_held limit (b ∷ held) (inl feed) = omega arith
+some_held limit held (inr long) = omega arith
 
 -- the bytes that are held
 

@@ -1,7 +1,7 @@
 -- The pieces of an input, which stand between its line feeds, and how they are read one by one; and
 -- what becomes of texts that are gathered and written.
-use Rattle.std.specs.Prelude.{◌≡◌, ℕ, ◌+◌, ◌<◌, ◌≤◌, ◌==◌, if◌then◌else◌, Bool, true, false, List, [], ◌∷◌, ◌++◌, length, take, drop, Option, Some, None, Result, Ok, Err}
-use Rattle.std.specs.List.{slice_split, All}
+use Rattle.std.specs.Prelude.{◌≡◌, ◌⊎◌, ℕ, ◌+◌, ◌<◌, ◌≤◌, ◌==◌, if◌then◌else◌, Bool, true, false, List, [], ◌∷◌, ◌++◌, length, take, drop, Option, Some, None, Result, Ok, Err}
+use Rattle.std.specs.List.{slice_split, list_any, All}
 use Rattle.std.specs.Io.KnownBytes.{append_known, Consumes, Keeps, Appends, IsAtEnd}
 use Rattle.line_streams.specs.declared.reading.End.{End}
 use Rattle.line_streams.specs.declared.reading.End.TheVariants.{LineFeed, Input, Limit}
@@ -83,14 +83,19 @@ abbrev pub FedLinesComeFirst : Type 0
 FedLinesComeFirst = (lines : List (List ℕ)) (behind : List ℕ) → All IsPlain lines → lines_in (pieces (fed_lines lines ++ behind)) ≡ lines ++ lines_in (pieces behind)
 
 -- What was found at the front of some bytes: so many that are no line feed, at most so many, and
--- whether a line feed stands behind them; both are looked for among so many bytes.
+-- whether a line feed stands behind them; both are looked for among so many bytes. Where none does, so many
+-- are all that there are, or all that they may be.
 pub record FindsFront (bytes : List ℕ) (most count : ℕ) (has_feed : Bool) : Type 0 where
   pub within : count ≤ length bytes
   pub few : count ≤ most
   pub fewer : has_feed ≡ true → count < most
   pub plain : IsPlain (take count bytes)
   pub feed : has_feed ≡ true → (rest : List ℕ) × (drop count bytes ≡ 10 ∷ rest)
-  pub some : has_feed ≡ false → 0 < most → 0 < length bytes → 0 < count
+  pub all : has_feed ≡ false → (count ≡ length bytes) ⊎ (count ≡ most)
+
+-- What is held ends a line: a line feed is there, or more bytes than the limit.
+abbrev pub EndsLine : ℕ → List ℕ → Type 0
+EndsLine limit held = (list_any is_line_feed held ≡ true) ⊎ (limit < length held)
 
 -- Bytes are held, or none is left; a fault takes none.
 abbrev pub Fetches : {E : Type 0} → Option (List ℕ) → Option (List ℕ) → Result Bool E → Type 0

@@ -1,6 +1,6 @@
 // Bytes that were read and are still to be given.
 
-ghost use Rattle.std.specs.Prelude.{◌≡◌, ◌≢◌, ◌<◌, ◌≤◌, ◌+◌, ◌++◌, ℕ, List, Option, [], length, IfOk, IfErr, OnOk, OnErr, true, false, vec_len};
+ghost use Rattle.std.specs.Prelude.{◌≡◌, ◌≢◌, ◌⊎◌, ◌<◌, ◌≤◌, ◌+◌, ◌++◌, ℕ, List, Option, [], length, Ok, IfOk, IfErr, OnOk, OnErr, true, false, vec_len};
 ghost use Rattle.std.specs.List.{list_any};
 ghost use Rattle.std.specs.Io.{ReadsAtMost};
 ghost use Rattle.std.specs.Io.KnownBytes.{ReadConsumes, prepend_known};
@@ -60,10 +60,11 @@ impl ReadAhead {
     }
 
     /// Sees to it that bytes are held, by a read where there is none; answers `false` where none is
-    /// left. A fault is `Read`.
+    /// left. Where some are held the reader isn't asked. A fault is `Read`.
     pub(crate) fn fetch<R: Read>(&mut self, reader: &mut R) -> Result<bool, StreamFault>
         ensures bytes { Fetches (prepend_known self.old (R.remaining reader.old)) (prepend_known self.new (R.remaining reader.new)) result }
         ensures some { IfOk result (λ found. found ≡ true → 0 < length self.new) }
+        ensures held { 0 < length self.old → (result ≡ Ok true) × (self.new ≡ self.old) × (reader.new ≡ reader.old) }
         ensures room { length self.new ≤ MAX_AHEAD }
         ensures fault { IfErr result (λ e. e ≡ StreamFault.Read) }
     {
@@ -83,13 +84,13 @@ impl ReadAhead {
     }
 
     /// Adds to the line what stands at the front of the bytes that are held, at most `most` bytes;
-    /// answers whether a line feed followed, which was taken too. Else a byte was added, if there was one
-    /// and one may be added. A fault is `Memory`, and changes nothing.
+    /// answers whether a line feed followed, which was taken too. Else all of them were added, or as many as
+    /// may be. A fault is `Memory`, and changes nothing.
     pub(crate) fn take(&mut self, line: &mut Vec<u8>, most: usize) -> Result<bool, StreamFault>
         ensures bytes { (behind : Option (List ℕ)) → TakesHeld most (prepend_known self.old behind) (prepend_known self.new behind) line.old.items line.new.items result }
         ensures few { IfOk result (λ _. vec_len line.new ≤ vec_len line.old + most) }
         ensures fewer { IfOk result (λ fed. fed ≡ true → vec_len line.new < vec_len line.old + most) }
-        ensures some { IfOk result (λ fed. fed ≡ false → 0 < most → 0 < length self.old → vec_len line.old < vec_len line.new) }
+        ensures all { IfOk result (λ fed. fed ≡ false → ((vec_len line.new ≡ vec_len line.old + most) × (most ≤ length self.old)) ⊎ ((vec_len line.new ≡ vec_len line.old + length self.old) × (list_any is_line_feed self.old ≡ false))) }
         ensures room { length self.new ≤ MAX_AHEAD }
         ensures fault { IfErr result (λ e. (e ≡ StreamFault.Memory) × (self.new ≡ self.old) × (line.new.items ≡ line.old.items)) }
     {

@@ -3,7 +3,7 @@
 ghost use Rattle.std.specs.Prelude.{◌≡◌, ◌≢◌, ◌≤◌, length, IfOk, IfErr, IfSome, true};
 ghost use Rattle.std.specs.Io.KnownBytes.{prepend_known};
 ghost use Rattle.std.specs.List.{list_any};
-ghost use Rattle.line_streams.specs.Streams.{is_line_feed, is_last, ends_no_line, ReadsPiece, TakesLine, FitsLimit};
+ghost use Rattle.line_streams.specs.Streams.{is_line_feed, is_last, ends_no_line, ReadsPiece, TakesLine, FitsLimit, EndsLine};
 
 use crate::{MAX_AHEAD, ReadAhead, StreamFault};
 use std::io::Read;
@@ -47,7 +47,8 @@ impl End {
 impl ReadAhead {
     /// Reads on to the next line feed or to the end, and leaves in `line` what stands before it, in
     /// place of what stood there. Of a line that is longer than the limit a beginning is left there that is
-    /// longer by a byte, and nothing behind that is taken.
+    /// longer by a byte, and nothing behind that is taken. The reader is asked only where what was read ahead
+    /// has no line feed, and no more bytes than the limit.
     ///
     /// # Errors
     ///
@@ -63,6 +64,7 @@ impl ReadAhead {
         ensures line { IfOk result (λ end. ReadsPiece limit (prepend_known self.old (R.remaining reader.old)) (prepend_known self.new (R.remaining reader.new)) line.new.items end) }
         ensures taken { TakesLine (prepend_known self.old (R.remaining reader.old)) (prepend_known self.new (R.remaining reader.new)) line.new.items result }
         ensures few { FitsLimit limit line.new.items result }
+        ensures asks { EndsLine limit self.old → reader.new ≡ reader.old }
         ensures ahead { length self.new ≤ MAX_AHEAD }
         ensures fault { IfErr result (λ e. e ≢ StreamFault.Write) }
     {

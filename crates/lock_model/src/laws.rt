@@ -35,8 +35,8 @@ pub fn one_settling()
     ensures unique { SettlingIsUnique }
 {}
 
-/// From a caused station settling changes nothing: so a message that ends and softens nothing leaves
-/// the station as it was.
+/// From a caused station settling changes nothing, nor does it change the entries of one that has each
+/// client's once: so a message that ends and softens nothing leaves the station as it was.
 pub fn caused_is_settled()
     ensures station { NothingToSettle }
     ensures entries { NoEntryToSettle }

@@ -1,5 +1,5 @@
 -- What a link between threads knows of itself. What its channels bring, nobody knows.
-use Rattle.std.specs.Prelude.{◌≡◌, ℕ, ◌+◌, ◌-◌, nat_lt, if◌then◌else◌, Bool, true, false, List, [], ◌∷◌, ◌++◌, Option, Some, None, Result, Ok, Err}
+use Rattle.std.specs.Prelude.{◌≡◌, ◌⊎◌, ℕ, ◌+◌, ◌-◌, nat_lt, if◌then◌else◌, Bool, true, false, List, [], ◌∷◌, ◌++◌, Option, Some, None, Result, Ok, Err}
 use Rattle.lock_messages.specs.declared.ids.Actor.{Actor}
 use Rattle.lock_messages.specs.declared.ids.Actor.TheVariants.{Node, Client}
 use Rattle.lossy_link.specs.declared.parcels.Parcel.{Parcel}
@@ -53,6 +53,29 @@ after_sending link to parcel =
       own = link.own ++ own_posts link.actor (handed fate link.actor to parcel link.held);
       closed = link.closed;
     }
+
+-- not all of these mails were handed over: one was refused, and just those before it went
+pub record HandsPart (link : Channeled) (mails : List Mail) (link' : Channeled) : Type 0 where
+  pub front : List Mail
+  pub refused : Mail
+  pub back : List Mail
+  pub all : mails ≡ front ++ refused ∷ back
+  pub went : link' ≡ after_handing link front
+
+-- the link after a parcel has met the weather, before anything is handed over
+abbrev pub after_weather : Channeled → Actor → Parcel → Channeled
+after_weather link to parcel = record { actor = link.actor; climate = after_fate link.climate; held = held_after (next_fate link.climate) (mail_of to parcel); own = link.own; closed = link.closed }
+
+-- the link after a parcel of which nothing went or is held: it is as before, but the fate is used up
+abbrev pub after_refusal : Channeled → Channeled
+after_refusal link = record { actor = link.actor; climate = after_fate link.climate; held = link.held; own = link.own; closed = link.closed }
+
+-- A parcel was not sent whole. Either nothing went, and what was held stays; or a beginning of what should
+-- go went, perhaps none of it. What was held goes last, so it is lost then; a late parcel is held.
+abbrev pub SendsPart : Channeled → Actor → Parcel → Channeled → Type 0
+SendsPart link to parcel link' =
+    (link' ≡ after_refusal link)
+    ⊎ HandsPart (after_weather link to parcel) (handed (next_fate link.climate) link.actor to parcel link.held) link'
 
 -- the link after a post was told to every client: a client's own link tells its own client
 abbrev pub told_own : Actor → Post → List Post

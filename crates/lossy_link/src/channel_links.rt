@@ -2,7 +2,7 @@
 
 ghost use Rattle.std.specs.Prelude.{◌≡◌, false, ◌+◌, ◌<◌, ◌≤◌, min, map, None, Some, [], ◌∷◌, ◌++◌, OnOk, OnErr, IfOk, IsOkUnless, vec_len};
 ghost use Rattle.std.specs.List.{range_with_len};
-ghost use Rattle.lossy_link.specs.ChannelLinks.{actor_at, place_among, link_at, after_handing, after_sending, after_telling, Receives};
+ghost use Rattle.lossy_link.specs.ChannelLinks.{actor_at, place_among, link_at, after_handing, HandsPart, after_sending, SendsPart, after_telling, Receives};
 ghost use Rattle.lossy_link.specs.Passages.{mails_of};
 ghost use Rattle.lossy_link.specs.Weathers.{after_fate};
 
@@ -278,9 +278,11 @@ impl<R: Wait + Copy> ChannelLink<R> {
         }
     }
 
-    /// Hands the mails of a departure over, in order.
+    /// Hands the mails of a departure over, in order, up to the first that is refused.
+    #[tactic(auto, using(crate::proofs::LinkFacts::refused_first, crate::proofs::LinkFacts::refused_second))]
     fn hand_all(&mut self, departure: Departure) -> Result<(), LinkFault>
         ensures own { OnOk result (self.new ≡ after_handing self.old (mails_of departure)) }
+        ensures part { OnErr result (HandsPart self.old (mails_of departure) self.new) }
         ensures actor { self.new.actor ≡ self.old.actor }
         ensures climate { self.new.climate ≡ self.old.climate }
         ensures closed { self.new.closed ≡ self.old.closed }
@@ -380,9 +382,11 @@ impl<R: Wait + Copy> Link for ChannelLink<R> {
     ghost refused = { λ _. None };
 
     /// Sends a parcel through the link's weather, and what was held behind it. It waits for no other
-    /// actor. 903: memory was refused; a part may have gone, and what was held may be lost.
+    /// actor. 903: memory was refused; either nothing went, and what was held stays, or a beginning of
+    /// what should go went, perhaps none of it, and what was held is lost.
     fn send(&mut self, to: Actor, parcel: Parcel) -> Result<(), LinkFault>
         ensures sent { OnOk result (self.new ≡ after_sending self.old to parcel) }
+        ensures part { OnErr result (SendsPart self.old to parcel self.new) }
         ensures actor { self.new.actor ≡ self.old.actor }
         ensures climate { self.new.climate ≡ after_fate self.old.climate }
         ensures closed { self.new.closed ≡ self.old.closed }

@@ -7,8 +7,8 @@ pub fn fates_follow_words()
     ensures { FatesFollowWords }
 {}
 
-/// Of a thousand words that follow one another just as many lose a parcel, send it twice and make it
-/// late as the odds say.
+/// Of the thousand words below 1000 just as many lose a parcel, send it twice and make it late as the
+/// odds say, which are a thousand together at most.
 pub fn odds_are_thousandths()
     ensures { OddsCount }
 {}

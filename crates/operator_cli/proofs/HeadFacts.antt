@@ -1,6 +1,8 @@
 -- Reading the head, piece by piece.
-use Rattle.std.proofs.Common.{◌≡◌, ℕ, ◌<◌, ◌≤◌, Bool, true, false, cond, nat_lt, Vec, List, [], ◌++◌, length, Option, Some, None, Ok, Err, codes, refl, sym, ap, subst, ◌∙◌, arith, append_assoc, length-append}
+use Rattle.std.proofs.Common.{◌≡◌, ℕ, ◌*◌, ◌<◌, ◌≤◌, Bool, true, false, cond, nat_lt, Vec, List, [], ◌++◌, length, Option, Some, None, Result, Ok, Err, codes, refl, sym, ap, subst, ◌∙◌, arith, append_assoc, length-append}
 use Rattle.std.specs.Str.{bytes_eq}
+use Rattle.std.specs.Io.KnownBytes.{Consumes}
+use Rattle.std.proofs.KnownBytes.{Consumes-trans}
 use Rattle.std.proofs.lemmas.List.{append-nil}
 use Rattle.std.proofs.lemmas.Bool.Decides.{nat_tests}
 use Rattle.std.proofs.lemmas.Slice.Eq.{bytes_eq-Decides}
@@ -9,9 +11,10 @@ use Rattle.operator_cli.specs.declared.faults.SettingsFault.TheVariants as setti
 use Rattle.operator_cli.specs.declared.heads.TheConstants.{HEAD_ROOM}
 use Rattle.line_streams.specs.declared.reading.End.{End}
 use Rattle.line_streams.specs.declared.reading.End.TheVariants.{LineFeed, Input, Limit}
-use Rattle.line_streams.specs.Streams.{lines_in, pieces, KnownLeft, ReadsPiece}
+use Rattle.line_streams.specs.Streams.{lines_in, pieces, feed_of, KnownLeft, ReadsPiece, TakesLine, FitsLimit}
 use Rattle.operator_cli.specs.Outputs.{dashes, with_line, parts_at_dashes, within_room, head_of}
-use Rattle.operator_cli.specs.PartOutputs.{FindsHead}
+use Rattle.operator_cli.specs.PartOutputs.{FindsHead, TakesAtMost}
+use Rattle.operator_cli.specs.declared.heads.StartFault.{StartFault}
 use Rattle.operator_cli.specs.declared.heads.StartFault.TheVariants as start
 use Rattle.std.specs.Global.{Global}
 
@@ -122,3 +125,29 @@ unfolding head_of
 head_too_long None left head h f = tt
 head_too_long (Some xs) None head h f = absurd h
 head_too_long (Some xs) (Some ys) head h f = ap within_room h ∙ full head (parts_at_dashes (pieces ys)) f
+
+-- how much is taken
+
+-- What was taken so far is as long as the head, and within the bound.
+abbrev pub TakesHead : Option (List ℕ) → Option (List ℕ) → List ℕ → Type 0
+TakesHead old left head = (front : List ℕ) × (length front ≡ length head) × (length front ≤ 2 * HEAD_ROOM) × Consumes old left front
+
+-- a line is taken with its line feed
+pub takes_line : (old mid new : Option (List ℕ)) (head piece : List ℕ) (end : End) → TakesHead old mid head → length head < HEAD_ROOM → TakesLine {E = StartFault} mid new piece (Ok end) → FitsLimit {E = StartFault} HEAD_ROOM piece (Ok end)
+    → end ≡ LineFeed → TakesHead old new (head ++ piece ++ codes "\n")
+takes_line old mid new head piece end (front, long, few, taken) room t fits e =
+    let short : length piece ≤ HEAD_ROOM = subst (λ (x : End). FitsLimit {E = StartFault} HEAD_ROOM piece (Ok x)) e fits in
+    let more : Consumes mid new (piece ++ codes "\n") = subst (λ (x : End). Consumes mid new (piece ++ feed_of x)) e t.1 in
+    (front ++ (piece ++ codes "\n"), simp length-append (omega arith), simp length-append (omega arith), Consumes-trans old mid new front (piece ++ codes "\n") taken more)
+
+-- the last piece, however it was read
+pub takes_piece : (old mid new : Option (List ℕ)) (head piece : List ℕ) (r : Result End StartFault) → TakesHead old mid head → length head < HEAD_ROOM → TakesLine mid new piece r → FitsLimit HEAD_ROOM piece r
+    → TakesAtMost (2 * HEAD_ROOM) old new
+takes_piece old mid new head piece (Ok LineFeed) (front, long, few, taken) room t fits =
+    (front ++ (piece ++ codes "\n"), simp length-append (omega arith), Consumes-trans old mid new front (piece ++ codes "\n") taken t.1)
+takes_piece old mid new head piece (Ok Input) (front, long, few, taken) room t fits =
+    (front ++ (piece ++ []), simp length-append (omega arith), Consumes-trans old mid new front (piece ++ []) taken t.1)
+takes_piece old mid new head piece (Ok Limit) (front, long, few, taken) room t fits =
+    (front ++ (piece ++ []), simp length-append (omega arith), Consumes-trans old mid new front (piece ++ []) taken t.1)
+takes_piece old mid new head piece (Err e) (front, long, few, taken) room t fits =
+    (front ++ piece, simp length-append (omega arith), Consumes-trans old mid new front piece taken t.1)

@@ -1,8 +1,8 @@
 -- Parts of an output: what the functions of a run owe one another. Who reads what `serve` promises has
 -- no need of them.
-use Rattle.std.specs.Prelude.{◌≡◌, ◌⊎◌, ℕ, ◌+◌, ◌<◌, ◌≤◌, ◌-◌, Vec, Bool, true, if◌then◌else◌, List, [], ◌++◌, replicate, Option, Some, None, Result, Ok, Err}
+use Rattle.std.specs.Prelude.{◌≡◌, ◌⊎◌, ℕ, ◌+◌, ◌<◌, ◌≤◌, ◌-◌, Vec, Bool, true, if◌then◌else◌, List, [], ◌++◌, replicate, length, Option, Some, None, Result, Ok, Err, IfErr}
 use Rattle.std.specs.Global.{Global}
-use Rattle.std.specs.Io.KnownBytes.{Appends}
+use Rattle.std.specs.Io.KnownBytes.{Appends, Consumes}
 use Rattle.lock_model.specs.Ballots.{node_count}
 use Rattle.lock_messages.specs.declared.tickets.Ticket.{Ticket}
 use Rattle.world_model.specs.declared.TheConstants.{MAX_MESSAGES}
@@ -113,10 +113,19 @@ Starts c (Some xs) new (Ok s) = KnownLeft new (λ ys. opened c xs ≡ Ok (given 
 Starts c (Some xs) new (Err start.Read) = Unit {0}
 Starts c (Some xs) new (Err (start.Settings e)) = Refuses e (opened c xs)
 
+-- A front of what was left was taken, of at most so many bytes.
+abbrev pub TakesAtMost : ℕ → Option (List ℕ) → Option (List ℕ) → Type 0
+TakesAtMost most old new = (front : List ℕ) × (length front ≤ most) × Consumes old new front
+
 -- how a run ends that has no settings
 abbrev pub RefusesStart : Command → StartFault → Option (List ℕ) → Option (List ℕ) → Result ℕ ServeFault → Type 0
 RefusesStart c start.Read old new r = (r ≡ Err fault.Read) × (new ≡ old)
 RefusesStart c (start.Settings e) old new r = Writes (refused_output c e) old new r
+
+-- Refused settings are told without memory: only the writer may fail.
+abbrev pub FailsByWriting : StartFault → Result ℕ ServeFault → Type 0
+FailsByWriting start.Read r = Unit {0}
+FailsByWriting (start.Settings e) r = IfErr r (λ f. f ≡ fault.Write)
 
 -- How a run ends that has settings, with what is left of known bytes.
 abbrev pub WritesBehind : Command → Settings → Option (List ℕ) → Option (List ℕ) → Option (List ℕ) → Result ℕ ServeFault → Type 0

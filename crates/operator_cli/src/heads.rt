@@ -1,10 +1,11 @@
 // The head of an input: the settings, up to the line of dashes.
 
-ghost use Rattle.std.specs.Prelude.{◌≡◌, ◌++◌, ◌≤◌, IfOk, OnOk, codes};
+ghost use Rattle.std.specs.Prelude.{◌≡◌, ◌++◌, ◌*◌, ◌≤◌, IfOk, OnOk, codes};
 ghost use Rattle.lock_messages.specs.declared.ids.TheConstants.{MAX_CLIENTS};
 ghost use Rattle.std.specs.Str.{bytes_eq};
+ghost use Rattle.line_streams.specs.Streams.{TakesLine, FitsLimit};
 ghost use Rattle.operator_cli.specs.Outputs.{dashes};
-ghost use Rattle.operator_cli.specs.PartOutputs.{HeadPiece, FindsHead, Starts};
+ghost use Rattle.operator_cli.specs.PartOutputs.{HeadPiece, FindsHead, Starts, TakesAtMost};
 
 use crate::settings::{Start, read_settings};
 use crate::{Command, SettingsFault};
@@ -35,7 +36,9 @@ fn push_line(head: &mut Vec<u8>, line: &[u8]) -> Result<(), AllocError>
 
 /// Reads the next piece of the head.
 fn next_piece<R: Read>(source: &mut LineReader<R>, piece: &mut Vec<u8>) -> Result<End, StartFault>
-    ensures { HeadPiece source.old source.new piece.new.items result }
+    ensures piece { HeadPiece source.old source.new piece.new.items result }
+    ensures taken { TakesLine source.old source.new piece.new.items result }
+    ensures few { FitsLimit HEAD_ROOM piece.new.items result }
 {
     match source.read_line(piece, HEAD_ROOM) {
         Ok(end) => Ok(end),
@@ -51,14 +54,16 @@ fn is_dashes(piece: &[u8]) -> bool
     piece == b"---".as_slice()
 }
 
-/// Reads up to the line of dashes and over it, and answers what stands before it, with its line feeds.
+/// Reads up to the line of dashes and over it, and answers what stands before it, with its line feeds. No
+/// more than 131,072 bytes of the source are taken, whatever is answered.
 ///
 /// # Errors
 ///
 /// `Read` where the reader fails or was asked as often as it may be; no such line begins within the first
 /// `HEAD_ROOM` bytes (`NoEnd`, 924); or memory was refused (`Memory`, 925).
 pub fn read_head<R: Read>(alloc: Global, source: &mut LineReader<R>) -> Result<Vec<u8>, StartFault>
-    ensures { FindsHead source.old source.new result }
+    ensures head { FindsHead source.old source.new result }
+    ensures few { TakesAtMost (2 * HEAD_ROOM) source.old source.new }
 {
     let mut head = Vec::new(alloc);
     let mut piece = Vec::new(alloc);
@@ -89,7 +94,7 @@ pub fn read_head<R: Read>(alloc: Global, source: &mut LineReader<R>) -> Result<V
 }
 
 /// Reads the settings that an input of this command begins with, up to the line of dashes and over it, and
-/// judges them.
+/// judges them. No more than 131,072 bytes of the source are taken, whatever is answered.
 ///
 /// # Errors
 ///
@@ -101,6 +106,7 @@ pub fn read_start<R: Read>(
 ) -> Result<Start, StartFault>
     ensures start { Starts command source.old source.new result }
     ensures in_range { IfOk result (λ s. (1 ≤ s.settings.clients) × (s.settings.clients ≤ MAX_CLIENTS)) }
+    ensures few { TakesAtMost (2 * HEAD_ROOM) source.old source.new }
 {
     let head = match read_head(alloc, source) {
         Ok(head) => head,

@@ -2,7 +2,7 @@
 -- which all that is said of plates rests: between two syncs that succeed each written range, that of a
 -- failed write too, may hold any bytes after a crash; bytes outside these ranges stay; what a read gives is
 -- one of the images that a crash may leave; after a sync that succeeds a crash leaves what a read gives.
-use Rattle.std.specs.Prelude.{◌≡◌, ◌⊎◌, ℕ, ◌≤◌, length, Result, OnErr}
+use Rattle.std.specs.Prelude.{◌≡◌, ◌⊎◌, ℕ, ◌+◌, ◌≤◌, length, Result, OnOk, OnErr}
 use Rattle.stable_record.specs.Finding.{Counts}
 use Rattle.slot_record.specs.Images.{Image, DiffersWithin}
 
@@ -48,12 +48,17 @@ pub record GoesOn (old new : PlateState) : Type 0 where
   pub nothing_else : (t : ℕ) (c : Image) → t ≤ old.clock → new.left_since t c → old.left_since t c ⊎ new.may_leave c
   pub keeps : (t : ℕ) (c : Image) → t ≤ old.clock → old.left_since t c → new.left_since t c
 
--- The size stays and the count of failures does not fall; a fault is answered only where the count rose
--- or stood at its greatest.
+-- One device call failed and no other: the count of failures rose by one, or stood at its greatest.
+abbrev pub FailedOnce : ℕ → ℕ → Type 0
+FailedOnce before now = Counts before now × (now ≤ before + 1)
+
+-- The size stays and the count of failures does not fall. It stays where no fault is answered; where one is,
+-- one device call failed. So of a work of many calls the first that fails ends it.
 pub record Called {T E : Type 0} (old new : PlateState) (result : Result T E) : Type 0 where
   pub size : new.size ≡ old.size
   pub count : old.failures ≤ new.failures
-  pub cause : OnErr result (Counts old.failures new.failures)
+  pub fine : OnOk result (new.failures ≡ old.failures)
+  pub cause : OnErr result (FailedOnce old.failures new.failures)
 
 -- A crash at any moment from the old state to the new one leaves an image of which this holds.
 pub record LeavesOnly (old new : PlateState) (P : Image → Type 0) : Type 0 where

@@ -10,8 +10,9 @@
 //!
 //! The crate promises that whatever moment the power goes, opening finds the body that was kept last
 //! or, while a keep was open or had failed, that body or the one tried; that after a keep, an opening
-//! or a reopening that succeeded it finds just that body; that a device fault is answered only where
-//! the count of failures rose or stood at its greatest; and that a `SlotRecord` is a `StableRecord`,
+//! or a reopening that succeeded it finds just that body; that the first device call that fails ends
+//! the work: a device fault is answered where the count of failures rose by one or stood at its
+//! greatest, and nowhere else does it rise; and that a `SlotRecord` is a `StableRecord`,
 //! so that what stands on records stands on plates. It promises nothing of a plate whose `format`
 //! didn't succeed, of one that somebody else writes, or of a real disk: what a disk does is stated
 //! once, as the clauses of `Plate`.

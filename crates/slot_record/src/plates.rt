@@ -12,8 +12,8 @@ use crate::PlateFault;
 /// clock, and the images that a crash may leave now or may have left since a moment. Between two
 /// syncs that succeed each written range, that of a failed write too, may hold any bytes after a
 /// crash; bytes outside these ranges stay. What a read gives is one of the images, and after a sync
-/// that succeeds a crash leaves what a read gives. The model is our own. A call fails only where the
-/// count of failures rose in it or stood at its greatest.
+/// that succeeds a crash leaves what a read gives. The model is our own. A call that fails raises the
+/// count of failures by one, up to its greatest, and one that succeeds leaves it.
 pub trait Plate: Drop {
     ghost state: { Self → PlateState };
 

@@ -4,7 +4,7 @@ ghost use Rattle.std.specs.Prelude.{◌≡◌, ◌↔◌, ◌⊎◌, ℕ, ◌+�
 ghost use Rattle.lock_model.specs.Decisions.{Among};
 ghost use Rattle.stable_record.specs.Finding.{Counts, FindsOnly, FindsOnlyOr, IsOneOrTwo, IsReopenFault};
 ghost use Rattle.slot_record.specs.Images.{Image};
-ghost use Rattle.slot_record.specs.Plates.{LeavesOnly};
+ghost use Rattle.slot_record.specs.Plates.{FailedOnce, LeavesOnly};
 ghost use Rattle.slot_record.specs.Slots.{record_on};
 ghost use Rattle.slot_record.specs.Faults.{fault_of};
 ghost use Rattle.slot_record.specs.Records.{FindsAmong, IsFormatFault, IsOpenFault, IsKeepFault};
@@ -55,14 +55,16 @@ impl<P: Plate> SlotRecord<P> {
         ensures formatted { IfOk result (λ r. (r.finds ≡ bytes.now ∷ []) × (r.sequence ≡ 1) × (r.stuck ≡ false)) }
         // Whatever a crash leaves from now on, opening finds just these bytes.
         ensures lasts { IfOk result (λ r. (c : Image) → (P.state r.plate).may_leave c → record_on c ≡ Some (1, bytes.now)) }
+        // No device call failed.
+        ensures fine { IfOk result (λ r. (P.state r.plate).failures ≡ (P.state plate).failures) }
         // Nothing else is answered.
         ensures faults { IfErr result (λ e. IsFormatFault e.1) }
         ensures too_small { (fault_of result ≡ Some SlotFault.TooSmall) ↔ ((P.state plate).size < LEAST_PLATE_LEN) }
         ensures too_long { (fault_of result ≡ Some SlotFault.TooLong) ↔ ((LEAST_PLATE_LEN ≤ (P.state plate).size) × (MAX_RECORD_LEN < length bytes.now)) }
         // 401, 404 and 406 come before the device is called.
         ensures untouched { IfErr result (λ e. (e.1 ≡ SlotFault.Device) ⊎ (e.0 ≡ plate)) }
-        // 402.
-        ensures device { IfErr result (λ e. e.1 ≡ SlotFault.Device → Counts (P.state plate).failures (P.state e.0).failures) }
+        // 402: one device call failed, which ended the work.
+        ensures device { IfErr result (λ e. e.1 ≡ SlotFault.Device → FailedOnce (P.state plate).failures (P.state e.0).failures) }
     {
         if plate.size() < LEAST_PLATE_LEN {
             return Err((plate, SlotFault::TooSmall));
@@ -98,6 +100,8 @@ impl<P: Plate> SlotRecord<P> {
         ensures found { IfOk result (λ r. (c : Image) × (P.state plate).may_leave c × (record_on c ≡ Some (r.0.sequence, r.1.items))) }
         // and from now on opening finds just this one, whatever gate was not synced there before.
         ensures lasts { IfOk result (λ r. (c : Image) → (P.state r.0.plate).may_leave c → record_on c ≡ Some (r.0.sequence, r.1.items)) }
+        // No device call failed.
+        ensures fine { IfOk result (λ r. (P.state r.0.plate).failures ≡ (P.state plate).failures) }
         // A crash at any moment leaves what it could leave before.
         ensures moments { IfOk result (λ r. LeavesOnly (P.state plate) (P.state r.0.plate) (P.state plate).may_leave) }
         ensures moments_of_fault { IfErr result (λ e. LeavesOnly (P.state plate) (P.state e.0) (P.state plate).may_leave) }
@@ -108,8 +112,8 @@ impl<P: Plate> SlotRecord<P> {
         ensures not_formatted { IfErr result (λ e. e.1 ≡ SlotFault.NotFormatted → (c : Image) → (P.state e.0).may_leave c → record_on c ≡ None) }
         // 401 and 406 come before the device is called.
         ensures untouched { IfErr result (λ e. (e.1 ≡ SlotFault.Device) ⊎ (e.1 ≡ SlotFault.NotFormatted) ⊎ (e.0 ≡ plate)) }
-        // 402.
-        ensures device { IfErr result (λ e. e.1 ≡ SlotFault.Device → Counts (P.state plate).failures (P.state e.0).failures) }
+        // 402: one device call failed, which ended the work.
+        ensures device { IfErr result (λ e. e.1 ≡ SlotFault.Device → FailedOnce (P.state plate).failures (P.state e.0).failures) }
     {
         if plate.size() < LEAST_PLATE_LEN {
             return Err((plate, SlotFault::TooSmall));
@@ -171,6 +175,8 @@ impl<P: Plate> StableRecord for SlotRecord<P> {
         ensures numbered { OnOk result (self.new.sequence ≡ self.old.sequence + 1) }
         // Whatever a crash leaves from now on, opening finds just these bytes.
         ensures lasts { OnOk result ((c : Image) → (P.state self.new.plate).may_leave c → record_on c ≡ Some (self.new.sequence, bytes.now)) }
+        // No device call failed.
+        ensures fine { OnOk result ((P.state self.new.plate).failures ≡ (P.state self.old.plate).failures) }
         // At each moment of the call opening finds what it could find before, or these bytes.
         ensures moments { LeavesOnly (P.state self.old.plate) (P.state self.new.plate) (FindsAmong (self.old.finds ++ bytes.now ∷ [])) }
         // After it opening finds one of the bodies, whatever a crash leaves.
@@ -183,7 +189,8 @@ impl<P: Plate> StableRecord for SlotRecord<P> {
         ensures spent { (result ≡ Err RecordFault.Spent) ↔ ((self.old.stuck ≡ false) × (length bytes.now ≤ MAX_RECORD_LEN) × (MAX_SEQUENCE ≤ self.old.sequence)) }
         // They come before the device is called.
         ensures unchanged { IfErr result (λ fault. (fault ≡ RecordFault.Device) ⊎ (self.new ≡ self.old)) }
-        // 301.
+        // 301: one device call failed, which ended the work.
+        ensures once { (P.state self.new.plate).failures ≤ (P.state self.old.plate).failures + 1 }
         ensures device { result ≡ Err RecordFault.Device → Counts (P.state self.old.plate).failures (P.state self.new.plate).failures × FindsOnlyOr self.old.finds bytes.now self.new.finds × (self.new.stuck ≡ true) }
         ensures some { IsOneOrTwo self.new.finds }
         ensures count { (P.state self.old.plate).failures ≤ (P.state self.new.plate).failures }
@@ -214,6 +221,8 @@ impl<P: Plate> StableRecord for SlotRecord<P> {
     fn reopen(&mut self) -> Result<Vec<u8>, RecordFault>
         ensures found { IfOk result (λ bytes. Among bytes.items self.old.finds × (self.new.finds ≡ bytes.items ∷ []) × (self.new.stuck ≡ false)) }
         ensures lasts { IfOk result (λ bytes. (c : Image) → (P.state self.new.plate).may_leave c → record_on c ≡ Some (self.new.sequence, bytes.items)) }
+        // No device call failed.
+        ensures fine { OnOk result ((P.state self.new.plate).failures ≡ (P.state self.old.plate).failures) }
         // A crash at any moment leaves what it could leave before,
         ensures moments { LeavesOnly (P.state self.old.plate) (P.state self.new.plate) (P.state self.old.plate).may_leave }
         // on which opening finds one of the bodies.
@@ -221,7 +230,8 @@ impl<P: Plate> StableRecord for SlotRecord<P> {
         // Nothing else is answered.
         ensures faults { IfErr result IsReopenFault }
         ensures nothing_new { IfErr result (λ fault. FindsOnly self.old.finds self.new.finds) }
-        // 301.
+        // 301: one device call failed, which ended the work.
+        ensures once { (P.state self.new.plate).failures ≤ (P.state self.old.plate).failures + 1 }
         ensures device { result ≡ Err RecordFault.Device → Counts (P.state self.old.plate).failures (P.state self.new.plate).failures × (self.new.stuck ≡ true) }
         // 304.
         ensures unchanged { result ≡ Err RecordFault.Memory → self.new ≡ self.old }

@@ -33,12 +33,15 @@ in-front [] ys i h = absurd (omega arith)
 in-front (x ∷ xs) ys zero h = refl
 in-front (x ∷ xs) ys (suc i) h = in-front xs ys i (omega (arith, h))
 
-pub asked-at : (a : Option (ℕ × List ℕ)) (lines : List (List ℕ × Tickets)) (es : List Entry) → IndexesWith a lines es → (x : List ℕ) (i : ℕ) → i < count_live (waits_for x) es →
-    slice_get (or_none (line_in lines x)).waiting i ≡ slice_get (clients_of (waits_for x) es) i
-asked-at None lines es h x i lt = ap (λ (t : Tickets). slice_get t.waiting i) (read-line lines es h x)
-asked-at (Some a) lines es h x i lt =
-    let all = es ++ announced_entry a ∷ [] in
+pub asked-at : (a : Option (ℕ × List ℕ)) (lines : List (List ℕ × Tickets)) (es : List Entry) → IndexesWith a lines es → (x : List ℕ) (i : ℕ) →
+    slice_get (or_none (line_in lines x)).waiting i ≡ slice_get (clients_of (waits_for x) (with_announced a es)) i
+asked-at a lines es h x i = ap (λ (t : Tickets). slice_get t.waiting i) (read-line lines (with_announced a es) h x)
+
+-- before the client that is announced stand those of the entries
+pub before-announced : (a : Option (ℕ × List ℕ)) (es : List Entry) (x : List ℕ) (i : ℕ) → i < count_live (waits_for x) es →
+    slice_get (clients_of (waits_for x) (with_announced a es)) i ≡ slice_get (clients_of (waits_for x) es) i
+before-announced None es x i lt = refl
+before-announced (Some a) es x i lt =
     let last = cond (if_live (waits_for x) (announced_entry a).live) (a.0 ∷ []) [] in
-    ap (λ (t : Tickets). slice_get t.waiting i) (read-line lines all h x)
-    ∙ ap (λ (l : List ℕ). slice_get l i) (clients-snoc (waits_for x) es (announced_entry a))
+    ap (λ (l : List ℕ). slice_get l i) (clients-snoc (waits_for x) es (announced_entry a))
     ∙ in-front (clients_of (waits_for x) es) last i (omega (arith, lt, clients-count (waits_for x) es))

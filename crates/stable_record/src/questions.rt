@@ -1,9 +1,9 @@
 // What a node asks its index while it decides.
 
-ghost use Rattle.std.specs.Prelude.{◌≡◌, ◌<◌, ℕ, List, Option, slice_get};
+ghost use Rattle.std.specs.Prelude.{◌≡◌, ℕ, List, Option, slice_get};
 ghost use Rattle.lock_model.specs.declared.entries.Entry.{Entry};
 ghost use Rattle.lock_model.specs.ExactStations.{any_live, holds, writer_holds, writer_waits};
-ghost use Rattle.stable_record.specs.Indexing.{IndexesWith};
+ghost use Rattle.stable_record.specs.Indexing.{IndexesWith, with_announced};
 ghost use Rattle.stable_record.specs.Lines.{Indexes, clients_of, count_live, waits_for};
 
 use crate::ResourceIndex;
@@ -59,9 +59,9 @@ impl ResourceIndex {
     }
 
     /// The client whose ticket waits for the resource at a place, counted from 0 in the order of the
-    /// entries. Who is announced for it stands behind the last.
+    /// entries. Who is announced for it stands behind the last; behind that is none.
     pub fn waiting_at(&self, resource: &ResourceName, place: usize) -> Option<ClientId>
-        ensures { (a : Option (ℕ × List ℕ)) (entries : List Entry) → IndexesWith a self.now entries → place < count_live (waits_for resource.now) entries → result ≡ slice_get (clients_of (waits_for resource.now) entries) place }
+        ensures { (a : Option (ℕ × List ℕ)) (entries : List Entry) → IndexesWith a self.now entries → result ≡ slice_get (clients_of (waits_for resource.now) (with_announced a entries)) place }
     {
         client_at(self.line(resource)?.waiting(), place)
     }

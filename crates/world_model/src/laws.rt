@@ -38,9 +38,9 @@ pub fn nobody_is_locked_out()
 {}
 
 /// The same at the exact world, for as long as the list of messages has room for what the way may say (`load`):
-/// each sound world has events of which each is taken and that end with the client inside; and where the nodes
-/// that can be won have votes enough, and what the client has chosen is below the greatest attempt, nobody else is
-/// disturbed by them.
+/// for each client of the world that has an attempt left, and each ballot, a sound world has events of which each
+/// is taken and that end with the client inside; and where the nodes that can be won have votes enough, and what
+/// the client has chosen is below the greatest attempt, nobody else is disturbed by them.
 pub fn ways_in_are_taken()
     ensures way { ExactWayIn }
     ensures without_the_dead { ExactWayWithoutTheDead }
@@ -61,8 +61,9 @@ pub fn exact_steps_are_allowed()
     lock_model::laws::hearing_is_exact();
 }
 
-/// A world in which nothing is kept can be opened under each list of ballots, and one that is resumed from
-/// stations and attempts that fit is sound; it is a lawful opening exactly where they fit.
+/// A world in which nothing is kept can be opened under each list of ballots that cross, and one that is
+/// resumed from stations and attempts that fit is sound; of sound stations it is a lawful opening exactly where
+/// they fit.
 pub fn openings_are_lawful()
     ensures empty { OpeningIsResumable }
     ensures sound { ResumedIsSound }

@@ -1,8 +1,9 @@
-use Rattle.std.proofs.Common.{List, ℕ, sym, subst, rules}
+use Rattle.std.proofs.Common.{◌≡◌, ◌<◌, ◌∙◌, List, ℕ, length, vec_len, sym, subst, rules}
 use Rattle.std.specs.Io.KnownBytes.{prepend_known, Consumes}
 use Rattle.std.proofs.lemmas.List.{append-nil}
-use Rattle.line_streams.specs.Streams.{IsPlain}
-use Rattle.line_streams.proofs.StreamFacts.{line_ends, line_taken, part_taken, input_ends, is_too_long}
+use Rattle.line_streams.specs.declared.holding.TheConstants.{MAX_AHEAD}
+use Rattle.line_streams.specs.Streams.{IsPlain, EndsLine}
+use Rattle.line_streams.proofs.StreamFacts.{line_ends, line_taken, part_taken, input_ends, is_too_long, no_end_yet, some_held}
 use Rattle.line_streams.proofs.holding.ReadAhead.read_line.Given.{Over}
 use Rattle.line_streams.proofs.holding.ReadAhead.read_line.Goals.{Else-fed}
 use Rattle.line_streams.proofs.holding.ReadAhead.read_line.Goals as goal
@@ -43,7 +44,15 @@ round_taken g c =
 pub loop-found-preserved : goal.loop-found-preserved
 loop-found-preserved g c =
     let (plain, taken) = round_taken g (goal.at.loop-found-preserved g c).Else-fed in
-    record { taken = taken; plain = plain; few = search rules }
+    record {
+      taken = taken;
+      plain = plain;
+      few = search rules;
+      asks = λ ends.
+          let first = c.loop-found.invariant.asks ends in
+          let same : c.fetch.new.self ≡ c.args.self.now = (c.fetch.ensures.held (subst (λ (bs : List ℕ). 0 < length bs) (sym first.0) (some_held c.args.limit c.args.self.now ends))).1 ∙ first.0 in
+          absurd (no_end_yet c.args.limit MAX_AHEAD c.fetch.new.self (vec_len c.loop-found.line) (vec_len c.take.new.line) (search rules) c.fetch.ensures.room (search rules) (search rules) (subst (λ (bs : List ℕ). EndsLine c.args.limit bs) (sym same) ends));
+    }
 
 pub returns-then-len-limit-clause-line : goal.returns-then-len-limit-clause-line
 returns-then-len-limit-clause-line g c =
