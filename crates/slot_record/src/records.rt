@@ -114,6 +114,8 @@ impl<P: Plate> SlotRecord<P> {
         ensures untouched { IfErr result (λ e. (e.1 ≡ SlotFault.Device) ⊎ (e.1 ≡ SlotFault.NotFormatted) ⊎ (e.0 ≡ plate)) }
         // 402: one device call failed, which ended the work.
         ensures device { IfErr result (λ e. e.1 ≡ SlotFault.Device → FailedOnce (P.state plate).failures (P.state e.0).failures) }
+        // With any other fault no device call failed.
+        ensures unfailed { IfErr result (λ e. (e.1 ≡ SlotFault.Device) ⊎ ((P.state e.0).failures ≡ (P.state plate).failures)) }
     {
         if plate.size() < LEAST_PLATE_LEN {
             return Err((plate, SlotFault::TooSmall));
