@@ -1,13 +1,14 @@
 -- What a book tells of two berths is what their own logs tell, and whom it has inside was so where it was asked.
-use Rattle.std.proofs.Common.{◌≡◌, ℕ, Bool, true, List, Result, Ok, Err, sym, ap, ◌∙◌}
-use Rattle.std.specs.Prelude.{Vec, IfOk}
+use Rattle.std.proofs.Common.{◌≡◌, ◌≢◌, ◌⊎◌, ℕ, Bool, true, List, Result, Ok, Err, inl, inr, sym, ap, ◌∙◌}
+use Rattle.std.specs.Prelude.{Vec, OnOk, IfOk, IfErr}
 use Rattle.std.specs.Global.{Global}
 use Rattle.lock_messages.specs.declared.tickets.Ticket.{Ticket}
 use Rattle.world_model.specs.declared.exact.ExactWorld.{ExactWorld}
 use Rattle.world_model.specs.Parts.{part}
 use Rattle.history_book.specs.declared.faults.BookFault.{BookFault}
+use Rattle.history_book.specs.declared.faults.BookFault.TheVariants as book
 use Rattle.history_book.specs.Books.{BookValue, BerthValue, Known, sees, own_part, inside_ticket, IsMet, Reads}
-use Rattle.book_recorders.specs.Meeting.{HaveMet, TellsInside, SeesInside, HasSeenInside}
+use Rattle.book_recorders.specs.Meeting.{HaveMet, TellsInside, HasSeenOn, SeesInside, HasSeenInside}
 use Rattle.book_recorders.specs.Sharing.{after_seeing, log_of}
 use Rattle.book_recorders.proofs.Between.{between_of}
 use Rattle.book_recorders.proofs.Logging.{log_after}
@@ -48,17 +49,35 @@ pub seen_if : (r : Result (Vec Ticket Global) BookFault) (b : BookValue) (k : Be
 seen_if (Ok tickets) b k x k' told = has_seen b k x tickets.items k' told
 seen_if (Err f) b k x k' told = tt
 
+seen_on : (b : BookValue) (k k' : BerthValue) → Known b k → k' ≡ sees b k → HasSeenOn k k' b.world
+seen_on b k k' known is = record {
+  between = known.begins.0;
+  others = between_of b k known;
+  berth = is ∙ ap (after_seeing k) (sym known.begins.1);
+}
+
 sees_inside : (b : BookValue) (k : BerthValue) (x : List ℕ) (tickets : List Ticket) (k' : BerthValue) → TellsInside b k x tickets k' → SeesInside k x tickets k'
 sees_inside b k x tickets k' told = record {
-  between = told.known.begins.0;
   now = b.world;
-  others = between_of b k told.known;
+  seen = seen_on b k k' told.known told.seen;
   told = told.told;
   inside = told.inside;
   alone = told.alone;
-  berth = told.seen ∙ ap (after_seeing k) (sym told.known.begins.1);
 }
 
 pub shown_if : (r : Result (Vec Ticket Global) BookFault) (b : BookValue) (k : BerthValue) (x : List ℕ) (k' : BerthValue) → IfOk r (λ tickets. TellsInside b k x tickets.items k') → IfOk r (λ tickets. SeesInside k x tickets.items k')
 shown_if (Ok tickets) b k x k' told = sees_inside b k x tickets.items k' told
 shown_if (Err f) b k x k' told = tt
+
+-- what the berth has seen where nobody is told
+pub unshown_if : {T : Type 0} (r : Result T BookFault) (b : BookValue) (k k' : BerthValue)
+    → IfErr r (λ f. ((f ≡ book.OtherBook) × (k.number ≢ b.number) × (k' ≡ k)) ⊎ ((f ≡ book.Memory) × Known b k × (k' ≡ sees b k)))
+    → IfErr r (λ f. (f ≡ book.OtherBook → k' ≡ k) × (f ≡ book.Memory → (now : ExactWorld) × HasSeenOn k k' now))
+unshown_if (Ok t) b k k' told = tt
+unshown_if (Err f) b k k' (inl (other, number, same)) = (λ o. same, λ m. absurd (let z : book.OtherBook ≡ book.Memory = sym other ∙ m in cc))
+unshown_if (Err f) b k k' (inr (memory, known, seen)) = (λ o. absurd (let z : book.Memory ≡ book.OtherBook = sym memory ∙ o in cc), λ m. (b.world, seen_on b k k' known seen))
+
+-- both have seen one history
+pub both_seen_if : (r : Result Bool BookFault) (b : BookValue) (k l k' l' : BerthValue) → IfOk r (λ met. IsMet met b k l k' l') → OnOk r ((now : ExactWorld) × HasSeenOn k k' now × HasSeenOn l l' now)
+both_seen_if (Ok met) b k l k' l' is = (b.world, seen_on b k k' is.one is.one_sees, seen_on b l l' is.other is.other_sees)
+both_seen_if (Err f) b k l k' l' is = tt

@@ -36,16 +36,21 @@ pub record TellsInside (b : BookValue) (k : BerthValue) (x : List ℕ) (tickets 
   pub inside : AreInside (forget b.world) x tickets
   pub alone : IsAloneIn tickets
 
--- These are the tickets of those who are inside the resource, in the order of the clients, in the world to which all
--- leads that the berth has seen now: what it had seen before, and what others logged since.
-pub record SeesInside (k : BerthValue) (x : List ℕ) (tickets : List Ticket) (k' : BerthValue) : Type 0 where
+-- The berth has seen what others logged since, none of it its actor's; with what it had seen before it leads to this
+-- world.
+pub record HasSeenOn (k k' : BerthValue) (now : ExactWorld) : Type 0 where
   pub between : List (Event × Effect)
-  pub now : ExactWorld
   pub others : Between k between now
+  pub berth : k' ≡ after_seeing k (k.seen ++ between)
+
+-- These are the tickets of those who are inside the resource, in the order of the clients, in the world that the
+-- history leaves which the berth has seen now.
+pub record SeesInside (k : BerthValue) (x : List ℕ) (tickets : List Ticket) (k' : BerthValue) : Type 0 where
+  pub now : ExactWorld
+  pub seen : HasSeenOn k k' now
   pub told : tickets ≡ inside x now
   pub inside : AreInside (forget now) x tickets
   pub alone : IsAloneIn tickets
-  pub berth : k' ≡ after_seeing k (k.seen ++ between)
 
 -- These are the tickets of those who were inside the resource in a world that the one history had come to, in the
 -- order of the clients. The history has of the actor what its own log has, and so has the world; it is one of the

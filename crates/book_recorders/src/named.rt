@@ -1,9 +1,10 @@
 // A book under a lock.
 
-ghost use Rattle.std.specs.Prelude.{◌≡◌, ◌⊎◌, IfOk, IfErr};
+ghost use Rattle.std.specs.Prelude.{◌≡◌, ◌⊎◌, OnOk, IfOk, IfErr};
 ghost use Rattle.berth_seats.specs.Views.{TableId};
+ghost use Rattle.world_model.specs.declared.exact.ExactWorld.{ExactWorld};
 ghost use Rattle.history_book.specs.Books.{BookValue};
-ghost use Rattle.book_recorders.specs.Meeting.{HaveMet, HasSeenInside, SeesInside};
+ghost use Rattle.book_recorders.specs.Meeting.{HaveMet, HasSeenInside, HasSeenOn, SeesInside};
 ghost use Rattle.book_recorders.specs.Sharing.{HasLogged, MayRefuse, log_of, no_table};
 
 use crate::Logs;
@@ -77,7 +78,7 @@ impl<B: BookName, K: Logs> Named<B, K> {
     }
 
     /// Whether the berths are of two clients inside one resource; then both read. Their own logs stay as they are,
-    /// and both have seen the history.
+    /// and both have seen one history.
     ///
     /// The only error is that one of them has another book's number (815), which changes nothing. The caller owes
     /// that both are of the book of this name.
@@ -86,13 +87,16 @@ impl<B: BookName, K: Logs> Named<B, K> {
         requires one { one.old.table ≡ B.table }
         requires other { other.old.table ≡ B.table }
         ensures met { IfOk result (λ met. HaveMet met (log_of one.old) (log_of other.old) (log_of one.new) (log_of other.new)) }
+        ensures shown { OnOk result ((now : ExactWorld) × HasSeenOn one.old one.new now × HasSeenOn other.old other.new now) }
         ensures tables { (one.new.table ≡ B.table) × (other.new.table ≡ B.table) }
         ensures err { IfErr result (λ f. (f ≡ BookFault.OtherBook) × (one.new ≡ one.old) × (other.new ≡ other.old)) }
     {
         self.book.meet(one, other)
     }
+
     /// The tickets of the clients that are inside the resource, in the order of the clients; a writer among them is
-    /// the only one. The berth has seen all of the history then, and its own log stays as it is.
+    /// the only one. The berth has seen the history then to which the answer belongs, and its own log stays as it
+    /// is.
     ///
     /// The errors: the berth has another book's number (815), or memory was refused (813). The caller owes that the
     /// berth is of the book of this name.
@@ -107,6 +111,7 @@ impl<B: BookName, K: Logs> Named<B, K> {
         ensures shown { IfOk result (λ tickets. SeesInside berth.old resource.now tickets.items berth.new) }
         ensures table { berth.new.table ≡ B.table }
         ensures err { IfErr result (λ f. ((f ≡ BookFault.OtherBook) ⊎ (f ≡ BookFault.Memory)) × (log_of berth.new ≡ log_of berth.old)) }
+        ensures unshown { IfErr result (λ f. (f ≡ BookFault.OtherBook → berth.new ≡ berth.old) × (f ≡ BookFault.Memory → (now : ExactWorld) × HasSeenOn berth.old berth.new now)) }
     {
         self.book.inside(berth, resource)
     }

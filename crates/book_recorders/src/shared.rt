@@ -1,8 +1,9 @@
 // One actor's way to a book that threads share.
 
-ghost use Rattle.std.specs.Prelude.{◌≡◌, ◌⊎◌, IfOk, IfErr};
+ghost use Rattle.std.specs.Prelude.{◌≡◌, ◌⊎◌, OnOk, IfOk, IfErr};
+ghost use Rattle.world_model.specs.declared.exact.ExactWorld.{ExactWorld};
 ghost use Rattle.history_book.specs.Books.{BerthValue};
-ghost use Rattle.book_recorders.specs.Meeting.{HasSeenInside, SeesInside};
+ghost use Rattle.book_recorders.specs.Meeting.{HaveMet, HasSeenInside, HasSeenOn, SeesInside};
 ghost use Rattle.book_recorders.specs.Sharing.{HasLogged, MayRefuse, log_of};
 
 use crate::{BookName, Logs, Named, SharedRecorder};
@@ -82,8 +83,13 @@ impl<'a, B: BookName, K: Logs, R: Wait + Copy> Recorder for BookRecorder<'a, B, 
 }
 
 impl<'a, B: BookName, K: Logs, R: Wait + Copy> SharedRecorder for BookRecorder<'a, B, K, R> {
-    /// Asks the book, under its lock, for which it may wait.
-    fn meet(&mut self, other: &mut BookRecorder<'a, B, K, R>) -> Result<bool, BookFault> {
+    /// Asks the book, under its lock, for which it may wait. Both berths have seen one history then.
+    fn meet(&mut self, other: &mut BookRecorder<'a, B, K, R>) -> Result<bool, BookFault>
+        ensures met { IfOk result (λ met. HaveMet met (log_of self.old) (log_of other.old) (log_of self.new) (log_of other.new)) }
+        ensures shown { OnOk result ((now : ExactWorld) × HasSeenOn self.old self.new now × HasSeenOn other.old other.new now) }
+        ensures err { IfErr result (λ f. (f ≡ BookFault.OtherBook) × (log_of self.new ≡ log_of self.old) × (log_of other.new ≡ log_of other.old)) }
+        ensures unshown { IfErr result (λ f. (self.new ≡ self.old) × (other.new ≡ other.old)) }
+    {
         self.book
             .lock(&self.rt)
             .meet(&mut self.berth, &mut other.berth)
@@ -95,6 +101,7 @@ impl<'a, B: BookName, K: Logs, R: Wait + Copy> SharedRecorder for BookRecorder<'
         ensures seen { IfOk result (λ tickets. HasSeenInside (log_of self.old) resource.now tickets.items (log_of self.new)) }
         ensures shown { IfOk result (λ tickets. SeesInside self.old resource.now tickets.items self.new) }
         ensures err { IfErr result (λ f. ((f ≡ BookFault.OtherBook) ⊎ (f ≡ BookFault.Memory)) × (log_of self.new ≡ log_of self.old)) }
+        ensures unshown { IfErr result (λ f. (f ≡ BookFault.OtherBook → self.new ≡ self.old) × (f ≡ BookFault.Memory → (now : ExactWorld) × HasSeenOn self.old self.new now)) }
     {
         self.book.lock(&self.rt).inside(&mut self.berth, resource)
     }

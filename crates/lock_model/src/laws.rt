@@ -35,8 +35,8 @@ pub fn one_settling()
     ensures unique { SettlingIsUnique }
 {}
 
-/// From a caused station settling changes nothing, nor does it change the entries of one that has each
-/// client's once: so a message that ends and softens nothing leaves the station as it was.
+/// From a caused station settling changes nothing; where each client has one entry at most, it leaves the list
+/// of entries too. So where a message ends and softens nothing, settling lets nobody in.
 pub fn caused_is_settled()
     ensures station { NothingToSettle }
     ensures entries { NoEntryToSettle }

@@ -2,6 +2,7 @@
 use Rattle.std.specs.Prelude.{◌≡◌, ◌⊎◌, ℕ, ◌+◌, ◌-◌, nat_lt, if◌then◌else◌, Bool, true, false, List, [], ◌∷◌, ◌++◌, Option, Some, None, Result, Ok, Err}
 use Rattle.lock_messages.specs.declared.ids.Actor.{Actor}
 use Rattle.lock_messages.specs.declared.ids.Actor.TheVariants.{Node, Client}
+use Rattle.lossy_link.specs.declared.fates.Fate.TheVariants.{Twice}
 use Rattle.lossy_link.specs.declared.parcels.Parcel.{Parcel}
 use Rattle.lossy_link.specs.declared.parcels.Post.{Post}
 use Rattle.lossy_link.specs.declared.faults.LinkFault.{LinkFault}
@@ -43,16 +44,13 @@ own_posts actor (m ∷ ms) = if same_actor m.to actor then m.post ∷ own_posts 
 abbrev pub after_handing : Channeled → List Mail → Channeled
 after_handing link mails = record { actor = link.actor; climate = link.climate; held = link.held; own = link.own ++ own_posts link.actor mails; closed = link.closed }
 
+-- the link after a parcel has met the weather, before anything is handed over
+abbrev pub after_weather : Channeled → Actor → Parcel → Channeled
+after_weather link to parcel = record { actor = link.actor; climate = after_fate link.climate; held = held_after (next_fate link.climate) (mail_of to parcel); own = link.own; closed = link.closed }
+
 -- the link after a parcel was sent over it
 abbrev pub after_sending : Channeled → Actor → Parcel → Channeled
-after_sending link to parcel =
-    let fate = next_fate link.climate in record {
-      actor = link.actor;
-      climate = after_fate link.climate;
-      held = held_after fate (mail_of to parcel);
-      own = link.own ++ own_posts link.actor (handed fate link.actor to parcel link.held);
-      closed = link.closed;
-    }
+after_sending link to parcel = after_handing (after_weather link to parcel) (handed (next_fate link.climate) link.actor to parcel link.held)
 
 -- not all of these mails were handed over: one was refused, and just those before it went
 pub record HandsPart (link : Channeled) (mails : List Mail) (link' : Channeled) : Type 0 where
@@ -62,19 +60,15 @@ pub record HandsPart (link : Channeled) (mails : List Mail) (link' : Channeled) 
   pub all : mails ≡ front ++ refused ∷ back
   pub went : link' ≡ after_handing link front
 
--- the link after a parcel has met the weather, before anything is handed over
-abbrev pub after_weather : Channeled → Actor → Parcel → Channeled
-after_weather link to parcel = record { actor = link.actor; climate = after_fate link.climate; held = held_after (next_fate link.climate) (mail_of to parcel); own = link.own; closed = link.closed }
-
 -- the link after a parcel of which nothing went or is held: it is as before, but the fate is used up
 abbrev pub after_refusal : Channeled → Channeled
 after_refusal link = record { actor = link.actor; climate = after_fate link.climate; held = link.held; own = link.own; closed = link.closed }
 
--- A parcel was not sent whole. Either nothing went, and what was held stays; or a beginning of what should
--- go went, perhaps none of it. What was held goes last, so it is lost then; a late parcel is held.
+-- A parcel was not sent whole. Either it should go twice, nothing went, and what was held stays; or a beginning
+-- of what should go went, perhaps none of it. What was held goes last, so it is lost then; a late parcel is held.
 abbrev pub SendsPart : Channeled → Actor → Parcel → Channeled → Type 0
 SendsPart link to parcel link' =
-    (link' ≡ after_refusal link)
+    ((next_fate link.climate ≡ Twice) × (link' ≡ after_refusal link))
     ⊎ HandsPart (after_weather link to parcel) (handed (next_fate link.climate) link.actor to parcel link.held) link'
 
 -- the link after a post was told to every client: a client's own link tells its own client

@@ -382,8 +382,8 @@ impl<R: Wait + Copy> Link for ChannelLink<R> {
     ghost refused = { λ _. None };
 
     /// Sends a parcel through the link's weather, and what was held behind it. It waits for no other
-    /// actor. 903: memory was refused; either nothing went, and what was held stays, or a beginning of
-    /// what should go went, perhaps none of it, and what was held is lost.
+    /// actor. 903: memory was refused; either nothing went of a parcel that goes twice, and what was held
+    /// stays, or a beginning of what should go went, perhaps none of it, and what was held is lost.
     fn send(&mut self, to: Actor, parcel: Parcel) -> Result<(), LinkFault>
         ensures sent { OnOk result (self.new ≡ after_sending self.old to parcel) }
         ensures part { OnErr result (SendsPart self.old to parcel self.new) }

@@ -72,6 +72,7 @@ impl Passage {
         ensures handed { IfOk result (λ d. mails_of d ≡ handed (next_fate self.old.weather) self.old.actor to parcel self.old.late) }
         ensures held { OnOk result (self.new.late ≡ held_after (next_fate self.old.weather) (mail_of to parcel)) }
         ensures stays { OnErr result (self.new.late ≡ self.old.late) }
+        ensures twice { OnErr result (next_fate self.old.weather ≡ Fate.Twice) }
         ensures memory { IsOkUnless result LinkFault.Memory }
     {
         let mail = Mail {

@@ -1,5 +1,5 @@
--- Parts of an output: what the functions of a run owe one another. Who reads what `serve` promises has
--- no need of them.
+-- Parts of an output: what the functions of a run owe one another, and who reads settings himself. Who reads
+-- what `serve` promises has no need of them.
 use Rattle.std.specs.Prelude.{◌≡◌, ◌⊎◌, ℕ, ◌+◌, ◌<◌, ◌≤◌, ◌-◌, Vec, Bool, true, if◌then◌else◌, List, [], ◌++◌, replicate, length, Option, Some, None, Result, Ok, Err, IfErr}
 use Rattle.std.specs.Global.{Global}
 use Rattle.std.specs.Io.KnownBytes.{Appends, Consumes}
@@ -113,7 +113,7 @@ Starts c (Some xs) new (Ok s) = KnownLeft new (λ ys. opened c xs ≡ Ok (given 
 Starts c (Some xs) new (Err start.Read) = Unit {0}
 Starts c (Some xs) new (Err (start.Settings e)) = Refuses e (opened c xs)
 
--- A front of what was left was taken, of at most so many bytes.
+-- Of known bytes a front was taken, of at most so many.
 abbrev pub TakesAtMost : ℕ → Option (List ℕ) → Option (List ℕ) → Type 0
 TakesAtMost most old new = (front : List ℕ) × (length front ≤ most) × Consumes old new front
 

@@ -54,8 +54,8 @@ fn is_dashes(piece: &[u8]) -> bool
     piece == b"---".as_slice()
 }
 
-/// Reads up to the line of dashes and over it, and answers what stands before it, with its line feeds. No
-/// more than 131,072 bytes of the source are taken, whatever is answered.
+/// Reads up to the line of dashes and over it, and answers what stands before it, with its line feeds. Of
+/// bytes that are known no more than 131,072 are taken, whatever is answered.
 ///
 /// # Errors
 ///
@@ -94,7 +94,7 @@ pub fn read_head<R: Read>(alloc: Global, source: &mut LineReader<R>) -> Result<V
 }
 
 /// Reads the settings that an input of this command begins with, up to the line of dashes and over it, and
-/// judges them. No more than 131,072 bytes of the source are taken, whatever is answered.
+/// judges them. Of bytes that are known no more than 131,072 are taken, whatever is answered.
 ///
 /// # Errors
 ///

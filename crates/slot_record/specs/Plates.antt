@@ -53,7 +53,7 @@ abbrev pub FailedOnce : ℕ → ℕ → Type 0
 FailedOnce before now = Counts before now × (now ≤ before + 1)
 
 -- The size stays and the count of failures does not fall. It stays where no fault is answered; where one is,
--- one device call failed. So of a work of many calls the first that fails ends it.
+-- one device call failed. So a work of many calls makes none behind one that fails, since that might fail too.
 pub record Called {T E : Type 0} (old new : PlateState) (result : Result T E) : Type 0 where
   pub size : new.size ≡ old.size
   pub count : old.failures ≤ new.failures

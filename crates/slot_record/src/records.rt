@@ -191,8 +191,9 @@ impl<P: Plate> StableRecord for SlotRecord<P> {
         ensures spent { (result ≡ Err RecordFault.Spent) ↔ ((self.old.stuck ≡ false) × (length bytes.now ≤ MAX_RECORD_LEN) × (MAX_SEQUENCE ≤ self.old.sequence)) }
         // They come before the device is called.
         ensures unchanged { IfErr result (λ fault. (fault ≡ RecordFault.Device) ⊎ (self.new ≡ self.old)) }
-        // 301: one device call failed, which ended the work.
+        // One device call failed at most: the first that fails ends the work.
         ensures once { (P.state self.new.plate).failures ≤ (P.state self.old.plate).failures + 1 }
+        // 301.
         ensures device { result ≡ Err RecordFault.Device → Counts (P.state self.old.plate).failures (P.state self.new.plate).failures × FindsOnlyOr self.old.finds bytes.now self.new.finds × (self.new.stuck ≡ true) }
         ensures some { IsOneOrTwo self.new.finds }
         ensures count { (P.state self.old.plate).failures ≤ (P.state self.new.plate).failures }
@@ -232,8 +233,9 @@ impl<P: Plate> StableRecord for SlotRecord<P> {
         // Nothing else is answered.
         ensures faults { IfErr result IsReopenFault }
         ensures nothing_new { IfErr result (λ fault. FindsOnly self.old.finds self.new.finds) }
-        // 301: one device call failed, which ended the work.
+        // One device call failed at most: the first that fails ends the work.
         ensures once { (P.state self.new.plate).failures ≤ (P.state self.old.plate).failures + 1 }
+        // 301.
         ensures device { result ≡ Err RecordFault.Device → Counts (P.state self.old.plate).failures (P.state self.new.plate).failures × (self.new.stuck ≡ true) }
         // 304.
         ensures unchanged { result ≡ Err RecordFault.Memory → self.new ≡ self.old }

@@ -78,7 +78,7 @@ abbrev pub ResumedIsLawful : Type 0
 ResumedIsLawful = (b : List Ballot) (stations : List ExactStation) (attempts : List ℕ) → IsResumable b stations attempts →
     IsLawfulOpening (setting_of (resumed b stations attempts)) (forget (resumed b stations attempts))
 
--- And of sound stations only such a world is a lawful opening.
+-- And in a lawful opening of sound stations no floor or live attempt is above its client's attempt.
 abbrev pub OnlyWithinIsLawful : Type 0
 OnlyWithinIsLawful = (b : List Ballot) (stations : List ExactStation) (attempts : List ℕ) → AllByRecursion IsSoundStation stations →
     IsLawfulOpening (setting_of (resumed b stations attempts)) (forget (resumed b stations attempts)) → IsTrue (stations_within attempts stations)

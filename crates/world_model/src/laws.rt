@@ -61,9 +61,9 @@ pub fn exact_steps_are_allowed()
     lock_model::laws::hearing_is_exact();
 }
 
-/// A world in which nothing is kept can be opened under each list of ballots that cross, and one that is
-/// resumed from stations and attempts that fit is sound; of sound stations it is a lawful opening exactly where
-/// they fit.
+/// A world in which nothing is kept can be opened under each list of ballots that cross. One that is resumed
+/// from stations and attempts that fit is sound, and a lawful opening; and in a lawful opening of sound stations
+/// no floor or live attempt is above what its client has kept.
 pub fn openings_are_lawful()
     ensures empty { OpeningIsResumable }
     ensures sound { ResumedIsSound }
