@@ -1,16 +1,17 @@
 -- Reading a line, and writing a text, a part at a time.
-use Rattle.std.proofs.Common.{◌≡◌, ℕ, suc, ◌+◌, ◌-◌, ◌<◌, ◌≤◌, min, Bool, true, false, cond, List, [], ◌∷◌, ◌++◌, length, take, drop, Option, Some, None, IfSome, Ok, inl, inr, ◌⊎◌, refl, sym, ap, subst, ◌∙◌, arith, append_assoc}
+use Rattle.std.proofs.Common.{◌≡◌, ℕ, suc, ◌+◌, ◌-◌, ◌<◌, ◌≤◌, min, Bool, true, false, cond, List, [], ◌∷◌, ◌++◌, length, take, drop, Option, Some, None, IfSome, Result, Ok, inl, inr, ◌⊎◌, refl, sym, ap, subst, ◌∙◌, arith, append_assoc}
 use Rattle.std.specs.List.{All, onto_first, slice_split, slice_range, copy_within, list_any}
 use Rattle.std.specs.Io.KnownBytes.{prepend_known, Consumes, Keeps, Appends, IsAtEnd}
 use Rattle.std.proofs.lemmas.List.{append-nil, take-append-drop, length-take, length-take-le, length-drop, drop-take, drop-drop, take_all, take_at}
 use Rattle.std.proofs.lemmas.List.Elements.{All-append}
 use Rattle.std.proofs.lemmas.List.Folds.{list_any-append, list_any_none}
+use Rattle.std.proofs.KnownBytes.{Consumes-nil}
 use Rattle.std.proofs.Math.Nat.{min-le_left, le-min}
 use Rattle.std.proofs.Math.Seq.{take-add}
 use Rattle.std.proofs.lemmas.List.Splits.{slice_split_none, slice_split_at, slice_split-cons_no}
 use Rattle.line_streams.specs.declared.faults.StreamFault.{StreamFault}
 use Rattle.line_streams.specs.declared.reading.End.TheVariants.{LineFeed, Input, Limit}
-use Rattle.line_streams.specs.Streams.{is_line_feed, pieces, IsPlain, Fetches, TakesHeld, EndsLine, ReadsPiece, AppendsBeginning, Grows, LetsOut, with_gathered}
+use Rattle.line_streams.specs.Streams.{is_line_feed, pieces, IsPlain, Fetches, TakesHeld, TakesLine, EndsLine, ReadsPiece, AppendsBeginning, Grows, LetsOut, with_gathered}
 
 -- the first part of a list that is cut
 
@@ -116,6 +117,40 @@ pub some_held : (limit : ℕ) (held : List ℕ) → EndsLine limit held → 0 < 
 some_held limit [] (inl feed) = absurd (let z : false ≡ true = feed in cc)
 some_held limit (b ∷ held) (inl feed) = omega arith
 some_held limit held (inr long) = omega arith
+
+-- an answer that bytes are held isn't one that none is left
+pub is_found : (result : Result Bool StreamFault) (found : Bool) → result ≡ Ok true → result ≡ Ok found → found ≡ false → ⊥
+is_found result found held was none = absurd (let z : true ≡ false = cc in cc)
+
+no_bytes_plain : IsPlain []
+no_bytes_plain k d inside = absurd (omega arith)
+
+-- what the first round over what is held gives and takes, whatever stands behind: up to a line feed, or
+-- more bytes than the limit
+pub held_feed : (limit most : ℕ) (start held rest line after : List ℕ) (behind : Option (List ℕ)) (fed : Bool) → held ≡ start → line ≡ [] → TakesHeld {E = StreamFault} most (prepend_known held behind) (prepend_known rest behind) line after (Ok fed) → fed ≡ true
+    → ReadsPiece limit (prepend_known start behind) (prepend_known rest behind) after LineFeed × TakesLine {E = StreamFault} (prepend_known start behind) (prepend_known rest behind) after (Ok LineFeed)
+held_feed limit most start held rest line after behind fed same none k f =
+    let old = prepend_known start behind in
+    let new = prepend_known rest behind in
+    let (front, is, plain, few, gave) = subst (λ (b : Bool). TakesHeld {E = StreamFault} most (prepend_known held behind) new line after (Ok b)) f k in
+    let all : Consumes old new (front ++ 10 ∷ []) = subst (λ (bs : List ℕ). Consumes (prepend_known bs behind) new (front ++ 10 ∷ [])) same gave in
+    let alone : after ≡ front = is ∙ ap (λ (bs : List ℕ). bs ++ front) none in (
+      ends_at_feed limit old old new [] front after (Consumes-nil old) no_bytes_plain alone plain all,
+      (subst (λ (bs : List ℕ). IsPlain bs) (sym alone) plain, subst (λ (bs : List ℕ). Consumes old new (bs ++ 10 ∷ [])) (sym alone) all),
+    )
+
+pub held_long : (limit most : ℕ) (start held rest line after : List ℕ) (behind : Option (List ℕ)) (fed : Bool) → held ≡ start → line ≡ [] → TakesHeld {E = StreamFault} most (prepend_known held behind) (prepend_known rest behind) line after (Ok fed) → fed ≡ false → limit < length after
+    → ReadsPiece limit (prepend_known start behind) (prepend_known rest behind) after Limit × TakesLine {E = StreamFault} (prepend_known start behind) (prepend_known rest behind) after (Ok Limit)
+held_long limit most start held rest line after behind fed same none k f long =
+    let old = prepend_known start behind in
+    let new = prepend_known rest behind in
+    let (front, is, more, few, gave) = subst (λ (b : Bool). TakesHeld {E = StreamFault} most (prepend_known held behind) new line after (Ok b)) f k in
+    let alone : after ≡ front = is ∙ ap (λ (bs : List ℕ). bs ++ front) none in
+    let plain : IsPlain after = subst (λ (bs : List ℕ). IsPlain bs) (sym alone) more in
+    let all : Consumes old new after = subst (λ (bs : List ℕ). Consumes (prepend_known bs behind) new after) same (subst (λ (bs : List ℕ). Consumes (prepend_known held behind) new bs) (sym alone) gave) in (
+      is_too_long limit old new after all plain long,
+      (plain, subst (λ (bs : List ℕ). Consumes old new bs) (sym (append-nil after)) all),
+    )
 
 -- the bytes that are held
 

@@ -1,6 +1,6 @@
 // Bytes that were read and are still to be given.
 
-ghost use Rattle.std.specs.Prelude.{◌≡◌, ◌≢◌, ◌⊎◌, ◌<◌, ◌≤◌, ◌+◌, ◌++◌, ℕ, List, Option, [], length, Ok, IfOk, IfErr, OnOk, OnErr, true, false, vec_len};
+ghost use Rattle.std.specs.Prelude.{◌≡◌, ◌≢◌, ◌⊎◌, ◌<◌, ◌≤◌, ◌+◌, ◌++◌, ℕ, List, Option, [], length, Ok, IfOk, IfErr, OnOk, OnErr, true, false, vec_len, vec_capacity};
 ghost use Rattle.std.specs.List.{list_any};
 ghost use Rattle.std.specs.Io.{ReadsAtMost};
 ghost use Rattle.std.specs.Io.KnownBytes.{ReadConsumes, prepend_known};
@@ -60,13 +60,14 @@ impl ReadAhead {
     }
 
     /// Sees to it that bytes are held, by a read where there is none; answers `false` where none is
-    /// left. Where some are held the reader isn't asked. A fault is `Read`.
+    /// left. Where some are held the reader isn't asked. A fault is `Read`, and leaves nothing held.
     pub(crate) fn fetch<R: Read>(&mut self, reader: &mut R) -> Result<bool, StreamFault>
         ensures bytes { Fetches (prepend_known self.old (R.remaining reader.old)) (prepend_known self.new (R.remaining reader.new)) result }
         ensures some { IfOk result (λ found. found ≡ true → 0 < length self.new) }
         ensures held { 0 < length self.old → (result ≡ Ok true) × (self.new ≡ self.old) × (reader.new ≡ reader.old) }
         ensures room { length self.new ≤ MAX_AHEAD }
         ensures fault { IfErr result (λ e. e ≡ StreamFault.Read) }
+        ensures none { OnErr result (self.new ≡ []) }
     {
         if self.at < self.end {
             return Ok(true);
@@ -85,7 +86,7 @@ impl ReadAhead {
 
     /// Adds to the line what stands at the front of the bytes that are held, at most `most` bytes;
     /// answers whether a line feed followed, which was taken too. Else all of them were added, or as many as
-    /// may be. A fault is `Memory`, and changes nothing.
+    /// may be. A fault is `Memory`, where the line has no room for `most` bytes more, and changes nothing.
     pub(crate) fn take(&mut self, line: &mut Vec<u8>, most: usize) -> Result<bool, StreamFault>
         ensures bytes { (behind : Option (List ℕ)) → TakesHeld most (prepend_known self.old behind) (prepend_known self.new behind) line.old.items line.new.items result }
         ensures few { IfOk result (λ _. vec_len line.new ≤ vec_len line.old + most) }
@@ -93,6 +94,8 @@ impl ReadAhead {
         ensures all { IfOk result (λ fed. fed ≡ false → ((vec_len line.new ≡ vec_len line.old + most) × (most ≤ length self.old)) ⊎ ((vec_len line.new ≡ vec_len line.old + length self.old) × (list_any is_line_feed self.old ≡ false))) }
         ensures room { length self.new ≤ MAX_AHEAD }
         ensures fault { IfErr result (λ e. (e ≡ StreamFault.Memory) × (self.new ≡ self.old) × (line.new.items ≡ line.old.items)) }
+        ensures capacity { vec_capacity line.old ≤ vec_capacity line.new }
+        ensures full { OnErr result (vec_capacity line.old < vec_len line.old + most) }
     {
         let held = &self.room[self.at..self.end];
         let (count, feed) = plain_front(held, most);
@@ -107,11 +110,13 @@ impl ReadAhead {
     }
 }
 
-/// Adds the bytes. A fault is `Memory`, and adds none.
+/// Adds the bytes. A fault is `Memory`, where the line has no room for them, and adds none.
 fn add(line: &mut Vec<u8>, bytes: &[u8]) -> Result<(), StreamFault>
     ensures bytes { OnOk result (line.new.items ≡ line.old.items ++ bytes.now) }
     ensures none { OnErr result (line.new.items ≡ line.old.items) }
     ensures fault { IfErr result (λ e. e ≡ StreamFault.Memory) }
+    ensures capacity { vec_capacity line.old ≤ vec_capacity line.new }
+    ensures full { OnErr result (vec_capacity line.old < vec_len line.old + length bytes.now) }
 {
     if line.extend_from_slice(bytes).is_err() {
         return Err(StreamFault::Memory);

@@ -1,6 +1,6 @@
 // An input, line by line.
 
-ghost use Rattle.std.specs.Prelude.{◌≡◌, ◌≢◌, ◌≤◌, length, IfOk, IfErr, IfSome, true};
+ghost use Rattle.std.specs.Prelude.{◌≡◌, ◌≢◌, ◌<◌, ◌≤◌, ℕ, List, Option, [], length, IfOk, IfErr, IfSome, true, vec_capacity};
 ghost use Rattle.std.specs.Io.KnownBytes.{prepend_known};
 ghost use Rattle.std.specs.List.{list_any};
 ghost use Rattle.line_streams.specs.Streams.{is_line_feed, is_last, ends_no_line, ReadsPiece, TakesLine, FitsLimit, EndsLine};
@@ -48,13 +48,15 @@ impl ReadAhead {
     /// Reads on to the next line feed or to the end, and leaves in `line` what stands before it, in
     /// place of what stood there. Of a line that is longer than the limit a beginning is left there that is
     /// longer by a byte, and nothing behind that is taken. The reader is asked only where what was read ahead
-    /// has no line feed, and no more bytes than the limit.
+    /// has no line feed, and no more bytes than the limit; else what is given and taken is of what was
+    /// read ahead, whatever the reader has left. The room of `line` doesn't shrink.
     ///
     /// # Errors
     ///
-    /// `Read` where the reader fails or was asked as often as it may be, `Memory` where the line
-    /// needs room and memory was refused. Then `line` has what was taken of the line, which is within
-    /// the limit, and no line feed was taken.
+    /// `Read` where the reader fails or was asked as often as it may be: then nothing is held. `Memory`
+    /// where the line needs room and memory was refused: then bytes are still held, and `line` had no room
+    /// for a byte more than the limit. At both `line` has what was taken of the line, which is within the
+    /// limit, and no line feed was taken.
     pub fn read_line<R: Read>(
         &mut self,
         reader: &mut R,
@@ -65,8 +67,13 @@ impl ReadAhead {
         ensures taken { TakesLine (prepend_known self.old (R.remaining reader.old)) (prepend_known self.new (R.remaining reader.new)) line.new.items result }
         ensures few { FitsLimit limit line.new.items result }
         ensures asks { EndsLine limit self.old → reader.new ≡ reader.old }
+        ensures held { (behind : Option (List ℕ)) → EndsLine limit self.old → IfOk result (λ end. ReadsPiece limit (prepend_known self.old behind) (prepend_known self.new behind) line.new.items end) }
+        ensures held_taken { (behind : Option (List ℕ)) → EndsLine limit self.old → TakesLine (prepend_known self.old behind) (prepend_known self.new behind) line.new.items result }
         ensures ahead { length self.new ≤ MAX_AHEAD }
         ensures fault { IfErr result (λ e. e ≢ StreamFault.Write) }
+        ensures which { IfErr result (λ e. (e ≡ StreamFault.Read → self.new ≡ []) × (e ≡ StreamFault.Memory → 0 < length self.new)) }
+        ensures memory { IfErr result (λ e. e ≡ StreamFault.Memory → vec_capacity line.old ≤ limit) }
+        ensures room { vec_capacity line.old ≤ vec_capacity line.new }
     {
         line.clear();
         // Each round takes a byte at least, so the room up to the limit bounds them.
@@ -128,7 +135,8 @@ impl<R: Read> LineReader<R> {
         self.ahead.has_feed()
     }
 
-    /// Reads a line, as `ReadAhead::read_line` does.
+    /// Reads a line, as `ReadAhead::read_line` does. A line with room for a byte more than the limit is
+    /// never refused memory.
     ///
     /// # Errors
     ///
@@ -138,6 +146,8 @@ impl<R: Read> LineReader<R> {
         ensures taken { TakesLine self.old self.new line.new.items result }
         ensures few { FitsLimit limit line.new.items result }
         ensures fault { IfErr result (λ e. e ≢ StreamFault.Write) }
+        ensures memory { IfErr result (λ e. e ≡ StreamFault.Memory → vec_capacity line.old ≤ limit) }
+        ensures room { vec_capacity line.old ≤ vec_capacity line.new }
     {
         self.ahead.read_line(&mut self.reader, line, limit)
     }

@@ -1,12 +1,19 @@
-use Rattle.std.proofs.Common.{◌≡◌, ◌<◌, ◌∙◌, List, ℕ, length, vec_len, sym, subst, rules}
+use Rattle.std.proofs.Common.{◌≡◌, ◌<◌, ◌∙◌, true, List, ℕ, [], length, Ok, vec_len, sym, subst, rules}
 use Rattle.std.specs.Io.KnownBytes.{prepend_known, Consumes}
 use Rattle.std.proofs.lemmas.List.{append-nil}
 use Rattle.line_streams.specs.declared.holding.TheConstants.{MAX_AHEAD}
 use Rattle.line_streams.specs.Streams.{IsPlain, EndsLine}
-use Rattle.line_streams.proofs.StreamFacts.{line_ends, line_taken, part_taken, input_ends, is_too_long, no_end_yet, some_held}
+use Rattle.line_streams.proofs.StreamFacts.{line_ends, line_taken, part_taken, input_ends, is_too_long, no_end_yet, some_held, is_found, held_feed, held_long}
 use Rattle.line_streams.proofs.holding.ReadAhead.read_line.Given.{Over}
-use Rattle.line_streams.proofs.holding.ReadAhead.read_line.Goals.{Else-fed}
+use Rattle.line_streams.proofs.holding.ReadAhead.read_line.Goals.{Else-fed, After-fetch}
 use Rattle.line_streams.proofs.holding.ReadAhead.read_line.Goals as goal
+
+-- where what is held ends the line, this is the first round, and the reader isn't asked
+first_round : (g : Over) (c : After-fetch g) → EndsLine c.args.limit c.args.self.now → (c.fetch.result ≡ Ok true) × (c.fetch.new.self ≡ c.args.self.now) × (c.loop-found.line.items ≡ [])
+first_round g c ends =
+    let first = c.loop-found.invariant.asks ends in
+    let held = c.fetch.ensures.held (subst (λ (bs : List ℕ). 0 < length bs) (sym first.0) (some_held c.args.limit c.args.self.now ends)) in
+    (held.0, held.1 ∙ first.0, first.1)
 
 pub returns-then-not-found-clause-line : goal.returns-then-not-found-clause-line
 returns-then-not-found-clause-line g c =
@@ -48,6 +55,7 @@ loop-found-preserved g c =
       taken = taken;
       plain = plain;
       few = search rules;
+      room = search rules;
       asks = λ ends.
           let first = c.loop-found.invariant.asks ends in
           let same : c.fetch.new.self ≡ c.args.self.now = (c.fetch.ensures.held (subst (λ (bs : List ℕ). 0 < length bs) (sym first.0) (some_held c.args.limit c.args.self.now ends))).1 ∙ first.0 in
@@ -64,3 +72,33 @@ returns-then-len-limit-clause-taken g c =
     let left = g.R.Read.remaining in
     let (plain, taken) = round_taken g (goal.at.returns-then-len-limit-clause-taken g c).Else-fed in
     (plain, subst (λ (bs : List ℕ). Consumes (prepend_known c.args.self.now (left c.args.reader.now)) (prepend_known c.take.new.self (left c.fetch.new.reader)) bs) (sym (append-nil c.take.new.line.items)) taken)
+
+pub returns-then-not-found-clause-held : goal.returns-then-not-found-clause-held
+returns-then-not-found-clause-held g c = λ behind ends.
+    let first = first_round g (goal.at.returns-then-not-found-clause-held g c).After-fetch ends in
+    absurd (is_found c.fetch.result c.in_ok-found.found first.0 c.in_ok-found.was c.if-not-found.true)
+
+pub returns-then-not-found-clause-held_taken : goal.returns-then-not-found-clause-held_taken
+returns-then-not-found-clause-held_taken g c = λ behind ends.
+    let first = first_round g (goal.at.returns-then-not-found-clause-held_taken g c).After-fetch ends in
+    absurd (is_found c.fetch.result c.in_ok-found.found first.0 c.in_ok-found.was c.if-not-found.true)
+
+pub returns-then-fed-clause-held : goal.returns-then-fed-clause-held
+returns-then-fed-clause-held g c = λ behind ends.
+    let first = first_round g (goal.at.returns-then-fed-clause-held g c).After-fetch ends in
+    (held_feed c.args.limit _ c.args.self.now c.fetch.new.self c.take.new.self c.loop-found.line.items c.take.new.line.items behind c.in_ok-fed.fed first.1 first.2 (c.in_ok-fed.ensures.bytes behind) c.if-fed.true).0
+
+pub returns-then-fed-clause-held_taken : goal.returns-then-fed-clause-held_taken
+returns-then-fed-clause-held_taken g c = λ behind ends.
+    let first = first_round g (goal.at.returns-then-fed-clause-held_taken g c).After-fetch ends in
+    (held_feed c.args.limit _ c.args.self.now c.fetch.new.self c.take.new.self c.loop-found.line.items c.take.new.line.items behind c.in_ok-fed.fed first.1 first.2 (c.in_ok-fed.ensures.bytes behind) c.if-fed.true).1
+
+pub returns-then-len-limit-clause-held : goal.returns-then-len-limit-clause-held
+returns-then-len-limit-clause-held g c = λ behind ends.
+    let first = first_round g (goal.at.returns-then-len-limit-clause-held g c).After-fetch ends in
+    (held_long c.args.limit _ c.args.self.now c.fetch.new.self c.take.new.self c.loop-found.line.items c.take.new.line.items behind c.in_ok-fed.fed first.1 first.2 (c.in_ok-fed.ensures.bytes behind) c.if-fed.false (search rules)).0
+
+pub returns-then-len-limit-clause-held_taken : goal.returns-then-len-limit-clause-held_taken
+returns-then-len-limit-clause-held_taken g c = λ behind ends.
+    let first = first_round g (goal.at.returns-then-len-limit-clause-held_taken g c).After-fetch ends in
+    (held_long c.args.limit _ c.args.self.now c.fetch.new.self c.take.new.self c.loop-found.line.items c.take.new.line.items behind c.in_ok-fed.fed first.1 first.2 (c.in_ok-fed.ensures.bytes behind) c.if-fed.false (search rules)).1
