@@ -1,5 +1,5 @@
 -- What was taken of a text, line after line.
-use Rattle.std.proofs.Common.{◌≡◌, ◌≢◌, inl, inr, ℕ, ◌+◌, ◌<◌, ◌≤◌, Bool, true, false, List, [], ◌∷◌, ◌++◌, length, Option, Some, None, Result, Ok, Err, IfOk, IfErr, refl, sym, ap, subst, ◌∙◌, arith, append_assoc}
+use Rattle.std.proofs.Common.{◌≡◌, ◌≢◌, inl, inr, ℕ, ◌+◌, ◌<◌, ◌≤◌, Bool, true, false, List, [], ◌∷◌, ◌++◌, length, Option, Some, None, Result, Ok, Err, IsOk, IfOk, IfErr, OnErr, refl, sym, ap, subst, ◌∙◌, arith, append_assoc}
 use Rattle.std.specs.List.{All}
 use Rattle.std.specs.Io.KnownBytes.{Consumes}
 use Rattle.std.proofs.KnownBytes.{Consumes-nil, Consumes-trans}
@@ -8,9 +8,11 @@ use Rattle.std.proofs.lemmas.List.Elements.{All-nil, All-push}
 use Rattle.world_model.specs.declared.events.Event.{Event}
 use Rattle.world_model.specs.declared.events.Effect.{Effect}
 use Rattle.world_model.specs.declared.events.StepFault.{StepFault}
+use Rattle.world_model.specs.declared.events.StepFault.TheVariants as refusal
 use Rattle.world_model.specs.declared.exact.ExactWorld.{ExactWorld}
-use Rattle.world_model.specs.ExactWorlds.{step}
-use Rattle.world_model.specs.StepsOf.{Does}
+use Rattle.world_model.specs.ExactWorlds.{Steps, step, refusal_of}
+use Rattle.world_model.specs.Locality.{MemoryIsNoRefusal}
+use Rattle.world_model.specs.StepsOf.{Does, IsRefused, asks_for_memory}
 use Rattle.history_check.specs.declared.faults.LineFault.{LineFault}
 use Rattle.history_check.specs.declared.words.TheConstants.{MAX_LINE_LEN}
 use Rattle.history_check.specs.Events.{event_of}
@@ -69,7 +71,7 @@ read_taken text left piece Input r few = (few, read_ended MAX_LINE_LEN text left
 read_taken text left piece Limit r few = few
 
 -- these bytes were taken behind the lines
-behind_lines : (w v : ExactWorld) (text mid left : Option (List ℕ)) (count : ℕ) (line behind : List ℕ) → Took w text mid v count → IsPlain line → Consumes mid left (line ++ behind) → Takes w text left count line behind
+abbrev behind_lines : (w v : ExactWorld) (text mid left : Option (List ℕ)) (count : ℕ) (line behind : List ℕ) → Took w text mid v count → IsPlain line → Consumes mid left (line ++ behind) → Takes w text left count line behind
 behind_lines w v text mid left count line behind h plain taken = record {
   before = h.before;
   counted = h.counted;
@@ -90,7 +92,7 @@ part_behind w v text mid left count fault.Read short h part =
 part_behind w v text mid left count fault.Write short h part = absurd short
 part_behind w v text mid left count fault.Memory short h part =
     let (line, few, plain, taken) = part in
-    (count, line, Input, few, behind_lines w v text mid left count line [] h plain (alone mid left line taken))
+    (count, line, few, inl (behind_lines w v text mid left count line [] h plain (alone mid left line taken)))
 part_behind w v text mid left count fault.TooManyLines short h part = absurd short
 
 -- the next line couldn't be read
@@ -101,7 +103,7 @@ cut_left w v text mid left count piece e h short taken few = part_behind w v tex
 pub none_left : (w : ExactWorld) (text : Option (List ℕ)) → Leaves w text text (Err fault.Memory)
 none_left w text =
     let least : 0 ≤ MAX_LINE_LEN = omega arith in
-    (0, [], Input, least, behind_lines w w text text text 0 [] [] (took_none w text) (All-nil (λ (b : ℕ). is_line_feed b ≡ false)) (Consumes-nil text))
+    (0, [], least, inl (behind_lines w w text text text 0 [] [] (took_none w text) (All-nil (λ (b : ℕ). is_line_feed b ≡ false)) (Consumes-nil text)))
 
 -- no line is left
 pub over_left : (w v : ExactWorld) (text mid left : Option (List ℕ)) (count : ℕ) (piece : List ℕ) (end : End) (n : ℕ) → Took w text mid v count → ReadsPiece MAX_LINE_LEN mid left piece end → ends_no_line end piece ≡ true → Leaves w text left (Ok (Sound n))
@@ -121,14 +123,28 @@ pub bad_left : (w v : ExactWorld) (text mid left : Option (List ℕ)) (count num
 bad_left w v text mid left count number piece end c h at r taken few =
     (count, piece, end, at, taken_since text mid left (fed_lines h.before) piece end h.taken (read_taken mid left piece end r few), behind_lines w v text mid left count piece (feed_of end) h taken.0 taken.1)
 
+-- a step for which memory was refused would be taken
+would_go : MemoryIsNoRefusal → (v : ExactWorld) (x : Event) (f : StepFault) → IsRefused x (step v x) f → f ≡ refusal.Memory → (asks_for_memory x ≡ true) × IsOk (step v x)
+would_go never v x f (inl h) wants = absurd (never v x (ap (λ (s : Steps). refusal_of s) (h ∙ ap (λ (d : StepFault). Err d) wants)))
+would_go never v x f (inr h) wants = (h.1, h.2)
+
+-- memory was refused for the step of the line that was read
+asking_left : EventsAreSpelledOnce → MemoryIsNoRefusal → (w v : ExactWorld) (text mid left : Option (List ℕ)) (count : ℕ) (piece : List ℕ) (end : End) (x : Event) (f : StepFault)
+    → Took w text mid v count → count < MAX_LINES → ReadsPiece MAX_LINE_LEN mid left piece end → TakesLine {E = AuditFault} mid left piece (Ok end) → FitsLimit {E = AuditFault} MAX_LINE_LEN piece (Ok end) → event_of piece ≡ Ok x
+    → IsRefused x (step v x) f → f ≡ refusal.Memory → Leaves w text left (Err fault.Memory)
+asking_left spelled never w v text mid left count piece end x f h room r taken few said refused wants =
+    let (asks, goes) = would_go never v x f refused wants in
+    let whole = taken_since text mid left (fed_lines h.before) piece end h.taken (read_taken mid left piece end r few) in
+    (count, piece, short_line piece x said, inr (end, room, whole, behind_lines w v text mid left count piece (feed_of end) h taken.0 taken.1, (x, (spelled piece x).0 said, asks, goes)))
+
 -- the world refused the line, or memory was refused for it
-pub refused_left : (w v : ExactWorld) (text mid left : Option (List ℕ)) (count number : ℕ) (piece : List ℕ) (end : End) (x : Event) (f : StepFault) (result : Result Verdict AuditFault)
-    → Took w text mid v count → number ≡ count + 1 → ReadsPiece MAX_LINE_LEN mid left piece end → TakesLine {E = AuditFault} mid left piece (Ok end) → FitsLimit {E = AuditFault} MAX_LINE_LEN piece (Ok end) → event_of piece ≡ Ok x
-    → IfOk result (IsToldSo number f) → IfErr result (λ e. e ≡ fault.Memory) → Leaves w text left result
-refused_left w v text mid left count number piece end x f (Ok q) h at r taken few said so short =
+pub refused_left : EventsAreSpelledOnce → MemoryIsNoRefusal → (w v : ExactWorld) (text mid left : Option (List ℕ)) (count number : ℕ) (piece : List ℕ) (end : End) (x : Event) (f : StepFault) (result : Result Verdict AuditFault)
+    → Took w text mid v count → number ≡ count + 1 → count < MAX_LINES → ReadsPiece MAX_LINE_LEN mid left piece end → TakesLine {E = AuditFault} mid left piece (Ok end) → FitsLimit {E = AuditFault} MAX_LINE_LEN piece (Ok end) → event_of piece ≡ Ok x
+    → IsRefused x (step v x) f → IfOk result (IsToldSo number f) → IfErr result (λ e. e ≡ fault.Memory) → OnErr result (f ≡ refusal.Memory) → Leaves w text left result
+refused_left spelled never w v text mid left count number piece end x f (Ok q) h at room r taken few said refused so short wants =
     subst (λ (p : Verdict). Leaves w text left (Ok p)) (sym so.0) (bad_left w v text mid left count number piece end (cause.Refused f) h at r taken few)
-refused_left w v text mid left count number piece end x f (Err e) h at r taken few said so short =
-    subst (λ (d : AuditFault). Leaves w text left (Err d)) (sym short) (count, piece, end, short_line piece x said, behind_lines w v text mid left count piece (feed_of end) h taken.0 taken.1)
+refused_left spelled never w v text mid left count number piece end x f (Err e) h at room r taken few said refused so short wants =
+    subst (λ (d : AuditFault). Leaves w text left (Err d)) (sym short) (asking_left spelled never w v text mid left count piece end x f h room r taken few said refused wants)
 
 -- the line that was read goes on
 pub took_more : EventsAreSpelledOnce → (w v u : ExactWorld) (text mid left : Option (List ℕ)) (count : ℕ) (piece : List ℕ) (end : End) (x : Event) (o : Effect)

@@ -1,8 +1,12 @@
 -- What an audit has taken of its input, and so what it leaves there.
-use Rattle.std.specs.Prelude.{◌≡◌, ℕ, ◌+◌, ◌≤◌, List, [], ◌++◌, length, Option, Some, None, Result, Ok, Err}
+use Rattle.std.specs.Prelude.{◌≡◌, ◌⊎◌, ℕ, ◌+◌, ◌<◌, ◌≤◌, true, List, [], ◌++◌, length, Option, Some, None, Result, Ok, Err, IsOk}
 use Rattle.std.specs.List.{All}
 use Rattle.std.specs.Io.KnownBytes.{Consumes}
+use Rattle.world_model.specs.declared.events.Event.{Event}
 use Rattle.world_model.specs.declared.exact.ExactWorld.{ExactWorld}
+use Rattle.world_model.specs.ExactWorlds.{step}
+use Rattle.world_model.specs.StepsOf.{asks_for_memory}
+use Rattle.history_check.specs.Events.{IsSpelling}
 use Rattle.history_check.specs.declared.words.TheConstants.{MAX_LINE_LEN}
 use Rattle.line_streams.specs.declared.reading.End.{End}
 use Rattle.line_streams.specs.declared.reading.End.TheVariants.{LineFeed, Input, Limit}
@@ -44,12 +48,21 @@ LeavesBy w text left (Sound n) = HasEnded text left
 LeavesBy w text left (Unsound number c) =
     (count : ℕ) × (line : List ℕ) × (end : End) × (number ≡ count + 1) × IsTaken text left line end × Takes w text left count line (feed_of end)
 
+-- The line goes on with a run that led to this world, by an event for which memory is asked.
+abbrev pub GoesOnAsking : ExactWorld → List ℕ → Type 0
+GoesOnAsking v line = (e : Event) × IsSpelling line e × (asks_for_memory e ≡ true) × IsOk (step v e)
+
+-- Such a line was taken whole, behind as many as there may be before it.
+abbrev pub TakesAsking : ExactWorld → Option (List ℕ) → Option (List ℕ) → ℕ → List ℕ → Type 0
+TakesAsking w text left count line =
+    (end : End) × (count < MAX_LINES) × IsTaken text left line end × (t : Takes w text left count line (feed_of end)) × GoesOnAsking t.world line
+
 -- The same where no verdict is found: the lines that were taken lead somewhere. Behind them some bytes of a
--- line that is no longer than one may be were taken, where memory was refused perhaps the whole line; and
--- where there are too many lines, the one that is too many.
+-- line that is no longer than one may be were taken, and no line feed; or, where memory was refused, a whole
+-- line that goes on; or, where there are too many lines, the one that is too many.
 abbrev pub Leaves : ExactWorld → Option (List ℕ) → Option (List ℕ) → Result Verdict AuditFault → Type 0
 Leaves w text left (Ok v) = LeavesBy w text left v
 Leaves w text left (Err fault.Read) = (count : ℕ) × (line : List ℕ) × (length line ≤ MAX_LINE_LEN) × Takes w text left count line []
 Leaves w text left (Err fault.Write) = (v : Verdict) × LeavesBy w text left v
-Leaves w text left (Err fault.Memory) = (count : ℕ) × (line : List ℕ) × (end : End) × (length line ≤ MAX_LINE_LEN) × Takes w text left count line (feed_of end)
+Leaves w text left (Err fault.Memory) = (count : ℕ) × (line : List ℕ) × (length line ≤ MAX_LINE_LEN) × (Takes w text left count line [] ⊎ TakesAsking w text left count line)
 Leaves w text left (Err fault.TooManyLines) = (line : List ℕ) × (end : End) × IsTaken text left line end × Takes w text left MAX_LINES line (feed_of end)

@@ -15,6 +15,7 @@ use std::alloc::Global;
 use std::io::Read;
 use world_machine::World;
 use world_model::StepFault;
+use world_model::laws::steps_change_one_part;
 
 /// Reads the next line of a journal in place of what `piece` holds, without its line feed, and answers how
 /// it ended. It takes no more than 129 bytes of a line, which show it too long.
@@ -81,7 +82,8 @@ pub fn end_lines<R: Read>(
 }
 
 /// Takes the lines in the world, up to the end or to the first that is no event or is refused. A fault
-/// is `Read`, `Memory` or `TooManyLines`.
+/// is `Read`, `Memory` or `TooManyLines`, and comes before an unsound line: `Read` while a line is read,
+/// `Memory` before the first one, while one is read, or for a step that would be taken.
 pub fn judge_lines<R: Read>(
     alloc: Global,
     world: &mut World,
@@ -93,6 +95,7 @@ pub fn judge_lines<R: Read>(
     ensures left { Leaves world.old source.old source.new result }
 {
     events_are_spelled_once();
+    steps_change_one_part();
     let Ok(mut piece) = Vec::with_capacity(alloc, MAX_LINE_LEN + 1) else {
         return Err(AuditFault::Memory);
     };

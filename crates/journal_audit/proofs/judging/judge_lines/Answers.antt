@@ -78,10 +78,11 @@ returns-in-Err-read_event-clause-left g c =
 
 pub returns-in-Err-step-clause-left : goal.returns-in-Err-step-clause-left
 returns-in-Err-step-clause-left g c =
-    refused_left c.args.world.now c.loop-taken.world c.args.source.now c.loop-taken.source c.read_piece.new.source c.loop-taken.taken (c.loop-taken.taken + 1) c.read_piece.new.piece.items c.in-Ok-read_piece.end c.in-Ok-read_event.event c.in-Err-step.fault c.refused.result
-    c.loop-taken.invariant.1 refl c.in-Ok-read_piece.ensures.line c.in-Ok-read_piece.ensures.taken c.in-Ok-read_piece.ensures.few
+    refused_left c.events_are_spelled_once.ensures c.steps_change_one_part.ensures.memory c.args.world.now c.loop-taken.world c.args.source.now c.loop-taken.source c.read_piece.new.source c.loop-taken.taken (c.loop-taken.taken + 1)
+    c.read_piece.new.piece.items c.in-Ok-read_piece.end c.in-Ok-read_event.event c.in-Err-step.fault c.refused.result
+    c.loop-taken.invariant.1 refl c.loop-taken-test.true c.in-Ok-read_piece.ensures.line c.in-Ok-read_piece.ensures.taken c.in-Ok-read_piece.ensures.few
     (same_said c.read_piece.new.piece.items c.as_slice-line.result.now _ c.as_slice-line.ensures.value (sym c.in-Ok-read_event.ensures))
-    c.refused.ensures.verdict c.refused.ensures.memory
+    c.in-Err-step.ensures.exact.0 c.refused.ensures.verdict c.refused.ensures.memory c.refused.ensures.wanting
 
 pub returns-then-is_last-clause-left : goal.returns-then-is_last-clause-left
 returns-then-is_last-clause-left g c =
