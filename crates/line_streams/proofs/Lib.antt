@@ -1,2 +1,3 @@
 pub mod StreamFacts
 pub mod LineFacts
+pub mod WriteFacts

@@ -114,6 +114,10 @@ TakesHeld most old new line after (Err e) = Unit {0}
 abbrev pub AppendsBeginning : Option (List ℕ) → Option (List ℕ) → List ℕ → Type 0
 AppendsBeginning old new text = (front : List ℕ) × (back : List ℕ) × (text ≡ front ++ back) × Appends old new front
 
+-- a beginning of the text was appended, and not all of it
+abbrev pub AppendsPart : Option (List ℕ) → Option (List ℕ) → List ℕ → Type 0
+AppendsPart old new text = (front : List ℕ) × (back : List ℕ) × (text ≡ front ++ back) × (0 < length back) × Appends old new front
+
 -- the text was appended, or after a fault a beginning of it
 abbrev pub Puts : {U E : Type 0} → Option (List ℕ) → Option (List ℕ) → List ℕ → Result U E → Type 0
 Puts old new text (Ok u) = Appends old new text

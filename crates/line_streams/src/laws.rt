@@ -3,7 +3,7 @@
 ghost use Rattle.std.specs.Prelude.{◌≡◌};
 ghost use Rattle.line_streams.specs.Streams.{FedLinesComeFirst};
 
-use crate::{MAX_AHEAD, MAX_READS};
+use crate::{MAX_AHEAD, MAX_GATHERED, MAX_READS};
 
 /// The lines of a text that begins with lines, a line feed behind each, are these, and then those of
 /// what stands behind them.
@@ -12,8 +12,9 @@ pub fn fed_lines_come_first()
 {}
 
 /// The limits by number: at most 600,000,000 reads, and as many tries of writing one text; and at most
-/// 32,768 bytes that are read ahead.
+/// 32,768 bytes that are read ahead, and as many that are gathered.
 pub fn limits()
     ensures reads { MAX_READS ≡ 600000000 }
     ensures ahead { MAX_AHEAD ≡ 32768 }
+    ensures gathered { MAX_GATHERED ≡ 32768 }
 {}

@@ -23,4 +23,4 @@ mod writing;
 pub use faults::StreamFault;
 pub use holding::{MAX_AHEAD, ReadAhead};
 pub use reading::{End, LineReader, MAX_READS};
-pub use writing::{Gathered, write_text};
+pub use writing::{Gathered, MAX_GATHERED, write_text};

@@ -1,18 +1,18 @@
 // An output that is gathered before it is written.
 
-ghost use Rattle.std.specs.Prelude.{◌≡◌, ◌≢◌, ◌≤◌, ◌<◌, [], ◌++◌, length, take, IfErr, OnOk, true, nat_lt};
+ghost use Rattle.std.specs.Prelude.{◌≡◌, ◌≢◌, ◌+◌, ◌≤◌, ◌<◌, [], ◌++◌, length, take, IfErr, OnOk, OnErr, IsOk, true, false, nat_lt};
 ghost use Rattle.std.specs.Io.{WritesAtMost};
 ghost use Rattle.std.specs.Io.KnownBytes.{WriteAppends, Appends, Keeps};
 ghost use Rattle.std.specs.IoError.{error_kind};
-ghost use Rattle.line_streams.specs.Streams.{LetsOut, Grows, Puts, with_gathered};
-ghost use Rattle.line_streams.specs.declared.writing.TheConstants.{ROOM};
+ghost use Rattle.line_streams.specs.Streams.{LetsOut, Grows, Puts, AppendsPart, with_gathered};
+ghost use Rattle.line_streams.specs.declared.writing.TheConstants.{MAX_GATHERED};
 
 use crate::{MAX_READS, StreamFault};
 use std::io::{Error, ErrorKind, Write};
 use std::marker::Model;
 
-/// How many bytes are gathered.
-const ROOM: usize = 32_768;
+/// How many bytes are gathered at most.
+pub const MAX_GATHERED: usize = 32_768;
 
 /// Bytes that are to be written. They are passed a writer where some may be written, the same one at
 /// each call.
@@ -21,19 +21,19 @@ const ROOM: usize = 32_768;
 #[derive(Drop)]
 pub struct Gathered {
     // The bytes before `end`.
-    room: [u8; ROOM],
+    room: [u8; MAX_GATHERED],
     end: usize,
 }
 
 impl Model for Gathered {
     ghost use Rattle.std.specs.Prelude.{ℕ, ◌≤◌, List, take};
-    ghost use Rattle.line_streams.specs.declared.writing.TheConstants.{ROOM};
+    ghost use Rattle.line_streams.specs.declared.writing.TheConstants.{MAX_GATHERED};
 
     ghost Value = { List ℕ };
 
     ghost view = { λ s. take s.end s.room };
 
-    ghost invariant = { λ s. s.end ≤ ROOM };
+    ghost invariant = { λ s. s.end ≤ MAX_GATHERED };
 }
 
 impl Gathered {
@@ -42,35 +42,37 @@ impl Gathered {
         ensures { result ≡ [] }
     {
         Gathered {
-            room: [0; ROOM],
+            room: [0; MAX_GATHERED],
             end: 0,
         }
     }
 
     /// Whether another byte can be gathered.
     fn has_room(&self) -> bool
-        ensures { result ≡ nat_lt (length self.now) ROOM }
+        ensures { result ≡ nat_lt (length self.now) MAX_GATHERED }
     {
-        self.end < ROOM
+        self.end < MAX_GATHERED
     }
 
     /// Gathers what there is room for, and answers how many bytes that are.
     fn gather(&mut self, text: &[u8]) -> usize
         ensures bound { result ≤ length text.now }
         ensures bytes { self.new ≡ self.old ++ take result text.now }
-        ensures some { length self.old < ROOM → 0 < length text.now → 0 < result }
+        ensures some { length self.old < MAX_GATHERED → 0 < length text.now → 0 < result }
     {
-        let count = text.len().min(ROOM - self.end);
+        let count = text.len().min(MAX_GATHERED - self.end);
         self.room[self.end..self.end + count].copy_from_slice(&text[..count]);
         self.end += count;
         count
     }
 
-    /// Writes what is gathered. After a fault, which is `Write`, what was not written is still
-    /// gathered.
+    /// Writes what is gathered; where nothing is, the writer is not asked. After a fault, which is
+    /// `Write`, what was not written is still gathered, and that is not nothing.
     pub fn let_out<W: Write>(&mut self, writer: &mut W) -> Result<(), StreamFault>
         ensures bytes { LetsOut (W.contents writer.old) (W.contents writer.new) self.old self.new }
         ensures empty { OnOk result (self.new ≡ []) }
+        ensures rest { OnErr result (0 < length self.new) }
+        ensures nothing { self.old ≡ [] → (writer.new ≡ writer.old) × IsOk result }
         ensures fault { IfErr result (λ e. e ≡ StreamFault.Write) }
     {
         let (count, whole) = write_out(writer, &self.room[..self.end]);
@@ -86,7 +88,8 @@ impl Gathered {
     fn make_room<W: Write>(&mut self, writer: &mut W) -> Result<(), StreamFault>
         ensures kept { Keeps (with_gathered (W.contents writer.old) self.old) (with_gathered (W.contents writer.new) self.new) }
         ensures grows { Grows (W.contents writer.old) (W.contents writer.new) }
-        ensures room { OnOk result (length self.new < ROOM) }
+        ensures room { OnOk result (length self.new < MAX_GATHERED) }
+        ensures quiet { length self.old < MAX_GATHERED → (writer.new ≡ writer.old) × (self.new ≡ self.old) × IsOk result }
         ensures fault { IfErr result (λ e. e ≡ StreamFault.Write) }
     {
         if self.has_room() {
@@ -95,10 +98,14 @@ impl Gathered {
         self.let_out(writer)
     }
 
-    /// Gathers the text, and writes wherever there is no room for more. After a fault, which is
-    /// `Write`, a beginning of the text was written or is gathered.
+    /// Gathers the text, and writes wherever there is no room for more: where the text fits, nothing
+    /// is written. After a fault, which is `Write`, a beginning of the text was written or is
+    /// gathered, and not all of it.
     pub fn put<W: Write>(&mut self, writer: &mut W, text: &[u8]) -> Result<(), StreamFault>
         ensures text { Puts (with_gathered (W.contents writer.old) self.old) (with_gathered (W.contents writer.new) self.new) text.now result }
+        ensures part { OnErr result (AppendsPart (with_gathered (W.contents writer.old) self.old) (with_gathered (W.contents writer.new) self.new) text.now) }
+        ensures quiet { length self.old + length text.now ≤ MAX_GATHERED → (writer.new ≡ writer.old) × IsOk result }
+        ensures held { length self.old + length text.now ≤ MAX_GATHERED → self.new ≡ self.old ++ text.now }
         ensures grows { Grows (W.contents writer.old) (W.contents writer.new) }
         ensures fault { IfErr result (λ e. e ≡ StreamFault.Write) }
     {
@@ -113,9 +120,12 @@ impl Gathered {
     }
 }
 
-/// Writes the text at once. After a fault, which is `Write`, a beginning of it was written.
+/// Writes the text at once; for an empty one the writer is not asked. After a fault, which is
+/// `Write`, a beginning of it was written, and not all of it.
 pub fn write_text<W: Write>(writer: &mut W, text: &[u8]) -> Result<(), StreamFault>
     ensures text { Puts (W.contents writer.old) (W.contents writer.new) text.now result }
+    ensures part { OnErr result (AppendsPart (W.contents writer.old) (W.contents writer.new) text.now) }
+    ensures nothing { text.now ≡ [] → (writer.new ≡ writer.old) × IsOk result }
     ensures fault { IfErr result (λ e. e ≡ StreamFault.Write) }
 {
     let (_, whole) = write_out(writer, text);
@@ -129,6 +139,8 @@ pub fn write_text<W: Write>(writer: &mut W, text: &[u8]) -> Result<(), StreamFau
 fn write_out<W: Write>(writer: &mut W, text: &[u8]) -> (usize, bool)
     ensures bound { result.0 ≤ length text.now }
     ensures whole { result.1 ≡ true → result.0 ≡ length text.now }
+    ensures fewer { result.1 ≡ false → result.0 < length text.now }
+    ensures nothing { text.now ≡ [] → (writer.new ≡ writer.old) × (result.1 ≡ true) }
     ensures bytes { Appends (W.contents writer.old) (W.contents writer.new) (take result.0 text.now) }
 {
     let mut count = 0;
