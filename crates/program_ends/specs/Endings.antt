@@ -2,7 +2,7 @@
 use Rattle.std.specs.Prelude.{◌≡◌, ◌⊎◌, ℕ, Bool, true, false, List, ◌++◌, Option, codes, string_bytes}
 use Rattle.std.specs.Fmt.{decimal}
 use Rattle.std.specs.Io.KnownBytes.{Keeps, Appends}
-use Rattle.line_streams.specs.Streams.{AppendsBeginning}
+use Rattle.line_streams.specs.Streams.{AppendsPart}
 use Rattle.operator_cli.specs.declared.faults.ServeFault.{ServeFault}
 use Rattle.operator_cli.specs.declared.faults.ServeFault.TheVariants as fault
 use Rattle.operator_cli.specs.Faults.{serve_fault_number}
@@ -13,10 +13,10 @@ use Rattle.program_ends.specs.declared.wording.Unserved.{Unserved}
 use Rattle.program_ends.specs.declared.wording.Unserved.TheVariants as unserved
 use Rattle.program_ends.specs.Wordings.{HasSort}
 
--- A text went to the second writer: all of it, or a beginning.
+-- A text went to the second writer: all of it, or a beginning and not all.
 abbrev pub Says : Option (List ℕ) → Option (List ℕ) → List ℕ → Bool → Type 0
 Says old new text true = Appends old new text
-Says old new text false = AppendsBeginning old new text
+Says old new text false = AppendsPart old new text
 
 -- `fault 933`
 abbrev pub fault_text : ServeFault → List ℕ
@@ -46,11 +46,11 @@ pub record Writers : Type 0 where
   pub errors_old : Option (List ℕ)
   pub errors_new : Option (List ℕ)
 
--- A text went to the first writer, and the status is 0; or that failed, which is told as such.
+-- A text went to the first writer, and the status is 0; or not all of it did, which is told as a fault.
 abbrev pub Shows : List ℕ → Writers → Ended → Type 0
 Shows text w e =
     (Appends w.old w.new text × (e.status ≡ 0) × (e.told ≡ true) × Keeps w.errors_old w.errors_new)
-    ⊎ (AppendsBeginning w.old w.new text × TellsFault fault.Write w.errors_old w.errors_new e)
+    ⊎ (AppendsPart w.old w.new text × TellsFault fault.Write w.errors_old w.errors_new e)
 
 -- the text is one of `clap`
 abbrev pub ShowsHelp : Writers → Ended → Type 0
