@@ -18,6 +18,7 @@ use Rattle.journal_audit.specs.declared.faults.AuditFault.{AuditFault}
 use Rattle.journal_audit.specs.declared.faults.AuditFault.TheVariants as fault
 use Rattle.journal_audit.specs.declared.verdicts.Verdict.{Verdict}
 use Rattle.journal_audit.specs.Judging.{CutsShort, EndsLines}
+use Rattle.journal_audit.specs.Leavings.{LeavesBy}
 use Rattle.journal_audit.specs.Verdicts.{Finds, reaches, text_lines}
 use Rattle.journal_audit.proofs.LineFacts.{line_comes, never_long}
 use Rattle.run_picture.specs.Pictures.{Drawn, Told, marks_of_step, after_step, marks_behind, drawn_behind, end_place}
@@ -48,6 +49,11 @@ out_of_memory w text e h = subst (λ (x : AuditFault). Finds w text (Err x)) (sy
 pub ends_so : (w : ExactWorld) (text : Option (List ℕ)) (v : Verdict) (r : Result Drawing AuditFault) → Finds w text (Ok v) → EndsWith v r → Finds w text (found r)
 ends_so w text v (Ok d) h e = subst (λ (x : Verdict). Finds w text (Ok x)) (sym e) h
 ends_so w text v (Err e) h s = short w text e s
+
+-- what is left by a verdict is left where the picture ends with it
+pub left_so : (w : ExactWorld) (text left : Option (List ℕ)) (v : Verdict) (r : Result Drawing AuditFault) → LeavesBy w text left v → EndsWith v r → IfOk r (λ d. LeavesBy w text left d.verdict)
+left_so w text left v (Ok d) h e = subst (λ (x : Verdict). LeavesBy w text left x) (sym e) h
+left_so w text left v (Err e) h s = tt
 
 -- What was drawn so far and what the rest has are what the whole history has.
 pub record Same (w v : ExactWorld) (hist rest : List Told) (first d : Drawn) (old new : Option (List Stroke)) : Type 0 where

@@ -20,7 +20,7 @@ pub enum CanvasFault {
 
 /// Where pictures go: each is begun, gets its marks one after another, and is ended.
 ///
-/// After a fault nothing is drawn any more.
+/// What a call that answers a fault has done is not promised.
 pub trait Canvas {
     /// What was done on it, in order, where it knows it.
     ghost drawn: { Self → Option (List Stroke) };

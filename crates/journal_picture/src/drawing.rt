@@ -1,5 +1,7 @@
 // A journal, drawn line by line.
 
+ghost use Rattle.std.specs.Prelude.{IfOk};
+ghost use Rattle.journal_audit.specs.Leavings.{LeavesBy};
 ghost use Rattle.journal_audit.specs.Verdicts.{Finds};
 ghost use Rattle.run_picture.specs.Pictures.{opened};
 ghost use Rattle.journal_picture.specs.Drawings.{found, found_beside, DrawsHistory, DrawsJournal};
@@ -28,6 +30,7 @@ fn draw_steps<R: Read, C: Canvas>(
     requires { Unit {0} }
     ensures verdict { Finds world.old source.old (found_beside result) }
     ensures drawn { DrawsHistory world.old drawer source.old (C.drawn canvas.old) (C.drawn canvas.new) world.new result }
+    ensures left { IfOk result (λ r. LeavesBy world.old source.old source.new r.1) }
 {
     events_are_spelled_once();
     said_numbers_fit();
@@ -76,13 +79,13 @@ fn draw_steps<R: Read, C: Canvas>(
 ///
 /// It ends where an audit would, `journal_audit::audit_lines`, with the same verdict: at the end of the lines,
 /// or at the first that is no event or is refused. The lines before that one are drawn, and then what
-/// lasts still, what was said and never taken or heard, and the line that does not go on.
+/// lasts still, what was said and never taken or heard, and the line that does not go on. What is left of
+/// the input then is what an audit leaves that finds the same.
 ///
 /// # Errors
 ///
-/// `Read` (816) where the reader fails or was asked as often as it may be, `Write` (817) where the canvas
-/// says so, `Memory` (818) where memory was refused, `TooManyLines` (819) where there are more lines than
-/// a journal may have. Then a beginning of the marks was drawn.
+/// `TooManyLines` (819), only where there are more lines than a journal may have; `Read` (816), `Write` (817),
+/// `Memory` (818). When these come, and what was drawn and taken then, is not promised.
 pub fn draw_lines<R: Read, C: Canvas>(
     alloc: Global,
     world: World,
@@ -94,6 +97,7 @@ pub fn draw_lines<R: Read, C: Canvas>(
     requires { Unit {0} }
     ensures verdict { Finds world source.old (found result) }
     ensures drawn { DrawsJournal world (opened part lasting.now) source.old (C.drawn canvas.old) (C.drawn canvas.new) result }
+    ensures left { IfOk result (λ d. LeavesBy world source.old source.new d.verdict) }
 {
     let mut world = world;
     let Ok(drawer) = Drawer::new(alloc, part, lasting) else {

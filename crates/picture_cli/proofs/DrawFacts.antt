@@ -1,5 +1,6 @@
 -- What is found of an input, and what is told of it.
 use Rattle.std.proofs.Common.{◌≡◌, ◌⊎◌, inl, inr, ℕ, ◌+◌, List, [], ◌∷◌, ◌++◌, map, Option, Some, None, Result, Ok, Err, refl, sym, ap, subst, ◌∙◌, append_assoc, arith}
+use Rattle.std.specs.Prelude.{IsErrOf}
 use Rattle.std.specs.List.{range_with_len}
 use Rattle.std.proofs.lemmas.List.FromFn.{map-range_with_len_more}
 use Rattle.lock_model.specs.Ballots.{node_count}
@@ -35,7 +36,7 @@ use Rattle.journal_picture.specs.Strokes.{Stroke, with_strokes}
 use Rattle.journal_picture.specs.Strokes as stroke
 use Rattle.picture_cli.specs.declared.serving.Shown.{Shown}
 use Rattle.picture_cli.specs.declared.serving.Shown.TheVariants as shown
-use Rattle.picture_cli.specs.Drawing.{IsFoundBehind, ShowsOpened, ShowsInput, FindsBehind, DrawsBehind, DrawsOpened, DrawsPart, TellsAsAnAudit, down_at_first, picture_behind, told_verdict, told_shown, unless_sound}
+use Rattle.picture_cli.specs.Drawing.{IsFoundBehind, HasRightSettings, ShowsOpened, ShowsInput, KeepsRefused, FindsBehind, DrawsBehind, DrawsOpened, DrawsPart, TellsAsAnAudit, down_at_first, picture_behind, told_verdict, told_shown, unless_sound}
 
 -- the world is that of the settings
 behind_so : (s : Start) (ys : List ℕ) (w : ExactWorld) (opening : Result (Given × List (List ℕ)) SettingsFault) (r : Result Verdict AuditFault) → opening ≡ Ok (given s, lines_in (pieces ys)) → w ≡ all_down s.settings → IsFound w (Some ys) r → IsFoundBehind opening r
@@ -47,16 +48,50 @@ verdict_shown spelled s w None left v h e f = tt
 verdict_shown spelled s w (Some xs) None v h e f = absurd h
 verdict_shown spelled s w (Some xs) (Some ys) v h e f = behind_so s ys w (opened command.Audit xs) (Ok v) h e (verdict_found spelled w (Some ys) v f)
 
+right_so : (s : Start) (ys : List ℕ) (opening : Result (Given × List (List ℕ)) SettingsFault) → opening ≡ Ok (given s, lines_in (pieces ys)) → HasRightSettings opening
+right_so s ys opening o = subst HasRightSettings (sym o) tt
+
+-- no memory for a world, whose settings are read
+pub unmade_shown : (s : Start) (input left : Option (List ℕ)) → Starts command.Audit input left (Ok s) → ShowsInput input (Err serving.Memory)
+unmade_shown s None left h = tt
+unmade_shown s (Some xs) None h = absurd h
+unmade_shown s (Some xs) (Some ys) h = right_so s ys (opened command.Audit xs) h
+
 pub fault_shown : EventsAreSpelledOnce → (s : Start) (w : ExactWorld) (input left : Option (List ℕ)) (f : ServeFault) → Starts command.Audit input left (Ok s) → w ≡ all_down s.settings → FindsBehind w left (Err f) → ShowsInput input (Err f)
 fault_shown spelled s w None left f h e k = tt
 fault_shown spelled s w (Some xs) None f h e k = absurd h
 fault_shown spelled s w (Some xs) (Some ys) serving.Read h e k = tt
 fault_shown spelled s w (Some xs) (Some ys) serving.Write h e k = absurd k
-fault_shown spelled s w (Some xs) (Some ys) serving.Memory h e k = tt
-fault_shown spelled s w (Some xs) (Some ys) (serving.Audit audit.Read) h e k = tt
-fault_shown spelled s w (Some xs) (Some ys) (serving.Audit audit.Write) h e k = tt
-fault_shown spelled s w (Some xs) (Some ys) (serving.Audit audit.Memory) h e k = tt
+fault_shown spelled s w (Some xs) (Some ys) serving.Memory h e k = right_so s ys (opened command.Audit xs) h
+fault_shown spelled s w (Some xs) (Some ys) (serving.Audit audit.Read) h e k = right_so s ys (opened command.Audit xs) h
+fault_shown spelled s w (Some xs) (Some ys) (serving.Audit audit.Write) h e k = right_so s ys (opened command.Audit xs) h
+fault_shown spelled s w (Some xs) (Some ys) (serving.Audit audit.Memory) h e k = right_so s ys (opened command.Audit xs) h
 fault_shown spelled s w (Some xs) (Some ys) (serving.Audit audit.TooManyLines) h e k = behind_so s ys w (opened command.Audit xs) (Err audit.TooManyLines) h e (length_found spelled w (Some ys) k)
+
+-- What stays as it is.
+
+-- where a world isn't drawn for want of memory, no picture was begun
+pub fault_kept : {A : Type 0} (w : ExactWorld) (left : Option (List ℕ)) (f : ServeFault) (old new : A) → FindsBehind w left (Err f) → (IsErrOf {T = Verdict} (Err f) serving.Memory → new ≡ old) → KeepsRefused (Err f) old new
+fault_kept w left serving.Read old new h k = absurd h
+fault_kept w left serving.Write old new h k = tt
+fault_kept w left serving.Memory old new h k = k refl
+fault_kept w left (serving.Audit e) old new h k = tt
+
+-- then nothing was drawn
+pub fault_drawn : (input : Option (List ℕ)) (p : Part) (f : ServeFault) (old new : Option (List Stroke)) → KeepsRefused (Err f) old new → DrawsPart input p old new (Err f)
+fault_drawn input p serving.Read old new h = h
+fault_drawn input p serving.Write old new h = tt
+fault_drawn input p serving.Memory old new h = h
+fault_drawn input p (serving.Audit e) old new h = tt
+
+-- what is seen of it stays so too
+pub seen_kept : {A B : Type 0} (see : A → B) (r : Result Shown ServeFault) (old new : A) → KeepsRefused r old new → KeepsRefused r (see old) (see new)
+seen_kept see (Ok (shown.Drawn v)) old new h = tt
+seen_kept see (Ok (shown.Refused e)) old new h = ap see h
+seen_kept see (Err serving.Read) old new h = ap see h
+seen_kept see (Err serving.Write) old new h = tt
+seen_kept see (Err serving.Memory) old new h = ap see h
+seen_kept see (Err (serving.Audit e)) old new h = tt
 
 -- What is drawn.
 

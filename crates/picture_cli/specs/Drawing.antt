@@ -1,6 +1,6 @@
 -- What the drawing program does: what it finds of an input, what it draws of it, its status, and what it says.
 -- Which marks a history has is said where they are made.
-use Rattle.std.specs.Prelude.{◌≡◌, ◌⊎◌, ℕ, ◌==◌, if◌then◌else◌, List, [], ◌∷◌, ◌++◌, map, Option, Some, None, Result, Ok, Err}
+use Rattle.std.specs.Prelude.{◌≡◌, ◌⊎◌, ℕ, ◌==◌, true, if◌then◌else◌, List, [], ◌∷◌, ◌++◌, map, Option, Some, None, Result, Ok, Err}
 use Rattle.std.specs.List.{range_with_len}
 use Rattle.clap.specs.Words.{Row, Kinds, fault_of}
 use Rattle.lock_messages.specs.declared.ids.Actor.TheVariants as actor
@@ -44,17 +44,23 @@ abbrev pub IsFoundBehind : Result (Given × List (List ℕ)) SettingsFault → R
 IsFoundBehind (Err e) r = ⊥
 IsFoundBehind (Ok parts) r = found_in (all_down parts.0.settings) parts.1 ≡ r
 
+-- the settings of an input that opens so are right
+abbrev pub HasRightSettings : Result (Given × List (List ℕ)) SettingsFault → Type 0
+HasRightSettings (Err e) = ⊥
+HasRightSettings (Ok parts) = Unit {0}
+
 -- What came of an input that opens so: the verdict on its lines; or its settings are refused; or they are too
--- many lines. That the picture can't be written is told as an audit tells it. Of other faults nothing is said.
+-- many lines. That the picture can't be written is told as an audit tells it. Of the other faults it is said that
+-- the settings are right, but of the one that they couldn't be read nothing is.
 abbrev pub ShowsOpened : Result (Given × List (List ℕ)) SettingsFault → Result Shown ServeFault → Type 0
 ShowsOpened opening (Ok (shown.Drawn v)) = IsFoundBehind opening (Ok v)
 ShowsOpened opening (Ok (shown.Refused e)) = Refuses e opening
 ShowsOpened opening (Err serving.Read) = Unit {0}
 ShowsOpened opening (Err serving.Write) = ⊥
-ShowsOpened opening (Err serving.Memory) = Unit {0}
-ShowsOpened opening (Err (serving.Audit audit.Read)) = Unit {0}
-ShowsOpened opening (Err (serving.Audit audit.Write)) = Unit {0}
-ShowsOpened opening (Err (serving.Audit audit.Memory)) = Unit {0}
+ShowsOpened opening (Err serving.Memory) = HasRightSettings opening
+ShowsOpened opening (Err (serving.Audit audit.Read)) = HasRightSettings opening
+ShowsOpened opening (Err (serving.Audit audit.Write)) = HasRightSettings opening
+ShowsOpened opening (Err (serving.Audit audit.Memory)) = HasRightSettings opening
 ShowsOpened opening (Err (serving.Audit audit.TooManyLines)) = IsFoundBehind opening (Err audit.TooManyLines)
 
 -- the same, where the bytes are known: the input opens as that of an audit
@@ -62,11 +68,15 @@ abbrev pub ShowsInput : Option (List ℕ) → Result Shown ServeFault → Type 0
 ShowsInput None r = Unit {0}
 ShowsInput (Some input) r = ShowsOpened (opened command.Audit input) r
 
--- where settings are refused, something stays as it is
+-- Something stays as it is where no picture is begun: settings are refused or couldn't be read, or there was no
+-- memory for their world.
 abbrev pub KeepsRefused : {A : Type 0} → Result Shown ServeFault → A → A → Type 0
 KeepsRefused (Ok (shown.Drawn v)) old new = Unit {0}
 KeepsRefused (Ok (shown.Refused e)) old new = new ≡ old
-KeepsRefused (Err f) old new = Unit {0}
+KeepsRefused (Err serving.Read) old new = new ≡ old
+KeepsRefused (Err serving.Write) old new = Unit {0}
+KeepsRefused (Err serving.Memory) old new = new ≡ old
+KeepsRefused (Err (serving.Audit f)) old new = Unit {0}
 
 -- Before the first line of a journal each node and each client is down.
 
@@ -102,12 +112,15 @@ abbrev pub DrawsFound : Option (List ℕ) → Part → Option (List Stroke) → 
 DrawsFound None p old new v = Unit {0}
 DrawsFound (Some input) p old new v = DrawsOpened (opened command.Audit input) p old new v
 
--- What is drawn of a part of an input: its picture; or nothing, where settings are refused. Of a picture that was
--- cut short by a fault nothing is said.
+-- What is drawn of a part of an input: its picture; or nothing, where settings are refused or couldn't be read, or
+-- there was no memory for their world. Of a picture that was cut short by another fault nothing is said.
 abbrev pub DrawsPart : Option (List ℕ) → Part → Option (List Stroke) → Option (List Stroke) → Result Shown ServeFault → Type 0
 DrawsPart input p old new (Ok (shown.Drawn v)) = DrawsFound input p old new v
 DrawsPart input p old new (Ok (shown.Refused e)) = new ≡ old
-DrawsPart input p old new (Err f) = Unit {0}
+DrawsPart input p old new (Err serving.Read) = new ≡ old
+DrawsPart input p old new (Err serving.Write) = Unit {0}
+DrawsPart input p old new (Err serving.Memory) = new ≡ old
+DrawsPart input p old new (Err (serving.Audit f)) = Unit {0}
 
 -- What is told of what came of an input, and the status: what an audit prints, but that a sound journal needs
 -- no word.
@@ -122,8 +135,14 @@ told_shown (shown.Refused e) = refusal_output e
 abbrev pub EndsTelling : Output → Option (List ℕ) → Option (List ℕ) → Ended → Type 0
 EndsTelling o old new e = EndsSaying o.status o.text old new e
 
+-- a sound journal needs no word, so there is nothing that can't be told
+abbrev pub TellsSound : Shown → Ended → Type 0
+TellsSound (shown.Drawn (Sound n)) e = e.told ≡ true
+TellsSound (shown.Drawn (Unsound number c)) e = Unit {0}
+TellsSound (shown.Refused f) e = Unit {0}
+
 abbrev pub EndsShown : Result Shown ServeFault → Option (List ℕ) → Option (List ℕ) → Ended → Type 0
-EndsShown (Ok s) old new e = EndsTelling (told_shown s) old new e
+EndsShown (Ok s) old new e = EndsTelling (told_shown s) old new e × TellsSound s e
 EndsShown (Err f) old new e = TellsFault f old new e
 
 -- What was done on the page before, and what has been after.

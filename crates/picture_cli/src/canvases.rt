@@ -1,5 +1,7 @@
 // A canvas that writes SVG.
 
+ghost use Rattle.std.specs.Prelude.{◌≡◌};
+
 use journal_picture::{Canvas, CanvasFault};
 use line_streams::Gathered;
 use picture_svg::{Frame, push_end, push_head, push_mark};
@@ -22,8 +24,10 @@ pub struct SvgCanvas<'a, W> {
 }
 
 impl<'a, W: Write> SvgCanvas<'a, W> {
-    /// Nothing is drawn yet.
-    pub fn new(alloc: Global, writer: &'a mut W) -> SvgCanvas<'a, W> {
+    /// Nothing is drawn yet, and nothing written.
+    pub fn new(alloc: Global, writer: &'a mut W) -> SvgCanvas<'a, W>
+        ensures { result.writer ≡ writer.entry }
+    {
         SvgCanvas {
             alloc,
             frame: Frame {

@@ -6,7 +6,7 @@ ghost use Rattle.std.specs.Vec.Iter.{into_iter_items};
 ghost use Rattle.lock_messages.specs.declared.ids.TheConstants.{MAX_NODES};
 ghost use Rattle.operator_cli.specs.Outputs.{refusal_output};
 ghost use Rattle.program_ends.specs.Endings.{EndsUnread};
-ghost use Rattle.picture_cli.specs.Drawing.{EndsTelling, told_verdict, told_shown, DrawsInput, Runs};
+ghost use Rattle.picture_cli.specs.Drawing.{EndsTelling, told_verdict, told_shown, TellsSound, DrawsInput, Runs};
 
 use crate::reading::{Undrawn, read_words};
 use crate::serving::{Shown, draw_journal};
@@ -24,7 +24,8 @@ use std::io::{ErrorKind, Read, Write};
 
 /// Tells a verdict; a journal that is sound needs no word.
 fn tell_found<E: Write>(verdict: Verdict, errors: &mut E) -> Ended
-    ensures { EndsTelling (told_verdict verdict) (E.contents errors.old) (E.contents errors.new) result }
+    ensures telling { EndsTelling (told_verdict verdict) (E.contents errors.old) (E.contents errors.new) result }
+    ensures sound { TellsSound (Shown.Drawn verdict) result }
 {
     let told = match verdict {
         Verdict::Sound(_) => {
@@ -53,7 +54,8 @@ fn tell_refused<E: Write>(fault: SettingsFault, errors: &mut E) -> Ended
 
 /// Tells what came of a journal.
 fn tell_shown<E: Write>(shown: Shown, errors: &mut E) -> Ended
-    ensures { EndsTelling (told_shown shown) (E.contents errors.old) (E.contents errors.new) result }
+    ensures telling { EndsTelling (told_shown shown) (E.contents errors.old) (E.contents errors.new) result }
+    ensures sound { TellsSound shown result }
 {
     match shown {
         Shown::Drawn(verdict) => tell_found(verdict, errors),
@@ -131,9 +133,10 @@ where
 /// that help and the version are written there, with status 0 (`fault 932` and 1 where that fails). The status is
 /// 0 where the journal is sound; 1 where it isn't, and `errors` gets the verdict's line, as `rwvote audit` prints
 /// it; 2 where the settings are refused: then the page stays as it is, and `settings fault N` is told on `errors`.
-/// A fault is told there as `fault N`, with status 1. Other words are wrong, and so is one that is not UTF-8, and
-/// a value that its option doesn't take: a text on `errors` says so, and the status is 2. Where memory is refused
-/// while words are read, `fault 933` is told, with status 1.
+/// A fault is told there as `fault N`, with status 1; where it is that settings couldn't be read (931), or that there
+/// was no memory for their world (933), the page stays as it is too. Other words are wrong, and so is one that is not
+/// UTF-8, and a value that its option doesn't take: a text on `errors` says so, and the status is 2. Where memory is
+/// refused while words are read, `fault 933` is told, with status 1.
 ///
 /// Contracts speak of what the reader has left, of what was drawn on the page and of what it and `errors` hold,
 /// where these are known. The caller owes sixteen pairs of policies.

@@ -8,8 +8,9 @@
 //! The crate promises the status and what is said, by the contract of `run`: those of an audit of the same
 //! input, but that a sound journal needs no word (`laws`). Which words are right, and which part of a journal they
 //! name, is what `clap` finds in them; and what is drawn is the picture of that part, begun, with all marks that
-//! `journal_picture` has of it and no others, and ended. Refused settings leave the page as it is. `Drawing` and
-//! `Words` in `specs/` say so, for every page: how `SvgCanvas` spells what is drawn on it is tested.
+//! `journal_picture` has of it and no others, and ended. Settings that are refused or can't be read leave the page
+//! as it is, and so does want of memory for their world. `Drawing` and `Words` in `specs/` say so, for every page:
+//! how `SvgCanvas` spells what is drawn on it is tested.
 //!
 //! It stands on `operator_cli` for settings and the world that they open, `program_ends` for what is said of
 //! faults and of words, `journal_picture`, `picture_svg`, `run_picture`, `journal_audit`, `history_check`,

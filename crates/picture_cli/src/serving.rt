@@ -1,6 +1,6 @@
 // A journal and its settings, drawn.
 
-ghost use Rattle.std.specs.Prelude.{◌≡◌, ◌≤◌, ◌++◌, ◌∷◌, [], ℕ, List, Option, Err, IfOk, OnOk, length, map};
+ghost use Rattle.std.specs.Prelude.{◌≡◌, ◌≢◌, ◌≤◌, ◌++◌, ◌∷◌, [], ℕ, List, Option, Err, IfOk, OnOk, IsErrOf, length, map};
 ghost use Rattle.std.specs.List.{range_with_len};
 ghost use Rattle.lock_messages.specs.declared.ids.TheConstants.{MAX_NODES, MAX_CLIENTS};
 ghost use Rattle.lock_messages.specs.Ids.{IsNode, IsClient};
@@ -97,6 +97,7 @@ fn all_down(alloc: Global, nodes: u8, clients: u16) -> Result<Vec<Lasting>, Allo
 /// A canvas's fault, as one of an audit.
 fn told(fault: CanvasFault) -> ServeFault
     ensures told { result ≡ fault_on fault }
+    ensures begun { result ≢ ServeFault.Memory }
     ensures found { (w : ExactWorld) (left : Option (List ℕ)) → FindsBehind w left (Err result) }
 {
     match fault {
@@ -117,6 +118,7 @@ fn draw_world<R: Read, C: Canvas>(
     requires { settings.now.clients ≤ MAX_CLIENTS }
     ensures found { FindsBehind world source.old result }
     ensures drawn { DrawsBehind world (node_count settings.now.ballots) settings.now.clients part source.old (C.drawn canvas.old) (C.drawn canvas.new) result }
+    ensures unbegun { IsErrOf result ServeFault.Memory → canvas.new ≡ canvas.old }
 {
     let (nodes, clients) = (settings.ballots.nodes(), settings.clients);
     let Ok(lasting) = all_down(alloc, nodes, clients) else {
@@ -148,15 +150,16 @@ fn refused(fault: StartFault) -> Result<Shown, ServeFault>
 ///
 /// What is found of the journal is what an audit of it finds. The picture is begun with a column for each actor
 /// of the settings, gets the marks that `draw_lines` draws from the world in which all of them are down, and is
-/// ended where that says. Where settings are refused, the canvas stays as it is.
+/// ended where that says. Where settings are refused, and after 931 and 933, the canvas stays as it is.
 ///
 /// Contracts speak of what the reader has left and of what was done on the canvas, where these are known. The
 /// caller owes sixteen pairs of policies.
 ///
 /// # Errors
 ///
-/// Those of `rwvote audit`: 816 to 819 where the journal is read, 931 where the settings are, 933 where
-/// there is no memory for a world. Then at most a beginning of the picture was drawn.
+/// Those of `rwvote audit`: 816 to 819 where the journal is read and drawn, 931 where the settings are read, 933
+/// where there is no memory for a world. All but 931 come of settings that are right. What is drawn where a fault
+/// of 816 to 819 ends it is not promised.
 pub fn draw_journal<R: Read, C: Canvas>(
     alloc: Global,
     policies: Policies,

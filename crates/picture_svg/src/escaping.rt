@@ -25,7 +25,7 @@ fn push_byte(out: &mut String, byte: u8) -> Result<(), AllocError>
 ///
 /// # Errors
 ///
-/// Memory was refused; then a beginning of it was added.
+/// Memory was refused. What was added then is not promised.
 pub fn push_escaped(out: &mut String, text: &[u8]) -> Result<(), AllocError>
     ensures { OnOk result (string_bytes out.new ≡ string_bytes out.old ++ escaped text.now) }
 {

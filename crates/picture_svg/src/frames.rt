@@ -74,7 +74,7 @@ impl Frame {
     }
 
     /// The picture's width.
-    pub fn width(&self) -> u64 {
+    pub(crate) fn width(&self) -> u64 {
         self.behind_clients(self.clients as u32)
             .saturating_add(10)
             .max(LEAST_WIDTH)

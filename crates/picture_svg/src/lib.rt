@@ -4,9 +4,9 @@
 //! own, which a browser shows at the pointer. The texts are made one after another, and none of them is
 //! looked at again: how high the picture is stands in its end, where it isn't known before.
 //!
-//! Between two tags, and in quotes, no text stands but by `push_escaped`, whose contract says what becomes
-//! of each byte: so nothing that a name could have ends a text or an attribute. Beyond that the crate
-//! promises that it is safe and returns; how marks look is tested.
+//! The contract of `push_escaped` says what is added for each byte of a text, and `laws` that nothing of it ends
+//! a text or an attribute, or begins a tag. Titles, texts of lines and labels are added by it, which no contract
+//! says. Beyond that the crate promises that it is safe and returns; how marks look is tested.
 //!
 //! It stands on `run_picture`, `history_check` for the text of an event, `world_model`, `lock_model` and
 //! `lock_messages`.

@@ -212,7 +212,7 @@ fn push_stop(
 ///
 /// # Errors
 ///
-/// Memory was refused; then a beginning of it was added.
+/// Memory was refused. What was added then is not promised.
 pub fn push_mark(
     alloc: Global,
     out: &mut String,
@@ -233,7 +233,7 @@ pub fn push_mark(
 ///
 /// # Errors
 ///
-/// Memory was refused; then a beginning of it was added.
+/// Memory was refused. What was added then is not promised.
 pub fn push_head(
     alloc: Global,
     out: &mut String,
@@ -286,7 +286,7 @@ fn push_about(
 ///
 /// # Errors
 ///
-/// Memory was refused; then a beginning of it was added.
+/// Memory was refused. What was added then is not promised.
 pub fn push_end(out: &mut String, end: &Place) -> Result<(), AllocError> {
     let height = depth(end) + BELOW;
     writeln!(

@@ -1,6 +1,6 @@
 // The drawer: it takes one step after another, and hands out marks.
 
-ghost use Rattle.std.specs.Prelude.{◌≡◌, ◌≤◌, ◌<◌, ◌+◌, ◌++◌, map, IfOk, OnOk, IfErr, IsErrOf};
+ghost use Rattle.std.specs.Prelude.{◌≡◌, ◌≤◌, ◌<◌, ◌+◌, ◌++◌, map, Err, IfOk, OnOk, IfErr, IsErrOf};
 ghost use Rattle.std.specs.Option.{option_to_list};
 ghost use Rattle.run_picture.specs.Pictures.{told, opened, came, one_if, is_about, or_same, after_at, marks_at, wants_message, wants_number, concerns, is_drawn, place_of, here, ended_marks, arrows, own_mark, marks_of_step, about_after, said_after, lasts_after, newly_said, after_step, open_marks, lost_mark};
 
@@ -228,13 +228,14 @@ impl Drawer {
 
     /// Takes the next step: answers the drawer behind it, and the step's marks.
     ///
-    /// Errors: as many lines were drawn as a picture may have (`Full`), want of memory. Then the drawer is
-    /// gone.
+    /// Errors: `Full` where as many lines were drawn as a picture may have, and only there; `Memory` where
+    /// memory was refused. Then the drawer is gone.
     #[tactic(auto, unfolding(crate::specs::Pictures::marks_of_step, crate::specs::Pictures::after_step))]
     pub fn take(self, alloc: Global, step: &Step) -> Result<(Drawer, Vec<Mark>), DrawFault>
         ensures marks { IfOk result (λ r. r.1.items ≡ marks_of_step self (told step.now)) }
         ensures after { IfOk result (λ r. r.0 ≡ after_step self (told step.now)) }
         ensures full { IsErrOf result DrawFault.Full → MAX_ROWS ≤ self.rows }
+        ensures fills { MAX_ROWS ≤ self.rows → result ≡ Err DrawFault.Full }
     {
         if self.count >= MAX_ROWS {
             return Err(DrawFault::Full);
