@@ -1,9 +1,11 @@
 use Rattle.std.proofs.Common.{◌≡◌, ◌∙◌, ◌+◌, ◌≤◌, Ok, refl, sym, subst, arith}
 use Rattle.journal_audit.specs.declared.verdicts.TheConstants.{MAX_LINES}
 use Rattle.journal_audit.specs.declared.verdicts.Cause.TheVariants as cause
+use Rattle.journal_audit.specs.declared.verdicts.Verdict.{Verdict}
 use Rattle.journal_audit.specs.declared.verdicts.Verdict.TheVariants.{Sound}
+use Rattle.journal_audit.specs.Leavings.{LeavesBy}
 use Rattle.journal_audit.proofs.JudgeFacts.{SoFar, is_over, is_bad, is_refused, is_over_now, goes_on, ends, same_said, same_line}
-use Rattle.journal_audit.proofs.LeftFacts.{over_left, last_left, bad_left, refused_left, took_more, most_left}
+use Rattle.journal_audit.proofs.LeftFacts.{over_left, last_left, bad_left, took_more, most_left}
 use Rattle.journal_picture.proofs.DrawFacts.{drawn_over, drawn_bad, drawn_refused, drawn_on, drawn_last}
 use Rattle.journal_picture.proofs.TellFacts.{fits}
 use Rattle.journal_picture.proofs.drawing.draw_steps.Goals as goal
@@ -31,7 +33,9 @@ pub returns-in-Ok-refused : goal.returns-in-Ok-refused
 returns-in-Ok-refused g c = record {
   verdict = is_refused c.events_are_spelled_once.ensures c.args.world.now c.loop-taken.world c.args.source.now c.loop-taken.source c.read_piece.new.source c.loop-taken.taken (c.loop-taken.taken + 1) c.read_piece.new.piece.items c.in-Ok-read_piece.end c.in-Ok-read_event.event c.in-Err-step.fault (Ok c.in-Ok-refused.verdict) c.loop-taken.invariant.so_far refl c.loop-taken-test.true c.in-Ok-read_piece.ensures.line (same_line c.in-Ok-read_piece.end c.read_piece.new.piece.items c.as_slice-line.result.now _ c.as_slice-line.ensures.value (sym c.ends_no_line.ensures ∙ c.if-ends_no_line.false)) (same_said c.read_piece.new.piece.items c.as_slice-line.result.now _ c.as_slice-line.ensures.value (sym c.in-Ok-read_event.ensures)) c.in-Err-step.ensures.exact.0 c.in-Ok-refused.ensures.verdict tt;
   drawn = drawn_refused c.args.world.now c.loop-taken.world c.step.new.self c.args.source.now c.loop-taken.source c.read_piece.new.source c.loop-taken.taken c.read_piece.new.piece.items c.in-Ok-read_piece.end c.in-Ok-read_event.event c.in-Err-step.fault c.args.drawer c.loop-taken.drawer (g.C.Canvas.drawn c.args.canvas.now) (g.C.Canvas.drawn c.loop-taken.canvas) _ c.loop-taken.invariant.drawn c.in-Ok-read_piece.ensures.line (same_line c.in-Ok-read_piece.end c.read_piece.new.piece.items c.as_slice-line.result.now _ c.as_slice-line.ensures.value (sym c.ends_no_line.ensures ∙ c.if-ends_no_line.false)) (same_said c.read_piece.new.piece.items c.as_slice-line.result.now _ c.as_slice-line.ensures.value (sym c.in-Ok-read_event.ensures)) c.in-Err-step.ensures.exact c.in-Ok-refused.ensures.verdict.1;
-  left = refused_left c.args.world.now c.loop-taken.world c.args.source.now c.loop-taken.source c.read_piece.new.source c.loop-taken.taken (c.loop-taken.taken + 1) c.read_piece.new.piece.items c.in-Ok-read_piece.end c.in-Ok-read_event.event c.in-Err-step.fault (Ok c.in-Ok-refused.verdict) c.loop-taken.invariant.left refl c.in-Ok-read_piece.ensures.line c.in-Ok-read_piece.ensures.taken c.in-Ok-read_piece.ensures.few (same_said c.read_piece.new.piece.items c.as_slice-line.result.now _ c.as_slice-line.ensures.value (sym c.in-Ok-read_event.ensures)) c.in-Ok-refused.ensures.verdict tt;
+  left =
+      subst (λ (v : Verdict). LeavesBy c.args.world.now c.args.source.now c.read_piece.new.source v) (sym c.in-Ok-refused.ensures.verdict.0)
+      (bad_left c.args.world.now c.loop-taken.world c.args.source.now c.loop-taken.source c.read_piece.new.source c.loop-taken.taken (c.loop-taken.taken + 1) c.read_piece.new.piece.items c.in-Ok-read_piece.end (cause.Refused c.in-Err-step.fault) c.loop-taken.invariant.left refl c.in-Ok-read_piece.ensures.line c.in-Ok-read_piece.ensures.taken c.in-Ok-read_piece.ensures.few);
 }
 
 pub returns-then-is_last : goal.returns-then-is_last
