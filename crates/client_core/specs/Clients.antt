@@ -80,9 +80,6 @@ skipped_in (Chosen t place) = []
 skipped_in (Asking p) = p.skipped
 skipped_in (Inside p) = p.skipped
 
-abbrev pub skipped_of : Client → List ℕ
-skipped_of c = skipped_in c.state
-
 -- the ticket is the client's own, and of its latest attempt
 pub record IsOwn (number latest : ℕ) (t : Ticket) : Type 0 where
   pub client : t.client ≡ number

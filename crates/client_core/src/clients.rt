@@ -6,7 +6,7 @@ ghost use Rattle.lock_model.specs.ExactHearing.{is_counted};
 ghost use Rattle.lock_messages.specs.Messages.{named_node};
 ghost use Rattle.lock_model.specs.Ballots.{HasAnyNode, HasPlace, node_count};
 ghost use Rattle.vote_weights.specs.Sets.{has_node};
-ghost use Rattle.client_core.specs.Clients.{phase_of, ticket_of, place_of, softened_ticket, granted_of, skipped_of, IsLawfulClient};
+ghost use Rattle.client_core.specs.Clients.{phase_of, ticket_of, place_of, softened_ticket, granted_of, IsLawfulClient};
 ghost use Rattle.client_core.specs.Calls.{at_rest, begun, begin_answer, asking, entered, MayEnter, MaySoften, softened, MayLeave, left, release_of, said_inside, message_for, ReleasesAll, SoftensAll, heard_inside, HearsInside, heard_by, counted, AddsVote, after_hearing, Hears, IsOpen, skipping};
 
 use crate::hearing::{heard_at_rest, heard_of_ticket, heard_softened, is_node_of, node_of};

@@ -65,9 +65,6 @@ nothing_begun a b same = record { whose = ap (λ (v : Visits). v.whose) same; ba
 pub entering_begins : (a b : Visits) → b ≡ visits_entering a → BeginsNothing a b
 entering_begins a b more = record { whose = ap (λ (v : Visits). v.whose) more; ballots = ap (λ (v : Visits). v.ballots) more; none = ap (λ (v : Visits). v.begins) more }
 
-pub nothing_on : (a b c : Visits) → BeginsNothing a b → c ≡ b → BeginsNothing a c
-nothing_on a b c first same = record { whose = ap (λ (v : Visits). v.whose) same ∙ first.whose; ballots = ap (λ (v : Visits). v.ballots) same ∙ first.ballots; none = ap (λ (v : Visits). v.begins) same ∙ first.none }
-
 -- the ballots of a log stay
 ballots_after : (v : Visits) (e : Event) → (visits_after v e).ballots ≡ v.ballots
 ballots_after v (event.Begin c m x place) = refl

@@ -1,7 +1,6 @@
 -- One step after the other, to the fault by which a client ends.
 use Rattle.std.proofs.Common.{◌≡◌, ◌⊎◌, inl, inr, ℕ, Bool, false, List, refl, sym, subst, arith}
 use Rattle.lock_messages.specs.declared.ids.Actor.{Actor}
-use Rattle.lock_messages.specs.declared.ids.TheConstants.{MAX_ATTEMPT}
 use Rattle.client_core.specs.declared.phases.Phase.TheVariants as phase
 use Rattle.client_core.specs.declared.phases.State.{State}
 use Rattle.client_core.specs.declared.phases.State.TheVariants.{Idle, Chosen, Asking, Inside}
@@ -16,7 +15,7 @@ use Rattle.actor_steps.specs.Steps.{HasFailed, IsBookFault}
 use Rattle.actor_steps.specs.Endings.{falls_of, FailuresFollow, EndsBy, EndsFrom}
 use Rattle.actor_steps.proofs.EndFacts.{none_fallen, failures_stay}
 use Rattle.client_loop.specs.Standing.{Stands, part_of}
-use Rattle.client_loop.specs.Endings.{IsOutside, HasSpentAttempts, EndsAsking, EndsOneAttempt, IsAttemptFault, ClientEndsBy, ClientEndsFrom, ClientEndsSomehow}
+use Rattle.client_loop.specs.Endings.{IsOutside, EndsAsking, EndsOneAttempt, IsAttemptFault, ClientEndsBy, ClientEndsFrom, ClientEndsSomehow}
 
 -- a client ends as any actor does
 ends-too : (f : RunFault) (l : OwnLog) (stuck spent : Bool) (before now : ℕ) → EndsBy f l stuck spent before now → ClientEndsBy f l stuck spent before now
@@ -71,11 +70,6 @@ idle-part Idle h = refl
 idle-part (Chosen t place) h = absurd (let clash : phase.Chosen ≡ phase.Idle = h in cc)
 idle-part (Asking p) h = absurd (let clash : phase.Asking ≡ phase.Idle = h in cc)
 idle-part (Inside p) h = absurd (let clash : phase.Inside ≡ phase.Idle = h in cc)
-
-pub spent_attempts : (l : OwnLog) (finds : List (List ℕ)) (c : Client) (n : ℕ) (stuck spent : Bool) (a b : ℕ) → Stands l finds c → (phase_of c ≡ phase.Idle) × (c.attempt ≡ MAX_ATTEMPT) → ClientEndsFrom fault.Spent n l stuck spent a b
-spent_attempts l finds c n stuck spent a b h last =
-    let so : HasSpentAttempts (ClientPart (part_of c)) = (idle-part c.state last.0, last.1) in
-    record { ends = λ start since. inr (subst HasSpentAttempts (sym h.part) so) }
 
 -- a client that rests is outside
 pub is_outside : (l : OwnLog) (finds : List (List ℕ)) (c : Client) → Stands l finds c → phase_of c ≡ phase.Idle → IsOutside (part_now l)

@@ -88,9 +88,6 @@ below_one n = grind (arith, nat_tests)
 below_more : (number n : ℕ) → 1 ≤ number → is_below (number + 1) n ≡ ((number == n) || is_below number n)
 below_more number n low = grind (arith, nat_tests)
 
-pub among_below : (nodes number n : ℕ) → number ≡ nodes + 1 → (nat_le 1 n && nat_le n nodes) ≡ is_below number n
-among_below nodes number n e = grind (arith, nat_tests)
-
 pub gone_more : (number n : ℕ) (gone before : List ℕ) → 1 ≤ number → has_node gone n ≡ (is_below number n || has_node before n) →
     has_node (with_node gone number) n ≡ (is_below (number + 1) n || has_node before n)
 gone_more number n gone before low h =
@@ -140,9 +137,6 @@ skips_if gone number before after false is low h =
 pub skips_gone_more : (gone : List ℕ) (number : ℕ) (before after : Client) → 1 ≤ number → Skips (is_gone_below gone number) before after →
     Skips (is_gone_below gone (number + 1)) before (if has_node gone number then skipping after number else after)
 skips_gone_more gone number before after low h = skips_if gone number before after (has_node gone number) refl low h
-
-pub gone_among : (nodes number n : ℕ) (gone : List ℕ) → number ≡ nodes + 1 → ((nat_le 1 n && nat_le n nodes) && has_node gone n) ≡ is_gone_below gone number n
-gone_among nodes number n gone e = ap (λ (b : Bool). b && has_node gone n) (among_below nodes number n e)
 
 pub enough_alike : (b : Ballot) (mode : Mode) (p q : ℕ → Bool) → ((n : ℕ) → HasNode b n → p n ≡ q n) → IsEnough b mode p → IsEnough b mode q
 enough_alike b mode p q h enough = subst (λ (v : ℕ). needed b mode ≤ v) (votes_alike b p q h) enough

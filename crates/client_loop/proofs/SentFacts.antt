@@ -10,6 +10,7 @@ use Rattle.lock_model.specs.ExactHearing.{is_node_of}
 use Rattle.lossy_link.specs.declared.parcels.Sending.{Sending}
 use Rattle.lossy_link.specs.declared.parcels.Sending.TheVariants as sending
 use Rattle.lossy_link.specs.Links.{one_more, all_more}
+use Rattle.lossy_link.proofs.GivenFacts.{more_and_more, one_is_more, none_more}
 use Rattle.client_core.specs.declared.phases.State.{State}
 use Rattle.client_core.specs.declared.phases.State.TheVariants.{Idle, Chosen, Asking, Inside}
 use Rattle.client_core.specs.Clients.{Client}
@@ -115,18 +116,6 @@ sayto_sends l l' finds c who n number m said done s same has is added =
     sent_more l l' (event.SayTo who n) done added
     ∙ ap (λ (xs : List Message). sent_of l ++ map (sending_to n (number_of done)) xs) says
     ∙ ap (λ (d : Effect). sent_of l ++ sending_to n (number_of d) m ∷ []) is
-
-more_and_more : (before : Option (List Sending)) (xs ys : List Sending) → all_more (all_more before xs) ys ≡ all_more before (xs ++ ys)
-more_and_more None xs ys = refl
-more_and_more (Some zs) xs ys = ap Some (append_assoc zs xs ys)
-
-one_is_more : (before : Option (List Sending)) (x : Sending) → one_more before x ≡ all_more before (x ∷ [])
-one_is_more None x = refl
-one_is_more (Some zs) x = refl
-
-none_more : (given : Option (List Sending)) → all_more given [] ≡ given
-none_more None = refl
-none_more (Some ys) = ap Some (append-nil ys)
 
 -- one more in the log, and one more over the link
 pub one_follows : (l l' : OwnLog) (x : Sending) (given given' : Option (List Sending)) → sent_of l' ≡ sent_of l ++ x ∷ [] → given' ≡ one_more given x → SentFollows l l' given given'

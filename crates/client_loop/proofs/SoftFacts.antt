@@ -1,20 +1,16 @@
 -- What softening makes of a client's part.
-use Rattle.std.proofs.Common.{◌≡◌, ℕ, zero, suc, ◌+◌, ◌-◌, ◌≤◌, Bool, true, false, List, [], ◌∷◌, ◌++◌, filter, Option, None, Some, refl, sym, ap, ◌∙◌, subst, if◌then◌else◌, inr, append_assoc, append-nil, arith}
+use Rattle.std.proofs.Common.{◌≡◌, ℕ, zero, suc, ◌+◌, ◌-◌, ◌≤◌, Bool, true, false, List, [], ◌∷◌, ◌++◌, filter, Option, None, Some, refl, sym, ap, ◌∙◌, subst, if◌then◌else◌, append_assoc, append-nil, arith}
 use Rattle.std.specs.List.{range_with_len}
 use Rattle.std.proofs.lemmas.List.Elements.{filter-append}
-use Rattle.lock_messages.specs.declared.tickets.Mode.TheVariants.{Read, Write}
-use Rattle.lock_messages.specs.declared.tickets.Ticket.{Ticket}
 use Rattle.lock_messages.specs.declared.messages.Message.{Message}
 use Rattle.lossy_link.specs.declared.parcels.Sending.{Sending}
 use Rattle.lock_model.specs.Ballots.{node_count}
 use Rattle.vote_weights.specs.Sets.{has_node}
-use Rattle.client_core.specs.declared.phases.Present.{Present}
 use Rattle.client_core.specs.declared.phases.State.{State}
 use Rattle.client_core.specs.declared.phases.State.TheVariants.{Idle, Chosen, Asking, Inside}
 use Rattle.client_core.specs.declared.phases.Phase.TheVariants as phase
-use Rattle.client_core.specs.Clients.{Client, ticket_of, ticket_in, phase_in, softened_ticket}
-use Rattle.client_core.specs.Calls.{IsWriters, MaySoften, MaySoftenIn, softened, softens_in, left, message_for, SoftensAll}
-use Rattle.entry_guard.specs.Doors.{IsInsideWith, is_client_inside, is_inside_in}
+use Rattle.client_core.specs.Clients.{Client}
+use Rattle.client_core.specs.Calls.{MaySoften, MaySoftenIn, softened, softens_in, message_for, SoftensAll}
 use Rattle.world_model.specs.declared.events.Effect.{Effect}
 use Rattle.world_model.specs.declared.events.Effect.TheVariants as effect
 use Rattle.world_model.specs.declared.events.Event.TheVariants as event
@@ -22,26 +18,11 @@ use Rattle.world_model.specs.declared.exact.ExactClient.{ExactClient}
 use Rattle.world_model.specs.ExactClients.{client_in, softens_in as softens_part}
 use Rattle.world_model.specs.ExactWorlds.{refusal_of}
 use Rattle.world_model.specs.Parts.{Part, ClientPart, own_refusal, after_own, after_turn}
-use Rattle.world_model.specs.Staying.{inside_ticket}
 use Rattle.world_model.specs.Turns.{acts}
 use Rattle.world_actors.specs.Clients.{phase_of as part_phase}
 use Rattle.event_recorders.specs.OwnLogs.{OwnLog, IsAdded, part_now}
 use Rattle.client_loop.specs.Sendings.{sent_of, sending_to, Tells, AreToldEach, TellsEach, nodes_of, soften_of}
-use Rattle.client_loop.specs.Standing.{Stands, HasLeft, part_of}
-
--- who is inside with a writer's ticket may soften
-writers : (p : Present) (soft : Bool) (t : Ticket) → p.softened ≡ soft → (if soft then softened_ticket p.ticket else p.ticket) ≡ t → t.mode ≡ Write → IsWriters p
-writers p true t is same write = absurd (let clash : Read ≡ Write = ap (λ (x : Ticket). x.mode) same ∙ write in cc)
-writers p false t is same write = record { mode = ap (λ (x : Ticket). x.mode) same ∙ write; unsoftened = is }
-
-may_soften_in : (s : State) (t : Ticket) → is_inside_in s ≡ true → ticket_in s ≡ Some t → t.mode ≡ Write → MaySoftenIn s
-may_soften_in Idle t within same write = absurd (let clash : false ≡ true = within in cc)
-may_soften_in (Chosen u place) t within same write = absurd (let clash : false ≡ true = within in cc)
-may_soften_in (Asking p) t within same write = absurd (let clash : false ≡ true = within in cc)
-may_soften_in (Inside p) t within same write = writers p p.softened t refl (let some = same in cc) write
-
-pub may_soften : (c : Client) (t : Ticket) → IsInsideWith t (is_client_inside c) (ticket_of c) → t.mode ≡ Write → MaySoften c
-may_soften c t held write = may_soften_in c.state t held.inside held.ticket write
+use Rattle.client_loop.specs.Standing.{Stands, part_of}
 
 -- softening is allowed to who may, and leaves its part softened
 softens_so : (k : ExactClient) (s : State) → MaySoftenIn s → softens_part k (part_phase s) ≡ acts (client_in k (part_phase (softens_in s))) effect.Softened
@@ -62,26 +43,6 @@ soften_stands l l' finds c who done may h added = record {
   part = added.part ∙ ap (λ (p : Part). after_own l.ballots (event.Soften who) done p) h.part ∙ ap (λ t. ClientPart (after_turn (part_of c) t done)) (softens_so (part_of c) c.state may);
   found = h.found;
 }
-
--- the log has inside, with its ticket, who is
-inside_in : (s : State) (t : Ticket) → is_inside_in s ≡ true → ticket_in s ≡ Some t → inside_ticket (ClientPart (record { kept = 0; tried = None; phase = part_phase s })) ≡ Some t
-inside_in Idle t within same = absurd (let clash : false ≡ true = within in cc)
-inside_in (Chosen u place) t within same = absurd (let clash : false ≡ true = within in cc)
-inside_in (Asking p) t within same = absurd (let clash : false ≡ true = within in cc)
-inside_in (Inside p) t within same = same
-
-pub inside_with : (l : OwnLog) (finds : List (List ℕ)) (c : Client) (t : Ticket) → Stands l finds c → IsInsideWith t (is_client_inside c) (ticket_of c) → inside_ticket (part_now l) ≡ Some t
-inside_with l finds c t h held = ap inside_ticket h.part ∙ inside_in c.state t held.inside held.ticket
-
--- who was inside, and left
-inside_phase : (s : State) → is_inside_in s ≡ true → phase_in s ≡ phase.Inside
-inside_phase Idle within = absurd (let clash : false ≡ true = within in cc)
-inside_phase (Chosen u place) within = absurd (let clash : false ≡ true = within in cc)
-inside_phase (Asking p) within = absurd (let clash : false ≡ true = within in cc)
-inside_phase (Inside p) within = refl
-
-pub has_left : (l : OwnLog) (finds : List (List ℕ)) (c after : Client) → Stands l finds c → is_client_inside c ≡ true → after ≡ left c → HasLeft l finds after
-has_left l finds c after h within gone = record { before = c; stands = h; may = inr (inside_phase c.state within); after = gone }
 
 -- What telling one node after the other has told.
 

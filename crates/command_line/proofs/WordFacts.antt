@@ -1,5 +1,5 @@
 -- What a run comes to, by what was read of its words.
-use Rattle.std.proofs.Common.{◌≡◌, ◌⊎◌, inl, inr, List, [], ℕ, Option, ◌||◌}
+use Rattle.std.proofs.Common.{◌≡◌, inl, inr, List, [], ℕ, Option, ◌||◌}
 use Rattle.clap.specs.Words.{Kinds}
 use Rattle.program_ends.specs.declared.ending.Ended.{Ended}
 use Rattle.program_ends.specs.declared.wording.Unserved.{Unserved}

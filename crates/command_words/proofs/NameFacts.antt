@@ -1,6 +1,7 @@
 -- The command that words name is one of the program's.
 use Rattle.std.proofs.Common.{◌≡◌, ◌⊎◌, inl, inr, ◌&&◌, ◌||◌, not, Bool, true, false, cond, ℕ, List, [], ◌∷◌, ◌++◌, map, codes, Option, Some, None, option_map, find, is_some, refl, sym, ap, subst, ◌∙◌, Box}
 use Rattle.std.specs.Box.{box_value}
+use Rattle.std.proofs.lemmas.Option.{same_Some}
 use Rattle.clap.proofs.CallerLemmas.{subcommand_required}
 use Rattle.clap.proofs.OnLiterals.{clap_on_literals}
 use Rattle.clap.proofs.WalkLemmas.{one_text-rows}
@@ -25,9 +26,6 @@ OneOf (x ∷ xs) n = (n ≡ x) ⊎ OneOf xs n
 
 abbrev names : List Shape → List Text
 names = map (λ s. s.name)
-
-some_same : {A : Type 0} (x y : A) → Some x ≡ Some y → x ≡ y
-some_same x y h = cc
 
 -- a shape that is found has one of the names
 abbrev FoundOne : List Shape → Option (Text × List Row) → Type 0
@@ -130,8 +128,8 @@ is_flag f id set none given absent = record {
 pub names_found : (o : Option (Text × List Row)) (name : Text) (rows : List Row) (c : Asked) → Some name ≡ option_map (λ p. p.0) o → Some rows ≡ option_map (λ p. p.1) o → AsksBehind name rows c → NamesBehind o c
 names_found None name rows c e k h = let clash : Some name ≡ None = e in absurd (cc)
 names_found (Some found) name rows c e k h =
-    let same : name ≡ found.0 = some_same name found.0 e in
-    let rest : rows ≡ found.1 = some_same rows found.1 k in
+    let same : name ≡ found.0 = same_Some name found.0 e in
+    let rest : rows ≡ found.1 = same_Some rows found.1 k in
     subst (λ (rs : List Row). AsksBehind found.0 rs c) rest (subst (λ (n : Text). AsksBehind n rows c) same h)
 
 pub found_name : (m : ArgMatches) → subcommand_name_of m ≡ option_map (λ p. p.0) (subcommand_rows_of m)

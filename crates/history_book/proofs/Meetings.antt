@@ -1,7 +1,8 @@
 -- Two that are inside one resource both read.
-use Rattle.std.proofs.Common.{◌≡◌, ◌≢◌, ◌↔◌, ℕ, ◌==◌, Bool, true, false, not, ◌&&◌, List, Option, Some, None, refl, sym, ap, subst, ◌∙◌, eq-eqb, ne_eqb}
+use Rattle.std.proofs.Common.{◌≡◌, ◌≢◌, ◌↔◌, ℕ, ◌==◌, true, false, not, ◌&&◌, List, Option, Some, None, refl, sym, ap, subst, ◌∙◌, eq-eqb, ne_eqb}
 use Rattle.std.specs.Str.{bytes_eq}
 use Rattle.std.proofs.lemmas.Slice.Eq.{bytes_eq-Decides}
+use Rattle.std.proofs.lemmas.Bool.{and_parts}
 use Rattle.lock_messages.specs.declared.ids.Actor.{Actor}
 use Rattle.lock_messages.specs.declared.ids.Actor.TheVariants as actor
 use Rattle.lock_messages.specs.declared.tickets.Mode.{Mode}
@@ -12,10 +13,6 @@ use Rattle.world_model.specs.Worlds.{World, IsInside}
 use Rattle.world_machine.specs.Listing.{IsInsideBy}
 use Rattle.history_book.specs.Books.{are_together, AreInsideOneResource, Reads, IsInsideAs, IsOwnTicket}
 
-both : (a b : Bool) → (a && b) ≡ true → (a ≡ true) × (b ≡ true)
-both true b h = (refl, h)
-both false b h = let clash : false ≡ true = h in absurd (cc)
-
 no_write : (m : Mode) → (m ≡ Write → ⊥) → m ≡ Read
 no_write Read h = refl
 no_write Write h = absurd (h refl)
@@ -23,7 +20,7 @@ no_write Write h = absurd (h refl)
 -- two tickets that are together are of two clients, for one resource, and the other way round
 together_are : (t u : Ticket) → are_together (Some t) (Some u) ≡ true → (t.client ≢ u.client) × (t.resource ≡ u.resource)
 together_are t u h =
-    let two = both (not (t.client == u.client)) (bytes_eq t.resource u.resource) h in (
+    let two = and_parts (not (t.client == u.client)) (bytes_eq t.resource u.resource) h in (
       λ same. let clash : false ≡ true = ap not (sym (eq-eqb t.client u.client same)) ∙ two.0 in cc,
       (bytes_eq-Decides t.resource u.resource).0 two.1,
     )

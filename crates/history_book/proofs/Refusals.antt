@@ -1,5 +1,5 @@
 -- What a refusal tells.
-use Rattle.std.proofs.Common.{◌≡◌, Bool, true, false, List, sym, ap, ◌∙◌, subst, Err, Some, eqb-true}
+use Rattle.std.proofs.Common.{◌≡◌, true, List, sym, ap, ◌∙◌, subst, Err, Some, eqb-true}
 use mathlib.Core.List.{IsPrefix}
 use Rattle.lock_messages.specs.declared.ids.Actor.{Actor}
 use Rattle.world_model.specs.declared.events.Effect.{Effect}
@@ -31,8 +31,3 @@ local_refusal b k e f apart law is own refused =
     let listed = subst (λ (l : List (Event × Effect)). IsLocalRefusal e (own_refusal b.opening.ballots e (local_part b.opening.ballots (part b.opening k.actor) l)) (refusal b.world e)) is.own here in
     let opened = subst (λ w. IsLocalRefusal e (own_refusal b.opening.ballots e (local_part w.ballots (part w k.actor) (own_of k))) (refusal b.world e)) (sym is.opening) listed in
     subst (λ r. IsLocalRefusal e (own_refusal b.opening.ballots e (own_part k)) (refusal_of r)) refused opened
-
--- a refusal that is no want of memory is the step's
-is_memory : StepFault → Bool
-is_memory fault.Memory = true
-is_memory _ = false

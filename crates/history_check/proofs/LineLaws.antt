@@ -7,6 +7,7 @@ use Rattle.std.proofs.lemmas.Bool.Decides.{nat_tests}
 use Rattle.std.proofs.lemmas.List.{length-append}
 use Rattle.std.proofs.lemmas.List.Splits.{join_with_byte-slice_split, slice_split-cons_no}
 use Rattle.std.proofs.lemmas.Slice.Eq.{bytes_eq-Decides}
+use Rattle.std.proofs.lemmas.Bool.{leb-true}
 use Rattle.world_model.specs.declared.events.Event.TheVariants as event
 use Rattle.history_check.specs.declared.commands.Command.{Command}
 use Rattle.history_check.specs.declared.commands.Command.TheVariants as command
@@ -19,7 +20,7 @@ use Rattle.history_check.specs.declared.words.TheConstants.{MAX_LINE_LEN}
 use Rattle.history_check.specs.Commands.{word_of, named}
 use Rattle.history_check.specs.Lines.{◌>>=◌, Kind, kinds_of, Value, Arguments, left_out, value_in, value_texts, argument_texts, parts_text, text_of, command_of, IsValue, AreValues, IsInRange, is_space, words, between, least_words, values_in, arguments_in, given, said_by, words_say, line_of}
 use Rattle.history_check.specs.Laws.{IsAmong}
-use Rattle.history_check.proofs.WordFacts.{never_ok, was_some, at_most, value_is, left_is, spelled_by, width, IsSpelledBy, IsGoodWord, Plain}
+use Rattle.history_check.proofs.WordFacts.{never_ok, was_some, value_is, left_is, spelled_by, width, IsSpelledBy, IsGoodWord, Plain}
 
 pub bind_ok : {A B : Type 0} (r : Result A LineFault) (f : A → Result B LineFault) (y : B) → (r >>= f) ≡ Ok y → (x : A) × (r ≡ Ok x) × (f x ≡ Ok y)
 bind_ok (Ok x) f y h = (x, refl, h)
@@ -378,7 +379,7 @@ back cs c says same a v there =
     let text = parts_text c a in
     let ws = argument_texts (kinds_of c) a in
     let few : length text ≤ length (word_of c) + room (kinds_of c) = short_arguments (word_of c) (kinds_of c) a v in
-    let most : length (word_of c) + room (kinds_of c) ≤ 128 = at_most (length (word_of c) + room (kinds_of c)) 128 (few_words c) in
+    let most : length (word_of c) + room (kinds_of c) ≤ 128 = leb-true (length (word_of c) + room (kinds_of c)) 128 (few_words c) in
     let short : length text ≤ 128 = no_longer (length text) (length (word_of c) + room (kinds_of c)) few most in
     if_short (length text) (Err fault.Words) (words_say cs (words text)) short
     ∙ ap (words_say cs) (its_words (word_of c) ws (plain_word c) (plain_arguments (kinds_of c) a v))

@@ -10,6 +10,7 @@ use Rattle.std.proofs.lemmas.Fmt.{decimal-digits_value, digits_decimal, first_de
 use Rattle.std.proofs.lemmas.Str.{IsUtf8-from_ascii}
 use Rattle.std.proofs.lemmas.Slice.Eq.{bytes_eq-Decides}
 use Rattle.std.proofs.lemmas.Bool.Decides.{nat_tests}
+use Rattle.std.proofs.lemmas.Bool.{leb-true}
 use Rattle.history_check.specs.Lines.{spelled}
 
 -- has digits alone
@@ -31,16 +32,13 @@ in_range_or_none true false c n never = refl
 in_range_or_none true true false n never = refl
 in_range_or_none true true true n never = absurd (never refl refl refl)
 
-small_enough : (n most : ℕ) → nat_le n most ≡ true → n ≤ most
-small_enough n most h = grind (arith, nat_tests)
-
 -- a word that is no number's text
 pub unless_spelled : (most : ℕ) (word : List ℕ) → ((n : ℕ) → 1 ≤ n → n ≤ most → n ≡ digits_value 10 word → decimal n ≡ word → ⊥) → None ≡ spelled most word
 unfolding spelled
 unless_spelled most word never =
     let n = digits_value 10 word in
     in_range_or_none (nat_le 1 n) (nat_le n most) (bytes_eq (decimal n) word) n
-    (λ a b c. never n (small_enough 1 n a) (small_enough n most b) refl ((bytes_eq-Decides (decimal n) word).0 c))
+    (λ a b c. never n (leb-true 1 n a) (leb-true n most b) refl ((bytes_eq-Decides (decimal n) word).0 c))
 
 -- a number's text has digits alone, and no zero in front
 pub no_other_byte : (most : ℕ) (word : List ℕ) → most < 2 ^ 64 → list_all is_ascii_digit word ≡ false → None ≡ spelled most word

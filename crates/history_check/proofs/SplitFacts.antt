@@ -1,7 +1,7 @@
 -- Cutting a list at the elements that pass a test.
-use Rattle.std.proofs.Common.{◌≡◌, ℕ, suc, ◌+◌, ◌≤◌, Bool, true, false, cond, List, [], ◌∷◌, ◌++◌, length, take, drop, Some, None, refl, ap, ◌∙◌, arith}
-use Rattle.std.specs.List.{slice_split, onto_first, position, position_or_len, All}
-use Rattle.std.proofs.lemmas.List.Splits.{slice_split_first, slice_split_none, slice_split-cons_no}
+use Rattle.std.proofs.Common.{◌≡◌, ℕ, ◌+◌, ◌≤◌, Bool, true, false, cond, List, [], ◌∷◌, length, take, drop, Some, None, refl, arith}
+use Rattle.std.specs.List.{slice_split, onto_first, position, position_or_len}
+use Rattle.std.proofs.lemmas.List.Splits.{slice_split_first, slice_split_none}
 use Rattle.std.proofs.lemmas.List.Sums.{fails_before_first}
 use Rattle.std.proofs.lemmas.Option.{cond_some}
 use Rattle.std.proofs.lemmas.Bool.{ltb-true, ltb-false}
@@ -34,10 +34,3 @@ pub split_some : {X : Type 0} (p : X → Bool) (xs : List X) (at : ℕ) (d : X) 
 split_some p xs at d h =
     let found = cond_some _ _ _ h in
     rw (← found.1) (slice_split_first p xs d (ltb-true _ _ found.0))
-
--- a front in which nothing passes belongs to the first part
-pub split_front : (p : ℕ → Bool) (front rest : List ℕ) → All (λ x. p x ≡ false) front → (q : List ℕ) × (qs : List (List ℕ)) × (slice_split p (front ++ rest) ≡ (front ++ q) ∷ qs)
-split_front p [] rest h = some_part p rest
-split_front p (x ∷ front) rest h =
-    let (q, qs, e) = split_front p front rest (λ k d inside. h (suc k) d (omega arith)) in
-    (q, qs, slice_split-cons_no p x (front ++ rest) (h 0 0 (omega arith)) ∙ ap (onto_first x) e)

@@ -9,6 +9,7 @@ use Rattle.std.specs.Char.{is_ascii_digit}
 use Rattle.std.proofs.lemmas.Bool.Decides.{nat_tests}
 use Rattle.std.proofs.lemmas.Fmt.{digits_decimal, digits_value-decimal, first_decimal, decimal_nonempty, length-decimal-le}
 use Rattle.std.proofs.lemmas.Slice.Eq.{bytes_eq-Decides}
+use Rattle.std.proofs.lemmas.Bool.{and_parts, leb-true}
 use Rattle.lock_messages.specs.declared.ids.TheConstants.{MAX_NODES, MAX_CLIENTS}
 use Rattle.lock_messages.specs.declared.ids.Actor.{Actor}
 use Rattle.lock_messages.specs.declared.ids.Actor.TheVariants as actor
@@ -35,16 +36,13 @@ in_range_so false b c m n h = absurd (let clash : None ≡ Some n = h in cc)
 in_range_so true false c m n h = absurd (let clash : None ≡ Some n = h in cc)
 in_range_so true true false m n h = absurd (let clash : None ≡ Some n = h in cc)
 
-pub at_most : (n most : ℕ) → nat_le n most ≡ true → n ≤ most
-at_most n most h = grind (arith, nat_tests)
-
 spelled_is_text : (most : ℕ) (word : List ℕ) (n : ℕ) → spelled most word ≡ Some n → (1 ≤ n) × (n ≤ most) × (decimal n ≡ word)
 unfolding spelled
 spelled_is_text most word n h =
     let m = digits_value 10 word in
     let (a, b, c, e) = in_range_so (nat_le 1 m) (nat_le m most) (bytes_eq (decimal m) word) m n h in
-    let low : 1 ≤ m = at_most 1 m a in
-    let high : m ≤ most = at_most m most b in
+    let low : 1 ≤ m = leb-true 1 m a in
+    let high : m ≤ most = leb-true m most b in
     (subst (λ (k : ℕ). 1 ≤ k) e low, subst (λ (k : ℕ). k ≤ most) e high, ap decimal (sym e) ∙ (bytes_eq-Decides (decimal m) word).0 c)
 
 text_is_spelled : (most : ℕ) (n : ℕ) → most < 2 ^ 64 → 1 ≤ n → n ≤ most → spelled most (decimal n) ≡ Some n
@@ -118,8 +116,8 @@ all_three false b c h = let clash : false ≡ true = h in absurd (cc)
 named_so : (w : List ℕ) → ((nat_le 1 (length w) && nat_le (length w) 32) && list_all is_name_byte w) ≡ true → IsName w
 named_so w h =
     let (a, b, c) = all_three (nat_le 1 (length w)) (nat_le (length w) 32) (list_all is_name_byte w) h in
-    let low : 1 ≤ length w = at_most 1 (length w) a in
-    let high : length w ≤ 32 = at_most (length w) 32 b in
+    let low : 1 ≤ length w = leb-true 1 (length w) a in
+    let high : length w ≤ 32 = leb-true (length w) 32 b in
     record { not_empty = omega arith; fits = high; each = c }
 
 name_is : (w x : List ℕ) → name_word w ≡ Ok x → Spells AName w x
@@ -253,13 +251,9 @@ no_space_at : (p : ℕ → Bool) (b : ℕ) (t : Bool) → (b == 32) ≡ t → p 
 no_space_at p b true e never h = let clash : false ≡ true = sym never ∙ ap p (sym (same_number b 32 e)) ∙ h in absurd (cc)
 no_space_at p b false e never h = e
 
-both : (a b : Bool) → (a && b) ≡ true → (a ≡ true) × (b ≡ true)
-both true b h = (refl, h)
-both false b h = let clash : false ≡ true = h in absurd (cc)
-
 plain_of : (p : ℕ → Bool) → p 32 ≡ false → (bs : List ℕ) → list_all p bs ≡ true → Plain bs
 plain_of p never [] h = tt
-plain_of p never (b ∷ bs) h = let (x, more) = both (p b) (list_all p bs) h in (no_space_at p b (b == 32) refl never x, plain_of p never bs more)
+plain_of p never (b ∷ bs) h = let (x, more) = and_parts (p b) (list_all p bs) h in (no_space_at p b (b == 32) refl never x, plain_of p never bs more)
 
 plain_number : (n : ℕ) → n < 2 ^ 64 → Plain (decimal n)
 plain_number n h = plain_of is_ascii_digit refl (decimal n) (digits_decimal own n h)
@@ -308,20 +302,20 @@ short_actor (actor.Node n) h = short_behind 110 (decimal n) (short_number n (ome
 short_actor (actor.Client c) h = short_behind 99 (decimal c) (short_number c (omega (arith, h.1)))
 
 short_mode : (m : Mode) → length (mode_text m) ≤ 8
-short_mode Read = at_most (length (mode_text Read)) 8 refl
-short_mode Write = at_most (length (mode_text Write)) 8 refl
+short_mode Read = leb-true (length (mode_text Read)) 8 refl
+short_mode Write = leb-true (length (mode_text Write)) 8 refl
 
 short_wish_mode : (x : WishMode) → length (wish_mode_text x) ≤ 8
-short_wish_mode (m, true) = at_most (length (codes "soften")) 8 refl
+short_wish_mode (m, true) = leb-true (length (codes "soften")) 8 refl
 short_wish_mode (m, false) = short_mode m
 
 short_age : (a : Age) → length (age_text a) ≤ 8
-short_age Old = at_most (length (age_text Old)) 8 refl
-short_age New = at_most (length (age_text New)) 8 refl
+short_age Old = leb-true (length (age_text Old)) 8 refl
+short_age New = leb-true (length (age_text New)) 8 refl
 
 short_problem : (p : Problem) → length (problem_text p) ≤ 8
-short_problem First = at_most (length (problem_text First)) 8 refl
-short_problem Second = at_most (length (problem_text Second)) 8 refl
+short_problem First = leb-true (length (problem_text First)) 8 refl
+short_problem Second = leb-true (length (problem_text Second)) 8 refl
 
 -- a word that has no space, is short, and is read as the value
 pub record IsGoodWord (k : Kind) (w : List ℕ) (x : Value k) : Type 0 where

@@ -1,12 +1,13 @@
 -- The text of an event has no line feed, so each is a line.
-use Rattle.std.proofs.Common.{◌≡◌, ℕ, ◌^◌, ◌<◌, ◌==◌, ◌&&◌, Bool, true, false, cond, List, [], ◌∷◌, ◌++◌, refl, sym, ap, ◌∙◌, arith, rules, append_assoc, map, eqb-true}
-use Rattle.std.specs.List.{list_all, slice_split, onto_first, join_with_byte, AllByRecursion}
+use Rattle.std.proofs.Common.{◌≡◌, ℕ, ◌^◌, ◌<◌, ◌==◌, Bool, true, false, cond, List, [], ◌∷◌, ◌++◌, refl, sym, ap, ◌∙◌, arith, rules, append_assoc, map, eqb-true}
+use Rattle.std.specs.List.{list_all, onto_first, join_with_byte, AllByRecursion}
 use Rattle.std.specs.Fmt.{decimal}
 use Rattle.std.specs.Char.{is_ascii_digit}
 use Rattle.std.specs.Str.Parse.{digits_value}
 use Rattle.std.proofs.lemmas.Fmt.{digits_decimal}
 use Rattle.std.proofs.lemmas.Str.Parse.{IsNumeralModel, IsDigitsTest, numerals_by_value}
 use Rattle.std.proofs.lemmas.List.Splits.{slice_split-cons_yes, slice_split-cons_no}
+use Rattle.std.proofs.lemmas.Bool.{and_parts}
 use Rattle.lock_messages.specs.declared.ids.Actor.{Actor}
 use Rattle.lock_messages.specs.declared.ids.Actor.TheVariants as actor
 use Rattle.lock_messages.specs.declared.tickets.Mode.{Mode}
@@ -25,6 +26,7 @@ use Rattle.history_check.specs.Commands.{word_of}
 use Rattle.history_check.specs.Lines.{Kind, ANode, AClient, AnActor, ANumber, AName, AMode, AWishMode, AnAge, APlace, AProblem, WishMode, Value, Arguments, kinds_of, value_text, value_texts, argument_texts, wish_mode_text, age_text, problem_text, IsActor, IsValue, IsPlace, AreValues}
 use Rattle.history_check.specs.Events.{event_text, IsEventInRange}
 use Rattle.line_streams.specs.Streams.{is_line_feed, pieces, lines_in}
+use Rattle.line_streams.proofs.LineFacts.{line_then_bytes}
 use Rattle.journal_text.specs.Journals.{history_text}
 use Rattle.journal_audit.specs.Verdicts.{text_lines}
 
@@ -38,13 +40,9 @@ no_feed_at : (p : ℕ → Bool) (b : ℕ) (t : Bool) → (b == 10) ≡ t → p 1
 no_feed_at p b true e never h = let clash : false ≡ true = sym never ∙ ap p (sym (eqb-true b 10 e)) ∙ h in absurd (cc)
 no_feed_at p b false e never h = e
 
-both : (a b : Bool) → (a && b) ≡ true → (a ≡ true) × (b ≡ true)
-both true b h = (refl, h)
-both false b h = let clash : false ≡ true = h in absurd (cc)
-
 plain_of : (p : ℕ → Bool) → p 10 ≡ false → (bs : List ℕ) → list_all p bs ≡ true → Plain bs
 plain_of p never [] h = tt
-plain_of p never (b ∷ bs) h = let (x, more) = both (p b) (list_all p bs) h in (no_feed_at p b (b == 10) refl never x, plain_of p never bs more)
+plain_of p never (b ∷ bs) h = let (x, more) = and_parts (p b) (list_all p bs) h in (no_feed_at p b (b == 10) refl never x, plain_of p never bs more)
 
 abbrev IsDigits : List ℕ → Type 0
 IsDigits word = list_all is_ascii_digit word ≡ true
@@ -140,17 +138,6 @@ plain_event (event.Switch n p) h = plain_line (word_of command.Switch) (kinds_of
 first_part : {X : Type 0} (x : X) (parts : List (List X)) → (q : List X) × (qs : List (List X)) × (onto_first x parts ≡ q ∷ qs)
 first_part x [] = (x ∷ [], [], refl)
 first_part x (p ∷ ps) = (x ∷ p, ps, refl)
-
-choose_part : {X : Type 0} (b : Bool) (x : X) (parts : List (List X)) → (q : List X) × (qs : List (List X)) × (cond b ([] ∷ parts) (onto_first x parts) ≡ q ∷ qs)
-choose_part true x parts = ([], parts, refl)
-choose_part false x parts = first_part x parts
-
-some_part : {X : Type 0} (p : X → Bool) (xs : List X) → (q : List X) × (qs : List (List X)) × (slice_split p xs ≡ q ∷ qs)
-some_part p [] = ([], [], refl)
-some_part p (x ∷ xs) = choose_part (p x) x (slice_split p xs)
-
-line_then_bytes : (p zs : List ℕ) → lines_in (p ∷ pieces zs) ≡ p ∷ lines_in (pieces zs)
-line_then_bytes p zs = let (q, qs, e) = some_part is_line_feed zs in ap (λ ps. lines_in (p ∷ ps)) e ∙ ap (λ ps. p ∷ lines_in ps) (sym e)
 
 first_piece : (l rest : List ℕ) → Plain l → pieces (l ++ 10 ∷ rest) ≡ l ∷ pieces rest
 first_piece [] rest h = slice_split-cons_yes is_line_feed 10 rest refl

@@ -1,7 +1,5 @@
 -- The journal of a history is sound.
-use Rattle.std.proofs.Common.{◌≡◌, ◌≢◌, ℕ, ◌+◌, ◌-◌, ◌≤◌, ◌==◌, Bool, true, false, cond, List, [], ◌∷◌, length, map, Some, None, Result, Ok, Err, refl, sym, ap, subst, ◌∙◌, arith, length-append, eq-eqb}
-use Rattle.std.specs.Prelude.{slice_get}
-use Rattle.std.proofs.lemmas.Option.{slice_get_within}
+use Rattle.std.proofs.Common.{◌≡◌, ℕ, ◌+◌, ◌-◌, ◌≤◌, List, [], ◌∷◌, length, map, Some, Result, Ok, Err, refl, sym, ap, subst, ◌∙◌, arith, length-append}
 use Rattle.lock_messages.specs.declared.messages.Message.{Message}
 use Rattle.lock_messages.specs.declared.tickets.Mode.{Mode}
 use Rattle.world_model.specs.declared.TheConstants.{MAX_MESSAGES}
@@ -16,6 +14,7 @@ use Rattle.world_model.specs.Locality.{IsHistory, EffectsAreOfTheirEvents, Messa
 use Rattle.world_model.specs.Parts.{message_of}
 use Rattle.world_model.specs.StepsOf.{took}
 use Rattle.world_model.specs.Worlds.{Client, Setting, Begins, begins}
+use Rattle.world_model.specs.Numbered.{numbered-one}
 use Rattle.history_check.specs.Lines.{IsPlace}
 use Rattle.history_check.specs.Events.{event_text, IsEventInRange, AreJournal}
 use Rattle.journal_text.specs.Journals.{history_text, IsWellNamed, AreWellNamed, HasFewBallots, IsRecorded}
@@ -28,20 +27,9 @@ use Rattle.journal_audit.specs.Verdicts.{IsVerdict, IsTooLong, Finds, VerdictsAr
 use Rattle.journal_laws.specs.Laws.{LinesAreTheEvents, JournalsAreSound, JournalsAreFoundSound, Answers}
 use Rattle.journal_laws.proofs.PlainTexts.{AreInRange, lines_of}
 
--- what is there has a number in range
-numbered_within : {A : Type 0} (xs : List A) (k : ℕ) (x : A) → numbered xs k ≡ Some x → (1 ≤ k) × (k ≤ length xs)
-numbered_within {A} xs k x h = go (k == 0) refl h
-  where
-    go : (b : Bool) → (k == 0) ≡ b → cond b None (slice_get xs (k - 1)) ≡ Some x → (1 ≤ k) × (k ≤ length xs)
-    go true e z = absurd (let q : None ≡ Some x = z in cc)
-    go false e z =
-        let apart : k ≢ 0 = λ q. let p : false ≡ true = sym e ∙ eq-eqb k 0 q in cc in
-        let one : 1 ≤ k = omega (arith, apart) in
-        (one, omega (arith, one, slice_get_within xs (k - 1) x z))
-
 number_in_range : (w : ExactWorld) (k : ℕ) (m : Message) (done : Effect) → IsSound w → message_of done ≡ Some m → message_of done ≡ numbered w.sent k → (1 ≤ k) × (k ≤ MAX_MESSAGES)
 number_in_range w k m done sound e listed =
-    let within = numbered_within w.sent k m (sym listed ∙ e) in
+    let within = numbered-one w.sent k m (sym listed ∙ e) in
     (within.0, omega (arith, within.1, sound.room))
 
 -- an attempt begins by a ballot of the world's list

@@ -1,12 +1,12 @@
 -- Drawing line after line: what is found, and which marks were drawn.
-use Rattle.std.proofs.Common.{◌≡◌, ◌≢◌, inl, inr, ℕ, ◌+◌, true, false, List, [], ◌∷◌, ◌++◌, Option, Some, None, Result, Ok, Err, IfOk, OnOk, refl, sym, ap, subst, ◌∙◌}
+use Rattle.std.proofs.Common.{◌≡◌, ◌≢◌, ℕ, ◌+◌, true, false, List, [], ◌∷◌, ◌++◌, Option, Some, None, Result, Ok, Err, IfOk, OnOk, sym, ap, subst, ◌∙◌}
 use Rattle.world_model.specs.declared.events.Event.{Event}
 use Rattle.world_model.specs.declared.events.Effect.{Effect}
 use Rattle.world_model.specs.declared.events.StepFault.{StepFault}
 use Rattle.world_model.specs.declared.events.StepFault.TheVariants as refusal
 use Rattle.world_model.specs.declared.exact.ExactWorld.{ExactWorld}
 use Rattle.world_model.specs.ExactWorlds.{Steps, step, after, world_after}
-use Rattle.world_model.specs.StepsOf.{Does, IsRefused}
+use Rattle.world_model.specs.StepsOf.{Does}
 use Rattle.history_check.specs.declared.faults.LineFault.{LineFault}
 use Rattle.history_check.specs.declared.words.TheConstants.{MAX_LINE_LEN}
 use Rattle.history_check.specs.Events.{event_of}
@@ -17,38 +17,16 @@ use Rattle.line_streams.proofs.LineFacts.{no_line_left}
 use Rattle.journal_audit.specs.declared.faults.AuditFault.{AuditFault}
 use Rattle.journal_audit.specs.declared.faults.AuditFault.TheVariants as fault
 use Rattle.journal_audit.specs.declared.verdicts.Verdict.{Verdict}
-use Rattle.journal_audit.specs.Judging.{CutsShort, EndsLines}
 use Rattle.journal_audit.specs.Leavings.{LeavesBy}
-use Rattle.journal_audit.specs.Verdicts.{Finds, reaches, text_lines}
+use Rattle.journal_audit.specs.Verdicts.{reaches, text_lines}
 use Rattle.journal_audit.proofs.LineFacts.{line_comes, never_long}
+use Rattle.journal_audit.proofs.JudgeFacts.{refused_so}
 use Rattle.run_picture.specs.Pictures.{Drawn, Told, marks_of_step, after_step, marks_behind, drawn_behind, end_place}
 use Rattle.journal_picture.specs.declared.ending.Drawing.{Drawing}
-use Rattle.journal_picture.specs.Drawings.{found, StopsShort, EndsWith, DrawsHistory, DrawsJournal, all_marks, end_marks}
+use Rattle.journal_picture.specs.Drawings.{EndsWith, DrawsHistory, DrawsJournal, all_marks, end_marks}
 use Rattle.journal_picture.specs.Strokes.{Stroke}
 use Rattle.journal_picture.specs.Histories.{with_more, told_of, line_told, step_told, history_behind, history_of, world_behind}
 use Rattle.journal_picture.proofs.TellFacts.{more_marks, no_marks}
-
--- nothing is said of a drawing that was cut short
-pub short : (w : ExactWorld) (text : Option (List ℕ)) (e : AuditFault) → StopsShort e → Finds w text (Err e)
-short w None e h = tt
-short w (Some xs) fault.Read h = tt
-short w (Some xs) fault.Write h = tt
-short w (Some xs) fault.Memory h = tt
-short w (Some xs) fault.TooManyLines h = absurd h
-
-pub cuts : (w : ExactWorld) (text : Option (List ℕ)) (e : AuditFault) → CutsShort e → Finds w text (Err e)
-cuts w text fault.Read h = short w text fault.Read tt
-cuts w text fault.Write h = absurd h
-cuts w text fault.Memory h = short w text fault.Memory tt
-cuts w text fault.TooManyLines h = absurd h
-
-pub out_of_memory : (w : ExactWorld) (text : Option (List ℕ)) (e : AuditFault) → e ≡ fault.Memory → Finds w text (Err e)
-out_of_memory w text e h = subst (λ (x : AuditFault). Finds w text (Err x)) (sym h) (short w text fault.Memory tt)
-
--- what is right to find is found where the picture ends with it
-pub ends_so : (w : ExactWorld) (text : Option (List ℕ)) (v : Verdict) (r : Result Drawing AuditFault) → Finds w text (Ok v) → EndsWith v r → Finds w text (found r)
-ends_so w text v (Ok d) h e = subst (λ (x : Verdict). Finds w text (Ok x)) (sym e) h
-ends_so w text v (Err e) h s = short w text e s
 
 -- what is left by a verdict is left where the picture ends with it
 pub left_so : (w : ExactWorld) (text left : Option (List ℕ)) (v : Verdict) (r : Result Drawing AuditFault) → LeavesBy w text left v → EndsWith v r → IfOk r (λ d. LeavesBy w text left d.verdict)
@@ -64,10 +42,6 @@ pub record Same (w v : ExactWorld) (hist rest : List Told) (first d : Drawn) (ol
 abbrev pub DrawnSoFar : ExactWorld → ExactWorld → Option (List ℕ) → Option (List ℕ) → ℕ → Drawn → Drawn → Option (List Stroke) → Option (List Stroke) → Type 0
 DrawnSoFar w v None left taken first d old new = Unit {0}
 DrawnSoFar w v (Some xs) left taken first d old new = KnownLeft left (λ ys. Same w v (history_of w (text_lines xs)) (history_behind taken v (text_lines ys)) first d old new)
-
-pub nothing_yet : (w : ExactWorld) (text : Option (List ℕ)) (d : Drawn) (old : Option (List Stroke)) → DrawnSoFar w w text text 0 d d old old
-nothing_yet w None d old = tt
-nothing_yet w (Some xs) d old = record { marks = refl; drawer = refl; world = refl }
 
 -- no rest
 all_drawn : (w v : ExactWorld) (hist rest : List Told) (first d : Drawn) (old new : Option (List Stroke)) → Same w v hist rest first d old new → rest ≡ []
@@ -122,11 +96,6 @@ drawn_bad w v (Some xs) (Some ys) next taken piece end f first d old new u h r j
     let (l, more, e, k, behind) = line_comes ys next piece end (Err f) r j q in
     all_drawn _ _ _ _ first d old new h (told_no_event v taken (text_lines ys) l more f e k)
 
--- a refusal is one of the step, or want of memory
-refused_so : (e : Event) (s : Steps) (f : StepFault) → IsRefused e s f → f ≢ refusal.Memory → s ≡ Err f
-refused_so e s f (inl h) n = h
-refused_so e s f (inr h) n = absurd (n h.0)
-
 pub drawn_refused : (w v z : ExactWorld) (text left next : Option (List ℕ)) (taken : ℕ) (piece : List ℕ) (end : End) (x : Event) (f : StepFault) (first d : Drawn) (old new : Option (List Stroke)) (u : Verdict)
     → DrawnSoFar w v text left taken first d old new → ReadsPiece MAX_LINE_LEN left next piece end → ends_no_line end piece ≡ false → event_of piece ≡ Ok x → Does x (step v x) v (Err f) z → f ≢ refusal.Memory → DrawsHistory w first text old new z (Ok (d, u))
 drawn_refused w v z None left next taken piece end x f first d old new u h r j q bars n = tt
@@ -162,16 +131,6 @@ drawn_last w v u (Some xs) (Some ys) next taken piece Input x o first d after ol
     (step_drawn _ _ _ _ _ (history_behind (taken + 1) u more) (told_of u (taken + 1) x o) first d after old new newer h (told_next v u taken (text_lines ys) l more x o e k s) m a (taken_to v u x o s))
     (ap (history_behind (taken + 1) u) b)
 
-pub drawn_most : (w v : ExactWorld) (text left : Option (List ℕ)) (taken : ℕ) (first d : Drawn) (old new : Option (List Stroke)) (u : Verdict)
-    → DrawnSoFar w v text left taken first d old new → EndsLines left (Ok u) → DrawsHistory w first text old new v (Ok (d, u))
-drawn_most w v None left taken first d old new u h r = tt
-drawn_most w v (Some xs) None taken first d old new u h r = absurd h
-drawn_most w v (Some xs) (Some ys) taken first d old new u h r = all_drawn _ _ _ _ first d old new h (ap (history_behind taken v) r.1)
-
-pub drawn_short : (w v : ExactWorld) (text : Option (List ℕ)) (first : Drawn) (old new : Option (List Stroke)) (e : AuditFault) → DrawsHistory w first text old new v (Err e)
-drawn_short w v None first old new e = tt
-drawn_short w v (Some xs) first old new e = tt
-
 -- the marks of the end behind those of the history
 pub journal_drawn : (w v : ExactWorld) (text : Option (List ℕ)) (first d : Drawn) (old new newer : Option (List Stroke)) (u : Verdict) (r : Result Drawing AuditFault) → DrawsHistory w first text old new v (Ok (d, u)) → EndsWith u r
     → OnOk r (newer ≡ with_more (end_marks d v.sent u) new) → IfOk r (λ x. x.end ≡ end_place d (reaches u)) → DrawsJournal w first text old newer r
@@ -185,7 +144,3 @@ journal_drawn w v (Some xs) first d old new newer u (Ok x) h e m p =
           ∙ ap (λ (q : Verdict). with_more (all_marks w first history q) old) (sym e),
       p ∙ ap (λ (z : Drawn). end_place z (reaches u)) h.1 ∙ ap (λ (q : Verdict). end_place (drawn_behind first history) (reaches q)) (sym e),
     )
-
-pub journal_short : (w : ExactWorld) (text : Option (List ℕ)) (first : Drawn) (old new : Option (List Stroke)) (e : AuditFault) → DrawsJournal w first text old new (Err e)
-journal_short w None first old new e = tt
-journal_short w (Some xs) first old new e = tt

@@ -1,5 +1,5 @@
 -- A name in its room, and as text.
-use Rattle.std.proofs.Common.{◌≡◌, ℕ, suc, ◌+◌, ◌-◌, ◌<◌, ◌≤◌, Bool, true, false, ◌&&◌, List, [], ◌∷◌, ◌++◌, length, get_or, take, set, replicate, refl, subst, append_assoc, arith}
+use Rattle.std.proofs.Common.{◌≡◌, ℕ, suc, ◌+◌, ◌-◌, ◌<◌, ◌≤◌, true, List, [], ◌∷◌, ◌++◌, length, get_or, take, set, replicate, refl, subst, append_assoc, arith}
 use Rattle.std.proofs.Math.Seq.{take-append_seam, set-append_seam}
 use Rattle.std.proofs.lemmas.List.{length-append, length-take, take_more}
 use Rattle.std.proofs.lemmas.Bool.Decides.{nat_tests}
@@ -7,6 +7,7 @@ use Rattle.std.proofs.lemmas.Str.Ascii.{IsAscii-cons, IsAscii-nil}
 use Rattle.std.proofs.lemmas.Str.{IsUtf8-from_ascii}
 use Rattle.std.specs.List.{list_all}
 use Rattle.std.specs.Str.{IsAscii, IsUtf8}
+use Rattle.std.proofs.lemmas.Bool.{and_parts}
 use Rattle.lock_messages.specs.Names.{IsName, HoldsName, padded, is_name_byte}
 use Rattle.lock_messages.specs.declared.names.TheConstants.{MAX_NAME_LEN}
 
@@ -36,14 +37,10 @@ set-padded xs i h fits =
 name_byte_ascii : (b : ℕ) → is_name_byte b ≡ true → b < 128
 name_byte_ascii b h = grind (arith, nat_tests)
 
-both_true : (a b : Bool) → (a && b) ≡ true → (a ≡ true) × (b ≡ true)
-both_true true b h = (refl, h)
-both_true false b h = (h, cc)
-
 name_bytes_ascii : (xs : List ℕ) → list_all is_name_byte xs ≡ true → IsAscii xs
 name_bytes_ascii [] h = IsAscii-nil
 name_bytes_ascii (x ∷ xs) h =
-    let p = both_true (is_name_byte x) (list_all is_name_byte xs) h in
+    let p = and_parts (is_name_byte x) (list_all is_name_byte xs) h in
     IsAscii-cons x xs (name_byte_ascii x p.0) (name_bytes_ascii xs p.1)
 
 -- a name is text

@@ -2,7 +2,7 @@
 use Rattle.std.proofs.Common.{◌≡◌, ℕ, zero, suc, ◌+◌, ◌-◌, ◌<◌, ◌≤◌, min, max, Bool, true, false, ◌&&◌, List, [], ◌∷◌, ◌++◌, length, slice_index, sum, sum_by, refl, ◌∙◌, subst, inl, inr, arith, if◌then◌else◌}
 use Rattle.std.specs.List.{range_with_len}
 use Rattle.std.proofs.Math.Nat.{max_comm}
-use Rattle.std.proofs.lemmas.Bool.{cases_lt, cases_order}
+use Rattle.std.proofs.lemmas.Bool.{cases_lt, cases_order, and_parts}
 use Rattle.std.proofs.lemmas.List.{append_assoc, get_or_at, get_or_past, length_push}
 use Rattle.std.proofs.lemmas.List.Sums.{sum_by-cons}
 use Rattle.lock_messages.specs.declared.tickets.Mode.{Mode}
@@ -65,14 +65,10 @@ votes-from front (v ∷ votes) =
 pub votes-all : (b : Ballot) → sum_by (votes_at b) (nodes b) ≡ total b
 votes-all b = votes-from [] b.votes
 
-among-range : (a k n : ℕ) → Among n (range_with_len a k) → (a ≤ n) × (n < a + k)
+pub among-range : (a k n : ℕ) → Among n (range_with_len a k) → (a ≤ n) × (n < a + k)
 among-range a zero n h = absurd h
 among-range a (suc k) n (inl e) = (omega arith, omega arith)
 among-range a (suc k) n (inr h) = let r = among-range (a + 1) k n h in (omega arith, omega arith)
-
-both-true : (a b : Bool) → (a && b) ≡ true → (a ≡ true) × (b ≡ true)
-both-true true b h = (refl, h)
-both-true false b h = cc
 
 -- a sum over the first nodes is no more than one over more nodes
 sum-longer : (f : ℕ → ℕ) (a k m : ℕ) → k ≤ m → sum_by f (range_with_len a k) ≤ sum_by f (range_with_len a m)
@@ -100,7 +96,7 @@ share-both first second left right h =
     let r = sum-longer (λ n. if right n then g n else 0) 1 (length second.votes) (max (length first.votes) (length second.votes)) (omega arith) in
     let p = part-place (λ n. min (f n) (g n)) (both left right) xs (omega (arith, l, r, part-both f g left right xs)) in
     let range = among-range 1 (max (length first.votes) (length second.votes)) p.0 p.1.among in
-    let t = both-true (left p.0) (right p.0) p.1.chosen_is in
+    let t = and_parts (left p.0) (right p.0) p.1.chosen_is in
     let some = p.1.some in
     let in_first : 0 < votes_at first p.0 = omega (arith, some) in
     let in_second : 0 < votes_at second p.0 = omega (arith, some) in (

@@ -27,6 +27,7 @@ use Rattle.lock_model.proofs.StationFacts.{writer-causes}
 use Rattle.lock_model.proofs.SettlingFacts.{refused-cause, admitted-free, settled-settles}
 use Rattle.lock_model.proofs.EntryEdits.{ended-ends, ended-well, softened-softens, softened-well, settled-well, moved-puts, moved-well}
 use Rattle.lock_model.proofs.GrantFacts.{settle-in-step, replies-are, only-reply}
+use Rattle.lock_model.proofs.HearingFacts.{mode-to}
 
 -- ending attempts
 
@@ -248,12 +249,6 @@ takes-up-well n p es t positive w =
 
 -- a request, by what the node knows of its client
 
-same-mode-true : (a b : Mode) → same_mode a b ≡ true → a ≡ b
-same-mode-true Read Read h = refl
-same-mode-true Read Write h = cc
-same-mode-true Write Read h = cc
-same-mode-true Write Write h = refl
-
 same-mode-false : (a b : Mode) → same_mode a b ≡ false → a ≢ b
 same-mode-false Read Read h e = cc
 same-mode-false Read Write h e = cc
@@ -336,7 +331,7 @@ asked-live p es n t k w l c live same reply = go (cases_Bool (same_mode (asked_m
     go : ((same_mode (asked_mode k.mode k.status) t.mode && bytes_eq k.resource t.resource) ≡ true) ⊎ ((same_mode (asked_mode k.mode k.status) t.mode && bytes_eq k.resource t.resource) ≡ false) → IsAllowed p es (Request n t)
     go (inl h) =
         let parts = and_parts (same_mode (asked_mode k.mode k.status) t.mode) (bytes_eq k.resource t.resource) h in
-        by_status k.status refl (same-mode-true (asked_mode k.mode k.status) t.mode parts.0) ((bytes_eq-Decides k.resource t.resource).0 parts.1) (told true h)
+        by_status k.status refl (mode-to (asked_mode k.mode k.status) t.mode parts.0) ((bytes_eq-Decides k.resource t.resource).0 parts.1) (told true h)
     go (inr h) = unchanged p es n t (Muddled n t.client t.attempt) w l c
         (muddled k.mode k.resource k.status floor claim (differs (and_cases (same_mode (asked_mode k.mode k.status) t.mode) (bytes_eq k.resource t.resource) h)) refl (only-reply (Muddled n t.client t.attempt)))
         (told false h)

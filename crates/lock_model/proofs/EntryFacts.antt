@@ -33,7 +33,7 @@ any-none p (y ∷ ys) x h (inr m) = any-none p ys x (or_parts (p y) (list_any p 
 
 -- whose entry it is
 
-eqb-swap : (a b : ℕ) → (a == b) ≡ false → (b == a) ≡ false
+pub eqb-swap : (a b : ℕ) → (a == b) ≡ false → (b == a) ≡ false
 eqb-swap a b h = go (cases_Bool (b == a))
   where
     go : ((b == a) ≡ true) ⊎ ((b == a) ≡ false) → (b == a) ≡ false

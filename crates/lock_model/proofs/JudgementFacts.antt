@@ -1,7 +1,7 @@
 -- The tests on entries say what they are meant to say of the station.
 use Rattle.std.proofs.Common.{◌≡◌, ◌↔◌, ℕ, ◌⊎◌, Bool, true, false, not, ◌&&◌, ◌||◌, List, [], ◌∷◌, Option, Some, None, IsTrue, refl, sym, ◌∙◌, ap, subst, inl, inr}
 use Rattle.std.specs.List.{list_all}
-use Rattle.std.proofs.lemmas.Bool.{eqb-true, eq-eqb, cases_Bool, and_parts, and_from, or_left, or_right}
+use Rattle.std.proofs.lemmas.Bool.{eqb-true, eq-eqb, cases_Bool, and_parts, and_from, or_left, or_right, not-true}
 use Rattle.lock_messages.specs.declared.tickets.Mode.{Mode}
 use Rattle.lock_messages.specs.declared.tickets.Mode.TheVariants.{Write}
 use Rattle.lock_model.specs.declared.entries.Entry.{Entry}
@@ -18,12 +18,12 @@ use Rattle.lock_model.proofs.SettlingFacts.{waiting-true, holding-true, holder-h
 use Rattle.std.proofs.lemmas.Slice.Eq.{bytes_eq-Decides}
 use Rattle.std.specs.Str.{bytes_eq}
 
-all-of : {A : Type 0} (p : A → Bool) (xs : List A) (x : A) → list_all p xs ≡ true → Among x xs → p x ≡ true
+pub all-of : {A : Type 0} (p : A → Bool) (xs : List A) (x : A) → list_all p xs ≡ true → Among x xs → p x ≡ true
 all-of p [] x h m = absurd m
 all-of p (y ∷ ys) x h (inl e) = ap p e ∙ (and_parts (p y) (list_all p ys) h).0
 all-of p (y ∷ ys) x h (inr m) = all-of p ys x (and_parts (p y) (list_all p ys) h).1 m
 
-all-from : {A : Type 0} (p : A → Bool) (xs : List A) → ((x : A) → Among x xs → p x ≡ true) → list_all p xs ≡ true
+pub all-from : {A : Type 0} (p : A → Bool) (xs : List A) → ((x : A) → Among x xs → p x ≡ true) → list_all p xs ≡ true
 all-from p [] h = refl
 all-from p (y ∷ ys) h = and_from (p y) (list_all p ys) (h y (inl refl)) (all-from p ys (λ x m. h x (inr m)))
 
@@ -35,10 +35,6 @@ first-of : (a b : Bool) → b ≡ true → (a || not b) ≡ true → a ≡ true
 first-of true b p h = refl
 first-of false true p h = absurd (let z : false ≡ true = h in cc)
 first-of false false p h = absurd (let z : false ≡ true = p in cc)
-
-is-not : (a : Bool) → not a ≡ true → a ≡ false
-is-not true h = absurd (let z : false ≡ true = h in cc)
-is-not false h = refl
 
 -- ---- lawful
 
@@ -94,7 +90,7 @@ ticket-caused p es o all c m x f =
     let a = entry_of-found es c f.entry f.entry_is in
     let mine : has_cause p es (Some f.live) ≡ true = ap (has_cause p es) (sym f.live_is) ∙ all-of (λ e. has_cause p es e.live) es f.entry all a.0 in
     let refused : not (admits p f.live.mode f.live.resource es) ≡ true = second-of (is_waiting f.live.status) (not (admits p f.live.mode f.live.resource es)) (ap (λ s. not (is_waiting s)) f.status_is) mine in
-    let cause = refused-cause p es f.live.mode f.live.resource o (is-not (admits p f.live.mode f.live.resource es) refused) in
+    let cause = refused-cause p es f.live.mode f.live.resource o (not-true (admits p f.live.mode f.live.resource es) refused) in
     subst (λ y. Cause (meaning p es) m y) f.resource_is (subst (λ n. Cause (meaning p es) n f.live.resource) f.mode_is cause)
 
 caused-from : (p : Problem) (es : List Entry) → EachOnce es → IsCaused (meaning p es) → is_caused p es ≡ true

@@ -1,6 +1,6 @@
 -- Settling by one pass that writes each entry in its place.
-use Rattle.std.proofs.Common.{◌≡◌, ℕ, ◌+◌, ◌<◌, ◌≤◌, List, [], ◌∷◌, ◌++◌, length, get_or, set, take, drop, refl, sym, ◌∙◌, ap, arith}
-use Rattle.std.proofs.lemmas.List.{append_assoc, append-nil, take_more, take_more_set, drop_more, drop-set-lt, length-set, take-append-drop, length-take-le, take_all, drop_all}
+use Rattle.std.proofs.Common.{◌≡◌, ℕ, ◌+◌, ◌<◌, List, [], ◌∷◌, ◌++◌, length, get_or, set, take, drop, sym, ◌∙◌, ap, arith}
+use Rattle.std.proofs.lemmas.List.{append_assoc, append-nil, take_more, take_more_set, drop_more, drop-set-lt, length-set, take-append-drop, length-take-le}
 use Rattle.lock_messages.specs.declared.messages.Message.{Message}
 use Rattle.lock_model.specs.declared.entries.Entry.{Entry}
 use Rattle.lock_model.specs.declared.problems.Problem.{Problem}
@@ -19,9 +19,6 @@ grants-push n [] [] e f h = append-nil (told n e f)
 grants-push n [] (g ∷ fs) e f h = absurd (omega arith)
 grants-push n (d ∷ es) [] e f h = absurd (omega arith)
 grants-push n (d ∷ es) (g ∷ fs) e f h = ap (λ ms. told n d g ++ ms) (grants-push n es fs e f (omega arith)) ∙ sym (append_assoc (told n d g) (grants n es fs) (told n e f))
-
-pub settled-none : (p : Problem) (n : ℕ) (old : List Entry) (first : List Message) → SettledUpTo p n old first 0 old first
-settled-none p n old first = record { size = refl; goes_on = refl; rest = refl; told_so = sym (append-nil first) }
 
 pub settled-more : (p : Problem) (n : ℕ) (old : List Entry) (first : List Message) (k : ℕ) (now : List Entry) (replies : List Message) (e : Entry) → SettledUpTo p n old first k now replies →
     k < length now → e ≡ get_or now k e → (more : List Message) → more ≡ replies ++ told n e (settled_entry p now e) → SettledUpTo p n old first (k + 1) (set now k (settled_entry p now e)) more
@@ -48,11 +45,3 @@ settled-more p n old first k now replies e s below is more said =
       told_so = said ∙ ap (λ ms. ms ++ told n e f) s.told_so ∙ append_assoc first (grants n (take k old) (take k now)) (told n e f)
           ∙ ap (λ ms. first ++ ms) (sym (grants-push n (take k old) (take k now) e f sizes) ∙ ap (λ es. grants n es (take k now ++ f ∷ [])) (sym old_front) ∙ ap (grants n (take (k + 1) old)) (sym front));
     }
-
-pub settled-all : (p : Problem) (n : ℕ) (old : List Entry) (first : List Message) (k : ℕ) (now : List Entry) (replies : List Message) → SettledUpTo p n old first k now replies → length now ≤ k → now ≡ settled p old
-settled-all p n old first k now replies s h =
-    sym (append-nil now) ∙ ap (λ xs. xs ++ settle p xs []) (sym (take_all k now h)) ∙ ap (λ ys. take k now ++ settle p (take k now) ys) (sym (drop_all k now h)) ∙ s.goes_on
-
-pub told-all : (p : Problem) (n : ℕ) (old : List Entry) (first : List Message) (k : ℕ) (now : List Entry) (replies : List Message) → SettledUpTo p n old first k now replies → length now ≤ k → replies ≡ first ++ grants n old now
-told-all p n old first k now replies s h =
-    s.told_so ∙ ap (λ es. first ++ grants n es (take k now)) (take_all k old (omega (arith, s.size))) ∙ ap (λ fs. first ++ grants n old fs) (take_all k now h)

@@ -11,15 +11,11 @@ use Rattle.lock_model.specs.declared.problems.Problem.{Problem}
 use Rattle.lock_model.specs.Decisions.{Among}
 use Rattle.lock_model.specs.ExactStations.{is_of, entry_of, EachOnce, is_waiting, is_holding, if_live, admits, promoted, settled_live, settled_entry, settle, settled, with_choice, with_holders, IsSettling, waits_in, holds_in, new_holders}
 use Rattle.lock_model.proofs.EntryFacts.{once-middle, once-same, entry_of-here, entry_of-found, entry_of-among}
+use Rattle.lock_model.proofs.SettlingFacts.{waiting-true}
 
 -- an entry whose ticket waits, and one whose ticket doesn't
 
-waiting_status : (s : Status) → is_waiting s ≡ true → s ≡ Waiting
-waiting_status Waiting h = refl
-waiting_status Holding h = cc
-waiting_status Softened h = cc
-
-holding-waits : (s : Status) → is_waiting s ≡ false → is_holding s ≡ true
+pub holding-waits : (s : Status) → is_waiting s ≡ false → is_holding s ≡ true
 holding-waits Waiting h = cc
 holding-waits Holding h = refl
 holding-waits Softened h = refl
@@ -56,7 +52,7 @@ unchosen-entry e chosen h = ap (λ b. cond b (record { client = e.client; floor 
 
 waits-with : (e : Entry) (o : Option Live) → e.live ≡ o → if_live (λ l. is_waiting l.status) e.live ≡ true → (l : Live) × WaitsWith e l
 waits-with e None k h = absurd (let z : false ≡ true = sym (ap (if_live (λ l. is_waiting l.status)) k) ∙ h in cc)
-waits-with e (Some l) k h = (l, record { live = k; waiting = waiting_status l.status (sym (ap (if_live (λ l. is_waiting l.status)) k) ∙ h) })
+waits-with e (Some l) k h = (l, record { live = k; waiting = waiting-true l.status (sym (ap (if_live (λ l. is_waiting l.status)) k) ∙ h) })
 
 waits-with-true : (e : Entry) (l : Live) → WaitsWith e l → if_live (λ l. is_waiting l.status) e.live ≡ true
 waits-with-true e l w = ap (if_live (λ l. is_waiting l.status)) w.live ∙ ap is_waiting w.waiting

@@ -27,7 +27,7 @@ switch-allowed p q es n w l =
     }
 
 -- who waits doesn't hold, so nobody becomes a holder where nothing changes
-not-both-at : (s : Status) → (is_waiting s && is_holding s) ≡ false
+pub not-both-at : (s : Status) → (is_waiting s && is_holding s) ≡ false
 not-both-at Waiting = refl
 not-both-at Holding = refl
 not-both-at Softened = refl
@@ -39,7 +39,7 @@ told-same n e = go e.live
     go None = refl
     go (Some l) = ap (λ b. cond b (grant_of n e.client (Some l)) []) (not-both-at l.status)
 
-grants-same : (n : ℕ) (es : List Entry) → grants n es es ≡ []
+pub grants-same : (n : ℕ) (es : List Entry) → grants n es es ≡ []
 grants-same n [] = refl
 grants-same n (e ∷ es) = ap (λ m. m ++ grants n es es) (told-same n e) ∙ grants-same n es
 

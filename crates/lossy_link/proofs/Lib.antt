@@ -1,2 +1,3 @@
 pub mod FateFacts
 pub mod LinkFacts
+pub mod GivenFacts

@@ -1,5 +1,5 @@
 -- What a node's own log tells of what it sends.
-use Rattle.std.proofs.Common.{◌≡◌, ℕ, Bool, List, [], ◌∷◌, ◌++◌, Option, None, Some, refl, sym, ap, ◌∙◌, append_assoc, append-nil}
+use Rattle.std.proofs.Common.{◌≡◌, ℕ, Bool, List, [], ◌∷◌, ◌++◌, Option, refl, sym, ap, ◌∙◌, append_assoc, append-nil}
 use Rattle.lock_messages.specs.declared.ids.Actor.{Actor}
 use Rattle.lock_messages.specs.declared.ids.Actor.TheVariants as actor
 use Rattle.lock_messages.specs.declared.messages.Message.{Message}
@@ -9,6 +9,7 @@ use Rattle.lossy_link.specs.declared.parcels.Post.TheVariants as post
 use Rattle.lossy_link.specs.declared.parcels.Sending.{Sending}
 use Rattle.lossy_link.specs.declared.parcels.Sending.TheVariants as sending
 use Rattle.lossy_link.specs.Links.{one_more, all_more}
+use Rattle.lossy_link.proofs.GivenFacts.{more_and_more, one_is_more, none_more}
 use Rattle.voter_core.specs.Voters.{Voter, Stored, record_of, replies_in}
 use Rattle.world_model.specs.declared.events.Age.{Age}
 use Rattle.world_model.specs.declared.events.Effect.{Effect}
@@ -21,11 +22,6 @@ use Rattle.event_recorders.specs.OwnLogs.{OwnLog, part_now, adds, IsAdded, IsUnu
 use Rattle.actor_steps.specs.Steps.{IsKept, IsRisenAgain}
 use Rattle.node_loop.specs.Standing.{StandsBy}
 use Rattle.node_loop.specs.Replies.{sendings, sent_for, sent_by, sent_of, first_of, SentFollows}
-
--- nothing more
-pub none_more : (given : Option (List Sending)) → all_more given [] ≡ given
-none_more None = refl
-none_more (Some ys) = ap Some (append-nil ys)
 
 -- one event more sends what it sends from the part before it
 by_one_more : (b : List Ballot) (p : Part) (own : List (Event × Effect)) (e : Event) (done : Effect) →
@@ -70,14 +66,6 @@ rising_tells l l' n m age same again =
     silent fallen l' (event.Rise (actor.Node n) age) effect.Up again.risen refl
     ∙ sent_more l fallen (event.Fall (actor.Node n)) effect.Down again.fallen
     ∙ ap (λ k. sent_of l ++ sending.Told (post.Nudge k) ∷ []) same
-
-pub more_and_more : (before : Option (List Sending)) (xs ys : List Sending) → all_more (all_more before xs) ys ≡ all_more before (xs ++ ys)
-more_and_more None xs ys = refl
-more_and_more (Some zs) xs ys = ap Some (append_assoc zs xs ys)
-
-pub one_is_more : (before : Option (List Sending)) (x : Sending) → one_more before x ≡ all_more before (x ∷ [])
-one_is_more None x = refl
-one_is_more (Some zs) x = refl
 
 -- Say: what is sent is what is said
 pub said_is_sent : (l : OwnLog) (v : Voter) (n first count : ℕ) (done : Effect) (strings : List (List ℕ)) (stuck : Bool) (replies : List Message) →

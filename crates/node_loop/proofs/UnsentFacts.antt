@@ -11,6 +11,7 @@ use Rattle.lossy_link.specs.declared.parcels.Post.TheVariants as post
 use Rattle.lossy_link.specs.declared.parcels.Sending.{Sending}
 use Rattle.lossy_link.specs.declared.parcels.Sending.TheVariants as sending
 use Rattle.lossy_link.specs.Links.{one_more, all_more, refused_after, IsRefused}
+use Rattle.lossy_link.proofs.GivenFacts.{more_and_more, one_is_more, none_more}
 use Rattle.stable_record.specs.declared.node_records.NodeRecord.{NodeRecord}
 use Rattle.voter_core.specs.Voters.{Voter, Stored, record_of, replies_in}
 use Rattle.world_model.specs.declared.events.Age.{Age}
@@ -28,7 +29,7 @@ use Rattle.actor_steps.specs.Steps.{IsRisenAgain}
 use Rattle.node_loop.specs.Standing.{StandsBy, FailsToKeep}
 use Rattle.node_loop.specs.Replies.{addressee, sendings, sent_for, sent_of, SentFollows}
 use Rattle.node_loop.specs.Unsent.{latest, last_by, last_sent, HasGiven, GivesSome, HasSent, IsWhole, SentAsFar, ToldAsFar, TellsGone, HasGone}
-use Rattle.node_loop.proofs.SentFacts.{none_more, sent_more, trying_sends_nothing, said_is_sent, more_and_more, one_is_more}
+use Rattle.node_loop.proofs.SentFacts.{sent_more, trying_sends_nothing, said_is_sent}
 
 latest_of_none : {X : Type 0} (xs : List X) → latest [] xs ≡ xs
 latest_of_none [] = refl

@@ -1,6 +1,5 @@
 -- What is said of words by the sort of an error.
-use Rattle.std.proofs.Common.{◌≡◌, ◌⊎◌, inl, inr, List, ℕ, Option, Some, None, refl, subst}
-use Rattle.std.specs.Io.KnownBytes.{Keeps}
+use Rattle.std.proofs.Common.{◌≡◌, ◌⊎◌, inl, inr, subst}
 use Rattle.clap.specs.Words.{Kinds, IsAmong, HasKind, kind_of}
 use Rattle.clap.specs.declared.error.Error.{Error}
 use Rattle.clap.specs.declared.error.kind.ErrorKind.{ErrorKind}
@@ -22,7 +21,3 @@ unserved_so e (unserved.Wrong text) s kinds h = by_kind kinds (kind_of e) sort.W
 
 pub unserved_same : (kinds : Kinds) (u v : Unserved) → IsUnserved kinds u → u ≡ v → IsUnserved kinds v
 unserved_same kinds u v h e = subst (IsUnserved kinds) e h
-
-pub keeps_same : (o : Option (List ℕ)) → Keeps o o
-keeps_same None = tt
-keeps_same (Some xs) = refl

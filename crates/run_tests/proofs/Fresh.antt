@@ -1,8 +1,6 @@
 -- An actor that has logged nothing in a new book is what its loop needs.
 use Rattle.std.proofs.Common.{◌≡◌, ℕ, zero, suc, ◌-◌, ◌<◌, ◌≤◌, cond, List, [], ◌∷◌, map, replicate, slice_get, Some, None, refl, sym, ap, ◌∙◌, subst, arith}
-use Rattle.std.specs.Option.{option_map}
 use Rattle.std.proofs.lemmas.Bool.{ne_eqb}
-use Rattle.std.proofs.lemmas.Option.{slice_get-map}
 use Rattle.lock_messages.specs.declared.ids.Actor.TheVariants as actor
 use Rattle.lock_model.specs.Ballots.{Ballot, node_count}
 use Rattle.lock_model.specs.declared.problems.Problem.TheVariants.{First}
@@ -15,15 +13,13 @@ use Rattle.event_recorders.specs.OwnLogs.{OwnLog, IsDownAtRest}
 use Rattle.node_loop.specs.Standing.{IsReady}
 use Rattle.run_service.specs.Empty.{empty_record}
 use Rattle.run_tests.specs.Fresh.{new_log, node_log, client_log}
+use Rattle.node_threads.proofs.Openings.{image_at}
 
 -- each place of a list of one value has it
 same_at : {A : Type 0} (m i : ℕ) (x : A) → i < m → slice_get (replicate m x) i ≡ Some x
 same_at zero i x within = absurd (omega (arith, within))
 same_at (suc m) zero x within = refl
 same_at (suc m) (suc i) x within = same_at m i x (omega (arith, within))
-
-image_at : {A B : Type 0} (f : A → B) (xs : List A) (i : ℕ) (x : A) → slice_get xs i ≡ Some x → slice_get (map f xs) i ≡ Some (f x)
-image_at f xs i x at = slice_get-map f xs i ∙ ap (option_map f) at
 
 -- what stands at a place, counted from 0, has the next number
 by_number : {A : Type 0} (xs : List A) (n : ℕ) (x : A) → 1 ≤ n → slice_get xs (n - 1) ≡ Some x → numbered xs n ≡ Some x

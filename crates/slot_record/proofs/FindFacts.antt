@@ -1,18 +1,15 @@
 -- What is read of the slots is what stands there.
-use Rattle.std.proofs.Common.{◌≡◌, ℕ, ◌+◌, Bool, true, false, cond, ltb, List, ◌++◌, length, get_or, take, Some, None, refl, sym, ◌∙◌, ap, subst, arith}
-use Rattle.std.specs.Prelude.{◌↔◌, IsTrue}
+use Rattle.std.proofs.Common.{◌≡◌, ℕ, ◌+◌, Bool, true, false, cond, ltb, List, ◌++◌, length, get_or, take, Some, None, refl, sym, ◌∙◌, ap, arith}
 use Rattle.std.specs.Int.{w32, w64, from_be_bytes}
 use Rattle.std.proofs.lemmas.Bool.{eqb-true, eq-eqb}
 use Rattle.std.proofs.lemmas.List.{take_at}
 use Rattle.slot_record.specs.declared.slots.Slot.{Slot}
 use Rattle.slot_record.specs.declared.slots.Slot.TheVariants.{First, Second}
 use Rattle.slot_record.specs.declared.slots.TheConstants.{OPEN}
-use Rattle.slot_record.specs.declared.standing.Known.{Known}
 use Rattle.slot_record.specs.declared.heads.Head.{Head}
 use Rattle.slot_record.specs.Images.{Image, part}
-use Rattle.slot_record.specs.Plates.{PlateState, Only, NothingNew}
-use Rattle.slot_record.specs.Slots.{start_of, other_of, head_on, body_of, rank, holder_on}
-use Rattle.slot_record.specs.Records.{IsSettled}
+use Rattle.slot_record.specs.Plates.{PlateState, Only}
+use Rattle.slot_record.specs.Slots.{start_of, head_on, body_of, rank}
 use Rattle.slot_record.specs.Finding.{found_in, chosen, IsLookedUp}
 use Rattle.slot_record.proofs.ImageFacts.{part-part, get_or-part}
 use Rattle.slot_record.proofs.SlotFacts.{heads_same}
@@ -58,20 +55,6 @@ module _ (s : PlateState) (only : Only s.seen s) where
 
   pub looked_up : IsLookedUp s (chosen first second)
   looked_up = looked (ltb (rank first) (rank second)) (ltb 0 (rank first)) refl refl
-
-abbrev IsOpenThere : Known → Image → Type 0
-IsOpenThere known image = IsTrue known.other_open ↔ ((head_on (other_of known.own) image).gate ≡ OPEN)
-
--- what is settled is so still after reads
-pub settled_still : (known : Known) (old new : PlateState) → IsSettled old known → new.seen ≡ old.seen → NothingNew old new → IsSettled new known
-settled_still known old new settled same nothing =
-    let all : (c : Image) → new.may_leave c → c ≡ new.seen = λ c left. settled.synced c (nothing c left) ∙ sym same in
-    record {
-      synced = all;
-      holder = ap holder_on same ∙ settled.holder;
-      sequence = settled.sequence ∙ ap (λ (image : Image). (head_on known.own image).sequence) (sym same);
-      gate = subst (λ (image : Image). IsOpenThere known image) (sym same) settled.gate;
-    }
 
 -- a body by its bytes, at the front of a buffer
 pub body_read : (own : Slot) (old new : Image) (at n m : ℕ) (bytes rest : List ℕ) → at ≡ start_of own + 13 → m ≡ n → n ≡ (head_on own old).length → length bytes ≡ m → bytes ≡ part at m old → new ≡ old → take n (bytes ++ rest) ≡ body_of own new

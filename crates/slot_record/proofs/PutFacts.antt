@@ -51,11 +51,6 @@ take-put (suc n) zero (b ∷ bytes) (x ∷ image) = ap (λ (l : Image). b ∷ l)
 take-put (suc n) (suc at) bytes [] = refl
 take-put (suc n) (suc at) bytes (x ∷ image) = ap (λ (l : Image). x ∷ l) (take-put n at bytes image)
 
-put_none : (at : ℕ) (image : List ℕ) → put at [] image ≡ image
-put_none zero image = refl
-put_none (suc at) [] = refl
-put_none (suc at) (x ∷ image) = ap (λ (l : Image). x ∷ l) (put_none at image)
-
 -- what is behind n bytes after a put depends on what was behind them before
 drop_put_same : (n at : ℕ) (bytes a b : List ℕ) → drop n a ≡ drop n b → length a ≡ length b → drop n (put at bytes a) ≡ drop n (put at bytes b)
 drop_put_same zero at bytes a b same long = ap (λ (l : Image). put at bytes l) same

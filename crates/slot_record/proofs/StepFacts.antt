@@ -89,15 +89,6 @@ module _ (known : Known) (at : ℕ) (old new : PlateState) (there : at ≡ start
         gate = λ e. omega (arith, shut, e);
       }
 
--- where it is closed already
-pub closed_already : (known : Known) (s : PlateState) → IsSettled s known → (known.other_open ≡ true → ⊥) → IsClosed s known.own known.sequence
-closed_already known s settled shut = record {
-  synced = settled.synced;
-  holder = settled.holder;
-  number = settled.sequence;
-  gate = λ e. shut (settled.gate.1 e);
-}
-
 -- a record that is settled stays where it is
 pub settled_holds : (known : Known) (s : PlateState) → IsSettled s known → (c : Image) → s.may_leave c → StillHolds known.own s.seen c
 settled_holds known s settled c left =

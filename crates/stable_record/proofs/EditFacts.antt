@@ -1,7 +1,7 @@
 -- The tickets of a resource, when an entry within the list changes.
 use Rattle.std.proofs.Common.{◌≡◌, ℕ, ◌+◌, ◌-◌, Bool, true, false, ◌||◌, ◌&&◌, cond, List, [], ◌∷◌, ◌++◌, length, filter, map, Some, None, refl, sym, ap, ◌∙◌, arith}
 use Rattle.std.specs.Str.{bytes_eq}
-use Rattle.std.proofs.lemmas.Bool.{or_parts, eq-eqb}
+use Rattle.std.proofs.lemmas.Bool.{or_parts, eq-eqb, and_right}
 use Rattle.std.proofs.lemmas.List.{map-append}
 use Rattle.lock_model.specs.declared.entries.Entry.{Entry}
 use Rattle.lock_model.specs.declared.entries.Live.{Live}
@@ -9,7 +9,7 @@ use Rattle.lock_model.specs.ExactStations.{is_of, knows, entry_of, EachOnce, is_
 use Rattle.stable_record.specs.EntryLists.{replaced}
 use Rattle.stable_record.specs.Lines.{is_for, waits_for, count_live, clients_of, tickets_for, line_of, one_if}
 use Rattle.stable_record.specs.Indexing.{without_first, without_ticket, with_holder}
-use Rattle.stable_record.proofs.LineFacts.{and-yes, and-no, off-live, holds-within, writer_holds-within, waits_for-within, writer_waits-within}
+use Rattle.stable_record.proofs.LineFacts.{and-yes, off-live, holds-within, writer_holds-within, waits_for-within, writer_waits-within}
 use Rattle.stable_record.proofs.MapFacts.{replaced-unknown}
 
 -- ---- where a client's entry stands
@@ -185,7 +185,7 @@ tickets-held x front rest e l is k holding waiting =
     let one : one_if (is_holding l.status) ≡ 1 = ap one_if holding in
     let p : count_live (holds x) (front ++ rest) + 1 ≡ count_live (holds x) (front ++ e ∷ rest) = omega (arith, c.holders, one) in
     let q = sym (c.writing_holders ∙ ap (λ b. count_live (writer_holds x) (front ++ rest) + one_if b) (and-yes (is_write l.mode) (is_holding l.status) holding)) in
-    let zero : one_if (is_write l.mode && is_waiting l.status) ≡ 0 = ap one_if (and-no (is_write l.mode) (is_waiting l.status) waiting) in
+    let zero : one_if (is_write l.mode && is_waiting l.status) ≡ 0 = ap one_if (and_right (is_write l.mode) (is_waiting l.status) waiting) in
     let r : count_live (writer_waits x) (front ++ rest) ≡ count_live (writer_waits x) (front ++ e ∷ rest) = omega (arith, c.waiting_writers, zero) in
     let s = sym (clients-without (waits_for x) front rest e (c.waits ∙ waiting)) in
     λ i. record { holders = p i; writing_holders = q i; waiting_writers = r i; waiting = s i }

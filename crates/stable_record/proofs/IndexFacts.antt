@@ -19,6 +19,7 @@ use Rattle.lock_model.specs.declared.entries.Status.{Status}
 use Rattle.lock_model.specs.declared.entries.Status.TheVariants.{Waiting, Holding, Softened}
 use Rattle.lock_model.specs.ExactStations.{is_of, knows, entry_of, EachOnce, is_waiting, is_holding, is_write, if_live, any_live, holds, writer_holds, writer_waits, promoted}
 use Rattle.lock_model.specs.ExactDecisions.{moved_last}
+use Rattle.lock_model.proofs.SettlingSets.{holding-waits}
 use Rattle.stable_record.specs.EntryLists.{replaced}
 use Rattle.stable_record.specs.Lines.{Tickets, is_for, waits_for, count_live, clients_of, tickets_for, line_of, line_in, Indexes, or_none, one_if, with_ticket, Joins}
 use Rattle.stable_record.specs.Indexing.{announced_ticket, announced_entry, with_announced, IndexesWith, IsEntryAmong, HasNoTicket, without_live, with_holding, softened_holder, with_softened, without_ticket, with_holder, with_promoted, with_softened_holder, without_last, with_confirmed, is_no_tickets, unless_empty, Puts, AreCounted}
@@ -165,11 +166,6 @@ ended-there old new front rest e f l is gone none h puts =
     ∙ empty-line x (front ++ rest) ∙ sym (line-without x front rest f (idle x)))
     (λ y k. line-without y front rest e (ap (if_live (is_for y)) is ∙ k) ∙ sym (line-without y front rest f (idle y)))
 
-holding-is : (s : Status) → is_waiting s ≡ false → is_holding s ≡ true
-holding-is Waiting h = absurd cc
-holding-is Holding h = refl
-holding-is Softened h = refl
-
 -- a ticket of the same client for the same resource comes in the place of another
 turned-there : (change : Tickets → Tickets) (old new : List (List ℕ × Tickets)) (front rest : List Entry) (e f : Entry) (l m : Live) → e.live ≡ Some l → f.live ≡ Some m → m.resource ≡ l.resource →
     change (tickets_for l.resource (front ++ e ∷ rest)) ≡ tickets_for l.resource (front ++ f ∷ rest) →
@@ -213,7 +209,7 @@ held-there old new front rest e l is none h puts =
         ∙ ap (with_holder l.mode) (tickets-ended x front rest e l is (self-eq x) none) ∙ holds_now
     go (inr w) =
         ap (λ b. cond b (with_holder l.mode (without_ticket e.client l all)) all) w
-        ∙ sym (tickets-held x front rest e l is (self-eq x) (holding-is l.status w) w) ∙ holds_now
+        ∙ sym (tickets-held x front rest e l is (self-eq x) (holding-waits l.status w) w) ∙ holds_now
 
 -- ---- a ticket is softened
 
@@ -423,7 +419,7 @@ confirmed-last old new e l es is h puts =
     ∙ sym (line-here x es e l is (self-eq x)))
     (λ y k. line-other y es (announced_entry (e.client, x)) k ∙ sym (line-other y es e (ap (if_live (is_for y)) is ∙ k)))
 
-nowhere : (c : ℕ) (es : List Entry) → entry_of es c ≡ None → knows c es ≡ false
+pub nowhere : (c : ℕ) (es : List Entry) → entry_of es c ≡ None → knows c es ≡ false
 nowhere c [] h = refl
 nowhere c (e ∷ es) h = go (is_of c e) (nowhere c es) h
   where

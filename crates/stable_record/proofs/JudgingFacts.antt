@@ -75,7 +75,7 @@ only-unknown c x (e ∷ es) h =
     go true ih = sym (ne_eqb (suc (length left)) 0 (λ z. omega (arith, z)))
     go false ih = ih
 
-knows-at : (es : List Entry) (i : ℕ) (e : Entry) → slice_get es i ≡ Some e → knows e.client es ≡ true
+pub knows-at : (es : List Entry) (i : ℕ) (e : Entry) → slice_get es i ≡ Some e → knows e.client es ≡ true
 knows-at [] i e h = cc
 knows-at (d ∷ es) zero e h = let same : d ≡ e = cc in ap (λ b. b || knows e.client es) (eq-eqb d.client e.client (ap (λ (x : Entry). x.client) same))
 knows-at (d ∷ es) (suc i) e h = go (is_of e.client d) (knows-at es i e h)
@@ -149,7 +149,7 @@ alone-at lines es h once i client floor (Some l) at = go (is_write l.mode && is_
         ap (λ (t : Tickets). t.holders == 1) (read-line lines es h l.resource) ∙ sym (only-known l.resource es i (record { client = client; floor = floor; live = Some l }) once at held) in
         ap (λ b. not (is_write l.mode && is_holding l.status) || b) same
 
-seam : (front es : List Entry) (e : Entry) → slice_get (front ++ e ∷ es) (length front) ≡ Some e
+pub seam : (front es : List Entry) (e : Entry) → slice_get (front ++ e ∷ es) (length front) ≡ Some e
 seam [] es e = refl
 seam (f ∷ front) es e = seam front es e
 

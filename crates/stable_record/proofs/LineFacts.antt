@@ -5,7 +5,7 @@ use Rattle.std.specs.BTreeMap.{is_at}
 use Rattle.std.specs.Cmp.Lexicographic.{slice_cmp}
 use Rattle.std.specs.Ordering.{nat_cmp}
 use Rattle.std.specs.Str.{bytes_eq}
-use Rattle.std.proofs.lemmas.Bool.{cases_Bool, or_parts}
+use Rattle.std.proofs.lemmas.Bool.{cases_Bool, or_parts, or_right, and_right}
 use Rattle.std.proofs.lemmas.List.{append-nil, take_more}
 use Rattle.std.proofs.lemmas.Option.{get_or_from_slice_get}
 use Rattle.std.proofs.lemmas.Map.Text.{is_eq-slice_cmp}
@@ -109,14 +109,6 @@ pub and-yes : (b c : Bool) → c ≡ true → (b && c) ≡ b
 and-yes true c h = h
 and-yes false c h = refl
 
-pub and-no : (b c : Bool) → c ≡ false → (b && c) ≡ false
-and-no true c h = h
-and-no false c h = refl
-
-pub or-yes : (b c : Bool) → c ≡ true → (b || c) ≡ true
-or-yes true c h = refl
-or-yes false c h = h
-
 pub or-no : (b c : Bool) → c ≡ false → (b || c) ≡ b
 or-no true c h = refl
 or-no false c h = h
@@ -126,16 +118,16 @@ abbrev pub IsWithin : (test : Live → Bool) → List ℕ → Type 0
 IsWithin test x = (l : Live) → is_for x l ≡ false → test l ≡ false
 
 pub holds-within : (x : List ℕ) → IsWithin (holds x) x
-holds-within x l k = and-no (is_holding l.status) (bytes_eq l.resource x) k
+holds-within x l k = and_right (is_holding l.status) (bytes_eq l.resource x) k
 
 pub writer_holds-within : (x : List ℕ) → IsWithin (writer_holds x) x
-writer_holds-within x l k = and-no (is_write l.mode) (holds x l) (holds-within x l k)
+writer_holds-within x l k = and_right (is_write l.mode) (holds x l) (holds-within x l k)
 
 pub waits_for-within : (x : List ℕ) → IsWithin (waits_for x) x
-waits_for-within x l k = and-no (is_waiting l.status) (bytes_eq l.resource x) k
+waits_for-within x l k = and_right (is_waiting l.status) (bytes_eq l.resource x) k
 
 pub writer_waits-within : (x : List ℕ) → IsWithin (writer_waits x) x
-writer_waits-within x l k = and-no (is_write l.mode) (waits_for x l) (waits_for-within x l k)
+writer_waits-within x l k = and_right (is_write l.mode) (waits_for x l) (waits_for-within x l k)
 
 pub off-live : (test : Live → Bool) (x : List ℕ) → IsWithin test x → (o : Option Live) → if_live (is_for x) o ≡ false → if_live test o ≡ false
 off-live test x h None k = refl
@@ -203,12 +195,8 @@ line-other x es e k =
 
 pub line-here : (x : List ℕ) (es : List Entry) (e : Entry) (l : Live) → e.live ≡ Some l → is_for x l ≡ true → line_of (es ++ e ∷ []) x ≡ Some (with_ticket e.client l (tickets_for x es))
 line-here x es e l is k =
-    let any : any_live (is_for x) (es ++ e ∷ []) ≡ true = any-snoc (is_for x) es e ∙ or-yes (any_live (is_for x) es) (if_live (is_for x) e.live) (ap (if_live (is_for x)) is ∙ k) in
+    let any : any_live (is_for x) (es ++ e ∷ []) ≡ true = any-snoc (is_for x) es e ∙ or_right (any_live (is_for x) es) (if_live (is_for x) e.live) (ap (if_live (is_for x)) is ∙ k) in
     ap (λ b. cond b (Some (tickets_for x (es ++ e ∷ []))) None) any ∙ ap (λ t. Some t) (tickets-here x es e l is k)
-
--- an entry without a live ticket leaves the index as it is
-pub indexes-idle : (lines : List (List ℕ × Tickets)) (e : Entry) → e.live ≡ None → (es : List Entry) → Indexes lines es → Indexes lines (es ++ e ∷ [])
-indexes-idle lines e is es h x = h x ∙ sym (line-other x es e (ap (if_live (is_for x)) is))
 
 -- a live ticket comes to the index with its entry
 pub indexes-joined : (old new : List (List ℕ × Tickets)) (e : Entry) (l : Live) → e.live ≡ Some l → Joins e.client l old new → (es : List Entry) → Indexes old es → Indexes new (es ++ e ∷ [])

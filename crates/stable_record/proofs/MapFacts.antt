@@ -67,10 +67,6 @@ once-distinct (e ∷ es) h = (unknown e.0 es h.0, once-distinct es h.1)
 
 -- ---- looking up, replacing and moving
 
-or-true : (a b : Bool) → (a || b) ≡ true → (a ≡ true) ⊎ (b ≡ true)
-or-true true b h = inl refl
-or-true false b h = inr h
-
 -- what is kept of the client, as its entry
 abbrev pub found_as : ℕ → Option Kept → Option Entry
 found_as c None = None
@@ -180,7 +176,7 @@ moved-index c es i last h is once end =
     ∙ map-append entry_of_pair left (x ∷ [])
     ∙ ap (λ l. l ++ entry_of_pair x ∷ []) (removed-at c es i h is once)
 
-known-last : (c : ℕ) (fs : List Entry) (e : Entry) → e.client ≡ c → knows c (fs ++ e ∷ []) ≡ true
+pub known-last : (c : ℕ) (fs : List Entry) (e : Entry) → e.client ≡ c → knows c (fs ++ e ∷ []) ≡ true
 known-last c [] e is = ap (λ b. b || false) (eq-eqb e.client c is)
 known-last c (f ∷ fs) e is = go (is_of c f) (known-last c fs e is)
   where

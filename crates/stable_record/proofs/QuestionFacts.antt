@@ -22,7 +22,7 @@ pub asked-waiting : (a : Option (ℕ × List ℕ)) (lines : List (List ℕ × Ti
 asked-waiting a lines es h x =
     ap (λ (t : Tickets). nat_lt 0 t.waiting_writers) (read-line lines (with_announced a es) h x) ∙ count-any (writer_waits x) (with_announced a es) ∙ announced-any a (writer_waits x) es (λ y. refl)
 
-clients-count : (test : Live → Bool) (es : List Entry) → length (clients_of test es) ≡ count_live test es
+pub clients-count : (test : Live → Bool) (es : List Entry) → length (clients_of test es) ≡ count_live test es
 clients-count test es = length-map (filter (λ (e : Entry). if_live test e.live) es) (λ (e : Entry). e.client)
 
 pub asked-count : (lines : List (List ℕ × Tickets)) (es : List Entry) → Indexes lines es → (x : List ℕ) → length (or_none (line_in lines x)).waiting ≡ count_live (waits_for x) es

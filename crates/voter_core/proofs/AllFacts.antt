@@ -1,16 +1,17 @@
 -- Settling by going over all entries.
-use Rattle.std.proofs.Common.{◌≡◌, ◌≤◌, ◌<◌, ℕ, zero, suc, ◌+◌, ◌==◌, Bool, true, false, cond, List, [], ◌∷◌, ◌++◌, length, map, drop, Option, Some, None, slice_get, refl, sym, ap, ◌∙◌, subst, arith}
+use Rattle.std.proofs.Common.{◌≡◌, ℕ, zero, suc, ◌+◌, Bool, true, false, cond, List, [], ◌∷◌, ◌++◌, length, map, drop, Option, Some, None, slice_get, refl, sym, ap, ◌∙◌, subst, arith}
 use Rattle.std.specs.Option.{option_map}
 use Rattle.std.proofs.lemmas.Bool.{eqb-true}
-use Rattle.std.proofs.lemmas.List.{append_assoc, append-nil, drop_all}
+use Rattle.std.proofs.lemmas.List.{append_assoc}
 use Rattle.lock_messages.specs.declared.messages.Message.{Message}
 use Rattle.lock_model.specs.declared.entries.Entry.{Entry}
 use Rattle.lock_model.specs.declared.problems.Problem.{Problem}
 use Rattle.lock_model.specs.ExactStations.{is_of, entry_of, EachOnce, settled_entry, settle, settled}
 use Rattle.lock_model.specs.ExactDecisions.{told, grants}
 use Rattle.stable_record.specs.EntryLists.{replaced}
+use Rattle.stable_record.proofs.JudgingFacts.{seam}
 use Rattle.voter_core.specs.Queues.{settle_by, told_by, settle_one, settle_each, told_one, told_each}
-use Rattle.voter_core.proofs.QueueFacts.{at-seam, set-seam, one-at, found-at, once-one, Walks, drop-next, names-length}
+use Rattle.voter_core.proofs.QueueFacts.{set-seam, one-at, found-at, once-one, Walks, drop-next, names-length}
 
 -- the clients of the entries, in their order
 abbrev pub names : List Entry → List ℕ
@@ -37,9 +38,9 @@ walk-all p n front [] once = (refl, refl)
 walk-all p n front (e ∷ rest) once =
     let f : Entry = settled_entry p (front ++ e ∷ rest) e in
     let made : settle_one p e.client (front ++ e ∷ rest) ≡ (front ++ settled_entry p (front ++ e ∷ rest) e ∷ []) ++ rest =
-    one-at p (front ++ e ∷ rest) (length front) e once (at-seam front rest e) ∙ set-seam front rest e (settled_entry p (front ++ e ∷ rest) e) ∙ sym (append_assoc front (settled_entry p (front ++ e ∷ rest) e ∷ []) rest) in
+    one-at p (front ++ e ∷ rest) (length front) e once (seam front rest e) ∙ set-seam front rest e (settled_entry p (front ++ e ∷ rest) e) ∙ sym (append_assoc front (settled_entry p (front ++ e ∷ rest) e ∷ []) rest) in
     let heard : told_one p n e.client (front ++ e ∷ rest) ≡ told n e (settled_entry p (front ++ e ∷ rest) e) =
-    ap (told_by p n (front ++ e ∷ rest)) (found-at (front ++ e ∷ rest) (length front) e once (at-seam front rest e)) in
+    ap (told_by p n (front ++ e ∷ rest)) (found-at (front ++ e ∷ rest) (length front) e once (seam front rest e)) in
     let rec = walk-all p n (front ++ f ∷ []) rest (subst EachOnce made (once-one p e.client (front ++ e ∷ rest) once)) in (
       ap (settle_each p (names rest)) made ∙ rec.0 ∙ append_assoc front (f ∷ []) (settle p (front ++ f ∷ []) rest),
       ap (λ ms. ms ++ told_each p n (names rest) (settle_one p e.client (front ++ e ∷ rest))) heard ∙ ap (λ ms. told n e f ++ ms) (ap (told_each p n (names rest)) made ∙ rec.1),
@@ -82,22 +83,9 @@ all-next p n old first place now replies q e at new more made said =
 pub all-many : (p : Problem) (n : ℕ) (old : List Entry) (first : List Message) (place : ℕ) (now : List Entry) (replies : List Message) → AllSettled p n old first place now replies → length now ≡ length old
 all-many p n old first place now replies q = sym (names-length now) ∙ ap length q.same ∙ names-length old
 
--- the entry at a place, and its client
-pub entry-at : (es : List Entry) (place : ℕ) → place < length es → (e : Entry) × (slice_get es place ≡ Some e)
-entry-at [] place h = absurd (omega arith)
-entry-at (d ∷ es) zero h = (d, refl)
-entry-at (d ∷ es) (suc k) h = entry-at es k (omega arith)
-
 pub named-at : (es : List Entry) (place c : ℕ) → option_map (λ (e : Entry). e.client) (slice_get es place) ≡ Some c → (e : Entry) × (slice_get es place ≡ Some e) × (e.client ≡ c)
 named-at es place c h = go (slice_get es place) refl h
   where
     go : (o : Option Entry) → slice_get es place ≡ o → option_map (λ (e : Entry). e.client) o ≡ Some c → (e : Entry) × (slice_get es place ≡ Some e) × (e.client ≡ c)
     go None is h = cc
     go (Some e) is h = (e, is, let z : Some e.client ≡ Some c = h in cc)
-
-pub all-last : (p : Problem) (n : ℕ) (old : List Entry) (first : List Message) (place : ℕ) (now : List Entry) (replies : List Message) → AllSettled p n old first place now replies →
-    length old ≤ place → (now ≡ settled p old) × (replies ≡ first ++ grants n old now)
-all-last p n old first place now replies q done =
-    let none : drop place (names old) ≡ [] = drop_all place (names old) (let size = names-length old in omega (arith, size, done)) in
-    let all : now ≡ settled p old = sym (ap (λ cs. settle_each p cs now) none) ∙ q.goes_on in
-    (all, sym (append-nil replies) ∙ ap (λ cs. replies ++ told_each p n cs now) (sym none) ∙ q.told_so ∙ ap (λ es. first ++ grants n old es) (sym all))

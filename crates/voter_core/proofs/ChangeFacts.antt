@@ -1,6 +1,6 @@
 -- Whether a decision changes the entries.
-use Rattle.std.proofs.Common.{◌≡◌, ◌≢◌, ◌↔◌, ◌⊎◌, inl, inr, ℕ, suc, ◌+◌, ◌-◌, ◌<◌, ◌≤◌, ◌==◌, Bool, true, false, not, ◌||◌, ◌&&◌, cond, nat_le, nat_lt, List, [], ◌∷◌, ◌++◌, length, Option, Some, None, Result, Ok, Err, IsTrue, refl, sym, ap, ◌∙◌, subst, arith}
-use Rattle.std.specs.Prelude.{OnOk, OnErr}
+use Rattle.std.proofs.Common.{◌≡◌, ◌≢◌, ◌↔◌, ◌⊎◌, inl, inr, ℕ, ◌+◌, ◌-◌, ◌<◌, ◌≤◌, ◌==◌, Bool, true, false, ◌||◌, ◌&&◌, cond, nat_le, nat_lt, List, [], ◌∷◌, ◌++◌, length, Option, Some, None, Result, Ok, Err, IsTrue, refl, sym, ap, ◌∙◌, arith}
+use Rattle.std.specs.Prelude.{OnErr}
 use Rattle.std.proofs.lemmas.Bool.{eq-eqb, ltb-false, cases_Bool}
 use Rattle.std.proofs.lemmas.Bool.Decides.{Decides-ltb}
 use Rattle.lock_messages.specs.declared.messages.Message.{Message}
@@ -13,8 +13,9 @@ use Rattle.lock_model.specs.declared.entries.Live.{Live}
 use Rattle.lock_model.specs.declared.entries.Status.{Status}
 use Rattle.lock_model.specs.declared.entries.Status.TheVariants.{Waiting, Holding, Softened}
 use Rattle.lock_model.specs.declared.problems.Problem.{Problem}
-use Rattle.lock_model.specs.ExactStations.{is_of, knows, entry_of, EachOnce, is_waiting, is_holding, if_live, admits, promoted, settled_live, settled_entry, settle, settled}
-use Rattle.lock_model.specs.ExactDecisions.{ended, moved_last, grant_of, told, grants, live_reply, reply_of_live, reply_to_known, new_entry, answered, takes_up, decision, changes}
+use Rattle.lock_model.specs.ExactStations.{is_of, knows, entry_of, EachOnce, is_waiting, admits, promoted, settled_live, settled_entry, settle, settled}
+use Rattle.lock_model.specs.ExactDecisions.{ended, grant_of, told, grants, live_reply, reply_of_live, reply_to_known, new_entry, answered, takes_up, decision, changes}
+use Rattle.lock_model.proofs.SwitchFacts.{grants-same}
 use Rattle.voter_core.specs.Voters.{State, taken, state_after, ends_something, is_admitted, note_for}
 use Rattle.voter_core.proofs.EndFacts.{ended-same, floor_seen, floor-ended, floor-before, found-moved}
 
@@ -23,10 +24,6 @@ use Rattle.voter_core.proofs.EndFacts.{ended-same, floor_seen, floor-ended, floo
 pub knows-settle : (p : Problem) (c : ℕ) (front es : List Entry) → knows c (settle p front es) ≡ knows c es
 knows-settle p c front [] = refl
 knows-settle p c front (e ∷ es) = let f = settled_entry p (front ++ e ∷ es) e in ap (λ b. is_of c e || b) (knows-settle p c (front ++ f ∷ []) es)
-
-pub length-settle : (p : Problem) (front es : List Entry) → length (settle p front es) ≡ length es
-length-settle p front [] = refl
-length-settle p front (e ∷ es) = let f = settled_entry p (front ++ e ∷ es) e in ap (λ n. suc n) (length-settle p (front ++ f ∷ []) es)
 
 floor-settle : (p : Problem) (c : ℕ) (front es : List Entry) → floor_seen (entry_of (settle p front es) c) ≡ floor_seen (entry_of es c)
 floor-settle p c front [] = refl
@@ -79,19 +76,6 @@ settle-quiet n p front (e ∷ es) h =
     ap (λ x. x ∷ settle p (front ++ f ∷ []) es) same ∙ ap (λ (l : List Entry). e ∷ l) (settle-quiet n p (front ++ f ∷ []) es parts.1)
 
 -- ---- entries that stay tell nothing
-
-not-both : (s : Status) → (is_waiting s && is_holding s) ≡ false
-not-both Waiting = refl
-not-both Holding = refl
-not-both Softened = refl
-
-told-same : (n client floor : ℕ) (live : Option Live) → told n (record { client = client; floor = floor; live = live }) (record { client = client; floor = floor; live = live }) ≡ []
-told-same n client floor None = refl
-told-same n client floor (Some l) = ap (λ b. cond b (grant_of n client (Some l)) []) (not-both l.status)
-
-grants-same : (n : ℕ) (es : List Entry) → grants n es es ≡ []
-grants-same n [] = refl
-grants-same n (e ∷ es) = ap (λ ms. ms ++ grants n es es) (told-same n e.client e.floor e.live) ∙ grants-same n es
 
 -- ---- a release changes the entries where something ended, or where a Grant is told
 
@@ -194,10 +178,6 @@ note-writer Write a h = refl
 pub asked-is : (p : Problem) (t : Ticket) (es ended_entries after : List Entry) (a b : Bool) → ended_entries ≡ ended t.client (t.attempt - 1) es → after ≡ settled p ended_entries →
     a ≡ admits p t.mode t.resource after → is_admitted p es t ≡ b → a ≡ b
 asked-is p t es ended_entries after a b e f g h = g ∙ ap (admits p t.mode t.resource) (f ∙ ap (settled p) e) ∙ h
-
-pub on-ok-map : {A E : Type 0} (r : Result A E) (X Y : Type 0) → (X → Y) → OnOk r X → OnOk r Y
-on-ok-map (Ok a) X Y f x = f x
-on-ok-map (Err e) X Y f x = tt
 
 pub on-err-as : {A E : Type 0} (r : Result A E) (X : Type 0) → X → OnErr r X
 on-err-as (Ok a) X x = tt

@@ -1,5 +1,5 @@
 -- How many entries have a live ticket of a kind, by the first of them.
-use Rattle.std.proofs.Common.{◌≡◌, ℕ, suc, Bool, true, false, cond, filter, ◌+◌, ◌≤◌, List, [], ◌∷◌, length, arith}
+use Rattle.std.proofs.Common.{◌≡◌, Bool, true, false, cond, filter, ◌+◌, List, ◌∷◌, length, arith}
 use Rattle.lock_model.specs.declared.entries.Entry.{Entry}
 use Rattle.lock_model.specs.declared.entries.Live.{Live}
 use Rattle.lock_model.specs.ExactStations.{if_live}
@@ -14,14 +14,3 @@ count-first test e es = go (if_live test e.live)
     go : (b : Bool) → length (cond b (e ∷ left) left) ≡ one_if b + length left
     go true = omega arith
     go false = omega arith
-
-pub count-few : (test : Live → Bool) (es : List Entry) → count_live test es ≤ length es
-count-few test [] = omega arith
-count-few test (f ∷ es) = go (if_live test f.live) (count-few test es)
-  where
-    left : List Entry
-    left = filter (λ d. if_live test d.live) es
-
-    go : (b : Bool) → length left ≤ length es → length (cond b (f ∷ left) left) ≤ suc (length es)
-    go true h = omega (arith, h)
-    go false h = omega (arith, h)

@@ -1,25 +1,18 @@
 -- Ending a client's attempts, in place.
-use Rattle.std.proofs.Common.{◌≡◌, ◌≢◌, ◌⊎◌, inl, inr, ℕ, suc, ◌+◌, ◌<◌, ◌≤◌, ◌==◌, Bool, true, false, not, ◌||◌, ◌&&◌, cond, nat_lt, List, [], ◌∷◌, ◌++◌, length, filter, map, Option, Some, None, refl, sym, ap, ◌∙◌, arith}
-use Rattle.std.proofs.lemmas.Bool.{eqb-true, eq-eqb, cases_Bool}
+use Rattle.std.proofs.Common.{◌≡◌, ◌≢◌, ◌⊎◌, inl, inr, ℕ, ◌+◌, ◌<◌, ◌≤◌, ◌==◌, Bool, true, false, not, ◌||◌, ◌&&◌, cond, nat_lt, List, [], ◌∷◌, ◌++◌, filter, map, Option, Some, None, refl, sym, ap, ◌∙◌, arith}
+use Rattle.std.proofs.lemmas.Bool.{eqb-true, eq-eqb, cases_Bool, or_parts, or_right}
 use Rattle.std.proofs.lemmas.Bool.Decides.{Decides-ltb}
 use Rattle.lock_model.specs.declared.entries.Entry.{Entry}
 use Rattle.lock_model.specs.ExactStations.{is_of, knows, entry_of, EachOnce}
 use Rattle.lock_model.specs.ExactDecisions.{ended_entry, ended, moved_last}
 use Rattle.stable_record.specs.EntryLists.{replaced}
+use Rattle.stable_record.proofs.IndexFacts.{nowhere}
+use Rattle.stable_record.proofs.MapFacts.{known-last, replaced-unknown}
 use Rattle.voter_core.specs.Voters.{ends_something}
-use Rattle.voter_core.proofs.EntryFacts.{or-none, or-right, replaced-unknown}
 
 pub none-entry : (o : Option Entry) → ((x : Entry) → o ≡ Some x → ⊥) → o ≡ None
 none-entry None h = refl
 none-entry (Some x) h = absurd (h x refl)
-
-pub unknown-entry : (c : ℕ) (es : List Entry) → entry_of es c ≡ None → knows c es ≡ false
-unknown-entry c [] h = refl
-unknown-entry c (e ∷ es) h = go (λ k. unknown-entry c es k) (is_of c e) refl
-  where
-    go : (entry_of es c ≡ None → knows c es ≡ false) → (b : Bool) → is_of c e ≡ b → knows c (e ∷ es) ≡ false
-    go more true is = let z : Some e ≡ None = sym (ap (λ b. cond b (Some e) (entry_of es c)) is) ∙ h in cc
-    go more false is = ap (λ b. b || knows c es) is ∙ more (sym (ap (λ b. cond b (Some e) (entry_of es c)) is) ∙ h)
 
 pub known-entry : (c : ℕ) (es : List Entry) (e : Entry) → entry_of es c ≡ Some e → (knows c es ≡ true) × (e.client ≡ c)
 known-entry c [] e h = cc
@@ -32,7 +25,7 @@ known-entry c (d ∷ es) e h = go (λ k. known-entry c es e k) (is_of c d) refl
         (ap (λ b. b || knows c es) is, sym (ap (λ (x : Entry). x.client) same) ∙ eqb-true d.client c is)
     go more false is =
         let m = more (sym (ap (λ b. cond b (Some d) (entry_of es c)) is) ∙ h) in
-        (or-right (is_of c d) (knows c es) m.0, m.1)
+        (or_right (is_of c d) (knows c es) m.0, m.1)
 
 -- the client's entry, altered where it stands
 abbrev pub altered : ℕ → (Entry → Entry) → List Entry → List Entry
@@ -41,7 +34,7 @@ altered c f es = map (λ e. cond (is_of c e) (f e) e) es
 pub altered-unknown : (c : ℕ) (f : Entry → Entry) (es : List Entry) → knows c es ≡ false → altered c f es ≡ es
 altered-unknown c f [] h = refl
 altered-unknown c f (e ∷ es) h =
-    let k = or-none (is_of c e) (knows c es) h in
+    let k = or_parts (is_of c e) (knows c es) h in
     ap (λ b. cond b (f e) e ∷ altered c f es) k.0 ∙ ap (λ (l : List Entry). e ∷ l) (altered-unknown c f es k.1)
 
 -- where the entry becomes g, the entries have g in its place
@@ -100,14 +93,14 @@ ended-unknown c a es h = ap (λ b. cond b (ends_in c a es) (es ++ fresh c a ∷ 
 
 -- a stranger's entry is pushed, where memory is there
 pub pushed-ends : (c a : ℕ) (es new : List Entry) (ok : Bool) → entry_of es c ≡ None → new ≡ cond (ok && not (knows c es)) (es ++ fresh c a ∷ []) es → new ≡ cond ok (ended c a es) es
-pushed-ends c a es new ok none h = h ∙ ap (λ b. cond (ok && not b) (es ++ fresh c a ∷ []) es) (unknown-entry c es none) ∙ go ok
+pushed-ends c a es new ok none h = h ∙ ap (λ b. cond (ok && not b) (es ++ fresh c a ∷ []) es) (nowhere c es none) ∙ go ok
   where
     go : (b : Bool) → cond (b && true) (es ++ fresh c a ∷ []) es ≡ cond b (ended c a es) es
-    go true = sym (ended-unknown c a es (unknown-entry c es none))
+    go true = sym (ended-unknown c a es (nowhere c es none))
     go false = refl
 
 pub pushed-changes : (c a : ℕ) (es : List Entry) (b : Bool) → entry_of es c ≡ None → b ≡ not (knows c es) → b ≡ ends_something a (entry_of es c)
-pushed-changes c a es b none h = h ∙ ap not (unknown-entry c es none) ∙ sym (ap (ends_something a) none)
+pushed-changes c a es b none h = h ∙ ap not (nowhere c es none) ∙ sym (ap (ends_something a) none)
 
 not-below : (m n : ℕ) → n ≤ m → nat_lt m n ≡ false
 not-below m n h = go (cases_Bool (nat_lt m n))
@@ -144,10 +137,6 @@ knows-ends c a (e ∷ es) d = ap (λ b. b || knows d (ends_in c a es)) (go (is_o
     go true false = refl
     go false l = refl
 
-known-last : (c : ℕ) (es : List Entry) (f : Entry) → f.client ≡ c → knows c (es ++ f ∷ []) ≡ true
-known-last c [] f h = ap (λ b. b || false) (eq-eqb f.client c h)
-known-last c (e ∷ es) f h = or-right (is_of c e) (knows c (es ++ f ∷ [])) (known-last c es f h)
-
 -- a client whose attempts ended is known
 pub knows-ended : (c a : ℕ) (es : List Entry) → knows c (ended c a es) ≡ true
 knows-ended c a es = go (knows c es) refl
@@ -155,22 +144,6 @@ knows-ended c a es = go (knows c es) refl
     go : (b : Bool) → knows c es ≡ b → knows c (ended c a es) ≡ true
     go true is = ap (knows c) (ended-known c a es is) ∙ knows-ends c a es c ∙ is
     go false is = ap (knows c) (ended-unknown c a es is) ∙ known-last c es (fresh c a) refl
-
-length-ends : (c a : ℕ) (es : List Entry) → length (ends_in c a es) ≡ length es
-length-ends c a [] = refl
-length-ends c a (e ∷ es) = ap (λ n. suc n) (length-ends c a es)
-
-length-last : (es : List Entry) (f : Entry) → length (es ++ f ∷ []) ≡ length es + 1
-length-last [] f = refl
-length-last (e ∷ es) f = let h = length-last es f in omega arith
-
--- ending adds one entry at most
-pub length-ended : (c a : ℕ) (es : List Entry) → length (ended c a es) ≤ length es + 1
-length-ended c a es = go (knows c es) refl
-  where
-    go : (b : Bool) → knows c es ≡ b → length (ended c a es) ≤ length es + 1
-    go true is = let h = ap length (ended-known c a es is) in let k = length-ends c a es in omega (arith, h, k)
-    go false is = let h = ap length (ended-unknown c a es is) in let k = length-last es (fresh c a) in omega (arith, h, k)
 
 -- the floor of a client's entry, if it has one
 abbrev pub floor_seen : Option Entry → Option ℕ
@@ -180,7 +153,7 @@ floor_seen (Some e) = Some e.floor
 pub find-last : (c : ℕ) (es : List Entry) (f : Entry) → knows c es ≡ false → f.client ≡ c → entry_of (es ++ f ∷ []) c ≡ Some f
 find-last c [] f none h = ap (λ b. cond b (Some f) None) (eq-eqb f.client c h)
 find-last c (e ∷ es) f none h =
-    let k = or-none (is_of c e) (knows c es) none in
+    let k = or_parts (is_of c e) (knows c es) none in
     ap (λ b. cond b (Some e) (entry_of (es ++ f ∷ []) c)) k.0 ∙ find-last c es f k.1 h
 
 unknown-others : (c : ℕ) (es : List Entry) → knows c (filter (λ e. not (is_of c e)) es) ≡ false
@@ -218,7 +191,7 @@ floor-ended c a es h = go (entry_of es c) refl
   where
     go : (o : Option Entry) → entry_of es c ≡ o → floor_seen (entry_of (ended c a es) c) ≡ Some a
     go None is =
-        let none = unknown-entry c es is in
+        let none = nowhere c es is in
         ap (λ l. floor_seen (entry_of l c)) (ended-unknown c a es none) ∙ ap floor_seen (find-last c es (fresh c a) none refl)
     go (Some e) is =
         ap (λ l. floor_seen (entry_of l c)) (ended-known c a es (known-entry c es e is).0) ∙ floor-ends c a es e is (sym (ap (ends_something a) is) ∙ h)

@@ -1,34 +1,29 @@
 -- Tickets for other resources than the freed one stay where they are.
-use Rattle.std.proofs.Common.{◌≡◌, ◌⊎◌, inl, inr, ℕ, zero, suc, ◌+◌, ◌≤◌, ◌==◌, Bool, true, false, not, ◌||◌, ◌&&◌, cond, nat_lt, List, [], ◌∷◌, ◌++◌, length, map, Option, Some, None, set, slice_get, refl, sym, ap, ◌∙◌, subst, arith}
+use Rattle.std.proofs.Common.{◌≡◌, ◌⊎◌, inl, inr, ℕ, zero, suc, ◌+◌, ◌≤◌, Bool, true, false, not, ◌||◌, ◌&&◌, cond, nat_lt, List, [], ◌∷◌, ◌++◌, length, Option, Some, None, set, slice_get, refl, sym, ap, ◌∙◌, subst, arith}
 use Rattle.std.specs.List.{AllByRecursion, list_all}
 use Rattle.std.specs.Option.{option_map}
 use Rattle.std.specs.Str.{bytes_eq}
-use Rattle.std.proofs.lemmas.Bool.{eqb-true, cases_Bool, and_parts}
+use Rattle.std.proofs.lemmas.Bool.{eqb-true, and_parts, and_right}
 use Rattle.std.proofs.lemmas.List.{append_assoc}
 use Rattle.std.proofs.lemmas.Slice.Eq.{bytes_eq-Decides}
-use Rattle.lock_messages.specs.declared.messages.Message.{Message}
 use Rattle.lock_messages.specs.declared.tickets.Mode.{Mode}
 use Rattle.lock_messages.specs.declared.tickets.Mode.TheVariants.{Read, Write}
 use Rattle.lock_model.specs.declared.entries.Entry.{Entry}
 use Rattle.lock_model.specs.declared.entries.Live.{Live}
-use Rattle.lock_model.specs.declared.entries.Status.{Status}
-use Rattle.lock_model.specs.declared.entries.Status.TheVariants.{Waiting, Holding, Softened}
 use Rattle.lock_model.specs.declared.problems.Problem.{Problem}
 use Rattle.lock_model.specs.ExactStations.{is_of, knows, entry_of, EachOnce, is_waiting, is_holding, is_write, if_live, any_live, holds, writer_holds, writer_waits, admits_reader, admits, promoted, settled_live, settled_entry, settle, settled}
-use Rattle.lock_model.specs.ExactDecisions.{ended_entry, ended, grant_of, told, grants}
+use Rattle.lock_model.specs.ExactDecisions.{ended_entry, ended, grant_of, told}
 use Rattle.lock_model.specs.Judgement.{has_cause, is_caused}
+use Rattle.lock_model.proofs.SwitchFacts.{not-both-at}
 use Rattle.stable_record.specs.Lines.{is_for, waits_for, count_live, one_if}
+use Rattle.stable_record.proofs.LineFacts.{count-few}
+use Rattle.stable_record.proofs.IndexFacts.{nowhere}
 use Rattle.voter_core.specs.Freed.{freed, is_freed, OthersStay, waiting_for}
-use Rattle.voter_core.specs.Voters.{admitted_now}
-use Rattle.voter_core.proofs.CountFacts.{count-first, count-few}
+use Rattle.voter_core.proofs.CountFacts.{count-first}
 use Rattle.voter_core.proofs.EntryFacts.{set-same}
-use Rattle.voter_core.proofs.EndFacts.{altered, altered-unknown, fresh, ends-nothing, ended-known, ended-unknown, unknown-entry, known-entry}
+use Rattle.voter_core.proofs.EndFacts.{altered, altered-unknown, fresh, ends-nothing, ended-known, ended-unknown, known-entry}
 
 -- ---- tests that pass no ticket for the freed resource
-
-and-no : (b c : Bool) → c ≡ false → (b && c) ≡ false
-and-no true c h = h
-and-no false c h = refl
 
 -- the test passes no ticket for the freed resource
 abbrev PassesNone : Option (List ℕ) → (Live → Bool) → Type 0
@@ -54,13 +49,13 @@ off None l h m k = cc
 off (Some x) l h m k = apart x l.resource h m.resource k
 
 holds-none : (o : Option (List ℕ)) (l : Live) → is_freed o l ≡ false → PassesNone o (holds l.resource)
-holds-none o l h m k = and-no (is_holding m.status) (bytes_eq m.resource l.resource) (off o l h m k)
+holds-none o l h m k = and_right (is_holding m.status) (bytes_eq m.resource l.resource) (off o l h m k)
 
 writer_holds-none : (o : Option (List ℕ)) (l : Live) → is_freed o l ≡ false → PassesNone o (writer_holds l.resource)
-writer_holds-none o l h m k = and-no (is_write m.mode) (holds l.resource m) (holds-none o l h m k)
+writer_holds-none o l h m k = and_right (is_write m.mode) (holds l.resource m) (holds-none o l h m k)
 
 writer_waits-none : (o : Option (List ℕ)) (l : Live) → is_freed o l ≡ false → PassesNone o (writer_waits l.resource)
-writer_waits-none o l h m k = and-no (is_write m.mode) (is_waiting m.status && bytes_eq m.resource l.resource) (and-no (is_waiting m.status) (bytes_eq m.resource l.resource) (off o l h m k))
+writer_waits-none o l h m k = and_right (is_write m.mode) (is_waiting m.status && bytes_eq m.resource l.resource) (and_right (is_waiting m.status) (bytes_eq m.resource l.resource) (off o l h m k))
 
 -- such a ticket is admitted among the one exactly where it is among the other
 admits-same : (p : Problem) (o : Option (List ℕ)) (es fs : List Entry) → SameBeyond o es fs → (l : Live) → is_freed o l ≡ false → (mode : Mode) → admits p mode l.resource fs ≡ admits p mode l.resource es
@@ -99,18 +94,9 @@ all-idle p whole (e ∷ rest) h = (h.0 (not-freed e.live), all-idle p whole rest
 pub idle-settled : (p : Problem) (es : List Entry) → OthersStay p None es → es ≡ settled p es
 idle-settled p es h = sym (settle-none p [] es (all-idle p es es h))
 
-not-both : (s : Status) → (is_waiting s && is_holding s) ≡ false
-not-both Waiting = refl
-not-both Holding = refl
-not-both Softened = refl
-
 pub told-nothing : (n client floor : ℕ) (live : Option Live) → told n (record { client = client; floor = floor; live = live }) (record { client = client; floor = floor; live = live }) ≡ []
 told-nothing n client floor None = refl
-told-nothing n client floor (Some l) = ap (λ b. cond b (grant_of n client (Some l)) []) (not-both l.status)
-
-pub grants-nothing : (n : ℕ) (es : List Entry) → grants n es es ≡ []
-grants-nothing n [] = refl
-grants-nothing n (e ∷ es) = ap (λ ms. ms ++ grants n es es) (told-nothing n e.client e.floor e.live) ∙ grants-nothing n es
+told-nothing n client floor (Some l) = ap (λ b. cond b (grant_of n client (Some l)) []) (not-both-at l.status)
 
 -- ---- one entry settles, of a ticket for the freed resource
 
@@ -144,15 +130,6 @@ settled-for p es x (Some l) = go (is_waiting l.status && admits p l.mode l.resou
     go : (b : Bool) → is_for x (cond b (promoted l) l) ≡ is_for x l
     go true = refl
     go false = refl
-
--- the entry of another ticket is passed over
-pub passed-over : (p : Problem) (x : List ℕ) (es : List Entry) (i : ℕ) (d e : Entry) → OthersStay p (Some x) es → Some d ≡ slice_get es i → slice_get es i ≡ Some e → if_live (is_for x) d.live ≡ false → settled_entry p es e ≡ e
-passed-over p x es i d e others found at k =
-    let is : e ≡ d = cc in
-    all-at (λ d. if_live (is_freed (Some x)) d.live ≡ false → settled_entry p es d ≡ d) es i e others at (ap (λ (y : Entry). if_live (is_for x) y.live) is ∙ k)
-
-pub passed-told : (n : ℕ) (p : Problem) (es : List Entry) (e : Entry) → settled_entry p es e ≡ e → told n e (settled_entry p es e) ≡ []
-passed-told n p es e h = ap (told n e) h ∙ told-nothing n e.client e.floor e.live
 
 -- once the entry at a place has settled the others stay still
 pub others-settled : (p : Problem) (x : List ℕ) (es : List Entry) (i : ℕ) (e : Entry) → OthersStay p (Some x) es → slice_get es i ≡ Some e → OthersStay p (Some x) (set es i (settled_entry p es e))
@@ -266,7 +243,7 @@ sheds-ended c a es once = go (entry_of es c) refl
         subst (AllShed None es) (sym (ended-known c a es (known-entry c es e is).0 ∙ ends-nothing c a es e once is low)) (sheds-none None es)
 
     go : (o : Option Entry) → entry_of es c ≡ o → AllShed (freed a o) es (ended c a es)
-    go None is = subst (AllShed None es) (sym (ended-unknown c a es (unknown-entry c es is))) (sheds-last None es (fresh c a) refl)
+    go None is = subst (AllShed None es) (sym (ended-unknown c a es (nowhere c es is))) (sheds-last None es (fresh c a) refl)
     go (Some e) is = by e is (nat_lt e.floor a) refl
 
 -- where each ticket that waits has a cause, none settles
@@ -304,16 +281,6 @@ others-freed p c a es o new once caused is made =
     subst (λ l. OthersStay p o l) (sym made) (subst (λ f. OthersStay p f (ended c a es)) (sym is) (sheds-others p (freed a (entry_of es c)) es (ended c a es) (sheds-ended c a es once) caused))
 
 -- ---- who is told a Grant waits for the freed resource
-
-pub waits-admitted : (p : Problem) (es : List Entry) (x : List ℕ) (live : Option Live) (m : Live) → Some m ≡ admitted_now p es live → if_live (is_for x) live ≡ true → if_live (waits_for x) live ≡ true
-waits-admitted p es x None m is h = cc
-waits-admitted p es x (Some l) m is h = go (is_waiting l.status) refl
-  where
-    go : (b : Bool) → is_waiting l.status ≡ b → (is_waiting l.status && bytes_eq l.resource x) ≡ true
-    go true w = ap (λ b. b && bytes_eq l.resource x) w ∙ h
-    go false w =
-        let clash : Some m ≡ None = is ∙ ap (λ b. cond (b && admits p l.mode l.resource es) (Some (promoted l)) None) w in
-        cc
 
 waits-still : (x : List ℕ) (live : Option Live) → if_live (λ l. is_waiting l.status) live ≡ false → if_live (waits_for x) live ≡ false
 waits-still x None h = refl

@@ -1,32 +1,30 @@
 -- Settling by going over the clients that wait for one resource.
-use Rattle.std.proofs.Common.{◌≡◌, ◌⊎◌, inl, inr, ℕ, zero, suc, ◌+◌, ◌<◌, ◌≤◌, ◌==◌, Bool, true, false, not, ◌||◌, ◌&&◌, cond, List, [], ◌∷◌, ◌++◌, length, map, filter, take, drop, is_some, Option, Some, None, set, slice_get, refl, sym, ap, ◌∙◌, subst, arith}
+use Rattle.std.proofs.Common.{◌≡◌, ℕ, zero, suc, ◌+◌, ◌<◌, ◌≤◌, ◌==◌, Bool, true, false, ◌||◌, ◌&&◌, cond, List, [], ◌∷◌, ◌++◌, length, map, filter, take, drop, is_some, Option, Some, None, set, slice_get, refl, sym, ap, ◌∙◌, subst, arith}
 use Rattle.std.specs.Str.{bytes_eq}
 use Rattle.std.specs.Option.{option_map}
 use Rattle.std.proofs.lemmas.Bool.{eqb-true, eq-eqb, and_parts}
-use Rattle.std.proofs.lemmas.List.{append_assoc, append-nil, drop_all}
+use Rattle.std.proofs.lemmas.List.{append_assoc}
 use Rattle.lock_messages.specs.declared.ids.TheConstants.{MAX_CLIENTS}
 use Rattle.lock_messages.specs.declared.messages.Message.{Message}
 use Rattle.lock_model.specs.declared.entries.Entry.{Entry}
 use Rattle.lock_model.specs.declared.entries.Live.{Live}
-use Rattle.lock_model.specs.declared.entries.Status.TheVariants.{Waiting, Holding}
 use Rattle.lock_model.specs.declared.problems.Problem.{Problem}
 use Rattle.lock_model.specs.ExactStations.{is_of, knows, entry_of, EachOnce, is_waiting, if_live, admits, promoted, settled_live, settled_entry, settle, settled}
 use Rattle.lock_model.specs.ExactDecisions.{told, grants, grant_of, live_in}
 use Rattle.stable_record.specs.EntryLists.{replaced}
-use Rattle.stable_record.specs.Lines.{is_for, waits_for, clients_of, count_live}
+use Rattle.stable_record.specs.Lines.{waits_for, clients_of, count_live}
 use Rattle.stable_record.specs.Indexing.{IsEntryAmong, with_holding}
+use Rattle.stable_record.proofs.JudgingFacts.{knows-at, seam}
+use Rattle.stable_record.proofs.MapFacts.{replaced-unknown}
+use Rattle.stable_record.proofs.QuestionFacts.{clients-count}
 use Rattle.voter_core.specs.Freed.{is_freed, OthersStay}
 use Rattle.voter_core.specs.Voters.{admitted_now}
 use Rattle.voter_core.specs.Queues.{settle_by, told_by, settle_one, settle_each, told_one, told_each}
-use Rattle.voter_core.proofs.EntryFacts.{or-none, or-right, knows-at, replaced-at, replaced-unknown, set-same, settled-same, none-of}
+use Rattle.voter_core.proofs.EntryFacts.{replaced-at, set-same, settled-same, none-of}
 use Rattle.voter_core.proofs.EndFacts.{known-entry}
 use Rattle.voter_core.proofs.FreedFacts.{all-at, others-settled, told-nothing}
 
 -- ---- an entry in its place
-
-pub at-seam : (front rest : List Entry) (e : Entry) → slice_get (front ++ e ∷ rest) (length front) ≡ Some e
-at-seam [] rest e = refl
-at-seam (d ∷ front) rest e = at-seam front rest e
 
 pub set-seam : (front rest : List Entry) (e f : Entry) → set (front ++ e ∷ rest) (length front) f ≡ front ++ f ∷ rest
 set-seam [] rest e f = refl
@@ -134,14 +132,14 @@ walk p n x front (e ∷ rest) once others = go (λ g. walk p n x (front ++ g ∷
     left : List Entry
     left = filter (λ d. if_live (waits_for x) d.live) rest
 
-    seam : (g : Entry) → front ++ g ∷ rest ≡ (front ++ g ∷ []) ++ rest
-    seam g = sym (append_assoc front (g ∷ []) rest)
+    joined : (g : Entry) → front ++ g ∷ rest ≡ (front ++ g ∷ []) ++ rest
+    joined g = sym (append_assoc front (g ∷ []) rest)
 
     made : settle_one p e.client (front ++ e ∷ rest) ≡ (front ++ settled_entry p (front ++ e ∷ rest) e ∷ []) ++ rest
-    made = one-at p (front ++ e ∷ rest) (length front) e once (at-seam front rest e) ∙ set-seam front rest e (settled_entry p (front ++ e ∷ rest) e) ∙ seam (settled_entry p (front ++ e ∷ rest) e)
+    made = one-at p (front ++ e ∷ rest) (length front) e once (seam front rest e) ∙ set-seam front rest e (settled_entry p (front ++ e ∷ rest) e) ∙ joined (settled_entry p (front ++ e ∷ rest) e)
 
     heard : told_one p n e.client (front ++ e ∷ rest) ≡ told n e (settled_entry p (front ++ e ∷ rest) e)
-    heard = ap (told_by p n (front ++ e ∷ rest)) (found-at (front ++ e ∷ rest) (length front) e once (at-seam front rest e))
+    heard = ap (told_by p n (front ++ e ∷ rest)) (found-at (front ++ e ∷ rest) (length front) e once (seam front rest e))
 
     go : ((g : Entry) → EachOnce ((front ++ g ∷ []) ++ rest) → OthersStay p (Some x) ((front ++ g ∷ []) ++ rest) → Walks p n (clients_of (waits_for x) rest) (front ++ g ∷ []) rest) →
         (b : Bool) → if_live (waits_for x) e.live ≡ b → Walks p n (map (λ (d : Entry). d.client) (cond b (e ∷ filter (λ d. if_live (waits_for x) d.live) rest) (filter (λ d. if_live (waits_for x) d.live) rest))) front (e ∷ rest)
@@ -153,10 +151,10 @@ walk p n x front (e ∷ rest) once others = go (λ g. walk p n x (front ++ g ∷
         )
     go more false is =
         let cs = clients_of (waits_for x) rest in
-        let idle : settled_entry p (front ++ e ∷ rest) e ≡ e = not-waiting p x (front ++ e ∷ rest) (length front) e.client e.floor e.live others (at-seam front rest e) is in
-        let rec = more e (subst EachOnce (seam e) once) (subst (OthersStay p (Some x)) (seam e) others) in (
-          ap (settle_each p cs) (seam e) ∙ rec.0 ∙ append_assoc front (e ∷ []) (settle p (front ++ e ∷ []) rest) ∙ ap (λ g. front ++ g ∷ settle p (front ++ g ∷ []) rest) (sym idle),
-          ap (told_each p n cs) (seam e) ∙ rec.1 ∙ ap (λ ms. ms ++ grants n rest (settle p (front ++ e ∷ []) rest)) (sym (told-nothing n e.client e.floor e.live))
+        let idle : settled_entry p (front ++ e ∷ rest) e ≡ e = not-waiting p x (front ++ e ∷ rest) (length front) e.client e.floor e.live others (seam front rest e) is in
+        let rec = more e (subst EachOnce (joined e) once) (subst (OthersStay p (Some x)) (joined e) others) in (
+          ap (settle_each p cs) (joined e) ∙ rec.0 ∙ append_assoc front (e ∷ []) (settle p (front ++ e ∷ []) rest) ∙ ap (λ g. front ++ g ∷ settle p (front ++ g ∷ []) rest) (sym idle),
+          ap (told_each p n cs) (joined e) ∙ rec.1 ∙ ap (λ ms. ms ++ grants n rest (settle p (front ++ e ∷ []) rest)) (sym (told-nothing n e.client e.floor e.live))
               ∙ ap (λ g. told n e g ++ grants n rest (settle p (front ++ g ∷ []) rest)) (sym idle),
         )
 
@@ -258,12 +256,9 @@ pub names-length : (es : List Entry) → length (map (λ (e : Entry). e.client) 
 names-length [] = refl
 names-length (e ∷ es) = ap (λ n. suc n) (names-length es)
 
-clients-length : (test : Live → Bool) (es : List Entry) → length (clients_of test es) ≡ count_live test es
-clients-length test es = names-length (filter (λ e. if_live test e.live) es)
-
 -- a place of the queue before its end has a client
 pub name-at : (test : Live → Bool) (es : List Entry) (k : ℕ) → k < count_live test es → (c : ℕ) × (slice_get (clients_of test es) k ≡ Some c)
-name-at test es k below = let size = clients-length test es in some-name (clients_of test es) k (omega (arith, size, below))
+name-at test es k below = let size = clients-count test es in some-name (clients_of test es) k (omega (arith, size, below))
 
 -- ---- a client's turn
 
@@ -307,9 +302,6 @@ turned-off : (p : Problem) (x : List ℕ) (es : List Entry) (live : Option Live)
 turned-off p x es None m h = refl
 turned-off p x es (Some l) m h = refl
 
-pub turn-none : (p : Problem) (n c : ℕ) (es : List Entry) → entry_of es c ≡ None → (es ≡ settle_one p c es) × (told_one p n c es ≡ []) × (is_some (admitted_now p es (live_in (entry_of es c))) ≡ false)
-turn-none p n c es none = (sym (ap (settle_by p es) none), ap (told_by p n es) none, ap (λ o. is_some (admitted_now p es (live_in o))) none)
-
 idle-turn : (p : Problem) (es : List Entry) (c : ℕ) (e : Entry) → EachOnce es → entry_of es c ≡ Some e → settled_entry p es e ≡ e → replaced (settled_entry p es e) es ≡ es
 idle-turn p es c e once found idle =
     let place = place-of c es e found in
@@ -346,13 +338,6 @@ pub record QueueSettled (p : Problem) (n : ℕ) (x : List ℕ) (old : List Entry
 pub queue-first : (p : Problem) (n : ℕ) (x : List ℕ) (old : List Entry) (first : List Message) → EachOnce old → OthersStay p (Some x) old → QueueSettled p n x old first 0 old first
 queue-first p n x old first once others = record { goes_on = settled-each p x old once others; told_so = ap (λ ms. first ++ ms) (told-each p n x old once others) }
 
-pub queue-last : (p : Problem) (n : ℕ) (x : List ℕ) (old : List Entry) (first : List Message) (place : ℕ) (now : List Entry) (replies : List Message) → QueueSettled p n x old first place now replies →
-    count_live (waits_for x) now ≤ place → (now ≡ settled p old) × (replies ≡ first ++ grants n old now)
-queue-last p n x old first place now replies q done =
-    let none : drop place (clients_of (waits_for x) now) ≡ [] = drop_all place (clients_of (waits_for x) now) (let size = clients-length (waits_for x) now in omega (arith, size, done)) in
-    let all : now ≡ settled p old = sym (ap (λ cs. settle_each p cs now) none) ∙ q.goes_on in
-    (all, sym (append-nil replies) ∙ ap (λ cs. replies ++ told_each p n cs now) (sym none) ∙ q.told_so ∙ ap (λ es. first ++ grants n old es) (sym all))
-
 -- the next of the queue
 queue-next : (p : Problem) (n : ℕ) (x : List ℕ) (old : List Entry) (first : List Message) (place c : ℕ) (now : List Entry) (replies : List Message) → QueueSettled p n x old first place now replies →
     slice_get (clients_of (waits_for x) now) place ≡ Some c → (j : ℕ) (new : List Entry) (more : List Message) → new ≡ settle_one p c now → more ≡ replies ++ told_one p n c now →
@@ -379,8 +364,8 @@ queue-holds p n x old first place c now replies q once at new more made said hol
     let gone = drop-gone (clients_of (waits_for x) now) place c at in
     let size = length-gone (clients_of (waits_for x) now) place c at in
     let lengths : length (clients_of (waits_for x) new) + 1 ≡ length (clients_of (waits_for x) now) = ap (λ l. length l + 1) after ∙ size in
-    let a = clients-length (waits_for x) new in
-    let b = clients-length (waits_for x) now in
+    let a = clients-count (waits_for x) new in
+    let b = clients-count (waits_for x) now in
     (queue-next p n x old first place c now replies q at place new more made said (ap (drop place) after ∙ gone), omega (arith, a, b, lengths))
 
 -- else the next one is behind it

@@ -1,21 +1,21 @@
 -- What a decision leaves is in range.
-use Rattle.std.proofs.Common.{◌≡◌, ◌⊎◌, inl, inr, ℕ, ◌+◌, ◌-◌, ◌≤◌, ◌==◌, Bool, true, false, not, ◌||◌, ◌&&◌, cond, nat_lt, List, [], ◌∷◌, ◌++◌, filter, map, Option, Some, None, IfSome, refl, sym, ap, ◌∙◌, subst, arith}
+use Rattle.std.proofs.Common.{ℕ, ◌+◌, ◌-◌, ◌≤◌, ◌==◌, Bool, true, false, not, ◌&&◌, cond, nat_lt, List, [], ◌∷◌, ◌++◌, filter, map, Option, Some, None, arith}
 use Rattle.std.specs.List.{AllByRecursion}
 use Rattle.lock_messages.specs.declared.ids.TheConstants.{MAX_ATTEMPT}
 use Rattle.lock_messages.specs.declared.messages.Message.{Message}
 use Rattle.lock_messages.specs.declared.messages.Message.TheVariants.{Request, Release, Grant, Busy, Over, Done, Muddled, Soften}
 use Rattle.lock_messages.specs.declared.messages.Message.TheVariants as message
 use Rattle.lock_messages.specs.declared.tickets.Ticket.{Ticket}
-use Rattle.lock_messages.specs.Ids.{IsClient, IsAttempt}
+use Rattle.lock_messages.specs.Ids.{IsClient}
 use Rattle.lock_messages.specs.Messages.{IsTicket, IsMessage}
 use Rattle.lock_model.specs.declared.entries.Entry.{Entry}
 use Rattle.lock_model.specs.declared.entries.Live.{Live}
 use Rattle.lock_model.specs.declared.entries.Status.{Status}
 use Rattle.lock_model.specs.declared.entries.Status.TheVariants.{Waiting, Holding, Softened}
 use Rattle.lock_model.specs.declared.problems.Problem.{Problem}
-use Rattle.lock_model.specs.ExactStations.{is_of, knows, entry_of, is_waiting, is_write, admits, promoted, settled_live, settled_entry, settle, settled}
-use Rattle.lock_model.specs.ExactDecisions.{ended_entry, ended, moved_last, reply_to_known, new_entry, answered, takes_up, releases, softened_writer, softened_entry, softened, decision}
-use Rattle.stable_record.specs.Records.{IsTicketOf, IsEntry}
+use Rattle.lock_model.specs.ExactStations.{is_of, knows, entry_of, is_waiting, is_write, admits, promoted, settled_entry, settle, settled}
+use Rattle.lock_model.specs.ExactDecisions.{ended_entry, ended, reply_to_known, new_entry, answered, takes_up, softened_writer, softened_entry, softened, decision}
+use Rattle.stable_record.specs.Records.{IsEntry}
 
 abbrev pub InRange : List Entry → Type 0
 InRange es = AllByRecursion IsEntry es

@@ -15,8 +15,9 @@ use Rattle.lock_model.specs.ExactDecisions.{live_in, softened_writer, softened_l
 use Rattle.lock_model.specs.Judgement.{is_caused}
 use Rattle.stable_record.specs.EntryLists.{replaced}
 use Rattle.stable_record.specs.Indexing.{softened_holder}
+use Rattle.stable_record.proofs.IndexFacts.{nowhere}
 use Rattle.voter_core.specs.Freed.{is_as_asked, is_softened_by, freed_by_softening, OthersStay, waiting_for}
-use Rattle.voter_core.proofs.EndFacts.{altered-unknown, altered-same, altered-replaces, unknown-entry, known-entry}
+use Rattle.voter_core.proofs.EndFacts.{altered-unknown, altered-same, altered-replaces, known-entry}
 use Rattle.voter_core.proofs.FreedFacts.{Sheds, StaysOrSheds, AllShed, sheds-none, sheds-altered, sheds-others, fewer-waiting, caused-settled}
 
 -- ---- one ticket
@@ -97,7 +98,7 @@ sheds-softened : (c a : ℕ) (es : List Entry) → EachOnce es → AllShed (free
 sheds-softened c a es once = go (entry_of es c) refl
   where
     go : (o : Option Entry) → entry_of es c ≡ o → AllShed (freed_by_softening a (live_in o)) es (softened c a es)
-    go None is = subst (AllShed None es) (sym (altered-unknown c (softened_entry a) es (unknown-entry c es is))) (sheds-none None es)
+    go None is = subst (AllShed None es) (sym (altered-unknown c (softened_entry a) es (nowhere c es is))) (sheds-none None es)
     go (Some e) is = sheds-altered (freed_by_softening a e.live) c (softened_entry a) es e once is (entry-sheds a e.client e.floor e.live)
 
 -- once an attempt is softened no ticket but those for its resource would settle
@@ -117,7 +118,7 @@ waiting-softened c a es o new once is made =
 
 -- a stranger's attempt softens nothing, and neither does one that no live ticket is softened by
 pub softened-unknown : (c a : ℕ) (es : List Entry) → entry_of es c ≡ None → es ≡ softened c a es
-softened-unknown c a es none = sym (altered-unknown c (softened_entry a) es (unknown-entry c es none))
+softened-unknown c a es none = sym (altered-unknown c (softened_entry a) es (nowhere c es none))
 
 pub softened-same : (c a : ℕ) (es : List Entry) (e : Entry) → EachOnce es → entry_of es c ≡ Some e → if_live (is_softened_by a) e.live ≡ false → es ≡ softened c a es
 softened-same c a es e once found none = sym (altered-same c (softened_entry a) es e once found (entry-stays a e.client e.floor e.live none))

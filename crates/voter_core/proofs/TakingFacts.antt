@@ -1,5 +1,5 @@
 -- A new ticket is taken up: who sends it has no live ticket by then, and what is said and left.
-use Rattle.std.proofs.Common.{◌≡◌, ◌⊎◌, inl, inr, ℕ, suc, ◌+◌, ◌-◌, ◌<◌, ◌≤◌, ◌==◌, Bool, true, false, not, ◌&&◌, cond, nat_le, nat_lt, List, [], ◌∷◌, ◌++◌, length, filter, Option, Some, None, IfSome, slice_set, refl, sym, ap, ◌∙◌, subst, arith}
+use Rattle.std.proofs.Common.{◌≡◌, ◌⊎◌, inl, inr, ℕ, ◌+◌, ◌-◌, ◌<◌, ◌≤◌, ◌==◌, Bool, true, false, cond, nat_le, nat_lt, List, [], ◌∷◌, ◌++◌, Option, Some, None, IfSome, slice_set, refl, sym, ap, ◌∙◌, subst, arith}
 use Rattle.std.specs.List.{AllByRecursion}
 use Rattle.std.specs.Option.{option_map, option_map_or}
 use Rattle.std.specs.Str.{bytes_eq}
@@ -11,31 +11,24 @@ use Rattle.lock_messages.specs.declared.tickets.Ticket.{Ticket}
 use Rattle.lock_model.specs.declared.entries.Entry.{Entry}
 use Rattle.lock_model.specs.declared.entries.Live.{Live}
 use Rattle.lock_model.specs.declared.problems.Problem.{Problem}
-use Rattle.lock_model.specs.ExactStations.{is_of, knows, entry_of, EachOnce, IsAboveFloor, if_live, admits, settled_live, settled_entry, settle, settled}
+use Rattle.lock_model.specs.ExactStations.{is_of, entry_of, EachOnce, IsAboveFloor, admits, settled_live, settled_entry, settle, settled}
 use Rattle.lock_model.specs.ExactDecisions.{ended, moved_last, grants, live_reply, reply_of_live, reply_to_known, new_entry, takes_up}
 use Rattle.stable_record.specs.EntryLists.{replaced}
 use Rattle.stable_record.specs.Laws.{StrangersLeaveTheIndex}
-use Rattle.stable_record.specs.Lines.{Tickets, waits_for, count_live, one_if}
+use Rattle.stable_record.specs.Lines.{Tickets, waits_for, one_if}
 use Rattle.stable_record.specs.Indexing.{IndexesWith, with_announced, announced_entry}
+use Rattle.stable_record.proofs.IndexFacts.{nowhere}
+use Rattle.stable_record.proofs.LineFacts.{count-snoc}
 use Rattle.voter_core.specs.Freed.{waiting_for}
-use Rattle.voter_core.proofs.CountFacts.{count-first}
 use Rattle.voter_core.proofs.FreedFacts.{all-at}
-use Rattle.voter_core.proofs.EndFacts.{fresh, ended-unknown, unknown-entry, find-last, stays-ended, replaced-ends}
+use Rattle.voter_core.proofs.EndFacts.{fresh, ended-unknown, find-last, stays-ended, replaced-ends}
 use Rattle.voter_core.proofs.QueueFacts.{place-of}
 
 -- ---- who is announced counts where it is announced
 
-count-last : (test : Live → Bool) (es : List Entry) (e : Entry) → count_live test (es ++ e ∷ []) ≡ count_live test es + one_if (if_live test e.live)
-count-last test [] e = let h = count-first test e [] in omega (arith, h)
-count-last test (f ∷ es) e =
-    let h = count-first test f (es ++ e ∷ []) in
-    let k = count-first test f es in
-    let more = count-last test es e in
-    omega (arith, h, k, more)
-
 pub waiting-announced : (o : Option (List ℕ)) (c : ℕ) (x : List ℕ) (es : List Entry) → waiting_for o (with_announced (Some (c, x)) es) ≡ waiting_for o es + one_if (option_map_or (λ y. bytes_eq x y) o false)
 waiting-announced None c x es = refl
-waiting-announced (Some y) c x es = count-last (waits_for y) es (announced_entry (c, x))
+waiting-announced (Some y) c x es = count-snoc (waits_for y) es (announced_entry (c, x))
 
 -- ---- a stranger's entry
 
@@ -91,7 +84,7 @@ ended-none n t es once above new = go (entry_of es t.client) refl new
   where
     go : (o : Option Entry) → entry_of es t.client ≡ o → reply_to_known n t o ≡ None → NoLive (entry_of (ended t.client (t.attempt - 1) es) t.client)
     go None is met =
-        let none = unknown-entry t.client es is in
+        let none = nowhere t.client es is in
         subst NoLive (sym (ap (λ l. entry_of l t.client) (ended-unknown t.client (t.attempt - 1) es none) ∙ find-last t.client es (fresh t.client (t.attempt - 1)) none refl)) refl
     go (Some e) is met = by (cases_Bool (nat_lt e.floor (t.attempt - 1)))
       where

@@ -13,7 +13,6 @@ use Rattle.lock_model.specs.Decisions.{Decides, IsSwitched}
 use Rattle.lock_model.specs.ExactStations.{is_waiting, admits, promoted, meaning, entry_of, settled}
 use Rattle.lock_model.specs.ExactDecisions.{decision, changes, switches, same_problem, ended, reply_to_known}
 use Rattle.stable_record.specs.declared.node_records.NodeRecord.{NodeRecord}
-use Rattle.stable_record.specs.declared.faults.RecordFault.{RecordFault}
 use Rattle.stable_record.specs.declared.faults.RecordFault.TheVariants as record_fault
 use Rattle.stable_record.specs.Lines.{Tickets, Indexes}
 use Rattle.stable_record.specs.Records.{IsNodeRecord, node_record_of}

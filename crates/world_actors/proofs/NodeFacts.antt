@@ -1,5 +1,5 @@
 -- A node that takes another problem, or the one that it has.
-use Rattle.std.proofs.Common.{◌≡◌, Bool, true, false, not, List, [], Option, None, IfSome, refl, sym, ◌∙◌, ap, subst}
+use Rattle.std.proofs.Common.{◌≡◌, Bool, true, false, not, [], Option, None, IfSome, refl, sym, ◌∙◌, ap, subst}
 use Rattle.lock_model.specs.declared.problems.Problem.{Problem}
 use Rattle.lock_model.specs.ExactStations.{meaning}
 use Rattle.lock_model.specs.Stations.{IsCaused}

@@ -27,13 +27,11 @@ use Rattle.world_machine.specs.Machines.{node_part, client_part, AreNodes, AreCl
 use Rattle.world_model.specs.Numbered.{numbered-map}
 use Rattle.world_machine.proofs.ListFacts.{here-or-there, set-same}
 use Rattle.world_machine.proofs.TurnFacts.{OnlyActs, node-deed, node-asks, client-deed, step-node, step-no-node, step-client, step-no-client, node-acts, node-speaks, client-speaks, take-once, take-acts, hear-once, does-turned, does-spoke}
+use Rattle.world_machine.proofs.ListingFacts.{client-at}
 
 -- the part under a number
 node-there : (w : ExactWorld) (ns : List ActingNode) (n : ℕ) (v : ActingNode) → w.nodes ≡ map node_part ns → numbered ns n ≡ Some v → numbered w.nodes n ≡ Some v.part
 node-there w ns n v is at = ap (λ xs. numbered xs n) is ∙ numbered-map node_part ns n ∙ ap (option_map node_part) at
-
-client-there : (w : ExactWorld) (cs : List ActingClient) (c : ℕ) (k : ActingClient) → w.clients ≡ map client_part cs → numbered cs c ≡ Some k → numbered w.clients c ≡ Some k.part
-client-there w cs c k is at = ap (λ xs. numbered xs c) is ∙ numbered-map client_part cs c ∙ ap (option_map client_part) at
 
 node-put : (w : ExactWorld) (ns : List ActingNode) (n : ℕ) (u : ActingNode) → w.nodes ≡ map node_part ns → slice_set w.nodes (n - 1) u.part ≡ map node_part (slice_set ns (n - 1) u)
 node-put w ns n u is = ap (λ xs. set xs (n - 1) u.part) is ∙ sym (map-set node_part ns (n - 1) u)
@@ -61,7 +59,7 @@ client-does : (w : ExactWorld) (e : Event) (c : ℕ) (turn : Turns ExactClient) 
     step w e ≡ finishes w (with_client_at w c) turn → Turned false client_part turn k r u → Does e (step w e) w r (with_clients w (map client_part (slice_set cs (c - 1) u)))
 client-does w e c turn cs k u r is at s h =
     subst (λ xs. Does e (step w e) w r (with_clients w xs)) (client-put w cs c u is)
-    (does-turned w e (with_client_at w c) client_part turn false k u r s (λ q. absurd (let p : false ≡ true = q in cc)) (λ q. absurd (let p : false ≡ true = q in cc)) (ap (with_clients w) (set-same w.clients c k.part (client-there w cs c k is at))) h)
+    (does-turned w e (with_client_at w c) client_part turn false k u r s (λ q. absurd (let p : false ≡ true = q in cc)) (λ q. absurd (let p : false ≡ true = q in cc)) (ap (with_clients w) (set-same w.clients c k.part (client-at w cs c k is at))) h)
 
 pub act-node : (w : ExactWorld) (n : ℕ) (act : NodeAct) (ns : List ActingNode) (v u : ActingNode) (r : Result Effect StepFault) → w.nodes ≡ map node_part ns → AreNodes ns → numbered ns n ≡ Some v →
     Turned (node_asks act) node_part (node_turn act v.number v.part) v r u → Does (node_event n act) (step w (node_event n act)) w r (with_nodes w (map node_part (slice_set ns (n - 1) u)))
@@ -73,7 +71,7 @@ pub act-client : (w : ExactWorld) (c : ℕ) (act : ClientAct) (cs : List ActingC
     Turned false client_part (client_turn act k.number k.ballots k.part) k r u → Does (client_event c act) (step w (client_event c act)) w r (with_clients w (map client_part (slice_set cs (c - 1) u)))
 act-client w c act cs k u r is order at h =
     let own = order c k at in
-    client-does w (client_event c act) c (client_turn act c w.ballots k.part) cs k u r is at (step-client w (client_event c act) c (λ b x. client_turn act c b x) k.part (client-deed c act) (client-there w cs c k is at))
+    client-does w (client_event c act) c (client_turn act c w.ballots k.part) cs k u r is at (step-client w (client_event c act) c (λ b x. client_turn act c b x) k.part (client-deed c act) (client-at w cs c k is at))
     (subst (λ b. Turned false client_part (client_turn act c b k.part) k r u) own.1 (subst (λ m. Turned false client_part (client_turn act m k.ballots k.part) k r u) own.0 h))
 
 pub take-node : (w : ExactWorld) (n number : ℕ) (ns : List ActingNode) (sent : List Message) (v u : ActingNode) (r : Result Effect StepFault) → w.nodes ≡ map node_part ns → w.sent ≡ sent → AreNodes ns → numbered ns n ≡ Some v →
@@ -92,7 +90,7 @@ hear-client w c number cs sent k u r is all order at h =
     let own = order c k at in
     let turn = read_turn (numbered w.sent number) (hears (node_count w.ballots) c number k.part) in
     client-does w (event.Hear c number) c turn cs k u r is at
-    (step-client w (event.Hear c number) c (λ b x. hears (node_count b) c number x) k.part refl (client-there w cs c k is at) ∙ hear-once w (with_client_at w c) (node_count w.ballots) c number k.part)
+    (step-client w (event.Hear c number) c (λ b x. hears (node_count b) c number x) k.part refl (client-at w cs c k is at) ∙ hear-once w (with_client_at w c) (node_count w.ballots) c number k.part)
     (subst (λ (b : List Ballot). Turned false client_part (read_turn (numbered w.sent number) (hears (node_count b) c number k.part)) k r u) own.1
     (subst (λ m. Turned false client_part (read_turn (numbered w.sent number) (hears (node_count k.ballots) m number k.part)) k r u) own.0
     (subst (λ l. Turned false client_part (read_turn (numbered l number) (hears (node_count k.ballots) k.number number k.part)) k r u) (sym all) h)))
@@ -108,7 +106,7 @@ pub tell-client : (w : ExactWorld) (c n : ℕ) (cs : List ActingClient) (sent ne
     Spoke client_part (tells k.ballots k.number n k.part) sent k r k new → Does (event.SayTo c n) (step w (event.SayTo c n)) w r (with_sent w new)
 tell-client w c n cs sent new k r is all order at h =
     let own = order c k at in
-    let there = client-there w cs c k is at in
+    let there = client-at w cs c k is at in
     let same = ap (with_clients w) (set-same w.clients c k.part there) in
     subst (λ x. Does (event.SayTo c n) (step w (event.SayTo c n)) w r (with_sent x new)) same
     (does-spoke w (event.SayTo c n) (with_client_at w c) client_part (tells w.ballots c n k.part) sent k k r new (step-client w (event.SayTo c n) c (λ b x. tells b c n x) k.part refl there) refl

@@ -6,7 +6,8 @@ use Rattle.std.specs.Option.{option_map}
 use Rattle.std.proofs.lemmas.Bool.{eq-eqb, ne_eqb, lt-ltb, le-ltb, cases_lt}
 use Rattle.std.proofs.lemmas.List.{length-map, at_drop_more}
 use Rattle.std.proofs.lemmas.List.Quantifiers.{position-Some}
-use Rattle.std.proofs.lemmas.Option.{get_or_from_slice_get}
+use Rattle.std.proofs.lemmas.Option.{get_or_from_slice_get, IfSome_then}
+use Rattle.std.proofs.Math.Bool.{or-false}
 use Rattle.lock_messages.specs.declared.messages.Message.{Message}
 use Rattle.lock_messages.specs.declared.tickets.Ticket.{Ticket}
 use Rattle.lock_model.specs.Ballots.{Ballot, node_count}
@@ -53,10 +54,6 @@ any-is-any g f start (x ∷ xs) same =
 any-none : {A : Type 0} (p : A → Bool) (xs : List A) → ((i : ℕ) (x : A) → slice_get xs i ≡ Some x → p x ≡ false) → list_any p xs ≡ false
 any-none p [] none = refl
 any-none p (x ∷ xs) none = ap (λ b. b || list_any p xs) (none 0 x refl) ∙ any-none p xs (λ i y at. none (suc i) y at)
-
-or-false : (b : Bool) → (b || false) ≡ b
-or-false true = refl
-or-false false = refl
 
 any-one : {A : Type 0} (p : A → Bool) (xs : List A) (k : ℕ) (z : A) → slice_get xs k ≡ Some z → ((i : ℕ) (x : A) → slice_get xs i ≡ Some x → i ≢ k → p x ≡ false) → list_any p xs ≡ p z
 any-one p [] k z at others = absurd (let q : None ≡ Some z = at in cc)
@@ -239,10 +236,6 @@ position-within p xs i is = go (cases_lt (position_or_len p xs) (length xs))
     go (inl below) = let q : Some (position_or_len p xs) ≡ Some i = sym (ap (λ b. cond b (Some (position_or_len p xs)) None) (lt-ltb (position_or_len p xs) (length xs) below)) ∙ is in let same : position_or_len p xs ≡ i = cc in omega (arith, below, same)
     go (inr past) = absurd (let q : None ≡ Some i = sym (ap (λ b. cond b (Some (position_or_len p xs)) None) (le-ltb (position_or_len p xs) (length xs) past)) ∙ is in cc)
 
-if-some : {A : Type 0} (o : Option A) (P Q : A → Type 0) → ((x : A) → P x → Q x) → IfSome o P → IfSome o Q
-if-some None P Q more h = tt
-if-some (Some x) P Q more h = more x h
-
 first-grant : (n : ℕ) (t : Ticket) (sent : List Message) → IfSome (number_of_grant n t sent) (λ k. (m : Message) × (numbered sent k ≡ Some m) × (is_grant n t m ≡ true))
 first-grant n t sent = go (position (is_grant n t) sent) refl
   where
@@ -275,8 +268,7 @@ hears-first b ns ks sent c n = go (numbered ks c) (client-numbered b ns ks sent 
     asking client.Down is = tt
     asking client.Idle is = tt
     asking (client.Chosen t place) is = tt
-    asking (client.Asking p) is = if-some (number_of_grant n p.ticket sent) (λ k. (m : Message) × (numbered sent k ≡ Some m) × (is_grant n p.ticket m ≡ true))
-        (λ k. (m : Message) × (q : Present) × ((w.clients c).phase ≡ Asking q) × (numbered sent k ≡ Some m) × (is_grant n q.ticket m ≡ true)) (λ k h. (h.0, present_of p, is, h.1, h.2)) (first-grant n p.ticket sent)
+    asking (client.Asking p) is = IfSome_then (number_of_grant n p.ticket sent) (first-grant n p.ticket sent) (λ k h. (h.0, present_of p, is, h.1, h.2))
     asking (client.Inside p) is = tt
 
     go : (o : Option ActingClient) → w.clients c ≡ client_numbered (option_map client_part o) →

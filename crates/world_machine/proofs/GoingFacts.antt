@@ -1,5 +1,5 @@
 -- What moves made one event after the other come to.
-use Rattle.std.proofs.Common.{◌≡◌, ℕ, ◌+◌, ◌<◌, ◌≤◌, ◌⊎◌, arith, Result, OnOk, IfErr, IfSome, Bool, List, [], ◌∷◌, ◌++◌, length, true, Option, None, Some, Ok, Err, refl, sym, ◌∙◌, ap, subst, inl, inr, append_assoc, append-nil}
+use Rattle.std.proofs.Common.{◌≡◌, ℕ, ◌+◌, ◌<◌, ◌≤◌, ◌⊎◌, arith, Result, OnOk, IfErr, Bool, List, [], ◌∷◌, ◌++◌, true, Some, Ok, Err, refl, sym, ◌∙◌, ap, subst, inl, inr, append_assoc}
 use Rattle.std.proofs.lemmas.Bool.{cases_lt}
 use Rattle.lock_messages.specs.declared.messages.Message.{Message}
 use Rattle.world_model.specs.declared.events.Event.{Event}
@@ -19,7 +19,7 @@ use Rattle.world_model.specs.Worlds.{Present, Asking, Node, Client, NodeIdle, No
 use Rattle.world_model.specs.ExactWorlds.{numbered, next_number, Stepped, step}
 use Rattle.world_model.specs.Forgetting.{forget, setting_of, IsSound}
 use Rattle.world_model.specs.Advice.{is_grant, next_move}
-use Rattle.world_model.specs.ExactWays.{Moved, moved_alone, moved_hand, moved_hear, IsStuck, stuck_alone, stuck_saying, stuck_taking, stuck_hearing, Follows, follows_none, follows_more, StopsAt}
+use Rattle.world_model.specs.ExactWays.{Moved, moved_alone, moved_hand, moved_hear, IsStuck, stuck_alone, stuck_saying, stuck_taking, stuck_hearing, Follows, follows_more}
 use Rattle.world_model.specs.ExactWays.{SetsOut, HasRun, IsRise, AreRises}
 use Rattle.world_model.specs.Ways.{IsUp, HasActor}
 use Rattle.world_model.proofs.ListFacts.{among-append}
@@ -31,7 +31,7 @@ use Rattle.world_model.proofs.Prefixes.{Risen, client-rises-step, node-rises-ste
 use Rattle.world_model.proofs.ExactWaysIn.{run-join}
 use Rattle.world_model.proofs.WayAnswers.{rises-risen, step-costs}
 use Rattle.world_model.proofs.Costs.{cost}
-use Rattle.world_machine.specs.Going.{HasTaken, HasMade, HasArrived, HasRaised, IsDownThere}
+use Rattle.world_machine.specs.Going.{HasTaken, HasMade, HasRaised, IsDownThere}
 
 -- one event
 pub alone-made : (a : Want) (w : ExactWorld) (old : List Event) (e : Event) (v : ExactWorld) (new : List Event) → HasTaken w old e v new → HasMade a w old (Alone e) v new
@@ -81,18 +81,11 @@ pub err-all : {A : Type 0} {E : Type 0} (r : Result A E) (P Q : E → Type 0) �
 err-all (Ok a) P Q more h = tt
 err-all (Err e) P Q more h = more e h
 
-pub some-all : {A : Type 0} (o : Option A) (P Q : A → Type 0) → ((x : A) → P x → Q x) → IfSome o P → IfSome o Q
-some-all None P Q more h = tt
-some-all (Some x) P Q more h = more x h
-
 -- Those that are down rise.
 
 -- whom the load is told for doesn't matter here
 abbrev no_want : Want
 no_want = record { client = 0; mode = Read; resource = []; place = 0 }
-
-pub raised-none : (w : ExactWorld) (old : List Event) (P : Actor → Type 0) → ((who : Actor) → P who → HasActor (setting_of w) who → IsUp (forget w) who) → HasRaised w old w old P
-raised-none w old P up = ([], refl, (λ e m. absurd m), sym (append-nil old), up)
 
 rise-up : (w : ExactWorld) (who : Actor) (t : Stepped) → IsSound w → step w (event.Rise who Old) ≡ Ok t → IsUp (forget t.world) who
 rise-up w (actor.Node n) t sound h = let by = (step-done model-laws w (event.Rise (actor.Node n) Old) t h).happens sound in node by.0 by.1 by.2 by.3
@@ -183,8 +176,3 @@ made-more chosen a w old v mid mv u new (es, follows, joined) next (added, moved
 pub made-less : (chosen : ℕ → Bool) (a : Want) (w : ExactWorld) (old : List Event) (v : ExactWorld) (mid : List Event) (mv : Move) (u : ExactWorld) (new : List Event) → IsSound w → SetsOut chosen a w → ((es : List Event) × Follows chosen a w es v × (mid ≡ old ++ es)) →
     next_move (setting_of v) chosen a (forget v) ≡ Some mv → HasMade a v mid mv u new → cost (setting_of u) chosen a (forget u) < cost (setting_of v) chosen a (forget v)
 made-less chosen a w old v mid mv u new sound out (es, follows, joined) next (added, moved, more) = step-costs model-laws chosen a w es v mv added u sound out follows next moved
-
-pub stops-here : (chosen : ℕ → Bool) (a : Want) (w : ExactWorld) (old : List Event) (v : ExactWorld) (mid : List Event) (mv : Move) (f : StepFault) → ((es : List Event) × Follows chosen a w es v × (mid ≡ old ++ es)) →
-    next_move (setting_of v) chosen a (forget v) ≡ Some mv → IsStuck a v mv f ⊎ (f ≡ fault.Memory) → StopsAt chosen a w f ⊎ (f ≡ fault.Memory)
-stops-here chosen a w old v mid mv f (es, follows, joined) next (inl stuck) = inl (record { events = es; world = v; follows = follows; move = mv; next = next; stuck = stuck })
-stops-here chosen a w old v mid mv f so next (inr m) = inr m

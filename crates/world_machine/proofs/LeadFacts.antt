@@ -1,8 +1,7 @@
 -- What the way in answers, or why there is none, by what going ahead has done.
-use Rattle.std.proofs.Common.{◌≡◌, ℕ, ◌+◌, ◌<◌, ◌≤◌, ◌⊎◌, ◌↔◌, IsTrue, IfOk, IfErr, Result, Bool, true, false, List, [], ◌∷◌, ◌++◌, length, Option, None, Some, Ok, Err, refl, sym, ◌∙◌, ap, subst, inl, inr, arith}
+use Rattle.std.proofs.Common.{◌≡◌, ℕ, ◌+◌, ◌⊎◌, ◌↔◌, IsTrue, IfOk, IfErr, Result, Bool, true, false, List, [], ◌++◌, Option, None, Some, Ok, Err, refl, sym, ◌∙◌, ap, subst, inl, inr, arith}
 use Rattle.std.specs.Option.{option_map}
 use Rattle.std.proofs.lemmas.List.{length-map}
-use Rattle.lock_messages.specs.declared.ids.TheConstants.{MAX_ATTEMPT}
 use Rattle.lock_messages.specs.declared.ids.Actor.{Actor}
 use Rattle.lock_messages.specs.declared.ids.Actor.TheVariants as actor
 use Rattle.lock_messages.specs.declared.messages.Message.{Message}
@@ -13,13 +12,13 @@ use Rattle.world_model.specs.declared.events.StepFault.{StepFault}
 use Rattle.world_model.specs.declared.events.StepFault.TheVariants as fault
 use Rattle.world_model.specs.declared.exact.ExactWorld.{ExactWorld}
 use Rattle.world_model.specs.declared.ways.Want.{Want}
-use Rattle.world_model.specs.Worlds.{Client, World, Setting, HasClient}
-use Rattle.world_model.specs.ExactWorlds.{numbered, Ran, ran}
+use Rattle.world_model.specs.Worlds.{Client, Setting, HasClient}
+use Rattle.world_model.specs.ExactWorlds.{numbered, ran}
 use Rattle.world_model.specs.Forgetting.{client_of, client_numbered, forget, setting_of, IsSound}
 use Rattle.world_model.specs.Numbered.{numbered-map, numbered-one, numbered-there}
-use Rattle.world_model.specs.Advice.{can_be_won, coming_up, next_move}
-use Rattle.world_model.specs.Ways.{IsPossible, IsUp, HasActor, IsChosenBelow}
-use Rattle.world_model.specs.ExactWays.{SetsOut, StopsAt, LeadsIn, HasAttempt, HasRoomFor, IsNoWay, every_node, Follows}
+use Rattle.world_model.specs.Advice.{can_be_won, coming_up}
+use Rattle.world_model.specs.Ways.{IsPossible, IsUp, HasActor}
+use Rattle.world_model.specs.ExactWays.{SetsOut, StopsAt, LeadsIn, HasAttempt, HasRoomFor, IsNoWay, every_node}
 use Rattle.world_model.proofs.Deeds.{model-laws}
 use Rattle.world_model.proofs.WayAnswers.{came-run, came-free, out-gently, leads-gently, stops-gently, out-raised, leads-risen, stops-risen, rises-risen}
 use Rattle.world_machine.specs.Going.{HasTakenAll, HasArrived, HasRaised, IsGentleWay, IsNodeActor, IsClientActor, HasAttemptOf, AttemptIs}

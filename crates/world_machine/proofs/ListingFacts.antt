@@ -1,12 +1,12 @@
 -- Tickets listed one entry after the other, and what is asked of an actor.
-use Rattle.std.proofs.Common.{◌≡◌, ◌↔◌, ℕ, ◌+◌, ◌<◌, Bool, true, false, cond, List, [], ◌∷◌, ◌++◌, length, take, get_or, map, suc, Option, Some, None, Result, Ok, Err, refl, sym, ◌∙◌, ap, subst, arith}
+use Rattle.std.proofs.Common.{◌≡◌, ◌↔◌, ℕ, ◌+◌, ◌<◌, Bool, true, false, cond, List, [], ◌∷◌, ◌++◌, length, take, map, suc, Option, Some, None, Result, Ok, Err, refl, sym, ◌∙◌, ap, subst, arith}
 use Rattle.std.specs.Prelude.{slice_get, IfOk, IfSome}
 use Rattle.std.specs.List.{flat_map}
 use Rattle.std.specs.Option.{option_map}
 use Rattle.std.proofs.Math.Seq.{take-suc}
 use Rattle.std.proofs.lemmas.List.{append-nil}
 use Rattle.std.proofs.lemmas.Grind.{flat_map-append}
-use Rattle.std.proofs.lemmas.Option.{slice_get_within, slice_get-get_or, get_or_from_slice_get}
+use Rattle.std.proofs.lemmas.Option.{slice_get_within, get_or_from_slice_get}
 use Rattle.lock_messages.specs.declared.tickets.Mode.{Mode}
 use Rattle.lock_messages.specs.declared.tickets.Mode.TheVariants.{Read}
 use Rattle.lock_messages.specs.declared.tickets.Ticket.{Ticket}
@@ -14,7 +14,6 @@ use Rattle.lock_messages.specs.declared.messages.Message.{Message}
 use Rattle.lock_model.specs.Ballots.{Ballot}
 use Rattle.lock_model.specs.Decisions.{Among}
 use Rattle.lock_model.specs.Stations.{Station, Waits, Cause}
-use Rattle.vote_weights.specs.Sets.{has_node}
 use Rattle.world_actors.specs.Acting.{ActingNode, ActingClient}
 use Rattle.world_model.specs.declared.events.StepFault.{StepFault}
 use Rattle.world_model.specs.declared.exact.ExactNode.{ExactNode}
@@ -31,6 +30,7 @@ use Rattle.world_model.specs.Worlds.{World, Present, ClientPhase, ClientDown, Cl
 use Rattle.world_machine.specs.Listing.{Tells, IsInsideBy, AreWaiting}
 use Rattle.world_machine.specs.Machines.{node_part, client_part, world_view}
 use Rattle.world_model.specs.Numbered.{numbered-map}
+use Rattle.world_opening.proofs.JudgingFacts.{there}
 
 -- one element more
 flat_map-next : {A B : Type 0} (f : A → List B) (xs : List A) (i : ℕ) (x : A) → slice_get xs i ≡ Some x → flat_map f (take (i + 1) xs) ≡ flat_map f (take i xs) ++ f x
@@ -38,11 +38,6 @@ flat_map-next f xs i x h =
     ap (λ n. flat_map f (take n xs)) (let e : i + 1 ≡ suc i = omega arith in e)
     ∙ ap (flat_map f) (take-suc xs i x (slice_get_within xs i x h) ∙ ap (λ y. take i xs ++ y ∷ []) (get_or_from_slice_get xs i x x h))
     ∙ flat_map-append f (take i xs) (x ∷ []) ∙ ap (λ ys. flat_map f (take i xs) ++ ys) (append-nil (f x))
-
--- each place within a list has something
-there : {A : Type 0} (xs : List A) (i : ℕ) → i < length xs → (x : A) × (slice_get xs i ≡ Some x)
-there [] i within = absurd (omega (arith, within))
-there (x ∷ xs) i within = (get_or (x ∷ xs) i x, slice_get-get_or (x ∷ xs) i x within)
 
 -- what the element at a place gives is what comes behind that of those before it
 pub flat_map-more : {A B : Type 0} (f : A → List B) (xs : List A) (i : ℕ) (ys : List B) → i < length xs → ((x : A) → slice_get xs i ≡ Some x → ys ≡ f x) →

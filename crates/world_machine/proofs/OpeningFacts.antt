@@ -1,5 +1,5 @@
 -- Actors put in order one after the other, and the records from which a world is opened.
-use Rattle.std.proofs.Common.{◌≡◌, ℕ, ◌+◌, ◌-◌, ◌<◌, ◌≤◌, ◌⊎◌, List, [], ◌∷◌, ◌++◌, length, get_or, map, replicate, take, zero, suc, Some, None, refl, sym, ◌∙◌, ap, subst, inl, inr, append_assoc, arith}
+use Rattle.std.proofs.Common.{◌≡◌, ℕ, ◌+◌, ◌-◌, ◌<◌, ◌≤◌, ◌⊎◌, List, [], ◌∷◌, ◌++◌, length, get_or, map, replicate, take, Some, sym, ◌∙◌, ap, subst, inl, inr, append_assoc, arith}
 use Rattle.std.specs.Prelude.{slice_get}
 use Rattle.std.specs.List.{AllByRecursion, remove}
 use Rattle.std.proofs.lemmas.List.{length-map, map-append, length-replicate, take_more}
@@ -15,21 +15,12 @@ use Rattle.world_model.specs.ExactWorlds.{numbered}
 use Rattle.world_model.specs.Forgetting.{IsSound}
 use Rattle.world_model.specs.Openings.{down_node, down_client, empty_station, resumed, IsResumable}
 use Rattle.world_opening.specs.Openings.{AreRecords, AreAttempts, station_in, stations_in}
+use Rattle.world_opening.proofs.JudgingFacts.{all-numbered}
 use Rattle.world_machine.specs.Machines.{node_part, client_part, world_view, AreNodes, AreClients, IsWorld}
 use Rattle.world_machine.specs.Opened.{CanOpen}
-use Rattle.world_model.specs.Numbered.{past-zero, numbered-one, numbered-next}
+use Rattle.world_model.specs.Numbered.{past-zero, numbered-one, get-last}
 
 -- lists with one more
-
-get-last : {A : Type 0} (xs : List A) (y : A) (i : ℕ) (x : A) → slice_get (xs ++ y ∷ []) i ≡ Some x → (slice_get xs i ≡ Some x) ⊎ ((i ≡ length xs) × (y ≡ x))
-get-last [] y zero x h = inr (refl, cc)
-get-last [] y (suc i) x h = absurd (let q : None ≡ Some x = h in cc)
-get-last (z ∷ xs) y zero x h = inl h
-get-last {A} (z ∷ xs) y (suc i) x h = go (get-last xs y i x h)
-  where
-    go : (slice_get xs i ≡ Some x) ⊎ ((i ≡ length xs) × (y ≡ x)) → (slice_get (z ∷ xs) (suc i) ≡ Some x) ⊎ ((suc i ≡ length (z ∷ xs)) × (y ≡ x))
-    go (inl e) = inl e
-    go (inr e) = inr (ap suc e.0, e.1)
 
 -- what holds of each under its number does so of one more
 each-more : {A : Type 0} (P : ℕ → A → Type 0) (xs : List A) (y : A) → ((n : ℕ) (x : A) → numbered xs n ≡ Some x → P n x) → P (length xs + 1) y → (n : ℕ) (x : A) → numbered (xs ++ y ∷ []) n ≡ Some x → P n x
@@ -55,10 +46,6 @@ map-more f g xs ys i x d h within is =
     ∙ sym (map-append g (take i ys) (get_or ys i d ∷ [])) ∙ ap (map g) (sym (take_more ys i d within))
 
 -- the first of a list, and the rest
-
-pub first-good : (rs : List NodeRecord) (r : NodeRecord) → AllByRecursion IsNodeRecord rs → 0 < length rs → r ≡ get_or rs 0 r → IsNodeRecord r
-first-good [] r good some at = absurd (omega arith)
-first-good (x ∷ rs) r good some at = subst IsNodeRecord (sym at) good.0
 
 pub rest-good : (rs : List NodeRecord) → AllByRecursion IsNodeRecord rs → AllByRecursion IsNodeRecord (remove rs 0)
 rest-good [] good = tt
@@ -87,15 +74,6 @@ parts-more vs n (x ∷ rs) r some at =
 
 -- what records spell
 
-all-numbered : {A : Type 0} (P : A → Type 0) (xs : List A) → ((n : ℕ) (a : A) → numbered xs n ≡ Some a → P a) → AllByRecursion P xs
-all-numbered P [] h = tt
-all-numbered {A} P (x ∷ xs) h = (h 1 x refl, all-numbered P xs (λ n a e. h (n + 1) a (numbered-next (x ∷ xs) n ∙ next n a e)))
-  where
-    next : (n : ℕ) (a : A) → numbered xs n ≡ Some a → slice_get (x ∷ xs) n ≡ Some a
-    next n a e =
-        let one = (numbered-one xs n a e).0 in
-        ap (slice_get (x ∷ xs)) (let m : n ≡ suc (n - 1) = omega (arith, one) in m) ∙ (sym (past-zero xs n one) ∙ e)
-
 kept-good : (found : List (List ℕ)) (records : List NodeRecord) → AreRecords found records → AllByRecursion IsNodeRecord records
 kept-good found records are = all-numbered IsNodeRecord records (λ n r e. (are.each n r e).reads.good)
 
@@ -112,15 +90,6 @@ can-open h b nodes clients records attempts nodes_long few_nodes few_clients are
   few_clients = subst (λ n. n ≤ MAX_CLIENTS) (sym (made.count_is ∙ length-map clients h)) few_clients;
   resumable = fits;
 }
-
--- one record more without entries
-pub empty-more : (rs : List NodeRecord) (r : NodeRecord) (n : ℕ) (p : Problem) → stations_in rs ≡ map empty_station (replicate n p) → station_in r ≡ empty_station p → stations_in (rs ++ r ∷ []) ≡ map empty_station (replicate (n + 1) p)
-empty-more rs r n p h is =
-    map-append station_in rs (r ∷ []) ∙ ap (λ l. l ++ station_in r ∷ []) h ∙ ap (λ s. map empty_station (replicate n p) ++ s ∷ []) is ∙ shifted n ∙ (let e : suc n ≡ n + 1 = omega arith in ap (λ k. map empty_station (replicate k p)) e)
-  where
-    shifted : (k : ℕ) → map empty_station (replicate k p) ++ empty_station p ∷ [] ≡ map empty_station (replicate (suc k) p)
-    shifted zero = refl
-    shifted (suc k) = ap (λ l. empty_station p ∷ l) (shifted k)
 
 pub empty-many : (rs : List NodeRecord) (n : ℕ) (p : Problem) → stations_in rs ≡ map empty_station (replicate n p) → length rs ≡ n
 empty-many rs n p h = sym (length-map rs station_in) ∙ ap length h ∙ length-map (replicate n p) empty_station ∙ length-replicate n p

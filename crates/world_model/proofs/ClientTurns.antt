@@ -1,16 +1,17 @@
 -- What a client's turns are told to be.
 use Rattle.std.proofs.Common.{◌≡◌, ◌≢◌, ℕ, ◌+◌, ◌≤◌, ◌==◌, ◌&&◌, Bool, true, false, not, cond, nat_lt, nat_le, List, [], ◌∷◌, Option, Some, None, Err, refl, arith}
 use Rattle.std.proofs.lemmas.Bool.Decides.{nat_tests}
+use Rattle.std.proofs.lemmas.Bool.{and_parts, not-true}
 use Rattle.lock_messages.specs.declared.ids.TheConstants.{MAX_ATTEMPT}
 use Rattle.lock_messages.specs.declared.ids.Actor.TheVariants as actor
 use Rattle.lock_messages.specs.declared.tickets.Mode.{Mode}
-use Rattle.lock_messages.specs.declared.tickets.Mode.TheVariants.{Read, Write}
 use Rattle.lock_messages.specs.declared.tickets.Ticket.{Ticket}
 use Rattle.lock_messages.specs.declared.messages.Message.{Message}
 use Rattle.lock_messages.specs.declared.messages.Message.TheVariants as message
 use Rattle.lock_model.specs.Ballots.{HasAnyNode, has_place, ballot_at, node_count, needed, votes_of}
 use Rattle.lock_model.specs.ExactHearing.{is_node_of}
 use Rattle.lock_model.specs.ExactStations.{is_write}
+use Rattle.lock_model.proofs.SettlingFacts.{write-true}
 use Rattle.vote_weights.specs.Sets.{has_node}
 use Rattle.world_model.specs.declared.events.Age.{Age}
 use Rattle.world_model.specs.declared.events.Age.TheVariants.{Old, New}
@@ -31,7 +32,6 @@ use Rattle.world_model.specs.Forgetting.{present_of, client_phase_of, client_of,
 use Rattle.world_model.specs.Laws.{IsNumbered}
 use Rattle.world_model.specs.Locality.{IsEffectOf, IsAsListed}
 use Rattle.world_model.proofs.RoomFacts.{fits-one}
-use Rattle.world_model.proofs.EntryFacts.{both-parts}
 use Rattle.world_model.proofs.Told.{Kind, Told, told-if}
 
 -- clients of this number, in this setting
@@ -183,22 +183,14 @@ leaves-told s c k = go k.phase
     go (exact.Asking p) = out (exact.Asking p) (gives_up k.kept k.tried (present_of p))
     go (exact.Inside p) = out (exact.Inside p) (leaves k.kept k.tried (present_of p))
 
-pub is-writer : (m : Mode) → is_write m ≡ true → m ≡ Write
-is-writer Read e = absurd (let q : false ≡ true = e in cc)
-is-writer Write e = refl
-
-pub is-whole : (b : Bool) → not b ≡ true → b ≡ false
-is-whole true e = absurd (let q : false ≡ true = e in cc)
-is-whole false e = refl
-
 pub softens-told : (s : Setting) (c : ℕ) (k : ExactClient) → ClientTold s (event.Soften c) c k (softens_in k k.phase)
 softens-told s c k = go k.phase
   where
     inside : (p : ExactPresent) → (is_write p.ticket.mode && not p.softened) ≡ true → ClientTold s (event.Soften c) c (client_in k (exact.Inside p)) (acts (client_in k (exact.Inside (soft p))) effect.Softened)
     inside p may =
-        let both = both-parts (is_write p.ticket.mode) (not p.softened) may in
+        let both = and_parts (is_write p.ticket.mode) (not p.softened) may in
         acting s (event.Soften c) c Softens (λ w v h. h) (client_in k (exact.Inside p)) (client_in k (exact.Inside (soft p))) effect.Softened
-        (softens k.kept k.tried (present_of p) (is-writer p.ticket.mode both.0) (is-whole p.softened both.1)) (λ ok. record { kept = ok.kept; tried = ok.tried; chosen = tt }) refl (λ w. tt) (λ w. tt)
+        (softens k.kept k.tried (present_of p) (write-true p.ticket.mode both.0) (not-true p.softened both.1)) (λ ok. record { kept = ok.kept; tried = ok.tried; chosen = tt }) refl (λ w. tt) (λ w. tt)
 
     go : (p : ExactClientPhase) → ClientTold s (event.Soften c) c (client_in k p) (softens_in (client_in k p) p)
     go exact.Down = refl

@@ -38,7 +38,7 @@ use Rattle.world_model.proofs.TakenSteps.{takes-taken, hears-taken, step-taken}
 use Rattle.world_model.proofs.StepShapes.{TookSo, HeardSo, take-shape, hear-shape, says-shape}
 use Rattle.world_model.proofs.Nearer.{Hands, HearsGrant, Makes, Goes}
 use Rattle.world_model.proofs.Puts.{put_node, put-node}
-use Rattle.world_model.proofs.VoteMoves.{grant-is}
+use Rattle.world_model.proofs.VoteMoves.{grant-is, same-present}
 use Rattle.world_model.proofs.MoveKinds as kind
 use Rattle.world_model.proofs.MoveKinds.{MoveKind}
 
@@ -88,7 +88,7 @@ alone-makes laws a x e t sound h = (step-done laws x e t h).happens sound
 
 -- A hand.
 
-last-got : {A : Type 0} (xs : List A) (y : A) → slice_get (xs ++ y ∷ []) (length xs) ≡ Some y
+pub last-got : {A : Type 0} (xs : List A) (y : A) → slice_get (xs ++ y ∷ []) (length xs) ≡ Some y
 last-got [] y = refl
 last-got (x ∷ xs) y = last-got xs y
 
@@ -202,9 +202,6 @@ hand-makes laws a x d n t u sound goes first second = record {
         (of-node t.world n took.taker (decided_on took.taker m) [] sound-then took.was))
 
 -- Hearing.
-
-same-present : (p q : Present) → Asking p ≡ Asking q → p ≡ q
-same-present p q e = cc
 
 pub hear-goes : (a : Want) (x : ExactWorld) (n k : ℕ) (p : Present) (m : Message) → Goes (setting_of x) a (forget x) (HearFrom n) → ((forget x).clients a.client).phase ≡ Asking p → numbered x.sent k ≡ Some m → is_grant n p.ticket m ≡ true →
     refusal x (event.Hear a.client k) ≡ None

@@ -39,7 +39,7 @@ use Rattle.world_model.proofs.Deeds.{ModelLaws}
 use Rattle.world_model.proofs.StepFacts.{step-done}
 use Rattle.world_model.proofs.Costs.{cost}
 use Rattle.world_model.proofs.Owed.{owed}
-use Rattle.world_model.proofs.Rooms.{alone-full, hand-full, owed-load}
+use Rattle.world_model.proofs.Rooms.{alone-full, hand-full}
 use Rattle.world_model.specs.ExactWays.{IsLeft}
 use Rattle.world_model.proofs.Nearer.{Fine, left-up, node-among, client-among}
 use Rattle.world_model.proofs.FineFacts.{cases-client, stranger-is, safe-coming}
@@ -54,6 +54,7 @@ use Rattle.world_model.proofs.ExactMoves.{alone-goes, hand-goes-first, hand-goes
 use Rattle.world_model.proofs.OnTheWay.{run-more, OnTheWay, stepped-ok, moves-on}
 use Rattle.world_model.proofs.Prefixes.{Risen, none-risen, risen-on, client-risen, node-risen, client-rises-step, node-rises-step}
 use Rattle.world_model.proofs.OwnRests.{CameUp, came-up}
+use Rattle.world_model.proofs.OwedFacts.{owed-load}
 
 -- Runs, one after the other.
 pub run-join : (x : ExactWorld) (events : List Event) (y : ExactWorld) (more : List Event) (z : ExactWorld) → HasRun x events y → HasRun y more z → HasRun x (events ++ more) z

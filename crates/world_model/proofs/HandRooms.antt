@@ -1,6 +1,5 @@
 -- The two hands pay what they say: one message by the client, and what the node decides to reply.
-use Rattle.std.proofs.Common.{◌≡◌, ℕ, ◌+◌, ◌≤◌, Bool, true, false, cond, if◌then◌else◌, List, [], ◌∷◌, ◌++◌, length, Option, None, Some, Ok, Err, refl, sym, ◌∙◌, ap, subst, inl, inr, arith}
-use Rattle.std.specs.Prelude.{slice_get}
+use Rattle.std.proofs.Common.{◌≡◌, ℕ, ◌+◌, ◌≤◌, Bool, true, false, cond, if◌then◌else◌, List, [], ◌∷◌, length, Option, None, Some, Ok, Err, refl, sym, ◌∙◌, ap, subst, inl, inr, arith}
 use Rattle.std.specs.List.{list_any}
 use Rattle.std.proofs.lemmas.Bool.{cases_eq}
 use Rattle.lock_messages.specs.declared.tickets.Ticket.{Ticket}
@@ -44,6 +43,7 @@ use Rattle.world_model.proofs.GrantCounts.{released-count, asked-count}
 use Rattle.world_model.proofs.OwedFacts.{own_phase, vote-owed-le, vote-owed-whole, vote-owed-none, blocks-double, total-least, owed-least}
 use Rattle.world_model.proofs.SaidFacts.{NodeDid, said-grows}
 use Rattle.world_model.proofs.AloneRooms.{node-pays}
+use Rattle.world_model.proofs.ExactMoves.{last-got}
 
 -- What a node comes to by a decision: it says the replies, and is to have the entries of the decision.
 record ComesTo (p : Problem) (o : Outcome) (after : ExactNode) : Type 0 where
@@ -74,11 +74,6 @@ record Handed (x u : ExactWorld) (n : ℕ) (m : Message) : Type 0 where
   idle : taker.phase ≡ node.Idle
   mine : is_for_node m n ≡ true
   did : NodeDid x u n (decided_on taker m) (m ∷ [])
-
--- the last of a list has the number of its length
-last-got : {A : Type 0} (xs : List A) (y : A) → slice_get (xs ++ y ∷ []) (length xs) ≡ Some y
-last-got [] y = refl
-last-got (x ∷ xs) y = last-got xs y
 
 said-world : (b : Bool) (it t : Stepped) (f : StepFault) → cond b (Ok it) (Err f) ≡ Ok t → t.world ≡ it.world
 said-world true it t f h = let q : Ok it ≡ Ok t = h in let same : it ≡ t = cc in ap (λ (s : Stepped). s.world) (sym same)

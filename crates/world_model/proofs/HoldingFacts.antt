@@ -2,6 +2,7 @@
 use Rattle.std.proofs.Common.{◌≡◌, ◌↔◌, ℕ, ◌+◌, ◌&&◌, Bool, true, false, cond, List, [], ◌∷◌, Option, Some, None, IfSome, refl, sym, ◌∙◌, ap, subst, inl, inr}
 use Rattle.std.specs.Str.{bytes_eq}
 use Rattle.std.proofs.lemmas.Slice.Eq.{bytes_eq-Decides}
+use Rattle.std.proofs.lemmas.Bool.{and_parts, and_from}
 use Rattle.lock_messages.specs.declared.tickets.Ticket.{Ticket}
 use Rattle.lock_model.specs.declared.entries.Entry.{Entry}
 use Rattle.lock_model.specs.declared.entries.Live.{Live}
@@ -10,10 +11,11 @@ use Rattle.lock_model.specs.declared.entries.Status.TheVariants.{Waiting, Holdin
 use Rattle.lock_model.specs.Stations.{Free, Has, Standing, IsHolder, Waits, Holds, ticket_at}
 use Rattle.lock_model.specs.Decisions.{Among}
 use Rattle.lock_model.specs.ExactStations.{IsAboveFloor, entry_of, claim_of, standing_of, is_waiting, is_holding, holds}
+use Rattle.lock_model.proofs.EntryFacts.{entry_of-found, entry_of-among}
 use Rattle.world_model.specs.declared.exact.ExactStation.{ExactStation}
 use Rattle.world_model.specs.Forgetting.{station_of, IsSoundStation}
 use Rattle.world_model.specs.Views.{live_ticket, live_tickets, waits}
-use Rattle.world_model.proofs.EntryFacts.{both-parts, both-true, each-among, entry-found, entry-of-among}
+use Rattle.world_model.proofs.ListFacts.{each-among}
 use Rattle.world_model.proofs.InsideFacts.{among-part, part-among}
 
 -- the statuses that a test picks
@@ -66,7 +68,7 @@ listed-stands is P picks s sound x t m = go part.0.live refl part.2
     e = part.0
 
     at : (station_of s).at e.client ≡ standing_of (Some e)
-    at = ap standing_of (entry-of-among s.entries e sound.well_formed.once part.1)
+    at = ap standing_of (entry_of-among s.entries e sound.well_formed.once part.1)
 
     above : IsAboveFloor e
     above = each-among IsAboveFloor s.entries e sound.well_formed.attempts part.1
@@ -74,7 +76,7 @@ listed-stands is P picks s sound x t m = go part.0.live refl part.2
     -- the entry's ticket, if the test passes
     stands : (l : Live) → e.live ≡ Some l → picked is x l ≡ true → StandsSo s P x (ticket-of e.client l)
     stands l live passes =
-        let parts = both-parts (is l.status) (bytes_eq l.resource x) passes in
+        let parts = and_parts (is l.status) (bytes_eq l.resource x) passes in
         let resource : l.resource ≡ x = (bytes_eq-Decides l.resource x).0 parts.1 in
         let claim : ((station_of s).at e.client).claim ≡ Has l.mode l.resource l.status = ap (λ (w : Standing). w.claim) at ∙ ap claim_of live in
         let attempt : l.attempt ≡ ((station_of s).at e.client).floor + 1 =
@@ -102,12 +104,12 @@ stands-listed is P picks s sound x t so = go (entry_of s.entries t.client) refl
     live e found None is_live =
         absurd (let q : Free ≡ Has t.mode x so.status = sym (ap (λ (w : Standing). w.claim) (ap standing_of found) ∙ ap claim_of is_live) ∙ so.claim in cc)
     live e found (Some l) is_live =
-        let place = entry-found s.entries t.client e found in
+        let place = entry_of-found s.entries t.client e found in
         let q : Has l.mode l.resource l.status ≡ Has t.mode x so.status = sym (ap (λ (w : Standing). w.claim) (ap standing_of found) ∙ ap claim_of is_live) ∙ so.claim in
         let mode : l.mode ≡ t.mode = cc in
         let resource : l.resource ≡ x = cc in
         let st : so.status ≡ l.status = cc in
-        let passes : picked is x l ≡ true = both-true (is l.status) (bytes_eq l.resource x) (subst (λ y. is y ≡ true) st (picks.all so.status so.picked)) ((bytes_eq-Decides l.resource x).1 resource) in
+        let passes : picked is x l ≡ true = and_from (is l.status) (bytes_eq l.resource x) (subst (λ y. is y ≡ true) st (picks.all so.status so.picked)) ((bytes_eq-Decides l.resource x).1 resource) in
         let floor : l.attempt ≡ ((station_of s).at t.client).floor + 1 =
         subst (λ o. IfSome o (λ (y : Live). y.attempt ≡ e.floor + 1)) is_live (each-among IsAboveFloor s.entries e sound.well_formed.attempts place.0)
         ∙ ap (λ (w : Standing). w.floor + 1) (sym (ap standing_of found)) in

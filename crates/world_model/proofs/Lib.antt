@@ -1,6 +1,5 @@
 pub mod ListFacts
 pub mod RoomFacts
-pub mod EntryFacts
 pub mod Told
 pub mod ClientTurns
 pub mod HearTurns

@@ -3,7 +3,7 @@ use Rattle.std.proofs.Common.{◌≡◌, ◌≢◌, ℕ, ◌+◌, ◌≤◌, tru
 use Rattle.std.specs.Prelude.{map, replicate}
 use Rattle.std.specs.List.{AllByRecursion}
 use Rattle.std.specs.Option.{option_map}
-use Rattle.std.proofs.lemmas.Bool.{le-leb}
+use Rattle.std.proofs.lemmas.Bool.{le-leb, and_parts, and_from, leb-true}
 use Rattle.std.proofs.lemmas.Bool.Decides.{nat_tests}
 use Rattle.std.proofs.lemmas.List.{length-map}
 use Rattle.lock_messages.specs.declared.ids.TheConstants.{MAX_ATTEMPT}
@@ -17,15 +17,16 @@ use Rattle.lock_model.specs.Ballots.{Ballot, AllCross, node_count}
 use Rattle.lock_model.specs.Stations.{Free, Has, IsLawful, IsCaused, stranger}
 use Rattle.lock_model.specs.Decisions.{Among}
 use Rattle.lock_model.specs.ExactStations.{IsAboveFloor, entry_of, claim_of, standing_of, meaning}
+use Rattle.lock_model.proofs.EntryFacts.{entry_of-found, entry_of-among}
+use Rattle.lock_model.proofs.JudgementFacts.{all-of, all-from}
 use Rattle.world_model.specs.declared.exact.ExactStation.{ExactStation}
 use Rattle.world_model.specs.Worlds.{NodeDown, Node, ClientDown, Client, HasClient, IsWithin, IsLawfulOpening}
 use Rattle.world_model.specs.ExactWorlds.{numbered}
 use Rattle.world_model.specs.Openings.{down_node, down_client, resumed, empty_station, attempt_of, kept_attempt, live_within, entry_within, entries_within, stations_within, IsResumable}
 use Rattle.world_model.specs.Forgetting.{station_of, node_numbered, client_numbered, forget, setting_of, IsSoundStation, IsSoundNode, IsSoundClient, IsSound}
-use Rattle.world_model.specs.Numbered.{numbered-one}
-use Rattle.world_model.proofs.ListFacts.{numbered-among, among-got, got-numbered}
+use Rattle.world_model.specs.Numbered.{numbered-one, numbered-map}
+use Rattle.world_model.proofs.ListFacts.{numbered-among, among-got, got-numbered, each-among}
 use Rattle.world_model.proofs.SafeRuns.{opening-safe}
-use Rattle.world_model.proofs.EntryFacts.{both-parts, both-true, all-at, all-from, each-among, entry-found, entry-of-among, numbered-map}
 
 -- nothing is kept
 
@@ -108,14 +109,11 @@ live-within kept floor (Some l) above test apart = below (l.attempt) (floor + 1)
     below : (a f k : ℕ) → a ≡ f → nat_le a k ≡ true → f ≤ k
     below a f k e t = grind (arith, nat_tests)
 
-below-kept : (a k : ℕ) → nat_le a k ≡ true → a ≤ k
-below-kept a k t = grind (arith, nat_tests)
-
 entry-is-within : (attempts : List ℕ) (e : Entry) → IsAboveFloor e → entry_within attempts e ≡ true → IsWithin (kept_attempt attempts e.client) (standing_of (Some e))
 entry-is-within attempts e above test =
     let kept = kept_attempt attempts e.client in
-    let parts = both-parts (nat_le e.floor kept) (live_within kept e.live) test in
-    record { floor = below-kept e.floor kept parts.0; live = live-within kept e.floor e.live above parts.1 }
+    let parts = and_parts (nat_le e.floor kept) (live_within kept e.live) test in
+    record { floor = leb-true e.floor kept parts.0; live = live-within kept e.floor e.live above parts.1 }
 
 station-is-within : (attempts : List ℕ) (s : ExactStation) (c : ℕ) → IsSoundStation s → entries_within attempts s.entries ≡ true → IsWithin (kept_attempt attempts c) ((station_of s).at c)
 station-is-within attempts s c sound test = go (entry_of s.entries c) refl
@@ -123,9 +121,9 @@ station-is-within attempts s c sound test = go (entry_of s.entries c) refl
     go : (o : Option Entry) → entry_of s.entries c ≡ o → IsWithin (kept_attempt attempts c) (standing_of o)
     go None is = stranger-within (kept_attempt attempts c)
     go (Some e) is =
-        let found = entry-found s.entries c e is in
+        let found = entry_of-found s.entries c e is in
         subst (λ d. IsWithin (kept_attempt attempts d) (standing_of (Some e))) found.1
-        (entry-is-within attempts e (each-among IsAboveFloor s.entries e sound.well_formed.attempts found.0) (all-at (entry_within attempts) s.entries e test found.0))
+        (entry-is-within attempts e (each-among IsAboveFloor s.entries e sound.well_formed.attempts found.0) (all-of (entry_within attempts) s.entries e test found.0))
 
 pub resumed-lawful : (b : List Ballot) (stations : List ExactStation) (attempts : List ℕ) → IsResumable b stations attempts →
     IsLawfulOpening (setting_of (resumed b stations attempts)) (forget (resumed b stations attempts))
@@ -156,7 +154,7 @@ resumed-lawful b stations attempts ok = record {
     within : (n c : ℕ) (o : Option ExactStation) → numbered stations n ≡ o → IsWithin (kept_attempt attempts c) ((node_numbered (option_map down_node o)).kept.at c)
     within n c None is = stranger-within (kept_attempt attempts c)
     within n c (Some s) is =
-        station-is-within attempts s c (sound n s is) (all-at (λ (u : ExactStation). entries_within attempts u.entries) stations s ok.within (numbered-among stations n s is))
+        station-is-within attempts s c (sound n s is) (all-of (λ (u : ExactStation). entries_within attempts u.entries) stations s ok.within (numbered-among stations n s is))
 
     nothing : (c : ℕ) → ¬ (HasClient (setting_of (resumed b stations attempts)) c) → (o : Option ℕ) → numbered attempts c ≡ o → attempt_of o ≡ 0
     nothing c out None is = refl
@@ -187,7 +185,7 @@ live-test kept floor (Some l) above within =
 entry-test : (attempts : List ℕ) (e : Entry) → IsAboveFloor e → IsWithin (kept_attempt attempts e.client) (standing_of (Some e)) → entry_within attempts e ≡ true
 entry-test attempts e above within =
     let kept = kept_attempt attempts e.client in
-    both-true (nat_le e.floor kept) (live_within kept e.live) (le-leb e.floor kept within.floor) (live-test kept e.floor e.live above within.live)
+    and_from (nat_le e.floor kept) (live_within kept e.live) (le-leb e.floor kept within.floor) (live-test kept e.floor e.live above within.live)
 
 pub only-within : (b : List Ballot) (stations : List ExactStation) (attempts : List ℕ) → AllByRecursion IsSoundStation stations →
     IsLawfulOpening (setting_of (resumed b stations attempts)) (forget (resumed b stations attempts)) → stations_within attempts stations ≡ true
@@ -205,4 +203,4 @@ only-within b stations attempts sound lawful =
         subst (λ (v : Node). IsWithin (kept_attempt attempts c) (v.kept.at c)) at
         (subst (λ kept. IsWithin kept (((forget (resumed b stations attempts)).nodes n).kept.at c)) (kept-is b stations attempts c) (lawful.within n c)) in
         entry-test attempts e (each-among IsAboveFloor s.entries e ok.well_formed.attempts among)
-        (subst (λ o. IsWithin (kept_attempt attempts c) (standing_of o)) (entry-of-among s.entries e ok.well_formed.once among) within)
+        (subst (λ o. IsWithin (kept_attempt attempts c) (standing_of o)) (entry_of-among s.entries e ok.well_formed.once among) within)

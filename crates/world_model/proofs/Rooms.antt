@@ -19,7 +19,6 @@ use Rattle.world_model.specs.ExactClients.{says_one, tells_in, tells}
 use Rattle.world_model.specs.ExactWorlds.{numbered, ClientDoes, Stepped, next_number, refusal, step}
 use Rattle.world_model.specs.Forgetting.{forget, setting_of, IsSound}
 use Rattle.world_model.specs.Parts.{client_part, turn_says, said_in}
-use Rattle.world_model.specs.ExactWays.{load}
 use Rattle.world_model.proofs.Nearer.{Fine}
 use Rattle.world_model.proofs.MoveKinds.{MoveKind, finishes, rests, hands_away, begins, hands_in, hears, enters}
 use Rattle.world_model.proofs.RefusalFacts.{full-without-room}
@@ -106,7 +105,3 @@ hand-full laws chosen a x d n ok fine kind full = (paid laws chosen a x (Hand d 
 pub hear-pays : ModelLaws → (chosen : ℕ → Bool) (a : Want) (x : ExactWorld) (number : ℕ) (t : Stepped) → IsSound x → step x (event.Hear a.client number) ≡ Ok t →
     length t.world.sent + owed chosen a t.world ≤ length x.sent + owed chosen a x
 hear-pays laws chosen a x number t ok heard = (hears-paid laws chosen a x number ok).0 t heard
-
--- at the start no more is owed than the load
-pub owed-load : (chosen : ℕ → Bool) (a : Want) (x : ExactWorld) → owed chosen a x ≤ load chosen a x
-owed-load = Owed.owed-load

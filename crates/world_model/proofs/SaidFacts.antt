@@ -1,6 +1,7 @@
 -- What a step that was taken has said, and where it has left the actors.
 use Rattle.std.proofs.Common.{◌≡◌, ◌≢◌, ℕ, ◌+◌, List, [], ◌++◌, length, Option, None, Some, Ok, Err, refl, sym, ◌∙◌, ap, subst, inl}
 use Rattle.std.proofs.Math.ListN.{length-append}
+use Rattle.std.proofs.lemmas.List.{append-nil}
 use Rattle.lock_messages.specs.declared.ids.Actor.TheVariants as actor
 use Rattle.lock_messages.specs.declared.messages.Message.{Message}
 use Rattle.lock_model.specs.Decisions.{Among}
@@ -15,7 +16,7 @@ use Rattle.world_model.specs.Turns.{Acts, Speaks, Reads, Turns}
 use Rattle.world_model.specs.ExactWorlds.{numbered, Deed, NodeDoes, ClientDoes, deed_of, actor_in, actor_of}
 use Rattle.world_model.specs.Forgetting.{forget, setting_of}
 use Rattle.world_model.specs.Parts.{NoPart, NodePart, ClientPart, node_part, client_part, part, IsListFault, after_turn, after_in, turn_says, said_in, said_by}
-use Rattle.world_model.proofs.ListFacts.{append-none, among-append}
+use Rattle.world_model.proofs.ListFacts.{among-append}
 use Rattle.world_model.proofs.Nearer.{Grows}
 use Rattle.world_model.proofs.Told.{Kind, Told}
 use Rattle.world_model.proofs.ClientTurns.{clients}
@@ -92,4 +93,4 @@ pub said-grows : (x t : ExactWorld) (says : List Message) → t.sent ≡ x.sent 
 said-grows x t says sent m h = subst (λ l. Among m l) (sym sent) ((among-append m x.sent says).1 (inl h))
 
 pub nothing-said : (x t : ExactWorld) (says : List Message) → says ≡ [] → t.sent ≡ x.sent ++ says → t.sent ≡ x.sent
-nothing-said x t says none sent = sent ∙ ap (λ l. x.sent ++ l) none ∙ append-none x.sent
+nothing-said x t says none sent = sent ∙ ap (λ l. x.sent ++ l) none ∙ append-nil x.sent

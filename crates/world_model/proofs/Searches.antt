@@ -1,8 +1,8 @@
 -- What a search finds, and what it has passed over where it finds nothing.
-use Rattle.std.proofs.Common.{◌≡◌, ℕ, ◌+◌, ◌<◌, ◌≤◌, zero, suc, arith, ◌⊎◌, Bool, true, false, cond, List, [], ◌∷◌, Option, None, Some, refl, sym, ◌∙◌, ap, subst, inl, inr}
-use Rattle.std.specs.List.{range_with_len}
+use Rattle.std.proofs.Common.{◌≡◌, ℕ, arith, ◌⊎◌, Bool, true, false, cond, List, [], ◌∷◌, Option, None, Some, refl, sym, ◌∙◌, ap, subst, inl, inr}
 use Rattle.lock_model.specs.Ballots.{HasAnyNode, node_count}
 use Rattle.lock_model.specs.Decisions.{Among}
+use Rattle.lock_model.proofs.BallotFacts.{among-range}
 use Rattle.world_model.specs.Worlds.{Setting, HasClient}
 use Rattle.world_model.specs.Advice.{found, search, only, node_numbers, client_numbers}
 
@@ -42,10 +42,6 @@ pub only-none : {A : Type 0} (chosen : ℕ → Bool) (f : ℕ → Option A) (n :
 only-none {A} chosen f n h is = subst (λ c. cond c (f n) None ≡ None) is h
 
 -- the numbers of a setting's nodes and clients are theirs
-among-range : (a k n : ℕ) → Among n (range_with_len a k) → (a ≤ n) × (n < a + k)
-among-range a zero n h = absurd h
-among-range a (suc k) n (inl e) = (omega arith, omega arith)
-among-range a (suc k) n (inr h) = let r = among-range (a + 1) k n h in (omega arith, omega arith)
 
 pub numbers-among : (s : Setting) (n : ℕ) → Among n (node_numbers s) → HasAnyNode s.ballots n
 numbers-among s n h = let r = among-range 1 (node_count s.ballots) n h in (r.0, omega (arith, r.1))

@@ -9,15 +9,12 @@ use Rattle.lock_model.specs.declared.entries.Status.{Status}
 use Rattle.lock_model.specs.declared.entries.Status.TheVariants.{Waiting, Holding}
 use Rattle.lock_model.specs.Stations.{Claim, Free, Has, Standing, Station, IsHolder, Holds, Waits, IsLawful, Cause, IsCaused, Puts}
 use Rattle.lock_model.specs.Decisions.{taken_up}
+use Rattle.lock_model.proofs.StationFacts.{writer-causes}
 use Rattle.world_model.proofs.StandingSteps.{waits-apart}
 
 -- a claim that is free is no other
 free-apart : (claim : Claim) (m : Mode) (x : List ℕ) (status : Status) → claim ≡ Free → claim ≡ Has m x status → ⊥
 free-apart claim m x status e h = let q : Free ≡ Has m x status = sym e ∙ h in cc
-
-writer-causes : (s : Station) (c : ℕ) (m : Mode) (x : List ℕ) → Holds s c Write x → Cause s m x
-writer-causes s c Write x h = (c, Write, h)
-writer-causes s c Read x h = inl (c, h)
 
 -- a client without a claim takes up a ticket
 pub record TakesUp (s u : Station) (t : Ticket) (status : Status) : Type 0 where

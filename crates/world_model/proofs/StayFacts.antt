@@ -1,5 +1,6 @@
 -- Who is inside stays inside until its own Leave or Fall, and its own Soften alone makes it a reader there.
 use Rattle.std.proofs.Common.{◌≡◌, ℕ, ◌&&◌, Bool, true, false, not, cond, List, [], ◌∷◌, ◌++◌, Option, Some, None, Err, refl, sym, ◌∙◌, ap, subst, inl, inr}
+use Rattle.std.proofs.lemmas.Bool.{and_parts, not-true}
 use Rattle.lock_messages.specs.declared.ids.Actor.TheVariants as actor
 use Rattle.lock_messages.specs.declared.messages.Message.{Message}
 use Rattle.lock_messages.specs.declared.tickets.Mode.TheVariants.{Read, Write}
@@ -8,6 +9,7 @@ use Rattle.lock_messages.specs.Messages.{is_for_client, named_node}
 use Rattle.lock_model.specs.Ballots.{Ballot, node_count}
 use Rattle.lock_model.specs.ExactHearing.{is_node_of, is_counted}
 use Rattle.lock_model.specs.ExactStations.{is_write}
+use Rattle.lock_model.proofs.SettlingFacts.{write-true}
 use Rattle.world_model.specs.declared.events.Effect.{Effect}
 use Rattle.world_model.specs.declared.events.Effect.TheVariants as effect
 use Rattle.world_model.specs.declared.events.Event.{Event}
@@ -27,8 +29,6 @@ use Rattle.world_model.specs.Locality.{IsHistory, PartsAreLocal, StepsChangeOneP
 use Rattle.world_model.specs.Parts.{Part, NoPart, NodePart, ClientPart, part, client_part, after_turn, after_reading, message_of, after_in, after_own}
 use Rattle.world_model.specs.Staying.{inside_ticket, leaves_or_falls, is_soften, HasNoEnd, HasNoSoften, IsOrSoftens}
 use Rattle.world_model.specs.Views.{softened_ticket, present_ticket, ticket_in, ticket_at, ticket_inside}
-use Rattle.world_model.proofs.EntryFacts.{both-parts}
-use Rattle.world_model.proofs.ClientTurns.{is-writer, is-whole}
 
 -- a turn that leaves who is inside as it was
 stays-by : (k : ExactClient) (t : Ticket) (turn : ExactClientPhase → Turns ExactClient) (done : Effect) → ((p : ExactPresent) → after_turn k (turn (client.Inside p)) done ≡ k) → ticket_in k.phase ≡ Some t → ticket_in (after_turn k (turn k.phase) done).phase ≡ Some t
@@ -103,8 +103,8 @@ softens-stays b c done k t h = go k.phase h
     inside : (p : ExactPresent) → Some (present_ticket p) ≡ Some t → (may : Bool) → (is_write p.ticket.mode && not p.softened) ≡ may →
         Remains (ticket_in (after_turn k (cond may (acts (client_in k (client.Inside (soft p))) effect.Softened) (Err fault.WrongPhase)) done).phase) t (true ≡ false)
     inside p q true e =
-        let both = both-parts (is_write p.ticket.mode) (not p.softened) e in
-        (softened_ticket p.ticket, refl, softened-from p.softened p.ticket t (is-whole p.softened both.1) (is-writer p.ticket.mode both.0) q, λ never. absurd (let z : true ≡ false = never in cc))
+        let both = and_parts (is_write p.ticket.mode) (not p.softened) e in
+        (softened_ticket p.ticket, refl, softened-from p.softened p.ticket t (not-true p.softened both.1) (write-true p.ticket.mode both.0) q, λ never. absurd (let z : true ≡ false = never in cc))
     inside p q false e = (t, h, inl refl, λ never. refl)
 
     go : (p : ExactClientPhase) → ticket_in p ≡ Some t → Remains (ticket_in (after_turn k (softens_in k p) done).phase) t (true ≡ false)

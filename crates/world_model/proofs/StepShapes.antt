@@ -1,6 +1,6 @@
 -- What three of the exact steps lead to, where the message is known.
 use Rattle.std.proofs.Common.{◌≡◌, ℕ, ◌==◌, Bool, true, false, cond, nat_le, List, [], ◌∷◌, Option, None, Some, Ok, Err, refl, sym, ◌∙◌, ap, subst, arith}
-use Rattle.std.proofs.lemmas.Bool.{ne_eqb, le-leb}
+use Rattle.std.proofs.lemmas.Bool.{ne_eqb, le-leb, and_from}
 use Rattle.lock_messages.specs.declared.messages.Message.{Message}
 use Rattle.lock_messages.specs.declared.messages.Message.TheVariants as message
 use Rattle.lock_messages.specs.Messages.{is_for_node, is_for_client}
@@ -21,7 +21,6 @@ use Rattle.world_model.specs.Worlds.{Present, Client, Tells, asks, asks_inside, 
 use Rattle.world_model.specs.ExactClients.{says_one, tells_in, tells, after_hearing, heard_in, is_down, hears}
 use Rattle.world_model.specs.ExactWorlds.{numbered, Stepped, Steps, with_node_at, has_room, next_number, sending, with_client_at, read_in, finishes, by_actor, step}
 use Rattle.world_model.specs.Forgetting.{client_of}
-use Rattle.world_model.proofs.EntryFacts.{both-true}
 use Rattle.world_model.proofs.PhaseFacts.{client-idle, client-asking, client-inside}
 
 -- a message that is read is for the actor
@@ -119,4 +118,4 @@ says-shape x c n k m known was t =
     ∙ ap (finishes x (with_client_at x c)) (tells-exactly x.ballots c n k (client_of k) m t refl)
   where
     is_known : is_node_of (node_count x.ballots) n ≡ true
-    is_known = both-true (nat_le 1 n) (nat_le n (node_count x.ballots)) (le-leb 1 n known.0) (le-leb n (node_count x.ballots) known.1)
+    is_known = and_from (nat_le 1 n) (nat_le n (node_count x.ballots)) (le-leb 1 n known.0) (le-leb n (node_count x.ballots) known.1)

@@ -1,6 +1,6 @@
 -- What may happen in the world that an exact one stands for, the exact one takes.
 use Rattle.std.proofs.Common.{◌≡◌, ◌≢◌, ℕ, ◌+◌, ◌≤◌, ◌&&◌, true, false, not, cond, nat_le, List, [], length, Some, None, Ok, Err, refl, sym, ◌∙◌, ap, subst, arith}
-use Rattle.std.proofs.lemmas.Bool.{ne_eqb, le-leb, lt-ltb}
+use Rattle.std.proofs.lemmas.Bool.{ne_eqb, le-leb, lt-ltb, and_from}
 use Rattle.lock_messages.specs.declared.ids.TheConstants.{MAX_ATTEMPT}
 use Rattle.lock_messages.specs.declared.ids.Actor.TheVariants as actor
 use Rattle.lock_messages.specs.declared.tickets.Mode.{Mode}
@@ -32,7 +32,6 @@ use Rattle.world_model.specs.ExactWorlds.{numbered, NodeDoes, ClientDoes, refusa
 use Rattle.world_model.specs.Forgetting.{node_of, node_phase_of, client_of, client_phase_of, node_numbered, client_numbered, forget, setting_of, IsSound}
 use Rattle.world_model.specs.Parts.{part, node_part, client_part, refused_in}
 use Rattle.world_model.specs.Numbered.{numbered-there}
-use Rattle.world_model.proofs.EntryFacts.{both-true}
 use Rattle.world_model.proofs.PhaseFacts.{client-idle, client-down, client-chosen, client-asking, client-inside, begins-needs, tries-needs, keeps-needs, MaySpeak, speaks_asking, speaks_inside, speaks_idle, tells-needs, enters-needs, MayLeave, leaves_asking, leaves_inside, leaves-needs, softens-needs, client-falls-needs, old-needs, new-needs, node-down, node-idle, node-decided, node-stored, none-tried, some-tried, station-tries-needs, station-keeps-needs, says-needs, node-falls-needs, node-old-needs, node-new-needs, switches-needs}
 
 -- the turn is one that the actor's own part doesn't refuse
@@ -50,7 +49,7 @@ begins-may b c m x place k after h =
     let n = begins-needs h in
     let next = client_in k (client.Chosen (next_ticket c m x k.kept) place) in
     let turn = acts next (effect.Chose (k.kept + 1)) in
-    let there : has_place b place ≡ true = both-true (nat_le 1 place) (nat_le place (length b)) (le-leb 1 place n.2.0) (le-leb place (length b) n.2.1) in
+    let there : has_place b place ≡ true = and_from (nat_le 1 place) (nat_le place (length b)) (le-leb 1 place n.2.0) (le-leb place (length b) n.2.1) in
     acts-may (begins_in b c m x place k k.phase) next (effect.Chose (k.kept + 1))
     (ap (begins_in b c m x place k) (client-idle k.phase n.0)
     ∙ ap (λ e. cond e (begins_by b place turn) (Err fault.AttemptsSpent)) (lt-ltb k.kept MAX_ATTEMPT n.1)
@@ -74,7 +73,7 @@ tells-may b c n k said known h =
     record { turn = may.turn; does = ap (λ t. cond t (tells_in c n k k.phase) (Err fault.UnknownActor)) is_known ∙ may.does }
   where
     is_known : is_node_of (node_count b) n ≡ true
-    is_known = both-true (nat_le 1 n) (nat_le n (node_count b)) (le-leb 1 n known.0) (le-leb n (node_count b) known.1)
+    is_known = and_from (nat_le 1 n) (nat_le n (node_count b)) (le-leb 1 n known.0) (le-leb n (node_count b) known.1)
 
     go : MaySpeak (client_of k) → MayTurn ExactClient (tells_in c n k k.phase)
     go (speaks_asking p e) = record { turn = _; does = ap (tells_in c n k) (client-asking k.phase p e).1 }
@@ -113,7 +112,7 @@ softens-may k after h =
     let a = client-inside k.phase n.0 n.1 in
     let writes : a.0.ticket.mode ≡ Write = ap (λ (p : Present). p.ticket.mode) a.2 ∙ n.2 in
     let whole : a.0.softened ≡ false = ap (λ (p : Present). p.softened) a.2 ∙ n.3 in
-    let may : (is_write a.0.ticket.mode && not a.0.softened) ≡ true = both-true (is_write a.0.ticket.mode) (not a.0.softened) (ap is_write writes) (ap not whole) in
+    let may : (is_write a.0.ticket.mode && not a.0.softened) ≡ true = and_from (is_write a.0.ticket.mode) (not a.0.softened) (ap is_write writes) (ap not whole) in
     let next = client_in k (client.Inside (soft a.0)) in
     acts-may (softens_in k k.phase) next effect.Softened
     (ap (softens_in k) a.1 ∙ ap (λ e. cond e (acts next effect.Softened) (Err fault.WrongPhase)) may)

@@ -1,5 +1,6 @@
 -- What a turn that was taken comes to: one actor after, and some messages sent.
 use Rattle.std.proofs.Common.{◌≡◌, ℕ, ◌≤◌, Bool, true, false, cond, List, [], ◌++◌, length, Option, Some, None, Ok, Err, refl, sym, ap, subst}
+use Rattle.std.proofs.lemmas.List.{append-nil}
 use Rattle.lock_messages.specs.declared.messages.Message.{Message}
 use Rattle.world_model.specs.declared.TheConstants.{MAX_MESSAGES}
 use Rattle.world_model.specs.declared.events.Effect.{Effect}
@@ -13,7 +14,7 @@ use Rattle.world_model.specs.Forgetting.{forget}
 use Rattle.world_model.specs.Parts.{after_reading, after_turn, turn_says}
 use Rattle.world_model.specs.Laws.{IsNumbered}
 use Rattle.world_model.specs.Locality.{IsEffectOf, IsAsListed}
-use Rattle.world_model.proofs.ListFacts.{append-none, numbered-among}
+use Rattle.world_model.proofs.ListFacts.{numbered-among}
 use Rattle.world_model.proofs.RoomFacts.{still-roomy}
 use Rattle.world_model.proofs.Told.{Kind, ActsTold, SpeaksTold, ReadsTold, TurnTold}
 
@@ -32,10 +33,10 @@ pub record TurnEnds (A : Type 0) (q : Kind A) (st : Setting) (e : Event) (w : Ex
 
 -- nothing more is sent
 pub silently : (w : ExactWorld) → w ≡ sending [] w
-silently w = ap (λ (l : List Message). record { ballots = w.ballots; nodes = w.nodes; clients = w.clients; sent = l }) (sym (append-none w.sent))
+silently w = ap (λ (l : List Message). record { ballots = w.ballots; nodes = w.nodes; clients = w.clients; sent = l }) (sym (append-nil w.sent))
 
 still : (w : ExactWorld) → length w.sent ≤ MAX_MESSAGES → length (w.sent ++ []) ≤ MAX_MESSAGES
-still w h = subst (λ (l : List Message). length l ≤ MAX_MESSAGES) (sym (append-none w.sent)) h
+still w h = subst (λ (l : List Message). length l ≤ MAX_MESSAGES) (sym (append-nil w.sent)) h
 
 acts-end : (A : Type 0) (q : Kind A) (st : Setting) (e : Event) (w : ExactWorld) (into : A → ExactWorld) (before after : A) (done : Effect) →
     ActsTold A q st e before after done → TurnEnds A q st e w into before (Ok (Acts after done)) (record { world = into after; effect = done })

@@ -72,7 +72,7 @@ as-wanted a p h =
 
 -- A Grant of a node that hasn't granted the ticket counts, and nothing else is made of it.
 
-same-present : (q p : Present) → Asking q ≡ Asking p → q ≡ p
+pub same-present : (q p : Present) → Asking q ≡ Asking p → q ≡ p
 same-present q p h = cc
 
 counts-only : (nodes n : ℕ) (t : Ticket) (granted : ℕ → Bool) (h : Heard) → IsNodeOf nodes n → granted n ≡ false → HearsOfTicket nodes t granted (Grant n t) h → h ≡ heard.Counted

@@ -42,7 +42,7 @@ use Rattle.world_model.proofs.Prefixes.{Risen, none-risen, risen-on, client-rise
 use Rattle.world_model.proofs.OwnRests.{CameUp, came-up}
 use Rattle.world_model.proofs.ExactWaysIn.{run-join, leads-in, fine-there, below-chosen, out-won, out-risen, sets-out, sets-out-risen}
 use Rattle.world_model.proofs.Costs.{cost}
-use Rattle.world_model.proofs.Rooms.{owed-load}
+use Rattle.world_model.proofs.OwedFacts.{owed-load}
 
 -- The next moves keep to the way, and only a full list of messages stops them.
 

@@ -54,7 +54,7 @@ numbered-there {A} xs k one within = go xs refl
     go [] e = absurd (let long : length xs ≡ 0 = sym (ap length e) in omega (arith, one, within, long))
     go (y ∷ ys) e = at y (y ∷ ys) e
 
-get-last : {A : Type 0} (xs : List A) (y : A) (i : ℕ) (x : A) → slice_get (xs ++ y ∷ []) i ≡ Some x → (slice_get xs i ≡ Some x) ⊎ ((i ≡ length xs) × (y ≡ x))
+pub get-last : {A : Type 0} (xs : List A) (y : A) (i : ℕ) (x : A) → slice_get (xs ++ y ∷ []) i ≡ Some x → (slice_get xs i ≡ Some x) ⊎ ((i ≡ length xs) × (y ≡ x))
 get-last [] y zero x h = inr (refl, cc)
 get-last [] y (suc i) x h = absurd (let q : None ≡ Some x = h in cc)
 get-last (z ∷ xs) y zero x h = inl h

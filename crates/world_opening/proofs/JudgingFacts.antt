@@ -16,12 +16,6 @@ use Rattle.world_model.specs.Openings.{entries_within, stations_within, IsResuma
 use Rattle.world_opening.specs.Openings.{IsFound, IsRecordOf, IsAttemptOf, NodeFinds, ClientFinds, IsFirstWithout, IsEach, AreRecords, AreAttempts, station_in, stations_in}
 use Rattle.world_model.specs.Numbered.{past-zero, numbered-next, numbered-one, numbered-there, numbered-last}
 
-pub each-none : {A : Type 0} (P : ℕ → A → Type 0) → IsEach 0 P []
-each-none P = record {
-  count_is = refl;
-  each = λ n a h. absurd (let r = numbered-one [] n a h in omega (arith, r.0, r.1));
-}
-
 pub each-more : {A : Type 0} (P : ℕ → A → Type 0) (k : ℕ) (all : List A) (a : A) → IsEach k P all → P (k + 1) a → IsEach (k + 1) P (all ++ a ∷ [])
 each-more {A} P k all a h p = record {
   count_is = length-append all (a ∷ []) ∙ ap (λ n. n + 1) h.count_is;
@@ -79,7 +73,7 @@ all-from test xs i x h =
     ∙ ap (λ n. test x && list_all test (drop n xs)) (let e : suc i ≡ i + 1 = omega arith in e)
 
 -- what holds of each under its number holds of all
-all-numbered : {A : Type 0} (P : A → Type 0) (xs : List A) → ((n : ℕ) (a : A) → numbered xs n ≡ Some a → P a) → AllByRecursion P xs
+pub all-numbered : {A : Type 0} (P : A → Type 0) (xs : List A) → ((n : ℕ) (a : A) → numbered xs n ≡ Some a → P a) → AllByRecursion P xs
 all-numbered P [] h = tt
 all-numbered {A} P (x ∷ xs) h = (h 1 x refl, all-numbered P xs (λ n a e. h (n + 1) a (numbered-next (x ∷ xs) n ∙ next n a e)))
   where

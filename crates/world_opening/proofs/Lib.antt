@@ -1,1 +1,1 @@
-mod JudgingFacts
+pub mod JudgingFacts

@@ -1,4 +1,4 @@
-use Rattle.std.proofs.Common.{◌≡◌, ℕ, List, [], ◌∷◌, ◌∙◌, map, ap, sym, subst}
+use Rattle.std.proofs.Common.{◌∙◌, map, ap}
 use Rattle.loop_tests.proofs.Resumed.{resumed_keeps}
 use Rattle.loop_tests.proofs.openings.resumed.Goals as goal
 

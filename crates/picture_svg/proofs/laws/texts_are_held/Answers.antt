@@ -1,5 +1,5 @@
-use Rattle.std.proofs.Common.{◌≡◌, ℕ, ◌==◌, ◌&&◌, not, Bool, true, false, List, [], ◌∷◌, ◌++◌, codes, if◌then◌else◌, refl}
-use Rattle.std.specs.List.{flat_map, list_all}
+use Rattle.std.proofs.Common.{◌≡◌, ℕ, ◌==◌, ◌&&◌, Bool, true, false, List, [], ◌∷◌, ◌++◌, codes, if◌then◌else◌, refl}
+use Rattle.std.specs.List.{list_all}
 use Rattle.picture_svg.specs.Escaping.{is_held, is_printed, escaped_byte, escaped, TextsAreHeld}
 use Rattle.picture_svg.proofs.laws.texts_are_held.Goals as goal
 

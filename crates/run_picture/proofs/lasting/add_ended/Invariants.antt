@@ -1,5 +1,5 @@
-use Rattle.std.proofs.Common.{◌≡◌, ◌++◌, ◌&&◌, not, map, take, ℕ, List}
-use Rattle.std.specs.List.{filter, flat_map, list_any}
+use Rattle.std.proofs.Common.{◌≡◌, ◌++◌, take}
+use Rattle.std.specs.List.{filter, flat_map}
 use Rattle.run_picture.specs.Pictures.{told, ended_mark, ends}
 use Rattle.run_picture.proofs.lasting.add_ended.Given as goal
 

@@ -1,5 +1,5 @@
-use Rattle.std.proofs.Common.{◌≡◌, ◌++◌, ◌&&◌, not, map, take, ℕ, List}
-use Rattle.std.specs.List.{filter, flat_map, list_any}
+use Rattle.std.proofs.Common.{◌≡◌, take}
+use Rattle.std.specs.List.{filter}
 use Rattle.run_picture.specs.Pictures.{told, goes_on}
 use Rattle.run_picture.proofs.lasting.going_on.Given as goal
 

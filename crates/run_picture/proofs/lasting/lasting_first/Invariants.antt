@@ -1,5 +1,5 @@
-use Rattle.std.proofs.Common.{◌≡◌, ◌++◌, ◌&&◌, not, map, take, ℕ, List}
-use Rattle.std.specs.List.{filter, flat_map, list_any}
+use Rattle.std.proofs.Common.{◌≡◌, map, take}
+use Rattle.std.specs.List.{filter}
 use Rattle.run_picture.specs.Pictures.{wants_lasting, since_here}
 use Rattle.run_picture.proofs.lasting.lasting_first.Given as goal
 

@@ -1,5 +1,4 @@
-use Rattle.std.proofs.Common.{◌≡◌, ◌++◌, ◌&&◌, not, map, take, ℕ, List}
-use Rattle.std.specs.List.{filter, flat_map, list_any}
+use Rattle.std.proofs.Common.{◌≡◌, ◌++◌, take}
 use Rattle.run_picture.specs.Pictures.{others}
 use Rattle.run_picture.proofs.picking.add_others.Given as goal
 

@@ -1,4 +1,4 @@
-use Rattle.std.proofs.Common.{◌≡◌, cond, sym, ap, ◌∙◌, subst, arith}
+use Rattle.std.proofs.Common.{cond, sym, ap, ◌∙◌, subst, arith}
 use Rattle.lock_model.specs.ExactDecisions.{moved_last}
 use Rattle.stable_record.specs.Lines.{Indexes}
 use Rattle.voter_core.proofs.deciding.put_last.Goals as goal

@@ -1,4 +1,3 @@
-use Rattle.std.proofs.Common.{ap}
 use Rattle.lock_model.specs.ExactDecisions.{changes}
 use Rattle.voter_core.proofs.ChangeFacts.{one-test}
 use Rattle.voter_core.proofs.RangeFacts.{range-decision}

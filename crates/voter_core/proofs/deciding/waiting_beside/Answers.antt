@@ -1,7 +1,6 @@
 use Rattle.std.proofs.Common.{Some, sym, ap, ◌∙◌, arith}
 use Rattle.stable_record.specs.Indexing.{with_announced}
 use Rattle.stable_record.specs.Lines.{one_if}
-use Rattle.voter_core.specs.Freed.{waiting_for}
 use Rattle.voter_core.proofs.TakingFacts.{waiting-announced}
 use Rattle.voter_core.proofs.deciding.waiting_beside.Goals as goal
 

@@ -1,5 +1,5 @@
 use Rattle.std.proofs.Common.{not, sym, ap, ◌∙◌}
-use Rattle.lock_model.specs.ExactStations.{any_live, holds, writer_holds, writer_waits, admits_reader, admits}
+use Rattle.lock_model.specs.ExactStations.{any_live, writer_holds, admits_reader, admits}
 use Rattle.voter_core.proofs.settling.admits.Goals as goal
 
 pub returns-in-Write : goal.returns-in-Write

@@ -1,7 +1,8 @@
-use Rattle.std.proofs.Common.{◌≡◌, None, Some, sym, ap, ◌∙◌, ◌++◌, List, ℕ, Option, subst}
+use Rattle.std.proofs.Common.{◌≡◌, None, sym, ap, ◌∙◌, ◌++◌, subst}
 use Rattle.std.proofs.lemmas.List.{append-nil}
 use Rattle.voter_core.specs.Freed.{OthersStay}
-use Rattle.voter_core.proofs.FreedFacts.{idle-settled, grants-nothing, none-freed}
+use Rattle.voter_core.proofs.FreedFacts.{idle-settled, none-freed}
+use Rattle.lock_model.proofs.SwitchFacts.{grants-same}
 use Rattle.voter_core.proofs.settling.settle.Goals as goal
 
 pub returns-in_default-clause-entries : goal.returns-in_default-clause-entries
@@ -11,4 +12,4 @@ returns-in_default-clause-entries g c =
 
 pub returns-in_default-clause-replies : goal.returns-in_default-clause-replies
 returns-in_default-clause-replies g c =
-    sym (append-nil c.args.replies.now.items) ∙ ap (λ ms. c.args.replies.now.items ++ ms) (sym (grants-nothing c.args.node c.args.entries.now))
+    sym (append-nil c.args.replies.now.items) ∙ ap (λ ms. c.args.replies.now.items ++ ms) (sym (grants-same c.args.node c.args.entries.now))

@@ -2,7 +2,8 @@ use Rattle.std.proofs.Common.{◌≡◌, ◌+◌, ◌++◌, length, refl, sym, a
 use Rattle.std.specs.Option.{IsSome, option_map}
 use Rattle.lock_model.specs.declared.entries.Entry.{Entry}
 use Rattle.voter_core.specs.Queues.{settle_one, told_one}
-use Rattle.voter_core.proofs.AllFacts.{all-first, all-next, all-many, entry-at, named-at}
+use Rattle.voter_core.proofs.AllFacts.{all-first, all-next, all-many, named-at}
+use Rattle.voter_core.proofs.EntryFacts.{some-at}
 use Rattle.voter_core.proofs.settling.settle_all.Goals as goal
 
 pub loop-place-init : goal.loop-place-init
@@ -16,7 +17,7 @@ pub unwrap-client-requires : goal.unwrap-client-requires
 unwrap-client-requires g c =
     let es = c.loop-place.entries in
     let size : length c.loop-place.entries ≡ length c.args.entries.now = all-many c.args.problem c.args.node c.args.entries.now c.args.replies.now.items c.loop-place.place c.loop-place.entries c.loop-place.replies.items c.loop-place.invariant.all in
-    let e = entry-at es c.loop-place.place (omega (arith, size, c.loop-place-test.true, c.len-many.ensures.len)) in
+    let e = some-at es c.loop-place.place (omega (arith, size, c.loop-place-test.true, c.len-many.ensures.len)) in
     subst IsSome (sym (c.client_at.ensures ∙ ap (option_map (λ (x : Entry). x.client)) e.1)) refl
 
 pub settle_client-requires-clause-room : goal.settle_client-requires-clause-room

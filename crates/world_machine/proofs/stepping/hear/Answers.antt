@@ -1,4 +1,4 @@
-use Rattle.std.proofs.Common.{◌≡◌, ◌-◌, length, map, false, None, Some, refl, sym, ap, subst, inl, slice_set, arith}
+use Rattle.std.proofs.Common.{◌≡◌, ◌-◌, map, false, None, Some, refl, sym, ap, subst, inl, slice_set, arith}
 use Rattle.lock_model.specs.Ballots.{node_count}
 use Rattle.world_model.specs.declared.events.Event.TheVariants as event
 use Rattle.world_model.specs.ExactClients.{hears}

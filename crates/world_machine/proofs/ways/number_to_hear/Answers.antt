@@ -1,4 +1,4 @@
-use Rattle.std.proofs.Common.{◌≡◌, ◌+◌, ℕ, List, Option, true, false, None, Some, IfSome, sym, ◌∙◌, ap, subst}
+use Rattle.std.proofs.Common.{◌≡◌, List, true, false, Some, IfSome, sym, ◌∙◌, ap, subst}
 use Rattle.std.specs.List.{list_any}
 use Rattle.lock_messages.specs.declared.messages.Message.{Message}
 use Rattle.world_actors.specs.Acting.{ActingClient}

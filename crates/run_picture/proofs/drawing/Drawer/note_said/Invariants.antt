@@ -1,6 +1,5 @@
-use Rattle.std.proofs.Common.{◌≡◌, ◌++◌, ◌&&◌, not, map, take, ℕ, List}
-use Rattle.std.specs.List.{filter, flat_map, list_any}
-use Rattle.run_picture.specs.Pictures.{newly_said, Drawn}
+use Rattle.std.proofs.Common.{◌≡◌, ◌++◌, map, take}
+use Rattle.run_picture.specs.Pictures.{newly_said}
 use Rattle.run_picture.proofs.drawing.Drawer.note_said.Given as goal
 
 abbrev pub invariant-loop-message : goal.invariant-loop-message

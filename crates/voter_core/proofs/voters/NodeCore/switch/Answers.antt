@@ -1,4 +1,4 @@
-use Rattle.std.proofs.Common.{◌≡◌, refl, ap, ◌∙◌, sym, subst, None}
+use Rattle.std.proofs.Common.{sym, subst, None}
 use Rattle.stable_record.specs.Records.{IsNodeRecord}
 use Rattle.voter_core.proofs.voters.NodeCore.switch.Goals as goal
 

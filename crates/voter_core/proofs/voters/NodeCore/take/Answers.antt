@@ -1,7 +1,7 @@
 use Rattle.std.proofs.Common.{◌≡◌, ◌≤◌, ◌+◌, ap, ◌∙◌, subst}
 use Rattle.std.specs.Vec.{vec_capacity}
 use Rattle.voter_core.specs.Freed.{waiting_for}
-use Rattle.lock_model.specs.ExactDecisions.{decision, changes}
+use Rattle.lock_model.specs.ExactDecisions.{changes}
 use Rattle.voter_core.specs.Voters.{Voter, taken, state_of, state_after}
 use Rattle.voter_core.proofs.ChangeFacts.{taken-is}
 use Rattle.voter_core.proofs.voters.NodeCore.take.Goals as goal

@@ -1,5 +1,4 @@
-use Rattle.std.proofs.Common.{◌≡◌, sym, ◌∙◌}
-use Rattle.world_actors.specs.Acting.{ActingClient}
+use Rattle.std.proofs.Common.{sym}
 use Rattle.world_actors.proofs.ClientFacts.{refuses, enters}
 use Rattle.world_actors.proofs.clients.WorldClient.enter.Goals as goal
 

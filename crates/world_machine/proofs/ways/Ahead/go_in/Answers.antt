@@ -1,4 +1,4 @@
-use Rattle.std.proofs.Common.{[], refl, sym}
+use Rattle.std.proofs.Common.{[], sym}
 use Rattle.std.proofs.Common.{append-nil}
 use Rattle.vote_weights.specs.Sets.{has_node}
 use Rattle.world_model.specs.ExactWays.{follows_none}

@@ -1,7 +1,4 @@
-use Rattle.std.proofs.Common.{◌≡◌, ◌+◌, ◌≤◌, ℕ, sym, ◌∙◌, subst, arith}
 use Rattle.lock_messages.specs.declared.ids.Actor.TheVariants as actor
-use Rattle.world_model.specs.Forgetting.{IsSound}
-use Rattle.world_machine.specs.Going.{HasRaised}
 use Rattle.world_machine.proofs.GoingFacts.{raised-next}
 use Rattle.world_machine.proofs.ways.Ahead.raise_nodes.Goals as goal
 

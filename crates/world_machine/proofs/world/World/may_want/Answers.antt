@@ -1,4 +1,4 @@
-use Rattle.std.proofs.Common.{◌≡◌, Option, Bool, List, Some, None, true, false, refl, sym, ◌∙◌, ap, subst, inl, inr}
+use Rattle.std.proofs.Common.{List, Some, refl, sym, ◌∙◌, ap, subst, inl, inr}
 use Rattle.world_actors.specs.Acting.{ActingClient}
 use Rattle.world_model.specs.declared.exact.ExactWorld.{ExactWorld}
 use Rattle.world_model.specs.ExactWorlds.{numbered}

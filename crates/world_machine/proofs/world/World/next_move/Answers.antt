@@ -1,4 +1,4 @@
-use Rattle.std.proofs.Common.{◌≡◌, List, Option, ◌∙◌, ap, subst}
+use Rattle.std.proofs.Common.{List, Option, ◌∙◌, ap}
 use Rattle.world_model.specs.declared.ways.Move.{Move}
 use Rattle.lock_messages.specs.declared.messages.Message.{Message}
 use Rattle.vote_weights.specs.Sets.{has_node}
