@@ -39,9 +39,7 @@ has_seen b k x tickets k' told = record {
   opened = ap (λ (w : ExactWorld). part w k.actor) (sym told.known.opening);
   events = told.known.own;
   own = told.known.part;
-  told = told.told;
-  inside = told.inside;
-  alone = told.alone;
+  those = told.those;
   log = log_seen b k k' told.known told.seen;
 }
 
@@ -60,9 +58,7 @@ sees_inside : (b : BookValue) (k : BerthValue) (x : List ℕ) (tickets : List Ti
 sees_inside b k x tickets k' told = record {
   now = b.world;
   seen = seen_on b k k' told.known told.seen;
-  told = told.told;
-  inside = told.inside;
-  alone = told.alone;
+  those = told.those;
 }
 
 pub shown_if : (r : Result (Vec Ticket Global) BookFault) (b : BookValue) (k : BerthValue) (x : List ℕ) (k' : BerthValue) → IfOk r (λ tickets. TellsInside b k x tickets.items k') → IfOk r (λ tickets. SeesInside k x tickets.items k')

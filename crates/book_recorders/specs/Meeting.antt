@@ -27,14 +27,19 @@ pub record HaveMet (answer : Bool) (l m l' m' : OwnLog) : Type 0 where
 abbrev pub IsAloneIn : List Ticket → Type 0
 IsAloneIn tickets = (t : Ticket) → Among t tickets → t.mode ≡ Write → tickets ≡ t ∷ []
 
--- These are the tickets of those whom the book's world has inside the resource, in the order of the clients. The
--- berth has seen all of the history, and nothing else changed.
+-- These are the tickets of those whom the world has inside the resource, in the order of the clients. A writer among
+-- them is the only one.
+pub record AreThoseInside (w : ExactWorld) (x : List ℕ) (tickets : List Ticket) : Type 0 where
+  pub told : tickets ≡ inside x w
+  pub inside : AreInside (forget w) x tickets
+  pub alone : IsAloneIn tickets
+
+-- These are the tickets of those who are inside the resource in the book's world. The berth has seen all of the
+-- history, and nothing else changed.
 pub record TellsInside (b : BookValue) (k : BerthValue) (x : List ℕ) (tickets : List Ticket) (k' : BerthValue) : Type 0 where
   pub known : Known b k
   pub seen : k' ≡ sees b k
-  pub told : tickets ≡ inside x b.world
-  pub inside : AreInside (forget b.world) x tickets
-  pub alone : IsAloneIn tickets
+  pub those : AreThoseInside b.world x tickets
 
 -- The berth has seen what others logged since, none of it its actor's; with what it had seen before it leads to this
 -- world.
@@ -43,18 +48,15 @@ pub record HasSeenOn (k k' : BerthValue) (now : ExactWorld) : Type 0 where
   pub others : Between k between now
   pub berth : k' ≡ after_seeing k (k.seen ++ between)
 
--- These are the tickets of those who are inside the resource, in the order of the clients, in the world that the
--- history leaves which the berth has seen now.
+-- These are the tickets of those who are inside the resource in the world that the history leaves which the berth has
+-- seen now.
 pub record SeesInside (k : BerthValue) (x : List ℕ) (tickets : List Ticket) (k' : BerthValue) : Type 0 where
   pub now : ExactWorld
   pub seen : HasSeenOn k k' now
-  pub told : tickets ≡ inside x now
-  pub inside : AreInside (forget now) x tickets
-  pub alone : IsAloneIn tickets
+  pub those : AreThoseInside now x tickets
 
--- These are the tickets of those who were inside the resource in a world that the one history had come to, in the
--- order of the clients. The history has of the actor what its own log has, and so has the world; it is one of the
--- log's ballots. The log has not changed.
+-- These are the tickets of those who were inside the resource in a world that the one history had come to. The history
+-- has of the actor what its own log has, and so has the world; it is one of the log's ballots. The log has not changed.
 pub record HasSeenInside (l : OwnLog) (x : List ℕ) (tickets : List Ticket) (l' : OwnLog) : Type 0 where
   pub opening : ExactWorld
   pub history : List (Event × Effect)
@@ -64,7 +66,5 @@ pub record HasSeenInside (l : OwnLog) (x : List ℕ) (tickets : List Ticket) (l'
   pub opened : part opening l.actor ≡ l.opening
   pub events : own_events l.actor history ≡ l.events
   pub own : part world l.actor ≡ part_now l
-  pub told : tickets ≡ inside x world
-  pub inside : AreInside (forget world) x tickets
-  pub alone : IsAloneIn tickets
+  pub those : AreThoseInside world x tickets
   pub log : l' ≡ l

@@ -6,7 +6,7 @@ ghost use Rattle.client_core.specs.contracts.clients.ClientCore.{the_row as clie
 ghost use Rattle.lock_messages.specs.declared.tickets.Mode.TheVariants.{Write};
 ghost use Rattle.client_core.specs.Clients.{ticket_of as client_ticket, softened_ticket};
 ghost use Rattle.client_core.specs.Calls.{MayEnter, entered};
-ghost use Rattle.entry_guard.specs.Doors.{is_client_inside};
+ghost use Rattle.entry_guard.specs.Doors.{is_client_inside, MaySoften};
 ghost use Rattle.entry_guard.specs.Guards.{door_of, lender_of, guard_ticket, IsHeld};
 
 use crate::Door;
@@ -15,7 +15,8 @@ use lock_messages::{Mode, Ticket};
 
 /// A borrowed door that is inside, and leaves when the guard is dropped: on every path out of its
 /// scope, at its end, at a `?`, at a return in the middle. It takes no memory and does not wait. A
-/// writer's guard can be softened; its door is inside as a reader's then.
+/// writer's guard can be softened; its door is inside as a reader's then. A door that isn't inside stays
+/// as it is; no guard that is made here has one.
 ///
 /// A guard that is forgotten leaves its door inside.
 pub struct EntryGuard<'a, D: Door> {
@@ -99,6 +100,7 @@ impl<'a, D: Door> EntryGuard<'a, D> {
         ensures softens { IsHeld D.is_inside D.ticket_of self.old → D.softens (door_of self.old) (door_of self.new) }
         ensures ticket { guard_ticket self.new ≡ softened_ticket (guard_ticket self.old) }
         ensures held { IsHeld D.is_inside D.ticket_of self.old → IsHeld D.is_inside D.ticket_of self.new }
+        ensures untouched { (MaySoften (D.is_inside (door_of self.old)) (D.ticket_of (door_of self.old)) → ⊥) → door_of self.new ≡ door_of self.old }
     {
         self.ticket.mode = Mode::Read;
         if self.door.may_soften() {
@@ -111,6 +113,7 @@ impl<D: Door> Drop for EntryGuard<'_, D> {
     fn drop(self)
         ensures leaves { D.is_inside (door_of self.entry) ≡ true → D.leaves (door_of self.entry) self.exit.0.now }
         ensures outside { D.is_inside self.exit.0.now ≡ false }
+        ensures untouched { D.is_inside (door_of self.entry) ≡ false → self.exit.0.now ≡ door_of self.entry }
     {
         let EntryGuard { door, ticket: _ } = self;
         if door.inside() {

@@ -3,7 +3,7 @@
 ghost use Rattle.std.specs.Prelude.{◌≡◌, ◌↔◌, true, false, Some, IsOk, IfOk, IfErr};
 ghost use Rattle.lock_messages.specs.declared.tickets.Mode.TheVariants.{Write};
 ghost use Rattle.client_core.specs.Clients.{softened_ticket};
-ghost use Rattle.entry_guard.specs.Doors.{IsInsideWith};
+ghost use Rattle.entry_guard.specs.Doors.{IsInsideWith, MaySoften};
 ghost use Rattle.entry_guard.specs.Guards.{entry_door, entry_ticket, HasDoor};
 
 use crate::Door;
@@ -24,6 +24,7 @@ fn left(door: Box<dyn Door + Send>) -> Box<dyn Door + Send>
     requires { Unit {0} }
     ensures leaves { is_inside door ≡ true → HasDoor door result (leaves door) }
     ensures outside { is_inside result ≡ false }
+    ensures untouched { is_inside door ≡ false → result ≡ door }
 {
     let mut door = door;
     if door.inside() {
@@ -77,6 +78,7 @@ impl OwnedEntry {
         ensures softens { IsInsideWith (entry_ticket self.old) (is_inside (entry_door self.old)) (ticket_of (entry_door self.old)) → HasDoor (entry_door self.old) (entry_door self.new) (softens (entry_door self.old)) }
         ensures ticket { entry_ticket self.new ≡ softened_ticket (entry_ticket self.old) }
         ensures held { IsInsideWith (entry_ticket self.old) (is_inside (entry_door self.old)) (ticket_of (entry_door self.old)) → IsInsideWith (entry_ticket self.new) (is_inside (entry_door self.new)) (ticket_of (entry_door self.new)) }
+        ensures untouched { (MaySoften (is_inside (entry_door self.old)) (ticket_of (entry_door self.old)) → ⊥) → entry_door self.new ≡ entry_door self.old }
     {
         self.ticket.mode = Mode::Read;
         if self.door.may_soften() {
@@ -89,6 +91,7 @@ impl OwnedEntry {
         requires { Unit {0} }
         ensures leaves { is_inside (entry_door self) ≡ true → HasDoor (entry_door self) result (leaves (entry_door self)) }
         ensures outside { is_inside result ≡ false }
+        ensures untouched { is_inside (entry_door self) ≡ false → result ≡ entry_door self }
     {
         let OwnedEntry { door, ticket: _ } = self;
         left(door)

@@ -101,7 +101,7 @@ is_bad w v (Some xs) (Some ys) next taken number piece end f h at few r j q =
     no_further w v (text_lines xs) (text_lines ys) taken number l more (cause.Line f) h e at few b
 
 -- a refusal is one of the step, or want of memory
-refused_so : (e : Event) (s : Steps) (f : StepFault) → IsRefused e s f → f ≢ refusal.Memory → s ≡ Err f
+pub refused_so : (e : Event) (s : Steps) (f : StepFault) → IsRefused e s f → f ≢ refusal.Memory → s ≡ Err f
 refused_so e s f (inl h) n = h
 refused_so e s f (inr h) n = absurd (n h.0)
 

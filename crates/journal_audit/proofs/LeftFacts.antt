@@ -1,5 +1,5 @@
 -- What was taken of a text, line after line.
-use Rattle.std.proofs.Common.{◌≡◌, ◌≢◌, inl, inr, ℕ, ◌+◌, ◌<◌, ◌≤◌, Bool, true, false, List, [], ◌∷◌, ◌++◌, length, Option, Some, None, Result, Ok, Err, IsOk, IfOk, IfErr, OnErr, refl, sym, ap, subst, ◌∙◌, arith, append_assoc}
+use Rattle.std.proofs.Common.{◌≡◌, ◌≢◌, inl, inr, ℕ, ◌+◌, ◌<◌, true, false, List, [], ◌∷◌, ◌++◌, length, Option, Some, None, Result, Ok, Err, IsOk, IfOk, IfErr, OnErr, refl, sym, ap, subst, ◌∙◌, arith, append_assoc}
 use Rattle.std.specs.List.{All}
 use Rattle.std.specs.Io.KnownBytes.{Consumes}
 use Rattle.std.proofs.KnownBytes.{Consumes-nil, Consumes-trans}
@@ -13,13 +13,12 @@ use Rattle.world_model.specs.declared.exact.ExactWorld.{ExactWorld}
 use Rattle.world_model.specs.ExactWorlds.{Steps, step, refusal_of}
 use Rattle.world_model.specs.Locality.{MemoryIsNoRefusal}
 use Rattle.world_model.specs.StepsOf.{Does, IsRefused, asks_for_memory}
-use Rattle.history_check.specs.declared.faults.LineFault.{LineFault}
 use Rattle.history_check.specs.declared.words.TheConstants.{MAX_LINE_LEN}
 use Rattle.history_check.specs.Events.{event_of}
 use Rattle.history_check.specs.Laws.{EventsAreSpelledOnce}
 use Rattle.line_streams.specs.declared.reading.End.{End}
 use Rattle.line_streams.specs.declared.reading.End.TheVariants.{LineFeed, Input, Limit}
-use Rattle.line_streams.specs.Streams.{is_line_feed, is_last, ends_no_line, IsPlain, KnownLeft, ReadsPiece, TakesLine, FitsLimit, feed_of, fed_lines}
+use Rattle.line_streams.specs.Streams.{is_last, ends_no_line, IsPlain, HasMore, ReadsPiece, TakesLine, FitsLimit, feed_of, fed_lines}
 use Rattle.journal_audit.specs.declared.faults.AuditFault.{AuditFault}
 use Rattle.journal_audit.specs.declared.faults.AuditFault.TheVariants as fault
 use Rattle.journal_audit.specs.declared.verdicts.Cause.{Cause}
@@ -28,7 +27,7 @@ use Rattle.journal_audit.specs.declared.verdicts.TheConstants.{MAX_LINES}
 use Rattle.journal_audit.specs.declared.verdicts.Verdict.{Verdict}
 use Rattle.journal_audit.specs.declared.verdicts.Verdict.TheVariants.{Sound, Unsound}
 use Rattle.journal_audit.specs.Judging.{CutsShort, TakesPart, TakesLast}
-use Rattle.journal_audit.specs.Leavings.{HasEnded, IsTaken, Takes, LeavesBy, Leaves}
+use Rattle.journal_audit.specs.Leavings.{HasEnded, IsTaken, Takes, Leaves}
 use Rattle.journal_audit.specs.Verdicts.{Leads}
 use Rattle.journal_audit.proofs.LineFacts.{short_line}
 use Rattle.journal_audit.proofs.JudgeFacts.{IsToldSo}
@@ -85,25 +84,23 @@ behind_lines w v text mid left count line behind h plain taken = record {
 alone : (text left : Option (List ℕ)) (line : List ℕ) → Consumes text left line → Consumes text left (line ++ [])
 alone text left line c = subst (λ (bs : List ℕ). Consumes text left bs) (sym (append-nil line)) c
 
-part_behind : (w v : ExactWorld) (text mid left : Option (List ℕ)) (count : ℕ) (e : AuditFault) → CutsShort e → Took w text mid v count → TakesPart mid left → Leaves w text left (Err e)
-part_behind w v text mid left count fault.Read short h part =
+part_behind : (w v : ExactWorld) (text mid left : Option (List ℕ)) (count : ℕ) (e : AuditFault) → CutsShort e → Took w text mid v count → TakesPart mid left → (e ≡ fault.Memory → HasMore left) → Leaves w text left (Err e)
+part_behind w v text mid left count fault.Read short h part more =
     let (line, few, plain, taken) = part in
     (count, line, few, behind_lines w v text mid left count line [] h plain (alone mid left line taken))
-part_behind w v text mid left count fault.Write short h part = absurd short
-part_behind w v text mid left count fault.Memory short h part =
+part_behind w v text mid left count fault.Write short h part more = absurd short
+part_behind w v text mid left count fault.Memory short h part more =
     let (line, few, plain, taken) = part in
-    (count, line, few, inl (behind_lines w v text mid left count line [] h plain (alone mid left line taken)))
-part_behind w v text mid left count fault.TooManyLines short h part = absurd short
+    inr (count, line, few, inl (behind_lines w v text mid left count line [] h plain (alone mid left line taken), more refl))
+part_behind w v text mid left count fault.TooManyLines short h part more = absurd short
 
 -- the next line couldn't be read
-pub cut_left : (w v : ExactWorld) (text mid left : Option (List ℕ)) (count : ℕ) (piece : List ℕ) (e : AuditFault) → Took w text mid v count → CutsShort e → TakesLine {E = AuditFault} mid left piece (Err e) → FitsLimit {E = AuditFault} MAX_LINE_LEN piece (Err e) → Leaves w text left (Err e)
-cut_left w v text mid left count piece e h short taken few = part_behind w v text mid left count e short h (piece, few, taken.0, taken.1)
+pub cut_left : (w v : ExactWorld) (text mid left : Option (List ℕ)) (count : ℕ) (piece : List ℕ) (e : AuditFault) → Took w text mid v count → CutsShort e → TakesLine {E = AuditFault} mid left piece (Err e) → FitsLimit {E = AuditFault} MAX_LINE_LEN piece (Err e) → (e ≡ fault.Memory → HasMore left) → Leaves w text left (Err e)
+cut_left w v text mid left count piece e h short taken few more = part_behind w v text mid left count e short h (piece, few, taken.0, taken.1) more
 
 -- no memory was there from the start
 pub none_left : (w : ExactWorld) (text : Option (List ℕ)) → Leaves w text text (Err fault.Memory)
-none_left w text =
-    let least : 0 ≤ MAX_LINE_LEN = omega arith in
-    (0, [], least, inl (behind_lines w w text text text 0 [] [] (took_none w text) (All-nil (λ (b : ℕ). is_line_feed b ≡ false)) (Consumes-nil text)))
+none_left w text = inl refl
 
 -- no line is left
 pub over_left : (w v : ExactWorld) (text mid left : Option (List ℕ)) (count : ℕ) (piece : List ℕ) (end : End) (n : ℕ) → Took w text mid v count → ReadsPiece MAX_LINE_LEN mid left piece end → ends_no_line end piece ≡ true → Leaves w text left (Ok (Sound n))
@@ -135,7 +132,7 @@ asking_left : EventsAreSpelledOnce → MemoryIsNoRefusal → (w v : ExactWorld) 
 asking_left spelled never w v text mid left count piece end x f h room r taken few said refused wants =
     let (asks, goes) = would_go never v x f refused wants in
     let whole = taken_since text mid left (fed_lines h.before) piece end h.taken (read_taken mid left piece end r few) in
-    (count, piece, short_line piece x said, inr (end, room, whole, behind_lines w v text mid left count piece (feed_of end) h taken.0 taken.1, (x, (spelled piece x).0 said, asks, goes)))
+    inr (count, piece, short_line piece x said, inr (end, room, whole, behind_lines w v text mid left count piece (feed_of end) h taken.0 taken.1, (x, (spelled piece x).0 said, asks, goes)))
 
 -- the world refused the line, or memory was refused for it
 pub refused_left : EventsAreSpelledOnce → MemoryIsNoRefusal → (w v : ExactWorld) (text mid left : Option (List ℕ)) (count number : ℕ) (piece : List ℕ) (end : End) (x : Event) (f : StepFault) (result : Result Verdict AuditFault)
@@ -168,20 +165,20 @@ took_more spelled w v u text mid left count piece LineFeed x o h taken few said 
 pub most_left : (w v : ExactWorld) (text mid left : Option (List ℕ)) (count : ℕ) (result : Result Verdict AuditFault) → Took w text mid v count → count ≡ MAX_LINES → IfOk result (λ q. q ≡ Sound MAX_LINES) → IfErr result (λ e. e ≢ fault.Write) → TakesLast mid left result → Leaves w text left result
 most_left w v text mid left count (Ok q) h all sound told last =
     subst (λ (p : Verdict). Leaves w text left (Ok p)) (sym sound) (ended_since text mid left (fed_lines h.before) h.taken last)
-most_left w v text mid left count (Err fault.Read) h all sound told last = part_behind w v text mid left count fault.Read tt h last
+most_left w v text mid left count (Err fault.Read) h all sound told last = part_behind w v text mid left count fault.Read tt h last (λ never. absurd (let clash : fault.Read ≡ fault.Memory = never in cc))
 most_left w v text mid left count (Err fault.Write) h all sound told last = absurd (told refl)
-most_left w v text mid left count (Err fault.Memory) h all sound told last = part_behind w v text mid left count fault.Memory tt h last
+most_left w v text mid left count (Err fault.Memory) h all sound told last = part_behind w v text mid left count fault.Memory tt h last.0 (λ same. last.1)
 most_left w v text mid left count (Err fault.TooManyLines) h all sound told last =
     let (line, end, is, plain, taken) = last in
     (line, end, taken_since text mid left (fed_lines h.before) line end h.taken is, subst (λ n. Takes w text left n line (feed_of end)) all (behind_lines w v text mid left count line (feed_of end) h plain taken))
 
 -- what the call took that looks for one line more
 
-pub cut_last : (text left : Option (List ℕ)) (piece : List ℕ) (e : AuditFault) → CutsShort e → TakesLine {E = AuditFault} text left piece (Err e) → FitsLimit {E = AuditFault} MAX_LINE_LEN piece (Err e) → TakesLast text left (Err e)
-cut_last text left piece fault.Read short taken few = (piece, few, taken.0, taken.1)
-cut_last text left piece fault.Write short taken few = absurd short
-cut_last text left piece fault.Memory short taken few = (piece, few, taken.0, taken.1)
-cut_last text left piece fault.TooManyLines short taken few = absurd short
+pub cut_last : (text left : Option (List ℕ)) (piece : List ℕ) (e : AuditFault) → CutsShort e → TakesLine {E = AuditFault} text left piece (Err e) → FitsLimit {E = AuditFault} MAX_LINE_LEN piece (Err e) → (e ≡ fault.Memory → HasMore left) → TakesLast text left (Err e)
+cut_last text left piece fault.Read short taken few more = (piece, few, taken.0, taken.1)
+cut_last text left piece fault.Write short taken few more = absurd short
+cut_last text left piece fault.Memory short taken few more = ((piece, few, taken.0, taken.1), more refl)
+cut_last text left piece fault.TooManyLines short taken few more = absurd short
 
 pub none_last : (text left : Option (List ℕ)) (piece : List ℕ) (end : End) (n : ℕ) → ReadsPiece MAX_LINE_LEN text left piece end → ends_no_line end piece ≡ true → TakesLast text left (Ok (Sound n))
 none_last text left piece LineFeed n r over = cc

@@ -2,7 +2,7 @@
 use Rattle.std.specs.Prelude.{◌≡◌, ℕ, nat_le, if◌then◌else◌, List, Option, Some, None, Result, Ok, Err}
 use Rattle.std.specs.Io.KnownBytes.{Appends}
 use Rattle.world_model.specs.declared.exact.ExactWorld.{ExactWorld}
-use Rattle.line_streams.specs.Streams.{AppendsBeginning}
+use Rattle.line_streams.specs.Streams.{AppendsPart}
 use Rattle.journal_audit.specs.declared.faults.AuditFault.{AuditFault}
 use Rattle.journal_audit.specs.declared.faults.AuditFault.TheVariants as fault
 use Rattle.journal_audit.specs.declared.verdicts.TheConstants.{MAX_LINES}
@@ -22,11 +22,11 @@ IsFound w None r = Unit {0}
 IsFound w (Some text) r = found_in w (text_lines text) ≡ r
 
 -- What an audit did with what was left of the input and what was written: it answers what is found, and
--- wrote the verdict's line. Where writing failed a beginning of it was written, else after a fault
--- nothing.
+-- wrote the verdict's line. Where writing failed a beginning of it was written, and not all, else after a
+-- fault nothing.
 abbrev pub Audits : ExactWorld → Option (List ℕ) → Option (List ℕ) → Option (List ℕ) → Result Verdict AuditFault → Type 0
 Audits w left old new (Ok v) = IsFound w left (Ok v) × Appends old new (verdict_text v)
 Audits w left old new (Err fault.Read) = new ≡ old
-Audits w left old new (Err fault.Write) = (v : Verdict) × IsFound w left (Ok v) × AppendsBeginning old new (verdict_text v)
+Audits w left old new (Err fault.Write) = (v : Verdict) × IsFound w left (Ok v) × AppendsPart old new (verdict_text v)
 Audits w left old new (Err fault.Memory) = new ≡ old
 Audits w left old new (Err fault.TooManyLines) = IsFound w left (Err fault.TooManyLines) × (new ≡ old)

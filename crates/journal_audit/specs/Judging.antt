@@ -4,7 +4,7 @@ use Rattle.std.specs.Prelude.{◌≡◌, ℕ, ◌≤◌, List, [], ◌∷◌, �
 use Rattle.std.specs.Io.KnownBytes.{Consumes}
 use Rattle.history_check.specs.declared.words.TheConstants.{MAX_LINE_LEN}
 use Rattle.line_streams.specs.declared.reading.End.{End}
-use Rattle.line_streams.specs.Streams.{IsPlain, feed_of}
+use Rattle.line_streams.specs.Streams.{IsPlain, HasMore, feed_of}
 use Rattle.journal_audit.specs.declared.faults.AuditFault.{AuditFault}
 use Rattle.journal_audit.specs.declared.faults.AuditFault.TheVariants as fault
 use Rattle.journal_audit.specs.declared.verdicts.TheConstants.{MAX_LINES}
@@ -36,10 +36,11 @@ EndsLines (Some text) r = EndsIn (text_lines text) r
 abbrev pub TakesPart : Option (List ℕ) → Option (List ℕ) → Type 0
 TakesPart text left = (line : List ℕ) × (length line ≤ MAX_LINE_LEN) × IsPlain line × Consumes text left line
 
--- What such a call took: the end of the text, or a line, or a part of one.
+-- What such a call took: the end of the text, or a line, or a part of one, of which there is more where memory
+-- was refused.
 abbrev pub TakesLast : Option (List ℕ) → Option (List ℕ) → Result Verdict AuditFault → Type 0
 TakesLast text left (Ok v) = HasEnded text left
 TakesLast text left (Err fault.Read) = TakesPart text left
 TakesLast text left (Err fault.Write) = Unit {0}
-TakesLast text left (Err fault.Memory) = TakesPart text left
+TakesLast text left (Err fault.Memory) = TakesPart text left × HasMore left
 TakesLast text left (Err fault.TooManyLines) = (line : List ℕ) × (end : End) × IsTaken text left line end × IsPlain line × Consumes text left (line ++ feed_of end)

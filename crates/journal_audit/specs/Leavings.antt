@@ -10,7 +10,7 @@ use Rattle.history_check.specs.Events.{IsSpelling}
 use Rattle.history_check.specs.declared.words.TheConstants.{MAX_LINE_LEN}
 use Rattle.line_streams.specs.declared.reading.End.{End}
 use Rattle.line_streams.specs.declared.reading.End.TheVariants.{LineFeed, Input, Limit}
-use Rattle.line_streams.specs.Streams.{IsPlain, KnownLeft, feed_of, fed_lines}
+use Rattle.line_streams.specs.Streams.{IsPlain, KnownLeft, HasMore, feed_of, fed_lines}
 use Rattle.journal_audit.specs.declared.faults.AuditFault.{AuditFault}
 use Rattle.journal_audit.specs.declared.faults.AuditFault.TheVariants as fault
 use Rattle.journal_audit.specs.declared.verdicts.TheConstants.{MAX_LINES}
@@ -57,12 +57,17 @@ abbrev pub TakesAsking : ExactWorld → Option (List ℕ) → Option (List ℕ) 
 TakesAsking w text left count line =
     (end : End) × (count < MAX_LINES) × IsTaken text left line end × (t : Takes w text left count line (feed_of end)) × GoesOnAsking t.world line
 
+-- Lines were taken that lead somewhere, and then some bytes of a line, with more behind them.
+abbrev pub TakesSome : ExactWorld → Option (List ℕ) → Option (List ℕ) → ℕ → List ℕ → Type 0
+TakesSome w text left count line = Takes w text left count line [] × HasMore left
+
 -- The same where no verdict is found: the lines that were taken lead somewhere. Behind them some bytes of a
--- line that is no longer than one may be were taken, and no line feed; or, where memory was refused, a whole
--- line that goes on; or, where there are too many lines, the one that is too many.
+-- line that is no longer than one may be were taken, and no line feed; or, where there are too many lines, the
+-- one that is too many. Where memory was refused, nothing was taken at all, or there is more of the line of
+-- which some bytes were, or a whole line was taken, which goes on.
 abbrev pub Leaves : ExactWorld → Option (List ℕ) → Option (List ℕ) → Result Verdict AuditFault → Type 0
 Leaves w text left (Ok v) = LeavesBy w text left v
 Leaves w text left (Err fault.Read) = (count : ℕ) × (line : List ℕ) × (length line ≤ MAX_LINE_LEN) × Takes w text left count line []
 Leaves w text left (Err fault.Write) = (v : Verdict) × LeavesBy w text left v
-Leaves w text left (Err fault.Memory) = (count : ℕ) × (line : List ℕ) × (length line ≤ MAX_LINE_LEN) × (Takes w text left count line [] ⊎ TakesAsking w text left count line)
+Leaves w text left (Err fault.Memory) = (left ≡ text) ⊎ ((count : ℕ) × (line : List ℕ) × (length line ≤ MAX_LINE_LEN) × (TakesSome w text left count line ⊎ TakesAsking w text left count line))
 Leaves w text left (Err fault.TooManyLines) = (line : List ℕ) × (end : End) × IsTaken text left line end × Takes w text left MAX_LINES line (feed_of end)

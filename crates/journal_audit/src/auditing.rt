@@ -18,9 +18,10 @@ use world_machine::World;
 /// with those that it makes. Of the input it takes the lines up to the one that its verdict speaks of, and
 /// leaves what stands behind: after `Unsound` of a line just what follows that line's line feed, or the 129
 /// bytes of it that show it too long; after `Sound` nothing. After 816 the lines that it took are a run,
-/// and behind them at most one more was begun, of which no line feed was taken. After 818 either this is
-/// so, or one more line was taken whole, and it goes on with the run: it is an event that asks for memory,
-/// and its step would be taken. So no line whose line feed was taken is unsound then.
+/// and behind them at most one more was begun, of which no line feed was taken. After 818 nothing was taken at
+/// all; or this is so, and more of the input is left; or one more line was taken whole, and it goes on with the
+/// run: it is an event that asks for memory, and its step would be taken. So no line that was taken whole is
+/// unsound then.
 ///
 /// # Errors
 ///
@@ -67,7 +68,7 @@ pub fn audit_lines<R: Read, W: Write>(
 /// refused, `TooManyLines` (819) where there are more than `MAX_LINES` lines: each only where it is met
 /// before an unsound line, and then nothing is written. What 816 and 818 say of the lines is in the
 /// contract of `audit_lines` alone, which knows what is left of the input. `Write` (817) where the writer
-/// fails or takes nothing; then a beginning of the verdict's line was written. A read or a write that a
+/// fails or takes nothing; then a beginning of the verdict's line was written, and not all. A read or a write that a
 /// signal interrupts is made again.
 pub fn audit<R: Read, W: Write>(
     alloc: Global,

@@ -2,7 +2,7 @@
 
 ghost use Rattle.std.specs.Prelude.{◌≡◌, ◌≢◌, [], IfOk, IfErr, OnErr};
 ghost use Rattle.history_check.specs.declared.words.TheConstants.{MAX_LINE_LEN};
-ghost use Rattle.line_streams.specs.Streams.{ReadsPiece, TakesLine, FitsLimit};
+ghost use Rattle.line_streams.specs.Streams.{ReadsPiece, TakesLine, FitsLimit, HasMore};
 ghost use Rattle.journal_audit.specs.Judging.{CutsShort, EndsLines, TakesLast};
 ghost use Rattle.journal_audit.specs.Leavings.{Leaves};
 ghost use Rattle.journal_audit.specs.Verdicts.{Finds};
@@ -22,8 +22,8 @@ use world_model::laws::steps_change_one_part;
 ///
 /// # Errors
 ///
-/// `Read` (816) where the reader fails or was asked as often as it may be, `Memory` (818). Then what was
-/// taken of the line is in `piece`.
+/// `Read` (816) where the reader fails or was asked as often as it may be, `Memory` (818), which leaves some
+/// bytes. Then what was taken of the line is in `piece`.
 pub fn read_piece<R: Read>(
     source: &mut LineReader<R>,
     piece: &mut Vec<u8>,
@@ -32,6 +32,7 @@ pub fn read_piece<R: Read>(
     ensures fault { IfErr result CutsShort }
     ensures taken { TakesLine source.old source.new piece.new.items result }
     ensures few { FitsLimit MAX_LINE_LEN piece.new.items result }
+    ensures more { IfErr result (λ e. e ≡ AuditFault.Memory → HasMore source.new) }
 {
     match source.read_line(piece, MAX_LINE_LEN) {
         Ok(end) => Ok(end),

@@ -67,7 +67,7 @@ fn verdict_line(verdict: Verdict) -> ArrayString<LINE_ROOM>
 ///
 /// # Errors
 ///
-/// `Write` (817). Then a beginning of the line was written.
+/// `Write` (817). Then a beginning of the line was written, and not all.
 pub fn tell_verdict<W: Write>(verdict: Verdict, writer: &mut W) -> Result<(), AuditFault>
     ensures text { Puts (W.contents writer.old) (W.contents writer.new) (verdict_text verdict) result }
     ensures fault { IfErr result (λ e. e ≡ AuditFault.Write) }

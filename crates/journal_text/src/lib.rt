@@ -1,7 +1,7 @@
 //! The text of a journal: the events of a history, each in a line of its own, written to a writer.
 //!
 //! The crate promises that what is written is the one text of the history, or after a fault a beginning
-//! of it. It gathers lines before it writes, and asks for memory for one line at a time. `Journals` in
+//! of it that isn't all. It gathers lines before it writes, and asks for memory for one line at a time. `Journals` in
 //! `specs/` has the words. That an audit finds such a text sound is said by `journal_laws`.
 //!
 //! It stands on `history_check` for the lines, `line_streams`, `lock_messages`, `vote_weights` for how many

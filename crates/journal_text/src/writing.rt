@@ -1,6 +1,6 @@
 // A history, line by line.
 
-ghost use Rattle.std.specs.Prelude.{◌≡◌, [], IfErr, IfOk, OnOk, string_bytes};
+ghost use Rattle.std.specs.Prelude.{◌≡◌, ◌<◌, [], length, IfErr, IfOk, OnOk, OnErr, IsOk, string_bytes};
 ghost use Rattle.std.specs.Io.KnownBytes.{Keeps};
 ghost use Rattle.line_streams.specs.Streams.{Grows, LetsOut, Puts, with_gathered};
 ghost use Rattle.journal_text.specs.Journals.{event_line, history_text, AppendsLines, AreWellNamed};
@@ -29,6 +29,7 @@ fn line_of(alloc: Global, event: &Event) -> Result<String, JournalFault>
 
 /// Gathers the line of an event. Where memory is refused nothing of it is gathered; else the fault is
 /// the writer's.
+#[tactic(auto, using(crate::proofs::TextFacts::none_of_a_line))]
 fn put_line<W: Write>(
     alloc: Global,
     event: &Event,
@@ -61,6 +62,7 @@ fn put_lines<W: Write>(
     ensures grows { Grows (W.contents writer.old) (W.contents writer.new) }
     ensures named { OnOk result (AreWellNamed history.now) }
     ensures memory { IfErr result (λ e. e ≡ JournalFault.Memory → AppendsLines (with_gathered (W.contents writer.old) out.old) (with_gathered (W.contents writer.new) out.new) history.now) }
+    ensures none { history.now ≡ [] → out.new ≡ out.old }
 {
     for (event, _) in history {
         tell_names(event);
@@ -76,6 +78,8 @@ fn put_lines<W: Write>(
 fn end_text<W: Write>(out: &mut Gathered, writer: &mut W) -> Result<(), JournalFault>
     ensures bytes { LetsOut (W.contents writer.old) (W.contents writer.new) out.old out.new }
     ensures empty { OnOk result (out.new ≡ []) }
+    ensures rest { OnErr result (0 < length out.new) }
+    ensures nothing { out.old ≡ [] → IsOk result }
     ensures fault { IfErr result (λ e. e ≡ JournalFault.Write) }
 {
     if out.let_out(writer).is_err() {
@@ -92,7 +96,7 @@ fn end_text<W: Write>(out: &mut Gathered, writer: &mut W) -> Result<(), JournalF
 /// # Errors
 ///
 /// `Write` (817) where the writer fails or takes nothing, `Memory` (818) where memory was refused. Then
-/// a beginning of the journal was written. A write that a signal interrupts is made again.
+/// a beginning of the journal was written, and not all of it. A write that a signal interrupts is made again.
 pub fn write_history<W: Write>(
     alloc: Global,
     history: &[(Event, Effect)],

@@ -28,7 +28,7 @@ line_and_more : (p : List ℕ) (more : List (List ℕ)) → (length p == 0) ≡ 
 line_and_more p [] h = rw h
 line_and_more p (q ∷ qs) h = refl
 
-line_then_bytes : (p zs : List ℕ) → lines_in (p ∷ pieces zs) ≡ p ∷ lines_in (pieces zs)
+pub line_then_bytes : (p zs : List ℕ) → lines_in (p ∷ pieces zs) ≡ p ∷ lines_in (pieces zs)
 line_then_bytes p zs = let (q, qs, e) = some_part is_line_feed zs in ap (λ ps. lines_in (p ∷ ps)) e ∙ ap (λ ps. p ∷ lines_in ps) (sym e)
 
 -- no line is left

@@ -5,13 +5,13 @@ use Rattle.std.specs.Io.KnownBytes.{prepend_known, Consumes, Keeps, Appends, IsA
 use Rattle.std.proofs.lemmas.List.{append-nil, take-append-drop, length-take, length-take-le, length-drop, drop-take, drop-drop, take_all, take_at}
 use Rattle.std.proofs.lemmas.List.Elements.{All-append}
 use Rattle.std.proofs.lemmas.List.Folds.{list_any-append, list_any_none}
-use Rattle.std.proofs.KnownBytes.{Consumes-nil}
+use Rattle.std.proofs.KnownBytes.{Consumes-nil, Appends-trans, Consumes-trans, Consumes-kept}
 use Rattle.std.proofs.Math.Nat.{min-le_left, le-min}
 use Rattle.std.proofs.Math.Seq.{take-add}
 use Rattle.std.proofs.lemmas.List.Splits.{slice_split_none, slice_split_at, slice_split-cons_no}
 use Rattle.line_streams.specs.declared.faults.StreamFault.{StreamFault}
 use Rattle.line_streams.specs.declared.reading.End.TheVariants.{LineFeed, Input, Limit}
-use Rattle.line_streams.specs.Streams.{is_line_feed, pieces, IsPlain, Fetches, TakesHeld, TakesLine, EndsLine, ReadsPiece, AppendsBeginning, Grows, LetsOut, with_gathered}
+use Rattle.line_streams.specs.Streams.{is_line_feed, pieces, IsPlain, Fetches, TakesHeld, TakesLine, EndsLine, ReadsPiece, Grows, LetsOut, with_gathered}
 
 -- the first part of a list that is cut
 
@@ -36,12 +36,6 @@ split_front p (x ∷ front) rest h =
 
 -- reading
 
-pub consumes_both : (old mid new : Option (List ℕ)) (a b : List ℕ) → Consumes old mid a → Consumes mid new b → Consumes old new (a ++ b)
-consumes_both None mid new a b p q = tt
-consumes_both (Some xs) None new a b p q = absurd p
-consumes_both (Some xs) (Some ys) None a b p q = absurd q
-consumes_both (Some xs) (Some ys) (Some zs) a b p q = p ∙ ap (λ (bs : List ℕ). a ++ bs) q ∙ sym (append_assoc a b zs)
-
 pub ends_at_feed : (limit : ℕ) (old mid new : Option (List ℕ)) (line front after : List ℕ) → Consumes old mid line → IsPlain line → after ≡ line ++ front → IsPlain front → Consumes mid new (front ++ 10 ∷ []) → ReadsPiece limit old new after LineFeed
 ends_at_feed limit None mid new line front after taken plain e more fed = tt
 ends_at_feed limit (Some xs) None new line front after taken plain e more fed = absurd taken
@@ -50,12 +44,6 @@ ends_at_feed limit (Some xs) (Some ys) (Some zs) line front after taken plain e 
     let all : xs ≡ (line ++ front) ++ 10 ∷ zs = taken ∙ ap (λ (bs : List ℕ). line ++ bs) (fed ∙ append_assoc front (10 ∷ []) zs) ∙ sym (append_assoc line front (10 ∷ zs)) in
     ap pieces all ∙ slice_split_at is_line_feed (line ++ front) 10 zs (All-append (λ (b : ℕ). is_line_feed b ≡ false) line front plain more) refl
     ∙ ap (λ (bs : List ℕ). bs ∷ pieces zs) (sym e)
-
-pub consumes_keeps : (old mid new : Option (List ℕ)) (a : List ℕ) → Consumes old mid a → Keeps mid new → Consumes old new a
-consumes_keeps None mid new a p q = tt
-consumes_keeps (Some xs) None new a p q = absurd p
-consumes_keeps (Some xs) (Some ys) None a p q = absurd q
-consumes_keeps (Some xs) (Some ys) (Some zs) a p q = p ∙ ap (λ (bs : List ℕ). a ++ bs) (sym q)
 
 pub ends_at_end : (limit : ℕ) (old mid new : Option (List ℕ)) (line : List ℕ) → Consumes old mid line → IsPlain line → Keeps mid new × IsAtEnd mid → ReadsPiece limit old new line Input
 ends_at_end limit None mid new line taken plain over = tt
@@ -69,7 +57,7 @@ pub line_ends : (limit most : ℕ) (old mid held new : Option (List ℕ)) (line 
 line_ends limit most old mid held new line after found fed taken plain h e k f =
     let kept : Keeps mid held = subst (λ (b : Bool). Fetches {E = StreamFault} mid held (Ok b)) e h in
     let (front, same, more, few, fedc) = subst (λ (b : Bool). TakesHeld {E = StreamFault} most held new line after (Ok b)) f k in
-    ends_at_feed limit old held new line front after (consumes_keeps old mid held line taken kept) plain same more fedc
+    ends_at_feed limit old held new line front after (Consumes-kept old mid held line taken kept) plain same more fedc
 
 -- what was taken of a line with the line feed behind it, and without
 pub line_taken : (most : ℕ) (old mid held new : Option (List ℕ)) (line after : List ℕ) (found fed : Bool) → Consumes old mid line → IsPlain line → Fetches {E = StreamFault} mid held (Ok found) → found ≡ true → TakesHeld {E = StreamFault} most held new line after (Ok fed) → fed ≡ true
@@ -79,7 +67,7 @@ line_taken most old mid held new line after found fed taken plain h e k f =
     let (front, same, more, few, fedc) = subst (λ (b : Bool). TakesHeld {E = StreamFault} most held new line after (Ok b)) f k in
     let joined : line ++ (front ++ 10 ∷ []) ≡ after ++ 10 ∷ [] = sym (append_assoc line front (10 ∷ [])) ∙ ap (λ (bs : List ℕ). bs ++ 10 ∷ []) (sym same) in (
       subst (λ (bs : List ℕ). IsPlain bs) (sym same) (All-append (λ (b : ℕ). is_line_feed b ≡ false) line front plain more),
-      subst (λ (bs : List ℕ). Consumes old new bs) joined (consumes_both old held new line (front ++ 10 ∷ []) (consumes_keeps old mid held line taken kept) fedc),
+      subst (λ (bs : List ℕ). Consumes old new bs) joined (Consumes-trans old held new line (front ++ 10 ∷ []) (Consumes-kept old mid held line taken kept) fedc),
     )
 
 pub part_taken : (most : ℕ) (old mid held new : Option (List ℕ)) (line after : List ℕ) (found fed : Bool) → Consumes old mid line → IsPlain line → Fetches {E = StreamFault} mid held (Ok found) → found ≡ true → TakesHeld {E = StreamFault} most held new line after (Ok fed) → fed ≡ false
@@ -88,7 +76,7 @@ part_taken most old mid held new line after found fed taken plain h e k f =
     let kept : Keeps mid held = subst (λ (b : Bool). Fetches {E = StreamFault} mid held (Ok b)) e h in
     let (front, same, more, few, fedc) = subst (λ (b : Bool). TakesHeld {E = StreamFault} most held new line after (Ok b)) f k in (
       subst (λ (bs : List ℕ). IsPlain bs) (sym same) (All-append (λ (b : ℕ). is_line_feed b ≡ false) line front plain more),
-      subst (λ (bs : List ℕ). Consumes old new bs) (sym same) (consumes_both old held new line front (consumes_keeps old mid held line taken kept) fedc),
+      subst (λ (bs : List ℕ). Consumes old new bs) (sym same) (Consumes-trans old held new line front (Consumes-kept old mid held line taken kept) fedc),
     )
 
 pub input_ends : (limit : ℕ) (old mid new : Option (List ℕ)) (line : List ℕ) (found : Bool) → Consumes old mid line → IsPlain line → Fetches {E = StreamFault} mid new (Ok found) → found ≡ false → ReadsPiece limit old new line Input
@@ -181,25 +169,10 @@ takes_feed room at end count remaining rest o w f =
     let within : count ≤ end - at = few_held room at end count w in
     let behind : slice_range room (at + count) end ≡ 10 ∷ rest = sym (held_behind room at end count o w) ∙ f in
     let some : 1 ≤ length (slice_range room (at + count) end) = subst (λ (bs : List ℕ). 1 ≤ length bs) (sym behind) (omega arith) in
-    consumes_both (prepend_known (slice_range room at end) remaining) (prepend_known (slice_range room (at + count) end) remaining) (prepend_known (slice_range room (at + count + 1) end) remaining)
+    Consumes-trans (prepend_known (slice_range room at end) remaining) (prepend_known (slice_range room (at + count) end) remaining) (prepend_known (slice_range room (at + count + 1) end) remaining)
     (take count (slice_range room at end)) (10 ∷ []) (takes_front room at end count remaining o w)
     (subst (λ (bs : List ℕ). Consumes (prepend_known (slice_range room (at + count) end) remaining) (prepend_known (slice_range room (at + count + 1) end) remaining) bs) (ap (λ (bs : List ℕ). take 1 bs) behind)
     (takes_front room (at + count) end 1 remaining (omega arith) some))
-
-pub fetched : (room after : List ℕ) (at end count : ℕ) (old new : Option (List ℕ)) → end ≤ at → Consumes old new (take count after) → Keeps (prepend_known (slice_range room at end) old) (prepend_known (slice_range after 0 count) new)
-fetched room after at end count None new e h = tt
-fetched room after at end count (Some xs) None e h = absurd h
-fetched room after at end count (Some xs) (Some ys) e h =
-    let none : end - at ≡ 0 = omega arith in
-    let all : count - 0 ≡ count = omega arith in
-    ap (λ (n : ℕ). take n after ++ ys) all ∙ sym h ∙ sym (ap (λ (n : ℕ). take n (drop at room) ++ xs) none)
-
-pub fetched_none : (room after : List ℕ) (at end count : ℕ) (old new : Option (List ℕ)) → end ≤ at → Consumes old new (take count after) → count ≡ 0 → IsAtEnd new → IsAtEnd (prepend_known (slice_range room at end) old)
-fetched_none room after at end count None new e h z a = tt
-fetched_none room after at end count (Some xs) None e h z a = absurd h
-fetched_none room after at end count (Some xs) (Some ys) e h z a =
-    let none : end - at ≡ 0 = omega arith in
-    ap (λ (n : ℕ). take n (drop at room) ++ xs) none ∙ h ∙ ap (λ (n : ℕ). take n after ++ ys) z ∙ a
 
 pub has_line_left : (held : List ℕ) (remaining : Option (List ℕ)) → list_any is_line_feed held ≡ true → IfSome (prepend_known held remaining) (λ xs. list_any is_line_feed xs ≡ true)
 has_line_left held None h = tt
@@ -207,28 +180,8 @@ has_line_left held (Some xs) h = rw (list_any-append is_line_feed held xs, h) re
 
 -- writing
 
-pub appends_both : (old mid new : Option (List ℕ)) (a b : List ℕ) → Appends old mid a → Appends mid new b → Appends old new (a ++ b)
-appends_both None mid new a b p q = tt
-appends_both (Some xs) None new a b p q = absurd p
-appends_both (Some xs) (Some ys) None a b p q = absurd q
-appends_both (Some xs) (Some ys) (Some zs) a b p q = q ∙ ap (λ (bs : List ℕ). bs ++ b) p ∙ append_assoc xs a b
-
-pub appends_nothing : (o : Option (List ℕ)) → Appends o o []
-appends_nothing None = tt
-appends_nothing (Some xs) = sym (append-nil xs)
-
-pub grows_not : (o : Option (List ℕ)) → Grows o o
-grows_not o = ([], appends_nothing o)
-
 pub grows_on : (old mid new : Option (List ℕ)) → Grows old mid → Grows mid new → Grows old new
-grows_on old mid new p q = (p.0 ++ q.0, appends_both old mid new p.0 q.0 p.1 q.1)
-
--- letting out leaves what is written and gathered together
-pub let_out_keeps : (old new : Option (List ℕ)) (gathered rest : List ℕ) → LetsOut old new gathered rest → Keeps (with_gathered old gathered) (with_gathered new rest)
-let_out_keeps None new gathered rest h = tt
-let_out_keeps (Some xs) None gathered rest h = absurd h.2
-let_out_keeps (Some xs) (Some ys) gathered rest h =
-    ap (λ (bs : List ℕ). bs ++ rest) h.2 ∙ append_assoc xs h.0 rest ∙ ap (λ (bs : List ℕ). xs ++ bs) (sym h.1)
+grows_on old mid new p q = (p.0 ++ q.0, Appends-trans old mid new p.0 q.0 p.1 q.1)
 
 pub let_out_grows : (old new : Option (List ℕ)) (gathered rest : List ℕ) → LetsOut old new gathered rest → Grows old new
 let_out_grows old new gathered rest h = (h.0, h.2)
@@ -238,12 +191,6 @@ pub gathers : (written : Option (List ℕ)) (gathered more after : List ℕ) →
 gathers None gathered more after e = tt
 gathers (Some xs) gathered more after e = ap (λ (bs : List ℕ). xs ++ bs) e ∙ sym (append_assoc xs gathered more)
 
-pub keeps_appends : (old mid new : Option (List ℕ)) (text : List ℕ) → Appends old mid text → Keeps mid new → Appends old new text
-keeps_appends None mid new text p q = tt
-keeps_appends (Some xs) None new text p q = absurd p
-keeps_appends (Some xs) (Some ys) None text p q = absurd q
-keeps_appends (Some xs) (Some ys) (Some zs) text p q = q ∙ p
-
 -- one more part of a text
 pub front_more : (text front rest behind : List ℕ) (n : ℕ) → text ≡ front ++ rest → behind ≡ drop n rest → text ≡ (front ++ take n rest) ++ behind
 front_more text front rest behind n e f =
@@ -252,7 +199,7 @@ front_more text front rest behind n e f =
 pub wrote_more : (text rest : List ℕ) (count some : ℕ) (old mid new : Option (List ℕ)) → rest ≡ drop count text → Appends old mid (take count text) → Appends mid new (take some rest) → Appends old new (take (count + some) text)
 wrote_more text rest count some old mid new e p q =
     subst (λ (bs : List ℕ). Appends old new bs) (ap (λ (bs : List ℕ). take count text ++ take some bs) e ∙ sym (take-add count some text))
-    (appends_both old mid new (take count text) (take some rest) p q)
+    (Appends-trans old mid new (take count text) (take some rest) p q)
 
 pub few_more : (text rest : List ℕ) (count some : ℕ) → count ≤ length text → rest ≡ drop count text → some ≤ length rest → count + some ≤ length text
 few_more text rest count some w e b =
@@ -271,9 +218,3 @@ rest_kept room after end count w r e =
     let sum : end ≡ count + n = omega arith in
     let b : drop count (take end room) ≡ take n (drop count room) = ap (λ (k : ℕ). drop count (take k room)) sum ∙ drop-take count n room in
     sym (take-append-drop count (take end room)) ∙ ap (λ (bs : List ℕ). take count (take end room) ++ bs) (b ∙ sym a)
-
-pub wrote_all : (text : List ℕ) (count : ℕ) (old new : Option (List ℕ)) → Appends old new (take count text) → count ≡ length text → Appends old new text
-wrote_all text count old new p e = subst (λ (bs : List ℕ). Appends old new bs) (take_all count text (omega arith)) p
-
-pub wrote_some : (text : List ℕ) (count : ℕ) (old new : Option (List ℕ)) → Appends old new (take count text) → AppendsBeginning old new text
-wrote_some text count old new p = (take count text, drop count text, sym (take-append-drop count text), p)

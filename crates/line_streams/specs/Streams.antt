@@ -30,6 +30,11 @@ abbrev pub KnownLeft : Option (List ℕ) → (List ℕ → Type 0) → Type 0
 KnownLeft None P = ⊥
 KnownLeft (Some xs) P = P xs
 
+-- some bytes are left, where it is known which
+abbrev pub HasMore : Option (List ℕ) → Type 0
+HasMore None = Unit {0}
+HasMore (Some xs) = 0 < length xs
+
 -- nothing follows a piece that ended so
 abbrev pub is_last : End → Bool
 is_last LineFeed = false
@@ -118,10 +123,10 @@ AppendsBeginning old new text = (front : List ℕ) × (back : List ℕ) × (text
 abbrev pub AppendsPart : Option (List ℕ) → Option (List ℕ) → List ℕ → Type 0
 AppendsPart old new text = (front : List ℕ) × (back : List ℕ) × (text ≡ front ++ back) × (0 < length back) × Appends old new front
 
--- the text was appended, or after a fault a beginning of it
+-- the text was appended, or after a fault a beginning of it, and not all
 abbrev pub Puts : {U E : Type 0} → Option (List ℕ) → Option (List ℕ) → List ℕ → Result U E → Type 0
 Puts old new text (Ok u) = Appends old new text
-Puts old new text (Err e) = AppendsBeginning old new text
+Puts old new text (Err e) = AppendsPart old new text
 
 -- What was written, and then what is gathered and still to be written.
 abbrev pub with_gathered : Option (List ℕ) → List ℕ → Option (List ℕ)

@@ -3,7 +3,7 @@
 ghost use Rattle.std.specs.Prelude.{◌≡◌, ◌≢◌, ◌<◌, ◌≤◌, ℕ, List, Option, [], length, IfOk, IfErr, IfSome, true, vec_capacity};
 ghost use Rattle.std.specs.Io.KnownBytes.{prepend_known};
 ghost use Rattle.std.specs.List.{list_any};
-ghost use Rattle.line_streams.specs.Streams.{is_line_feed, is_last, ends_no_line, ReadsPiece, TakesLine, FitsLimit, EndsLine};
+ghost use Rattle.line_streams.specs.Streams.{is_line_feed, is_last, ends_no_line, ReadsPiece, TakesLine, FitsLimit, EndsLine, HasMore};
 
 use crate::{MAX_AHEAD, ReadAhead, StreamFault};
 use std::io::Read;
@@ -136,7 +136,7 @@ impl<R: Read> LineReader<R> {
     }
 
     /// Reads a line, as `ReadAhead::read_line` does. A line with room for a byte more than the limit is
-    /// never refused memory.
+    /// never refused memory, and where one is, more bytes are left.
     ///
     /// # Errors
     ///
@@ -147,6 +147,7 @@ impl<R: Read> LineReader<R> {
         ensures few { FitsLimit limit line.new.items result }
         ensures fault { IfErr result (λ e. e ≢ StreamFault.Write) }
         ensures memory { IfErr result (λ e. e ≡ StreamFault.Memory → vec_capacity line.old ≤ limit) }
+        ensures more { IfErr result (λ e. e ≡ StreamFault.Memory → HasMore self.new) }
         ensures room { vec_capacity line.old ≤ vec_capacity line.new }
     {
         self.ahead.read_line(&mut self.reader, line, limit)

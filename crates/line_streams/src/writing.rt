@@ -4,7 +4,7 @@ ghost use Rattle.std.specs.Prelude.{◌≡◌, ◌≢◌, ◌+◌, ◌≤◌, �
 ghost use Rattle.std.specs.Io.{WritesAtMost};
 ghost use Rattle.std.specs.Io.KnownBytes.{WriteAppends, Appends, Keeps};
 ghost use Rattle.std.specs.IoError.{error_kind};
-ghost use Rattle.line_streams.specs.Streams.{LetsOut, Grows, Puts, AppendsPart, with_gathered};
+ghost use Rattle.line_streams.specs.Streams.{LetsOut, Grows, Puts, with_gathered};
 ghost use Rattle.line_streams.specs.declared.writing.TheConstants.{MAX_GATHERED};
 
 use crate::{MAX_READS, StreamFault};
@@ -103,7 +103,6 @@ impl Gathered {
     /// gathered, and not all of it.
     pub fn put<W: Write>(&mut self, writer: &mut W, text: &[u8]) -> Result<(), StreamFault>
         ensures text { Puts (with_gathered (W.contents writer.old) self.old) (with_gathered (W.contents writer.new) self.new) text.now result }
-        ensures part { OnErr result (AppendsPart (with_gathered (W.contents writer.old) self.old) (with_gathered (W.contents writer.new) self.new) text.now) }
         ensures quiet { length self.old + length text.now ≤ MAX_GATHERED → (writer.new ≡ writer.old) × IsOk result }
         ensures held { length self.old + length text.now ≤ MAX_GATHERED → self.new ≡ self.old ++ text.now }
         ensures grows { Grows (W.contents writer.old) (W.contents writer.new) }
@@ -124,7 +123,6 @@ impl Gathered {
 /// `Write`, a beginning of it was written, and not all of it.
 pub fn write_text<W: Write>(writer: &mut W, text: &[u8]) -> Result<(), StreamFault>
     ensures text { Puts (W.contents writer.old) (W.contents writer.new) text.now result }
-    ensures part { OnErr result (AppendsPart (W.contents writer.old) (W.contents writer.new) text.now) }
     ensures nothing { text.now ≡ [] → (writer.new ≡ writer.old) × IsOk result }
     ensures fault { IfErr result (λ e. e ≡ StreamFault.Write) }
 {

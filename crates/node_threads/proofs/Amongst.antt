@@ -1,5 +1,5 @@
 -- What is among a list.
-use Rattle.std.proofs.Common.{◌≡◌, ◌⊎◌, inl, inr, ℕ, ◌<◌, ◌≤◌, List, [], ◌∷◌, ◌++◌, length, take, get_or, map, zero, suc, refl, sym, ap, subst, arith}
+use Rattle.std.proofs.Common.{◌≡◌, ◌⊎◌, inl, inr, ℕ, ◌<◌, ◌≤◌, List, [], ◌∷◌, length, take, get_or, map, zero, suc, refl, sym, ap, subst, arith}
 use Rattle.std.specs.List.{All, remove}
 use Rattle.std.proofs.lemmas.List.Elements.{All-nil, All-cons, All-head, All-tail, All-weaker}
 use Rattle.lock_model.specs.Decisions.{Among}
@@ -14,15 +14,6 @@ pub from_among : {X : Type 0} (P : X → Type 0) (xs : List X) → ((x : X) → 
 from_among P [] of = All-nil P
 from_among P (x ∷ xs) of = All-cons P x xs (of x (inl refl)) (from_among P xs (λ y there. of y (inr there)))
 
-pub among_behind : {X : Type 0} (x : X) (xs ys : List X) → Among x ys → Among x (xs ++ ys)
-among_behind x [] ys there = there
-among_behind x (y ∷ xs) ys there = inr (among_behind x xs ys there)
-
-pub among_front : {X : Type 0} (x : X) (xs ys : List X) → Among x xs → Among x (xs ++ ys)
-among_front x [] ys there = absurd there
-among_front x (y ∷ xs) ys (inl same) = inl same
-among_front x (y ∷ xs) ys (inr there) = inr (among_front x xs ys there)
-
 pub among_map : {X Y : Type 0} (f : X → Y) (x : X) (xs : List X) → Among x xs → Among (f x) (map f xs)
 among_map f x [] there = absurd there
 among_map f x (y ∷ xs) (inl same) = inl (ap f same)
@@ -33,11 +24,6 @@ pub at_among : {X : Type 0} (xs : List X) (i : ℕ) (d : X) → i < length xs �
 at_among [] i d within = absurd (omega (arith, within))
 at_among (x ∷ xs) zero d within = inl refl
 at_among (x ∷ xs) (suc i) d within = inr (at_among xs i d (omega (arith, within)))
-
-pub same_at : {X : Type 0} (xs : List X) (i : ℕ) (d e : X) → i < length xs → get_or xs i d ≡ get_or xs i e
-same_at [] i d e within = absurd (omega (arith, within))
-same_at (x ∷ xs) zero d e within = refl
-same_at (x ∷ xs) (suc i) d e within = same_at xs i d e (omega (arith, within))
 
 pub all_taken : {X : Type 0} (P : X → Type 0) (xs : List X) (n : ℕ) → length xs ≤ n → All P (take n xs) → All P xs
 all_taken P [] n long each = All-nil P

@@ -29,7 +29,7 @@ at_place xs i x at =
     ∙ ap (slice_get xs) (let e : i + 0 + 1 - 1 ≡ i = omega arith in e) ∙ at
 
 -- what a list of images has there is the image of what the list has
-image_at : {A B : Type 0} (f : A → B) (xs : List A) (i : ℕ) (x : A) → slice_get xs i ≡ Some x → slice_get (map f xs) i ≡ Some (f x)
+pub image_at : {A B : Type 0} (f : A → B) (xs : List A) (i : ℕ) (x : A) → slice_get xs i ≡ Some x → slice_get (map f xs) i ≡ Some (f x)
 image_at f xs i x at = slice_get-map f xs i ∙ ap (option_map f) at
 
 -- one node

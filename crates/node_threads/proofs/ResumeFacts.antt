@@ -1,22 +1,16 @@
 -- A world that was resumed from records may run with these.
-use Rattle.std.proofs.Common.{◌≡◌, ℕ, ◌+◌, ◌-◌, ◌<◌, ◌≤◌, cond, List, [], ◌∷◌, ◌++◌, length, get_or, map, slice_get, Some, None, ◌⊎◌, inl, inr, sym, ◌∙◌, ap, arith}
+use Rattle.std.proofs.Common.{◌≡◌, ℕ, ◌+◌, ◌-◌, ◌<◌, ◌≤◌, List, [], ◌∷◌, ◌++◌, length, get_or, map, slice_get, Some, None, ◌⊎◌, inl, inr, sym, ◌∙◌, ap, arith}
 use Rattle.std.specs.Option.{option_map}
-use Rattle.std.proofs.lemmas.Bool.{ne_eqb}
 use Rattle.std.proofs.lemmas.List.{same_lists, length-map}
 use Rattle.std.proofs.lemmas.Option.{slice_get-map, slice_get_cases, get_or_from_slice_get}
 use Rattle.stable_record.specs.declared.node_records.NodeRecord.{NodeRecord}
 use Rattle.stable_record.specs.Records.{node_record_of, client_record_of}
 use Rattle.world_model.specs.ExactWorlds.{numbered}
+use Rattle.world_model.specs.Numbered.{numbered-next}
 use Rattle.world_opening.specs.Openings.{IsEach, NodeFinds, ClientFinds, station_in, stations_in}
 use Rattle.node_threads.specs.Conditions.{finds_station, finds_attempt}
 use Rattle.node_threads.specs.Laws.{ResumedMayRun, finds_each}
 use Rattle.node_threads.proofs.Returned.{image_of_image}
-
--- what has the next number stands at a place, counted from 0
-number_at : {A : Type 0} (xs : List A) (i : ℕ) → numbered xs (i + 1) ≡ slice_get xs i
-number_at xs i =
-    ap (λ b. cond b None (slice_get xs (i + 1 - 1))) (ne_eqb (i + 1) 0 (λ z. absurd (omega arith)))
-    ∙ ap (slice_get xs) (let e : i + 1 - 1 ≡ i = omega arith in e)
 
 -- where each of these is spelled by the bytes of its number, the bytes are their spellings
 spelled_each : {A : Type 0} (spell : A → List ℕ) (P : ℕ → A → Type 0) (found : List (List ℕ)) (all : List A) → IsEach (length found) P all → ((n : ℕ) (a : A) → P n a → numbered found n ≡ Some (spell a)) → found ≡ map spell all
@@ -31,7 +25,7 @@ spelled_each spell P found all is spelled = same_lists found (map spell all) cou
         go : ((x : _) × (k < length all) × (slice_get all k ≡ Some x) × (get_or all k x ≡ x)) ⊎ ((length all ≤ k) × (slice_get all k ≡ None)) → get_or found k d ≡ get_or (map spell all) k d
         go (inr h) = absurd (let e = is.count_is in omega (arith, h.0, e, below))
         go (inl h) =
-            let there : slice_get found k ≡ Some (spell h.0) = sym (number_at found k) ∙ spelled (k + 1) h.0 (is.each (k + 1) h.0 (number_at all k ∙ h.2)) in
+            let there : slice_get found k ≡ Some (spell h.0) = sym (numbered-next found k) ∙ spelled (k + 1) h.0 (is.each (k + 1) h.0 (numbered-next all k ∙ h.2)) in
             let image : slice_get (map spell all) k ≡ Some (spell h.0) = slice_get-map spell all k ∙ ap (option_map spell) h.2 in
             get_or_from_slice_get found k (spell h.0) d there ∙ sym (get_or_from_slice_get (map spell all) k (spell h.0) d image)
 

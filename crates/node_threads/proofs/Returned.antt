@@ -5,13 +5,14 @@ use Rattle.std.proofs.lemmas.List.Elements.{All-map}
 use Rattle.std.specs.Prelude.{IfNone}
 use Rattle.lock_messages.specs.declared.ids.Actor.TheVariants as actor
 use Rattle.lock_model.specs.Decisions.{Among}
+use Rattle.lock_model.proofs.GrantFacts.{among-right}
 use Rattle.event_recorders.specs.declared.faults.RunFault.{RunFault}
 use Rattle.event_recorders.specs.OwnLogs.{FindsItsOwn}
 use Rattle.world_model.specs.declared.exact.ExactWorld.{ExactWorld}
 use Rattle.world_model.specs.Parts.{Part, part}
 use Rattle.history_book.specs.Books.{BookValue, BerthValue, Known, own_part}
 use Rattle.node_threads.specs.Sessions.{FindsBy, IsSessionEnd, IsUntold, RestsBy, RestsWith, AreRecords}
-use Rattle.node_threads.proofs.Amongst.{all_among, from_among, among_behind}
+use Rattle.node_threads.proofs.Amongst.{all_among, from_among}
 use Rattle.node_threads.proofs.Telling.{Told, told, told_among}
 
 -- the image of an image
@@ -52,4 +53,4 @@ module _ {X : Type 0} (client : X → ℕ) (fault : X → Option RunFault) (bert
       go e there untold tied None well rests = rests_there b (client e) (berth e) (finds e) tied (subst (λ (o : Option RunFault). IfNone o (RestsBy (client e) (berth e) (finds e))) well rests)
       go e there untold tied (Some f) faulty rests =
           let qs = filter_map (λ x. told (actor.Client (client x)) (fault x)) ends in
-          absurd (untold f (subst (λ (ps : List Told). Among (actor.Client (client e), f) ps) (sym is) (among_behind (actor.Client (client e), f) before qs (told_among client fault e f ends there faulty))))
+          absurd (untold f (subst (λ (ps : List Told). Among (actor.Client (client e), f) ps) (sym is) (among-right (actor.Client (client e), f) before qs (told_among client fault e f ends there faulty))))

@@ -4,8 +4,9 @@ use Rattle.std.specs.List.{All, range_with_len}
 use Rattle.std.proofs.lemmas.List.{map-append}
 use Rattle.std.proofs.lemmas.List.Elements.{All-nil, All-push, All-head, All-tail, All-weaker}
 use Rattle.lock_model.specs.Decisions.{Among}
+use Rattle.lock_model.proofs.GrantFacts.{among-right, among-left}
 use Rattle.node_threads.specs.Sessions.{AreDivided}
-use Rattle.node_threads.proofs.Amongst.{all_among, from_among, among_map, among_behind, among_front}
+use Rattle.node_threads.proofs.Amongst.{all_among, from_among, among_map}
 use Rattle.node_threads.proofs.Orders.{range_among}
 use Rattle.node_threads.proofs.Places.{one_more_named}
 
@@ -14,10 +15,10 @@ more : {X : Type 0} (f : X → ℕ) (xs xs' : List X) (x : X) → xs' ≡ xs ++ 
 more f xs xs' x is = ap (map f) is ∙ map-append f xs (x ∷ [])
 
 grown : {X : Type 0} (f : X → ℕ) (xs xs' : List X) (x : X) (n : ℕ) → xs' ≡ xs ++ x ∷ [] → Among n (map f xs) → Among n (map f xs')
-grown f xs xs' x n is there = subst (λ l. Among n l) (sym (more f xs xs' x is)) (among_front n (map f xs) (f x ∷ []) there)
+grown f xs xs' x n is there = subst (λ l. Among n l) (sym (more f xs xs' x is)) (among-left n (map f xs) (f x ∷ []) there)
 
 joined : {X : Type 0} (f : X → ℕ) (xs xs' : List X) (x : X) (n : ℕ) → xs' ≡ xs ++ x ∷ [] → n ≡ f x → Among n (map f xs')
-joined f xs xs' x n is same = subst (λ l. Among n l) (sym (more f xs xs' x is)) (among_behind n (map f xs) (f x ∷ []) (inl same))
+joined f xs xs' x n is same = subst (λ l. Among n l) (sym (more f xs xs' x is)) (among-right n (map f xs) (f x ∷ []) (inl same))
 
 -- each number is one of a session, of an end, or of a task that is left
 abbrev pub Spread : List ℕ → List ℕ → List ℕ → List ℕ → Type 0

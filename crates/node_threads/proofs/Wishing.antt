@@ -8,6 +8,7 @@ use Rattle.berth_seats.specs.Views.{TableId}
 use Rattle.lock_messages.specs.declared.ids.Actor.{Actor}
 use Rattle.lock_messages.specs.declared.ids.Actor.TheVariants as actor
 use Rattle.lock_model.specs.Decisions.{Among}
+use Rattle.lock_model.proofs.GrantFacts.{among-right}
 use Rattle.world_model.specs.declared.events.Effect.{Effect}
 use Rattle.world_model.specs.declared.events.Event.{Event}
 use Rattle.world_model.specs.declared.exact.ExactWorld.{ExactWorld}
@@ -24,7 +25,7 @@ use Rattle.node_threads.specs.declared.ends.ClientEnd.{ClientEnd}
 use Rattle.node_threads.specs.Ends.{IsClientEnd, AreClientEnds, with_wishes, client_in, client_fault}
 use Rattle.node_threads.specs.Tasks.{own_wishes}
 use Rattle.node_threads.specs.Wishes.{log_in, DidAsWished, AllDidAsWished}
-use Rattle.node_threads.proofs.Amongst.{all_among, among_behind}
+use Rattle.node_threads.proofs.Amongst.{all_among}
 use Rattle.node_threads.proofs.Telling.{same_parts, told_among}
 
 -- what holds of the ones holds of the others, by what they have in common
@@ -91,7 +92,7 @@ did w b wishes faults clients before e c opening told there num ends known own =
     so : ((f : RunFault) → Among (actor.Client c, f) faults → ⊥) → (P : Type 0) → IfNone e.fault P → (o : Option RunFault) → e.fault ≡ o → P
     so none P well None is = subst (λ (o : Option RunFault). IfNone o P) is well
     so none P well (Some f) is =
-        let among : Among (actor.Client e.client, f) faults = subst (λ (ps : List (Actor × RunFault)). Among (actor.Client e.client, f) ps) (sym told) (among_behind (actor.Client e.client, f) before (filter_map client_fault clients) (told_among (λ (x : ClientEnd). x.client) (λ x. x.fault) e f clients there is)) in
+        let among : Among (actor.Client e.client, f) faults = subst (λ (ps : List (Actor × RunFault)). Among (actor.Client e.client, f) ps) (sym told) (among-right (actor.Client e.client, f) before (filter_map client_fault clients) (told_among (λ (x : ClientEnd). x.client) (λ x. x.fault) e f clients there is)) in
         absurd (none f (subst (λ n. Among (actor.Client n, f) faults) num among))
 
 -- the ends of all clients' tasks

@@ -31,14 +31,6 @@ abbrev pub HeadSoFar : Option (List ℕ) → Option (List ℕ) → List ℕ → 
 HeadSoFar None left head = Unit {0}
 HeadSoFar (Some xs) left head = KnownLeft left (λ ys. parts_at_dashes (pieces xs) ≡ behind head (parts_at_dashes (pieces ys)))
 
-behind_none : (p : Parts) → p ≡ behind [] p
-behind_none None = refl
-behind_none (Some parts) = refl
-
-pub head_begins : (left : Option (List ℕ)) → HeadSoFar left left []
-head_begins None = tt
-head_begins (Some xs) = behind_none (parts_at_dashes (pieces xs))
-
 behind_line : (head p : List ℕ) (rest : Parts) → behind head (with_line p rest) ≡ behind (head ++ p ++ codes "\n") rest
 behind_line head p None = refl
 behind_line head p (Some parts) = ap (λ (h : List ℕ). Some (h, parts.1)) (sym (append_assoc head (p ++ codes "\n") parts.0) ∙ ap (λ (h : List ℕ). h ++ parts.0) (sym (append_assoc head p (codes "\n"))))

@@ -1,7 +1,7 @@
 -- Raising the actors, one after another.
 use Rattle.std.proofs.Common.{◌≡◌, ℕ, zero, suc, ◌+◌, ◌-◌, ◌<◌, ◌==◌, false, cond, List, [], ◌∷◌, ◌++◌, length, map, replicate, slice_get, slice_set, Some, None, refl, sym, ap, ◌∙◌, arith, append_assoc, length-append}
 use Rattle.std.proofs.Math.Seq.{get_or-append_seam, set-append_seam}
-use Rattle.std.proofs.lemmas.List.{append-nil, length-replicate, replicate-append-replicate}
+use Rattle.std.proofs.lemmas.List.{length-replicate, replicate-append-replicate}
 use Rattle.std.proofs.lemmas.Option.{slice_get-get_or}
 use Rattle.std.proofs.lemmas.Bool.Decides.{nat_tests}
 use Rattle.lock_model.specs.Ballots.{node_count}
@@ -15,7 +15,7 @@ use Rattle.world_model.specs.ExactClients.{client_rises_in}
 use Rattle.world_model.specs.ExactWorlds.{numbered, step, after, by_actor, world_after, with_node_at, with_client_at}
 use Rattle.world_model.specs.Openings.{down_node, down_client, empty_station, opening}
 use Rattle.operator_cli.specs.declared.settings.Settings.{Settings}
-use Rattle.operator_cli.specs.Openings.{risen_node, risen_client, all_risen}
+use Rattle.operator_cli.specs.Openings.{risen_node, risen_client}
 use Rattle.operator_cli.specs.PartOutputs.{rising}
 
 -- so many have risen, of so many
@@ -47,17 +47,11 @@ next_rises up down n k h =
     ap (λ j. slice_set (risen_of up down n k) j up) (behind ∙ sym size) ∙ ap (λ j. slice_set (xs ++ replicate j down) (length xs) up) more
     ∙ set-append_seam xs down ys up ∙ sym (append_assoc xs (up ∷ []) ys) ∙ ap (λ zs. zs ++ ys) (replicate-append-replicate k 1 up)
 
--- none is left that is down
-all_rose : {A : Type 0} (up down : A) (n : ℕ) → risen_of up down n n ≡ replicate n up
-all_rose up down n =
-    let none : n - n ≡ 0 = omega arith in
-    ap (λ j. replicate n up ++ replicate j down) none ∙ append-nil (replicate n up)
-
 -- none has risen
 none_rose : {A : Type 0} (up down : A) (n : ℕ) → replicate n down ≡ risen_of up down n 0
 none_rose up down n = let all : n ≡ n - 0 = omega arith in ap (λ j. replicate j down) all
 
-map_same : {A B : Type 0} (f : A → B) (n : ℕ) (x : A) → map f (replicate n x) ≡ replicate n (f x)
+pub map_same : {A B : Type 0} (f : A → B) (n : ℕ) (x : A) → map f (replicate n x) ≡ replicate n (f x)
 map_same f zero x = refl
 map_same f (suc n) x = ap (λ ys. f x ∷ ys) (map_same f n x)
 
@@ -86,10 +80,4 @@ begins_down s =
     let down = down_node (empty_station s.problem) in
     let nodes = ap (map down_node) (map_same empty_station n s.problem) ∙ map_same down_node n (empty_station s.problem) ∙ none_rose (risen_node s.problem) down n in
     let clients = map_same down_client s.clients 0 ∙ none_rose risen_client (down_client 0) s.clients in
-    λ i. record { ballots = s.ballots; nodes = nodes i; clients = clients i; sent = [] }
-
-pub ends_risen : (s : Settings) → rising s (node_count s.ballots) s.clients ≡ all_risen s
-ends_risen s =
-    let nodes = all_rose (risen_node s.problem) (down_node (empty_station s.problem)) (node_count s.ballots) in
-    let clients = all_rose risen_client (down_client 0) s.clients in
     λ i. record { ballots = s.ballots; nodes = nodes i; clients = clients i; sent = [] }

@@ -3,6 +3,7 @@ use Rattle.std.proofs.Common.{◌≡◌, ℕ, ◌+◌, ◌<◌, Bool, true, fals
 use Rattle.std.specs.Io.KnownBytes.{Appends, Keeps}
 use Rattle.std.proofs.lemmas.List.{append-nil}
 use Rattle.std.proofs.lemmas.Bool.Decides.{nat_tests}
+use Rattle.std.proofs.KnownBytes.{Appends-trans, Appends-kept}
 use Rattle.world_model.specs.declared.exact.ExactWorld.{ExactWorld}
 use Rattle.history_check.specs.declared.faults.LineFault.{LineFault}
 use Rattle.history_check.specs.declared.faults.LineFault.TheVariants as bad
@@ -14,7 +15,7 @@ use Rattle.line_streams.specs.declared.reading.End.TheVariants.{LineFeed, Input,
 use Rattle.history_check.specs.Faults.{line_fault_number}
 use Rattle.history_check.specs.Lines.{line_of as said_in}
 use Rattle.operator_cli.specs.Lines.{line_of}
-use Rattle.line_streams.specs.Streams.{is_last, ends_no_line, lines_in, pieces, KnownLeft, EndsPiece, ReadsPiece, AppendsBeginning, Grows}
+use Rattle.line_streams.specs.Streams.{is_last, ends_no_line, lines_in, pieces, KnownLeft, EndsPiece, ReadsPiece, AppendsBeginning}
 use Rattle.operator_cli.specs.Outputs.{Told, Output, told, before, line_output, lines_output, Writes}
 use Rattle.operator_cli.specs.PartOutputs.{status_of, WritesAnswer, WritesLines}
 use Rattle.operator_cli.specs.Texts.{line_fault_text}
@@ -33,41 +34,15 @@ abbrev pub SoFar : ExactWorld → Option (List ℕ) → Option (List ℕ) → Op
 SoFar w None left old out refused v number = Unit {0}
 SoFar w (Some xs) left old out refused v number = KnownLeft left (λ ys. After w xs old out refused v number (lines_in (pieces ys)))
 
-pub appends_nothing : (o : Option (List ℕ)) → Appends o o []
-appends_nothing None = tt
-appends_nothing (Some xs) = sym (append-nil xs)
-
-pub appends_both : (old mid new : Option (List ℕ)) (a b : List ℕ) → Appends old mid a → Appends mid new b → Appends old new (a ++ b)
-appends_both None mid new a b p q = tt
-appends_both (Some xs) None new a b p q = absurd p
-appends_both (Some xs) (Some ys) None a b p q = absurd q
-appends_both (Some xs) (Some ys) (Some zs) a b p q = q ∙ ap (λ (bs : List ℕ). bs ++ b) p ∙ append_assoc xs a b
-
-pub grows_on : (old mid new : Option (List ℕ)) → Grows old mid → Grows mid new → Grows old new
-grows_on old mid new p q = (p.0 ++ q.0, appends_both old mid new p.0 q.0 p.1 q.1)
-
-appends_kept : (old mid new : Option (List ℕ)) (text : List ℕ) → Appends old mid text → Keeps mid new → Appends old new text
-appends_kept None mid new text p q = tt
-appends_kept (Some xs) None new text p q = absurd p
-appends_kept (Some xs) (Some ys) None text p q = absurd q
-appends_kept (Some xs) (Some ys) (Some zs) text p q = q ∙ p
-
 -- what is gathered was let out
 pub so_far_kept : (w v : ExactWorld) (old left out mid new : Option (List ℕ)) (refused : Bool) (number : ℕ) → SoFar w old left out mid refused v number → Keeps mid new → SoFar w old left out new refused v number
 so_far_kept w v None left out mid new refused number h k = tt
 so_far_kept w v (Some xs) None out mid new refused number h k = absurd h
-so_far_kept w v (Some xs) (Some ys) out mid new refused number h k = let (text, a, e) = h in (text, appends_kept out mid new text a k, e)
-
-pub begins : (w : ExactWorld) (left out : Option (List ℕ)) → SoFar w left left out out false w 1
-begins w None out = tt
-begins w (Some xs) out = ([], appends_nothing out, refl)
+so_far_kept w v (Some xs) (Some ys) out mid new refused number h k = let (text, a, e) = h in (text, Appends-kept out mid new text a k, e)
 
 -- what is said of a copy of bytes is said of them
 pub same_said : (piece text : List ℕ) (says : Result Line LineFault) → text ≡ piece → line_of text ≡ says → line_of piece ≡ says
 same_said piece text says same e = ap line_of (sym same) ∙ e
-
-pub same_line : (end : End) (piece text : List ℕ) (b : Bool) → text ≡ piece → ends_no_line end text ≡ b → ends_no_line end piece ≡ b
-same_line end piece text b same e = ap (ends_no_line end) (sym same) ∙ e
 
 too_long : (line : List ℕ) → MAX_LINE_LEN < length line → line_of line ≡ Err bad.Words
 unfolding line_of said_in
@@ -108,12 +83,12 @@ always_one false = refl
 ends_with : (o : Output) (old out new : Option (List ℕ)) (text last : List ℕ) (refused : Bool) (r : Result ℕ ServeFault) → Appends old out text → o ≡ onto text refused (record { text = last; status = 1 })
     → Writes (record { text = last; status = 1 }) out new r → Writes o old new r
 ends_with o old out new text last refused (Ok status) a e h = (
-  subst (λ (bs : List ℕ). Appends old new bs) (sym (ap (λ (p : Output). p.text) e)) (appends_both old out new text last a h.0),
+  subst (λ (bs : List ℕ). Appends old new bs) (sym (ap (λ (p : Output). p.text) e)) (Appends-trans old out new text last a h.0),
   h.1 ∙ sym (always_one refused) ∙ sym (ap (λ (p : Output). p.status) e),
 )
 ends_with o old out new text last refused (Err f) a e h =
     let (front, back, cut, b) = h in
-    (text ++ front, back, ap (λ (p : Output). p.text) e ∙ ap (λ (bs : List ℕ). text ++ bs) cut ∙ sym (append_assoc text front back), appends_both old out new text front a b)
+    (text ++ front, back, ap (λ (p : Output). p.text) e ∙ ap (λ (bs : List ℕ). text ++ bs) cut ∙ sym (append_assoc text front back), Appends-trans old out new text front a b)
 
 -- it ends before its time
 breaks_off : (o : Output) (old out new : Option (List ℕ)) (text next : List ℕ) (refused : Bool) (rest : Output) → Appends old out text → o.text ≡ text ++ (next ++ rest.text) → AppendsBeginning out new next
@@ -123,7 +98,7 @@ breaks_off o old out new text next refused rest a e h =
       text ++ front,
       back ++ rest.text,
       e ∙ ap (λ (bs : List ℕ). text ++ (bs ++ rest.text)) cut ∙ ap (λ (bs : List ℕ). text ++ bs) (append_assoc front back rest.text) ∙ sym (append_assoc text front (back ++ rest.text)),
-      appends_both old out new text front a b,
+      Appends-trans old out new text front a b,
     )
 
 -- what the loop does
@@ -190,7 +165,7 @@ told_one w v u xs out mid new refused now number lines l more x h g k p =
     let t = told v x in
     let o = lines_output w 1 (lines_in (pieces xs)) in (
       text ++ t.text,
-      appends_both out mid new text t.text a p.0,
+      Appends-trans out mid new text t.text a p.0,
       good_output o text refused v number lines l more x e g k ∙ onto_before text refused t (lines_output t.world (number + 1) more)
           ∙ ap (λ (b : Bool). onto (text ++ t.text) (refused || b) (lines_output t.world (number + 1) more)) (sym p.1)
           ∙ ap (λ (z : ExactWorld). onto (text ++ t.text) (refused || now) (lines_output z (number + 1) more)) (sym p.2),

@@ -5,8 +5,9 @@ use Rattle.std.specs.Global.{Global}
 use Rattle.std.specs.Io.KnownBytes.{Appends}
 use Rattle.std.proofs.lemmas.Bool.{leb-true, leb-false}
 use Rattle.std.proofs.lemmas.List.{append-nil, append_cancel_left}
+use Rattle.std.proofs.KnownBytes.{Appends-nil}
 use Rattle.world_model.specs.declared.exact.ExactWorld.{ExactWorld}
-use Rattle.operator_cli.specs.Openings.{all_risen, all_down}
+use Rattle.operator_cli.specs.Openings.{all_down}
 use Rattle.operator_cli.specs.declared.faults.ServeFault.{ServeFault}
 use Rattle.operator_cli.specs.declared.faults.ServeFault.TheVariants as fault
 use Rattle.operator_cli.specs.declared.faults.SettingsFault.{SettingsFault}
@@ -26,11 +27,9 @@ use Rattle.operator_cli.specs.declared.settings.Start.{Start}
 use Rattle.operator_cli.specs.Settings.{Given, given, settings_of, Refuses}
 use Rattle.history_check.specs.declared.faults.LineFault.{LineFault}
 use Rattle.lossy_link.specs.declared.faults.WeatherFault.{WeatherFault}
-use Rattle.line_streams.specs.Streams.{pieces, lines_in, AppendsBeginning, Grows, LetsOut, with_gathered}
-use Rattle.operator_cli.specs.Outputs.{Output, output_of, opened, start_of, with_lines, head_of, lines_output, settings_output, command_output, verdict_output, verdict_status, refusal_output, refused_ballot_output, refused_output, KeepsLimit, IsLimited, IsLimitedIn, IsCommonFault, MayEndBy, Writes, Serves}
-use Rattle.operator_cli.specs.Texts.{ballots_text}
+use Rattle.line_streams.specs.Streams.{pieces, lines_in, AppendsBeginning, Grows, with_gathered}
+use Rattle.operator_cli.specs.Outputs.{Output, output_of, opened, start_of, with_lines, head_of, lines_output, settings_output, command_output, verdict_output, verdict_status, refusal_output, refused_ballot_output, refused_output, KeepsLimit, IsLimited, IsLimitedIn, IsCommonFault, MayEndBy, Prints, Writes, Serves}
 use Rattle.operator_cli.specs.PartOutputs.{FindsHead, Starts, RefusesStart, WritesLines, WritesBehind, WritesVerdict, Finishes}
-use Rattle.operator_cli.proofs.ScriptFacts.{appends_nothing}
 
 no_head : (c : Command) (xs : List ℕ) (e : SettingsFault) → Refuses e (head_of (pieces xs)) → Refuses e (opened c xs)
 unfolding opened
@@ -79,7 +78,7 @@ refused c (Some xs) (Some ys) head text e h same r =
 
 -- nothing was written
 nothing_yet : (o : Output) (old new : Option (List ℕ)) → new ≡ old → AppendsBeginning old new o.text
-nothing_yet o old new e = ([], o.text, refl, subst (λ (n : Option (List ℕ)). Appends old n []) (sym e) (appends_nothing old))
+nothing_yet o old new e = ([], o.text, refl, subst (λ (n : Option (List ℕ)). Appends old n []) (sym e) (Appends-nil old))
 
 -- an audit may end by each fault
 pub any_fault : (r : Result ℕ ServeFault) → IfErr r (MayEndBy command.Audit)
@@ -174,11 +173,20 @@ by_fault c xs old new (settings.Weather f) r h p = refusal_told c xs (settings.W
 by_fault c xs old new (settings.Wish f) r h p = refusal_told c xs (settings.Wish f) old new r h p
 by_fault c xs old new settings.Memory r h p = memory_told c xs old new r p
 
+-- what nothing but the writer can cut short is written as any output is
+pub printed : (o : Output) (old new : Option (List ℕ)) (r : Result ℕ ServeFault) → Prints o old new r → Writes o old new r
+printed o old new (Ok status) h = h
+printed o old new (Err e) h = let (front, back, cut, some, begun) = h.1 in (front, back, cut, begun)
+
+pub fails_writing : (o : Output) (old new : Option (List ℕ)) (r : Result ℕ ServeFault) → Prints o old new r → IfErr r IsCommonFault
+fails_writing o old new (Ok status) h = tt
+fails_writing o old new (Err e) h = subst IsCommonFault (sym h.0) tt
+
 pub serves_refusal : (c : Command) (input left old new : Option (List ℕ)) (f : StartFault) (r : Result ℕ ServeFault) → Starts c input left (Err f) → RefusesStart c f old new r → Serves c input old new r
 serves_refusal c None left old new f r h p = tt
 serves_refusal c (Some xs) left old new start.Read r h p =
     subst (λ (q : Result ℕ ServeFault). Serves c (Some xs) old new q) (sym p.0) (serves_nothing c (Some xs) old new fault.Read tt p.1)
-serves_refusal c (Some xs) left old new (start.Settings e) r h p = by_fault c xs old new e r h p
+serves_refusal c (Some xs) left old new (start.Settings e) r h p = by_fault c xs old new e r h (printed (refused_output c e) old new r p)
 
 -- what is written for the settings and the lines behind them is the output
 pub serves_behind : (c : Command) (input left old new : Option (List ℕ)) (s : Start) (r : Result ℕ ServeFault) → Starts c input left (Ok s) → WritesBehind c s.settings left old new r → Serves c input old new r
@@ -187,22 +195,6 @@ serves_behind c None left old new s r h p = tt
 serves_behind c (Some xs) None old new s r h p = absurd h
 serves_behind c (Some xs) (Some ys) old new s r h p =
     inl (subst (λ (o : Output). Writes o old new r) (sym (ap (command_output c) h)) p.0, subst (λ (o : Result (Given × List (List ℕ)) SettingsFault). IsLimitedIn c o r) (sym h) p.1)
-
--- the lines of a script are told from the world in which all have risen
-pub lines_behind : (s : Settings) (w : ExactWorld) (left old new : Option (List ℕ)) (r : Result ℕ ServeFault) → w ≡ all_risen s → WritesLines w left old new r → WritesBehind command.Script s left old new r
-lines_behind s w None old new r e p = tt
-lines_behind s w (Some xs) old new r e p = (subst (λ (v : ExactWorld). Writes (lines_output v 1 (lines_in (pieces xs))) old new r) e p, tt)
-
--- the verdict is that from the world in which all are down
-pub verdict_behind : (s : Settings) (w : ExactWorld) (left old new : Option (List ℕ)) (r : Result ℕ ServeFault) → w ≡ all_down s → WritesVerdict w left old new r → WritesBehind command.Audit s left old new r
-verdict_behind s w None old new r e p = tt
-verdict_behind s w (Some xs) old new r e p =
-    subst (λ (v : ExactWorld). Writes (verdict_output (verdict_of v (lines_in (pieces xs)))) old new r × KeepsLimit (verdict_of v (lines_in (pieces xs))) r) e p
-
--- the ballot is told, whatever the lines are
-pub ballot_behind : (s : Settings) (left old new : Option (List ℕ)) (r : Result ℕ ServeFault) → Writes (record { text = ballots_text s.ballots; status = 0 }) old new r → WritesBehind command.Ballot s left old new r
-ballot_behind s None old new r p = tt
-ballot_behind s (Some xs) old new r p = (p, tt)
 
 -- What an audit found is the verdict of the lines.
 
@@ -227,8 +219,9 @@ pub verdict_unwritten : (w : ExactWorld) (left old new : Option (List ℕ)) (f :
 verdict_unwritten w None old new f h = tt
 verdict_unwritten w (Some xs) old new audit.Read h = (nothing_yet (verdict_output (verdict_of w (lines_in (pieces xs)))) old new h, tt)
 verdict_unwritten w (Some xs) old new audit.Write h =
-    let (v, found, begun) = h in
-    (subst (λ (u : Verdict). AppendsBeginning old new (verdict_text u)) (sym (is_verdict w (lines_in (pieces xs)) v found).0) begun, tt)
+    let (v, found, part) = h in
+    let (front, back, cut, some, begun) = part in
+    (subst (λ (u : Verdict). AppendsBeginning old new (verdict_text u)) (sym (is_verdict w (lines_in (pieces xs)) v found).0) (front, back, cut, begun), tt)
 verdict_unwritten w (Some xs) old new audit.Memory h = (nothing_yet (verdict_output (verdict_of w (lines_in (pieces xs)))) old new h, tt)
 verdict_unwritten w (Some xs) old new audit.TooManyLines h = (
   nothing_yet (verdict_output (verdict_of w (lines_in (pieces xs)))) old new h.1,
@@ -276,9 +269,3 @@ finished w (Some xs) old mid new gathered came r h grown f = let_out_output (lin
 pub nothing_gathered : (w : ExactWorld) (left old new : Option (List ℕ)) (gathered : List ℕ) (r : Result ℕ ServeFault) → gathered ≡ [] → WritesLines w left (with_gathered old gathered) new r → WritesLines w left old new r
 nothing_gathered w left None new gathered r e h = h
 nothing_gathered w left (Some xs) new gathered r e h = subst (λ (bs : List ℕ). WritesLines w left (Some bs) new r) (ap (λ (bs : List ℕ). xs ++ bs) e ∙ append-nil xs) h
-
-pub lets_out_beginning : (old new : Option (List ℕ)) (gathered rest : List ℕ) → LetsOut old new gathered rest → AppendsBeginning old new gathered
-lets_out_beginning old new gathered rest h = (h.0, rest, h.1, h.2)
-
-pub lets_out_all : (old new : Option (List ℕ)) (gathered rest : List ℕ) → LetsOut old new gathered rest → rest ≡ [] → Appends old new gathered
-lets_out_all old new gathered rest h e = subst (λ (bs : List ℕ). Appends old new bs) (sym (h.1 ∙ ap (λ (bs : List ℕ). h.0 ++ bs) e ∙ append-nil h.0)) h.2

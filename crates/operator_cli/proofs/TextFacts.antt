@@ -1,7 +1,7 @@
 -- Texts that are put together part by part.
 use Rattle.std.proofs.Common.{◌≡◌, ℕ, zero, suc, ◌+◌, ◌-◌, ◌<◌, ◌≤◌, List, [], ◌∷◌, ◌++◌, take, length, sym, ap, ◌∙◌, arith, append_assoc}
 use Rattle.std.specs.List.{flat_map, range_with_len}
-use Rattle.std.proofs.lemmas.List.{append-nil, take_more, take_all}
+use Rattle.std.proofs.lemmas.List.{append-nil, take_more}
 use Rattle.std.proofs.lemmas.List.Concat.{flat_map-append}
 use Rattle.lock_model.specs.Ballots.{Ballot, HasPlace, ballot_at, no_ballot}
 use Rattle.operator_cli.specs.Texts.{ballot_text, ballots_text}
@@ -38,6 +38,3 @@ pub ballots_more : (ballots : List Ballot) (place : ℕ) (b : Ballot) (front tex
 ballots_more ballots place b front text new placed is e g =
     g ∙ ap (λ (bs : List ℕ). bs ++ ballot_text b) e ∙ append_assoc front (ballots_text (take (place - 1) ballots)) (ballot_text b)
     ∙ ap (λ (bs : List ℕ). front ++ bs) (sym (ballot_more ballots place b placed is))
-
-pub all_ballots : (ballots : List Ballot) (place : ℕ) (front text : List ℕ) → text ≡ front ++ ballots_text (take (place - 1) ballots) → length ballots ≤ place - 1 → text ≡ front ++ ballots_text ballots
-all_ballots ballots place front text e all = e ∙ ap (λ (bs : List Ballot). front ++ ballots_text bs) (take_all (place - 1) ballots all)

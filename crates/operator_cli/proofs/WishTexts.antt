@@ -12,20 +12,18 @@ use Rattle.history_check.specs.declared.wishes.Wish.{Wish}
 use Rattle.history_check.specs.declared.words.TheConstants.{MAX_LINE_LEN}
 use Rattle.history_check.specs.Lines.{◌>>=◌, AName, APlace, Arguments, IsPlace, between, words, spelled, lettered, client_word, wish_mode_word, name_word, behind_first, place_word, values_in}
 use Rattle.history_check.specs.Wishes.{use_kinds, wished, client_among, words_wish, wish_among}
+use Rattle.history_check.proofs.WordFacts.{never_ok}
 
 -- what is answered behind a part was answered by it
 behind : {A B : Type 0} (r : Result A LineFault) (f : A → Result B LineFault) (y : B) → r >>= f ≡ Ok y → (x : A) × (r ≡ Ok x) × (f x ≡ Ok y)
 behind (Ok x) f y h = (x, refl, h)
 behind (Err e) f y h = let clash : Err e ≡ Ok y = h in cc
 
-no_fault : {A P : Type 0} (e : LineFault) (y : A) → Err e ≡ Ok y → P
-no_fault e y h = absurd (let clash : Err e ≡ Ok y = h in cc)
-
 -- clients
 
 by_number : (b : Bool) (n clients c : ℕ) → nat_le n clients ≡ b → cond b (Ok n) (Err fault.Actor) ≡ Ok c → c ≤ clients
 by_number true n clients c e h = let same : n ≡ c = (let s : Ok n ≡ Ok c = h in cc) in subst (λ k. k ≤ clients) same (leb-true n clients e)
-by_number false n clients c e h = no_fault fault.Actor c h
+by_number false n clients c e h = never_ok fault.Actor c h
 
 client_within : (clients : ℕ) (word : List ℕ) (c : ℕ) → client_among clients word ≡ Ok c → c ≤ clients
 client_within clients word c h =
@@ -57,11 +55,11 @@ lettered_within [] n h = absurd (let clash : None ≡ Some n = h in cc)
 lettered_within (b ∷ digits) n h = behind_letter (b == 98) digits n h
 
 not_first : (b : Bool) (q p : ℕ) → IsPlace q → cond b (Err fault.Number) (Ok q) ≡ Ok p → IsPlace p
-not_first true q p i h = no_fault fault.Number p h
+not_first true q p i h = never_ok fault.Number p h
 not_first false q p i h = let same : q ≡ p = (let s : Ok q ≡ Ok p = h in cc) in subst IsPlace same i
 
 place_at : (word : List ℕ) (o : Option ℕ) (p : ℕ) → lettered 98 MAX_BALLOTS word ≡ o → behind_first o ≡ Ok p → IsPlace p
-place_at word None p e h = no_fault fault.Number p h
+place_at word None p e h = never_ok fault.Number p h
 place_at word (Some q) p e h = not_first (q == 1) q p (lettered_within word q e) h
 
 last_within : (ws : List (List ℕ)) (a : Arguments (APlace ∷ [])) → values_in (APlace ∷ []) ws ≡ Ok a → IsPlace a.0
@@ -77,7 +75,7 @@ last_within (w ∷ ws) a h =
     subst (λ (b : Arguments (APlace ∷ [])). IsPlace b.0) same (place_at w (lettered 98 MAX_BALLOTS w) p refl e)
 
 name_first : (ws : List (List ℕ)) (a : Arguments (AName ∷ APlace ∷ [])) → values_in (AName ∷ APlace ∷ []) ws ≡ Ok a → IsPlace a.1.0
-name_first [] a h = no_fault fault.Words a h
+name_first [] a h = never_ok fault.Words a h
 name_first (w ∷ ws) a h =
     let (x, e, k) = behind (name_word w) (λ x. values_in (APlace ∷ []) ws >>= (λ xs. Ok (x, xs))) a h in
     let (xs, f, l) = behind (values_in (APlace ∷ []) ws) (λ xs. Ok (x, xs)) a k in
@@ -86,7 +84,7 @@ name_first (w ∷ ws) a h =
     subst (λ (b : Arguments (AName ∷ APlace ∷ [])). IsPlace b.1.0) same (last_within ws xs f)
 
 use_within : (ws : List (List ℕ)) (a : Arguments use_kinds) → values_in use_kinds ws ≡ Ok a → IsPlace a.1.1.0
-use_within [] a h = no_fault fault.Words a h
+use_within [] a h = never_ok fault.Words a h
 use_within (w ∷ ws) a h =
     let (m, e, k) = behind (wish_mode_word w) (λ x. values_in (AName ∷ APlace ∷ []) ws >>= (λ xs. Ok (x, xs))) a h in
     let (xs, f, l) = behind (values_in (AName ∷ APlace ∷ []) ws) (λ xs. Ok (m, xs)) a k in
@@ -101,7 +99,7 @@ abbrev pub IsWithin : ℕ → Wish → Type 0
 IsWithin clients w = (w.client ≤ clients) × IsPlace w.place
 
 words_within : (clients : ℕ) (ws : List (List ℕ)) (w : Wish) → words_wish clients ws ≡ Ok w → IsWithin clients w
-words_within clients [] w h = no_fault fault.Words w h
+words_within clients [] w h = never_ok fault.Words w h
 words_within clients (c ∷ ws) w h =
     let (client, is_client, k) = behind (client_among clients c) (λ client. values_in use_kinds ws >>= (λ usage. Ok (wished client usage))) w h in
     let (usage, is_use, all) = behind (values_in use_kinds ws) (λ usage. Ok (wished client usage)) w k in
@@ -109,7 +107,7 @@ words_within clients (c ∷ ws) w h =
     subst (λ (u : Wish). IsWithin clients u) same (client_within clients c client is_client, use_within ws usage is_use)
 
 by_length : (b : Bool) (clients : ℕ) (bytes : List ℕ) (w : Wish) → cond b (Err fault.Words) (between 3 4 (words bytes) >>= (λ ws. words_wish clients ws)) ≡ Ok w → IsWithin clients w
-by_length true clients bytes w h = no_fault fault.Words w h
+by_length true clients bytes w h = never_ok fault.Words w h
 by_length false clients bytes w h =
     let (ws, counted, k) = behind (between 3 4 (words bytes)) (λ ws. words_wish clients ws) w h in
     words_within clients ws w k
@@ -117,6 +115,3 @@ by_length false clients bytes w h =
 pub within : (clients : ℕ) (bytes : List ℕ) (w : Wish) → wish_among clients bytes ≡ Ok w → IsWithin clients w
 unfolding wish_among
 within clients bytes w h = by_length (nat_lt MAX_LINE_LEN (length bytes)) clients bytes w h
-
-pub wish_within : (clients : ℕ) (bytes : List ℕ) (w : Wish) → wish_among clients bytes ≡ Ok w → w.client ≤ clients
-wish_within clients bytes w h = (within clients bytes w h).0

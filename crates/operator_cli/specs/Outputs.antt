@@ -32,7 +32,7 @@ use Rattle.operator_cli.specs.declared.orders.Command.TheVariants as command
 use Rattle.operator_cli.specs.Faults.{settings_fault_number}
 use Rattle.operator_cli.specs.Lines.{line_of}
 use Rattle.operator_cli.specs.Openings.{all_risen, all_down}
-use Rattle.line_streams.specs.Streams.{pieces, lines_in, AppendsBeginning}
+use Rattle.line_streams.specs.Streams.{pieces, lines_in, AppendsBeginning, AppendsPart}
 use Rattle.operator_cli.specs.Settings.{Given, settings_of}
 use Rattle.operator_cli.specs.Texts.{effect_text, refused_text, answer_text, line_fault_text, settings_fault_text, ballots_text}
 
@@ -170,6 +170,11 @@ output_of c input = command_output c (opened c input)
 abbrev pub Writes : Output → Option (List ℕ) → Option (List ℕ) → Result ℕ ServeFault → Type 0
 Writes o old new (Ok status) = Appends old new o.text × (status ≡ o.status)
 Writes o old new (Err e) = AppendsBeginning old new o.text
+
+-- The same where nothing but the writer can fail, and then not all was written.
+abbrev pub Prints : Output → Option (List ℕ) → Option (List ℕ) → Result ℕ ServeFault → Type 0
+Prints o old new (Ok status) = Appends old new o.text × (status ≡ o.status)
+Prints o old new (Err e) = (e ≡ serving.Write) × AppendsPart old new o.text
 
 -- the faults by which each command may end
 abbrev pub IsCommonFault : ServeFault → Type 0

@@ -1,6 +1,6 @@
 -- Parts of an output: what the functions of a run owe one another, and who reads settings himself. Who reads
 -- what `serve` promises has no need of them.
-use Rattle.std.specs.Prelude.{◌≡◌, ◌⊎◌, ℕ, ◌+◌, ◌<◌, ◌≤◌, ◌-◌, Vec, Bool, true, if◌then◌else◌, List, [], ◌++◌, replicate, length, Option, Some, None, Result, Ok, Err, IfErr}
+use Rattle.std.specs.Prelude.{◌≡◌, ◌⊎◌, ℕ, ◌+◌, ◌<◌, ◌≤◌, ◌-◌, Vec, Bool, true, if◌then◌else◌, List, [], ◌++◌, replicate, length, Option, Some, None, Result, Ok, Err}
 use Rattle.std.specs.Global.{Global}
 use Rattle.std.specs.Io.KnownBytes.{Appends, Consumes}
 use Rattle.lock_model.specs.Ballots.{node_count}
@@ -29,7 +29,7 @@ use Rattle.operator_cli.specs.Openings.{risen_node, risen_client}
 use Rattle.line_streams.specs.Streams.{pieces, lines_in, KnownLeft, ReadsPiece, AppendsBeginning}
 use Rattle.operator_cli.specs.Settings.{Refuses, given}
 use Rattle.operator_cli.specs.Texts.{refused_text}
-use Rattle.operator_cli.specs.Outputs.{Told, lines_output, settings_output, verdict_output, KeepsLimit, IsLimited, head_of, opened, refused_output, Writes}
+use Rattle.operator_cli.specs.Outputs.{Prints, Told, lines_output, settings_output, verdict_output, KeepsLimit, IsLimited, head_of, opened, refused_output, Writes}
 
 -- The world of the settings in which so many nodes, and so many clients, have risen, the first ones
 -- first, and the others are down.
@@ -117,15 +117,10 @@ Starts c (Some xs) new (Err (start.Settings e)) = Refuses e (opened c xs)
 abbrev pub TakesAtMost : ℕ → Option (List ℕ) → Option (List ℕ) → Type 0
 TakesAtMost most old new = (front : List ℕ) × (length front ≤ most) × Consumes old new front
 
--- how a run ends that has no settings
+-- How a run ends that has no settings. Refused ones are told without memory.
 abbrev pub RefusesStart : Command → StartFault → Option (List ℕ) → Option (List ℕ) → Result ℕ ServeFault → Type 0
 RefusesStart c start.Read old new r = (r ≡ Err fault.Read) × (new ≡ old)
-RefusesStart c (start.Settings e) old new r = Writes (refused_output c e) old new r
-
--- Refused settings are told without memory: only the writer may fail.
-abbrev pub FailsByWriting : StartFault → Result ℕ ServeFault → Type 0
-FailsByWriting start.Read r = Unit {0}
-FailsByWriting (start.Settings e) r = IfErr r (λ f. f ≡ fault.Write)
+RefusesStart c (start.Settings e) old new r = Prints (refused_output c e) old new r
 
 -- How a run ends that has settings, with what is left of known bytes.
 abbrev pub WritesBehind : Command → Settings → Option (List ℕ) → Option (List ℕ) → Option (List ℕ) → Result ℕ ServeFault → Type 0

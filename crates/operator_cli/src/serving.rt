@@ -7,8 +7,8 @@ ghost use Rattle.history_check.specs.Faults.{line_fault_number};
 ghost use Rattle.lossy_link.specs.Faults.{weather_fault_number};
 ghost use Rattle.operator_cli.specs.Faults.{settings_fault_number};
 ghost use Rattle.operator_cli.specs.Openings.{all_down};
-ghost use Rattle.operator_cli.specs.Outputs.{IsServed, IsCommonFault, MayEndBy, Serves, Writes, refusal_output, refused_ballot_output, refused_output, verdict_status};
-ghost use Rattle.operator_cli.specs.PartOutputs.{WritesLines, Finishes, RefusesStart, FailsByWriting, WritesBehind, WritesVerdict};
+ghost use Rattle.operator_cli.specs.Outputs.{IsServed, IsCommonFault, MayEndBy, Prints, Serves, Writes, refusal_output, refused_ballot_output, refused_output, verdict_status};
+ghost use Rattle.operator_cli.specs.PartOutputs.{WritesLines, Finishes, RefusesStart, WritesBehind, WritesVerdict};
 ghost use Rattle.operator_cli.specs.Texts.{settings_fault_text, refused_text, ballots_text};
 ghost use Rattle.operator_cli.specs.declared.faults.SettingsFault.TheVariants as settings;
 ghost use Rattle.operator_cli.specs.declared.orders.Command.TheVariants as command;
@@ -82,10 +82,9 @@ fn settings_text(fault: SettingsFault) -> &'static str
     }
 }
 
-/// Prints a text, and answers the status that goes with it.
+/// Prints a text, and answers the status that goes with it. The only fault is the writer's.
 fn print<W: Write>(text: &[u8], status: u8, writer: &mut W) -> Result<u8, ServeFault>
-    ensures told { Writes (record { text = text.now; status = status }) (W.contents writer.old) (W.contents writer.new) result }
-    ensures write { IfErr result (λ f. f ≡ ServeFault.Write) }
+    ensures { Prints (record { text = text.now; status = status }) (W.contents writer.old) (W.contents writer.new) result }
 {
     match write_text(writer, text) {
         Ok(()) => Ok(status),
@@ -95,8 +94,7 @@ fn print<W: Write>(text: &[u8], status: u8, writer: &mut W) -> Result<u8, ServeF
 
 /// Prints that settings are refused.
 fn refuse_settings<W: Write>(fault: SettingsFault, writer: &mut W) -> Result<u8, ServeFault>
-    ensures told { Writes (refusal_output fault) (W.contents writer.old) (W.contents writer.new) result }
-    ensures write { IfErr result (λ f. f ≡ ServeFault.Write) }
+    ensures { Prints (refusal_output fault) (W.contents writer.old) (W.contents writer.new) result }
 {
     print(settings_text(fault).as_bytes(), 2, writer)
 }
@@ -119,16 +117,14 @@ fn refused_ballot_text(fault: BallotFault) -> &'static str
 
 /// Prints that the ballot which is asked for is none.
 fn refuse_ballot<W: Write>(fault: BallotFault, writer: &mut W) -> Result<u8, ServeFault>
-    ensures told { Writes (refused_ballot_output (settings.Ballot fault)) (W.contents writer.old) (W.contents writer.new) result }
-    ensures write { IfErr result (λ f. f ≡ ServeFault.Write) }
+    ensures { Prints (refused_ballot_output (settings.Ballot fault)) (W.contents writer.old) (W.contents writer.new) result }
 {
     print(refused_ballot_text(fault).as_bytes(), 1, writer)
 }
 
 /// Prints that settings are refused where the ballot is asked for.
 fn refuse_asked<W: Write>(fault: SettingsFault, writer: &mut W) -> Result<u8, ServeFault>
-    ensures told { Writes (refused_ballot_output fault) (W.contents writer.old) (W.contents writer.new) result }
-    ensures write { IfErr result (λ f. f ≡ ServeFault.Write) }
+    ensures { Prints (refused_ballot_output fault) (W.contents writer.old) (W.contents writer.new) result }
 {
     match fault {
         SettingsFault::Ballot(fault) => refuse_ballot(fault, writer),
@@ -148,8 +144,7 @@ fn refuse_for<W: Write>(
     fault: SettingsFault,
     writer: &mut W,
 ) -> Result<u8, ServeFault>
-    ensures told { Writes (refused_output command fault) (W.contents writer.old) (W.contents writer.new) result }
-    ensures write { IfErr result (λ f. f ≡ ServeFault.Write) }
+    ensures { Prints (refused_output command fault) (W.contents writer.old) (W.contents writer.new) result }
 {
     match command {
         Command::Script => refuse_settings(fault, writer),
@@ -161,7 +156,9 @@ fn refuse_for<W: Write>(
 
 /// Ends a run that has no settings: prints which fault they have, with status 2, or 1 where the ballot is
 /// asked for and the votes make none. The faults are that the reader failed (`Read`, 931) or the writer
-/// (`Write`, 932); where settings are refused it is the writer alone: they are told without memory.
+/// (`Write`, 932); where settings are refused it is the writer alone: they are told without memory. After 932 a
+/// beginning of what was to be told was written, and not all.
+#[tactic(auto, using(crate::proofs::ServeFacts::fails_writing))]
 pub fn refuse_start<W: Write>(
     command: Command,
     fault: StartFault,
@@ -169,7 +166,6 @@ pub fn refuse_start<W: Write>(
 ) -> Result<u8, ServeFault>
     ensures told { RefusesStart command fault (W.contents writer.old) (W.contents writer.new) result }
     ensures faults { IfErr result IsCommonFault }
-    ensures write { FailsByWriting fault result }
 {
     match fault {
         StartFault::Read => Err(ServeFault::Read),
@@ -312,6 +308,7 @@ fn serve_audit<R: Read, W: Write>(
 }
 
 /// Prints what each ballot is.
+#[tactic(auto, using(crate::proofs::ServeFacts::printed, crate::proofs::ServeFacts::fails_writing))]
 fn serve_ballots<W: Write>(
     alloc: Global,
     ballots: &BallotList,

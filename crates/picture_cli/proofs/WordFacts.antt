@@ -1,6 +1,6 @@
 -- The words that the program takes, and the part that they name.
-use Rattle.std.proofs.Common.{◌≡◌, inl, inr, ℕ, ◌<◌, ◌≤◌, true, false, List, [], Option, Some, None, Result, Ok, Err, refl, sym, ap, subst, ◌∙◌, arith}
-use Rattle.std.specs.Prelude.{SomeIff, codes}
+use Rattle.std.proofs.Common.{◌≡◌, inl, inr, ℕ, true, false, List, [], Option, Some, None, Result, Ok, Err, refl, sym, ap, subst, ◌∙◌}
+use Rattle.std.specs.Prelude.{SomeIff}
 use Rattle.clap.proofs.OnLiterals.{clap_on_literals}
 use Rattle.clap.proofs.WalkLemmas.{first_value-rows}
 use Rattle.clap.specs.Built.{AddsArg}
@@ -17,7 +17,7 @@ use Rattle.program_ends.specs.Endings.{Writers, LacksMemory, RefusesWords, EndsU
 use Rattle.program_ends.specs.Wordings.{IsUnserved}
 use Rattle.picture_cli.specs.declared.reading.Undrawn.{Undrawn}
 use Rattle.picture_cli.specs.declared.reading.Undrawn.TheVariants as undrawn
-use Rattle.picture_cli.specs.Words.{app, rows_in, IsLine, line_number, TellsLine, TellsName, NamesPart, NamesNone, TellsPart, ReadsPart, last_number}
+use Rattle.picture_cli.specs.Words.{app, rows_in, IsLine, line_number, TellsLine, TellsName, NamesPart, NamesNone, TellsPart, ReadsPart}
 use Rattle.picture_cli.specs.Drawing.{Page, DrawsInput, RunsBy}
 
 is_simple_app : is_simple_and_free app ≡ true
@@ -62,35 +62,7 @@ no_name text bytes same never is = never (subst IsName (sym same) is)
 
 -- What an option tells is one thing.
 
-pub one_line : (absent : ℕ) (found : Option (List ℕ)) (n m : ℕ) → TellsLine absent found (Some n) → TellsLine absent found (Some m) → n ≡ m
-one_line absent None n m h k = let same : Some n ≡ Some m = h ∙ sym k in cc
-one_line absent (Some text) n m h k = h.1 ∙ sym k.1
-
-pub some_line : (absent : ℕ) (found : Option (List ℕ)) (n : ℕ) → TellsLine absent found None → TellsLine absent found (Some n) → ⊥
-some_line absent None n h k = let clash : None ≡ Some absent = h in cc
-some_line absent (Some text) n h k = h k.0
-
-pub some_name : (found : Option (List ℕ)) (name : Option (List ℕ)) → TellsName found None → TellsName found (Some name) → ⊥
-some_name None name h k = let clash : None ≡ Some None = h in cc
-some_name (Some text) name h k = h k.0
-
 -- no part is named
-
-pub bad_from : (rows : List Row) → TellsLine 1 (first_of (codes "from") rows) None → NamesNone rows
-bad_from rows h p named = some_line 1 (first_of (codes "from") rows) p.first h named.first
-
-pub bad_to : (rows : List Row) → TellsLine last_number (first_of (codes "to") rows) None → NamesNone rows
-bad_to rows h p named = some_line last_number (first_of (codes "to") rows) p.last h named.last
-
-pub bad_order : (rows : List Row) (first last : ℕ) → TellsLine 1 (first_of (codes "from") rows) (Some first) → TellsLine last_number (first_of (codes "to") rows) (Some last) → last < first → NamesNone rows
-bad_order rows first last h k less p named =
-    let same_first : first ≡ p.first = one_line 1 (first_of (codes "from") rows) first p.first h named.first in
-    let same_last : last ≡ p.last = one_line last_number (first_of (codes "to") rows) last p.last k named.last in
-    let order : p.first ≤ p.last = named.order in
-    omega (arith, less, same_first, same_last, order)
-
-pub bad_name : (rows : List Row) → TellsName (first_of (codes "resource") rows) None → NamesNone rows
-bad_name rows h p named = some_name (first_of (codes "resource") rows) p.resource h named.resource
 
 -- what was found is read
 pub part_read : (kinds : Kinds) (rows : List Row) (r : Result Part Undrawn) → kinds ≡ [] → TellsPart rows r → ReadsPart kinds rows r

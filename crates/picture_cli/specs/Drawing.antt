@@ -1,13 +1,11 @@
 -- What the drawing program does: what it finds of an input, what it draws of it, its status, and what it says.
 -- Which marks a history has is said where they are made.
-use Rattle.std.specs.Prelude.{◌≡◌, ◌⊎◌, ℕ, ◌==◌, Bool, true, false, if◌then◌else◌, List, [], ◌∷◌, ◌++◌, map, Option, Some, None, Result, Ok, Err}
-use Rattle.std.specs.Io.KnownBytes.{Appends}
+use Rattle.std.specs.Prelude.{◌≡◌, ◌⊎◌, ℕ, ◌==◌, if◌then◌else◌, List, [], ◌∷◌, ◌++◌, map, Option, Some, None, Result, Ok, Err}
 use Rattle.std.specs.List.{range_with_len}
 use Rattle.clap.specs.Words.{Row, Kinds, fault_of}
 use Rattle.lock_messages.specs.declared.ids.Actor.TheVariants as actor
 use Rattle.lock_model.specs.Ballots.{node_count}
 use Rattle.world_model.specs.declared.exact.ExactWorld.{ExactWorld}
-use Rattle.line_streams.specs.Streams.{AppendsBeginning}
 use Rattle.journal_audit.specs.declared.faults.AuditFault.{AuditFault}
 use Rattle.journal_audit.specs.declared.faults.AuditFault.TheVariants as audit
 use Rattle.journal_audit.specs.declared.verdicts.Verdict.{Verdict}
@@ -36,7 +34,7 @@ use Rattle.run_picture.specs.declared.marks.Lasting.TheVariants as lasting
 use Rattle.run_picture.specs.declared.marks.Part.{Part}
 use Rattle.run_picture.specs.Pictures.{drawn_behind, end_place, opened as opened_drawer}
 use Rattle.program_ends.specs.declared.ending.Ended.{Ended}
-use Rattle.program_ends.specs.Endings.{Writers, TellsFault, RefusesWords, EndsUnserved}
+use Rattle.program_ends.specs.Endings.{Writers, EndsSaying, TellsFault, RefusesWords, EndsUnserved}
 use Rattle.picture_cli.specs.declared.serving.Shown.{Shown}
 use Rattle.picture_cli.specs.declared.serving.Shown.TheVariants as shown
 use Rattle.picture_cli.specs.Words.{app, rows_in, NamesPart, NamesNone}
@@ -134,22 +132,11 @@ abbrev pub told_shown : Shown → Output
 told_shown (shown.Drawn v) = told_verdict v
 told_shown (shown.Refused e) = refusal_output e
 
--- a text went to a writer: all of it, or a beginning
-abbrev pub Tells : Option (List ℕ) → Option (List ℕ) → List ℕ → Bool → Type 0
-Tells old new text true = Appends old new text
-Tells old new text false = AppendsBeginning old new text
-
 abbrev pub EndsTelling : Output → Option (List ℕ) → Option (List ℕ) → Ended → Type 0
-EndsTelling o old new e = (e.status ≡ o.status) × Tells old new o.text e.told
-
--- a sound journal needs no word, so there is nothing that can't be told
-abbrev pub TellsSound : Shown → Ended → Type 0
-TellsSound (shown.Drawn (Sound n)) e = e.told ≡ true
-TellsSound (shown.Drawn (Unsound number c)) e = Unit {0}
-TellsSound (shown.Refused f) e = Unit {0}
+EndsTelling o old new e = EndsSaying o.status o.text old new e
 
 abbrev pub EndsShown : Result Shown ServeFault → Option (List ℕ) → Option (List ℕ) → Ended → Type 0
-EndsShown (Ok s) old new e = EndsTelling (told_shown s) old new e × TellsSound s e
+EndsShown (Ok s) old new e = EndsTelling (told_shown s) old new e
 EndsShown (Err f) old new e = TellsFault f old new e
 
 -- What was done on the page before, and what has been after.

@@ -6,7 +6,7 @@ ghost use Rattle.std.specs.Vec.Iter.{into_iter_items};
 ghost use Rattle.lock_messages.specs.declared.ids.TheConstants.{MAX_NODES};
 ghost use Rattle.operator_cli.specs.Outputs.{refusal_output};
 ghost use Rattle.program_ends.specs.Endings.{EndsUnread};
-ghost use Rattle.picture_cli.specs.Drawing.{EndsTelling, told_verdict, told_shown, TellsSound, DrawsInput, Runs};
+ghost use Rattle.picture_cli.specs.Drawing.{EndsTelling, told_verdict, told_shown, DrawsInput, Runs};
 
 use crate::reading::{Undrawn, read_words};
 use crate::serving::{Shown, draw_journal};
@@ -24,8 +24,7 @@ use std::io::{ErrorKind, Read, Write};
 
 /// Tells a verdict; a journal that is sound needs no word.
 fn tell_found<E: Write>(verdict: Verdict, errors: &mut E) -> Ended
-    ensures telling { EndsTelling (told_verdict verdict) (E.contents errors.old) (E.contents errors.new) result }
-    ensures sound { TellsSound (Shown.Drawn verdict) result }
+    ensures { EndsTelling (told_verdict verdict) (E.contents errors.old) (E.contents errors.new) result }
 {
     let told = match verdict {
         Verdict::Sound(_) => {
@@ -54,8 +53,7 @@ fn tell_refused<E: Write>(fault: SettingsFault, errors: &mut E) -> Ended
 
 /// Tells what came of a journal.
 fn tell_shown<E: Write>(shown: Shown, errors: &mut E) -> Ended
-    ensures telling { EndsTelling (told_shown shown) (E.contents errors.old) (E.contents errors.new) result }
-    ensures sound { TellsSound shown result }
+    ensures { EndsTelling (told_shown shown) (E.contents errors.old) (E.contents errors.new) result }
 {
     match shown {
         Shown::Drawn(verdict) => tell_found(verdict, errors),

@@ -3,6 +3,7 @@ use Rattle.std.proofs.Common.{◌≡◌, ℕ, Bool, true, false, cond, nat_lt, L
 use Rattle.std.specs.List.{onto_first, AllByRecursion}
 use Rattle.std.specs.Str.{bytes_eq}
 use Rattle.std.proofs.lemmas.List.Splits.{slice_split-cons_yes, slice_split-cons_no}
+use Rattle.std.proofs.lemmas.Option.{same_Some}
 use Rattle.line_streams.specs.Streams.{is_line_feed, pieces, lines_in}
 use Rattle.operator_cli.specs.declared.faults.SettingsFault.{SettingsFault}
 use Rattle.operator_cli.specs.declared.faults.SettingsFault.TheVariants as settings
@@ -37,9 +38,6 @@ first_piece (b ∷ p) rest h = slice_split-cons_no is_line_feed b (p ++ 10 ∷ r
 abbrev Parts : Type 0
 Parts = Option (List ℕ × List (List ℕ))
 
-some_same : {A : Type 0} (x y : A) → Some x ≡ Some y → x ≡ y
-some_same x y h = cc
-
 abbrev the_ok : {A : Type 0} → A → Result A SettingsFault
 the_ok x = Ok x
 
@@ -53,7 +51,7 @@ behind_line : (p : List ℕ) (parts : Parts) (head : List ℕ) (others : List (L
     → (more : List ℕ) × (parts ≡ Some (more, others)) × (head ≡ p ++ codes "\n" ++ more)
 behind_line p None head others h = let clash : None ≡ Some (head, others) = h in absurd (cc)
 behind_line p (Some parts) head others h =
-    let same = some_same (p ++ codes "\n" ++ parts.0, parts.1) (head, others) h in
+    let same = same_Some (p ++ codes "\n" ++ parts.0, parts.1) (head, others) h in
     let rest : parts.1 ≡ others = ap (λ (q : List ℕ × List (List ℕ)). q.1) same in
     (parts.0, ap (λ (os : List (List ℕ)). Some (parts.0, os)) rest, sym (ap (λ (q : List ℕ × List (List ℕ)). q.0) same))
 
@@ -70,7 +68,7 @@ Again head rest = parts_at_dashes (pieces (head ++ codes "---\n" ++ rest)) ≡ S
 at_piece : (t : Bool) (p : List ℕ) (ps : List (List ℕ)) (head : List ℕ) (others : List (List ℕ)) (rest : List ℕ) → bytes_eq p dashes ≡ t → Plain p
     → ((more : List ℕ) → parts_at_dashes ps ≡ Some (more, others) → Again more rest) → cond {A = Parts} t (Some ([], ps)) (with_line p (parts_at_dashes ps)) ≡ Some (head, others) → Again head rest
 at_piece true p ps head others rest e plain next h =
-    let none : [] ≡ head = ap (λ (q : List ℕ × List (List ℕ)). q.0) (some_same ([], ps) (head, others) h) in
+    let none : [] ≡ head = ap (λ (q : List ℕ × List (List ℕ)). q.0) (same_Some ([], ps) (head, others) h) in
     subst (λ (hs : List ℕ). Again hs rest) none (at_dashes rest)
 at_piece false p ps head others rest e plain next h =
     let (more, found, whole) = behind_line p (parts_at_dashes ps) head others h in

@@ -1,6 +1,6 @@
 -- A world in which all are down and nothing is kept may run, with empty records and a pair of policies a
 -- node.
-use Rattle.std.proofs.Common.{◌≡◌, ℕ, zero, suc, ◌≤◌, true, nat_le, List, [], ◌∷◌, ◌++◌, length, get_or, map, replicate, All, refl, sym, ap, subst, ◌∙◌, arith}
+use Rattle.std.proofs.Common.{◌≡◌, ℕ, ◌≤◌, true, nat_le, List, [], ◌∷◌, ◌++◌, length, get_or, map, replicate, All, sym, ap, subst, ◌∙◌, arith}
 use Rattle.std.proofs.lemmas.List.{length-replicate}
 use Rattle.std.proofs.lemmas.Bool.Decides.{nat_tests}
 use Rattle.lock_model.specs.Ballots.{node_count}
@@ -15,12 +15,9 @@ use Rattle.world_machine.specs.Listing.{has_actor, station_bytes}
 use Rattle.operator_cli.specs.declared.settings.Settings.{Settings}
 use Rattle.operator_cli.specs.Openings.{all_down}
 use Rattle.operator_cli.specs.Settings.{AreAmong}
+use Rattle.operator_cli.proofs.OpeningFacts.{map_same}
 use Rattle.node_threads.specs.Conditions.{MayRun}
 use Rattle.run_service.specs.Empty.{empty_node, empty_client}
-
-map_same : {A B : Type 0} (f : A → B) (n : ℕ) (x : A) → map f (replicate n x) ≡ replicate n (f x)
-map_same f zero x = refl
-map_same f (suc n) x = ap (λ ys. f x ∷ ys) (map_same f n x)
 
 abbrev stations_of : ℕ → Problem → List ExactStation
 stations_of n p = map empty_station (replicate n p)

@@ -3,7 +3,7 @@ use Rattle.std.specs.Prelude.{◌≡◌, ◌⊎◌, ℕ, Bool, true, false, List
 use Rattle.std.specs.Io.KnownBytes.{Keeps, Appends}
 use Rattle.history_check.specs.declared.wishes.Wish.{Wish}
 use Rattle.journal_audit.specs.declared.verdicts.Verdict.TheVariants.{Sound}
-use Rattle.line_streams.specs.Streams.{pieces, AppendsBeginning}
+use Rattle.line_streams.specs.Streams.{pieces, AppendsPart}
 use Rattle.operator_cli.specs.declared.faults.ServeFault.{ServeFault}
 use Rattle.operator_cli.specs.declared.faults.SettingsFault.{SettingsFault}
 use Rattle.operator_cli.specs.declared.faults.SettingsFault.TheVariants as settings
@@ -28,10 +28,10 @@ IsFoundSound false head e = Unit {0}
 IsFoundSound true head e = output_of command.Audit (journal_behind head e.history) ≡ verdict_output (Sound (length e.history))
 
 -- How a run ends that has settings: all of the text of its end was written, and the status is the end's;
--- or after a fault a beginning of it, or nothing where the run didn't come to its end.
+-- or after a fault a beginning of it, and not all, or nothing where the run didn't come to its end.
 abbrev pub Tells : Bool → List ℕ → Settings → List Wish → Option (List ℕ) → Option (List ℕ) → Result ℕ ServeFault → Type 0
 Tells journal head s wishes old new (Ok status) = (e : End) × IsEndOf s wishes e × Appends old new (run_text journal head e) × (status ≡ end_status e.faults) × IsFoundSound journal head e
-Tells journal head s wishes old new (Err f) = Keeps old new ⊎ ((e : End) × IsEndOf s wishes e × AppendsBeginning old new (run_text journal head e))
+Tells journal head s wishes old new (Err f) = Keeps old new ⊎ ((e : End) × IsEndOf s wishes e × AppendsPart old new (run_text journal head e))
 
 -- the same, and for settings that are refused the line of their fault
 abbrev pub TellsBy : Bool → List ℕ → Result Given SettingsFault → Option (List ℕ) → Option (List ℕ) → Result ℕ ServeFault → Type 0

@@ -4,7 +4,7 @@ use Rattle.std.specs.Prelude.{◌≡◌, ◌⊎◌, ℕ, Bool, true, List, Optio
 use Rattle.std.specs.Io.KnownBytes.{Keeps, Appends}
 use Rattle.history_check.specs.declared.wishes.Wish.{Wish}
 use Rattle.journal_text.specs.Journals.{IsRecorded}
-use Rattle.line_streams.specs.Streams.{AppendsBeginning}
+use Rattle.line_streams.specs.Streams.{AppendsPart}
 use Rattle.operator_cli.specs.declared.faults.ServeFault.{ServeFault}
 use Rattle.operator_cli.specs.declared.faults.SettingsFault.{SettingsFault}
 use Rattle.operator_cli.specs.declared.faults.SettingsFault.TheVariants as settings
@@ -15,11 +15,12 @@ use Rattle.operator_cli.specs.Settings.{Given, settings_of}
 use Rattle.operator_cli.specs.Outputs.{refusal_output, Writes}
 use Rattle.run_service.specs.Ends.{End, IsEndOf, run_text, end_status}
 
--- What a run came to was told, and a journal that was written can be read back; or a beginning was told.
+-- What a run came to was told, and a journal that was written can be read back; or a beginning was told, and not
+-- all.
 abbrev pub TellsEnd : Bool → List ℕ → Settings → List Wish → Option (List ℕ) → Option (List ℕ) → Result ℕ ServeFault → Type 0
 TellsEnd journal head s wishes old new (Ok status) =
     (e : End) × IsEndOf s wishes e × Appends old new (run_text journal head e) × (status ≡ end_status e.faults) × (journal ≡ true → IsRecorded (all_down s) e.history e.world)
-TellsEnd journal head s wishes old new (Err f) = Keeps old new ⊎ ((e : End) × IsEndOf s wishes e × AppendsBeginning old new (run_text journal head e))
+TellsEnd journal head s wishes old new (Err f) = Keeps old new ⊎ ((e : End) × IsEndOf s wishes e × AppendsPart old new (run_text journal head e))
 
 -- The same for what a head gives; or settings are refused.
 abbrev pub RunsBy : Bool → List ℕ → Result Given SettingsFault → Option (List ℕ) → Option (List ℕ) → Result ℕ ServeFault → Type 0

@@ -47,6 +47,7 @@ fn put<W: Write>(text: &[u8], writer: &mut W) -> Result<(), ServeFault>
 }
 
 /// Tells what a run came to.
+#[tactic(auto, using(crate::proofs::WriteFacts::untold))]
 fn tell_end<W: Write>(alloc: Global, end: &RunEnd, writer: &mut W) -> Result<(), ServeFault>
     requires { end.now.entered ≡ enters end.now.book.history }
     ensures text { Puts (W.contents writer.old) (W.contents writer.new) (end_text end.now.book.history end.now.faults.items) result }
@@ -60,7 +61,7 @@ fn tell_end<W: Write>(alloc: Global, end: &RunEnd, writer: &mut W) -> Result<(),
 }
 
 /// Writes the settings and the line that ends them.
-#[tactic(auto, using(crate::proofs::WriteFacts::puts_both, crate::proofs::WriteFacts::first_begun))]
+#[tactic(auto, using(crate::proofs::WriteFacts::puts_both, crate::proofs::WriteFacts::first_part))]
 fn put_head<W: Write>(head: &[u8], writer: &mut W) -> Result<(), ServeFault>
     ensures text { Puts (W.contents writer.old) (W.contents writer.new) (head.now ++ codes "---\n") result }
     ensures common { IfErr result IsCommonFault }
@@ -72,7 +73,7 @@ fn put_head<W: Write>(head: &[u8], writer: &mut W) -> Result<(), ServeFault>
 }
 
 /// Writes the settings, the line that ends them, and the journal of a run.
-#[tactic(auto, using(crate::proofs::WriteFacts::first_begun, crate::proofs::WriteFacts::then_begun))]
+#[tactic(auto, using(crate::proofs::WriteFacts::first_part, crate::proofs::WriteFacts::then_part))]
 fn put_journal<W: Write>(
     alloc: Global,
     head: &[u8],
@@ -251,7 +252,7 @@ fn run_head<T: Threads + Wait + Copy + Send, W: Write>(
 ///
 /// `Read` (931) where the reader fails or 600,000,000 reads were made, `Write` (932) where the writer fails
 /// or takes nothing, `Memory` (933) where memory was refused or a thread couldn't be started. After a fault
-/// a beginning of the output was written.
+/// a beginning of the output was written; of what a run came to, not all.
 pub fn serve_run<T: Threads + Wait + Copy + Send, R: Read, W: Write>(
     rt: T,
     alloc: Global,

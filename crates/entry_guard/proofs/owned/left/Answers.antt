@@ -11,7 +11,12 @@ pub returns-else-inside : goal.returns-else-inside
 returns-else-inside g c = record {
   outside = subst (λ v. (goal.Door-dyn g v).is_inside v.1 ≡ false) c.deref_box-1.ensures.1 (sym c.inside.ensures ∙ c.if-inside.false);
   leaves = λ within. absurd (true≢false (sym within ∙ subst (λ v. (goal.Door-dyn g v).is_inside v.1 ≡ false) c.deref_box-1.ensures.1 (sym c.inside.ensures ∙ c.if-inside.false)));
+  untouched = λ outside. refl;
 }
+
+pub returns-then-inside-clause-untouched : goal.returns-then-inside-clause-untouched
+returns-then-inside-clause-untouched g c outside =
+    absurd (true≢false (sym (subst (λ v. (goal.Door-dyn g v).is_inside v.1 ≡ true) c.deref_box-1.ensures.1 (sym c.inside.ensures ∙ c.if-inside.true)) ∙ outside))
 
 pub returns-then-inside-clause-leaves : goal.returns-then-inside-clause-leaves
 returns-then-inside-clause-leaves g c within =

@@ -21,7 +21,7 @@ pub returns-in-Err-clause-fault : goal.returns-in-Err-clause-fault
 returns-in-Err-clause-fault g c = no_write c.in-Err.fault c.in-Err.ensures.fault
 
 pub returns-in-Err-clause-left : goal.returns-in-Err-clause-left
-returns-in-Err-clause-left g c = cut_last c.args.source.now c.read_piece.new.source c.read_piece.new.piece.items c.in-Err.fault c.in-Err.ensures.fault c.in-Err.ensures.taken c.in-Err.ensures.few
+returns-in-Err-clause-left g c = cut_last c.args.source.now c.read_piece.new.source c.read_piece.new.piece.items c.in-Err.fault c.in-Err.ensures.fault c.in-Err.ensures.taken c.in-Err.ensures.few c.in-Err.ensures.more
 
 pub returns-then-ends_no_line-clause-left : goal.returns-then-ends_no_line-clause-left
 returns-then-ends_no_line-clause-left g c =

@@ -1,8 +1,8 @@
 use Rattle.std.proofs.Common.{◌≡◌, ◌≤◌, ◌+◌, sym, subst, ◌∙◌, refl, arith}
 use Rattle.journal_audit.specs.declared.verdicts.TheConstants.{MAX_LINES}
 use Rattle.journal_audit.specs.declared.verdicts.Cause.TheVariants as cause
-use Rattle.journal_audit.proofs.JudgeFacts.{SoFar, begins, no_write_in, is_over, is_bad, is_refused, is_over_now, goes_on, ends, same_said, same_line, memory_cuts}
-use Rattle.journal_audit.proofs.LeftFacts.{none_left, cut_left, over_left, last_left, bad_left, refused_left, took_more, most_left, took_none}
+use Rattle.journal_audit.proofs.JudgeFacts.{SoFar, no_write_in, is_over, is_bad, is_refused, is_over_now, goes_on, ends, same_said, same_line, memory_cuts}
+use Rattle.journal_audit.proofs.LeftFacts.{none_left, cut_left, over_left, last_left, bad_left, refused_left, took_more, most_left}
 use Rattle.journal_audit.proofs.judging.judge_lines.Goals as goal
 
 pub returns-then-ends_no_line-clause-found : goal.returns-then-ends_no_line-clause-found
@@ -64,7 +64,7 @@ returns-in-Err-step-clause-fault g c = no_write_in c.refused.result c.refused.en
 pub returns-in-Err-clause-left : goal.returns-in-Err-clause-left
 returns-in-Err-clause-left g c =
     cut_left c.args.world.now c.loop-taken.world c.args.source.now c.loop-taken.source c.read_piece.new.source c.loop-taken.taken c.read_piece.new.piece.items c.in-Err.fault
-    c.loop-taken.invariant.1 c.in-Err.ensures.fault c.in-Err.ensures.taken c.in-Err.ensures.few
+    c.loop-taken.invariant.1 c.in-Err.ensures.fault c.in-Err.ensures.taken c.in-Err.ensures.few c.in-Err.ensures.more
 
 pub returns-then-ends_no_line-clause-left : goal.returns-then-ends_no_line-clause-left
 returns-then-ends_no_line-clause-left g c =

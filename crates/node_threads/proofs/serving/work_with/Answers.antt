@@ -2,9 +2,10 @@ use Rattle.std.proofs.Common.{◌≡◌, ◌++◌, ◌⊎◌, inl, inr, map, len
 use Rattle.std.specs.List.{All, range_with_len}
 use Rattle.std.proofs.lemmas.List.Elements.{All-weaker}
 use Rattle.lock_model.specs.Decisions.{Among}
+use Rattle.lock_model.proofs.GrantFacts.{among-right, among-left}
 use Rattle.lock_session.specs.Sessions.{IsResting}
 use Rattle.node_threads.specs.Sessions.{IsSessionEnd}
-use Rattle.node_threads.proofs.Amongst.{all_among, among_behind, among_front}
+use Rattle.node_threads.proofs.Amongst.{all_among}
 use Rattle.node_threads.proofs.Lists.{written_back}
 use Rattle.node_threads.proofs.serving.work_with.Goals as goal
 
@@ -24,7 +25,7 @@ in_order-requires-clause-whole g c =
     let count = c.requires.all_clients ∙ ap (range_with_len 1) (sym (c.len-count.ensures ∙ c.args.clients.ok.0)) in
     subst (λ l. All (λ n. Among n l) (range_with_len 1 c.len-count.result)) (sym is)
     (subst (All (λ n. Among n (fallen ++ sessions))) count
-    (All-weaker (λ n. Among n sessions ⊎ Among n fallen) (λ n. Among n (fallen ++ sessions)) (λ n h. elim h [ inl one ↦ among_behind n fallen sessions one | inr other ↦ among_front n fallen sessions other ])
+    (All-weaker (λ n. Among n sessions ⊎ Among n fallen) (λ n. Among n (fallen ++ sessions)) (λ n h. elim h [ inl one ↦ among-right n fallen sessions one | inr other ↦ among-left n fallen sessions other ])
     (map (λ t. t.client) c.args.clients.items) c.in_ok-sessions.ensures.all))
 
 pub returns-clause-ends : goal.returns-clause-ends

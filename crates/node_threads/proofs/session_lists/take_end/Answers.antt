@@ -1,8 +1,9 @@
 use Rattle.std.proofs.Common.{◌≡◌, ◌⊎◌, inl, inr, ◌<◌, length, get_or, true, false, sym, ◌∙◌, ap, subst, arith, All}
 use Rattle.std.proofs.lemmas.Bool.{eqb-true, eq-eqb}
 use Rattle.std.proofs.lemmas.List.Elements.{All-more, All-weaker}
+use Rattle.std.proofs.lemmas.List.{get_or_default}
 use Rattle.lock_model.specs.Decisions.{Among}
-use Rattle.node_threads.proofs.Amongst.{from_among, at_among, same_at, all_taken, fewer_among, others_among}
+use Rattle.node_threads.proofs.Amongst.{from_among, at_among, all_taken, fewer_among, others_among}
 use Rattle.node_threads.proofs.session_lists.take_end.Goals as goal
 
 pub returns-then-eq-clause-some : goal.returns-then-eq-clause-some
@@ -13,7 +14,7 @@ returns-then-eq-clause-some g c =
     let within : place < length ends = omega (arith, c.loop-place-test.true, c.len-place-end.ensures, c.args.ends.now.ok.0, ap length same) in
     let x = c.remove.result in
     let y = c.index.result.now in
-    let there : x ≡ y = c.remove.ensures.value ∙ same_at ends place x y within ∙ sym c.index.ensures in (
+    let there : x ≡ y = c.remove.ensures.value ∙ get_or_default ends place x y within ∙ sym c.index.ensures in (
       ap (λ e. e.client) there ∙ eqb-true y.client c.args.client (sym c.eq.ensures ∙ c.if-eq.true),
       subst (λ es. Among x es) same (subst (λ z. Among z ends) (sym c.remove.ensures.value) (at_among ends place x within)),
     )

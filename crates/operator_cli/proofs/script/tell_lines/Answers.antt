@@ -1,7 +1,9 @@
 use Rattle.std.proofs.Common.{◌∙◌, sym}
 use Rattle.line_streams.specs.Streams.{with_gathered}
+use Rattle.line_streams.proofs.StreamFacts.{grows_on}
 use Rattle.operator_cli.specs.declared.faults.ServeFault.TheVariants as fault
-use Rattle.operator_cli.proofs.ScriptFacts.{so_far_kept, grows_on, stops, is_over, is_bad, breaks, goes_on, is_over_now, same_said, same_line}
+use Rattle.operator_cli.proofs.ScriptFacts.{so_far_kept, stops, is_over, is_bad, breaks, goes_on, is_over_now, same_said}
+use Rattle.journal_audit.proofs.JudgeFacts.{same_line}
 use Rattle.operator_cli.proofs.script.tell_lines.Goals as goal
 
 pub returns-in-Err-clause-told : goal.returns-in-Err-clause-told

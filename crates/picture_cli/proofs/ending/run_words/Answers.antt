@@ -1,7 +1,8 @@
 use Rattle.std.proofs.Common.{map, string_bytes, refl, sym}
+use Rattle.std.proofs.KnownBytes.{Keeps-refl}
 use Rattle.clap.specs.Words.{fault_of}
 use Rattle.program_ends.specs.Endings.{Writers}
-use Rattle.program_ends.proofs.WordFacts.{keeps_same, unserved_same}
+use Rattle.program_ends.proofs.WordFacts.{unserved_same}
 use Rattle.picture_cli.specs.Drawing.{Page}
 use Rattle.picture_cli.specs.Words.{app, rows_in}
 use Rattle.picture_cli.proofs.WordFacts.{read_same, runs_value, runs_unserved}
@@ -28,4 +29,4 @@ returns g c =
     let o = g.P.Write.contents c.args.page.now in
     let w : Writers = record { old = o; new = o; errors_old = g.E.Write.contents c.args.errors.now; errors_new = g.E.Write.contents c.say.new.errors } in
     let wrong = read_same (fault_of app words) (rows_in words) c.in-Err-Value.field-0 _ c.in-Err-Value.ensures c.in-Err-Value.field-0-is in
-    runs_value (g.R.Read.remaining c.args.reader) (fault_of app words) (rows_in words) page w c.say.result wrong.0 wrong.1 refl (_, keeps_same o, c.say.ensures)
+    runs_value (g.R.Read.remaining c.args.reader) (fault_of app words) (rows_in words) page w c.say.result wrong.0 wrong.1 refl (_, Keeps-refl o, c.say.ensures)

@@ -31,3 +31,7 @@ pub returns-else-may_soften-clause-held : goal.returns-else-may_soften-clause-he
 returns-else-may_soften-clause-held g c within =
     let said = c.may_soften.ensures.1 (subst (λ v. MaySoften ((goal.Door-dyn g v).is_inside v.1) ((goal.Door-dyn g v).ticket_of v.1)) (sym c.deref_box-1.ensures.1) (may-soften _ _ _ within c.requires)) in
     absurd (true≢false (sym said ∙ c.if-may_soften.false))
+
+pub returns-then-may_soften-clause-untouched : goal.returns-then-may_soften-clause-untouched
+returns-then-may_soften-clause-untouched g c never =
+    absurd (never (subst (λ v. MaySoften ((goal.Door-dyn g v).is_inside v.1) ((goal.Door-dyn g v).ticket_of v.1)) c.deref_box-1.ensures.1 (c.may_soften.ensures.0 c.if-may_soften.true)))

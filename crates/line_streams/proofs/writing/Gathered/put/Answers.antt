@@ -1,18 +1,22 @@
 use Rattle.std.proofs.Common.{◌≡◌, ◌+◌, ◌<◌, ◌≤◌, ◌++◌, ◌∙◌, false, length, take, true}
+use Rattle.std.proofs.KnownBytes.{Appends-trans, Appends-kept}
+use Rattle.std.proofs.lemmas.Result.{err_from_is_err_and}
 use Rattle.line_streams.specs.Streams.{with_gathered}
 use Rattle.line_streams.specs.declared.writing.TheConstants.{MAX_GATHERED}
-use Rattle.line_streams.proofs.StreamFacts.{grows_on, front_more, appends_both, keeps_appends, gathers}
-use Rattle.line_streams.proofs.WriteFacts.{on_err, some_left, put_part, has_room_yet, gathers_on}
+use Rattle.line_streams.proofs.StreamFacts.{grows_on, front_more, gathers}
+use Rattle.line_streams.proofs.WriteFacts.{puts_part, some_left, put_part, has_room_yet, gathers_on}
 use Rattle.line_streams.proofs.writing.Gathered.put.Given as given
 use Rattle.line_streams.proofs.writing.Gathered.put.Goals as goal
 
 pub returns-in_err-make_room-clause-grows : goal.returns-in_err-make_room-clause-grows
 returns-in_err-make_room-clause-grows g c = grows_on _ _ _ c.loop-rest.invariant.grown c.make_room.ensures.grows
 
-pub returns-in_err-make_room-clause-part : goal.returns-in_err-make_room-clause-part
-returns-in_err-make_room-clause-part g c =
+pub returns-in_err-make_room-clause-text : goal.returns-in_err-make_room-clause-text
+returns-in_err-make_room-clause-text g c =
     let (front, e, p) = c.loop-rest.invariant.front in
-    on_err c.from_residual.result (put_part c.args.text.now front c.loop-rest.rest.now _ _ _ e p c.make_room.ensures.kept (some_left c.loop-rest.rest.now c.is_empty.result c.is_empty.ensures c.loop-rest-test.true))
+    let failed = err_from_is_err_and c.from_residual.result c.from_residual.ensures.1 in
+    puts_part c.from_residual.result _ _ c.args.text.now failed.0 failed.1
+    (put_part c.args.text.now front c.loop-rest.rest.now _ _ _ e p c.make_room.ensures.kept (some_left c.loop-rest.rest.now c.is_empty.result c.is_empty.ensures c.loop-rest-test.true))
 
 -- no text that fits ends so
 never : (g : given.Over) (c : goal.After-from_residual g) → length c.args.self.now + length c.args.text.now ≤ MAX_GATHERED → ⊥
@@ -41,8 +45,8 @@ loop-rest-preserved g c =
       front = (
         front ++ take count rest,
         front_more c.args.text.now front rest c.split_at.result.1.now count e c.split_at.ensures.back,
-        appends_both old mid (with_gathered written c.gather-count.new.self) front (take count rest)
-            (keeps_appends old (with_gathered (out c.loop-rest.writer) c.loop-rest.self) mid front p c.make_room.ensures.kept)
+        Appends-trans old mid (with_gathered written c.gather-count.new.self) front (take count rest)
+            (Appends-kept old (with_gathered (out c.loop-rest.writer) c.loop-rest.self) mid front p c.make_room.ensures.kept)
             (gathers written c.make_room.new.self (take count rest) c.gather-count.new.self c.gather-count.ensures.bytes),
       );
       grown = grows_on _ _ _ c.loop-rest.invariant.grown c.make_room.ensures.grows;
