@@ -8,7 +8,8 @@ use Rattle.world_model.specs.Parts.{part}
 use Rattle.history_book.specs.declared.faults.BookFault.{BookFault}
 use Rattle.history_book.specs.declared.faults.BookFault.TheVariants as book
 use Rattle.history_book.specs.Books.{BookValue, BerthValue, Known, sees, own_part, inside_ticket, IsMet, Reads}
-use Rattle.book_recorders.specs.Meeting.{HaveMet, TellsInside, HasSeenOn, SeesInside, HasSeenInside}
+use Rattle.history_book.specs.Inside.{TellsInside}
+use Rattle.book_recorders.specs.Meeting.{HaveMet, HasSeenOn, SeesInside, HasSeenInside}
 use Rattle.book_recorders.specs.Sharing.{after_seeing, log_of}
 use Rattle.book_recorders.proofs.Between.{between_of}
 use Rattle.book_recorders.proofs.Logging.{log_after}

@@ -1,18 +1,14 @@
 -- What a recorder over a shared book is told of others: whether two are inside one resource, and who is inside.
-use Rattle.std.specs.Prelude.{◌≡◌, ℕ, Bool, true, List, [], ◌∷◌, ◌++◌}
-use Rattle.lock_messages.specs.declared.tickets.Mode.TheVariants.{Write}
+use Rattle.std.specs.Prelude.{◌≡◌, ℕ, Bool, true, List, ◌++◌}
 use Rattle.lock_messages.specs.declared.tickets.Ticket.{Ticket}
-use Rattle.lock_model.specs.Decisions.{Among}
 use Rattle.world_model.specs.declared.events.Effect.{Effect}
 use Rattle.world_model.specs.declared.events.Event.{Event}
 use Rattle.world_model.specs.declared.exact.ExactWorld.{ExactWorld}
-use Rattle.world_model.specs.Forgetting.{forget}
 use Rattle.world_model.specs.Locality.{own_events, IsHistory}
 use Rattle.world_model.specs.Parts.{part}
-use Rattle.world_model.specs.Views.{inside}
-use Rattle.world_machine.specs.Listing.{AreInside}
 use Rattle.event_recorders.specs.OwnLogs.{OwnLog, part_now}
-use Rattle.history_book.specs.Books.{BookValue, BerthValue, Known, sees, are_together, inside_ticket, Reads}
+use Rattle.history_book.specs.Books.{BerthValue, are_together, inside_ticket, Reads}
+use Rattle.history_book.specs.Inside.{AreThoseInside}
 use Rattle.book_recorders.specs.Sharing.{after_seeing, Between}
 
 -- The answer is whether the two own logs leave tickets of two clients for one resource; then both read. Neither log
@@ -22,24 +18,6 @@ pub record HaveMet (answer : Bool) (l m l' m' : OwnLog) : Type 0 where
   pub readers : answer ≡ true → Reads (inside_ticket (part_now l)) × Reads (inside_ticket (part_now m))
   pub one : l' ≡ l
   pub other : m' ≡ m
-
--- a writer among the tickets is the only one
-abbrev pub IsAloneIn : List Ticket → Type 0
-IsAloneIn tickets = (t : Ticket) → Among t tickets → t.mode ≡ Write → tickets ≡ t ∷ []
-
--- These are the tickets of those whom the world has inside the resource, in the order of the clients. A writer among
--- them is the only one.
-pub record AreThoseInside (w : ExactWorld) (x : List ℕ) (tickets : List Ticket) : Type 0 where
-  pub told : tickets ≡ inside x w
-  pub inside : AreInside (forget w) x tickets
-  pub alone : IsAloneIn tickets
-
--- These are the tickets of those who are inside the resource in the book's world. The berth has seen all of the
--- history, and nothing else changed.
-pub record TellsInside (b : BookValue) (k : BerthValue) (x : List ℕ) (tickets : List Ticket) (k' : BerthValue) : Type 0 where
-  pub known : Known b k
-  pub seen : k' ≡ sees b k
-  pub those : AreThoseInside b.world x tickets
 
 -- The berth has seen what others logged since, none of it its actor's; with what it had seen before it leads to this
 -- world.

@@ -2,8 +2,8 @@
 
 ghost use Rattle.std.specs.Prelude.{◌≡◌, ◌≢◌, ◌⊎◌, true, OnOk, IfOk, IfErr};
 ghost use Rattle.world_model.specs.Locality.{IsAsListed};
-ghost use Rattle.book_recorders.specs.Meeting.{TellsInside};
 ghost use Rattle.history_book.specs.Books.{BookValue, Known, sees, IsLogged, IsRefused, IsMet, Reads, inside_ticket, own_part};
+ghost use Rattle.history_book.specs.Inside.{TellsInside};
 
 use history_book::{Berth, Book, BookFault};
 use lock_messages::{ResourceName, Ticket};
@@ -51,8 +51,8 @@ pub trait Logs {
         ensures read { IfOk result (λ met. met ≡ true → Reads (inside_ticket (own_part one.old)) × Reads (inside_ticket (own_part other.old))) }
         ensures err { IfErr result (λ f. (f ≡ BookFault.OtherBook) × ((one.old.number ≢ (book self.old).number) ⊎ (other.old.number ≢ (book self.old).number)) × (one.new ≡ one.old) × (other.new ≡ other.old)) };
 
-    /// The tickets of the clients that the book's world has inside the resource, in the order of the clients; a
-    /// writer among them is the only one. It shows the berth all of the history.
+    /// The tickets of the clients that the book's world has inside the resource, in the order of the clients, as
+    /// `Book::inside` tells them; a writer among them is the only one. It shows the berth all of the history.
     ///
     /// The errors: the berth has another book's number (815), or memory was refused (813). The caller owes that a
     /// berth of this number is this book's own.
@@ -88,13 +88,6 @@ impl Logs for Book {
         berth: &mut Berth,
         resource: &ResourceName,
     ) -> Result<Vec<Ticket>, BookFault> {
-        match Book::observe(self, berth) {
-            Ok(()) => {}
-            Err(fault) => return Err(fault),
-        }
-        match self.world().inside(resource) {
-            Ok(tickets) => Ok(tickets),
-            Err(_) => Err(BookFault::Memory),
-        }
+        Book::inside(self, berth, resource)
     }
 }

@@ -17,8 +17,10 @@ pub trait SharedRecorder: Recorder {
         ensures met { IfOk result (λ met. HaveMet met (Self.own_log self.old) (Self.own_log other.old) (Self.own_log self.new) (Self.own_log other.new)) }
         ensures err { IfErr result (λ f. (f ≡ BookFault.OtherBook) × (Self.own_log self.new ≡ Self.own_log self.old) × (Self.own_log other.new ≡ Self.own_log other.old)) };
 
-    /// The tickets of the clients that are inside the resource, in the order of the clients, as the one history has
-    /// it when it is asked; a writer among them is the only one. The own log stays as it is.
+    /// The tickets of the clients that are inside the resource, in the order of the clients, as a history has
+    /// it in which the recorder's actor is as its own log tells; a writer among them is the only one. The own log stays
+    /// as it is. (That it is the one history of all, as it is when it is asked, no own log can tell: a berth does,
+    /// `BookRecorder::inside`.)
     ///
     /// The errors: the recorder's berth is another book's (815), or memory was refused (813).
     fn inside(&mut self, resource: &ResourceName) -> Result<Vec<Ticket>, BookFault>

@@ -1,7 +1,7 @@
 -- What a client's log has begun.
-use Rattle.std.proofs.Common.{◌≡◌, inl, inr, ℕ, zero, suc, ◌<◌, ◌≤◌, ◌+◌, get_or, List, [], ◌∷◌, length, map, refl, sym, ap, subst, ◌∙◌, arith}
+use Rattle.std.proofs.Common.{◌≡◌, inl, inr, ℕ, zero, suc, ◌<◌, ◌≤◌, ◌+◌, get_or, List, [], ◌∷◌, ◌++◌, length, map, replicate, refl, sym, ap, subst, ◌∙◌, arith, append_assoc, append-nil}
 use Rattle.std.proofs.lemmas.List.{length-append}
-use Rattle.std.proofs.lemmas.List.Elements.{All-nil, All-push}
+use Rattle.std.proofs.lemmas.List.Elements.{All-nil, All-same, All-append, All-replicate}
 use Rattle.lock_messages.specs.declared.ids.Actor.{Actor}
 use Rattle.lock_model.specs.Ballots.{Ballot, HasPlace}
 use Rattle.lock_model.specs.Decisions.{Among}
@@ -15,14 +15,15 @@ use Rattle.client_loop.specs.Standing.{Stands, IsSameClient}
 use Rattle.client_loop.specs.Visits.{Use, Visits, AreWished, BeginsOnly, BeginsNothing, BeginsMore, HasBegun, ArePlaced, use_of, visits_after, visits_from, visits_of, visits_entering, visits_softening, visits_beginning}
 
 pub begins_none : (u : Use) (a b : Visits) → b ≡ a → BeginsOnly u a b
-begins_none u a b same = record { whose = ap (λ (v : Visits). v.whose) same; ballots = ap (λ (v : Visits). v.ballots) same; only = λ wished is before. subst (λ (v : Visits). AreWished wished v.begins) (sym same) before }
+begins_none u a b same = record {
+  whose = ap (λ (v : Visits). v.whose) same;
+  ballots = ap (λ (v : Visits). v.ballots) same;
+  times = 0;
+  only = ap (λ (v : Visits). v.begins) same ∙ sym (append-nil a.begins);
+}
 
 pub begins_one : (u : Use) (a b : Visits) → b ≡ visits_beginning u a → BeginsOnly u a b
-begins_one u a b more = record {
-  whose = ap (λ (v : Visits). v.whose) more;
-  ballots = ap (λ (v : Visits). v.ballots) more;
-  only = λ wished is before. subst (λ (v : Visits). AreWished wished v.begins) (sym more) (All-push (λ (x : Use). Among x wished) a.begins u before is);
-}
+begins_one u a b more = record { whose = ap (λ (v : Visits). v.whose) more; ballots = ap (λ (v : Visits). v.ballots) more; times = 1; only = ap (λ (v : Visits). v.begins) more }
 
 pub more_one : (u : Use) (a b : Visits) → b ≡ visits_beginning u a → BeginsMore a b
 more_one u a b more =
@@ -45,19 +46,26 @@ more_then_none a b c h then =
     let more = h.more in
     record { more = omega (arith, more, still) }
 
+times_both : (m n : ℕ) (u : Use) → replicate m u ++ replicate n u ≡ replicate (m + n) u
+times_both zero n u = let sum : n ≡ zero + n = omega arith in ap (λ (k : ℕ). replicate k u) sum
+times_both (suc m) n u = let sum : suc (m + n) ≡ suc m + n = omega arith in ap (λ (us : List Use). u ∷ us) (times_both m n u) ∙ ap (λ (k : ℕ). replicate k u) sum
+
 pub begins_on : (u : Use) (a b c : Visits) → BeginsOnly u a b → BeginsOnly u b c → BeginsOnly u a c
-begins_on u a b c first second = record { whose = second.whose ∙ first.whose; ballots = second.ballots ∙ first.ballots; only = λ wished is before. second.only wished is (first.only wished is before) }
+begins_on u a b c first second = record {
+  whose = second.whose ∙ first.whose;
+  ballots = second.ballots ∙ first.ballots;
+  times = first.times + second.times;
+  only =
+      second.only ∙ ap (λ (us : List Use). us ++ replicate second.times u) first.only ∙ append_assoc a.begins (replicate first.times u) (replicate second.times u)
+      ∙ ap (λ (us : List Use). a.begins ++ us) (times_both first.times second.times u);
+}
 
 -- one use, and then nothing
 pub begins_still : (u : Use) (a b c : Visits) → BeginsOnly u a b → c ≡ b → BeginsOnly u a c
 begins_still u a b c first same = begins_on u a b c first (begins_none u b c same)
 
 pub begins_no_more : (u : Use) (a b c : Visits) → BeginsOnly u a b → BeginsNothing b c → BeginsOnly u a c
-begins_no_more u a b c first then = record {
-  whose = then.whose ∙ first.whose;
-  ballots = then.ballots ∙ first.ballots;
-  only = λ wished is before. subst (λ (us : List Use). AreWished wished us) (sym then.none) (first.only wished is before);
-}
+begins_no_more u a b c first then = record { whose = then.whose ∙ first.whose; ballots = then.ballots ∙ first.ballots; times = first.times; only = then.none ∙ first.only }
 
 pub nothing_begun : (a b : Visits) → b ≡ a → BeginsNothing a b
 nothing_begun a b same = record { whose = ap (λ (v : Visits). v.whose) same; ballots = ap (λ (v : Visits). v.ballots) same; none = ap (λ (v : Visits). v.begins) same }
@@ -150,7 +158,9 @@ begun_since who wishes l l' is begun = record { whose = begun.whose ∙ sym (who
 pub wish_begun : (who : Actor) (wishes : List Wish) (i : ℕ) (w other : Wish) (l l' : OwnLog) → i < length wishes → w ≡ get_or wishes i other → BeginsOnly (use_of w) (visits_of l) (visits_of l') → HasBegun who wishes l → HasBegun who wishes l'
 wish_begun who wishes i w other l l' few at only before = record {
   whose = sym (whose_of l') ∙ only.whose ∙ whose_of l ∙ before.whose;
-  each = only.only (map (λ (x : Wish). use_of x) wishes) (is_wished wishes i w other few at) before.each;
+  each =
+      let P : Use → Type 0 = λ (u : Use). Among u (map (λ (x : Wish). use_of x) wishes) in
+      All-same P _ _ only.only (All-append P (visits_of l).begins (replicate only.times (use_of w)) before.each (All-replicate P only.times (use_of w) (is_wished wishes i w other few at)));
 }
 
 -- nothing, and then an Enter

@@ -1,5 +1,5 @@
 -- What a client's own log tells of what it sends.
-use Rattle.std.proofs.Common.{◌≡◌, ◌↔◌, ◌⊎◌, inl, inr, ℕ, Bool, true, false, List, [], ◌∷◌, ◌++◌, Option, None, Some, refl, sym, ap, ◌∙◌, append_assoc, append-nil, if◌then◌else◌, map, ◌==◌, subst, arith}
+use Rattle.std.proofs.Common.{◌≡◌, ◌↔◌, ◌⊎◌, inl, inr, ℕ, Bool, true, false, List, [], ◌∷◌, ◌++◌, Option, None, Some, refl, sym, ap, ◌∙◌, append-nil, if◌then◌else◌, map, ◌==◌, subst, arith}
 use Rattle.lock_messages.specs.declared.ids.Actor.{Actor}
 use Rattle.lock_messages.specs.declared.ids.Actor.TheVariants as actor
 use Rattle.lock_messages.specs.declared.messages.Message.{Message}
@@ -21,29 +21,22 @@ use Rattle.world_model.specs.declared.events.Effect.{Effect}
 use Rattle.world_model.specs.declared.events.Effect.TheVariants as effect
 use Rattle.world_model.specs.declared.events.Event.{Event}
 use Rattle.world_model.specs.declared.events.Event.TheVariants as event
-use Rattle.world_model.specs.Locality.{local_part}
-use Rattle.world_model.specs.Parts.{Part, ClientPart, said_by, after_own}
+use Rattle.world_model.specs.Parts.{Part, ClientPart, said_by}
 use Rattle.event_recorders.specs.declared.faults.RunFault.{RunFault}
 use Rattle.event_recorders.specs.declared.faults.RunFault.TheVariants as fault
-use Rattle.event_recorders.specs.OwnLogs.{OwnLog, part_now, adds, IsAdded, IsUnused}
+use Rattle.event_recorders.specs.OwnLogs.{OwnLog, all_of, part_now, adds, IsAdded, IsUnused}
+use Rattle.event_recorders.proofs.LogFacts.{log_more, nothing_more}
 use Rattle.actor_steps.specs.Steps.{IsKept, IsRisenAgain}
 use Rattle.client_loop.specs.Standing.{Stands, part_of}
-use Rattle.client_loop.specs.Sendings.{sent_for, sent_by, sent_of, sending_to, number_of, SentFollows, SentUnlessMemory, ToldUnlessMemory, EndsHere}
+use Rattle.client_loop.specs.Sendings.{sent_for, sent_of, sending_to, number_of, SentFollows, SentUnlessMemory, ToldUnlessMemory, EndsHere}
 
 -- one event more sends what it sends from the part before it
-by_one_more : (b : List Ballot) (p : Part) (own : List (Event × Effect)) (e : Event) (done : Effect) →
-    sent_by b p (own ++ (e, done) ∷ []) ≡ sent_by b p own ++ sent_for b e done (local_part b p own)
-by_one_more b p [] e done = append-nil (sent_for b e done p)
-by_one_more b p (q ∷ own) e done =
-    ap (λ xs. sent_for b q.0 q.1 p ++ xs) (by_one_more b (after_own b q.0 q.1 p) own e done)
-    ∙ sym (append_assoc (sent_for b q.0 q.1 p) (sent_by b (after_own b q.0 q.1 p) own) (sent_for b e done (local_part b (after_own b q.0 q.1 p) own)))
-
 pub sent_more : (l l' : OwnLog) (e : Event) (done : Effect) → IsAdded l e done l' → sent_of l' ≡ sent_of l ++ sent_for l.ballots e done (part_now l)
-sent_more l l' e done added = ap sent_of added.log ∙ by_one_more l.ballots l.opening l.events e done
+sent_more l l' e done added = log_more sent_for l l' e done added
 
 -- all events but SayTo send nothing
 silent : (l l' : OwnLog) (e : Event) (done : Effect) → IsAdded l e done l' → sent_for l.ballots e done (part_now l) ≡ [] → sent_of l' ≡ sent_of l
-silent l l' e done added nothing = sent_more l l' e done added ∙ ap (λ (xs : List Sending). sent_of l ++ xs) nothing ∙ append-nil (sent_of l)
+silent l l' e done added nothing = nothing_more sent_for l l' e done added nothing
 
 pub begin_sends_nothing : (l l' : OwnLog) (c : ℕ) (m : Mode) (x : List ℕ) (place : ℕ) (done : Effect) → IsAdded l (event.Begin c m x place) done l' → sent_of l' ≡ sent_of l
 begin_sends_nothing l l' c m x place done added = silent l l' (event.Begin c m x place) done added refl
@@ -61,7 +54,7 @@ pub soften_sends_nothing : (l l' : OwnLog) (c : ℕ) (done : Effect) → IsAdded
 soften_sends_nothing l l' c done added = silent l l' (event.Soften c) done added refl
 
 pub first_rise_sends_nothing : (l l' : OwnLog) (who : Actor) (age : Age) → IsUnused l who → IsAdded l (event.Rise who age) effect.Up l' → sent_of l' ≡ []
-first_rise_sends_nothing l l' who age unused added = silent l l' (event.Rise who age) effect.Up added refl ∙ ap (sent_by l.ballots l.opening) unused.events
+first_rise_sends_nothing l l' who age unused added = silent l l' (event.Rise who age) effect.Up added refl ∙ ap (all_of sent_for l.ballots l.opening) unused.events
 
 pub keeping_sends_nothing : (l l' : OwnLog) (who : Actor) → IsKept l who l' → sent_of l' ≡ sent_of l
 keeping_sends_nothing l l' who kept =
@@ -82,7 +75,7 @@ fallen_sends_nothing l l' who (inl same) = ap sent_of same
 fallen_sends_nothing l l' who (inr added) = silent l l' (event.Fall who) effect.Down added refl
 
 pub unused_sends_nothing : (l : OwnLog) (who : Actor) → IsUnused l who → sent_of l ≡ []
-unused_sends_nothing l who unused = ap (sent_by l.ballots l.opening) unused.events
+unused_sends_nothing l who unused = ap (all_of sent_for l.ballots l.opening) unused.events
 
 pub rising_sends_nothing : (l l' : OwnLog) (who : Actor) (bytes tried : List ℕ) → ((age : Age) × IsRisenAgain l who age l' × ((age ≡ New) ↔ (bytes ≡ tried))) → sent_of l' ≡ sent_of l
 rising_sends_nothing l l' who bytes tried (age, again, new) =

@@ -8,7 +8,6 @@ use Rattle.lock_model.specs.Ballots.{node_count}
 use Rattle.vote_weights.specs.Sets.{has_node}
 use Rattle.client_core.specs.declared.phases.State.{State}
 use Rattle.client_core.specs.declared.phases.State.TheVariants.{Idle, Chosen, Asking, Inside}
-use Rattle.client_core.specs.declared.phases.Phase.TheVariants as phase
 use Rattle.client_core.specs.Clients.{Client}
 use Rattle.client_core.specs.Calls.{MaySoften, MaySoftenIn, softened, softens_in, message_for, SoftensAll}
 use Rattle.world_model.specs.declared.events.Effect.{Effect}

@@ -15,10 +15,10 @@ use Rattle.world_model.specs.declared.events.Effect.{Effect}
 use Rattle.world_model.specs.declared.events.Effect.TheVariants as effect
 use Rattle.world_model.specs.declared.events.Event.{Event}
 use Rattle.world_model.specs.declared.events.Event.TheVariants as event
-use Rattle.world_model.specs.Parts.{Part, said_by, after_own}
+use Rattle.world_model.specs.Parts.{Part, said_by}
 use Rattle.event_recorders.specs.declared.faults.RunFault.{RunFault}
 use Rattle.event_recorders.specs.declared.faults.RunFault.TheVariants as fault
-use Rattle.event_recorders.specs.OwnLogs.{OwnLog}
+use Rattle.event_recorders.specs.OwnLogs.{OwnLog, in_log}
 
 -- a message to a node, as its frame and under its number
 abbrev pub sending_to : ℕ → ℕ → Message → Sending
@@ -56,14 +56,9 @@ sent_for b (event.Fall who) done p = []
 sent_for b (event.Rise who age) done p = []
 sent_for b (event.Switch n q) done p = []
 
--- the same for a list of its events, from a part on
-abbrev pub sent_by : List Ballot → Part → List (Event × Effect) → List Sending
-sent_by b p [] = []
-sent_by b p (q ∷ own) = sent_for b q.0 q.1 p ++ sent_by b (after_own b q.0 q.1 p) own
-
 -- what a client has sent, as its own log tells it
 abbrev pub sent_of : OwnLog → List Sending
-sent_of l = sent_by l.ballots l.opening l.events
+sent_of l = in_log sent_for l
 
 -- Where what was given to a link before is what one log tells, on top of what was there, what was given
 -- since is what the other log tells.

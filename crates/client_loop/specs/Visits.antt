@@ -1,5 +1,5 @@
 -- What a client's own events say of its wishes.
-use Rattle.std.specs.Prelude.{◌≡◌, ℕ, ◌+◌, ◌-◌, ◌<◌, ◌≤◌, ◌⊎◌, ◌&&◌, Bool, false, List, [], ◌∷◌, ◌++◌, length, map, filter, take, if◌then◌else◌, Option, Some, None, Result, Ok, Err}
+use Rattle.std.specs.Prelude.{◌≡◌, ℕ, ◌+◌, ◌-◌, ◌<◌, ◌≤◌, ◌⊎◌, ◌&&◌, Bool, false, List, [], ◌∷◌, ◌++◌, length, map, filter, take, replicate, if◌then◌else◌, Option, Some, None, Result, Ok, Err}
 use Rattle.std.specs.List.{All}
 use Rattle.lock_messages.specs.declared.ids.Actor.{Actor}
 use Rattle.lock_messages.specs.declared.tickets.Mode.{Mode}
@@ -136,12 +136,12 @@ entries_of (Err e) = e.0
 abbrev pub AreWished : List Use → List Use → Type 0
 AreWished wished begins = All (λ u. Among u wished) begins
 
--- Of the same actor, nothing but this use was begun since, if anything was: where it is wished, and all that
--- was begun before, all is that is begun now.
+-- Of the same actor, nothing but this use was begun since, so many times, or not at all.
 pub record BeginsOnly (u : Use) (before after : Visits) : Type 0 where
   pub whose : after.whose ≡ before.whose
   pub ballots : after.ballots ≡ before.ballots
-  pub only : (wished : List Use) → Among u wished → AreWished wished before.begins → AreWished wished after.begins
+  pub times : ℕ
+  pub only : after.begins ≡ before.begins ++ replicate times u
 
 -- something was begun since
 pub record BeginsMore (before after : Visits) : Type 0 where

@@ -142,7 +142,8 @@ pub fn run_client_over<W: Wait, R: Recorder, L: Link, G: Gate>(
 ///
 /// With the number of entries made: three reopens of the record failed in a row (911); the nodes that
 /// granted and those that aren't gone are too few (912), or a wish had `MAX_NUDGES` nudges (913), and then
-/// the client has left where it asked, and has said its release once to each asked node that isn't gone;
+/// the client has left where it asked, and has said its release once to each asked node that isn't gone (that
+/// last is tested);
 /// memory was refused (914); the book is full or another's (915); no change of the record can be numbered
 /// any more, or no attempt is left (916). Nothing is logged after that, also where the client is inside by
 /// its log: its guard leaves. It may wait at the link, the recorder and the gate.

@@ -7,7 +7,7 @@ ghost use Rattle.client_core.specs.declared.phases.Phase.TheVariants as phase;
 ghost use Rattle.client_core.specs.Calls.{MayEnter, entered as inside_of};
 ghost use Rattle.client_loop.specs.Sendings.{sent_of, SentFollows, SentUnlessMemory};
 ghost use Rattle.client_loop.specs.Standing.{Stands, IsSameClient};
-ghost use Rattle.client_loop.specs.Remembering.{core_of, busy_of, most_of, HasHadLast};
+ghost use Rattle.client_loop.specs.Remembering.{core_of, busy_of, most_of, HasHadLast, HasReleased};
 ghost use Rattle.client_loop.specs.Endings.{ClientEndsFrom, EndsAsking, EndsOneAttempt, IsAtRest};
 ghost use Rattle.actor_steps.specs.Steps.{IsBookFault};
 ghost use Rattle.actor_steps.specs.Endings.{falls_of, FailuresFollow};
@@ -66,6 +66,7 @@ fn take_back<W: Wait, R: Recorder, L: Link>(
     ensures faulted { IfErr result (λ f. SentUnlessMemory f (R.own_log recorder.old) (R.own_log recorder.new) (L.given link.old) (L.given link.new)) }
     ensures stands { OnOk result (Stands (R.own_log recorder.new) (finds stable.now) progress.new.core) }
     ensures idle { phase_of progress.new.core ≡ phase.Idle }
+    ensures released { OnOk result (HasReleased progress.new) }
     ensures busy { OnOk result (progress.old.busy ≡ true → progress.new.busy ≡ true) }
     ensures most { progress.new.most_nudges ≡ progress.old.most_nudges }
     ensures last { IfErr result (λ f. f ≡ RunFault.GaveUp → HasHadLast progress.new) }
@@ -105,6 +106,7 @@ fn ask_and_enter<W: Wait, R: Recorder, L: Link>(
     ensures most { progress.new.most_nudges ≡ progress.old.most_nudges }
     ensures last { IfErr result (λ f. f ≡ RunFault.GaveUp → HasHadLast progress.new) }
     ensures back { result ≡ Ok false → Stands (R.own_log recorder.new) (finds stable.now) progress.new.core × (phase_of progress.new.core ≡ phase.Idle) }
+    ensures released { result ≡ Ok false → HasReleased progress.new }
     ensures again { IfErr result (λ f. EndsOneAttempt f → Stands (R.own_log recorder.new) (finds stable.now) progress.new.core × (phase_of progress.new.core ≡ phase.Idle)) }
     ensures falls { falls_of (R.own_log recorder.new) ≡ falls_of (R.own_log recorder.old) }
     ensures own { FindsItsOwn (part_now (R.own_log recorder.new)) (finds stable.now) }
@@ -139,8 +141,8 @@ fn ask_and_enter<W: Wait, R: Recorder, L: Link>(
 /// # Errors
 ///
 /// Nothing is entered then. The nodes that granted and those that aren't gone are too few (912), or the
-/// attempt had its last nudge (913): the client has left, has said its release once to each asked node that
-/// isn't gone, and rests, so that it may enter anew. Three reopens of the record failed in a row (911); memory
+/// attempt had its last nudge (913): the client has left and rests, so that it may enter anew, and has said its
+/// release once to each asked node that isn't gone (that last is tested). Three reopens of the record failed in a row (911); memory
 /// was refused (914); the book is full or another's (915); no change of the record can be numbered any more,
 /// or no attempt is left (916).
 #[tactic(auto, using(crate::proofs::SentFacts::follows_from, crate::proofs::SentFacts::follows_on, crate::proofs::SentFacts::follows_none, crate::proofs::SentFacts::unless_none, crate::proofs::SentFacts::unless_on, crate::proofs::SentFacts::unless_from, crate::proofs::EndFacts::client_ends_on, crate::proofs::EndFacts::asking_ends, crate::proofs::EndFacts::book_ends, crate::proofs::EndFacts::failures_same, actor_steps::proofs::EndFacts::failures_on, crate::proofs::BeginFacts::begins_still, crate::proofs::BeginFacts::begins_no_more, crate::proofs::NudgeFacts::attempt_has_none))]
@@ -173,12 +175,14 @@ pub fn enter<W: Wait, R: Recorder, L: Link, G: Gate>(
     ensures outside { (result ≡ Ok true → ⊥) → (visits_of (R.own_log recorder.new)).entered ≡ (visits_of (R.own_log recorder.old)).entered }
     ensures softened { (visits_of (R.own_log recorder.new)).softened ≡ (visits_of (R.own_log recorder.old)).softened }
     ensures free { OnOk result (stuck_of stable.new ≡ false) }
-    // It takes a wish back only where it isn't to wait and a node let it, and rests then, as where it gave up.
+    // It takes a wish back only where it isn't to wait and a node let it; then each node that it asked has answered its
+    // release, or is gone, and it rests, as where it gave up.
     ensures waits { result ≡ Ok false → (patience.waits ≡ false) × (busy_of progress.new ≡ true) }
     // It has as many nudges as its caller says, and gives up only where it had the last.
     ensures most { most_of progress.new ≡ patience.nudges }
     ensures last { IfErr result (λ f. f ≡ RunFault.GaveUp → HasHadLast progress.new) }
     ensures back { result ≡ Ok false → IsAtRest (R.own_log recorder.new) (finds stable.new) (stuck_of stable.new) (core_of progress.new) }
+    ensures released { result ≡ Ok false → HasReleased progress.new }
     ensures again { IfErr result (λ f. EndsOneAttempt f → IsAtRest (R.own_log recorder.new) (finds stable.new) (stuck_of stable.new) (core_of progress.new)) }
     // However it ends, a restart finds in its record nothing but what it has kept and what it tries to keep.
     ensures own { FindsItsOwn (part_now (R.own_log recorder.new)) (finds stable.new) }

@@ -5,7 +5,7 @@ ghost use Rattle.client_core.specs.Clients.{phase_of};
 ghost use Rattle.client_core.specs.declared.phases.Phase.TheVariants as phase;
 ghost use Rattle.client_loop.specs.Sendings.{sent_of, SentFollows, SentUnlessMemory};
 ghost use Rattle.client_loop.specs.Standing.{Stands, HasLeft, IsSameClient};
-ghost use Rattle.client_loop.specs.Remembering.{core_of, busy_of, most_of, HasHadLast, HasReleased};
+ghost use Rattle.client_loop.specs.Remembering.{core_of, asked_of, busy_of, most_of, HasHadLast, HasReleased};
 ghost use Rattle.client_loop.specs.Endings.{EndsAsking, IsAskFault};
 ghost use Rattle.client_loop.specs.Visits.{visits_of};
 ghost use Rattle.actor_steps.specs.Steps.{IsBookFault};
@@ -51,8 +51,8 @@ pub(crate) fn log_leave<R: Recorder>(
 ///
 /// # Errors
 ///
-/// The attempt had its last nudge (913), and then the client has said its release once more to each asked
-/// node that isn't gone, and rests; memory was refused (914), or the book is full or another's (915).
+/// The attempt had its last nudge (913), and then the client rests, and has said its release once more to each
+/// asked node that isn't gone (that last is tested); memory was refused (914), or the book is full or another's (915).
 #[tactic(auto, using(crate::proofs::SentFacts::follows_from, crate::proofs::SentFacts::unless_none, crate::proofs::SentFacts::unless_from, crate::proofs::BeginFacts::still_client, crate::proofs::NudgeFacts::last_ended, crate::proofs::FindingFacts::stands_own, crate::proofs::FindingFacts::left_still))]
 pub fn leave<W: Wait, R: Recorder, L: Link>(
     rt: &W,
@@ -70,6 +70,7 @@ pub fn leave<W: Wait, R: Recorder, L: Link>(
     ensures stands { OnOk result (Stands (R.own_log recorder.new) (finds stable.now) (core_of progress.new)) }
     ensures idle { phase_of (core_of progress.new) ≡ phase.Idle }
     ensures released { OnOk result (HasReleased progress.new) }
+    ensures asked { OnOk result (asked_of progress.new ≡ asked_of progress.old) }
     // That a node let it wait is remembered.
     ensures busy { OnOk result (busy_of progress.old ≡ true → busy_of progress.new ≡ true) }
     // 913: only where the wish had its last nudge; how many it may have stays.

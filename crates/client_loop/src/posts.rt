@@ -37,6 +37,7 @@ fn take_parcel<R: Recorder>(
     ensures phase { phase_of progress.new.core ≡ phase_of progress.old.core }
     ensures ticket { ticket_of progress.new.core ≡ ticket_of progress.old.core }
     ensures busy { progress.old.busy ≡ true → progress.new.busy ≡ true }
+    ensures asked { progress.new.asked ≡ progress.old.asked }
     ensures most { progress.new.most_nudges ≡ progress.old.most_nudges }
     ensures visits { visits_of (R.own_log recorder.new) ≡ visits_of (R.own_log recorder.old) }
     ensures falls { falls_of (R.own_log recorder.new) ≡ falls_of (R.own_log recorder.old) }
@@ -107,6 +108,7 @@ pub(crate) fn take_post<R: Recorder, L: Link>(
     ensures phase { phase_of progress.new.core ≡ phase_of progress.old.core }
     ensures ticket { ticket_of progress.new.core ≡ ticket_of progress.old.core }
     ensures busy { progress.old.busy ≡ true → progress.new.busy ≡ true }
+    ensures asked { progress.new.asked ≡ progress.old.asked }
     ensures most { progress.new.most_nudges ≡ progress.old.most_nudges }
     ensures last { IfErr result (λ f. f ≡ RunFault.GaveUp → HasHadLast progress.new) }
     ensures visits { visits_of (R.own_log recorder.new) ≡ visits_of (R.own_log recorder.old) }

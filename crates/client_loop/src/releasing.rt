@@ -65,6 +65,7 @@ pub(crate) fn release<W: Wait, R: Recorder, L: Link>(
     ensures stands { Stands (R.own_log recorder.new) (finds stable.now) progress.new.core }
     ensures phase { phase_of progress.new.core ≡ phase_of progress.old.core }
     ensures busy { progress.old.busy ≡ true → progress.new.busy ≡ true }
+    ensures asked { progress.new.asked ≡ progress.old.asked }
     ensures most { progress.new.most_nudges ≡ progress.old.most_nudges }
     ensures last { IfErr result (λ f. f ≡ RunFault.GaveUp → HasHadLast progress.new) }
     ensures visits { visits_of (R.own_log recorder.new) ≡ visits_of (R.own_log recorder.old) }

@@ -81,9 +81,9 @@ the settings don't have the node or client.
 `---` is 801.
 
 `settings fault N` stands alone: 921 no TOML, 922 a value missing or out of range, 923 an unknown key,
-924 no line `---` within 65536 bytes (also where lines end with CRLF), 925 no memory; 201 no node, 202
-more than 16, 203 a need over all votes, 204 a read and a write could miss each other, 205 two writes
-could; 206 under two of the ballots, 208 over eight ballots; 901 `lose`, `twice` and `late` over 1000
+924 no line `---` begins within 65536 bytes (also where lines end with CRLF), 925 no memory; 201 no
+node, 202 more than 16, 203 a need over all votes, 204 a read and a write could miss each other, 205
+two writes could; 206 under two of the ballots, 208 over eight ballots; 901 `lose`, `twice` and `late` over 1000
 together; 801 to 805 the first wish that is none, as of a line.
 
 The status is 0; 1 where an event or a query was refused, a line was bad, or `fault N` stands on
@@ -111,7 +111,7 @@ which all nodes and clients are down and nothing is kept. Of a journal that can'
 first line that is wrong: `unsound L refused N` where the event can't happen then, `unsound L fault N`
 where the line is no event. Lines count from 1 behind `---`, and the numbers are those of
 `rwvote script --help`; a blank line or a comment is `unsound L fault 801`. Nothing behind that line
-is read. The settings and the events are written as for `script`, a `soften c1` too: further ballots
+is judged or waited for. The settings and the events are written as for `script`, a `soften c1` too: further ballots
 stand in `more`, and a `begin` by one of them ends with its place, as `b2`; a query is no event.
 `switch nN 1|2` gives node N this problem, where a script prints `changed`, or `same` if it has it
 already; in front of the node's `say` it is `unsound L refused 604`, and `switch n1 3` is

@@ -1,2 +1,3 @@
 pub mod OwnLogFacts
 pub mod LengthFacts
+pub mod LogFacts

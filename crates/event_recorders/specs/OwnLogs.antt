@@ -35,6 +35,15 @@ part_now l = local_part l.ballots l.opening l.events
 abbrev pub adds : OwnLog → Event → Effect → OwnLog
 adds l e done = record { actor = l.actor; ballots = l.ballots; opening = l.opening; events = l.events ++ (e, done) ∷ [] }
 
+-- What events come to, one after the other, from a part of the actor on: each to what it comes to in the part before it.
+abbrev pub all_of : {X : Type 0} → (List Ballot → Event → Effect → Part → List X) → List Ballot → Part → List (Event × Effect) → List X
+all_of each b p [] = []
+all_of each b p (q ∷ own) = each b q.0 q.1 p ++ all_of each b (after_own b q.0 q.1 p) own
+
+-- the same of all events of a log
+abbrev pub in_log : {X : Type 0} → (List Ballot → Event → Effect → Part → List X) → OwnLog → List X
+in_log each l = all_of each l.ballots l.opening l.events
+
 -- The event joined the log: its effect is of its kind, nothing else of the log changed, and the actor's
 -- part is what the event makes of it.
 pub record IsAdded (l : OwnLog) (e : Event) (done : Effect) (l' : OwnLog) : Type 0 where

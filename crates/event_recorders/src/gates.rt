@@ -16,7 +16,8 @@ pub trait Gate {
     /// The actor has logged that it starts to keep its record, and calls this before it keeps it.
     fn before_keep(&self, actor: Actor);
 
-    /// The client is inside, by this guard; the client leaves when this returns.
+    /// The client is inside, by this guard. When this returns the client leaves or, where its wish softens, softens,
+    /// and this is called once more before it leaves.
     ///
     /// The caller owes that the client's own log has it inside with the guard's ticket.
     fn while_inside<R: Recorder>(&self, recorder: &R, guard: &EntryGuard<'_, ClientCore>)

@@ -5,7 +5,6 @@ use Rattle.lock_messages.specs.declared.ids.Actor.{Actor}
 use Rattle.world_model.specs.declared.events.Effect.{Effect}
 use Rattle.world_model.specs.declared.events.Event.{Event}
 use Rattle.world_model.specs.declared.events.StepFault.{StepFault}
-use Rattle.world_model.specs.declared.events.StepFault.TheVariants as fault
 use Rattle.world_model.specs.ExactWorlds.{step, actor_of, refusal, refusal_of}
 use Rattle.world_model.specs.Locality.{PlacesAreApart, RefusalsAreLocal, PartsAreLocal, IsLocalRefusal, own_events, local_part, IsHistory}
 use Rattle.world_model.specs.Parts.{place, is_own, part, own_refusal}

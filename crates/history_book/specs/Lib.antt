@@ -1,3 +1,4 @@
 pub mod Faults
 pub mod Books
+pub mod Inside
 pub mod Laws

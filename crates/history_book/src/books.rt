@@ -9,6 +9,7 @@ ghost use Rattle.world_model.specs.Locality.{IsHistory, IsRunOf, IsAsListed};
 ghost use Rattle.world_machine.specs.Listing.{has_actor};
 ghost use Rattle.world_model.specs.Parts.{is_own};
 ghost use Rattle.history_book.specs.Books.{BookValue, BerthValue, Known, sees, IsLogged, IsRefused, IsRefusedBy, IsSame, IsNoStep, IsOfEvent, IsBook, IsOpened, IsGiven, enters, IsMet, Reads, inside_ticket, own_part};
+ghost use Rattle.history_book.specs.Inside.{TellsInside};
 ghost use Rattle.berth_seats.specs.Views.{is_given};
 ghost use Rattle.journal_text.specs.Journals.{history_text, IsRecorded};
 ghost use Rattle.line_streams.specs.Streams.{Puts};
@@ -18,7 +19,7 @@ use crate::meeting::are_inside_together;
 use crate::owners::{enters_by, has_given, is_of};
 use berth_seats::{BerthSeat, BookSeat, OpenedWith};
 use journal_text::{JournalFault, write_history};
-use lock_messages::Actor;
+use lock_messages::{Actor, ResourceName, Ticket};
 use std::alloc::Global;
 use std::io::Write;
 use std::marker::{Brand, Model};
@@ -171,7 +172,7 @@ impl Book {
     /// the world that the book was opened with finds it sound (`journal_laws`).
     ///
     /// The errors: `Write` (817) where the writer fails or takes nothing, `Memory` (818) where memory was
-    /// refused. Then a beginning of the journal was written.
+    /// refused. Then a beginning of the journal was written, and not all of it.
     #[tactic(auto, using(crate::proofs::Histories::few_ballots))]
     pub fn write_journal<W: Write>(&self, alloc: Global, writer: &mut W) -> Result<(), JournalFault>
         ensures text { Puts (W.contents writer.old) (W.contents writer.new) (history_text self.now.history) result }
@@ -329,5 +330,31 @@ impl Book {
         self.seat.look(&mut other.seat);
         locality();
         Ok(are_inside_together(&self.world, one.actor, other.actor))
+    }
+
+    /// The tickets of the clients that are inside the resource, in the order of the clients; a writer among them is
+    /// the only one. It shows the berth all of the history.
+    ///
+    /// The errors: the berth has another book's number (815), which changes nothing, or memory was refused (813).
+    /// The caller owes that a berth of this number is this book's own. It goes over the world's clients.
+    pub fn inside(
+        &mut self,
+        berth: &mut Berth,
+        resource: &ResourceName,
+    ) -> Result<Vec<Ticket>, BookFault>
+        requires { berth.old.number ≡ self.old.number → berth.old.table ≡ self.old.table }
+        ensures book { self.new ≡ self.old }
+        ensures ok { IfOk result (λ tickets. TellsInside self.old berth.old resource.now tickets.items berth.new) }
+        ensures number { OnOk result (berth.old.number ≡ self.old.number) }
+        ensures err { IfErr result (λ f. ((f ≡ BookFault.OtherBook) × (berth.old.number ≢ self.old.number) × (berth.new ≡ berth.old)) ⊎ ((f ≡ BookFault.Memory) × Known self.old berth.old × (berth.new ≡ sees self.old berth.old))) }
+    {
+        match self.observe(berth) {
+            Ok(()) => {}
+            Err(fault) => return Err(fault),
+        }
+        match self.world().inside(resource) {
+            Ok(tickets) => Ok(tickets),
+            Err(_) => Err(BookFault::Memory),
+        }
     }
 }

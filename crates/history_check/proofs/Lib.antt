@@ -1,5 +1,6 @@
 pub mod SplitFacts
 pub mod NumberFacts
+pub mod WordBytes
 pub mod WordFacts
 pub mod LineLaws
 pub mod EventLaws

@@ -1,11 +1,12 @@
 -- A line says something exactly where it is the one text of it.
 use Rattle.std.proofs.Common.{◌≡◌, inl, inr, ◌↔◌, ℕ, zero, suc, ◌+◌, ◌≤◌, Bool, true, false, cond, not, ◌&&◌, nat_le, nat_lt, List, [], ◌∷◌, ◌++◌, length, Option, Some, Result, Ok, Err, refl, sym, ap, subst, ◌∙◌, arith}
-use Rattle.std.specs.List.{slice_split, onto_first, join_with_byte}
+use Rattle.std.specs.List.{All, join_with_byte}
 use Rattle.std.specs.Option.{is_some, ok_or}
 use Rattle.std.specs.Str.{bytes_eq}
 use Rattle.std.proofs.lemmas.Bool.Decides.{nat_tests}
 use Rattle.std.proofs.lemmas.List.{length-append}
-use Rattle.std.proofs.lemmas.List.Splits.{join_with_byte-slice_split, slice_split-cons_no}
+use Rattle.std.proofs.lemmas.List.Elements.{All-head, All-tail}
+use Rattle.std.proofs.lemmas.List.Splits.{join_with_byte-slice_split, slice_split_none, slice_split_at}
 use Rattle.std.proofs.lemmas.Slice.Eq.{bytes_eq-Decides}
 use Rattle.std.proofs.lemmas.Bool.{leb-true}
 use Rattle.world_model.specs.declared.events.Event.TheVariants as event
@@ -20,7 +21,8 @@ use Rattle.history_check.specs.declared.words.TheConstants.{MAX_LINE_LEN}
 use Rattle.history_check.specs.Commands.{word_of, named}
 use Rattle.history_check.specs.Lines.{◌>>=◌, Kind, kinds_of, Value, Arguments, left_out, value_in, value_texts, argument_texts, parts_text, text_of, command_of, IsValue, AreValues, IsInRange, is_space, words, between, least_words, values_in, arguments_in, given, said_by, words_say, line_of}
 use Rattle.history_check.specs.Laws.{IsAmong}
-use Rattle.history_check.proofs.WordFacts.{never_ok, was_some, value_is, left_is, spelled_by, width, IsSpelledBy, IsGoodWord, Plain}
+use Rattle.history_check.proofs.WordFacts.{never_ok, was_some, value_is, left_is, spelled_by, width, IsSpelledBy, IsGoodWord}
+use Rattle.history_check.proofs.WordBytes.{Lacks, IsOutside, lacks_word, lacks_arguments}
 
 pub bind_ok : {A B : Type 0} (r : Result A LineFault) (f : A → Result B LineFault) (y : B) → (r >>= f) ≡ Ok y → (x : A) × (r ≡ Ok x) × (f x ≡ Ok y)
 bind_ok (Ok x) f y h = (x, refl, h)
@@ -182,22 +184,11 @@ what_is_read cs bytes l h =
     subst (λ (bs : List ℕ). IsItsText cs bs l) (join_with_byte-slice_split 32 bytes) (all_words cs (words bytes) l (short_line (nat_lt MAX_LINE_LEN (length bytes)) (words_say cs (words bytes)) l h))
 
 -- From arguments to words: what is written is read.
-split_here : (w ys : List ℕ) → Plain w → slice_split is_space (w ++ 32 ∷ ys) ≡ w ∷ slice_split is_space ys
-split_here [] ys h = refl
-split_here (b ∷ bs) ys h = slice_split-cons_no is_space b (bs ++ 32 ∷ ys) h.0 ∙ ap (onto_first b) (split_here bs ys h.1)
-
-split_last : (w : List ℕ) → Plain w → slice_split is_space w ≡ w ∷ []
-split_last [] h = refl
-split_last (b ∷ bs) h = slice_split-cons_no is_space b bs h.0 ∙ ap (onto_first b) (split_last bs h.1)
-
--- no word has a space
-abbrev pub ArePlain : List (List ℕ) → Type 0
-ArePlain [] = Unit {0}
-ArePlain (w ∷ ws) = Plain w × ArePlain ws
-
-pub its_words : (w : List ℕ) (ws : List (List ℕ)) → Plain w → ArePlain ws → words (joined (w ∷ ws)) ≡ w ∷ ws
-its_words w [] h hs = split_last w h
-its_words w (v ∷ vs) h hs = split_here w (joined (v ∷ vs)) h ∙ ap (λ (ws : List (List ℕ)). w ∷ ws) (its_words v vs hs.0 hs.1)
+pub its_words : (w : List ℕ) (ws : List (List ℕ)) → Lacks 32 w → All (Lacks 32) ws → words (joined (w ∷ ws)) ≡ w ∷ ws
+its_words w [] h hs = slice_split_none is_space w h
+its_words w (v ∷ vs) h hs =
+    slice_split_at is_space w 32 (joined (v ∷ vs)) h refl
+    ∙ ap (λ (ws : List (List ℕ)). w ∷ ws) (its_words v vs (All-head (Lacks 32) v vs hs) (All-tail (Lacks 32) v vs hs))
 
 -- how long words are, each with a space before it
 abbrev pub spaced : List (List ℕ) → ℕ
@@ -216,30 +207,18 @@ abbrev pub room : List Kind → ℕ
 room [] = 0
 room (k ∷ ks) = suc (width k + room ks)
 
--- Words that have no spaces, and are short.
-record AreGood (ws : List (List ℕ)) (most : ℕ) : Type 0 where
-  plain : ArePlain ws
-  short : spaced ws ≤ most
+short_value : (k : Kind) (ks : List Kind) (x : Value k) (ws : List (List ℕ)) → IsSpelledBy k x → spaced ws ≤ room ks → spaced (value_texts k x ++ ws) ≤ room (k ∷ ks)
+short_value k ks x ws (inl none) h = subst (λ (vs : List (List ℕ)). spaced (vs ++ ws) ≤ room (k ∷ ks)) (sym none.0) (omega (arith, h))
+short_value k ks x ws (inr (w, one, good)) h = subst (λ (vs : List (List ℕ)). spaced (vs ++ ws) ≤ room (k ∷ ks)) (sym one) (omega (arith, h, good.short))
 
-good_value : (k : Kind) (ks : List Kind) (x : Value k) (ws : List (List ℕ)) → IsSpelledBy k x → AreGood ws (room ks) → AreGood (value_texts k x ++ ws) (room (k ∷ ks))
-good_value k ks x ws (inl none) h =
-    subst (λ (vs : List (List ℕ)). AreGood (vs ++ ws) (room (k ∷ ks))) (sym none.0)
-    (record { plain = h.plain; short = omega (arith, h.short) })
-good_value k ks x ws (inr (w, one, good)) h =
-    subst (λ (vs : List (List ℕ)). AreGood (vs ++ ws) (room (k ∷ ks))) (sym one)
-    (record { plain = (good.plain, h.plain); short = omega (arith, h.short, good.short) })
-
-are_good : (ks : List Kind) (a : Arguments ks) → AreValues ks a → AreGood (argument_texts ks a) (room ks)
-are_good [] a v = record { plain = tt; short = omega arith }
-are_good (k ∷ ks) a v = good_value k ks a.0 (argument_texts ks a.1) (spelled_by k a.0 v.0) (are_good ks a.1 v.1)
-
-pub plain_arguments : (ks : List Kind) (a : Arguments ks) → AreValues ks a → ArePlain (argument_texts ks a)
-plain_arguments ks a v = (are_good ks a v).plain
+are_short : (ks : List Kind) (a : Arguments ks) → AreValues ks a → spaced (argument_texts ks a) ≤ room ks
+are_short [] a v = omega arith
+are_short (k ∷ ks) a v = short_value k ks a.0 (argument_texts ks a.1) (spelled_by k a.0 v.0) (are_short ks a.1 v.1)
 
 pub short_arguments : (w : List ℕ) (ks : List Kind) (a : Arguments ks) → AreValues ks a → length (joined (w ∷ argument_texts ks a)) ≤ length w + room ks
 short_arguments w ks a v =
     let whole : length (joined (w ∷ argument_texts ks a)) ≡ length w + spaced (argument_texts ks a) = its_length w (argument_texts ks a) in
-    let short : spaced (argument_texts ks a) ≤ room ks = (are_good ks a v).short in
+    let short : spaced (argument_texts ks a) ≤ room ks = are_short ks a v in
     omega (arith, whole, short)
 
 -- what may be left out stands last
@@ -313,23 +292,9 @@ pub arguments_say : (ks : List Kind) (a : Arguments ks) → lacks_last ks ≡ tr
 arguments_say ks a l v =
     bound (between (least_words ks) (length ks) (argument_texts ks a)) (λ us. values_in ks us) (argument_texts ks a) (Ok a) (as_many ks a l v) (values_say ks a l v)
 
-plain_word : (c : Command) → Plain (word_of c)
-plain_word command.Begin = (refl, (refl, (refl, (refl, (refl, tt)))))
-plain_word command.Try = (refl, (refl, (refl, tt)))
-plain_word command.Kept = (refl, (refl, (refl, (refl, tt))))
-plain_word command.SayTo = (refl, (refl, (refl, (refl, (refl, tt)))))
-plain_word command.Say = (refl, (refl, (refl, tt)))
-plain_word command.Take = (refl, (refl, (refl, (refl, tt))))
-plain_word command.Hear = (refl, (refl, (refl, (refl, tt))))
-plain_word command.Enter = (refl, (refl, (refl, (refl, (refl, tt)))))
-plain_word command.Leave = (refl, (refl, (refl, (refl, (refl, tt)))))
-plain_word command.Soften = (refl, (refl, (refl, (refl, (refl, (refl, tt))))))
-plain_word command.Fall = (refl, (refl, (refl, (refl, tt))))
-plain_word command.Rise = (refl, (refl, (refl, (refl, tt))))
-plain_word command.Switch = (refl, (refl, (refl, (refl, (refl, (refl, tt))))))
-plain_word command.Inside = (refl, (refl, (refl, (refl, (refl, (refl, tt))))))
-plain_word command.Waiting = (refl, (refl, (refl, (refl, (refl, (refl, (refl, tt)))))))
-plain_word command.Holding = (refl, (refl, (refl, (refl, (refl, (refl, (refl, tt)))))))
+-- a space is no byte of a word
+pub space_outside : IsOutside 32
+space_outside = record { digit = refl; name = refl }
 
 few_words : (c : Command) → nat_le (length (word_of c) + room (kinds_of c)) 128 ≡ true
 few_words command.Begin = refl
@@ -382,7 +347,7 @@ back cs c says same a v there =
     let most : length (word_of c) + room (kinds_of c) ≤ 128 = leb-true (length (word_of c) + room (kinds_of c)) 128 (few_words c) in
     let short : length text ≤ 128 = no_longer (length text) (length (word_of c) + room (kinds_of c)) few most in
     if_short (length text) (Err fault.Words) (words_say cs (words text)) short
-    ∙ ap (words_say cs) (its_words (word_of c) ws (plain_word c) (plain_arguments (kinds_of c) a v))
+    ∙ ap (words_say cs) (its_words (word_of c) ws (lacks_word 32 space_outside c) (lacks_arguments 32 space_outside (kinds_of c) a v))
     ∙ bound (named cs (word_of c)) (λ d. said_by d ws) c (Ok (says a)) (finds cs c there)
     (same ws ∙ bound (arguments_in (kinds_of c) ws) (λ b. Ok (says b)) a (Ok (says a)) (arguments_say (kinds_of c) a (the_last c) v) refl)
 

@@ -1,23 +1,18 @@
 -- Cutting a list at the elements that pass a test.
 use Rattle.std.proofs.Common.{◌≡◌, ℕ, ◌+◌, ◌≤◌, Bool, true, false, cond, List, [], ◌∷◌, length, take, drop, Some, None, refl, arith}
-use Rattle.std.specs.List.{slice_split, onto_first, position, position_or_len}
-use Rattle.std.proofs.lemmas.List.Splits.{slice_split_first, slice_split_none}
+use Rattle.std.specs.List.{slice_split, count_by, position, position_or_len}
+use Rattle.std.proofs.lemmas.List.Splits.{slice_split_first, slice_split_none, length-slice_split}
 use Rattle.std.proofs.lemmas.List.Sums.{fails_before_first}
 use Rattle.std.proofs.lemmas.Option.{cond_some}
 use Rattle.std.proofs.lemmas.Bool.{ltb-true, ltb-false}
 
+parted : {X : Type 0} (xs : List X) (n : ℕ) → length xs ≡ n + 1 → (y : X) × (ys : List X) × (xs ≡ y ∷ ys)
+parted [] n h = absurd (omega (arith, h))
+parted (y ∷ ys) n h = (y, ys, refl)
+
 -- a list has a first part
-first_part : {X : Type 0} (x : X) (parts : List (List X)) → (q : List X) × (qs : List (List X)) × (onto_first x parts ≡ q ∷ qs)
-first_part x [] = (x ∷ [], [], refl)
-first_part x (p ∷ ps) = (x ∷ p, ps, refl)
-
-choose_part : {X : Type 0} (b : Bool) (x : X) (parts : List (List X)) → (q : List X) × (qs : List (List X)) × (cond b ([] ∷ parts) (onto_first x parts) ≡ q ∷ qs)
-choose_part true x parts = ([], parts, refl)
-choose_part false x parts = first_part x parts
-
 pub some_part : {X : Type 0} (p : X → Bool) (xs : List X) → (q : List X) × (qs : List (List X)) × (slice_split p xs ≡ q ∷ qs)
-some_part p [] = ([], [], refl)
-some_part p (x ∷ xs) = choose_part (p x) x (slice_split p xs)
+some_part p xs = parted (slice_split p xs) (count_by p xs) (length-slice_split p xs)
 
 cond_none : {A : Type 0} (b : Bool) (x : A) → cond b (Some x) None ≡ None → b ≡ false
 cond_none true x h = cc

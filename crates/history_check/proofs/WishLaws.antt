@@ -9,8 +9,9 @@ use Rattle.history_check.specs.declared.wishes.Wish.{Wish}
 use Rattle.history_check.specs.declared.words.TheConstants.{MAX_LINE_LEN}
 use Rattle.history_check.specs.Lines.{◌>>=◌, AClient, Arguments, argument_texts, value_text, arguments_in, values_in, words, between, client_word}
 use Rattle.history_check.specs.Wishes.{use_kinds, wish_kinds, wish_parts, wished, wish_text, wish_among, wish_of, words_wish, client_among, IsWish}
-use Rattle.history_check.proofs.LineLaws.{bind_ok, bound, arguments_are, arguments_say, joined, its_words, plain_arguments, short_arguments, if_short}
-use Rattle.history_check.proofs.WordFacts.{short_client, plain_client, value_is}
+use Rattle.history_check.proofs.LineLaws.{bind_ok, bound, arguments_are, arguments_say, joined, its_words, space_outside, short_arguments, if_short}
+use Rattle.history_check.proofs.WordBytes.{lacks_client, lacks_arguments}
+use Rattle.history_check.proofs.WordFacts.{short_client, value_is}
 
 abbrev wish_with : Arguments wish_kinds → Wish
 wish_with a = wished a.0 a.1
@@ -77,7 +78,7 @@ what_is_written w v =
     let short : length text ≤ 128 = omega arith in
     what_is_judged text
     ∙ if_short (length text) (Err fault.Words) (judged text) short
-    ∙ ap (λ ws. arguments_in wish_kinds ws >>= (λ a. Ok (wish_with a))) (its_words first (argument_texts use_kinds rest) (plain_client w.client v.0) (plain_arguments use_kinds rest v.1))
+    ∙ ap (λ ws. arguments_in wish_kinds ws >>= (λ a. Ok (wish_with a))) (its_words first (argument_texts use_kinds rest) (lacks_client 32 space_outside w.client v.0) (lacks_arguments 32 space_outside use_kinds rest v.1))
     ∙ bound (arguments_in wish_kinds (argument_texts wish_kinds (wish_parts w))) (λ a. Ok (wish_with a)) (wish_parts w) (Ok w) (arguments_say wish_kinds (wish_parts w) refl v) refl
 
 pub wishes_once : (bytes : List ℕ) (w : Wish) → (wish_of bytes ≡ Ok w) ↔ ((bytes ≡ wish_text w) × IsWish w)

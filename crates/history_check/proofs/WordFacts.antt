@@ -5,11 +5,10 @@ use Rattle.std.specs.Option.{ok_or}
 use Rattle.std.specs.Str.{bytes_eq}
 use Rattle.std.specs.Str.Parse.{digits_value}
 use Rattle.std.specs.Fmt.{decimal}
-use Rattle.std.specs.Char.{is_ascii_digit}
 use Rattle.std.proofs.lemmas.Bool.Decides.{nat_tests}
 use Rattle.std.proofs.lemmas.Fmt.{digits_decimal, digits_value-decimal, first_decimal, decimal_nonempty, length-decimal-le}
 use Rattle.std.proofs.lemmas.Slice.Eq.{bytes_eq-Decides}
-use Rattle.std.proofs.lemmas.Bool.{and_parts, leb-true}
+use Rattle.std.proofs.lemmas.Bool.{leb-true}
 use Rattle.lock_messages.specs.declared.ids.TheConstants.{MAX_NODES, MAX_CLIENTS}
 use Rattle.lock_messages.specs.declared.ids.Actor.{Actor}
 use Rattle.lock_messages.specs.declared.ids.Actor.TheVariants as actor
@@ -26,7 +25,7 @@ use Rattle.world_model.specs.declared.events.Age.{Age}
 use Rattle.world_model.specs.declared.events.Age.TheVariants.{Old, New}
 use Rattle.history_check.specs.declared.faults.LineFault.{LineFault}
 use Rattle.history_check.specs.declared.faults.LineFault.TheVariants as fault
-use Rattle.history_check.specs.Lines.{◌>>=◌, Kind, ANode, AClient, AnActor, ANumber, AName, AMode, AWishMode, AnAge, APlace, AProblem, WishMode, Value, left_out, is_space, spelled, lettered, either_of, node_word, client_word, actor_word, number_word, name_word, mode_word, wish_mode_word, age_word, problem_word, behind_first, place_word, age_text, problem_text, wish_mode_text, value_in, value_text, value_texts, IsValue, IsActor, IsPlace, IsWishMode}
+use Rattle.history_check.specs.Lines.{◌>>=◌, Kind, ANode, AClient, AnActor, ANumber, AName, AMode, AWishMode, AnAge, APlace, AProblem, WishMode, Value, left_out, spelled, lettered, either_of, node_word, client_word, actor_word, number_word, name_word, mode_word, wish_mode_word, age_word, problem_word, behind_first, place_word, age_text, problem_text, wish_mode_text, value_in, value_text, value_texts, IsValue, IsActor, IsPlace, IsWishMode}
 use Rattle.history_check.proofs.NumberFacts.{own, spelled_so}
 
 -- numbers
@@ -242,42 +241,7 @@ problem_says Second = refl
 place_says : (p : ℕ) → IsPlace p → (p == 1) ≡ false → place_word (value_text APlace p) ≡ Ok p
 place_says p h e = ap behind_first (text_is_spelled MAX_BALLOTS p (omega arith) h.0 h.1) ∙ ap (λ (b : Bool). cond b (Err fault.Number) (Ok p)) e
 
--- Words have no spaces, and are short.
-abbrev pub Plain : List ℕ → Type 0
-Plain [] = Unit {0}
-Plain (b ∷ bs) = (is_space b ≡ false) × Plain bs
-
-no_space_at : (p : ℕ → Bool) (b : ℕ) (t : Bool) → (b == 32) ≡ t → p 32 ≡ false → p b ≡ true → (b == 32) ≡ false
-no_space_at p b true e never h = let clash : false ≡ true = sym never ∙ ap p (sym (same_number b 32 e)) ∙ h in absurd (cc)
-no_space_at p b false e never h = e
-
-plain_of : (p : ℕ → Bool) → p 32 ≡ false → (bs : List ℕ) → list_all p bs ≡ true → Plain bs
-plain_of p never [] h = tt
-plain_of p never (b ∷ bs) h = let (x, more) = and_parts (p b) (list_all p bs) h in (no_space_at p b (b == 32) refl never x, plain_of p never bs more)
-
-plain_number : (n : ℕ) → n < 2 ^ 64 → Plain (decimal n)
-plain_number n h = plain_of is_ascii_digit refl (decimal n) (digits_decimal own n h)
-
-plain_actor : (who : Actor) → IsActor who → Plain (actor_text who)
-plain_actor (actor.Node n) h = (refl, plain_number n (omega (arith, h.1)))
-plain_actor (actor.Client c) h = (refl, plain_number c (omega (arith, h.1)))
-
-plain_mode : (m : Mode) → Plain (mode_text m)
-plain_mode Read = (refl, (refl, (refl, (refl, tt))))
-plain_mode Write = (refl, (refl, (refl, (refl, (refl, tt)))))
-
-plain_wish_mode : (x : WishMode) → Plain (wish_mode_text x)
-plain_wish_mode (m, true) = (refl, (refl, (refl, (refl, (refl, (refl, tt))))))
-plain_wish_mode (m, false) = plain_mode m
-
-plain_age : (a : Age) → Plain (age_text a)
-plain_age Old = (refl, (refl, (refl, tt)))
-plain_age New = (refl, (refl, (refl, tt)))
-
-plain_problem : (p : Problem) → Plain (problem_text p)
-plain_problem First = (refl, tt)
-plain_problem Second = (refl, tt)
-
+-- words are short
 short_number : (n : ℕ) → n ≤ 2000000 → length (decimal n) ≤ 7
 short_number n h = length-decimal-le 7 n (omega arith) (omega arith) (omega arith)
 
@@ -317,10 +281,9 @@ short_problem : (p : Problem) → length (problem_text p) ≤ 8
 short_problem First = leb-true (length (problem_text First)) 8 refl
 short_problem Second = leb-true (length (problem_text Second)) 8 refl
 
--- a word that has no space, is short, and is read as the value
+-- a word that is short, and is read as the value
 pub record IsGoodWord (k : Kind) (w : List ℕ) (x : Value k) : Type 0 where
   pub says : value_in k w ≡ Ok x
-  pub plain : Plain w
   pub short : length w ≤ width k
 
 -- a value has no word, and is what it is where that is left out; or one good word
@@ -336,11 +299,8 @@ place_spelled p false e h =
     inr (
       value_text APlace p,
       ap (λ (b : Bool). cond b [] (value_text APlace p ∷ [])) e,
-      record { says = place_says p h e; plain = (refl, plain_number p (omega (arith, h.1))); short = short_behind 98 (decimal p) (short_number p (omega (arith, h.1))) },
+      record { says = place_says p h e; short = short_behind 98 (decimal p) (short_number p (omega (arith, h.1))) },
     )
-
-pub plain_client : (c : ℕ) → IsClient c → Plain (value_text AClient c)
-plain_client c h = (refl, plain_number c (omega (arith, h.1)))
 
 pub short_client : (c : ℕ) → IsClient c → length (value_text AClient c) ≤ 8
 short_client c h = short_behind 99 (decimal c) (short_number c (omega (arith, h.1)))
@@ -352,7 +312,6 @@ spelled_by ANode n h =
       refl,
       record {
         says = ap (λ (o : Option ℕ). ok_or o fault.Actor) (text_is_spelled MAX_NODES n (omega arith) h.0 h.1);
-        plain = (refl, plain_number n (omega (arith, h.1)));
         short = short_behind 110 (decimal n) (short_number n (omega (arith, h.1)));
       },
     )
@@ -362,24 +321,22 @@ spelled_by AClient c h =
       refl,
       record {
         says = ap (λ (o : Option ℕ). ok_or o fault.Actor) (text_is_spelled MAX_CLIENTS c (omega arith) h.0 h.1);
-        plain = plain_client c h;
         short = short_client c h;
       },
     )
-spelled_by AnActor who h = inr (value_text AnActor who, refl, record { says = actor_says who h; plain = plain_actor who h; short = short_actor who h })
+spelled_by AnActor who h = inr (value_text AnActor who, refl, record { says = actor_says who h; short = short_actor who h })
 spelled_by ANumber k h =
     inr (
       value_text ANumber k,
       refl,
       record {
         says = ap (λ (o : Option ℕ). ok_or o fault.Number) (text_is_spelled MAX_MESSAGES k (omega arith) h.0 h.1);
-        plain = plain_number k (omega (arith, h.1));
         short = number_word_is k (short_number k (omega (arith, h.1)));
       },
     )
-spelled_by AName x h = inr (value_text AName x, refl, record { says = name_says x h; plain = plain_of is_name_byte refl x h.each; short = h.fits })
-spelled_by AMode m h = inr (value_text AMode m, refl, record { says = mode_says m; plain = plain_mode m; short = short_mode m })
-spelled_by AWishMode x h = inr (value_text AWishMode x, refl, record { says = wish_mode_says x h; plain = plain_wish_mode x; short = short_wish_mode x })
-spelled_by AnAge a h = inr (value_text AnAge a, refl, record { says = age_says a; plain = plain_age a; short = short_age a })
-spelled_by AProblem p h = inr (value_text AProblem p, refl, record { says = problem_says p; plain = plain_problem p; short = short_problem p })
+spelled_by AName x h = inr (value_text AName x, refl, record { says = name_says x h; short = h.fits })
+spelled_by AMode m h = inr (value_text AMode m, refl, record { says = mode_says m; short = short_mode m })
+spelled_by AWishMode x h = inr (value_text AWishMode x, refl, record { says = wish_mode_says x h; short = short_wish_mode x })
+spelled_by AnAge a h = inr (value_text AnAge a, refl, record { says = age_says a; short = short_age a })
+spelled_by AProblem p h = inr (value_text AProblem p, refl, record { says = problem_says p; short = short_problem p })
 spelled_by APlace p h = place_spelled p (p == 1) refl h

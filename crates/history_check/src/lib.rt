@@ -6,7 +6,7 @@
 //! what is wrong with them are said of this table. The crate promises that `read_line` answers just
 //! that for every line, and `write_line` just the text of every event and query; the law
 //! `lines_are_spelled_once` says that the two are each other's inverse, so that each event and each
-//! query has one spelling, which is read as it. `read_event` and `write_event` are the same for the
+//! query whose numbers are in range has one spelling, which is read as it. `read_event` and `write_event` are the same for the
 //! lines of a journal, which are events alone (`Events`); `read_wish` and `read_wish_among` read what a
 //! client is to do (`Wishes`). The place of a ballot is the one argument that may be left out: at place 1 it
 //! always is.

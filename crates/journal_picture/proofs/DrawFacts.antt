@@ -15,7 +15,6 @@ use Rattle.line_streams.specs.declared.reading.End.TheVariants.{LineFeed, Input,
 use Rattle.line_streams.specs.Streams.{is_last, ends_no_line, KnownLeft, ReadsPiece}
 use Rattle.line_streams.proofs.LineFacts.{no_line_left}
 use Rattle.journal_audit.specs.declared.faults.AuditFault.{AuditFault}
-use Rattle.journal_audit.specs.declared.faults.AuditFault.TheVariants as fault
 use Rattle.journal_audit.specs.declared.verdicts.Verdict.{Verdict}
 use Rattle.journal_audit.specs.Leavings.{LeavesBy}
 use Rattle.journal_audit.specs.Verdicts.{reaches, text_lines}

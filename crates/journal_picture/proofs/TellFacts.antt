@@ -9,17 +9,14 @@ use Rattle.stable_record.specs.declared.faults.RecordFault.{RecordFault}
 use Rattle.stable_record.specs.declared.faults.RecordFault.TheVariants as bad
 use Rattle.stable_record.specs.declared.node_records.NodeRecord.{NodeRecord}
 use Rattle.stable_record.specs.Records.{IsNodeRecord, node_record_of}
-use Rattle.world_model.specs.declared.events.Effect.{Effect}
-use Rattle.world_model.specs.declared.events.Effect.TheVariants as effect
 use Rattle.world_model.specs.declared.exact.ExactNode.{ExactNode}
 use Rattle.world_model.specs.declared.exact.ExactWorld.{ExactWorld}
 use Rattle.world_model.specs.ExactWorlds.{numbered}
-use Rattle.world_model.specs.Laws.{IsNumbered}
 use Rattle.world_machine.specs.Keeping.{record_in, KeepsRecords}
 use Rattle.world_machine.specs.Listing.{kept_bytes, station_bytes}
 use Rattle.run_picture.specs.declared.marks.Lasting.{Lasting}
 use Rattle.run_picture.specs.declared.marks.Mark.{Mark}
-use Rattle.journal_picture.specs.Histories.{votes_in, votes_at, SaidFits, with_more}
+use Rattle.journal_picture.specs.Histories.{votes_in, votes_at, with_more}
 use Rattle.journal_picture.specs.Strokes.{Stroke, Marked}
 
 range_more : {A : Type 0} (f : ℕ → List A) (a n : ℕ) → flat_map f (range_with_len a (suc n)) ≡ flat_map f (range_with_len a n) ++ f (a + n)
@@ -74,22 +71,6 @@ pub votes_on : {A E : Type 0} (r : Result A E) (w : ExactWorld) (n : ℕ) (bytes
     → OnOk r (new ≡ old ++ votes_in n kept.entries) → OnOk r (new ≡ old ++ votes_at n (numbered w.nodes n))
 votes_on (Ok a) w n bytes kept old new keeps stands said added = votes_so w n bytes kept old new keeps stands said added
 votes_on (Err e) w n bytes kept old new keeps stands said added = tt
-
--- numbers that follow the next one fit
-pub fits : (w : ExactWorld) (done : Effect) → IsNumbered w done → SaidFits done
-fits w (effect.Said first count) h = h.1
-fits w (effect.Chose a) h = tt
-fits w effect.Tried h = tt
-fits w effect.Kept h = tt
-fits w (effect.Sent k m) h = tt
-fits w (effect.Took m changed) h = tt
-fits w (effect.Heard m heard) h = tt
-fits w effect.Inside h = tt
-fits w effect.Outside h = tt
-fits w effect.Softened h = tt
-fits w effect.Down h = tt
-fits w effect.Up h = tt
-fits w (effect.Switched changed) h = tt
 
 -- marks behind marks
 pub more_marks : (xs ys : List Mark) (drawn : Option (List Stroke)) → with_more ys (with_more xs drawn) ≡ with_more (xs ++ ys) drawn

@@ -1,5 +1,5 @@
 -- What a drawer is told of a step of the world.
-use Rattle.std.specs.Prelude.{ℕ, ◌+◌, ◌<◌, ◌≤◌, List, [], ◌∷◌, map, Option, Some, None, Result, Ok, Err}
+use Rattle.std.specs.Prelude.{ℕ, ◌+◌, List, [], ◌∷◌, map, Option, Some, None, Result, Ok, Err}
 use Rattle.std.specs.List.{flat_map, range_with_len}
 use Rattle.std.specs.Option.{option_to_list}
 use Rattle.lock_messages.specs.declared.ids.Actor.{Actor}
@@ -8,7 +8,6 @@ use Rattle.lock_messages.specs.declared.messages.Message.{Message}
 use Rattle.lock_messages.specs.declared.tickets.Ticket.{Ticket}
 use Rattle.lock_model.specs.declared.entries.Entry.{Entry}
 use Rattle.lock_model.specs.ExactStations.{is_holding}
-use Rattle.world_model.specs.declared.TheConstants.{MAX_MESSAGES}
 use Rattle.world_model.specs.declared.events.Effect.{Effect}
 use Rattle.world_model.specs.declared.events.Effect.TheVariants as effect
 use Rattle.world_model.specs.declared.events.Event.{Event}
@@ -48,22 +47,6 @@ said_in w effect.Softened = []
 said_in w effect.Down = []
 said_in w effect.Up = []
 said_in w (effect.Switched other) = []
-
--- the numbers of what was said are those of messages
-abbrev pub SaidFits : Effect → Type 0
-SaidFits (effect.Chose a) = Unit {0}
-SaidFits effect.Tried = Unit {0}
-SaidFits effect.Kept = Unit {0}
-SaidFits (effect.Sent k m) = Unit {0}
-SaidFits (effect.Said first count) = 0 < count → first + count ≤ MAX_MESSAGES + 1
-SaidFits (effect.Took m changed) = Unit {0}
-SaidFits (effect.Heard m heard) = Unit {0}
-SaidFits effect.Inside = Unit {0}
-SaidFits effect.Outside = Unit {0}
-SaidFits effect.Softened = Unit {0}
-SaidFits effect.Down = Unit {0}
-SaidFits effect.Up = Unit {0}
-SaidFits (effect.Switched other) = Unit {0}
 
 -- the vote of a node that an entry of its record holds, if it does
 abbrev pub vote_of : ℕ → Entry → List Lasting

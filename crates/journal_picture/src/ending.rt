@@ -4,7 +4,8 @@ ghost use Rattle.std.specs.Prelude.{◌≡◌, ◌∷◌, [], IfOk, IfErr, OnOk}
 ghost use Rattle.std.specs.Option.{option_to_list};
 ghost use Rattle.journal_audit.specs.Verdicts.{reaches};
 ghost use Rattle.run_picture.specs.Pictures.{marks_of_step, after_step, end_place};
-ghost use Rattle.journal_picture.specs.Histories.{with_more, told_of, SaidFits};
+ghost use Rattle.world_model.specs.Laws.{SaidFits};
+ghost use Rattle.journal_picture.specs.Histories.{with_more, told_of};
 ghost use Rattle.journal_picture.specs.Drawings.{StopsShort, EndsWith, lost_marks, stop_marks, end_marks};
 
 use crate::telling::told_of;

@@ -8,7 +8,8 @@ ghost use Rattle.world_model.specs.declared.TheConstants.{MAX_MESSAGES};
 ghost use Rattle.world_model.specs.ExactWorlds.{numbered};
 ghost use Rattle.world_model.specs.Views.{live_ticket, ticket_inside};
 ghost use Rattle.run_picture.specs.Pictures.{told};
-ghost use Rattle.journal_picture.specs.Histories.{said_from, said_in, SaidFits, vote_of, votes_in, votes_at, inside_by, lasts_up, lasts_in, told_of};
+ghost use Rattle.world_model.specs.Laws.{SaidFits};
+ghost use Rattle.journal_picture.specs.Histories.{said_from, said_in, vote_of, votes_in, votes_at, inside_by, lasts_up, lasts_in, told_of};
 
 use lock_messages::{Actor, ClientId, Message, NodeId, Ticket};
 use lock_model::{Entry, Status};

@@ -1,6 +1,6 @@
 -- Reading a line, and writing a text, a part at a time.
-use Rattle.std.proofs.Common.{◌≡◌, ℕ, suc, ◌+◌, ◌-◌, ◌<◌, ◌≤◌, min, Bool, true, false, cond, List, [], ◌∷◌, ◌++◌, length, take, drop, Option, Some, None, IfSome, Result, Ok, inl, inr, ◌⊎◌, refl, sym, ap, subst, ◌∙◌, arith, append_assoc}
-use Rattle.std.specs.List.{All, onto_first, slice_split, slice_range, copy_within, list_any}
+use Rattle.std.proofs.Common.{◌≡◌, ℕ, suc, ◌+◌, ◌-◌, ◌<◌, ◌≤◌, min, Bool, true, false, List, [], ◌∷◌, ◌++◌, length, take, drop, Option, Some, None, IfSome, Result, Ok, inl, inr, ◌⊎◌, refl, sym, ap, subst, ◌∙◌, arith, append_assoc}
+use Rattle.std.specs.List.{All, onto_first, count_by, slice_split, slice_range, copy_within, list_any}
 use Rattle.std.specs.Io.KnownBytes.{prepend_known, Consumes, Keeps, Appends, IsAtEnd}
 use Rattle.std.proofs.lemmas.List.{append-nil, take-append-drop, length-take, length-take-le, length-drop, drop-take, drop-drop, take_all, take_at}
 use Rattle.std.proofs.lemmas.List.Elements.{All-append}
@@ -8,24 +8,19 @@ use Rattle.std.proofs.lemmas.List.Folds.{list_any-append, list_any_none}
 use Rattle.std.proofs.KnownBytes.{Consumes-nil, Appends-trans, Consumes-trans, Consumes-kept}
 use Rattle.std.proofs.Math.Nat.{min-le_left, le-min}
 use Rattle.std.proofs.Math.Seq.{take-add}
-use Rattle.std.proofs.lemmas.List.Splits.{slice_split_none, slice_split_at, slice_split-cons_no}
+use Rattle.std.proofs.lemmas.List.Splits.{slice_split_none, slice_split_at, slice_split-cons_no, length-slice_split}
 use Rattle.line_streams.specs.declared.faults.StreamFault.{StreamFault}
 use Rattle.line_streams.specs.declared.reading.End.TheVariants.{LineFeed, Input, Limit}
 use Rattle.line_streams.specs.Streams.{is_line_feed, pieces, IsPlain, Fetches, TakesHeld, TakesLine, EndsLine, ReadsPiece, Grows, LetsOut, with_gathered}
 
 -- the first part of a list that is cut
 
-first_part : {X : Type 0} (x : X) (parts : List (List X)) → (q : List X) × (qs : List (List X)) × (onto_first x parts ≡ q ∷ qs)
-first_part x [] = (x ∷ [], [], refl)
-first_part x (p ∷ ps) = (x ∷ p, ps, refl)
-
-choose_part : {X : Type 0} (b : Bool) (x : X) (parts : List (List X)) → (q : List X) × (qs : List (List X)) × (cond b ([] ∷ parts) (onto_first x parts) ≡ q ∷ qs)
-choose_part true x parts = ([], parts, refl)
-choose_part false x parts = first_part x parts
+parted : {X : Type 0} (xs : List X) (n : ℕ) → length xs ≡ n + 1 → (y : X) × (ys : List X) × (xs ≡ y ∷ ys)
+parted [] n h = absurd (omega (arith, h))
+parted (y ∷ ys) n h = (y, ys, refl)
 
 pub some_part : {X : Type 0} (p : X → Bool) (xs : List X) → (q : List X) × (qs : List (List X)) × (slice_split p xs ≡ q ∷ qs)
-some_part p [] = ([], [], refl)
-some_part p (x ∷ xs) = choose_part (p x) x (slice_split p xs)
+some_part p xs = parted (slice_split p xs) (count_by p xs) (length-slice_split p xs)
 
 -- a front in which nothing passes belongs to the first part
 split_front : (p : ℕ → Bool) (front rest : List ℕ) → All (λ x. p x ≡ false) front → (q : List ℕ) × (qs : List (List ℕ)) × (slice_split p (front ++ rest) ≡ (front ++ q) ∷ qs)

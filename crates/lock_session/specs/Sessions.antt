@@ -156,8 +156,8 @@ pub record EndsLeaving (f : RunFault) (v : SessionValue) : Type 0 where
 abbrev pub EndsBy : RunFault → SessionValue → SessionValue → Type 0
 EndsBy f v v' = UnlessOver v.over f (v' ≡ v) (GivesUpAtLast f v' × ClientEndsFrom f (falls_of v.log) v'.log v'.stuck v'.spent v.failures v'.failures)
 
--- what the session did on its way, for this use: it began none but this, softened nothing, and fell as often as its
--- record's device failed
+-- what the session did on its way, for this use: it began none but this, softened nothing, and fell no more often
+-- than its record's device failed
 pub record Attempts (u : Use) (v v' : SessionValue) : Type 0 where
   pub same : IsSameSession v v'
   pub begins : BeginsOnly u (visits_of v.log) (visits_of v'.log)
@@ -173,8 +173,12 @@ pub record Enters (u : Use) (nudges : ℕ) (v v' : SessionValue) : Type 0 where
   pub entered : (visits_of v'.log).entered ≡ (visits_of v.log).entered ++ Some u ∷ []
   pub sent : SentFollows v.log v'.log v.given v'.given
 
+-- each node to which something was sent in the present attempt has answered its release, or is gone
+abbrev pub HasReleased : SessionValue → Type 0
+HasReleased v = IsReleased v.core.ballots v.asked v.released v.gone
+
 -- The session was not over. An attempt was made for this use, with so many nudges, a node let it wait, nothing was
--- entered, and the session rests.
+-- entered, each node that was asked has answered the release or is gone, and the session rests.
 pub record TakesBack (u : Use) (nudges : ℕ) (v v' : SessionValue) : Type 0 where
   pub on : v.over ≡ None
   pub most : v'.most ≡ nudges
@@ -182,6 +186,7 @@ pub record TakesBack (u : Use) (nudges : ℕ) (v v' : SessionValue) : Type 0 whe
   pub begun : (visits_of v'.log).begun ≡ Some u
   pub more : BeginsMore (visits_of v.log) (visits_of v'.log)
   pub let_wait : v'.busy ≡ true
+  pub released : HasReleased v'
   pub entered : (visits_of v'.log).entered ≡ (visits_of v.log).entered
   pub sent : SentFollows v.log v'.log v.given v'.given
   pub rests : IsResting v'
@@ -194,10 +199,6 @@ pub record EndsEntering (u : Use) (nudges : ℕ) (f : RunFault) (v v' : SessionV
   pub after : StandsAfter f v'
   pub ended : EndsBy f v v'
   pub most : (v'.most ≡ nudges) ⊎ ((v'.most ≡ v.most) × (visits_of v'.log ≡ visits_of v.log))
-
--- each node to which something was sent in the present attempt has answered its release, or is gone
-abbrev pub HasReleased : SessionValue → Type 0
-HasReleased v = IsReleased v.core.ballots v.asked v.released v.gone
 
 -- a use, by its parts
 abbrev pub use_by : Mode → List ℕ → ℕ → Use
@@ -225,8 +226,7 @@ pub record HasNothingLeft (v : SessionValue) : Type 0 where
   pub settled : v.left ≡ false
   pub outside : phase_of v.core ≡ phase.Inside → ⊥
 
--- What the session had left open is said: its log has nothing new begun, entered or softened, and it has not
--- fallen.
+-- Its log has nothing new begun, entered or softened, and the client has not fallen, nor its device failed.
 pub record Settles (v v' : SessionValue) : Type 0 where
   pub same : IsSameSession v v'
   pub visits : visits_of v'.log ≡ visits_of v.log

@@ -29,7 +29,7 @@ use std::sync::Wait;
 ///
 /// `leave` logs the Leave and says the releases. A guard that is dropped instead, on whatever path, is outside at
 /// once, and takes no memory and does not wait; the next call that enters or settles logs it then and says the
-/// releases, before anything else. So does the next such call after a guard that was forgotten.
+/// releases, before anything else (that it is the first is in the calls' bodies alone, and tested). So does the next such call after a guard that was forgotten.
 pub struct SessionGuard<'a, S: OwnRecord, R: Recorder, L: Link> {
     session: &'a mut Session<S, R, L>,
     ticket: Ticket,
@@ -60,7 +60,7 @@ impl<S: OwnRecord, R: Recorder, L: Link> Session<S, R, L> {
     /// # Errors
     ///
     /// Nothing is entered. Too few nodes are left (912), or it had its last nudge (913), in this attempt or in
-    /// the releases of the one before: the session has left, has said its releases, and rests. The record did
+    /// the releases of the one before: the session has left and rests, and has said its releases (tested). The record did
     /// not reopen (911), memory was refused (914), the book takes no more (915), or the record or the attempts
     /// are spent (916): the session is over. It was over before, by this fault: nothing is done.
     pub fn enter<W: Wait>(
@@ -170,8 +170,8 @@ impl<S: OwnRecord, R: Recorder, L: Link> SessionGuard<'_, S, R, L> {
     ///
     /// # Errors
     ///
-    /// The client is outside in any case. It had its last nudge (913), and has said its releases once more: the
-    /// session rests. Memory was refused (914), or the book takes no more (915): the session is over. It was over
+    /// The client is outside in any case. It had its last nudge (913): the session rests, and has said its releases
+    /// once more (tested). Memory was refused (914), or the book takes no more (915): the session is over. It was over
     /// before, by this fault: nothing is said.
     #[tactic(auto, using(crate::proofs::EndFacts::leaves_by))]
     pub fn leave<W: Wait>(self, rt: &W, alloc: Global) -> Result<(), RunFault>

@@ -10,7 +10,7 @@ ghost use Rattle.actor_steps.specs.Steps.{IsBookFault};
 ghost use Rattle.actor_steps.specs.Endings.{falls_of, FailuresFollow};
 ghost use Rattle.client_loop.specs.Sendings.{sent_of, SentFollows, SentUnlessMemory, TellsSoftened};
 ghost use Rattle.client_loop.specs.Standing.{Stands, HasLeft, KeepsAttempt, IsSameClient};
-ghost use Rattle.client_loop.specs.Remembering.{core_of, with_core, granted_of, busy_of, most_of, HasHadLast, HasReleased};
+ghost use Rattle.client_loop.specs.Remembering.{core_of, with_core, asked_of, granted_of, busy_of, most_of, HasHadLast, HasReleased};
 ghost use Rattle.client_loop.specs.Endings.{ClientEndsFrom, EndsAsking, EndsOneAttempt, IsAtRest};
 ghost use Rattle.client_loop.specs.Visits.{visits_of, use_of, AsksFor, visits_softening, BeginsOnly, BeginsMore};
 
@@ -92,6 +92,7 @@ pub trait OwnRecord: StableRecord {
         ensures most { most_of progress.new ≡ patience.nudges }
         ensures last { IfErr result (λ f. f ≡ RunFault.GaveUp → HasHadLast progress.new) }
         ensures back { result ≡ Ok false → IsAtRest (R.own_log recorder.new) (Self.finds self.new) (Self.stuck_of self.new) (core_of progress.new) }
+        ensures released { result ≡ Ok false → HasReleased progress.new }
         ensures again { IfErr result (λ f. EndsOneAttempt f → IsAtRest (R.own_log recorder.new) (Self.finds self.new) (Self.stuck_of self.new) (core_of progress.new)) }
         // However it ends, a restart finds in its record nothing but what it has kept and what it tries to keep.
         ensures own { FindsItsOwn (part_now (R.own_log recorder.new)) (Self.finds self.new) }
@@ -138,6 +139,7 @@ pub trait OwnRecord: StableRecord {
         ensures stands { OnOk result (Stands (R.own_log recorder.new) (Self.finds self.now) (core_of progress.new)) }
         ensures idle { phase_of (core_of progress.new) ≡ phase.Idle }
         ensures released { OnOk result (HasReleased progress.new) }
+        ensures asked { OnOk result (asked_of progress.new ≡ asked_of progress.old) }
         // That a node let it wait is remembered.
         ensures busy { OnOk result (busy_of progress.old ≡ true → busy_of progress.new ≡ true) }
         // 913: only where the wish had its last nudge; how many it may have stays.

@@ -369,8 +369,9 @@ impl<S: OwnRecord, R: SharedRecorder, L: Link> Session<S, R, L> {
         self.recorder.meet(&mut other.recorder)
     }
 
-    /// The tickets of the clients that are inside the resource, in the order of the clients, as the one history of
-    /// all has it when it is asked; a writer among them is the only one. Nothing of the session changes. It waits
+    /// The tickets of the clients that are inside the resource, in the order of the clients, as a history has
+    /// it in which this client is as its own log tells; a writer among them is the only one. (That it is the one history
+    /// of all, as it is when it is asked, is told by a berth and by no own log.) Nothing of the session changes. It waits
     /// for the lock of the book.
     ///
     /// # Errors

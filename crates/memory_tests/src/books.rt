@@ -1,15 +1,15 @@
-// Books: 813 of what opens one, gives a berth and logs, 818 of what writes its journal. After a refusal
+// Books: 813 of what opens one, gives a berth, logs and tells who is inside, 818 of what writes its journal. After a refusal
 // the history has no event more, and the same call does what it would have done.
 
 ghost use Rattle.std.specs.Prelude.{◌≡◌, IfOk, OnOk};
 ghost use Rattle.history_book.specs.Books.{BookValue, BerthValue};
 
-use crate::failures::{Failure, Outcome, check, client, node, refused};
+use crate::failures::{Failure, Outcome, check, client, node, refused, resource, ticket};
 use crate::policies::for_nodes;
 use crate::rooms::Room;
 use history_book::{Berth, Book, BookFault, JournalFault};
 use history_check::read_event;
-use lock_messages::Actor;
+use lock_messages::{Actor, Mode, Ticket};
 use lock_model::Problem;
 use std::alloc::Global;
 use test_outcomes::{client_id, node_id};
@@ -135,6 +135,8 @@ fn logs_both(book: &mut Book, berth: &mut Berth, first: &str, second: &str) -> O
 /// A reader asks two nodes, hears two grants and enters.
 fn reads(book: &mut Book, one: &mut Berth) -> Outcome
     requires { one.old.table ≡ book.old.table }
+    ensures book { OnOk result ((book.new.number ≡ book.old.number) × (book.new.table ≡ book.old.table)) }
+    ensures berth { OnOk result (one.new.table ≡ one.old.table) }
 {
     let (first, second) = (Actor::Node(node_id(1)), Actor::Node(node_id(2)));
     logs_all(book, one, ASKS)?;
@@ -193,6 +195,42 @@ fn give_berths(rt: HostRuntime) -> Outcome {
 #[test]
 fn log_the_first_reader(rt: HostRuntime) -> Outcome {
     has_logged_a_reader(&mut opened(rt.alloc())?)
+}
+
+/// Whether this ticket alone is inside.
+fn is_alone(found: &Result<Vec<Ticket>, BookFault>, wanted: Ticket) -> bool {
+    match found {
+        Ok(tickets) => tickets.as_slice() == [wanted].as_slice(),
+        Err(_) => false,
+    }
+}
+
+/// Tells that the reader is inside; where memory is refused the same is told after that.
+fn tells_inside(book: &mut Book, one: &mut Berth) -> Outcome
+    requires { one.old.table ≡ book.old.table }
+{
+    let (name, reader) = (resource()?, ticket(1, Mode::Read)?);
+    let found = book.inside(one, &name);
+    match found {
+        Err(BookFault::Memory) => {
+            let again = book.inside(one, &name);
+            refused(is_alone(&again, reader))
+        }
+        _ => check(is_alone(&found, reader)),
+    }
+}
+
+fn reads_and_tells(book: &mut Book) -> Outcome
+    requires { Unit {0} }
+{
+    let mut one = berth_of(book, Actor::Client(client_id(1)))?;
+    reads(book, &mut one)?;
+    tells_inside(book, &mut one)
+}
+
+#[test]
+fn tell_who_is_inside(rt: HostRuntime) -> Outcome {
+    reads_and_tells(&mut opened(rt.alloc())?)
 }
 
 const SWITCHES: &str = "switch n1 2\ntry n1\nkept n1\nsay n1\nswitch n1 2\nsay n1\n";

@@ -1,10 +1,9 @@
 -- What a node's own log tells of what it sends.
-use Rattle.std.proofs.Common.{◌≡◌, ℕ, Bool, List, [], ◌∷◌, ◌++◌, Option, refl, sym, ap, ◌∙◌, append_assoc, append-nil}
+use Rattle.std.proofs.Common.{◌≡◌, ℕ, Bool, List, [], ◌∷◌, ◌++◌, Option, refl, sym, ap, ◌∙◌}
 use Rattle.lock_messages.specs.declared.ids.Actor.{Actor}
 use Rattle.lock_messages.specs.declared.ids.Actor.TheVariants as actor
 use Rattle.lock_messages.specs.declared.messages.Message.{Message}
 use Rattle.lock_model.specs.declared.problems.Problem.{Problem}
-use Rattle.lock_model.specs.Ballots.{Ballot}
 use Rattle.lossy_link.specs.declared.parcels.Post.TheVariants as post
 use Rattle.lossy_link.specs.declared.parcels.Sending.{Sending}
 use Rattle.lossy_link.specs.declared.parcels.Sending.TheVariants as sending
@@ -16,27 +15,20 @@ use Rattle.world_model.specs.declared.events.Effect.{Effect}
 use Rattle.world_model.specs.declared.events.Effect.TheVariants as effect
 use Rattle.world_model.specs.declared.events.Event.{Event}
 use Rattle.world_model.specs.declared.events.Event.TheVariants as event
-use Rattle.world_model.specs.Locality.{local_part}
-use Rattle.world_model.specs.Parts.{Part, said_by, after_own}
-use Rattle.event_recorders.specs.OwnLogs.{OwnLog, part_now, adds, IsAdded, IsUnused}
+use Rattle.world_model.specs.Parts.{said_by}
+use Rattle.event_recorders.specs.OwnLogs.{OwnLog, all_of, part_now, adds, IsAdded, IsUnused}
+use Rattle.event_recorders.proofs.LogFacts.{log_more, nothing_more}
 use Rattle.actor_steps.specs.Steps.{IsKept, IsRisenAgain}
 use Rattle.node_loop.specs.Standing.{StandsBy}
-use Rattle.node_loop.specs.Replies.{sendings, sent_for, sent_by, sent_of, first_of, SentFollows}
+use Rattle.node_loop.specs.Replies.{sendings, sent_for, sent_of, first_of, SentFollows}
 
 -- one event more sends what it sends from the part before it
-by_one_more : (b : List Ballot) (p : Part) (own : List (Event × Effect)) (e : Event) (done : Effect) →
-    sent_by b p (own ++ (e, done) ∷ []) ≡ sent_by b p own ++ sent_for b e done (local_part b p own)
-by_one_more b p [] e done = append-nil (sent_for b e done p)
-by_one_more b p (q ∷ own) e done =
-    ap (λ xs. sent_for b q.0 q.1 p ++ xs) (by_one_more b (after_own b q.0 q.1 p) own e done)
-    ∙ sym (append_assoc (sent_for b q.0 q.1 p) (sent_by b (after_own b q.0 q.1 p) own) (sent_for b e done (local_part b (after_own b q.0 q.1 p) own)))
-
 pub sent_more : (l l' : OwnLog) (e : Event) (done : Effect) → IsAdded l e done l' → sent_of l' ≡ sent_of l ++ sent_for l.ballots e done (part_now l)
-sent_more l l' e done added = ap sent_of added.log ∙ by_one_more l.ballots l.opening l.events e done
+sent_more l l' e done added = log_more sent_for l l' e done added
 
 -- all events but Say and Fall send nothing
 silent : (l l' : OwnLog) (e : Event) (done : Effect) → IsAdded l e done l' → sent_for l.ballots e done (part_now l) ≡ [] → sent_of l' ≡ sent_of l
-silent l l' e done added nothing = sent_more l l' e done added ∙ ap (λ xs. sent_of l ++ xs) nothing ∙ append-nil (sent_of l)
+silent l l' e done added nothing = nothing_more sent_for l l' e done added nothing
 
 pub take_sends_nothing : (l l' : OwnLog) (n k : ℕ) (done : Effect) → IsAdded l (event.Take n k) done l' → sent_of l' ≡ sent_of l
 take_sends_nothing l l' n k done added = silent l l' (event.Take n k) done added refl
@@ -45,11 +37,11 @@ pub switch_sends_nothing : (l l' : OwnLog) (n : ℕ) (p : Problem) (done : Effec
 switch_sends_nothing l l' n p done added = silent l l' (event.Switch n p) done added refl
 
 pub first_rise_sends_nothing : (l l' : OwnLog) (who : Actor) (age : Age) → IsUnused l who → IsAdded l (event.Rise who age) effect.Up l' → sent_of l' ≡ []
-first_rise_sends_nothing l l' who age unused added = silent l l' (event.Rise who age) effect.Up added refl ∙ ap (sent_by l.ballots l.opening) unused.events
+first_rise_sends_nothing l l' who age unused added = silent l l' (event.Rise who age) effect.Up added refl ∙ ap (all_of sent_for l.ballots l.opening) unused.events
 
 -- nor has a node sent anything that has not risen
 pub unused_sends_nothing : (l l' : OwnLog) (who : Actor) → IsUnused l who → l' ≡ l → sent_of l' ≡ []
-unused_sends_nothing l l' who unused same = ap sent_of same ∙ ap (sent_by l.ballots l.opening) unused.events
+unused_sends_nothing l l' who unused same = ap sent_of same ∙ ap (all_of sent_for l.ballots l.opening) unused.events
 
 pub keeping_sends_nothing : (l l' : OwnLog) (who : Actor) → IsKept l who l' → sent_of l' ≡ sent_of l
 keeping_sends_nothing l l' who kept =

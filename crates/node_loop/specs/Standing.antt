@@ -66,7 +66,7 @@ pub record IsReady (l : OwnLog) (n : ℕ) (kept : NodeRecord) (strings : List (L
   pub good : IsNodeRecord kept
   pub finds : strings ≡ node_record_of kept ∷ []
 
--- The node is up and about nothing, with nothing tried: all that it took it has answered.
+-- The node is up and about nothing, with nothing tried: all that it took since it last rose it has answered.
 abbrev pub IsIdleNode : Part → Type 0
 IsIdleNode NoPart = ⊥
 IsIdleNode (NodePart v) = (v.phase ≡ node.Idle) × (v.tried ≡ None)

@@ -129,7 +129,7 @@ pub fn run_node_over<W: Wait, R: Recorder, L: Link, G: Gate>(
     gate: &G,
 ) -> Result<(), RunFault>
     requires { (kept : NodeRecord) × IsReady (R.own_log recorder.old) node kept (finds stable.old) }
-    // All that it took it has answered.
+    // All that it took since it last rose it has answered.
     ensures idle { OnOk result (IsIdleNode (part_now (R.own_log recorder.new))) }
     // What was sent is what its own log tells: its replies, and after each fall its nudge.
     ensures sent { OnOk result (L.given link.new ≡ all_more (L.given link.old) (sent_of (R.own_log recorder.new))) }
@@ -187,7 +187,7 @@ pub fn run_node<W: Wait, R: Recorder, L: Link, G: Gate>(
     gate: &G,
 ) -> Result<(), RunFault>
     requires { (kept : NodeRecord) × IsReady (R.own_log recorder.old) node kept (finds stable) }
-    // All that it took it has answered.
+    // All that it took since it last rose it has answered.
     ensures idle { OnOk result (IsIdleNode (part_now (R.own_log recorder.new))) }
     // What was sent is what its own log tells: its replies, and after each fall its nudge.
     ensures sent { OnOk result (L.given link.new ≡ all_more (L.given link.old) (sent_of (R.own_log recorder.new))) }

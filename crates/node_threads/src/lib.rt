@@ -4,8 +4,8 @@
 //! which log in that book, and answers the book once all of them have ended. `with_sessions` does so too, and
 //! has the caller's `Work` done in each client's thread, with its session (`lock_session`). Both promise
 //! that the book was opened with that world, so its history is a run from it, that they tell as many entries as
-//! the history has, and that they tell each actor that ended by a fault once, nodes first, with a fault that the
-//! actor may have. Of a client that isn't told `run_all` promises that it did as it was wished, and `with_sessions`
+//! the history has, and that those that they tell as ended by a fault stand in order, nodes first, none twice, each
+//! with a fault that the actor may have. Of a client that isn't told `run_all` promises that it did as it was wished, and `with_sessions`
 //! that it rests, with just its attempt in the record that comes back; and the record of each comes back with
 //! nothing in it but what the client has kept or tries to keep. The crate holds no lock of its own round the
 //! threads. It promises nothing of what they do or send beyond what `node_loop`, `client_loop` and

@@ -74,14 +74,7 @@ impl Logs for SharedBook {
         berth: &mut Berth,
         resource: &ResourceName,
     ) -> Result<Vec<Ticket>, BookFault> {
-        match self.book.observe(berth) {
-            Ok(()) => {}
-            Err(fault) => return Err(fault),
-        }
-        match self.book.world().inside(resource) {
-            Ok(tickets) => Ok(tickets),
-            Err(_) => Err(BookFault::Memory),
-        }
+        self.book.inside(berth, resource)
     }
 }
 
@@ -217,7 +210,7 @@ pub fn run_all<R: Threads + Wait + Copy + Send, G: Gate + Sync>(
     ensures opening { IfOk result (λ end. end.book.opening ≡ world) }
     ensures history { IfOk result (λ end. IsHistory world end.book.history end.book.world) }
     ensures entered { IfOk result (λ end. end.entered ≡ enters end.book.history) }
-    // Each actor that ended by a fault is told once, in order, with a fault that it may have.
+    // Those that are told as ended by a fault stand in order, none twice, each with a fault that it may have.
     ensures faults { IfOk result (λ end. AreFaults world end.faults.items) }
     // Each client began and entered its own wishes alone, in order, and all of them unless it is told.
     ensures wished { IfOk result (λ end. AllDidAsWished world end.book.history wishes.now end.faults.items) }

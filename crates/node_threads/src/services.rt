@@ -268,7 +268,7 @@ pub fn with_sessions<S: OwnRecord + Send, R: Threads + Wait + Copy + Send + Sync
     ensures opening { IfOk result (λ end. end.book.opening ≡ world) }
     ensures history { IfOk result (λ end. IsHistory world end.book.history end.book.world) }
     ensures entered { IfOk result (λ end. end.entered ≡ enters end.book.history) }
-    // Each actor that ended by a fault is told once, in order, with a fault that it may have.
+    // Those that are told as ended by a fault stand in order, none twice, each with a fault that it may have.
     ensures faults { IfOk result (λ end. AreFaults world end.faults.items) }
     // The record of each client comes back, in order, with nothing in it but what the client has kept or tries to
     // keep; one that isn't told rests, with just its attempt in its record.

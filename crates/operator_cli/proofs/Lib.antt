@@ -2,7 +2,6 @@ pub mod SettingsFacts
 pub mod WishTexts
 pub mod WishFacts
 pub mod TextFacts
-pub mod AnswerFacts
 pub mod HeadFacts
 pub mod OpeningFacts
 pub mod ScriptFacts

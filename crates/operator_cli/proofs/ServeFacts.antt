@@ -108,23 +108,31 @@ no_limit command.Audit s lines f h = nothing_limited (verdict_of (all_down s) li
 no_limit command.Ballot s lines f h = tt
 no_limit (command.Run journal) s lines f h = tt
 
-no_limit_in : (c : Command) (o : Result (Given × List (List ℕ)) SettingsFault) (f : ServeFault) → IsCommonFault f → IsLimitedIn c o (Err f)
-no_limit_in c (Err e) f h = tt
-no_limit_in c (Ok parts) f h = no_limit c parts.0.settings parts.1 f h
-
 pub nothing_behind : (c : Command) (s : Settings) (left old new : Option (List ℕ)) (f : ServeFault) → IsCommonFault f → new ≡ old → WritesBehind c s left old new (Err f)
 nothing_behind c s None old new f h e = tt
 nothing_behind c s (Some xs) old new f h e = (nothing_yet (settings_output c s (lines_in (pieces xs))) old new e, no_limit c s (lines_in (pieces xs)) f h)
 
-pub serves_nothing : (c : Command) (input old new : Option (List ℕ)) (f : ServeFault) → IsCommonFault f → new ≡ old → Serves c input old new (Err f)
-serves_nothing c None old new f h e = tt
-serves_nothing c (Some xs) old new f h e = inl (nothing_yet (output_of c xs) old new e, no_limit_in c (opened c xs) f h)
+unread : (c : Command) (o : Result (Given × List (List ℕ)) SettingsFault) (old new : Option (List ℕ)) → new ≡ old → IsLimitedIn c o old new (Err fault.Read)
+unread c (Err e) old new same = inr (refl, same)
+unread c (Ok parts) old new same = no_limit c parts.0.settings parts.1 fault.Read tt
+
+-- nothing is written after a failed read
+serves_unread : (c : Command) (xs : List ℕ) (old new : Option (List ℕ)) → new ≡ old → Serves c (Some xs) old new (Err fault.Read)
+serves_unread c xs old new same = inl (nothing_yet (output_of c xs) old new same, unread c (opened c xs) old new same)
+
+-- what nothing but the writer can cut short is written as any output is
+pub printed : (o : Output) (old new : Option (List ℕ)) (r : Result ℕ ServeFault) → Prints o old new r → Writes o old new r
+printed o old new (Ok status) h = h
+printed o old new (Err e) h = let (front, back, cut, some, begun) = h.1 in (front, back, cut, begun)
 
 -- refused settings are what the output tells
-refusal_told : (c : Command) (xs : List ℕ) (e : SettingsFault) (old new : Option (List ℕ)) (r : Result ℕ ServeFault) → opened c xs ≡ Err e → Writes (refused_output c e) old new r → Serves c (Some xs) old new r
+refusal_told : (c : Command) (xs : List ℕ) (e : SettingsFault) (old new : Option (List ℕ)) (r : Result ℕ ServeFault) → opened c xs ≡ Err e → Prints (refused_output c e) old new r → Serves c (Some xs) old new r
 unfolding output_of
 refusal_told c xs e old new r h p =
-    inl (subst (λ (o : Output). Writes o old new r) (sym (ap (command_output c) h)) p, subst (λ (o : Result (Given × List (List ℕ)) SettingsFault). IsLimitedIn c o r) (sym h) tt)
+    inl (
+      subst (λ (o : Output). Writes o old new r) (sym (ap (command_output c) h)) (printed (refused_output c e) old new r p),
+      subst (λ (o : Result (Given × List (List ℕ)) SettingsFault). IsLimitedIn c o old new r) (sym h) (inl p),
+    )
 
 -- only votes that make no ballot are told otherwise where the ballot is asked for
 pub plain_refusal : (e : SettingsFault) → (e ≡ settings.NoEnd) ⊎ ((e ≡ settings.NoDocument) ⊎ ((e ≡ settings.UnknownKey) ⊎ ((e ≡ settings.Value) ⊎ (e ≡ settings.Memory)))) → refusal_output e ≡ refused_ballot_output e
@@ -157,13 +165,13 @@ pub wish_refusal : (e : SettingsFault) (f : LineFault) → e ≡ settings.Wish f
 wish_refusal e f h = ap refusal_output h ∙ sym (ap refused_ballot_output h)
 
 -- want of memory is told the same way for each command
-memory_told : (c : Command) (xs : List ℕ) (old new : Option (List ℕ)) (r : Result ℕ ServeFault) → Writes (refused_output c settings.Memory) old new r → Serves c (Some xs) old new r
+memory_told : (c : Command) (xs : List ℕ) (old new : Option (List ℕ)) (r : Result ℕ ServeFault) → Prints (refused_output c settings.Memory) old new r → Serves c (Some xs) old new r
 memory_told command.Script xs old new r p = inr p
 memory_told command.Audit xs old new r p = inr p
 memory_told command.Ballot xs old new r p = inr p
 memory_told (command.Run journal) xs old new r p = inr p
 
-by_fault : (c : Command) (xs : List ℕ) (old new : Option (List ℕ)) (e : SettingsFault) (r : Result ℕ ServeFault) → Refuses e (opened c xs) → Writes (refused_output c e) old new r → Serves c (Some xs) old new r
+by_fault : (c : Command) (xs : List ℕ) (old new : Option (List ℕ)) (e : SettingsFault) (r : Result ℕ ServeFault) → Refuses e (opened c xs) → Prints (refused_output c e) old new r → Serves c (Some xs) old new r
 by_fault c xs old new settings.NoEnd r h p = refusal_told c xs settings.NoEnd old new r h p
 by_fault c xs old new settings.NoDocument r h p = refusal_told c xs settings.NoDocument old new r h p
 by_fault c xs old new settings.UnknownKey r h p = refusal_told c xs settings.UnknownKey old new r h p
@@ -173,11 +181,6 @@ by_fault c xs old new (settings.Weather f) r h p = refusal_told c xs (settings.W
 by_fault c xs old new (settings.Wish f) r h p = refusal_told c xs (settings.Wish f) old new r h p
 by_fault c xs old new settings.Memory r h p = memory_told c xs old new r p
 
--- what nothing but the writer can cut short is written as any output is
-pub printed : (o : Output) (old new : Option (List ℕ)) (r : Result ℕ ServeFault) → Prints o old new r → Writes o old new r
-printed o old new (Ok status) h = h
-printed o old new (Err e) h = let (front, back, cut, some, begun) = h.1 in (front, back, cut, begun)
-
 pub fails_writing : (o : Output) (old new : Option (List ℕ)) (r : Result ℕ ServeFault) → Prints o old new r → IfErr r IsCommonFault
 fails_writing o old new (Ok status) h = tt
 fails_writing o old new (Err e) h = subst IsCommonFault (sym h.0) tt
@@ -185,8 +188,8 @@ fails_writing o old new (Err e) h = subst IsCommonFault (sym h.0) tt
 pub serves_refusal : (c : Command) (input left old new : Option (List ℕ)) (f : StartFault) (r : Result ℕ ServeFault) → Starts c input left (Err f) → RefusesStart c f old new r → Serves c input old new r
 serves_refusal c None left old new f r h p = tt
 serves_refusal c (Some xs) left old new start.Read r h p =
-    subst (λ (q : Result ℕ ServeFault). Serves c (Some xs) old new q) (sym p.0) (serves_nothing c (Some xs) old new fault.Read tt p.1)
-serves_refusal c (Some xs) left old new (start.Settings e) r h p = by_fault c xs old new e r h (printed (refused_output c e) old new r p)
+    subst (λ (q : Result ℕ ServeFault). Serves c (Some xs) old new q) (sym p.0) (serves_unread c xs old new p.1)
+serves_refusal c (Some xs) left old new (start.Settings e) r h p = by_fault c xs old new e r h p
 
 -- what is written for the settings and the lines behind them is the output
 pub serves_behind : (c : Command) (input left old new : Option (List ℕ)) (s : Start) (r : Result ℕ ServeFault) → Starts c input left (Ok s) → WritesBehind c s.settings left old new r → Serves c input old new r
@@ -194,7 +197,7 @@ unfolding output_of
 serves_behind c None left old new s r h p = tt
 serves_behind c (Some xs) None old new s r h p = absurd h
 serves_behind c (Some xs) (Some ys) old new s r h p =
-    inl (subst (λ (o : Output). Writes o old new r) (sym (ap (command_output c) h)) p.0, subst (λ (o : Result (Given × List (List ℕ)) SettingsFault). IsLimitedIn c o r) (sym h) p.1)
+    inl (subst (λ (o : Output). Writes o old new r) (sym (ap (command_output c) h)) p.0, subst (λ (o : Result (Given × List (List ℕ)) SettingsFault). IsLimitedIn c o old new r) (sym h) p.1)
 
 -- What an audit found is the verdict of the lines.
 

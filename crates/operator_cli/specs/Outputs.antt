@@ -215,13 +215,18 @@ IsLimited command.Audit s lines r = KeepsLimit (verdict_of (all_down s) lines) r
 IsLimited command.Ballot s lines r = Unit {0}
 IsLimited (command.Run journal) s lines r = Unit {0}
 
-abbrev pub IsLimitedIn : Command → Result (Given × List (List ℕ)) SettingsFault → Result ℕ ServeFault → Type 0
-IsLimitedIn c (Err e) r = Unit {0}
-IsLimitedIn c (Ok parts) r = IsLimited c parts.0.settings parts.1 r
+-- Refused settings end a run so: nothing but the reader fails before they are told, and nothing but the writer as they
+-- are.
+abbrev pub EndsRefused : Output → Option (List ℕ) → Option (List ℕ) → Result ℕ ServeFault → Type 0
+EndsRefused o old new r = Prints o old new r ⊎ ((r ≡ Err serving.Read) × (new ≡ old))
+
+abbrev pub IsLimitedIn : Command → Result (Given × List (List ℕ)) SettingsFault → Option (List ℕ) → Option (List ℕ) → Result ℕ ServeFault → Type 0
+IsLimitedIn c (Err e) old new r = EndsRefused (refused_output c e) old new r
+IsLimitedIn c (Ok parts) old new r = IsLimited c parts.0.settings parts.1 r
 
 -- What `serve` does for a command with known bytes: it writes their output and answers its status or,
 -- where memory was refused for the settings, the line that says so and 2. After a fault a beginning of
 -- it was written. Of a journal the greatest number of lines is kept.
 abbrev pub Serves : Command → Option (List ℕ) → Option (List ℕ) → Option (List ℕ) → Result ℕ ServeFault → Type 0
 Serves c None old new r = Unit {0}
-Serves c (Some input) old new r = (Writes (output_of c input) old new r × IsLimitedIn c (opened c input) r) ⊎ Writes (refusal_output settings.Memory) old new r
+Serves c (Some input) old new r = (Writes (output_of c input) old new r × IsLimitedIn c (opened c input) old new r) ⊎ Prints (refusal_output settings.Memory) old new r

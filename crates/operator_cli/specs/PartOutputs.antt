@@ -1,13 +1,10 @@
 -- Parts of an output: what the functions of a run owe one another, and who reads settings himself. Who reads
 -- what `serve` promises has no need of them.
-use Rattle.std.specs.Prelude.{◌≡◌, ◌⊎◌, ℕ, ◌+◌, ◌<◌, ◌≤◌, ◌-◌, Vec, Bool, true, if◌then◌else◌, List, [], ◌++◌, replicate, length, Option, Some, None, Result, Ok, Err}
+use Rattle.std.specs.Prelude.{◌≡◌, ◌⊎◌, ℕ, ◌+◌, ◌≤◌, ◌-◌, Vec, Bool, true, if◌then◌else◌, List, [], ◌++◌, replicate, length, Option, Some, None, Result, Ok, Err}
 use Rattle.std.specs.Global.{Global}
 use Rattle.std.specs.Io.KnownBytes.{Appends, Consumes}
 use Rattle.lock_model.specs.Ballots.{node_count}
 use Rattle.lock_messages.specs.declared.tickets.Ticket.{Ticket}
-use Rattle.world_model.specs.declared.TheConstants.{MAX_MESSAGES}
-use Rattle.world_model.specs.declared.events.Effect.{Effect}
-use Rattle.world_model.specs.declared.events.Effect.TheVariants as effect
 use Rattle.world_model.specs.declared.events.StepFault.{StepFault}
 use Rattle.world_model.specs.declared.events.StepFault.TheVariants as refusal
 use Rattle.world_model.specs.declared.exact.ExactWorld.{ExactWorld}
@@ -40,22 +37,6 @@ rising s nodes clients = record {
   clients = replicate clients risen_client ++ replicate (s.clients - clients) (down_client 0);
   sent = [];
 }
-
--- the messages that are said have numbers that messages can have
-abbrev pub SaidFits : Effect → Type 0
-SaidFits (effect.Said first count) = 0 < count → first + count ≤ MAX_MESSAGES + 1
-SaidFits (effect.Chose a) = Unit {0}
-SaidFits effect.Tried = Unit {0}
-SaidFits effect.Kept = Unit {0}
-SaidFits (effect.Sent k m) = Unit {0}
-SaidFits (effect.Took m changed) = Unit {0}
-SaidFits (effect.Heard m heard) = Unit {0}
-SaidFits effect.Inside = Unit {0}
-SaidFits effect.Outside = Unit {0}
-SaidFits effect.Softened = Unit {0}
-SaidFits effect.Down = Unit {0}
-SaidFits effect.Up = Unit {0}
-SaidFits (effect.Switched changed) = Unit {0}
 
 -- What a call found of the tickets that a query asks for: these; or that the node isn't there; or
 -- memory was refused, and it is.

@@ -4,7 +4,7 @@ ghost use Rattle.std.specs.Prelude.{◌≡◌};
 
 use crate::heads::HEAD_ROOM;
 
-/// The limit by number: settings have at most 65,536 bytes in front of their end.
+/// The limit by number: the line that ends settings begins within the first 65,536 bytes.
 pub fn limits()
     ensures bytes { HEAD_ROOM ≡ 65536 }
 {}

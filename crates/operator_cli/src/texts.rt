@@ -2,7 +2,7 @@
 
 ghost use Rattle.std.specs.Prelude.{◌≡◌, ◌+◌, ◌<◌, ◌≤◌, ◌++◌, OnOk, string_bytes};
 ghost use Rattle.std.specs.List.{flat_map};
-ghost use Rattle.operator_cli.specs.PartOutputs.{SaidFits};
+ghost use Rattle.world_model.specs.Laws.{SaidFits};
 ghost use Rattle.operator_cli.specs.Texts.{sent_text, found_text, said_text, changed_text, heard_text, effect_text, refused_text, member_text, other_text, members_text, answer_text, line_fault_text, ballot_text, ballots_text};
 ghost use Rattle.world_model.specs.declared.TheConstants.{MAX_MESSAGES};
 ghost use Rattle.world_model.specs.ExactWorlds.{numbered};

@@ -422,11 +422,12 @@ fn softened_attempts(rt: HostRuntime) -> Outcome {
     plays_all(rt.alloc(), &SOFTENED_ATTEMPTS_SCRIPTS)
 }
 
-const ATTEMPTS_TO_THEIR_END_SCRIPTS: [Script; 4] = [
+const ATTEMPTS_TO_THEIR_END_SCRIPTS: [Script; 5] = [
     (0, PLAIN, GIVES_UP),
     (1_000_000_000_000, PLAIN, SPENT),
     (999_999_999_999, PLAIN, LAST),
     (0, WEIGHTED, NEXT_NODE),
+    (0, PLAIN, NEXT_NODE),
 ];
 
 #[test]

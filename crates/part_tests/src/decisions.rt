@@ -5,6 +5,7 @@ use crate::courses::{Course, Left, follows};
 use crate::nodes::{SETTLED, WRITER_WAITS, has_record, new_core, same_step};
 use crate::replies::{Replies, client_at};
 use crate::rows::{both, message, release};
+use crate::scripts::{Step, plays_from};
 use lock_model::{Entry, Problem, Status, decide};
 use std::alloc::Global;
 use test_outcomes::{Outcome, check_answer};
@@ -226,9 +227,20 @@ request n1 c1 1 read b > muddled n1 c1 1";
 
 const MUDDLED_REQUEST_LEADS: [Lead; 1] = [(BOTH, MUDDLED_REQUEST, Left::Shape("c1 0 holds"))];
 
+/// c1 holds `a` as a reader.
+const READS_A: &str = "01 01 0001 \
+00000001 0000000000000000 02 0000000000000001 00 01 61";
+
+const MUDDLES: &str = "\
+request n1 c1 1 write a > same Stored, muddled n1 c1 1
+request n1 c1 1 read b > same Stored, muddled n1 c1 1";
+
+const MUDDLED_REQUEST_STEPS: [Step; 2] = [Step::Plays(MUDDLES), Step::Rests(READS_A)];
+
 #[test]
 fn muddled_request(rt: HostRuntime) -> Outcome {
-    lead_all(rt.alloc(), &MUDDLED_REQUEST_LEADS)
+    lead_all(rt.alloc(), &MUDDLED_REQUEST_LEADS)?;
+    check_answer(plays_from(rt.alloc(), READS_A, &MUDDLED_REQUEST_STEPS), 0)
 }
 
 const NEXT_ATTEMPT: &str = "\

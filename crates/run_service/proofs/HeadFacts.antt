@@ -1,39 +1,38 @@
 -- A head that was read is read again where its settings, the line of dashes and other lines stand.
 use Rattle.std.proofs.Common.{◌≡◌, ℕ, Bool, true, false, cond, nat_lt, List, [], ◌∷◌, ◌++◌, length, Option, Some, None, Result, Ok, Err, codes, refl, sym, ap, subst, ◌∙◌, append_assoc}
-use Rattle.std.specs.List.{onto_first, AllByRecursion}
+use Rattle.std.specs.List.{All, onto_first}
 use Rattle.std.specs.Str.{bytes_eq}
-use Rattle.std.proofs.lemmas.List.Splits.{slice_split-cons_yes, slice_split-cons_no}
+use Rattle.std.proofs.lemmas.List.Elements.{All-nil, All-cons, All-head, All-tail, All-from_recursion}
+use Rattle.std.proofs.lemmas.List.Splits.{slice_split_at}
 use Rattle.std.proofs.lemmas.Option.{same_Some}
-use Rattle.line_streams.specs.Streams.{is_line_feed, pieces, lines_in}
+use Rattle.line_streams.specs.Streams.{is_line_feed, pieces, lines_in, IsPlain}
 use Rattle.operator_cli.specs.declared.faults.SettingsFault.{SettingsFault}
 use Rattle.operator_cli.specs.declared.faults.SettingsFault.TheVariants as settings
 use Rattle.operator_cli.specs.declared.heads.TheConstants.{HEAD_ROOM}
 use Rattle.operator_cli.specs.Outputs.{dashes, with_line, parts_at_dashes, within_room, head_of}
 
-abbrev Plain : List ℕ → Type 0
-Plain bytes = AllByRecursion (λ b. is_line_feed b ≡ false) bytes
+abbrev Feedless : ℕ → Type 0
+Feedless b = is_line_feed b ≡ false
 
 abbrev ArePlain : List (List ℕ) → Type 0
-ArePlain ps = AllByRecursion Plain ps
+ArePlain ps = All IsPlain ps
 
 -- pieces have no line feeds
 
-onto_plain : (b : ℕ) (ps : List (List ℕ)) → is_line_feed b ≡ false → ArePlain ps → ArePlain (onto_first b ps)
-onto_plain b [] e h = ((e, tt), tt)
-onto_plain b (p ∷ ps) e h = ((e, h.0), h.1)
+onto_plain : (b : ℕ) (ps : List (List ℕ)) → Feedless b → ArePlain ps → ArePlain (onto_first b ps)
+onto_plain b [] e h = All-cons IsPlain (b ∷ []) [] (All-cons Feedless b [] e (All-nil Feedless)) (All-nil IsPlain)
+onto_plain b (p ∷ ps) e h = All-cons IsPlain (b ∷ p) ps (All-cons Feedless b p e (All-head IsPlain p ps h)) (All-tail IsPlain p ps h)
 
 next_plain : (t : Bool) (b : ℕ) (ps : List (List ℕ)) → is_line_feed b ≡ t → ArePlain ps → ArePlain (cond t ([] ∷ ps) (onto_first b ps))
-next_plain true b ps e h = (tt, h)
+next_plain true b ps e h = All-cons IsPlain [] ps (All-nil Feedless) h
 next_plain false b ps e h = onto_plain b ps e h
 
 pieces_plain : (xs : List ℕ) → ArePlain (pieces xs)
-pieces_plain [] = (tt, tt)
+pieces_plain [] = All-cons IsPlain [] [] (All-nil Feedless) (All-nil IsPlain)
 pieces_plain (b ∷ xs) = next_plain (is_line_feed b) b (pieces xs) refl (pieces_plain xs)
 
--- the first piece ends with the first line feed
-first_piece : (p rest : List ℕ) → Plain p → pieces (p ++ 10 ∷ rest) ≡ p ∷ pieces rest
-first_piece [] rest h = slice_split-cons_yes is_line_feed 10 rest refl
-first_piece (b ∷ p) rest h = slice_split-cons_no is_line_feed b (p ++ 10 ∷ rest) h.0 ∙ ap (onto_first b) (first_piece p rest h.1)
+dashes_plain : IsPlain dashes
+dashes_plain = All-from_recursion Feedless dashes (refl, (refl, (refl, tt)))
 
 abbrev Parts : Type 0
 Parts = Option (List ℕ × List (List ℕ))
@@ -45,7 +44,7 @@ ok_same : {A : Type 0} (x y : A) → the_ok x ≡ the_ok y → x ≡ y
 ok_same x y h = cc
 
 at_dashes : (rest : List ℕ) → parts_at_dashes (pieces (codes "---\n" ++ rest)) ≡ Some ([], pieces rest)
-at_dashes rest = ap parts_at_dashes (first_piece dashes rest (refl, (refl, (refl, tt))))
+at_dashes rest = ap parts_at_dashes (slice_split_at is_line_feed dashes 10 rest dashes_plain refl)
 
 behind_line : (p : List ℕ) (parts : Parts) (head : List ℕ) (others : List (List ℕ)) → with_line p parts ≡ Some (head, others)
     → (more : List ℕ) × (parts ≡ Some (more, others)) × (head ≡ p ++ codes "\n" ++ more)
@@ -56,16 +55,16 @@ behind_line p (Some parts) head others h =
     (parts.0, ap (λ (os : List (List ℕ)). Some (parts.0, os)) rest, sym (ap (λ (q : List ℕ × List (List ℕ)). q.0) same))
 
 -- the text behind the first piece
-first_cut : (p more rest : List ℕ) → Plain p → pieces ((p ++ codes "\n" ++ more) ++ codes "---\n" ++ rest) ≡ p ∷ pieces (more ++ codes "---\n" ++ rest)
+first_cut : (p more rest : List ℕ) → IsPlain p → pieces ((p ++ codes "\n" ++ more) ++ codes "---\n" ++ rest) ≡ p ∷ pieces (more ++ codes "---\n" ++ rest)
 first_cut p more rest plain =
     let line = p ++ codes "\n" in
     ap (λ (bs : List ℕ). pieces (bs ++ rest)) (append_assoc line more (codes "---\n")) ∙ ap pieces (append_assoc line (more ++ codes "---\n") rest)
-    ∙ ap pieces (append_assoc p (codes "\n") (more ++ codes "---\n" ++ rest)) ∙ first_piece p (more ++ codes "---\n" ++ rest) plain
+    ∙ ap pieces (append_assoc p (codes "\n") (more ++ codes "---\n" ++ rest)) ∙ slice_split_at is_line_feed p 10 (more ++ codes "---\n" ++ rest) plain refl
 
 abbrev Again : List ℕ → List ℕ → Type 0
 Again head rest = parts_at_dashes (pieces (head ++ codes "---\n" ++ rest)) ≡ Some (head, pieces rest)
 
-at_piece : (t : Bool) (p : List ℕ) (ps : List (List ℕ)) (head : List ℕ) (others : List (List ℕ)) (rest : List ℕ) → bytes_eq p dashes ≡ t → Plain p
+at_piece : (t : Bool) (p : List ℕ) (ps : List (List ℕ)) (head : List ℕ) (others : List (List ℕ)) (rest : List ℕ) → bytes_eq p dashes ≡ t → IsPlain p
     → ((more : List ℕ) → parts_at_dashes ps ≡ Some (more, others) → Again more rest) → cond {A = Parts} t (Some ([], ps)) (with_line p (parts_at_dashes ps)) ≡ Some (head, others) → Again head rest
 at_piece true p ps head others rest e plain next h =
     let none : [] ≡ head = ap (λ (q : List ℕ × List (List ℕ)). q.0) (same_Some ([], ps) (head, others) h) in
@@ -79,7 +78,7 @@ at_piece false p ps head others rest e plain next h =
 
 again : (ps : List (List ℕ)) (head : List ℕ) (others : List (List ℕ)) (rest : List ℕ) → ArePlain ps → parts_at_dashes ps ≡ Some (head, others) → Again head rest
 again [] head others rest all h = let clash : None ≡ Some (head, others) = h in absurd (cc)
-again (p ∷ ps) head others rest all h = at_piece (bytes_eq p dashes) p ps head others rest refl all.0 (λ more found. again ps more others rest all.1 found) h
+again (p ∷ ps) head others rest all h = at_piece (bytes_eq p dashes) p ps head others rest refl (All-head IsPlain p ps all) (λ more found. again ps more others rest (All-tail IsPlain p ps all) found) h
 
 -- the room is large enough
 

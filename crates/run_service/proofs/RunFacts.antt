@@ -1,12 +1,12 @@
 -- From the end of a run to what is told of it.
-use Rattle.std.proofs.Common.{◌≡◌, inl, inr, ℕ, Bool, true, false, Vec, List, [], ◌∷◌, ◌++◌, length, Option, Some, None, Result, Ok, Err, codes, refl, sym, ap, subst, ◌∙◌}
+use Rattle.std.proofs.Common.{◌≡◌, inl, inr, ℕ, Bool, true, false, Vec, List, ◌++◌, length, Option, Some, None, Result, Ok, Err, codes, refl, sym, ap, subst, ◌∙◌}
 use Rattle.std.specs.Global.{Global}
 use Rattle.std.proofs.KnownBytes.{Keeps-refl}
 use Rattle.journal_text.specs.Journals.{history_text, IsRecorded}
 use Rattle.journal_audit.specs.declared.verdicts.Verdict.TheVariants.{Sound}
 use Rattle.journal_audit.specs.Verdicts.{text_lines, VerdictsAreExact}
 use Rattle.journal_laws.specs.Laws.{JournalsAreSound}
-use Rattle.line_streams.specs.Streams.{pieces, lines_in, AppendsBeginning, AppendsPart, Puts}
+use Rattle.line_streams.specs.Streams.{pieces, lines_in, AppendsPart, Puts}
 use Rattle.operator_cli.specs.declared.faults.ServeFault.{ServeFault}
 use Rattle.operator_cli.specs.declared.faults.ServeFault.TheVariants as fault
 use Rattle.operator_cli.specs.declared.faults.SettingsFault.{SettingsFault}
@@ -16,9 +16,8 @@ use Rattle.operator_cli.specs.declared.heads.StartFault.TheVariants as start
 use Rattle.operator_cli.specs.declared.orders.Command.TheVariants as command
 use Rattle.operator_cli.specs.Openings.{all_down}
 use Rattle.operator_cli.specs.Settings.{Given, Refuses, settings_of, values_of, world_of}
-use Rattle.operator_cli.specs.Outputs.{head_of, opened, start_of, with_lines, output_of, command_output, verdict_output, refusal_output, Prints, Writes}
+use Rattle.operator_cli.specs.Outputs.{head_of, opened, start_of, with_lines, output_of, command_output, verdict_output, refusal_output, Prints}
 use Rattle.operator_cli.specs.PartOutputs.{FindsHead, RefusesStart}
-use Rattle.operator_cli.proofs.ServeFacts.{printed}
 use Rattle.run_service.specs.Ends.{End, run_text}
 use Rattle.run_service.specs.Outputs.{IsFoundSound, Tells, TellsBy, TellsBehind, ServesRun}
 use Rattle.run_service.specs.Parts.{TellsEnd, RunsBy, RunsHead}
@@ -64,7 +63,7 @@ tells journal xs head lines g old new (Err f) are_sound are_exact h k p = p
 tells_by : (journal : Bool) (xs head : List ℕ) (lines : List (List ℕ)) (given : Result Given SettingsFault) (old new : Option (List ℕ)) (r : Result ℕ ServeFault) → JournalsAreSound → VerdictsAreExact
     → head_of (pieces xs) ≡ Ok (head, lines) → settings_of (command.Run journal) head ≡ given → RunsBy journal head given old new r → TellsBy journal head given old new r
 tells_by journal xs head lines (Ok g) old new r are_sound are_exact h k p = tells journal xs head lines g old new r are_sound are_exact h k p
-tells_by journal xs head lines (Err e) old new r are_sound are_exact h k p = p
+tells_by journal xs head lines (Err e) old new r are_sound are_exact h k p = inl p
 
 -- What was told by one of two calls, of which one tells a journal.
 pub part_told : {U : Type 0} (journal : Bool) (head : List ℕ) (e : End) (is_journal : Bool) (old new written : Option (List ℕ)) (told said : Result U ServeFault) (f : ServeFault) → journal ≡ is_journal → told ≡ said → told ≡ Err f → new ≡ written
@@ -97,57 +96,45 @@ serves journal (Some xs) (Some ys) old new head text r are_sound are_exact h sam
 
 -- Settings that are refused, or a head that isn't there.
 
-by_settings : (journal : Bool) (head : List ℕ) (e : SettingsFault) (old new : Option (List ℕ)) (r : Result ℕ ServeFault) → Refuses e (settings_of (command.Run journal) head) → Writes (refusal_output e) old new r
-    → RunsHead journal head old new r
-by_settings journal head settings.NoEnd old new r h p = inl (subst (λ (q : Result Given SettingsFault). RunsBy journal head q old new r) (sym h) p)
-by_settings journal head settings.NoDocument old new r h p = inl (subst (λ (q : Result Given SettingsFault). RunsBy journal head q old new r) (sym h) p)
-by_settings journal head settings.UnknownKey old new r h p = inl (subst (λ (q : Result Given SettingsFault). RunsBy journal head q old new r) (sym h) p)
-by_settings journal head settings.Value old new r h p = inl (subst (λ (q : Result Given SettingsFault). RunsBy journal head q old new r) (sym h) p)
-by_settings journal head (settings.Ballot f) old new r h p = inl (subst (λ (q : Result Given SettingsFault). RunsBy journal head q old new r) (sym h) p)
-by_settings journal head (settings.Weather f) old new r h p = inl (subst (λ (q : Result Given SettingsFault). RunsBy journal head q old new r) (sym h) p)
-by_settings journal head (settings.Wish f) old new r h p = inl (subst (λ (q : Result Given SettingsFault). RunsBy journal head q old new r) (sym h) p)
-by_settings journal head settings.Memory old new r h p = inr p
-
 pub settings_refused : (journal : Bool) (head : List ℕ) (e : SettingsFault) (old new : Option (List ℕ)) (r : Result ℕ ServeFault) → Refuses e (settings_of (command.Run journal) head) → Prints (refusal_output e) old new r
     → RunsHead journal head old new r
-settings_refused journal head e old new r h p = by_settings journal head e old new r h (printed (refusal_output e) old new r p)
+settings_refused journal head settings.NoEnd old new r h p = inl (subst (λ (q : Result Given SettingsFault). RunsBy journal head q old new r) (sym h) p)
+settings_refused journal head settings.NoDocument old new r h p = inl (subst (λ (q : Result Given SettingsFault). RunsBy journal head q old new r) (sym h) p)
+settings_refused journal head settings.UnknownKey old new r h p = inl (subst (λ (q : Result Given SettingsFault). RunsBy journal head q old new r) (sym h) p)
+settings_refused journal head settings.Value old new r h p = inl (subst (λ (q : Result Given SettingsFault). RunsBy journal head q old new r) (sym h) p)
+settings_refused journal head (settings.Ballot f) old new r h p = inl (subst (λ (q : Result Given SettingsFault). RunsBy journal head q old new r) (sym h) p)
+settings_refused journal head (settings.Weather f) old new r h p = inl (subst (λ (q : Result Given SettingsFault). RunsBy journal head q old new r) (sym h) p)
+settings_refused journal head (settings.Wish f) old new r h p = inl (subst (λ (q : Result Given SettingsFault). RunsBy journal head q old new r) (sym h) p)
+settings_refused journal head settings.Memory old new r h p = inr p
 
-head_refused : (journal : Bool) (xs : List ℕ) (e : SettingsFault) (old new : Option (List ℕ)) (r : Result ℕ ServeFault) → Refuses e (head_of (pieces xs)) → Writes (refusal_output e) old new r
+head_refused : (journal : Bool) (xs : List ℕ) (e : SettingsFault) (old new : Option (List ℕ)) (r : Result ℕ ServeFault) → Refuses e (head_of (pieces xs)) → Prints (refusal_output e) old new r
     → ServesRun (command.Run journal) (Some xs) old new r
-head_refused journal xs settings.NoEnd old new r h p = inl (subst (λ (q : Result (List ℕ × List (List ℕ)) SettingsFault). TellsBehind journal q old new r) (sym h) p)
-head_refused journal xs settings.NoDocument old new r h p = inl (subst (λ (q : Result (List ℕ × List (List ℕ)) SettingsFault). TellsBehind journal q old new r) (sym h) p)
-head_refused journal xs settings.UnknownKey old new r h p = inl (subst (λ (q : Result (List ℕ × List (List ℕ)) SettingsFault). TellsBehind journal q old new r) (sym h) p)
-head_refused journal xs settings.Value old new r h p = inl (subst (λ (q : Result (List ℕ × List (List ℕ)) SettingsFault). TellsBehind journal q old new r) (sym h) p)
-head_refused journal xs (settings.Ballot f) old new r h p = inl (subst (λ (q : Result (List ℕ × List (List ℕ)) SettingsFault). TellsBehind journal q old new r) (sym h) p)
-head_refused journal xs (settings.Weather f) old new r h p = inl (subst (λ (q : Result (List ℕ × List (List ℕ)) SettingsFault). TellsBehind journal q old new r) (sym h) p)
-head_refused journal xs (settings.Wish f) old new r h p = inl (subst (λ (q : Result (List ℕ × List (List ℕ)) SettingsFault). TellsBehind journal q old new r) (sym h) p)
+head_refused journal xs settings.NoEnd old new r h p = inl (subst (λ (q : Result (List ℕ × List (List ℕ)) SettingsFault). TellsBehind journal q old new r) (sym h) (inl p))
+head_refused journal xs settings.NoDocument old new r h p = inl (subst (λ (q : Result (List ℕ × List (List ℕ)) SettingsFault). TellsBehind journal q old new r) (sym h) (inl p))
+head_refused journal xs settings.UnknownKey old new r h p = inl (subst (λ (q : Result (List ℕ × List (List ℕ)) SettingsFault). TellsBehind journal q old new r) (sym h) (inl p))
+head_refused journal xs settings.Value old new r h p = inl (subst (λ (q : Result (List ℕ × List (List ℕ)) SettingsFault). TellsBehind journal q old new r) (sym h) (inl p))
+head_refused journal xs (settings.Ballot f) old new r h p = inl (subst (λ (q : Result (List ℕ × List (List ℕ)) SettingsFault). TellsBehind journal q old new r) (sym h) (inl p))
+head_refused journal xs (settings.Weather f) old new r h p = inl (subst (λ (q : Result (List ℕ × List (List ℕ)) SettingsFault). TellsBehind journal q old new r) (sym h) (inl p))
+head_refused journal xs (settings.Wish f) old new r h p = inl (subst (λ (q : Result (List ℕ × List (List ℕ)) SettingsFault). TellsBehind journal q old new r) (sym h) (inl p))
 head_refused journal xs settings.Memory old new r h p = inr p
 
 -- Nothing is told after a failed read, and where the run didn't come to its end.
 
-nothing : (text : List ℕ) (old : Option (List ℕ)) → AppendsBeginning old old text
-nothing text None = ([], text, refl, tt)
-nothing text (Some xs) = ([], text, refl, sym (rw_nil xs))
-  where
-    rw_nil : (ys : List ℕ) → ys ++ [] ≡ ys
-    rw_nil [] = refl
-    rw_nil (y ∷ ys) = ap (λ zs. y ∷ zs) (rw_nil ys)
+nothing_by : (journal : Bool) (head : List ℕ) (given : Result Given SettingsFault) (old : Option (List ℕ)) → TellsBy journal head given old old (Err fault.Read)
+nothing_by journal head (Ok g) old = inl (Keeps-refl old)
+nothing_by journal head (Err e) old = inr (refl, refl)
 
-nothing_by : (journal : Bool) (head : List ℕ) (given : Result Given SettingsFault) (old : Option (List ℕ)) (f : ServeFault) → TellsBy journal head given old old (Err f)
-nothing_by journal head (Ok g) old f = inl (Keeps-refl old)
-nothing_by journal head (Err e) old f = nothing (refusal_output e).text old
-
-nothing_behind : (journal : Bool) (q : Result (List ℕ × List (List ℕ)) SettingsFault) (old : Option (List ℕ)) (f : ServeFault) → TellsBehind journal q old old (Err f)
-nothing_behind journal (Ok parts) old f = nothing_by journal parts.0 (settings_of (command.Run journal) parts.0) old f
-nothing_behind journal (Err e) old f = nothing (refusal_output e).text old
+nothing_behind : (journal : Bool) (q : Result (List ℕ × List (List ℕ)) SettingsFault) (old : Option (List ℕ)) → TellsBehind journal q old old (Err fault.Read)
+nothing_behind journal (Ok parts) old = nothing_by journal parts.0 (settings_of (command.Run journal) parts.0) old
+nothing_behind journal (Err e) old = inr (refl, refl)
 
 read_failed : (journal : Bool) (xs : List ℕ) (old new : Option (List ℕ)) (r : Result ℕ ServeFault) → r ≡ Err fault.Read → new ≡ old → ServesRun (command.Run journal) (Some xs) old new r
 read_failed journal xs old new r e same =
     subst (λ (q : Result ℕ ServeFault). ServesRun (command.Run journal) (Some xs) old new q) (sym e)
-    (subst (λ (n : Option (List ℕ)). ServesRun (command.Run journal) (Some xs) old n (Err fault.Read)) (sym same) (inl (nothing_behind journal (head_of (pieces xs)) old fault.Read)))
+    (subst (λ (n : Option (List ℕ)). ServesRun (command.Run journal) (Some xs) old n (Err fault.Read)) (sym same) (inl (nothing_behind journal (head_of (pieces xs)) old)))
 
 pub not_started : (journal : Bool) (input left old new : Option (List ℕ)) (f : StartFault) (r : Result ℕ ServeFault) → FindsHead input left (Err f) → RefusesStart (command.Run journal) f old new r
     → ServesRun (command.Run journal) input old new r
 not_started journal None left old new f r h p = tt
 not_started journal (Some xs) left old new start.Read r h p = read_failed journal xs old new r p.0 p.1
-not_started journal (Some xs) left old new (start.Settings e) r h p = head_refused journal xs e old new r h (printed (refusal_output e) old new r p)
+not_started journal (Some xs) left old new (start.Settings e) r h p = head_refused journal xs e old new r h p

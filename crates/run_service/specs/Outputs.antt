@@ -11,7 +11,7 @@ use Rattle.operator_cli.specs.declared.orders.Command.{Command}
 use Rattle.operator_cli.specs.declared.orders.Command.TheVariants as command
 use Rattle.operator_cli.specs.declared.settings.Settings.{Settings}
 use Rattle.operator_cli.specs.Settings.{Given, settings_of}
-use Rattle.operator_cli.specs.Outputs.{head_of, output_of, verdict_output, refusal_output, Writes}
+use Rattle.operator_cli.specs.Outputs.{head_of, output_of, verdict_output, refusal_output, Prints, EndsRefused}
 use Rattle.run_service.specs.Ends.{End, IsEndOf, run_text, journal_behind, end_status}
 
 -- the command that `serve_run` takes, and whether it asks for the journal
@@ -35,11 +35,11 @@ Tells journal head s wishes old new (Err f) = Keeps old new ⊎ ((e : End) × Is
 
 -- the same, and for settings that are refused the line of their fault
 abbrev pub TellsBy : Bool → List ℕ → Result Given SettingsFault → Option (List ℕ) → Option (List ℕ) → Result ℕ ServeFault → Type 0
-TellsBy journal head (Err e) old new r = Writes (refusal_output e) old new r
+TellsBy journal head (Err e) old new r = EndsRefused (refusal_output e) old new r
 TellsBy journal head (Ok g) old new r = Tells journal head g.settings g.wishes old new r
 
 abbrev pub TellsBehind : Bool → Result (List ℕ × List (List ℕ)) SettingsFault → Option (List ℕ) → Option (List ℕ) → Result ℕ ServeFault → Type 0
-TellsBehind journal (Err e) old new r = Writes (refusal_output e) old new r
+TellsBehind journal (Err e) old new r = EndsRefused (refusal_output e) old new r
 TellsBehind journal (Ok parts) old new r = TellsBy journal parts.0 (settings_of (command.Run journal) parts.0) old new r
 
 -- What `serve_run` does with known bytes: it runs the service by the settings in front of the line of
@@ -50,4 +50,4 @@ ServesRun c None old new r = Unit {0}
 ServesRun command.Script (Some input) old new r = ⊥
 ServesRun command.Audit (Some input) old new r = ⊥
 ServesRun command.Ballot (Some input) old new r = ⊥
-ServesRun (command.Run journal) (Some input) old new r = TellsBehind journal (head_of (pieces input)) old new r ⊎ Writes (refusal_output settings.Memory) old new r
+ServesRun (command.Run journal) (Some input) old new r = TellsBehind journal (head_of (pieces input)) old new r ⊎ Prints (refusal_output settings.Memory) old new r

@@ -12,7 +12,7 @@ use Rattle.operator_cli.specs.declared.orders.Command.TheVariants as command
 use Rattle.operator_cli.specs.declared.settings.Settings.{Settings}
 use Rattle.operator_cli.specs.Openings.{all_down}
 use Rattle.operator_cli.specs.Settings.{Given, settings_of}
-use Rattle.operator_cli.specs.Outputs.{refusal_output, Writes}
+use Rattle.operator_cli.specs.Outputs.{refusal_output, Prints}
 use Rattle.run_service.specs.Ends.{End, IsEndOf, run_text, end_status}
 
 -- What a run came to was told, and a journal that was written can be read back; or a beginning was told, and not
@@ -24,8 +24,8 @@ TellsEnd journal head s wishes old new (Err f) = Keeps old new ⊎ ((e : End) ×
 
 -- The same for what a head gives; or settings are refused.
 abbrev pub RunsBy : Bool → List ℕ → Result Given SettingsFault → Option (List ℕ) → Option (List ℕ) → Result ℕ ServeFault → Type 0
-RunsBy journal head (Err e) old new r = Writes (refusal_output e) old new r
+RunsBy journal head (Err e) old new r = Prints (refusal_output e) old new r
 RunsBy journal head (Ok g) old new r = TellsEnd journal head g.settings g.wishes old new r
 
 abbrev pub RunsHead : Bool → List ℕ → Option (List ℕ) → Option (List ℕ) → Result ℕ ServeFault → Type 0
-RunsHead journal head old new r = RunsBy journal head (settings_of (command.Run journal) head) old new r ⊎ Writes (refusal_output settings.Memory) old new r
+RunsHead journal head old new r = RunsBy journal head (settings_of (command.Run journal) head) old new r ⊎ Prints (refusal_output settings.Memory) old new r

@@ -2,7 +2,7 @@
 
 use crate::auditing::{audited, found, world};
 use crate::sips::sips_of;
-use history_check::LineFault;
+use history_check::{LineFault, read_event};
 use journal_audit::{AuditFault, Cause, Verdict, audit, audit_lines};
 use line_streams::LineReader;
 use std::alloc::Global;
@@ -138,8 +138,18 @@ fn lines_behind_a_head(rt: HostRuntime) -> Outcome {
     }
 }
 
+/// The number of the fault of the last line, which is no event.
+fn last_fault(lines: &[u8]) -> Option<u16> {
+    let lines = str::from_utf8(lines).ok()?;
+    let mut last = "";
+    for line in lines.lines() {
+        last = line;
+    }
+    Some(read_event(last.as_bytes()).err()?.number())
+}
+
 /// Whether the verdict on a journal that was cut is right: the whole lines are sound, and what is left
-/// of the next one is no line, the whole of it, or no event.
+/// of the next one is no line, the whole of it, or no event, by its own fault.
 fn is_right_cut(alloc: Global, out: &[u8], cut: usize) -> Result<bool, Failure> {
     let bytes = FIRST_READER.as_bytes();
     let (now, later) = bytes.split_at_checked(cut).ok_or(Failure::Wrong(0))?;
@@ -150,9 +160,10 @@ fn is_right_cut(alloc: Global, out: &[u8], cut: usize) -> Result<bool, Failure> 
     } else if later.starts_with(b"\n") {
         format!(in alloc; "sound {next}\n")?
     } else {
-        format!(in alloc; "unsound {next} fault ")?
+        let number = last_fault(now).ok_or(Failure::Wrong(0))?;
+        format!(in alloc; "unsound {next} fault {number}\n")?
     };
-    Ok(out.starts_with(expected.as_bytes()))
+    Ok(out == expected.as_bytes())
 }
 
 #[test]

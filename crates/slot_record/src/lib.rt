@@ -37,4 +37,4 @@ pub use faults::{PlateFault, SlotFault};
 pub use memory_plates::MemoryPlate;
 pub use plates::Plate;
 pub use records::SlotRecord;
-pub use slots::{LEAST_PLATE_LEN, MAX_SEQUENCE};
+pub use slots::{CLOSED, LEAST_PLATE_LEN, MAX_SEQUENCE, OPEN, SLOT_LEN};

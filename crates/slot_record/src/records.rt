@@ -166,8 +166,8 @@ impl<P: Plate> StableRecord for SlotRecord<P> {
 
     ghost failures_of = { λ r. (P.state r.plate).failures };
 
-    /// Keeps these bytes in place of those before: four device calls, or six once both slots have
-    /// held a record. It takes no memory but its plate's, and reads nothing.
+    /// Keeps these bytes in place of those before: four device calls, or six where the other
+    /// slot's gate is open. It takes no memory but its plate's, and reads nothing.
     ///
     /// Before the device is called the first of these is answered, and nothing has changed: 302
     /// (stuck), 303 (more than `MAX_RECORD_LEN` bytes), 305 (the record's sequence is

@@ -7,16 +7,16 @@ ghost use Rattle.slot_record.specs.Slots.{start_of, other_of};
 pub const MAX_SEQUENCE: u64 = 1_000_000_000_000;
 
 /// The bytes of a slot: its head, and room for the longest body.
-pub(crate) const SLOT_LEN: u32 = 60_013;
+pub const SLOT_LEN: u32 = 60_013;
 
 /// The least bytes of a plate that has a record.
 pub const LEAST_PLATE_LEN: u32 = 120_026;
 
 /// The gate of a slot that is open; any other byte is a closed one.
-pub(crate) const OPEN: u8 = 1;
+pub const OPEN: u8 = 1;
 
 /// The gate that is written to close a slot.
-pub(crate) const CLOSED: u8 = 0;
+pub const CLOSED: u8 = 0;
 
 /// One of the two slots of a plate.
 #[derive(Clone, Copy)]

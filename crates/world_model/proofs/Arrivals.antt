@@ -1,6 +1,6 @@
 -- The moves, one after the other, are a run that ends with the client inside; and nobody who is down does
 -- anything in it.
-use Rattle.std.proofs.Common.{◌≡◌, ◌≢◌, ℕ, ◌+◌, ◌<◌, ◌⊎◌, Bool, true, false, List, [], ◌∷◌, Option, None, Some, zero, suc, refl, sym, ◌∙◌, ap, subst, inl, inr, arith}
+use Rattle.std.proofs.Common.{◌≡◌, ◌≢◌, ℕ, ◌<◌, Bool, List, [], ◌∷◌, Option, None, Some, zero, suc, refl, sym, ◌∙◌, ap, subst, inl, inr, arith}
 use Rattle.std.proofs.lemmas.Bool.{cases_eq}
 use Rattle.lock_messages.specs.declared.ids.Actor.{Actor}
 use Rattle.lock_messages.specs.declared.ids.Actor.TheVariants as actor
@@ -11,7 +11,7 @@ use Rattle.lock_model.specs.Ballots.{Ballot}
 use Rattle.lock_model.specs.Decisions.{Among}
 use Rattle.world_model.specs.declared.events.Event.{Event}
 use Rattle.world_model.specs.declared.events.Event.TheVariants as event
-use Rattle.world_model.specs.Worlds.{NodePhase, NodeDown, NodeIdle, Decided, Stored, Node, Present, ClientPhase, ClientDown, ClientIdle, Chosen, Asking, IsIn, Client, World, Setting, OfNode, OfClient, Happens, Run, Begins, begins, TriesAttempt, tries_attempt, TriesStation, tries_station, KeepsAttempt, keeps_attempt, KeepsStation, keeps_station, Tells, asks, asks_inside, tells_softened, releases, Says, says, Takes, takes, takes_same, Hears, counts, counts_inside, passes, passes_inside, passes_softened, passes_idle, passes_chosen, Enters, enters, Leaves, gives_up, leaves}
+use Rattle.world_model.specs.Worlds.{NodeDown, NodeIdle, Decided, Stored, Node, ClientDown, ClientIdle, Chosen, Asking, IsIn, Client, World, Setting, OfNode, OfClient, Happens, Begins, begins, TriesAttempt, tries_attempt, TriesStation, tries_station, KeepsAttempt, keeps_attempt, KeepsStation, keeps_station, Tells, asks, asks_inside, tells_softened, releases, Says, says, Takes, takes, takes_same, Hears, counts, counts_inside, passes, passes_inside, passes_softened, passes_idle, passes_chosen, Enters, enters, Leaves, gives_up, leaves}
 use Rattle.world_model.specs.ExactWorlds.{actor_of}
 use Rattle.world_model.specs.declared.ways.Move.{Move}
 use Rattle.world_model.specs.declared.ways.Move.TheVariants.{Alone, Hand, HearFrom}
@@ -19,8 +19,8 @@ use Rattle.world_model.specs.declared.ways.Want.{Want}
 use Rattle.world_model.specs.Advice.{next_move}
 use Rattle.world_model.specs.Ways.{WayIn, IsGentle, IsUp}
 use Rattle.world_model.proofs.Costs.{cost}
-use Rattle.world_model.proofs.Nearer.{Fine, Hands, HearsGrant, Makes}
-use Rattle.world_model.proofs.Progress.{IsGentleMove, IsNext, Goes-on, progress}
+use Rattle.world_model.proofs.Nearer.{Fine, Makes}
+use Rattle.world_model.proofs.Progress.{IsGentleMove, Goes-on, progress}
 
 -- Who does something without rising is up.
 

@@ -1,10 +1,10 @@
 -- How far it still is: each move makes this less.
-use Rattle.std.proofs.Common.{◌≡◌, ℕ, ◌+◌, ◌==◌, Bool, true, false, if◌then◌else◌, List, [], ◌∷◌, Option, None, Some}
+use Rattle.std.proofs.Common.{ℕ, ◌+◌, ◌==◌, Bool, false, if◌then◌else◌, List, Option, None, Some}
 use Rattle.std.specs.List.{list_any}
 use Rattle.lock_messages.specs.declared.tickets.Ticket.{Ticket}
 use Rattle.lock_messages.specs.declared.messages.Message.{Message}
 use Rattle.lock_model.specs.Stations.{Station}
-use Rattle.world_model.specs.Worlds.{NodePhase, NodeDown, NodeIdle, Decided, Stored, Node, Present, ClientPhase, ClientDown, ClientIdle, Chosen, Asking, IsIn, Client, World, Setting}
+use Rattle.world_model.specs.Worlds.{NodePhase, NodeDown, NodeIdle, Decided, Stored, Node, ClientPhase, ClientDown, ClientIdle, Chosen, Asking, IsIn, Client, World, Setting}
 use Rattle.world_model.specs.declared.ways.Want.{Want}
 use Rattle.world_model.specs.ExactWays.{total_over}
 use Rattle.world_model.specs.Advice.{coming, blocks, is_wanted, asks_for, is_inside_as, is_grant, node_numbers, client_numbers}

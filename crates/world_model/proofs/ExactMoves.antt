@@ -1,11 +1,11 @@
 -- The moves at the exact world: each is taken where the list of messages has room, and then is the move that the
 -- world of sets and maps makes.
-use Rattle.std.proofs.Common.{◌≡◌, ◌≢◌, ℕ, ◌+◌, ◌⊎◌, ◌==◌, Bool, true, false, cond, List, [], ◌∷◌, ◌++◌, length, Option, None, Some, Ok, Err, zero, suc, refl, sym, ◌∙◌, ap, subst, inl, inr, arith}
+use Rattle.std.proofs.Common.{◌≡◌, ℕ, ◌+◌, ◌⊎◌, Bool, true, false, cond, List, [], ◌∷◌, ◌++◌, length, Option, None, Some, Ok, Err, refl, sym, ◌∙◌, ap, subst}
 use Rattle.std.specs.Prelude.{slice_get}
 use Rattle.lock_messages.specs.declared.ids.Actor.TheVariants as actor
 use Rattle.lock_messages.specs.declared.messages.Message.{Message}
 use Rattle.lock_messages.specs.declared.messages.Message.TheVariants.{Grant}
-use Rattle.lock_messages.specs.Messages.{is_for_node, is_for_client}
+use Rattle.lock_messages.specs.Messages.{is_for_client}
 use Rattle.lock_model.specs.Ballots.{node_count}
 use Rattle.lock_model.specs.Decisions.{Among}
 use Rattle.world_model.specs.declared.events.Event.{Event}
@@ -14,7 +14,6 @@ use Rattle.world_model.specs.declared.events.Effect.TheVariants as effect
 use Rattle.world_model.specs.declared.events.StepFault.TheVariants as fault
 use Rattle.world_model.specs.declared.exact.ExactClient.{ExactClient}
 use Rattle.world_model.specs.declared.exact.ExactNode.{ExactNode}
-use Rattle.world_model.specs.declared.exact.ExactNodePhase.{ExactNodePhase}
 use Rattle.world_model.specs.declared.exact.ExactNodePhase.TheVariants as node
 use Rattle.world_model.specs.declared.exact.ExactWorld.{ExactWorld}
 use Rattle.world_model.specs.declared.ways.Move.TheVariants.{Alone, Hand, HearFrom}
@@ -26,7 +25,7 @@ use Rattle.world_model.specs.ExactWorlds.{numbered, next_number, has_room, sendi
 use Rattle.world_model.specs.Forgetting.{node_of, client_of, forget, setting_of, IsSound, IsSoundNode}
 use Rattle.world_model.specs.Numbered.{numbered-next}
 use Rattle.world_model.specs.Laws.{NamesItsMessage}
-use Rattle.world_model.specs.Advice.{finishing, finishing_in, resting, resting_in, beginning, beginning_in, asks_for, is_inside_as, is_grant}
+use Rattle.world_model.specs.Advice.{finishing_in, resting_in, beginning_in, asks_for, is_inside_as, is_grant}
 use Rattle.world_model.proofs.ListFacts.{numbered-among}
 use Rattle.world_model.proofs.Deeds.{ModelLaws}
 use Rattle.world_model.proofs.NodeTurns.{decides-so}

@@ -1,11 +1,10 @@
 -- The law of ways in at the exact world, as long as there is room.
-use Rattle.std.proofs.Common.{◌≡◌, ◌≢◌, ℕ, ◌+◌, ◌-◌, ◌<◌, ◌≤◌, ◌⊎◌, not, ◌&&◌, nat_le, Bool, true, false, List, [], ◌∷◌, ◌++◌, length, Option, None, Some, Ok, Err, zero, suc, refl, sym, ◌∙◌, ap, subst, inl, inr, arith, append_assoc, append-nil}
+use Rattle.std.proofs.Common.{◌≡◌, ◌≢◌, ℕ, ◌+◌, ◌-◌, ◌<◌, ◌≤◌, ◌⊎◌, not, ◌&&◌, Bool, true, false, List, [], ◌∷◌, ◌++◌, length, Option, None, Some, Ok, Err, zero, suc, refl, sym, ◌∙◌, ap, subst, inl, inr, arith, append_assoc, append-nil}
 use Rattle.std.specs.List.{list_any}
-use Rattle.std.proofs.lemmas.Bool.{cases_eq, cases_Bool, and_parts, ltb-true, lt-ltb}
+use Rattle.std.proofs.lemmas.Bool.{cases_eq, and_parts, ltb-true, lt-ltb}
 use Rattle.lock_messages.specs.declared.ids.TheConstants.{MAX_ATTEMPT}
 use Rattle.lock_messages.specs.declared.ids.Actor.{Actor}
 use Rattle.lock_messages.specs.declared.ids.Actor.TheVariants as actor
-use Rattle.lock_messages.specs.declared.messages.Message.{Message}
 use Rattle.lock_model.specs.Ballots.{AllCross, HasAnyNode, IsEnough, ballot_at}
 use Rattle.lock_model.specs.Stations.{Free, Has, Standing}
 use Rattle.lock_model.specs.Decisions.{Among}
@@ -15,7 +14,6 @@ use Rattle.world_model.specs.declared.events.Age.TheVariants.{Old}
 use Rattle.world_model.specs.declared.events.Effect.TheVariants as effect
 use Rattle.world_model.specs.declared.events.Event.{Event}
 use Rattle.world_model.specs.declared.events.Event.TheVariants as event
-use Rattle.world_model.specs.declared.events.StepFault.TheVariants as fault
 use Rattle.world_model.specs.declared.exact.ExactClient.{ExactClient}
 use Rattle.world_model.specs.declared.exact.ExactClientPhase.{ExactClientPhase}
 use Rattle.world_model.specs.declared.exact.ExactClientPhase.TheVariants as client
@@ -31,12 +29,11 @@ use Rattle.world_model.specs.ExactWorlds.{numbered, next_number, with_node_at, w
 use Rattle.world_model.specs.Forgetting.{station_of, present_of, node_phase_of, client_phase_of, node_numbered, client_numbered, forget, setting_of, IsSound}
 use Rattle.world_model.specs.Invariants.{IsSafe}
 use Rattle.world_model.specs.Numbered.{numbered-one, numbered-there}
-use Rattle.world_model.specs.Advice.{coming, blocks, is_up, is_client_up, is_held, can_be_won, coming_up, node_numbers, client_numbers, is_grant, next_move}
+use Rattle.world_model.specs.Advice.{coming, is_up, is_client_up, is_held, can_be_won, coming_up, node_numbers, client_numbers, is_grant, next_move}
 use Rattle.world_model.specs.Ways.{IsPossible, IsInsideAs, IsUp, HasActor, IsChosenBelow, StandsInWay, IsReady}
-use Rattle.world_model.specs.ExactWays.{load, SetsOut, HasRoomFor, every_node, LeadsIn, HasRun, HasBegun, is_chosen_below, HasAttempt, IsOwnOrGentle, ExactWayIn, ExactWayWithoutTheDead, Moved, moved_alone, moved_hand, moved_hear}
-use Rattle.world_model.proofs.ListFacts.{among-append, among-got, got-numbered}
+use Rattle.world_model.specs.ExactWays.{load, SetsOut, every_node, LeadsIn, HasRun, HasBegun, is_chosen_below, HasAttempt, ExactWayIn, ExactWayWithoutTheDead, Moved, moved_alone, moved_hand, moved_hear}
+use Rattle.world_model.proofs.ListFacts.{among-got, got-numbered}
 use Rattle.world_model.proofs.Deeds.{ModelLaws}
-use Rattle.world_model.proofs.StepFacts.{step-done}
 use Rattle.world_model.proofs.Costs.{cost}
 use Rattle.world_model.proofs.Owed.{owed}
 use Rattle.world_model.proofs.Rooms.{alone-full, hand-full}
@@ -48,8 +45,8 @@ use Rattle.world_model.proofs.Searches.{numbers-among, among-clients}
 use Rattle.world_model.proofs.MoveKinds as kind
 use Rattle.world_model.proofs.MoveKinds.{MoveKind}
 use Rattle.world_model.proofs.Progress.{IsNext, Goes-on, progress}
-use Rattle.world_model.proofs.Raises.{Stays, still-up}
-use Rattle.world_model.proofs.WaysIn.{every-known, known-every, every-enough}
+use Rattle.world_model.proofs.Raises.{still-up}
+use Rattle.world_model.proofs.WaysIn.{every-known, every-enough}
 use Rattle.world_model.proofs.ExactMoves.{alone-goes, hand-goes-first, hand-goes-second, hear-goes}
 use Rattle.world_model.proofs.OnTheWay.{run-more, OnTheWay, stepped-ok, moves-on}
 use Rattle.world_model.proofs.Prefixes.{Risen, none-risen, risen-on, client-risen, node-risen, client-rises-step, node-rises-step}

@@ -1,14 +1,13 @@
 -- What holds from the first move to the last: how one event keeps it.
-use Rattle.std.proofs.Common.{◌≡◌, ◌≢◌, ℕ, ◌+◌, ◌<◌, ◌≤◌, ◌⊎◌, Bool, true, false, List, [], ◌∷◌, Option, None, Some, IfSome, refl, sym, ◌∙◌, ap, subst, inl, inr, arith}
+use Rattle.std.proofs.Common.{◌≡◌, ◌≢◌, ℕ, ◌+◌, ◌<◌, ◌≤◌, ◌⊎◌, Bool, true, List, [], Option, sym, ◌∙◌, ap, subst, inl, inr, arith}
 use Rattle.std.proofs.lemmas.Bool.{cases_eq, cases_lt}
 use Rattle.lock_messages.specs.declared.ids.Actor.TheVariants as actor
 use Rattle.lock_messages.specs.declared.messages.Message.{Message}
 use Rattle.lock_model.specs.Stations.{Claim, Free, Has, Standing, Station, stranger}
-use Rattle.lock_model.specs.Decisions.{Among}
 use Rattle.world_model.specs.declared.events.Event.{Event}
 use Rattle.world_model.specs.declared.events.Event.TheVariants as event
-use Rattle.world_model.specs.Worlds.{NodePhase, NodeDown, NodeIdle, Decided, Stored, Node, Client, ClientPhase, World, Setting, HasClient, OfNode, OfClient, Sends, Happens, IsWithin, EachStation, IfDecided}
-use Rattle.world_model.specs.Invariants.{Owes, IsSafeStation, IsSafeNode, IsSafe}
+use Rattle.world_model.specs.Worlds.{NodePhase, NodeDown, NodeIdle, Decided, Stored, Node, Client, World, Setting, HasClient, OfNode, OfClient, Sends, Happens, IsWithin, EachStation}
+use Rattle.world_model.specs.Invariants.{IsSafeStation, IsSafe}
 use Rattle.world_model.specs.declared.ways.Want.{Want}
 use Rattle.world_model.specs.Advice.{coming, coming_in}
 use Rattle.world_model.specs.Ways.{IsReady, IsUp, StandsInWay}

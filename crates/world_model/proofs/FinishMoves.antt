@@ -1,5 +1,5 @@
 -- A chosen node finishes what it is about: it tries its station, keeps it, and says its replies.
-use Rattle.std.proofs.Common.{◌≡◌, ◌≢◌, ℕ, ◌+◌, ◌<◌, ◌≤◌, ◌⊎◌, Bool, true, false, if◌then◌else◌, List, [], ◌∷◌, Option, None, Some, IfSome, refl, sym, ◌∙◌, ap, subst, inl, inr, arith}
+use Rattle.std.proofs.Common.{◌≡◌, ◌≢◌, ℕ, ◌<◌, ◌≤◌, Bool, true, false, if◌then◌else◌, List, [], Option, None, Some, refl, sym, ap, subst, inr, arith}
 use Rattle.std.specs.List.{list_any}
 use Rattle.lock_messages.specs.declared.ids.Actor.TheVariants as actor
 use Rattle.lock_messages.specs.declared.tickets.Ticket.{Ticket}
@@ -7,15 +7,14 @@ use Rattle.lock_messages.specs.declared.messages.Message.{Message}
 use Rattle.lock_model.specs.Ballots.{HasAnyNode}
 use Rattle.lock_model.specs.Stations.{Station}
 use Rattle.lock_model.specs.Decisions.{Among}
-use Rattle.lock_model.proofs.EntryFacts.{any-found, any-of}
 use Rattle.world_model.specs.declared.events.Event.{Event}
 use Rattle.world_model.specs.declared.events.Event.TheVariants as event
 use Rattle.world_model.specs.Worlds.{NodePhase, NodeDown, NodeIdle, Decided, Stored, Node, ClientPhase, ClientDown, ClientIdle, Chosen, Asking, IsIn, Client, World, Setting, OfNode, Happens, TriesStation, tries_station, KeepsStation, keeps_station, Says, says}
-use Rattle.world_model.specs.Invariants.{IsSafePhase, IsSafeNode}
+use Rattle.world_model.specs.Invariants.{IsSafePhase}
 use Rattle.world_model.specs.declared.ways.Move.TheVariants.{Alone}
 use Rattle.world_model.specs.declared.ways.Want.{Want}
 use Rattle.world_model.specs.Advice.{coming, finishing, finishing_in, asks_for, is_grant}
-use Rattle.world_model.specs.Ways.{StandsInWay, IsUp}
+use Rattle.world_model.specs.Ways.{StandsInWay}
 use Rattle.world_model.proofs.Costs.{finish_cost, promises, vote_cost, ask_cost, node_cost, cost}
 use Rattle.world_model.proofs.Nearer.{Fine, Grows, Goes, Nears, costs_at, node-nearer, vote-le, any-grows}
 use Rattle.world_model.proofs.FineFacts.{only-node, fine-of-node, sends-grow}

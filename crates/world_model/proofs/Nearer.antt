@@ -1,9 +1,7 @@
 -- Where a move leads, and when it brings the client nearer: what each kind of move has to show.
-use Rattle.std.proofs.Common.{◌≡◌, ◌≢◌, ℕ, ◌+◌, ◌<◌, ◌≤◌, ◌==◌, ◌⊎◌, Bool, true, false, if◌then◌else◌, IsTrue, List, [], ◌∷◌, Option, None, Some, zero, suc, refl, sym, ◌∙◌, ap, subst, inl, inr, arith}
+use Rattle.std.proofs.Common.{◌≡◌, ◌≢◌, ℕ, ◌+◌, ◌<◌, ◌≤◌, ◌⊎◌, Bool, true, false, if◌then◌else◌, List, [], ◌∷◌, zero, suc, refl, sym, ap, subst, inl, inr, arith}
 use Rattle.std.specs.List.{range_with_len, list_any}
-use Rattle.std.proofs.lemmas.Bool.{cases_eq, cases_Bool}
-use Rattle.lock_messages.specs.declared.ids.TheConstants.{MAX_ATTEMPT}
-use Rattle.lock_messages.specs.declared.ids.Actor.TheVariants as actor
+use Rattle.std.proofs.lemmas.Bool.{cases_eq}
 use Rattle.lock_messages.specs.declared.tickets.Ticket.{Ticket}
 use Rattle.lock_messages.specs.declared.messages.Message.{Message}
 use Rattle.lock_messages.specs.declared.messages.Message.TheVariants.{Grant}
@@ -11,16 +9,15 @@ use Rattle.lock_messages.specs.Messages.{is_for_node, is_for_client}
 use Rattle.lock_model.specs.Ballots.{HasAnyNode, IsEnough, ballot_at, node_count}
 use Rattle.lock_model.specs.Decisions.{Among}
 use Rattle.lock_model.proofs.EntryFacts.{any-found, any-of}
-use Rattle.world_model.specs.declared.events.Event.{Event}
-use Rattle.world_model.specs.Worlds.{NodePhase, Node, Present, ClientPhase, ClientDown, ClientIdle, Chosen, Asking, IsIn, Client, World, Setting, HasClient, OfNode, OfClient, ByNode, ByClient, Tells, Takes, Hears, Happens}
+use Rattle.world_model.specs.Worlds.{NodePhase, Present, ClientPhase, ClientDown, ClientIdle, Chosen, Asking, IsIn, Client, World, Setting, HasClient, OfClient, ByNode, ByClient, Tells, Takes, Hears, Happens}
 use Rattle.world_model.specs.Invariants.{IsSafe}
 use Rattle.world_model.specs.declared.ways.Move.{Move}
 use Rattle.world_model.specs.declared.ways.Move.TheVariants.{Alone, Hand, HearFrom}
 use Rattle.world_model.specs.declared.ways.Want.{Want}
-use Rattle.world_model.specs.Advice.{coming, is_wanted, asks_for, is_inside_as, is_grant, node_numbers, client_numbers}
-use Rattle.world_model.specs.Ways.{IsPossible, IsReady, IsUp}
+use Rattle.world_model.specs.Advice.{asks_for, is_grant, node_numbers, client_numbers}
+use Rattle.world_model.specs.Ways.{IsPossible, IsReady}
 use Rattle.world_model.specs.ExactWays.{IsLeft, total_over}
-use Rattle.world_model.proofs.Costs.{block_cost, promises, vote_cost, ask_cost, node_cost, client_cost, cost}
+use Rattle.world_model.proofs.Costs.{promises, vote_cost, ask_cost, node_cost, client_cost, cost}
 
 -- who has an attempt left is up
 pub left-up : (a : Want) (kept : ℕ) (phase : ClientPhase) → IsLeft a kept phase → phase ≢ ClientDown

@@ -1,9 +1,8 @@
 -- On the way at the exact world: what holds after some moves, how the next keeps it, and why one may stop.
-use Rattle.std.proofs.Common.{◌≡◌, ◌≢◌, ℕ, ◌+◌, ◌<◌, ◌≤◌, ◌⊎◌, Bool, true, false, List, [], ◌∷◌, ◌++◌, length, Option, None, Some, Ok, Err, zero, suc, refl, sym, ◌∙◌, ap, subst, inl, inr, arith, append_assoc}
+use Rattle.std.proofs.Common.{◌≡◌, ℕ, ◌+◌, ◌<◌, ◌≤◌, ◌⊎◌, Bool, true, false, List, [], ◌∷◌, ◌++◌, length, None, Some, Ok, Err, suc, refl, sym, ◌∙◌, ap, subst, inl, inr, arith, append_assoc}
 use Rattle.std.specs.List.{list_any}
 use Rattle.lock_messages.specs.declared.ids.Actor.{Actor}
 use Rattle.lock_messages.specs.declared.ids.Actor.TheVariants as actor
-use Rattle.lock_messages.specs.declared.messages.Message.{Message}
 use Rattle.lock_model.specs.Decisions.{Among}
 use Rattle.world_model.specs.declared.TheConstants.{MAX_MESSAGES}
 use Rattle.world_model.specs.declared.events.Event.{Event}
@@ -15,23 +14,23 @@ use Rattle.world_model.specs.declared.ways.Move.{Move}
 use Rattle.world_model.specs.declared.ways.Move.TheVariants.{Alone, Hand, HearFrom}
 use Rattle.world_model.specs.declared.ways.Want.{Want}
 use Rattle.world_model.specs.Worlds.{Node, Present, Asking, World, Setting, Happens}
-use Rattle.world_model.specs.ExactWorlds.{numbered, next_number, actor_of, Stepped, Steps, refusal_of, refusal, step, Ran, one_more, ran_on, ran}
+use Rattle.world_model.specs.ExactWorlds.{next_number, actor_of, Stepped, Steps, refusal_of, refusal, step, Ran, one_more, ran_on, ran}
 use Rattle.world_model.specs.Forgetting.{forget, setting_of, IsSound}
 use Rattle.world_model.specs.Advice.{is_grant, next_move}
 use Rattle.world_model.specs.Ways.{IsGentle, IsUp}
-use Rattle.world_model.specs.ExactWays.{load, HasRun, IsOwnOrGentle, Moved, moved_alone, moved_hand, moved_hear, IsStuck, stuck_alone, stuck_saying, stuck_taking, stuck_hearing, stuck_unheard}
+use Rattle.world_model.specs.ExactWays.{HasRun, IsOwnOrGentle, Moved, moved_alone, moved_hand, moved_hear, IsStuck, stuck_alone, stuck_saying, stuck_taking, stuck_hearing, stuck_unheard}
 use Rattle.world_model.proofs.Deeds.{ModelLaws}
 use Rattle.world_model.proofs.StepFacts.{step-done}
 use Rattle.world_model.proofs.Costs.{cost}
 use Rattle.world_model.proofs.Owed.{owed}
 use Rattle.world_model.proofs.Rooms.{alone-pays, alone-full, hand-pays, hand-full, hear-pays}
-use Rattle.world_model.proofs.Nearer.{Fine, Makes, Goes}
+use Rattle.world_model.proofs.Nearer.{Fine, Makes}
 use Rattle.world_model.proofs.ListFacts.{among-append}
 use Rattle.world_model.proofs.Arrivals.{none-rises}
 use Rattle.world_model.proofs.WaysIn.{gentle-more}
 use Rattle.world_model.proofs.MoveKinds as kind
 use Rattle.world_model.proofs.MoveKinds.{MoveKind}
-use Rattle.world_model.proofs.Progress.{IsNext, Goes-on, progress}
+use Rattle.world_model.proofs.Progress.{IsNext, progress}
 use Rattle.world_model.proofs.ExactMoves.{alone-goes, alone-makes, hand-goes-first, hand-goes-second, hand-makes, hear-goes, hear-makes}
 
 -- A run whose events were all taken: one more event behind

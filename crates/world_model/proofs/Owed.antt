@@ -1,5 +1,5 @@
 -- How many messages a way in may still say: each step that says some makes it less by as many.
-use Rattle.std.proofs.Common.{◌≡◌, ℕ, ◌+◌, nat_le, Bool, if◌then◌else◌, List, Option, None, Some}
+use Rattle.std.proofs.Common.{ℕ, ◌+◌, nat_le, Bool, if◌then◌else◌, List, Option, None, Some}
 use Rattle.lock_messages.specs.declared.messages.Message.{Message}
 use Rattle.world_model.specs.declared.exact.ExactNode.{ExactNode}
 use Rattle.world_model.specs.declared.exact.ExactWorld.{ExactWorld}

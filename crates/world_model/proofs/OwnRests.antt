@@ -1,8 +1,7 @@
 -- The client that wants in is up, with an attempt left, once it has come up.
-use Rattle.std.proofs.Common.{◌≡◌, ◌≢◌, ℕ, ◌+◌, ◌<◌, ◌≤◌, ◌⊎◌, ◌||◌, nat_lt, Bool, true, false, cond, if◌then◌else◌, List, [], ◌∷◌, length, Option, None, Some, Ok, Err, refl, sym, ◌∙◌, ap, subst, inl, inr, arith}
-use Rattle.std.proofs.lemmas.Bool.{cases_eq, cases_Bool, or_parts, ltb-true, ltb-false}
+use Rattle.std.proofs.Common.{◌≡◌, ◌≢◌, ℕ, ◌<◌, ◌≤◌, ◌⊎◌, ◌||◌, nat_lt, Bool, true, false, cond, List, [], ◌∷◌, None, Some, Ok, refl, sym, ◌∙◌, ap, subst, inl, inr, arith}
+use Rattle.std.proofs.lemmas.Bool.{or_parts, ltb-true, ltb-false}
 use Rattle.lock_messages.specs.declared.ids.TheConstants.{MAX_ATTEMPT}
-use Rattle.lock_messages.specs.declared.ids.Actor.{Actor}
 use Rattle.lock_messages.specs.declared.ids.Actor.TheVariants as actor
 use Rattle.lock_messages.specs.declared.tickets.Ticket.{Ticket}
 use Rattle.lock_model.specs.Decisions.{Among}
@@ -15,14 +14,14 @@ use Rattle.world_model.specs.declared.exact.ExactClientPhase.{ExactClientPhase}
 use Rattle.world_model.specs.declared.exact.ExactClientPhase.TheVariants as client
 use Rattle.world_model.specs.declared.exact.ExactWorld.{ExactWorld}
 use Rattle.world_model.specs.declared.ways.Want.{Want}
-use Rattle.world_model.specs.Worlds.{NodeDown, ClientDown, ClientIdle, Chosen, Asking, IsIn, ClientPhase, Node, Client, World, Setting, HasClient}
+use Rattle.world_model.specs.Worlds.{Chosen, Asking, Client}
 use Rattle.world_model.specs.ExactClients.{client_in, is_down}
-use Rattle.world_model.specs.ExactWorlds.{numbered, actor_of, Stepped, with_client_at, step}
-use Rattle.world_model.specs.Forgetting.{present_of, client_phase_of, client_of, client_numbered, forget, setting_of, IsSound}
-use Rattle.world_model.specs.Numbered.{numbered-one, numbered-there, numbered-set-here, numbered-set-there}
-use Rattle.world_model.specs.Advice.{is_wanted, asks_for, is_inside_as, coming_up}
-use Rattle.world_model.specs.Ways.{IsUp, IsChosenBelow}
-use Rattle.world_model.specs.ExactWays.{load, HasRun, IsOwnOrGentle, HasBegun, HasAttempt}
+use Rattle.world_model.specs.ExactWorlds.{numbered, Stepped, with_client_at, step}
+use Rattle.world_model.specs.Forgetting.{client_phase_of, client_of, client_numbered, forget, setting_of, IsSound}
+use Rattle.world_model.specs.Numbered.{numbered-one, numbered-set-here, numbered-set-there}
+use Rattle.world_model.specs.Advice.{is_wanted, coming_up}
+use Rattle.world_model.specs.Ways.{IsChosenBelow}
+use Rattle.world_model.specs.ExactWays.{load, HasRun, IsOwnOrGentle, HasBegun}
 use Rattle.world_model.proofs.Deeds.{ModelLaws}
 use Rattle.world_model.proofs.StepFacts.{step-done, same-clients}
 use Rattle.world_model.specs.ExactWays.{IsLeft}

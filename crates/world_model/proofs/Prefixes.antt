@@ -1,29 +1,24 @@
 -- What comes before the moves of a way in, at the exact world: an actor that is down rises, and the client itself
 -- comes to rest where what it has chosen is the greatest attempt.
-use Rattle.std.proofs.Common.{◌≡◌, ◌≢◌, ℕ, ◌+◌, ◌-◌, ◌<◌, ◌≤◌, ◌⊎◌, Bool, true, false, if◌then◌else◌, List, [], ◌∷◌, ◌++◌, length, Option, None, Some, Ok, Err, refl, sym, ◌∙◌, ap, subst, inl, inr, arith}
+use Rattle.std.proofs.Common.{◌≡◌, ℕ, ◌-◌, ◌≤◌, Bool, true, false, if◌then◌else◌, None, Some, Ok, refl, sym, ◌∙◌, ap, subst, inl, inr, arith}
 use Rattle.std.proofs.lemmas.Bool.{cases_eq}
-use Rattle.std.proofs.Math.ListN.{length-set}
-use Rattle.lock_messages.specs.declared.ids.Actor.{Actor}
 use Rattle.lock_messages.specs.declared.ids.Actor.TheVariants as actor
 use Rattle.world_model.specs.declared.events.Age.TheVariants.{Old}
 use Rattle.world_model.specs.declared.events.Effect.TheVariants as effect
-use Rattle.world_model.specs.declared.events.Event.{Event}
 use Rattle.world_model.specs.declared.events.Event.TheVariants as event
-use Rattle.world_model.specs.declared.events.StepFault.TheVariants as fault
 use Rattle.world_model.specs.declared.exact.ExactClient.{ExactClient}
 use Rattle.world_model.specs.declared.exact.ExactClientPhase.{ExactClientPhase}
 use Rattle.world_model.specs.declared.exact.ExactClientPhase.TheVariants as client
 use Rattle.world_model.specs.declared.exact.ExactNode.{ExactNode}
-use Rattle.world_model.specs.declared.exact.ExactNodePhase.{ExactNodePhase}
 use Rattle.world_model.specs.declared.exact.ExactNodePhase.TheVariants as node
 use Rattle.world_model.specs.declared.exact.ExactWorld.{ExactWorld}
 use Rattle.world_model.specs.declared.ways.Want.{Want}
-use Rattle.world_model.specs.Worlds.{NodeDown, NodeIdle, ClientDown, ClientIdle, Node, Client, World, Setting, Happens}
+use Rattle.world_model.specs.Worlds.{NodeDown, NodeIdle, ClientDown, ClientIdle, Node, Client, Setting}
 use Rattle.world_model.specs.Turns.{acts}
 use Rattle.world_model.specs.Advice.{node_numbers}
-use Rattle.world_model.specs.ExactNodes.{node_rises_in, node_rises_with}
-use Rattle.world_model.specs.ExactClients.{client_in, is_down, client_falls_in, client_rises_in, client_rises_with}
-use Rattle.world_model.specs.ExactWorlds.{numbered, Stepped, with_node_at, with_client_at, finishes, by_actor, step}
+use Rattle.world_model.specs.ExactNodes.{node_rises_in}
+use Rattle.world_model.specs.ExactClients.{client_in, is_down, client_falls_in, client_rises_in}
+use Rattle.world_model.specs.ExactWorlds.{numbered, with_node_at, with_client_at, finishes, by_actor, step}
 use Rattle.world_model.specs.Forgetting.{node_numbered, client_numbered, node_phase_of, client_phase_of, forget, setting_of, IsSound}
 use Rattle.world_model.specs.Numbered.{numbered-one, numbered-set-here, numbered-set-there}
 use Rattle.world_model.specs.Ways.{IsUp}

@@ -1,6 +1,6 @@
 -- Wherever the client is not inside yet there is a next move, which can be made and brings it nearer.
-use Rattle.std.proofs.Common.{◌≡◌, ◌≢◌, ℕ, ◌+◌, ◌<◌, ◌≤◌, ◌==◌, ◌⊎◌, Bool, true, false, cond, not, ◌&&◌, ◌||◌, List, [], ◌∷◌, Option, None, Some, zero, suc, refl, sym, ◌∙◌, ap, subst, inl, inr, arith}
-use Rattle.std.specs.List.{range_with_len, list_any}
+use Rattle.std.proofs.Common.{◌≡◌, ◌≢◌, ℕ, ◌==◌, ◌⊎◌, Bool, true, false, cond, not, ◌&&◌, ◌||◌, Option, None, Some, refl, sym, ◌∙◌, ap, subst, inl, inr}
+use Rattle.std.specs.List.{list_any}
 use Rattle.std.proofs.lemmas.Bool.{eq-eqb, eqb-true, cases_Bool, and_parts}
 use Rattle.std.proofs.lemmas.Slice.Eq.{bytes_eq-Decides}
 use Rattle.std.specs.Str.{bytes_eq}
@@ -11,7 +11,7 @@ use Rattle.lock_model.specs.declared.entries.Status.{Status}
 use Rattle.lock_model.specs.ExactStations.{is_write}
 use Rattle.lock_model.specs.ExactDecisions.{same_mode}
 use Rattle.lock_model.proofs.HearingFacts.{mode-to}
-use Rattle.lock_model.specs.Ballots.{HasAnyNode, node_count}
+use Rattle.lock_model.specs.Ballots.{HasAnyNode}
 use Rattle.lock_model.specs.Stations.{Claim, Free, Has, Standing, Station, stranger}
 use Rattle.lock_model.specs.Decisions.{Among}
 use Rattle.world_model.specs.declared.events.Event.{Event}
@@ -33,7 +33,7 @@ use Rattle.world_model.proofs.RestMoves.{rests}
 use Rattle.world_model.proofs.OwnMoves.{begins-own}
 use Rattle.world_model.proofs.VoteMoves.{hears-grant, enters-own}
 use Rattle.world_model.proofs.HandFacts.{hand-away, hand-in}
-use Rattle.world_model.proofs.Searches.{found-either, found-none, search-some, search-none, only-some, only-none, numbers-among, among-clients}
+use Rattle.world_model.proofs.Searches.{found-either, found-none, search-some, search-none, only-some, only-none, numbers-among}
 
 -- nobody is disturbed by the move, and who makes it is up
 abbrev pub IsGentleMove : World → Want → Move → Type 0

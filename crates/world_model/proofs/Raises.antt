@@ -1,6 +1,5 @@
 -- Whoever is down may rise, and then all are up; who is up stays as it is.
-use Rattle.std.proofs.Common.{◌≡◌, ◌≢◌, ℕ, ◌⊎◌, List, [], ◌∷◌, ◌++◌, Option, None, Some, refl, sym, ◌∙◌, ap, subst, inl, inr}
-use Rattle.std.proofs.lemmas.Bool.{cases_eq}
+use Rattle.std.proofs.Common.{◌≡◌, ◌≢◌, ℕ, List, [], ◌∷◌, ◌++◌, Option, None, refl, sym, ◌∙◌, ap, subst, inl, inr}
 use Rattle.lock_messages.specs.declared.ids.Actor.{Actor}
 use Rattle.lock_messages.specs.declared.ids.Actor.TheVariants as actor
 use Rattle.lock_model.specs.Ballots.{HasAnyNode}
@@ -9,7 +8,7 @@ use Rattle.lock_model.specs.Decisions.{Among}
 use Rattle.world_model.specs.declared.events.Age.TheVariants.{Old}
 use Rattle.world_model.specs.declared.events.Event.{Event}
 use Rattle.world_model.specs.declared.events.Event.TheVariants as event
-use Rattle.world_model.specs.Worlds.{NodePhase, NodeDown, NodeIdle, Decided, Stored, Node, ClientPhase, ClientDown, ClientIdle, Chosen, Asking, IsIn, Client, World, Setting, HasClient, OfNode, OfClient, Happens, Run, node_rises_old, client_rises_old, client_falls}
+use Rattle.world_model.specs.Worlds.{NodePhase, NodeDown, NodeIdle, Decided, Stored, Node, ClientPhase, ClientDown, ClientIdle, Chosen, Asking, IsIn, Client, World, Setting, HasClient, Run, node_rises_old, client_rises_old, client_falls}
 use Rattle.world_model.specs.Ways.{IsUp}
 use Rattle.world_model.proofs.Puts.{put_node, put-node, put_client, put-client}
 

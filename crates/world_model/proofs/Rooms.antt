@@ -24,7 +24,6 @@ use Rattle.world_model.proofs.MoveKinds.{MoveKind, finishes, rests, hands_away, 
 use Rattle.world_model.proofs.RefusalFacts.{full-without-room}
 use Rattle.world_model.proofs.Deeds.{ModelLaws}
 use Rattle.world_model.proofs.Owed.{owed}
-use Rattle.world_model.proofs.OwedFacts as Owed
 use Rattle.world_model.proofs.AloneRooms.{EventFits, EventPaid, finishes-paid, rests-paid, begins-paid, enters-paid, hears-paid}
 use Rattle.world_model.proofs.HandRooms.{away-pays, away-owed, in-pays, in-owed}
 

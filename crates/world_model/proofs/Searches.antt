@@ -1,5 +1,5 @@
 -- What a search finds, and what it has passed over where it finds nothing.
-use Rattle.std.proofs.Common.{◌≡◌, ℕ, arith, ◌⊎◌, Bool, true, false, cond, List, [], ◌∷◌, Option, None, Some, refl, sym, ◌∙◌, ap, subst, inl, inr}
+use Rattle.std.proofs.Common.{◌≡◌, ℕ, arith, ◌⊎◌, Bool, true, false, cond, List, [], ◌∷◌, Option, None, Some, refl, ◌∙◌, ap, subst, inl, inr}
 use Rattle.lock_model.specs.Ballots.{HasAnyNode, node_count}
 use Rattle.lock_model.specs.Decisions.{Among}
 use Rattle.lock_model.proofs.BallotFacts.{among-range}

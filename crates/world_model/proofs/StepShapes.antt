@@ -1,5 +1,5 @@
 -- What three of the exact steps lead to, where the message is known.
-use Rattle.std.proofs.Common.{◌≡◌, ℕ, ◌==◌, Bool, true, false, cond, nat_le, List, [], ◌∷◌, Option, None, Some, Ok, Err, refl, sym, ◌∙◌, ap, subst, arith}
+use Rattle.std.proofs.Common.{◌≡◌, ℕ, Bool, true, false, cond, nat_le, List, [], ◌∷◌, Option, None, Some, Ok, Err, refl, sym, ◌∙◌, ap, subst, arith}
 use Rattle.std.proofs.lemmas.Bool.{ne_eqb, le-leb, and_from}
 use Rattle.lock_messages.specs.declared.messages.Message.{Message}
 use Rattle.lock_messages.specs.declared.messages.Message.TheVariants as message
@@ -15,11 +15,11 @@ use Rattle.world_model.specs.declared.exact.ExactNodePhase.{ExactNodePhase}
 use Rattle.world_model.specs.declared.exact.ExactNodePhase.TheVariants as node
 use Rattle.world_model.specs.declared.exact.ExactClient.{ExactClient}
 use Rattle.world_model.specs.declared.exact.ExactWorld.{ExactWorld}
-use Rattle.world_model.specs.Turns.{Turns, reads}
-use Rattle.world_model.specs.ExactNodes.{node_in, decided_on, takes_in}
+use Rattle.world_model.specs.Turns.{reads}
+use Rattle.world_model.specs.ExactNodes.{decided_on, takes_in}
 use Rattle.world_model.specs.Worlds.{Present, Client, Tells, asks, asks_inside, tells_softened, releases}
 use Rattle.world_model.specs.ExactClients.{says_one, tells_in, tells, after_hearing, heard_in, is_down, hears}
-use Rattle.world_model.specs.ExactWorlds.{numbered, Stepped, Steps, with_node_at, has_room, next_number, sending, with_client_at, read_in, finishes, by_actor, step}
+use Rattle.world_model.specs.ExactWorlds.{numbered, Stepped, with_node_at, has_room, next_number, sending, with_client_at, read_in, finishes, by_actor, step}
 use Rattle.world_model.specs.Forgetting.{client_of}
 use Rattle.world_model.proofs.PhaseFacts.{client-idle, client-asking, client-inside}
 

@@ -4,10 +4,8 @@ use Rattle.std.proofs.Common.{◌≡◌, ℕ, zero, suc, ◌+◌, ◌-◌, ◌<�
 use Rattle.std.specs.List.{range_with_len, list_any}
 use Rattle.std.specs.Str.{bytes_eq}
 use Rattle.std.proofs.lemmas.Bool.{eqb-true, eq-eqb, and_parts}
-use Rattle.std.proofs.lemmas.Slice.Eq.{bytes_eq-Decides}
 use Rattle.std.proofs.lemmas.List.Sums.{sum_by-cons}
-use Rattle.lock_messages.specs.declared.tickets.Mode.{Mode}
-use Rattle.lock_messages.specs.declared.tickets.Mode.TheVariants.{Read, Write}
+use Rattle.lock_messages.specs.declared.tickets.Mode.TheVariants.{Read}
 use Rattle.lock_messages.specs.declared.tickets.Ticket.{Ticket}
 use Rattle.lock_messages.specs.declared.messages.Message.{Message}
 use Rattle.lock_messages.specs.declared.messages.Message.TheVariants.{Request, Release, Grant, Busy, Over, Done, Muddled, Soften}

@@ -1,6 +1,5 @@
 -- What a search for a way in has found, where it makes the next moves one after the other.
-use Rattle.std.proofs.Common.{◌≡◌, ◌≢◌, ℕ, ◌+◌, ◌<◌, ◌≤◌, ◌⊎◌, Bool, true, false, if◌then◌else◌, List, [], ◌∷◌, ◌++◌, length, Option, None, Some, Ok, Err, suc, refl, sym, ◌∙◌, ap, subst, inl, inr, arith, append_assoc, append-nil}
-use Rattle.std.proofs.lemmas.Bool.{cases_Bool}
+use Rattle.std.proofs.Common.{◌≡◌, ℕ, ◌+◌, ◌<◌, ◌≤◌, ◌⊎◌, Bool, true, false, if◌then◌else◌, List, [], ◌∷◌, ◌++◌, length, Option, None, Some, Ok, Err, suc, refl, sym, ◌∙◌, ap, subst, inl, inr, arith, append_assoc, append-nil}
 use Rattle.lock_messages.specs.declared.ids.TheConstants.{MAX_ATTEMPT}
 use Rattle.lock_messages.specs.declared.ids.Actor.{Actor}
 use Rattle.lock_messages.specs.declared.ids.Actor.TheVariants as actor
@@ -19,21 +18,19 @@ use Rattle.world_model.specs.declared.exact.ExactClientPhase.TheVariants as clie
 use Rattle.world_model.specs.declared.exact.ExactNode.{ExactNode}
 use Rattle.world_model.specs.declared.exact.ExactNodePhase.{ExactNodePhase}
 use Rattle.world_model.specs.declared.exact.ExactNodePhase.TheVariants as node
-use Rattle.world_model.specs.declared.exact.ExactStation.{ExactStation}
 use Rattle.world_model.specs.declared.exact.ExactWorld.{ExactWorld}
 use Rattle.world_model.specs.declared.ways.Move.{Move}
 use Rattle.world_model.specs.declared.ways.Want.{Want}
-use Rattle.world_model.specs.Worlds.{Client, World, Setting, HasClient}
-use Rattle.world_model.specs.ExactNodes.{node_rises_in, node_rises_with}
-use Rattle.world_model.specs.ExactClients.{client_rises_in, client_rises_with}
+use Rattle.world_model.specs.Worlds.{Client, HasClient}
+use Rattle.world_model.specs.ExactNodes.{node_rises_in}
+use Rattle.world_model.specs.ExactClients.{client_rises_in}
 use Rattle.world_model.specs.ExactWorlds.{numbered, with_node_at, with_client_at, Ran, Stepped, Steps, finishes, by_actor, step, ran_on, ran}
 use Rattle.world_model.specs.Forgetting.{client_phase_of, client_numbered, forget, setting_of, IsSound}
 use Rattle.world_model.specs.Numbered.{numbered-there}
 use Rattle.world_model.specs.Advice.{can_be_won, coming_up, node_numbers, next_move}
 use Rattle.world_model.specs.Ways.{IsPossible, IsUp, HasActor, IsChosenBelow, IsInsideAs}
-use Rattle.world_model.specs.ExactWays.{total_over, load_at, load, HasRoomFor, every_node, LeadsIn, HasRun, HasBegun, is_chosen_below, HasAttempt, IsOwnOrGentle, SetsOut, Moved, Follows, follows_none, follows_more, StopsAt, IsRise, AreRises}
+use Rattle.world_model.specs.ExactWays.{total_over, load_at, load, HasRoomFor, every_node, LeadsIn, HasRun, HasBegun, is_chosen_below, HasAttempt, IsOwnOrGentle, SetsOut, Moved, Follows, follows_none, follows_more, StopsAt, AreRises}
 use Rattle.world_model.proofs.Deeds.{ModelLaws}
-use Rattle.world_model.proofs.Nearer.{total-le}
 use Rattle.world_model.proofs.Searches.{numbers-among}
 use Rattle.world_model.proofs.Progress.{progress}
 use Rattle.world_model.proofs.WaysIn.{known-every}

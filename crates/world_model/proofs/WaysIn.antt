@@ -1,6 +1,6 @@
 -- The three laws of ways in.
-use Rattle.std.proofs.Common.{◌≡◌, ◌≢◌, ℕ, ◌+◌, ◌-◌, ◌<◌, ◌≤◌, ◌⊎◌, Bool, true, false, ◌&&◌, nat_le, if◌then◌else◌, List, [], ◌∷◌, ◌++◌, length, sum_by, Option, None, Some, suc, refl, sym, ◌∙◌, ap, subst, inl, inr, arith}
-use Rattle.std.proofs.lemmas.Bool.{cases_eq, cases_Bool, and_parts, and_from, leb-true, le-leb}
+use Rattle.std.proofs.Common.{◌≡◌, ◌≢◌, ℕ, ◌+◌, ◌-◌, ◌<◌, ◌≤◌, ◌⊎◌, Bool, true, nat_le, List, [], ◌∷◌, ◌++◌, length, sum_by, Option, None, suc, refl, sym, ◌∙◌, ap, subst, inl, inr, arith}
+use Rattle.std.proofs.lemmas.Bool.{cases_eq, and_parts, and_from, leb-true, le-leb}
 use Rattle.lock_messages.specs.declared.ids.TheConstants.{MAX_ATTEMPT}
 use Rattle.lock_messages.specs.declared.ids.Actor.{Actor}
 use Rattle.lock_messages.specs.declared.ids.Actor.TheVariants as actor
@@ -13,14 +13,14 @@ use Rattle.lock_model.proofs.BallotFacts.{votes-all}
 use Rattle.world_model.specs.declared.events.Age.TheVariants.{Old}
 use Rattle.world_model.specs.declared.events.Event.{Event}
 use Rattle.world_model.specs.declared.events.Event.TheVariants as event
-use Rattle.world_model.specs.Worlds.{Node, ClientPhase, ClientDown, ClientIdle, Chosen, Asking, IsIn, Client, World, Setting, HasClient, OfClient, Happens, Run, IsLawfulOpening, client_rises_old}
+use Rattle.world_model.specs.Worlds.{Node, ClientPhase, ClientDown, ClientIdle, Chosen, Asking, IsIn, Client, World, Setting, HasClient, OfClient, Happens, Run, client_rises_old}
 use Rattle.world_model.specs.Invariants.{IsSafe}
 use Rattle.world_model.specs.ExactWorlds.{actor_of}
 use Rattle.world_model.specs.declared.ways.Want.{Want}
 use Rattle.world_model.specs.ExactWays.{every_node}
 use Rattle.world_model.specs.Advice.{node_numbers, client_numbers, coming}
-use Rattle.world_model.specs.Ways.{IsReached, IsPossible, IsInsideAs, WayIn, IsGentle, IsUp, HasActor, HasKeptBelow, IsChosenBelow, StandsInWay, IsReady, NobodyIsLockedOut, OthersOnlyGo, TheDeadAreNotNeeded}
-use Rattle.world_model.proofs.SafeRuns.{opening-safe, run-safe, happens-safe}
+use Rattle.world_model.specs.Ways.{IsReached, IsPossible, WayIn, IsGentle, IsUp, HasActor, HasKeptBelow, IsChosenBelow, StandsInWay, IsReady, NobodyIsLockedOut, OthersOnlyGo, TheDeadAreNotNeeded}
+use Rattle.world_model.proofs.SafeRuns.{opening-safe, run-safe}
 use Rattle.world_model.proofs.Costs.{cost}
 use Rattle.world_model.specs.ExactWays.{IsLeft}
 use Rattle.world_model.proofs.Nearer.{Fine, node-among, client-among}
@@ -28,8 +28,8 @@ use Rattle.world_model.proofs.FineFacts.{cases-client, strangers-stay, stranger-
 use Rattle.world_model.proofs.Puts.{put_client, put-client}
 use Rattle.world_model.proofs.Searches.{numbers-among, among-clients}
 use Rattle.world_model.proofs.VoteMoves.{shorter, no-fewer-votes}
-use Rattle.world_model.proofs.Arrivals.{IsGentleHere, none-rises, arrives}
-use Rattle.world_model.proofs.Raises.{Raised, Rested, Stays, run-append, raises-nodes, raises-clients, rests-at-once}
+use Rattle.world_model.proofs.Arrivals.{IsGentleHere, arrives}
+use Rattle.world_model.proofs.Raises.{Raised, Rested, run-append, raises-nodes, raises-clients, rests-at-once}
 
 -- What is known of a world that a run reaches.
 

@@ -6,7 +6,7 @@ use Rattle.lock_messages.specs.declared.ids.Actor.{Actor}
 use Rattle.lock_messages.specs.declared.ids.Actor.TheVariants as actor
 use Rattle.lock_messages.specs.declared.messages.Message.{Message}
 use Rattle.lock_model.specs.declared.entries.Entry.{Entry}
-use Rattle.lock_model.specs.Ballots.{AllCross, HasPlace, IsEnough, ballot_at, node_count}
+use Rattle.lock_model.specs.Ballots.{HasPlace, IsEnough, ballot_at, node_count}
 use Rattle.lock_model.specs.Decisions.{Among}
 use Rattle.lock_model.specs.ExactStations.{waits_in}
 use Rattle.world_model.specs.declared.TheConstants.{MAX_MESSAGES}

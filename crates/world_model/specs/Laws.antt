@@ -104,8 +104,24 @@ IsNumbered w effect.Down = Unit {0}
 IsNumbered w effect.Up = Unit {0}
 IsNumbered w (effect.Switched changed) = Unit {0}
 
+-- the messages that are said have numbers that messages can have
+abbrev pub SaidFits : Effect → Type 0
+SaidFits (effect.Said first count) = 0 < count → first + count ≤ MAX_MESSAGES + 1
+SaidFits (effect.Chose a) = Unit {0}
+SaidFits effect.Tried = Unit {0}
+SaidFits effect.Kept = Unit {0}
+SaidFits (effect.Sent k m) = Unit {0}
+SaidFits (effect.Took m changed) = Unit {0}
+SaidFits (effect.Heard m heard) = Unit {0}
+SaidFits effect.Inside = Unit {0}
+SaidFits effect.Outside = Unit {0}
+SaidFits effect.Softened = Unit {0}
+SaidFits effect.Down = Unit {0}
+SaidFits effect.Up = Unit {0}
+SaidFits (effect.Switched changed) = Unit {0}
+
 abbrev pub SaidNumbersFit : Type 0
-SaidNumbersFit = (w v : ExactWorld) (e : Event) (done : Effect) → Takes w e done v → IsNumbered w done
+SaidNumbersFit = (w v : ExactWorld) (e : Event) (done : Effect) → Takes w e done v → IsNumbered w done × SaidFits done
 
 -- In a sound world a writer is alone inside, and no reader waits without a cause.
 abbrev pub SoundIsExclusive : Type 0

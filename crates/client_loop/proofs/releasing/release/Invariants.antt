@@ -12,6 +12,7 @@ invariant-loop g l = record {
   stands : Stands (g.R.Recorder.own_log l.recorder) ((goal.StableRecord-dyn g l.stable.now).finds l.stable.now.1) l.progress.core;
   phase : phase_of l.progress.core ≡ phase_of l.fn.progress.core;
   busy : l.fn.progress.busy ≡ true → l.progress.busy ≡ true;
+  asked : l.progress.asked ≡ l.fn.progress.asked;
   most : l.progress.most_nudges ≡ l.fn.progress.most_nudges;
   visits : visits_of (g.R.Recorder.own_log l.recorder) ≡ visits_of (g.R.Recorder.own_log l.fn.recorder);
   falls : falls_of (g.R.Recorder.own_log l.recorder) ≡ falls_of (g.R.Recorder.own_log l.fn.recorder);

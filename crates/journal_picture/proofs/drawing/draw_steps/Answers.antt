@@ -7,11 +7,10 @@ use Rattle.journal_audit.specs.Leavings.{LeavesBy}
 use Rattle.journal_audit.proofs.JudgeFacts.{SoFar, is_over, is_bad, is_refused, is_over_now, goes_on, ends, same_said, same_line}
 use Rattle.journal_audit.proofs.LeftFacts.{over_left, last_left, bad_left, took_more, most_left}
 use Rattle.journal_picture.proofs.DrawFacts.{drawn_over, drawn_bad, drawn_refused, drawn_on, drawn_last}
-use Rattle.journal_picture.proofs.TellFacts.{fits}
 use Rattle.journal_picture.proofs.drawing.draw_steps.Goals as goal
 
 pub draw_step-requires : goal.draw_step-requires
-draw_step-requires g c = fits c.loop-taken.world _ (c.said_numbers_fit.ensures c.loop-taken.world _ c.in-Ok-read_event.event _ c.in-Ok-step.ensures.exact)
+draw_step-requires g c = (c.said_numbers_fit.ensures c.loop-taken.world _ c.in-Ok-read_event.event _ c.in-Ok-step.ensures.exact).1
 
 pub returns-then-ends_no_line : goal.returns-then-ends_no_line
 returns-then-ends_no_line g c =

@@ -4,7 +4,7 @@ use Rattle.world_model.specs.Forgetting.{forget}
 use Rattle.world_model.specs.Views.{inside}
 use Rattle.world_machine.specs.Listing.{AreInside}
 use Rattle.history_book.specs.Books.{BookValue}
-use Rattle.book_recorders.proofs.logs.BookLogs.inside.Goals as goal
+use Rattle.history_book.proofs.books.Book.inside.Goals as goal
 
 pub returns-in-Ok-inside-clause-ok : goal.returns-in-Ok-inside-clause-ok
 returns-in-Ok-inside-clause-ok g c = record {
