@@ -12,7 +12,7 @@ use std::alloc::Global;
 use std::mem;
 use std::sync::Arc;
 use std::sync::atomic::{AtomicUsize, Ordering};
-use test_outcomes::{Outcome, check_answers};
+use test_outcomes::{Outcome, check_answers, node_id};
 
 /// Client 1's ticket of attempt 1 for `a`.
 fn first_ticket(mode: Mode) -> Ticket {
@@ -196,8 +196,8 @@ fn client_by_a_question_mark(core: &mut ClientCore, value: Option<u8>) -> Option
 }
 
 /// Whether what a core says to this node is this message.
-fn says(core: &ClientCore, node: u8, row: &str) -> bool {
-    core.message_for(NodeId::of(node).unwrap()) == message(row)
+fn says(core: &ClientCore, node: NodeId, row: &str) -> bool {
+    core.message_for(node) == message(row)
 }
 
 /// Whether a core with enough votes enters with its ticket, and is idle behind the guard's scope, with
@@ -205,7 +205,9 @@ fn says(core: &ClientCore, node: u8, row: &str) -> bool {
 fn is_guarded(core: &mut ClientCore) -> bool {
     let same = by_a_return(core, false) == Some(first_ticket(Mode::Read));
     let left = core.phase() == Phase::Idle && core.attempt() == 1;
-    same && left && says(core, 1, "release n1 c1 1") && says(core, 3, "release n3 c1 1")
+    same && left
+        && says(core, node_id(1), "release n1 c1 1")
+        && says(core, node_id(3), "release n3 c1 1")
 }
 
 /// Whether a core with too few votes is refused, and still asks.
@@ -508,7 +510,7 @@ fn softens_within<D: Door>(door: &mut D) -> bool {
 fn is_softened(core: &mut ClientCore) -> bool {
     let softens = softens_within(core);
     let left = core.phase() == Phase::Idle && core.ticket().is_none();
-    softens && left && says(core, 3, "release n3 c1 1")
+    softens && left && says(core, node_id(3), "release n3 c1 1")
 }
 
 /// Softens a core by its guard, and forgets the guard.
@@ -529,7 +531,7 @@ fn stays_softened(core: &mut ClientCore) -> bool {
     let softens = softens_for_good(core);
     let reads = core.ticket() == Some(first_ticket(Mode::Read));
     let inside = core.phase() == Phase::Inside && reads;
-    let told = says(core, 3, "soften n3 c1 1");
+    let told = says(core, node_id(3), "soften n3 c1 1");
     softens && inside && told && !core.may_soften() && !core.may_enter()
 }
 
