@@ -287,7 +287,7 @@ impl<S: OwnRecord, R: Recorder, L: Link> Session<S, R, L> {
     }
 
     /// Says what is left to say, asks for a use and is inside; whether it is.
-    #[tactic(auto, using(crate::proofs::EndFacts::settling_ends, crate::proofs::EndFacts::ends_later, crate::proofs::EndFacts::more_since))]
+    #[tactic(auto, using(crate::proofs::EndFacts::settling_ends, crate::proofs::EndFacts::ends_later, crate::proofs::EndFacts::more_since, client_loop::proofs::BeginFacts::begins_none))]
     pub(crate) fn come_in<W: Wait>(
         &mut self,
         rt: &W,
