@@ -138,14 +138,17 @@ fn lines_behind_a_head(rt: HostRuntime) -> Outcome {
     }
 }
 
-/// The number of the fault of the last line, which is no event.
+/// The number of the fault of the last line, where that is no event.
 fn last_fault(lines: &[u8]) -> Option<u16> {
     let lines = str::from_utf8(lines).ok()?;
-    let mut last = "";
+    let mut number = None;
     for line in lines.lines() {
-        last = line;
+        number = match read_event(line.as_bytes()) {
+            Ok(_) => None,
+            Err(fault) => Some(fault.number()),
+        };
     }
-    Some(read_event(last.as_bytes()).err()?.number())
+    number
 }
 
 /// Whether the verdict on a journal that was cut is right: the whole lines are sound, and what is left
