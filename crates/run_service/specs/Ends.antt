@@ -14,6 +14,7 @@ use Rattle.event_recorders.specs.declared.faults.RunFault.{RunFault}
 use Rattle.event_recorders.specs.Faults.{run_fault_number}
 use Rattle.history_check.specs.declared.wishes.Wish.{Wish}
 use Rattle.history_book.specs.Books.{enters}
+use Rattle.journal_text.specs.Journals.{history_text}
 use Rattle.node_threads.specs.Faults.{AreFaults}
 use Rattle.node_threads.specs.Wishes.{AllDidAsWished}
 use Rattle.operator_cli.specs.declared.settings.Settings.{Settings}

@@ -1,4 +1,5 @@
 use Rattle.std.proofs.Common.{codes, ◌++◌}
+use Rattle.journal_text.specs.Journals.{history_text}
 use Rattle.run_service.proofs.WriteFacts.{then_part}
 use Rattle.run_service.proofs.serving.put_journal.Goals as goal
 
