@@ -336,7 +336,8 @@ impl Book {
     /// the only one. It shows the berth all of the history.
     ///
     /// The errors: the berth has another book's number (815), which changes nothing, or memory was refused (813).
-    /// The caller owes that a berth of this number is this book's own. It goes over the world's clients.
+    /// The caller owes, as for `log` and `meet`, that a berth of this number is this book's own. It goes over the
+    /// world's clients.
     pub fn inside(
         &mut self,
         berth: &mut Berth,

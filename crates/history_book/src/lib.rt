@@ -7,7 +7,7 @@
 //! and so that an actor's part of the world, and what is refused to it, is told by its own events. The
 //! module `laws` says what that means for a client inside: it is inside until its own Leave or Fall. It
 //! stands on `world_machine`, `berth_seats`, `journal_text` for the journal, `line_streams`,
-//! `world_model`, `lock_messages`, `vote_weights` and `thiserror`.
+//! `world_model`, `lock_model`, `lock_messages`, `vote_weights` and `thiserror`.
 #![tactic(auto)]
 
 mod books;

@@ -193,7 +193,7 @@ impl NodeCore {
     /// (`Message::is_for_node`, of `node`). The rules are those of problems 1 and 2 (Courtois, Heymans and
     /// Parnas 1971), for the node's own vote; attempts, floors, softening and the order of entries are
     /// our own. The policy of the present problem is told once of each new reader's ticket, and of nothing
-    /// else; the other is told nothing. The only error
+    /// else; the other is told nothing (tested: no clause sees policies). The only error
     /// is want of memory (503), and then nothing has changed. Where a ticket ends or is softened, those
     /// that wait for its resource are asked one after the other, each by look-ups; no others are, and the
     /// replies take room for these alone. Only a new ticket's entry costs more, where entries stand behind
@@ -242,8 +242,8 @@ impl NodeCore {
     ///
     /// All tickets settle under the problem, each in its turn, so no one waits without a cause; nobody
     /// who holds is sent away (our own; the problems are those of Courtois, Heymans and Parnas 1971). The
-    /// policies are told nothing. The caller owes that the node is idle (`phase`). The only error is want
-    /// of memory (503), which is asked for the replies, and then nothing has changed.
+    /// policies are told nothing (in no clause, as in `take`). The caller owes that the node is idle (`phase`).
+    /// The only error is want of memory (503), which is asked for the replies, and then nothing has changed.
     pub fn switch(&mut self, problem: Problem) -> Result<bool, VoterFault>
         requires { phase_in self.old.state ≡ Phase.Idle }
         ensures exact { OnOk result (self.new ≡ switched self.old problem) }
@@ -315,8 +315,8 @@ impl NodeCore {
     }
 
     /// A copy of the node with policies of its own: the same number, station and replies, and it is about
-    /// the same. What it asks and tells are these policies, and no longer those of the node. The only error
-    /// is want of memory (503), and then these are dropped.
+    /// the same. What it asks and tells are these policies, and no longer those of the node (in no clause). The
+    /// only error is want of memory (503), and then these are dropped.
     ///
     /// It costs what a copy of the record costs, and of its index and the replies.
     pub fn copy(&self, policies: Pair) -> Result<NodeCore, VoterFault>
