@@ -1,13 +1,11 @@
 -- What the program does with its words: the status that it ends with, what it writes, and what it
 -- says on the second writer.
-use Rattle.std.specs.Prelude.{◌≡◌, ◌⊎◌, ◌||◌, ℕ, Bool, true, false, List, [], ◌++◌, Option, Result, Ok, Err, codes}
-use Rattle.std.specs.Fmt.{decimal}
-use Rattle.std.specs.Io.KnownBytes.{Keeps, Appends}
+use Rattle.std.specs.Prelude.{◌≡◌, ◌⊎◌, ◌||◌, ℕ, Bool, true, false, List, [], Option, Result, Ok, Err}
+use Rattle.std.specs.Io.KnownBytes.{Keeps}
 use Rattle.clap.specs.Words.{Kinds, fault_of}
 use Rattle.operator_cli.specs.declared.faults.ServeFault.{ServeFault}
 use Rattle.operator_cli.specs.declared.orders.Command.{Command}
 use Rattle.operator_cli.specs.declared.orders.Command.TheVariants as command
-use Rattle.operator_cli.specs.Faults.{serve_fault_number}
 use Rattle.operator_cli.specs.Outputs.{Serves}
 use Rattle.run_service.specs.Outputs.{ServesRun}
 use Rattle.program_ends.specs.declared.ending.Ended.{Ended}
@@ -35,19 +33,10 @@ abbrev pub status_of : Result ℕ ServeFault → ℕ
 status_of (Ok status) = status
 status_of (Err f) = 1
 
--- what the second writer has ends with `fault 933: ` and words, on a line
-abbrev pub EndsInWords : ServeFault → Option (List ℕ) → Type 0
-EndsInWords f new = (before : Option (List ℕ)) × (words : List ℕ) × Appends before new (codes "fault " ++ decimal (serve_fault_number f) ++ codes ": " ++ words ++ codes "\n")
-
--- A run that a fault ended, where all was told that was to be, told that last, in words.
-abbrev pub TellsInWords : Result ℕ ServeFault → Option (List ℕ) → Bool → Type 0
-TellsInWords (Ok status) new told = Unit {0}
-TellsInWords (Err f) new told = told ≡ true → EndsInWords f new
-
--- The same command with `--explain`: what is written and the status are those without it, and a fault is told last on
--- the second writer. Of the other words there nothing is said.
+-- The same command with `--explain`: what is written and the status are those without it. Of the words on the
+-- second writer nothing is said.
 abbrev pub ExplainsCommand : Command → Option (List ℕ) → Writers → Ended → Type 0
-ExplainsCommand c input w e = (r : Result ℕ ServeFault) × ServesFor c input w.old w.new r × (e.status ≡ status_of r) × TellsInWords r w.errors_new e.told
+ExplainsCommand c input w e = (r : Result ℕ ServeFault) × ServesFor c input w.old w.new r × (e.status ≡ status_of r)
 
 abbrev pub RunsAsked : Bool → Command → Option (List ℕ) → Writers → Ended → Type 0
 RunsAsked false c input w e = RunsCommand c input w e

@@ -6,7 +6,7 @@ ghost use Rattle.lock_model.specs.declared.problems.Problem.TheVariants.{First, 
 ghost use Rattle.operator_cli.specs.Outputs.{IsServed, Serves};
 ghost use Rattle.run_service.specs.Empty.{empty_node, empty_client};
 ghost use Rattle.run_service.specs.Outputs.{IsRun, ServesRun};
-ghost use Rattle.command_line.specs.CommandLine.{ServesFor, ExplainsCommand, TellsInWords, status_of};
+ghost use Rattle.command_line.specs.CommandLine.{ServesFor, ExplainsCommand, status_of};
 
 use crate::following::Followed;
 use explanations::Explainer;
@@ -110,8 +110,7 @@ fn end_explained<E: Write>(
     words: &Option<String>,
     errors: &mut E,
 ) -> Ended
-    ensures status { result.status ≡ status_of came }
-    ensures told { TellsInWords came (E.contents errors.new) result.told }
+    ensures { result.status ≡ status_of came }
 {
     let said = match words {
         Some(text) => write_text(errors, text.as_bytes()).is_ok(),

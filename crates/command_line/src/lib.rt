@@ -6,8 +6,8 @@
 //! The crate promises, by the contract of `run`, the status and what is written on both writers:
 //! the status of what is served as it is and nothing on the second; its fault as `fault N` there
 //! and 1; wrong words as 2, by what `clap` says of them; a request for help or for the version as 0. With
-//! `--explain` output and status are the same, and words go to the second writer, of which is
-//! promised that a fault is told last. `specs/CommandLine` says so.
+//! `--explain` output and status are the same, and words go to the second writer, of which nothing is
+//! promised. `specs/CommandLine` says so.
 //!
 //! It stands on `command_words` for what the words ask for, `program_ends` for what is said of faults and of
 //! words, `operator_cli`, `run_service`, `explanations` for what is said in words, `line_streams`,
