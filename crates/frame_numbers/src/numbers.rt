@@ -1,0 +1,98 @@
+// The numbers of messages, by their frames.
+
+ghost use Rattle.std.specs.Prelude.{◌≡◌, ◌+◌, ◌<◌, List, OnOk, OnErr};
+ghost use Rattle.lock_messages.specs.declared.messages.Message.{Message as MessageValue};
+ghost use Rattle.lock_messages.specs.Frames.{frame_of};
+ghost use Rattle.frame_numbers.specs.FrameNumbers.{IsIndexOf, IsWhole, number_in, Puts};
+
+use bytes::Bytes;
+use indexmap::IndexMap;
+use lock_messages::{Message, encode};
+use std::alloc::{AllocError, Global};
+use std::marker::Model;
+use world_machine::World;
+use world_model::MAX_MESSAGES;
+
+/// The number of a message that was said, for each frame.
+#[derive(Drop)]
+pub struct FrameNumbers {
+    alloc: Global,
+    numbers: IndexMap<Bytes, u32>,
+    seen: u32,
+}
+
+impl Model for FrameNumbers {
+    ghost use Rattle.frame_numbers.specs.FrameNumbers.{Seen};
+
+    ghost Value = { Seen };
+
+    ghost view = { λ s. record { entries = s.numbers.entries; count = s.seen } };
+}
+
+/// Puts a number under a frame, in place of what stood there.
+fn put_number(
+    numbers: &mut IndexMap<Bytes, u32>,
+    frame: Bytes,
+    number: u32,
+) -> Result<(), AllocError>
+    ensures put { OnOk result (Puts numbers.old.entries frame number numbers.new.entries) }
+    ensures same { OnErr result (numbers.new.entries ≡ numbers.old.entries) }
+{
+    match numbers.insert(frame, number) {
+        Ok(_) => Ok(()),
+        Err(_) => Err(AllocError),
+    }
+}
+
+impl FrameNumbers {
+    /// No numbers. It takes no memory.
+    pub fn new(alloc: Global) -> FrameNumbers
+        ensures { (sent : List MessageValue) → IsIndexOf result sent }
+    {
+        FrameNumbers {
+            alloc,
+            numbers: IndexMap::new(alloc),
+            seen: 0,
+        }
+    }
+
+    /// The number of a message with this frame, if one was taken in. One look-up.
+    pub fn number_of(&self, frame: &Bytes) -> Option<u32>
+        ensures { result ≡ number_in self.now.entries frame.now }
+    {
+        self.numbers.get(frame).copied()
+    }
+
+    /// Takes in the next message.
+    fn note(&mut self, message: &Message) -> Result<(), AllocError>
+        requires { self.old.count < MAX_MESSAGES }
+        ensures puts { OnOk result (Puts self.old.entries (frame_of message.now) (self.old.count + 1) self.new.entries) }
+        ensures one { OnOk result (self.new.count ≡ self.old.count + 1) }
+        ensures same { OnErr result (self.new ≡ self.old) }
+    {
+        let Ok(frame) = encode(self.alloc, message) else {
+            return Err(AllocError);
+        };
+        put_number(&mut self.numbers, frame, self.seen + 1)?;
+        self.seen += 1;
+        Ok(())
+    }
+
+    /// Takes in all messages of the world that it doesn't have.
+    ///
+    /// The only error is that there is no memory. Then it has taken in some of them.
+    #[tactic(auto, using(crate::proofs::NumberFacts::noted_next, crate::proofs::NumberFacts::caught_up, crate::proofs::NumberFacts::full_up, crate::proofs::NumberFacts::in_room))]
+    pub fn catch_up(&mut self, world: &World) -> Result<(), AllocError>
+        ensures index { IsIndexOf self.old world.now.sent → IsIndexOf self.new world.now.sent }
+        ensures whole { OnOk result (IsIndexOf self.old world.now.sent → IsWhole self.new world.now.sent) }
+    {
+        world.soundness();
+        for number in self.seen..MAX_MESSAGES {
+            let Some(message) = world.sent(number + 1) else {
+                return Ok(());
+            };
+            self.note(&message)?;
+        }
+        Ok(())
+    }
+}

@@ -1,0 +1,3 @@
+pub mod ContentFacts
+pub mod TellingFacts
+pub mod MergingFacts

@@ -1,0 +1,2 @@
+pub mod LineMerges
+pub mod Laws

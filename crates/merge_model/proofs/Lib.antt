@@ -1,0 +1,10 @@
+pub mod OwnRunFacts
+pub mod Greed
+pub mod Numbers
+pub mod Histories
+pub mod Beginnings
+pub mod Stands
+pub mod MergedRuns
+pub mod TakenTurns
+pub mod LifeFacts
+pub mod GoingOn

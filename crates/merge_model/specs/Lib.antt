@@ -1,0 +1,4 @@
+pub mod OwnRuns
+pub mod Merging
+pub mod Lives
+pub mod Laws

@@ -1,0 +1,90 @@
+// The words of a line.
+
+ghost use Rattle.std.specs.Prelude.{◌≡◌, ◌∷◌, ◌++◌, IfOk, codes};
+ghost use Rattle.std.specs.List.{position};
+ghost use Rattle.event_lines.specs.Lines.{is_space, words};
+ghost use Rattle.event_lines.specs.Reading.{words_behind};
+ghost use Rattle.own_journals.specs.OwnLines.{three_of, seen, fallen_in, named_in, NamesActor};
+
+use crate::OwnLineFault;
+use event_lines::laws::events_are_spelled_once;
+use event_lines::{LineFault, read_event};
+use lock_messages::Actor;
+use std::alloc::{AllocError, Global};
+use world_model::Event;
+
+/// The index of the first space.
+fn space_in(text: &[u8]) -> Option<usize>
+    ensures { result ≡ position is_space text.now }
+{
+    text.iter().position(|byte| *byte == b' ')
+}
+
+/// The first word, and what is after the space behind it, if there is one.
+fn first_word(text: &[u8]) -> (&[u8], Option<&[u8]>)
+    ensures { words text.now ≡ result.0.now ∷ words_behind result.1 }
+{
+    match space_in(text) {
+        None => (text, None),
+        Some(at) => (&text[..at], Some(&text[at + 1..])),
+    }
+}
+
+/// The three words of a text that has three.
+#[tactic(auto, using(crate::proofs::OwnLineFacts::four_words))]
+pub fn three_words(text: &[u8]) -> Option<(&[u8], &[u8], &[u8])>
+    ensures { seen result ≡ three_of (words text.now) }
+{
+    let (first, rest) = first_word(text);
+    let (second, rest) = first_word(rest?);
+    let (third, rest) = first_word(rest?);
+    match rest {
+        Some(_) => None,
+        None => Some((first, second, third)),
+    }
+}
+
+/// The text `fall` and the word.
+fn fall_of(alloc: Global, word: &[u8]) -> Result<Vec<u8>, AllocError>
+    ensures { IfOk result (λ text. text.items ≡ codes "fall " ++ word.now) }
+{
+    let mut text = Vec::new(alloc);
+    text.extend_from_slice(b"fall ")?;
+    text.extend_from_slice(word)?;
+    Ok(text)
+}
+
+/// The actor that falls, if this is a fall.
+fn fallen(event: Event) -> Option<Actor>
+    ensures { result ≡ fallen_in event }
+{
+    match event {
+        Event::Fall(actor) => Some(actor),
+        _ => None,
+    }
+}
+
+/// The actor that falls in what was read.
+fn named(read: Result<Event, LineFault>) -> Result<Actor, OwnLineFault>
+    ensures { result ≡ named_in read }
+{
+    match read {
+        Ok(event) => fallen(event).ok_or(OwnLineFault::NoLine),
+        Err(_) => Err(OwnLineFault::NoLine),
+    }
+}
+
+/// The actor that the word names.
+///
+/// # Errors
+///
+/// `NoLine` if it names none, `Memory` if there is no memory.
+pub fn actor_in(alloc: Global, word: &[u8]) -> Result<Actor, OwnLineFault>
+    ensures { NamesActor word.now result }
+{
+    events_are_spelled_once();
+    match fall_of(alloc, word) {
+        Ok(text) => named(read_event(text.as_slice())),
+        Err(_) => Err(OwnLineFault::Memory),
+    }
+}
