@@ -75,7 +75,7 @@ fn open_other<P: Plate>(plate: &mut P, known: Known, bytes: &[u8]) -> Result<(),
 
 /// Keeps these bytes as the next record: four calls, or six where the other slot's gate is open. The
 /// buffer holds what is written behind the gate. An error says where the record stands.
-pub(crate) fn keep_next<P: Plate>(
+pub(crate) fn keep_body<P: Plate>(
     plate: &mut P,
     known: Known,
     buffer: &mut [u8],

@@ -12,7 +12,7 @@ ghost use Rattle.slot_record.specs.Records.{FindsAmong, IsFormatFault, IsOpenFau
 use crate::entries::{BUFFER_LEN, zeros};
 use crate::finding::find;
 use crate::formatting::lay_out;
-use crate::keeping::keep_next;
+use crate::keeping::keep_body;
 use crate::slots::{LEAST_PLATE_LEN, MAX_SEQUENCE};
 use crate::standing::{Known, Standing};
 use crate::{Plate, PlateFault, SlotFault};
@@ -207,7 +207,7 @@ impl<P: Plate> StableRecord for SlotRecord<P> {
         if self.known.sequence >= MAX_SEQUENCE {
             return Err(RecordFault::Spent);
         }
-        match keep_next(&mut self.device, self.known, &mut self.buffer, bytes) {
+        match keep_body(&mut self.device, self.known, &mut self.buffer, bytes) {
             Ok(()) => {
                 self.known = self.known.next();
                 Ok(())

@@ -7,6 +7,7 @@ ghost use Rattle.slot_record.specs.Keeping.{next_of};
 use crate::slots::{MAX_SEQUENCE, Slot};
 
 /// What is known of the slots while the plate is synced.
+/// After a fault it still names the slot that has the record, and reopen finds out whether the other one has it now.
 #[derive(Clone, Copy)]
 pub(crate) struct Known {
     /// The slot that has the record.

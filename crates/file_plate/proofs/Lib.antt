@@ -1,0 +1,2 @@
+mod PutFacts
+mod PlateFacts

@@ -1,0 +1,3 @@
+pub mod Media
+pub mod FilePlates
+pub mod FileFaults

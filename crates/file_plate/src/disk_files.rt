@@ -1,0 +1,136 @@
+// Files of the operating system, and how a record's file is opened.
+
+ghost use Rattle.std.specs.Prelude.{◌≡◌, [], IfOk};
+
+use crate::{FileFault, Medium};
+use event_lists::CallList;
+use std::fs::{self, File, Files, OpenOptions, TryLockError};
+use std::io::{self, ErrorKind};
+use std::os::unix::fs::FileExt;
+
+// The kinds of calls in the list of a file's calls.
+const SETTLED: u64 = 0;
+
+const GAVE: u64 = 1;
+
+const TOOK: u64 = 2;
+
+const SYNCED: u64 = 3;
+
+const SETTLE_FAILED: u64 = 4;
+
+const READ_FAILED: u64 = 5;
+
+const WRITE_FAILED: u64 = 6;
+
+const SYNC_FAILED: u64 = 7;
+
+/// An open file. Each call of it makes one call of the operating system and notes what came of it.
+#[derive(Drop)]
+pub struct DiskFile {
+    file: File,
+    calls: CallList,
+}
+
+impl DiskFile {
+    /// A file of which nothing has been asked.
+    pub fn of(file: File) -> DiskFile
+        ensures { result.calls.items ≡ [] }
+    {
+        DiskFile {
+            file,
+            calls: CallList::new(),
+        }
+    }
+}
+
+impl Medium for DiskFile {
+    ghost use Rattle.std.specs.Prelude.{map};
+    ghost use Rattle.file_plate.specs.Media.{noted_call};
+
+    ghost asked = { λ f. map noted_call f.calls.items };
+
+    fn settle(&mut self) -> io::Result<()> {
+        let answer = self.file.sync_all();
+        match answer {
+            Ok(()) => self.calls.note(&[SETTLED], &[]),
+            Err(_) => self.calls.note(&[SETTLE_FAILED], &[]),
+        }
+        answer
+    }
+
+    fn read_at(&mut self, at: u32, buffer: &mut [u8]) -> io::Result<()> {
+        let answer = self.file.read_exact_at(buffer, u64::from(at));
+        match answer {
+            Ok(()) => self.calls.note(&[GAVE, u64::from(at)], buffer),
+            Err(_) => self.calls.note(&[READ_FAILED, u64::from(at)], buffer),
+        }
+        answer
+    }
+
+    fn write_at(&mut self, at: u32, bytes: &[u8]) -> io::Result<()> {
+        let answer = self.file.write_all_at(bytes, u64::from(at));
+        match answer {
+            Ok(()) => self.calls.note(&[TOOK, u64::from(at)], bytes),
+            Err(_) => self.calls.note(&[WRITE_FAILED, u64::from(at)], bytes),
+        }
+        answer
+    }
+
+    fn sync(&mut self) -> io::Result<()> {
+        let answer = self.file.sync_data();
+        match answer {
+            Ok(()) => self.calls.note(&[SYNCED], &[]),
+            Err(_) => self.calls.note(&[SYNC_FAILED], &[]),
+        }
+        answer
+    }
+}
+
+/// Takes the file's lock, or says why it can't.
+pub(crate) fn take_lock(file: &File) -> Result<(), FileFault> {
+    match file.try_lock() {
+        Ok(()) => Ok(()),
+        Err(TryLockError::WouldBlock) => Err(FileFault::Held),
+        Err(TryLockError::Error(_)) => Err(FileFault::Unreadable),
+    }
+}
+
+/// Whether there is a file of this name, a link to nothing among them.
+pub(crate) fn is_there<R: Files>(files: &R, path: &str) -> Result<bool, FileFault> {
+    match fs::symlink_metadata(files, path) {
+        Ok(_) => Ok(true),
+        Err(error) if error.kind() == ErrorKind::NotFound => Ok(false),
+        Err(_) => Err(FileFault::Unreadable),
+    }
+}
+
+fn open_file<R: Files<File = File>>(files: &R, path: &str) -> Result<File, FileFault> {
+    match OpenOptions::new().read(true).write(true).open(files, path) {
+        Ok(file) => Ok(file),
+        Err(error) if error.kind() == ErrorKind::NotFound => Err(FileFault::Missing),
+        Err(_) => Err(FileFault::Unreadable),
+    }
+}
+
+/// Opens the file of a record, and holds an exclusive lock on it until it is dropped. It reads and writes
+/// nothing.
+///
+/// The first of these is answered: 942 (there is no such file), 945 (it can't be opened), 941 (another
+/// process holds it), 945 (it can't be locked, or is no regular file), 943 (it hasn't this size).
+pub fn hold<R: Files<File = File>>(files: &R, path: &str, size: u32) -> Result<DiskFile, FileFault>
+    ensures { IfOk result (λ f. f.calls.items ≡ []) }
+{
+    let file = open_file(files, path)?;
+    take_lock(&file)?;
+    let Ok(found) = file.metadata() else {
+        return Err(FileFault::Unreadable);
+    };
+    if !found.is_file() {
+        return Err(FileFault::Unreadable);
+    }
+    if found.len() != u64::from(size) {
+        return Err(FileFault::WrongSize);
+    }
+    Ok(DiskFile::of(file))
+}

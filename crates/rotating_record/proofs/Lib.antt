@@ -1,0 +1,8 @@
+mod ImageFacts
+mod Moments
+mod SlotFacts
+mod StepFacts
+mod KeepFacts
+mod FindFacts
+mod FormatFacts
+mod RecordFacts

@@ -1,0 +1,5 @@
+pub mod Slots
+pub mod Records
+pub mod Keeping
+pub mod Finding
+pub mod Formatting

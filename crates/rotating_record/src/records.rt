@@ -1,0 +1,278 @@
+// Records in three slots of a plate.
+
+ghost use Rattle.std.specs.Prelude.{◌≡◌, ◌↔◌, ◌⊎◌, ℕ, ◌+◌, ◌<◌, ◌≤◌, true, false, [], ◌∷◌, ◌++◌, length, Some, None, Ok, Err, OnOk, IfOk, IfErr};
+ghost use Rattle.lock_model.specs.Decisions.{Among};
+ghost use Rattle.stable_record.specs.Finding.{Counts, FindsOnly, FindsOnlyOr, IsOneOrTwo, IsReopenFault};
+ghost use Rattle.slot_record.specs.Images.{Image};
+ghost use Rattle.slot_record.specs.Plates.{FailedOnce, LeavesOnly};
+ghost use Rattle.rotating_record.specs.Slots.{record_on};
+ghost use Rattle.slot_record.specs.Faults.{fault_of};
+ghost use Rattle.slot_record.specs.Records.{IsOpenFault, IsKeepFault};
+ghost use Rattle.rotating_record.specs.Records.{FindsAmong, IsFormatFault};
+
+use crate::finding::find;
+use crate::formatting::lay_out;
+use crate::keeping::keep_body;
+use crate::slots::ROTATING_PLATE_LEN;
+use crate::standing::{Known, Standing};
+use slot_record::{MAX_SEQUENCE, Plate, PlateFault, SlotFault};
+use stable_record::{MAX_RECORD_LEN, RecordFault, StableRecord};
+use std::alloc::{AllocError, Global};
+use std::marker::Model;
+
+/// A record that lives in three slots of a plate and survives any moment of a crash. A keep makes two
+/// syncs.
+///
+/// Whatever moment the power goes, opening finds the body that was kept last or, while a keep was
+/// open or had failed, that body or the one tried. Nobody else may write the plate. Contracts see
+/// the plate, the sequence of the slot that has the record, the bodies, one or two, one of which
+/// opening now may find, and whether the record is stuck. The rule of the three slots is our own.
+#[derive(Drop)]
+pub struct RotatingRecord<P: Plate> {
+    alloc: Global,
+    device: P,
+    known: Known,
+    standing: Standing,
+}
+
+impl<P: Plate> Model for RotatingRecord<P> {
+    ghost use Rattle.slot_record.specs.Records.{OnPlate};
+    ghost use Rattle.rotating_record.specs.Records.{IsOnPlate, bodies_on, is_stuck};
+
+    ghost Value = { OnPlate P };
+
+    ghost view = { λ r. record { plate = r.device; sequence = r.known.sequence; finds = bodies_on r.standing r.known.own (P.state r.device).seen; stuck = is_stuck r.standing } };
+
+    ghost invariant = { λ r. IsOnPlate (P.state r.device) r.known r.standing };
+}
+
+/// Memory for the longest body. (Its zeros in a clause of a longer function would be too much for a proof.)
+fn room_for_body(alloc: Global) -> Result<Vec<u8>, AllocError>
+    ensures { IfOk result (λ v. length v.items ≡ MAX_RECORD_LEN) }
+{
+    vec![in alloc; 0u8; MAX_RECORD_LEN]
+}
+
+impl<P: Plate> RotatingRecord<P> {
+    /// Makes a plate the home of a record, which holds these bytes.
+    ///
+    /// Before the device is called the first of these is answered, with the plate untouched: 401 (the
+    /// plate has fewer than `ROTATING_PLATE_LEN` bytes), 404 (more than `MAX_RECORD_LEN` bytes). Then 402
+    /// (a device call failed): nothing is promised of such a plate. It makes ten device calls.
+    pub fn format(
+        alloc: Global,
+        plate: P,
+        bytes: &[u8],
+    ) -> Result<RotatingRecord<P>, (P, SlotFault)>
+        ensures formatted { IfOk result (λ r. (r.finds ≡ bytes.now ∷ []) × (r.sequence ≡ 1) × (r.stuck ≡ false)) }
+        // Whatever a crash leaves from now on, opening finds just these bytes.
+        ensures lasts { IfOk result (λ r. (c : Image) → (P.state r.plate).may_leave c → record_on c ≡ Some (1, bytes.now)) }
+        // No device call failed.
+        ensures fine { IfOk result (λ r. (P.state r.plate).failures ≡ (P.state plate).failures) }
+        // Nothing else is answered.
+        ensures faults { IfErr result (λ e. IsFormatFault e.1) }
+        ensures too_small { (fault_of result ≡ Some SlotFault.TooSmall) ↔ ((P.state plate).size < ROTATING_PLATE_LEN) }
+        ensures too_long { (fault_of result ≡ Some SlotFault.TooLong) ↔ ((ROTATING_PLATE_LEN ≤ (P.state plate).size) × (MAX_RECORD_LEN < length bytes.now)) }
+        // 401 and 404 come before the device is called.
+        ensures untouched { IfErr result (λ e. (e.1 ≡ SlotFault.Device) ⊎ (e.0 ≡ plate)) }
+        // 402: one device call failed, which ended the work.
+        ensures device { IfErr result (λ e. e.1 ≡ SlotFault.Device → FailedOnce (P.state plate).failures (P.state e.0).failures) }
+    {
+        if plate.size() < ROTATING_PLATE_LEN {
+            return Err((plate, SlotFault::TooSmall));
+        }
+        if bytes.len() > MAX_RECORD_LEN {
+            return Err((plate, SlotFault::TooLong));
+        }
+        let mut device = plate;
+        match lay_out(&mut device, bytes) {
+            Ok(known) => Ok(RotatingRecord {
+                alloc,
+                device,
+                known,
+                standing: Standing::Settled,
+            }),
+            Err(PlateFault) => Err((device, SlotFault::Device)),
+        }
+    }
+
+    /// Finds the record of a plate, whatever a crash made of it, and its bytes: nine device calls.
+    ///
+    /// Before the device is called the first of these is answered, with the plate untouched: 401 (the
+    /// plate has fewer than `ROTATING_PLATE_LEN` bytes), 406 (memory was refused). Then 402 (a device
+    /// call failed), and 403 (no slot has a record); a crash then leaves nothing that it could not leave
+    /// before.
+    pub fn open(alloc: Global, plate: P) -> Result<(RotatingRecord<P>, Vec<u8>), (P, SlotFault)>
+        ensures opened { IfOk result (λ r. (r.0.finds ≡ r.1.items ∷ []) × (r.0.stuck ≡ false)) }
+        // It is the record of one of the images that a crash could leave,
+        ensures found { IfOk result (λ r. (c : Image) × (P.state plate).may_leave c × (record_on c ≡ Some (r.0.sequence, r.1.items))) }
+        // and from now on opening finds just this one, whatever gate was not synced there before.
+        ensures lasts { IfOk result (λ r. (c : Image) → (P.state r.0.plate).may_leave c → record_on c ≡ Some (r.0.sequence, r.1.items)) }
+        // No device call failed.
+        ensures fine { IfOk result (λ r. (P.state r.0.plate).failures ≡ (P.state plate).failures) }
+        // A crash at any moment leaves what it could leave before.
+        ensures moments { IfOk result (λ r. LeavesOnly (P.state plate) (P.state r.0.plate) (P.state plate).may_leave) }
+        ensures moments_of_fault { IfErr result (λ e. LeavesOnly (P.state plate) (P.state e.0) (P.state plate).may_leave) }
+        // Nothing else is answered.
+        ensures faults { IfErr result (λ e. IsOpenFault e.1) }
+        ensures too_small { (fault_of result ≡ Some SlotFault.TooSmall) ↔ ((P.state plate).size < ROTATING_PLATE_LEN) }
+        // 403 comes only where no slot has a record.
+        ensures not_formatted { IfErr result (λ e. e.1 ≡ SlotFault.NotFormatted → (c : Image) → (P.state e.0).may_leave c → record_on c ≡ None) }
+        // 401 and 406 come before the device is called.
+        ensures untouched { IfErr result (λ e. (e.1 ≡ SlotFault.Device) ⊎ (e.1 ≡ SlotFault.NotFormatted) ⊎ (e.0 ≡ plate)) }
+        // 402: one device call failed, which ended the work.
+        ensures device { IfErr result (λ e. e.1 ≡ SlotFault.Device → FailedOnce (P.state plate).failures (P.state e.0).failures) }
+        // With any other fault no device call failed.
+        ensures unfailed { IfErr result (λ e. (e.1 ≡ SlotFault.Device) ⊎ ((P.state e.0).failures ≡ (P.state plate).failures)) }
+    {
+        if plate.size() < ROTATING_PLATE_LEN {
+            return Err((plate, SlotFault::TooSmall));
+        }
+        let Ok(mut body) = room_for_body(alloc) else {
+            return Err((plate, SlotFault::Memory));
+        };
+        let mut device = plate;
+        match find(&mut device, &mut body) {
+            Ok(Some(known)) => {
+                let record = RotatingRecord {
+                    alloc,
+                    device,
+                    known,
+                    standing: Standing::Settled,
+                };
+                Ok((record, body))
+            }
+            Ok(None) => Err((device, SlotFault::NotFormatted)),
+            Err(PlateFault) => Err((device, SlotFault::Device)),
+        }
+    }
+
+    /// The plate, as the calls left it.
+    pub fn into_plate(self) -> P
+        ensures plate { result ≡ self.plate }
+        // Opening finds one of the bodies on it, whatever a crash leaves.
+        ensures found { (c : Image) → (P.state result).may_leave c → FindsAmong self.finds c }
+    {
+        let RotatingRecord { device, .. } = self;
+        device
+    }
+}
+
+impl<P: Plate> StableRecord for RotatingRecord<P> {
+    ghost use Rattle.std.specs.Prelude.{nat_le};
+    ghost use Rattle.slot_record.specs.declared.slots.TheConstants.{MAX_SEQUENCE as LAST};
+
+    ghost finds = { λ r. r.finds };
+
+    ghost stuck_of = { λ r. r.stuck };
+
+    ghost spent_of = { λ r. nat_le LAST r.sequence };
+
+    ghost failures_of = { λ r. (P.state r.plate).failures };
+
+    /// Keeps these bytes in place of those before: six device calls, two of them syncs. It takes no memory
+    /// but its plate's, and reads nothing.
+    ///
+    /// Before the device is called the first of these is answered, and nothing has changed: 302
+    /// (stuck), 303 (more than `MAX_RECORD_LEN` bytes), 305 (the record's sequence is
+    /// `MAX_SEQUENCE`). The first device call that fails ends the work: 301, and the record is stuck.
+    fn keep(&mut self, bytes: &[u8]) -> Result<(), RecordFault>
+        ensures kept { OnOk result ((self.new.finds ≡ bytes.now ∷ []) × (self.new.stuck ≡ false)) }
+        ensures numbered { OnOk result (self.new.sequence ≡ self.old.sequence + 1) }
+        // Whatever a crash leaves from now on, opening finds just these bytes.
+        ensures lasts { OnOk result ((c : Image) → (P.state self.new.plate).may_leave c → record_on c ≡ Some (self.new.sequence, bytes.now)) }
+        // No device call failed.
+        ensures fine { OnOk result ((P.state self.new.plate).failures ≡ (P.state self.old.plate).failures) }
+        // At each moment of the call opening finds what it could find before, or these bytes.
+        ensures moments { LeavesOnly (P.state self.old.plate) (P.state self.new.plate) (FindsAmong (self.old.finds ++ bytes.now ∷ [])) }
+        // After it opening finds one of the bodies, whatever a crash leaves.
+        ensures found { (c : Image) → (P.state self.new.plate).may_leave c → FindsAmong self.new.finds c }
+        // Nothing else is answered.
+        ensures faults { IfErr result IsKeepFault }
+        // 302, 303, 305: the first of them.
+        ensures stuck { (result ≡ Err RecordFault.Stuck) ↔ (self.old.stuck ≡ true) }
+        ensures too_long { (result ≡ Err RecordFault.TooLong) ↔ ((self.old.stuck ≡ false) × (MAX_RECORD_LEN < length bytes.now)) }
+        ensures spent { (result ≡ Err RecordFault.Spent) ↔ ((self.old.stuck ≡ false) × (length bytes.now ≤ MAX_RECORD_LEN) × (MAX_SEQUENCE ≤ self.old.sequence)) }
+        // They come before the device is called.
+        ensures unchanged { IfErr result (λ fault. (fault ≡ RecordFault.Device) ⊎ (self.new ≡ self.old)) }
+        // One device call failed at most: the first that fails ends the work.
+        ensures once { (P.state self.new.plate).failures ≤ (P.state self.old.plate).failures + 1 }
+        // 301.
+        ensures device { result ≡ Err RecordFault.Device → Counts (P.state self.old.plate).failures (P.state self.new.plate).failures × FindsOnlyOr self.old.finds bytes.now self.new.finds × (self.new.stuck ≡ true) }
+        ensures some { IsOneOrTwo self.new.finds }
+        ensures count { (P.state self.old.plate).failures ≤ (P.state self.new.plate).failures }
+    {
+        if self.standing.is_stuck() {
+            return Err(RecordFault::Stuck);
+        }
+        if bytes.len() > MAX_RECORD_LEN {
+            return Err(RecordFault::TooLong);
+        }
+        if self.known.sequence >= MAX_SEQUENCE {
+            return Err(RecordFault::Spent);
+        }
+        match keep_body(&mut self.device, self.known, bytes) {
+            Ok(()) => {
+                self.known = self.known.next();
+                Ok(())
+            }
+            Err(standing) => {
+                self.standing = standing;
+                Err(RecordFault::Device)
+            }
+        }
+    }
+
+    /// What opening finds, and from now on just this: nine device calls. 304 (memory was refused)
+    /// comes before the device is called; after 301 (a device call failed) the record is stuck.
+    fn reopen(&mut self) -> Result<Vec<u8>, RecordFault>
+        ensures found { IfOk result (λ bytes. Among bytes.items self.old.finds × (self.new.finds ≡ bytes.items ∷ []) × (self.new.stuck ≡ false)) }
+        ensures lasts { IfOk result (λ bytes. (c : Image) → (P.state self.new.plate).may_leave c → record_on c ≡ Some (self.new.sequence, bytes.items)) }
+        // No device call failed.
+        ensures fine { OnOk result ((P.state self.new.plate).failures ≡ (P.state self.old.plate).failures) }
+        // A crash at any moment leaves what it could leave before,
+        ensures moments { LeavesOnly (P.state self.old.plate) (P.state self.new.plate) (P.state self.old.plate).may_leave }
+        // on which opening finds one of the bodies.
+        ensures some_found { (c : Image) → (P.state self.old.plate).may_leave c → FindsAmong self.old.finds c }
+        // Nothing else is answered.
+        ensures faults { IfErr result IsReopenFault }
+        ensures nothing_new { IfErr result (λ fault. FindsOnly self.old.finds self.new.finds) }
+        // One device call failed at most: the first that fails ends the work.
+        ensures once { (P.state self.new.plate).failures ≤ (P.state self.old.plate).failures + 1 }
+        // 301.
+        ensures device { result ≡ Err RecordFault.Device → Counts (P.state self.old.plate).failures (P.state self.new.plate).failures × (self.new.stuck ≡ true) }
+        // 304.
+        ensures unchanged { result ≡ Err RecordFault.Memory → self.new ≡ self.old }
+        ensures some { IsOneOrTwo self.new.finds }
+        ensures count { (P.state self.old.plate).failures ≤ (P.state self.new.plate).failures }
+    {
+        let Ok(mut body) = room_for_body(self.alloc) else {
+            return Err(RecordFault::Memory);
+        };
+        match find(&mut self.device, &mut body) {
+            Ok(Some(known)) => {
+                self.known = known;
+                self.standing = Standing::Settled;
+                Ok(body)
+            }
+            Ok(None) => unreachable!(),
+            Err(PlateFault) => {
+                self.standing = self.standing.failed();
+                Err(RecordFault::Device)
+            }
+        }
+    }
+
+    fn stuck(&self) -> bool
+        ensures answer { result ≡ self.now.stuck }
+        ensures some { IsOneOrTwo self.now.finds }
+        // Opening finds one of the bodies, whatever a crash leaves.
+        ensures found { (c : Image) → (P.state self.now.plate).may_leave c → FindsAmong self.now.finds c }
+    {
+        self.standing.is_stuck()
+    }
+
+    fn failures(&self) -> u64 {
+        self.device.failures()
+    }
+}
