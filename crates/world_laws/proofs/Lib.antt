@@ -1,0 +1,5 @@
+pub mod ReachFacts
+pub mod ReplyCounts
+pub mod WaitingFacts
+pub mod LoadFacts
+pub mod MildWays
