@@ -1,6 +1,6 @@
 -- What the program does with its words: the status that it ends with, what it writes, and what it
 -- says on the second writer.
-use Rattle.std.specs.Prelude.{◌≡◌, ◌⊎◌, ◌||◌, ℕ, Bool, true, false, List, [], Option, Result, Ok, Err}
+use Rattle.std.specs.Prelude.{◌≡◌, ◌⊎◌, ◌||◌, ℕ, Bool, true, false, List, [], Option, Some, None, Result, Ok, Err, codes}
 use Rattle.std.specs.Io.KnownBytes.{Keeps}
 use Rattle.clap.specs.Words.{Kinds, fault_of}
 use Rattle.operator_cli.specs.declared.faults.ServeFault.{ServeFault}
@@ -9,8 +9,11 @@ use Rattle.operator_cli.specs.declared.orders.Command.TheVariants as command
 use Rattle.operator_cli.specs.Outputs.{Serves}
 use Rattle.run_service.specs.Outputs.{ServesRun}
 use Rattle.program_ends.specs.declared.ending.Ended.{Ended}
-use Rattle.program_ends.specs.Endings.{Writers, TellsFault, EndsUnserved}
-use Rattle.command_words.specs.declared.reading.Asked.{Asked}
+use Rattle.program_ends.specs.Endings.{Writers, Shows, LacksMemory, EndsSaying, TellsFault, EndsUnserved}
+use Rattle.command_words.specs.declared.reading.Request.{Request}
+use Rattle.command_words.specs.declared.reading.Request.TheVariants as request
+use Rattle.fault_numbers.specs.Numbers.{words_of, explained_text}
+use Rattle.fault_numbers.specs.Tables.{Words}
 use Rattle.command_words.specs.Words.{app, FoundWords, found_in, Names}
 
 -- What is served for each command.
@@ -42,9 +45,29 @@ abbrev pub RunsAsked : Bool → Command → Option (List ℕ) → Writers → En
 RunsAsked false c input w e = RunsCommand c input w e
 RunsAsked true c input w e = ExplainsCommand c input w e
 
--- the command is the one that is named, and it is explained where `--explain` stands anywhere
+-- the words of a number that was read, if a fault has it
+abbrev pub words_for : Option ℕ → Option Words
+words_for None = None
+words_for (Some number) = words_of number
+
+-- what is said if no fault has the number
+abbrev pub unknown_text : List ℕ
+unknown_text = codes "error: no fault has this number: docs/REFERENCE.md lists all numbers, from 101 to 947\n\nFor more information, try '--help'.\n"
+
+-- The words of a number are shown, with status 0, unless there was no memory for them. If no fault has the number,
+-- that is said, with status 2.
+abbrev pub ExplainsNumber : Option Words → Writers → Ended → Type 0
+ExplainsNumber None w e = Keeps w.old w.new × EndsSaying 2 unknown_text w.errors_old w.errors_new e
+ExplainsNumber (Some words) w e = Shows (explained_text words) w e ⊎ LacksMemory w e
+
+-- a command is explained if `--explain` is anywhere
+abbrev pub RunsRequest : Request → Option (List ℕ) → Writers → Ended → Type 0
+RunsRequest (request.Serve a) input w e = RunsAsked (a.front || a.behind) a.command input w e
+RunsRequest (request.Explain number) input w e = ExplainsNumber (words_for number) w e
+
+-- what is asked for is what the words name
 abbrev pub RunsNamed : FoundWords → Option (List ℕ) → Writers → Ended → Type 0
-RunsNamed found input w e = (a : Asked) × Names found a × RunsAsked (a.front || a.behind) a.command input w e
+RunsNamed found input w e = (r : Request) × Names found r × RunsRequest r input w e
 
 -- What a run does with words that were read. `clap` says which are right, and of which kind the
 -- others are: `fault_of` is empty where a command is named.

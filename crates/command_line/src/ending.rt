@@ -8,10 +8,11 @@ ghost use Rattle.lock_messages.specs.declared.ids.TheConstants.{MAX_NODES, MAX_C
 ghost use Rattle.lock_model.specs.declared.problems.Problem.TheVariants.{First, Second};
 ghost use Rattle.run_service.specs.Empty.{empty_node, empty_client};
 ghost use Rattle.program_ends.specs.Endings.{EndsUnread};
-ghost use Rattle.command_line.specs.CommandLine.{EndsServed, ServesFor, RunsCommand, RunsAsked, Runs};
+ghost use Rattle.command_line.specs.CommandLine.{EndsServed, ServesFor, RunsCommand, RunsAsked, RunsRequest, Runs};
 
 use crate::explaining::explain_command;
-use command_words::read_words;
+use crate::numbers::explain_number;
+use command_words::{Request, read_words};
 use operator_cli::{Command, Order, Policies, ServeFault, serve};
 use program_ends::{Ended, collected, end_unserved, tell_fault, tell_unread};
 use run_service::{Supplies, serve_run};
@@ -108,8 +109,39 @@ where
     }
 }
 
+/// Does what is asked for.
+fn run_request<T: Threads + Wait + Copy + Send, R: Read, W: Write, E: Write>(
+    rt: T,
+    alloc: Global,
+    request: Request,
+    policies: Policies,
+    supplies: Supplies,
+    reader: R,
+    output: &mut W,
+    errors: &mut E,
+) -> Ended
+where
+    R: Drop,
+    requires policies { length policies.pairs.items ≡ MAX_NODES }
+    requires threads { length supplies.policies.pairs.items ≡ MAX_NODES }
+    requires records_first { map (λ r. finds (r.vtable, r.value)) supplies.records.first.items ≡ replicate MAX_NODES (empty_node First) }
+    requires records_second { map (λ r. finds (r.vtable, r.value)) supplies.records.second.items ≡ replicate MAX_NODES (empty_node Second) }
+    requires records_clients { map (λ r. finds (r.vtable, r.value)) supplies.records.clients.items ≡ replicate MAX_CLIENTS empty_client }
+    ensures { RunsRequest request (R.remaining reader) (record { old = W.contents output.old; new = W.contents output.new; errors_old = E.contents errors.old; errors_new = E.contents errors.new }) result }
+{
+    match request {
+        Request::Serve(asked) => {
+            let explain = asked.front || asked.behind;
+            let command = asked.command;
+            let order = Order { command, policies };
+            run_asked(rt, alloc, explain, order, supplies, reader, output, errors)
+        }
+        Request::Explain(number) => explain_number(alloc, number, output, errors),
+    }
+}
+
 /// Does what the words say.
-#[tactic(auto, using(crate::proofs::WordFacts::runs_command, crate::proofs::WordFacts::runs_unserved))]
+#[tactic(auto, using(crate::proofs::WordFacts::runs_request, crate::proofs::WordFacts::runs_unserved))]
 fn run_words<T: Threads + Wait + Copy + Send, R: Read, W: Write, E: Write>(
     rt: T,
     alloc: Global,
@@ -130,12 +162,9 @@ where
     ensures { Runs (R.remaining reader) (map string_bytes words.now) (record { old = W.contents output.old; new = W.contents output.new; errors_old = E.contents errors.old; errors_new = E.contents errors.new }) result }
 {
     match read_words(alloc, words) {
-        Ok(asked) => {
-            let explain = asked.front || asked.behind;
-            let command = asked.command;
-            let order = Order { command, policies };
-            run_asked(rt, alloc, explain, order, supplies, reader, output, errors)
-        }
+        Ok(request) => run_request(
+            rt, alloc, request, policies, supplies, reader, output, errors,
+        ),
         Err(why) => end_unserved(why, output, errors),
     }
 }
@@ -185,7 +214,9 @@ where
 /// With `--explain`, in front of the command or behind it, the same is written to `output` and the status is
 /// the same, and words go to `errors`, a line for each refusal, fault and verdict (`explanations`). A writer that
 /// fails while the input is read hears less of them, which `Ended::told` doesn't tell.
-/// `--help` and `--version`, also `script --help` and the like, go to `output`, with status 0 (`fault 932`
+/// `explain N` writes what the number N means, its cause and its remedy to `output`, with status 0. If no fault has
+/// the number, `errors` says so, and the status is 2.
+/// `--help`, `help` and `--version`, also `script --help`, `help script` and the like, go to `output`, with status 0 (`fault 932`
 /// and 1 where that fails). Other words are wrong, and so is one that is not UTF-8: a text on `errors`
 /// says so, and the status is 2. Where memory is refused while words are read, `fault 933` is told, with
 /// status 1.

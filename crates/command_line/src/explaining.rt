@@ -10,6 +10,7 @@ ghost use Rattle.command_line.specs.CommandLine.{ServesFor, ExplainsCommand, sta
 
 use crate::following::Followed;
 use explanations::Explainer;
+use fault_numbers::meaning_of;
 use line_streams::write_text;
 use operator_cli::{Command, Order, Policies, ServeFault, serve};
 use program_ends::Ended;
@@ -120,7 +121,8 @@ fn end_explained<E: Write>(
         Ok(status) => Ended { status, told: said },
         Err(fault) => {
             let number = fault.number();
-            let told = writeln!(errors, "fault {number}: {fault}").is_ok() && said;
+            let meaning = meaning_of(number);
+            let told = writeln!(errors, "fault {number}: {meaning}").is_ok() && said;
             Ended { status: 1, told }
         }
     }

@@ -1,2 +1,3 @@
 pub mod WordFacts
 pub mod NameFacts
+pub mod HelpFacts

@@ -1,18 +1,21 @@
 -- The words that the program takes, and what is read of them.
-use Rattle.std.specs.Prelude.{◌≡◌, ◌⊎◌, ℕ, Bool, true, false, List, [], ◌∷◌, Option, Some, None, Result, Ok, Err, codes}
-use Rattle.clap.specs.Words.{App, Shape, Rule, Row, new_rule, one_of, with_rule, with_subcommand, subcommand_of, matches_of, HasKind, Kinds}
+use Rattle.std.specs.Prelude.{◌≡◌, ◌⊎◌, ℕ, ◌<◌, ◌^◌, Bool, true, false, List, [], ◌∷◌, Option, Some, None, SomeIff, Result, Ok, Err, codes}
+use Rattle.std.specs.Str.Parse.{IsNumeral, digits_value, without_leading_plus}
+use Rattle.clap.specs.Words.{App, Shape, Rule, Row, new_rule, one_of, first_of, with_rule, with_subcommand, subcommand_of, matches_of, HasKind, Kinds}
 use Rattle.clap.specs.Simple.{new_shape}
-use Rattle.clap.specs.declared.builder.action.ArgAction.TheVariants.{SetTrue}
+use Rattle.clap.specs.declared.builder.action.ArgAction.TheVariants.{Set, SetTrue}
 use Rattle.clap.specs.declared.error.Error.{Error}
 use Rattle.operator_cli.specs.declared.orders.Command.{Command}
 use Rattle.operator_cli.specs.declared.orders.Command.TheVariants as command
 use Rattle.program_ends.specs.declared.wording.Unserved.{Unserved}
 use Rattle.program_ends.specs.Wordings.{IsUnserved}
 use Rattle.command_words.specs.declared.reading.Asked.{Asked}
+use Rattle.command_words.specs.declared.reading.Request.{Request}
+use Rattle.command_words.specs.declared.reading.Request.TheVariants as request
 
--- The words that the program takes: one of `script`, `audit`, `ballot` and `run`; `--explain` in front of it or
--- behind it, or at both places, and behind `run` also `--journal`; and on either level a request for help, on
--- the upper one also a request for the version.
+-- The words that the program takes: one of `script`, `audit`, `ballot` and `run`, with `--explain` before it or
+-- after it, or at both places, and after `run` also `--journal`; or `explain` and one word; or `help`. On either
+-- level help may be asked for by a flag, and on the upper one also the version.
 
 -- the flag of this name
 abbrev pub flag_rule : List ℕ → Rule
@@ -24,7 +27,7 @@ explain_rule = flag_rule (codes "explain")
 -- without the flag and the commands
 abbrev pub bare_app : App
 bare_app = record {
-  top = record (new_shape (codes "rwvote")) { has_version = true; subcommand_required = true; disable_help_subcommand = true };
+  top = record (new_shape (codes "rwvote")) { has_version = true; subcommand_required = true };
   subs = [];
 }
 
@@ -39,21 +42,33 @@ command_shape name = record (new_shape name) { rules = explain_rule ∷ [] }
 abbrev pub run_shape : Shape
 run_shape = record (new_shape (codes "run")) { rules = explain_rule ∷ flag_rule (codes "journal") ∷ [] }
 
+-- the command that explains a number, which is its one word
+abbrev pub number_rule : Rule
+number_rule = record (new_rule (codes "number")) { value_names = 1; required = true; action = Some Set }
+
+abbrev pub explain_shape : Shape
+explain_shape = record (new_shape (codes "explain")) { rules = number_rule ∷ [] }
+
 abbrev pub with_command : App → List ℕ → App
 with_command a name = with_subcommand a (command_shape name)
 
 abbrev pub app : App
-app = with_subcommand (with_command (with_command (with_command top_app (codes "script")) (codes "audit")) (codes "ballot")) run_shape
+app = with_subcommand (with_subcommand (with_command (with_command (with_command top_app (codes "script")) (codes "audit")) (codes "ballot")) run_shape) explain_shape
 
--- the name of a command
+-- the name of a command that is served
 abbrev pub IsName : List ℕ → Type 0
 IsName name = (name ≡ codes "script") ⊎ ((name ≡ codes "audit") ⊎ ((name ≡ codes "ballot") ⊎ (name ≡ codes "run")))
 
+-- the same, or the one that explains a number
+abbrev pub IsRequest : List ℕ → Type 0
+IsRequest name = IsName name ⊎ (name ≡ codes "explain")
+
 abbrev pub NamesOne : Option (List ℕ) → Type 0
 NamesOne None = ⊥
-NamesOne (Some name) = IsName name
+NamesOne (Some name) = IsRequest name
 
 -- What `clap` finds of a flag: the text `true` where it stands among the words, else `false` or nothing.
+-- That clap finds no other text is said by clap's own contract.
 pub record IsFlag (found : Option (List ℕ)) (set : Bool) : Type 0 where
   pub missing : found ≡ None → set ≡ false
   pub given : found ≡ Some (codes "true") → set ≡ true
@@ -79,20 +94,42 @@ found_in words = record { front = matches_of app words; named = subcommand_of ap
 abbrev pub AsksBehind : List ℕ → List Row → Asked → Type 0
 AsksBehind name rows a = IsCommand name rows a.command × IsFlag (one_of (codes "explain") rows) a.behind
 
-abbrev pub NamesBehind : Option (List ℕ × List Row) → Asked → Type 0
-NamesBehind None a = ⊥
-NamesBehind (Some named) a = AsksBehind named.0 named.1 a
+-- A word that is a number: decimal digits, and below 2 ^ 16.
+abbrev pub number_value : List ℕ → ℕ
+number_value text = digits_value 10 (without_leading_plus text)
 
--- the command that was found, and where `--explain` stands
-abbrev pub Names : FoundWords → Asked → Type 0
-Names found a = NamesBehind found.named a × IsFlag (one_of (codes "explain") found.front) a.front
+pub record IsNumber (text : List ℕ) : Type 0 where
+  pub digits : IsNumeral 10 (without_leading_plus text)
+  pub few : number_value text < 2 ^ 16
+
+-- the number that is to be explained, if the word is one
+abbrev pub TellsNumber : Option (List ℕ) → Option ℕ → Type 0
+TellsNumber None r = r ≡ None
+TellsNumber (Some text) r = SomeIff r (IsNumber text) (number_value text)
+
+-- what is asked for by a name, what was found after it, and whether `--explain` is before it
+abbrev pub RequestsBehind : Bool → List ℕ → List Row → Request → Type 0
+RequestsBehind front name rows (request.Serve a) = AsksBehind name rows a × (a.front ≡ front)
+RequestsBehind front name rows (request.Explain number) = (name ≡ codes "explain") × TellsNumber (first_of (codes "number") rows) number
+
+-- the same of what was found
+abbrev pub RequestsNamed : Bool → Option (List ℕ × List Row) → Request → Type 0
+RequestsNamed front None r = ⊥
+RequestsNamed front (Some named) r = RequestsBehind front named.0 named.1 r
+
+abbrev pub Requests : Option (List ℕ × List Row) → List Row → Request → Type 0
+Requests named front r = (set : Bool) × IsFlag (one_of (codes "explain") front) set × RequestsNamed set named r
+
+-- what was found in the words
+abbrev pub Names : FoundWords → Request → Type 0
+Names found r = Requests found.named found.front r
 
 -- How words were parsed that may fail by these kinds, or else name a command.
-abbrev pub Parses : Kinds → FoundWords → Result Asked Error → Type 0
-Parses kinds found (Ok a) = (kinds ≡ []) × Names found a
+abbrev pub Parses : Kinds → FoundWords → Result Request Error → Type 0
+Parses kinds found (Ok r) = (kinds ≡ []) × Names found r
 Parses kinds found (Err e) = HasKind kinds e
 
 -- The same, and what is to be said where no command is named.
-abbrev pub ReadsWords : Kinds → FoundWords → Result Asked Unserved → Type 0
-ReadsWords kinds found (Ok a) = (kinds ≡ []) × Names found a
+abbrev pub ReadsWords : Kinds → FoundWords → Result Request Unserved → Type 0
+ReadsWords kinds found (Ok r) = (kinds ≡ []) × Names found r
 ReadsWords kinds found (Err u) = IsUnserved kinds u

@@ -1,12 +1,13 @@
 //! The words that the program takes, their help, and what is read of them.
 //!
-//! `read_words` reads words by `clap`, and answers which command they name and whether `--explain` and `--journal`
-//! stand there, or what is to be said where they name none. It promises that just this is answered, by what `clap`
-//! finds in the words.
+//! `read_words` reads words by `clap`. It returns what they ask for: to serve a command, with or without `--explain`
+//! and `--journal`, or to explain a number. Else it returns what is to be said: help, the version, or what is wrong.
+//! It promises that just this is returned, by what `clap` finds in the words.
 //!
 //! It stands on `program_ends` for what is said of words, `operator_cli` for the commands, and `clap`.
 #![tactic(auto)]
 
+mod help;
 mod reading;
 
-pub use reading::{Asked, read_words};
+pub use reading::{Asked, Request, read_words};

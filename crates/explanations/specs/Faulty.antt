@@ -1,8 +1,8 @@
 -- What is at fault in settings that are refused.
 use Rattle.std.specs.Prelude.{ℕ, Bool, true, false, Option, Some, None, option_and_then, Result, Ok, Err}
 use Rattle.toml.specs.Data.{Data, as_integer}
-use Rattle.history_check.specs.declared.faults.LineFault.{LineFault}
-use Rattle.history_check.specs.declared.wishes.Wish.{Wish}
+use Rattle.event_lines.specs.declared.faults.LineFault.{LineFault}
+use Rattle.event_lines.specs.declared.wishes.Wish.{Wish}
 use Rattle.operator_cli.specs.declared.faults.SettingsFault.{SettingsFault}
 use Rattle.operator_cli.specs.declared.faults.SettingsFault.TheVariants as fault
 use Rattle.operator_cli.specs.Settings.{within}

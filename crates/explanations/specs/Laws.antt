@@ -1,7 +1,7 @@
 -- That what there is to say of a line of a journal is what the verdict on the journal says of it.
 use Rattle.std.specs.Prelude.{◌≡◌, ℕ, List, Option, Some, None}
 use Rattle.world_model.specs.declared.exact.ExactWorld.{ExactWorld}
-use Rattle.history_check.specs.Events.{event_of}
+use Rattle.event_lines.specs.Events.{event_of}
 use Rattle.journal_audit.specs.declared.verdicts.Cause.{Cause}
 use Rattle.journal_audit.specs.declared.verdicts.Cause.TheVariants as cause
 use Rattle.journal_audit.specs.declared.verdicts.Verdict.{Verdict}

@@ -5,11 +5,11 @@ use Rattle.world_model.specs.declared.events.Event.{Event}
 use Rattle.world_model.specs.declared.events.StepFault.TheVariants as refusal
 use Rattle.world_model.specs.declared.exact.ExactWorld.{ExactWorld}
 use Rattle.world_model.specs.ExactWorlds.{Steps, step}
-use Rattle.history_check.specs.declared.faults.LineFault.{LineFault}
-use Rattle.history_check.specs.declared.lines.Line.{Line}
-use Rattle.history_check.specs.declared.lines.Line.TheVariants as line
-use Rattle.history_check.specs.declared.lines.Query.{Query}
-use Rattle.history_check.specs.Events.{event_of}
+use Rattle.event_lines.specs.declared.faults.LineFault.{LineFault}
+use Rattle.event_lines.specs.declared.lines.Line.{Line}
+use Rattle.event_lines.specs.declared.lines.Line.TheVariants as line
+use Rattle.event_lines.specs.declared.lines.Query.{Query}
+use Rattle.event_lines.specs.Events.{event_of}
 use Rattle.operator_cli.specs.Lines.{line_of}
 use Rattle.operator_cli.specs.Outputs.{found, told}
 use Rattle.explanations.specs.declared.remarks.Kind.{Kind}

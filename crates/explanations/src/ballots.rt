@@ -1,16 +1,18 @@
-// Which ballot of the settings is none, and which wish.
+// Which ballot of the settings is refused, and which wish, and why.
 
 ghost use Rattle.std.specs.Prelude.{◌≡◌, Some};
 ghost use Rattle.operator_cli.specs.Settings.{wish_from};
 ghost use Rattle.explanations.specs.Faulty.{wish_fault};
 
-use history_check::{LineFault, read_wish, read_wish_among};
+use crate::wrong_words::push_wrong_wish_word;
+use event_lines::{LineFault, read_wish_among};
+use fault_numbers::meaning_of;
 use std::alloc::{AllocError, Global};
 use toml::{Table, Value};
-use vote_weights::{Ballot, BallotFault};
+use vote_weights::{Ballot, BallotFault, MAX_BALLOTS};
 
 /// The integer at a key, which was judged to be one of so many bits.
-fn number_at(table: &Table, key: &str) -> u16 {
+pub fn number_at(table: &Table, key: &str) -> u16 {
     match table.get(key) {
         Some(value) => value.as_integer().unwrap_or(0).clamp(0, 65_535) as u16,
         None => 0,
@@ -36,10 +38,13 @@ fn is_refused(alloc: Global, table: &Table) -> Result<bool, AllocError> {
     Ok(Ballot::of(votes.as_slice(), read, write).is_err())
 }
 
-/// The place of the first ballot that is none.
-fn refused_place(alloc: Global, table: &Table) -> Result<Option<usize>, AllocError> {
+/// The first ballot that is refused: its place, and its table.
+fn refused_in<'a>(
+    alloc: Global,
+    table: &'a Table,
+) -> Result<Option<(usize, &'a Table)>, AllocError> {
     if is_refused(alloc, table)? {
-        return Ok(Some(1));
+        return Ok(Some((1, table)));
     }
     let Some(Value::Array(values)) = table.get("more") else {
         return Ok(None);
@@ -47,39 +52,61 @@ fn refused_place(alloc: Global, table: &Table) -> Result<Option<usize>, AllocErr
     for (before, value) in values.iter().enumerate() {
         if let Value::Table(one) = value {
             if is_refused(alloc, one)? {
-                return Ok(Some(before.saturating_add(2)));
+                return Ok(Some((before.saturating_add(2), one)));
             }
         }
     }
     Ok(None)
 }
 
-/// Adds at which place the ballot stands that is none, where there are several. Ballots that make no list are
-/// named by the fault itself.
-pub fn push_place(
+/// Adds the numbers of a table's ballot that it is refused for.
+fn push_numbers(
     alloc: Global,
     text: &mut String,
     table: &Table,
     fault: BallotFault,
 ) -> Result<(), AllocError> {
+    let votes = votes_in(alloc, table)?;
+    let total = votes
+        .iter()
+        .fold(0_u32, |sum, votes| sum.saturating_add(u32::from(*votes)));
+    let (read, write) = (number_at(table, "read"), number_at(table, "write"));
     match fault {
-        BallotFault::BallotsMiss(..) | BallotFault::NoBallot | BallotFault::TooManyBallots => Ok(
-            (),
+        BallotFault::TooManyNodes => write!(text, ": votes has {}", votes.len()),
+        BallotFault::OverTotal => write!(
+            text,
+            ": read is {read}, write is {write}, and the total is {total}"
         ),
-        BallotFault::NoNode
-        | BallotFault::TooManyNodes
-        | BallotFault::OverTotal
-        | BallotFault::ReadsMissWrites
-        | BallotFault::WritesMiss => {
-            if table.get("more").is_none() {
-                return Ok(());
-            }
-            match refused_place(alloc, table)? {
-                Some(place) => write!(text, " (at place {place})"),
-                None => Ok(()),
-            }
+        BallotFault::ReadsMissWrites => {
+            write!(text, ": {read} + {write} is not greater than {total}")
         }
+        BallotFault::WritesMiss => write!(text, ": 2 * {write} is not greater than {total}"),
+        BallotFault::NoNode
+        | BallotFault::BallotsMiss(..)
+        | BallotFault::NoBallot
+        | BallotFault::TooManyBallots => Ok(()),
     }
+}
+
+/// Adds why the ballots of settings are refused, and at which place, if there are several.
+pub fn push_ballot_fault(
+    alloc: Global,
+    text: &mut String,
+    table: &Table,
+    fault: BallotFault,
+) -> Result<(), AllocError> {
+    text.push_str(meaning_of(fault.number()))?;
+    if let BallotFault::BallotsMiss(first, second) = fault {
+        return write!(text, ": those at places {first} and {second}");
+    }
+    let Some((place, ballot)) = refused_in(alloc, table)? else {
+        return Ok(());
+    };
+    push_numbers(alloc, text, ballot, fault)?;
+    if table.get("more").is_none() {
+        return Ok(());
+    }
+    write!(text, " (ballot {place})")
 }
 
 /// How many ballots the settings have.
@@ -109,26 +136,23 @@ fn wrong_wish(clients: u16, ballots: usize, text: &str) -> Option<LineFault>
     }
 }
 
-/// Adds what a wish meets in the settings, where it is spelled as one.
-fn push_limits(
+/// Adds what is wrong with a wish of the settings: its first wrong word, or what the fault's number means.
+fn push_wish_fault(
+    alloc: Global,
     text: &mut String,
     table: &Table,
     wish: &str,
     fault: LineFault,
 ) -> Result<(), AllocError> {
-    if read_wish(wish.as_bytes()).is_err() {
+    let ballots = count_of(table).clamp(1, MAX_BALLOTS as usize) as u8;
+    if push_wrong_wish_word(alloc, text, clients_of(table), ballots, wish)? {
         return Ok(());
     }
-    let (clients, ballots) = (clients_of(table), count_of(table));
-    match fault {
-        LineFault::Actor => write!(text, ", and the last client is c{clients}"),
-        LineFault::Number => write!(text, ", and the last ballot stands at place {ballots}"),
-        LineFault::Word | LineFault::Name | LineFault::Words => Ok(()),
-    }
+    text.push_str(meaning_of(fault.number()))
 }
 
-/// Adds which wish is the first that is none, and why.
-pub fn push_wrong_wish(text: &mut String, table: &Table) -> Result<(), AllocError> {
+/// Adds which wish is the first that is wrong, and why.
+pub fn push_wrong_wish(alloc: Global, text: &mut String, table: &Table) -> Result<(), AllocError> {
     let Some(Value::Array(values)) = table.get("wishes") else {
         return Ok(());
     };
@@ -136,9 +160,8 @@ pub fn push_wrong_wish(text: &mut String, table: &Table) -> Result<(), AllocErro
     for (before, value) in values.iter().enumerate() {
         let wish = value.as_str().unwrap_or("");
         if let Some(fault) = wrong_wish(clients, ballots, wish) {
-            let (place, number) = (before.saturating_add(1), fault.number());
-            write!(text, "wish {place} is none: {number}, {fault}: {wish:?}")?;
-            return push_limits(text, table, wish, fault);
+            write!(text, "wish {}: ", before.saturating_add(1))?;
+            return push_wish_fault(alloc, text, table, wish, fault);
         }
     }
     Ok(())

@@ -5,7 +5,7 @@ ghost use Rattle.std.specs.Prelude.{◌≡◌};
 use crate::heads::push_settings_fault;
 use crate::plays::Play;
 use crate::remarks::Kind;
-use history_check::MAX_LINE_LEN;
+use event_lines::MAX_LINE_LEN;
 use lock_messages::MAX_NODES;
 use operator_cli::{Command, Policies, SettingsFault, read_settings};
 use std::alloc::{AllocError, Global};

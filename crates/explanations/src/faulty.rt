@@ -5,7 +5,7 @@ ghost use Rattle.toml.specs.Data.{get_member};
 ghost use Rattle.toml.specs.View.{view, table_view};
 ghost use Rattle.explanations.specs.Faulty.{wrong_in, wrong_number};
 
-use history_check::MAX_WISHES;
+use event_lines::MAX_WISHES;
 use lock_messages::MAX_CLIENTS;
 use operator_cli::Command;
 use std::alloc::AllocError;
@@ -32,11 +32,17 @@ enum Wrong {
 fn push_wrong(text: &mut String, key: &str, wrong: Wrong) -> Result<(), AllocError> {
     match wrong {
         Wrong::Missing => write!(text, "{key} is missing"),
-        Wrong::NoNumber(least, most) => write!(text, "{key} is no number from {least} to {most}"),
-        Wrong::NoSeed => write!(text, "{key} is no number from 0 to {}", i64::MAX),
-        Wrong::NoVotes => write!(text, "{key} is no list of numbers from 0 to 255"),
-        Wrong::NoBallots => write!(text, "{key} is no list of tables of votes, read and write"),
-        Wrong::NoWishes => write!(text, "{key} is no list of at most {MAX_WISHES} texts"),
+        Wrong::NoNumber(least, most) => write!(
+            text,
+            "{key} must be a number from {least} to {most}"
+        ),
+        Wrong::NoSeed => write!(text, "{key} must be a number from 0 to {}", i64::MAX),
+        Wrong::NoVotes => write!(text, "{key} must be a list of numbers from 0 to 255"),
+        Wrong::NoBallots => write!(
+            text,
+            "{key} must be a list of tables with votes, read and write"
+        ),
+        Wrong::NoWishes => write!(text, "{key} must be a list of at most {MAX_WISHES} texts"),
     }
 }
 
@@ -158,17 +164,17 @@ fn tells_ballot(key: &str) -> bool {
 /// Adds what is wrong with a table of `more`, the ballot at this place; answers whether anything is.
 fn push_wrong_table(text: &mut String, place: usize, value: &Value) -> Result<bool, AllocError> {
     let Value::Table(table) = value else {
-        write!(text, "the ballot at place {place} is no table")?;
+        write!(text, "ballot {place} must be a table")?;
         return Ok(true);
     };
     if let Some(key) = table.keys().find(|key| !tells_ballot(key.as_str())) {
-        write!(text, "the ballot at place {place} has a key {key:?}")?;
+        write!(text, "ballot {place} has the unknown key {key:?}")?;
         return Ok(true);
     }
     let Some((key, wrong)) = wrong_of_ballot(table) else {
         return Ok(false);
     };
-    write!(text, "of the ballot at place {place} ")?;
+    write!(text, "ballot {place}: ")?;
     push_wrong(text, key, wrong)?;
     Ok(true)
 }

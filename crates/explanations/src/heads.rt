@@ -1,7 +1,8 @@
 // Why settings are refused, in words.
 
-use crate::ballots::{push_place, push_wrong_wish};
+use crate::ballots::{number_at, push_ballot_fault, push_wrong_wish};
 use crate::faulty::{push_unknown_key, push_wrong_value};
+use fault_numbers::meaning_of;
 use operator_cli::{Command, SettingsFault};
 use std::alloc::{AllocError, Global};
 use std::str;
@@ -21,10 +22,10 @@ fn is_dashes_with_return(line: &[u8]) -> bool {
     line == b"---\r".as_slice()
 }
 
-/// Adds why a text is no TOML document, and in which line.
+/// Adds why a text is not a TOML document, and in which line.
 fn push_no_document(text: &mut String, alloc: Global, head: &[u8]) -> Result<(), AllocError> {
     let Ok(document) = str::from_utf8(head) else {
-        return text.push_str(": they are no UTF-8 text");
+        return text.push_str(": not UTF-8 text");
     };
     let Err(error) = toml::table_from_str(alloc, document) else {
         return Ok(());
@@ -34,7 +35,7 @@ fn push_no_document(text: &mut String, alloc: Global, head: &[u8]) -> Result<(),
     }
     let line = line_of(head, error.span().map_or(0, |span| span.start));
     let why = error.message();
-    write!(text, ": line {line} of the input: {why}")
+    write!(text, ": input line {line}: {why}")
 }
 
 /// Adds a hint where the line of dashes ends with a carriage return.
@@ -45,14 +46,24 @@ fn push_return_hint(text: &mut String, head: &[u8]) -> Result<(), AllocError> {
             let line = before.saturating_add(1);
             write!(
                 text,
-                "\nhint: line {line} of the input is `---` with a carriage return; lines end with a line feed alone"
+                "\nhint: input line {line} is `---` with a carriage return: lines end with a line feed alone"
             )
         }
         None => Ok(()),
     }
 }
 
-/// Adds which key, ballot or wish of a document is at fault, and behind it why.
+/// Adds how the weather of settings is more than a thousand.
+fn push_weather(text: &mut String, table: &Table) -> Result<(), AllocError> {
+    let (lose, twice, late) = (
+        number_at(table, "lose"),
+        number_at(table, "twice"),
+        number_at(table, "late"),
+    );
+    write!(text, ": {lose} + {twice} + {late}")
+}
+
+/// Adds which key, ballot or wish of a document is at fault, and why.
 fn push_at(
     alloc: Global,
     text: &mut String,
@@ -60,29 +71,33 @@ fn push_at(
     table: &Table,
     fault: SettingsFault,
 ) -> Result<(), AllocError> {
-    let number = fault.number();
+    let meaning = meaning_of(fault.number());
     match fault {
-        SettingsFault::Value => {
-            write!(text, "settings fault {number}: ")?;
-            push_wrong_value(text, command, table)
-        }
-        SettingsFault::Wish(_) => push_wrong_wish(text, table),
-        SettingsFault::Ballot(why) if command == Command::Ballot => {
-            write!(text, "refused {number}: {why}")?;
-            push_place(alloc, text, table, why)
-        }
-        SettingsFault::Ballot(why) => {
-            write!(text, "settings fault {number}: {fault}")?;
-            push_place(alloc, text, table, why)
-        }
+        SettingsFault::Value => push_wrong_value(text, command, table),
+        SettingsFault::Wish(_) => push_wrong_wish(alloc, text, table),
+        SettingsFault::Ballot(why) => push_ballot_fault(alloc, text, table, why),
         SettingsFault::UnknownKey => {
-            write!(text, "settings fault {number}: {fault}")?;
+            text.push_str(meaning)?;
             push_unknown_key(text, table)
         }
-        SettingsFault::NoEnd
-        | SettingsFault::NoDocument
-        | SettingsFault::Weather(_)
-        | SettingsFault::Memory => write!(text, "settings fault {number}: {fault}"),
+        SettingsFault::Weather(_) => {
+            text.push_str(meaning)?;
+            push_weather(text, table)
+        }
+        SettingsFault::NoEnd | SettingsFault::NoDocument | SettingsFault::Memory => {
+            text.push_str(meaning)
+        }
+    }
+}
+
+/// Adds how the line of a settings fault begins. If the ballots are asked for, a refused one is an answer.
+fn push_front(text: &mut String, command: Command, fault: SettingsFault) -> Result<(), AllocError> {
+    let number = fault.number();
+    match fault {
+        SettingsFault::Ballot(_) if command == Command::Ballot => {
+            write!(text, "refused {number}: ")
+        }
+        _ => write!(text, "settings fault {number}: "),
     }
 }
 
@@ -102,17 +117,17 @@ pub fn push_settings_fault(
     head: &[u8],
     fault: SettingsFault,
 ) -> Result<(), AllocError> {
-    let number = fault.number();
+    push_front(text, command, fault)?;
     match fault {
         SettingsFault::NoEnd => {
-            write!(text, "settings fault {number}: {fault}")?;
+            text.push_str(meaning_of(fault.number()))?;
             push_return_hint(text, head)?;
         }
         SettingsFault::NoDocument => {
-            write!(text, "settings fault {number}: {fault}")?;
+            text.push_str(meaning_of(fault.number()))?;
             push_no_document(text, alloc, head)?;
         }
-        SettingsFault::Memory => write!(text, "settings fault {number}: {fault}")?,
+        SettingsFault::Memory => text.push_str(meaning_of(fault.number()))?,
         SettingsFault::UnknownKey
         | SettingsFault::Value
         | SettingsFault::Ballot(_)

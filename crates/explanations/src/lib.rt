@@ -1,15 +1,14 @@
 //! What is said in words of an input, beside what a command prints of it.
 //!
-//! An `Explainer` sees the bytes of an input as a command reads them, and adds a line of text for each refusal,
-//! fault and verdict: its number, its place, the words of the fault's own type, and of which event, key,
-//! ballot or wish it is. It plays the lines in a world of its own, beside the one of the command, so nothing
-//! that it does can change what is printed; `Stages` follows by each event where the actors stand, which no
-//! world tells. `RunWords` sees the journal of a run, and adds who entered what, which wishes were left, and
-//! in which wish an actor ended by a fault.
+//! An `Explainer` sees the bytes of an input as a command reads them. It adds a line of text for each refusal, fault
+//! and verdict: its place in the input, its number, what the number means, and which event, word, key, ballot or
+//! wish is wrong. It plays the lines in a world of its own, so nothing that it does can change what the command
+//! prints. `Stages` follows the events to know what each actor does. `RunWords` sees the journal of a run, and adds
+//! who entered what, which wishes were not done, and in which wish an actor ended with a fault.
 //!
-//! It stands on `operator_cli` for settings, `history_check` for lines and wishes, `journal_audit`,
-//! `event_recorders` for the faults of a run, `world_machine`, `world_model`, `vote_weights`, `lock_messages`,
-//! `lock_model` and `toml`.
+//! It stands on `fault_numbers` for what numbers mean, `operator_cli` for settings, `event_lines` for lines and
+//! wishes, `journal_audit`, `event_recorders` for the faults of a run, `world_machine`, `world_model`,
+//! `vote_weights`, `lock_messages`, `lock_model` and `toml`.
 #![tactic(auto)]
 
 mod ballots;
@@ -22,6 +21,7 @@ mod refusals;
 mod remarks;
 mod runs;
 mod stages;
+mod wrong_words;
 
 pub use explaining::Explainer;
 pub use runs::RunWords;

@@ -6,7 +6,9 @@ ghost use Rattle.lock_messages.specs.declared.ids.TheConstants.{MAX_NODES, MAX_C
 use crate::refusals::{Scene, push_no_node, push_refusal};
 use crate::remarks::{Kind, Remark, begins_query, goes_on, remark_on};
 use crate::stages::Stages;
-use history_check::{Line, LineFault, write_line};
+use crate::wrong_words::push_wrong_line;
+use event_lines::{Line, LineFault, write_line};
+use fault_numbers::meaning_of;
 use journal_audit::MAX_LINES;
 use lock_messages::{Actor, ClientId, NodeId};
 use operator_cli::{Policies, ServeFault, Settings, world_down};
@@ -15,9 +17,12 @@ use std::str;
 use world_machine::World;
 use world_model::{Age, Event, StepFault};
 
-/// What is said where a line of a journal begins as a query does.
+/// What is said if a line of a journal begins as a query does.
 const QUERY_HINT: &str =
-    "hint: the line begins as a query does; `rwvote script` answers queries, and a journal has events alone\n";
+    "hint: this is a query: `rwvote script` answers queries, a journal has only events\n";
+
+/// What is said if the words of a line have more than one space between them.
+const SPACE_HINT: &str = "hint: words are separated by exactly one space\n";
 
 /// Lines that are played once more, beside the command that serves them: they have a world of their own.
 #[derive(Drop)]
@@ -67,32 +72,41 @@ fn raise_clients(world: &mut World, clients: u16) -> Result<(), AllocError>
     Ok(())
 }
 
-/// Adds a line as it was read, where it is a text.
-fn push_quoted(text: &mut String, line: &[u8]) -> Result<(), AllocError> {
-    match str::from_utf8(line) {
-        Ok(line) => write!(text, ": {line:?}"),
-        Err(_) => text.push_str(": it is no UTF-8 text"),
-    }
-}
-
 /// Adds that a line of this kind is blank.
 fn push_blank_hint(text: &mut String, kind: Kind) -> Result<(), AllocError> {
     match kind {
         Kind::Script => text.push_str(
-            "hint: the line is blank; behind `---` each line is an event or a query\n",
+            "hint: the line is blank: after `---` each line is an event or a query\n",
         ),
         Kind::Journal => {
-            text.push_str("hint: the line is blank; behind `---` each line is an event\n")
+            text.push_str("hint: the line is blank: after `---` each line is an event\n")
         }
     }
 }
 
-/// Adds what is wrong with a line of this kind.
-fn push_line_fault(text: &mut String, kind: Kind, fault: LineFault) -> Result<(), AllocError> {
-    match (kind, fault) {
-        (Kind::Journal, LineFault::Word) => text.push_str("no event has this word"),
-        _ => write!(text, "{fault}"),
+/// Adds what is wrong with a line of this kind: its first wrong word, or what the fault's number means.
+fn push_line_fault(
+    alloc: Global,
+    text: &mut String,
+    kind: Kind,
+    line: &[u8],
+    fault: LineFault,
+) -> Result<(), AllocError> {
+    let Ok(words) = str::from_utf8(line) else {
+        text.push_str(meaning_of(fault.number()))?;
+        return text.push_str(": the line is not UTF-8 text");
+    };
+    if push_wrong_line(alloc, text, words, kind == Kind::Script)? {
+        return Ok(());
     }
+    text.push_str(meaning_of(fault.number()))
+}
+
+/// Whether two words of a line have more than one space between them, or one ends it.
+fn has_stray_space(line: &[u8]) -> bool {
+    line.split(|byte| *byte == b' ')
+        .skip(1)
+        .any(|word| word.is_empty())
 }
 
 /// Adds a hint on a line that is no event and no query.
@@ -101,12 +115,15 @@ fn push_line_hint(text: &mut String, kind: Kind, line: &[u8]) -> Result<(), Allo
         return push_blank_hint(text, kind);
     }
     if line.starts_with(b"#".as_slice()) {
-        return text.push_str("hint: comments stand in front of `---` alone\n");
+        return text.push_str("hint: comments are allowed only above the line `---`\n");
     }
     if line.ends_with(b"\r".as_slice()) {
         return text.push_str(
-            "hint: the line ends with a carriage return; lines end with a line feed alone\n",
+            "hint: the line ends with a carriage return: lines end with a line feed alone\n",
         );
+    }
+    if has_stray_space(line) {
+        return text.push_str(SPACE_HINT);
     }
     Ok(())
 }
@@ -150,30 +167,18 @@ impl Play {
         self.before.saturating_add(self.read)
     }
 
-    /// Adds that a line is refused: of a script behind its number, of a journal as its verdict.
+    /// Adds that a line is refused, and why.
     fn push_refused(
         &self,
         text: &mut String,
         line: &Line,
         fault: StepFault,
     ) -> Result<(), AllocError> {
-        let (number, place, read) = (fault.number(), self.line_of_input(), self.read);
+        let (number, place) = (fault.number(), self.line_of_input());
         let said = write_line(self.alloc, line)?;
-        match self.kind {
-            Kind::Script => {
-                write!(text, "line {read}: refused {number}: ")?;
-                self.push_why(text, line, fault)?;
-                writeln!(text, " ({said}, line {place} of the input)")
-            }
-            Kind::Journal => {
-                write!(
-                    text,
-                    "unsound {read} refused {number}: {said} (line {place} of the input): "
-                )?;
-                self.push_why(text, line, fault)?;
-                text.push_str("\n")
-            }
-        }
+        write!(text, "input line {place}: refused {number}: ")?;
+        self.push_why(text, line, fault)?;
+        writeln!(text, " ({said})")
     }
 
     /// Adds why a line is refused.
@@ -193,10 +198,10 @@ impl Play {
     fn push_other_command(&self, text: &mut String, fault: StepFault) -> Result<(), AllocError> {
         match (self.kind, fault) {
             (Kind::Script, StepFault::Up) if self.read == 1 => text.push_str(
-                "hint: in a journal all are down at first and then rise, and `rwvote audit` judges it; a script begins with all of them up\n",
+                "hint: a script begins with all actors up: if this is a journal, use `rwvote audit`\n",
             ),
             (Kind::Journal, StepFault::Down) if self.read == 1 => text.push_str(
-                "hint: in a script all are up at first, and `rwvote script` plays it; a journal begins with all of them down\n",
+                "hint: a journal begins with all actors down: if this is a script, use `rwvote script`\n",
             ),
             _ => Ok(()),
         }
@@ -209,14 +214,10 @@ impl Play {
         line: &[u8],
         fault: LineFault,
     ) -> Result<(), AllocError> {
-        let (number, place, read) = (fault.number(), self.line_of_input(), self.read);
-        match self.kind {
-            Kind::Script => write!(text, "line {read} fault {number}: ")?,
-            Kind::Journal => write!(text, "unsound {read} fault {number}: ")?,
-        }
-        push_line_fault(text, self.kind, fault)?;
-        push_quoted(text, line)?;
-        writeln!(text, " (line {place} of the input)")?;
+        let (number, place) = (fault.number(), self.line_of_input());
+        write!(text, "input line {place}: fault {number}: ")?;
+        push_line_fault(self.alloc, text, self.kind, line, fault)?;
+        text.push_str("\n")?;
         if self.kind == Kind::Journal && begins_query(line) {
             return text.push_str(QUERY_HINT);
         }

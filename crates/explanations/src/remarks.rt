@@ -7,7 +7,7 @@ ghost use Rattle.operator_cli.specs.PartOutputs.{Finds};
 ghost use Rattle.explanations.specs.Remarks.{step_remark, query_remark, line_in, remark_of, world_behind, goes_on};
 
 use crate::stages::Stages;
-use history_check::{Line, LineFault, Query, read_event};
+use event_lines::{Line, LineFault, Query, read_event};
 use lock_messages::Ticket;
 use operator_cli::read_line;
 use std::alloc::AllocError;

@@ -1,12 +1,16 @@
 // What is said of a run of all parts: who entered what, who ended by a fault, and which wishes were left.
 
+use event_lines::{MAX_LINE_LEN, Wish, read_event};
 use event_recorders::RunFault;
-use history_check::{MAX_LINE_LEN, Wish, read_event};
+use fault_numbers::meaning_of;
 use lock_messages::{Actor, ClientId};
 use std::alloc::{AllocError, Global};
 use std::io;
 use std::io::{ErrorKind, Write};
 use world_model::Event;
+
+/// How many retry signals a client of a run may get in a wish.
+const RETRIES: u32 = 1_000;
 
 /// What the journal of a run tells of a client.
 #[derive(Clone, Copy)]
@@ -89,7 +93,7 @@ fn push_left(text: &mut String, wishes: &[Wish], done: &[bool]) -> Result<(), Al
         if !*done {
             write!(
                 text,
-                "wish {} is left: {} ",
+                "wish {} was not done: {} ",
                 before.saturating_add(1),
                 wish.client
             )?;
@@ -113,10 +117,19 @@ fn push_wish_of(
         .filter(|(_, wish)| wish.client == client);
     match own.skip(number as usize).next() {
         Some((before, wish)) => {
-            write!(text, " in wish {}, ", before.saturating_add(1))?;
-            push_deed(text, wish)
+            write!(text, " in wish {} (", before.saturating_add(1))?;
+            push_deed(text, wish)?;
+            text.push_str(")")
         }
-        None => text.push_str(" behind its last wish"),
+        None => text.push_str(" after its last wish"),
+    }
+}
+
+/// Adds why an actor ended.
+fn push_why(text: &mut String, fault: RunFault) -> Result<(), AllocError> {
+    match fault {
+        RunFault::GaveUp => write!(text, "gave up after {RETRIES} retries"),
+        _ => text.push_str(meaning_of(fault.number())),
     }
 }
 
@@ -214,7 +227,8 @@ impl RunWords {
         faults: &[(Actor, RunFault)],
     ) -> Result<(), AllocError> {
         for (actor, fault) in faults {
-            write!(text, "{actor} fault {}: {fault}", fault.number())?;
+            write!(text, "{actor} fault {}: ", fault.number())?;
+            push_why(text, *fault)?;
             if let Actor::Client(client) = *actor {
                 let visits = self.visits_of(client);
                 let before = visits.entered.saturating_sub(u32::from(visits.inside));

@@ -54,11 +54,11 @@ pub struct ClientStage {
 impl fmt::Display for NodePhase {
     fn fmt<W: fmt::Write>(&self, f: &mut fmt::Formatter<W>) -> fmt::Result {
         f.write_str(match self {
-            NodePhase::Down => "it is down",
-            NodePhase::Idle => "it is idle",
-            NodePhase::Decided => "it has yet to try what it decided",
-            NodePhase::Trying => "it has yet to keep what it decided",
-            NodePhase::Stored => "it has yet to say its replies",
+            NodePhase::Down => "is down",
+            NodePhase::Idle => "is idle",
+            NodePhase::Decided => "has not tried its decision yet",
+            NodePhase::Trying => "has not kept its decision yet",
+            NodePhase::Stored => "has not said its replies yet",
         })
     }
 }
@@ -66,14 +66,14 @@ impl fmt::Display for NodePhase {
 impl fmt::Display for ClientStage {
     fn fmt<W: fmt::Write>(&self, f: &mut fmt::Formatter<W>) -> fmt::Result {
         f.write_str(match self.phase {
-            ClientPhase::Down => "it is down",
-            ClientPhase::Idle => "it is idle",
-            ClientPhase::Chosen => "it has yet to try the attempt that it chose",
-            ClientPhase::Trying => "it has yet to keep the attempt that it chose",
-            ClientPhase::Asking => "it asks, and is not inside",
-            ClientPhase::Inside if self.softened => "it is inside, and has softened",
-            ClientPhase::Inside if self.mode == Mode::Read => "it is inside as a reader",
-            ClientPhase::Inside => "it is inside as a writer",
+            ClientPhase::Down => "is down",
+            ClientPhase::Idle => "is idle",
+            ClientPhase::Chosen => "has not tried its attempt yet",
+            ClientPhase::Trying => "has not kept its attempt yet",
+            ClientPhase::Asking => "is asking, and not inside",
+            ClientPhase::Inside if self.softened => "is inside, and has softened",
+            ClientPhase::Inside if self.mode == Mode::Read => "is inside as a reader",
+            ClientPhase::Inside => "is inside as a writer",
         })
     }
 }
@@ -223,13 +223,13 @@ impl Stages {
     }
 
     /// How many nodes there are.
-    pub fn node_count(&self) -> usize {
-        self.nodes.len()
+    pub fn node_count(&self) -> u32 {
+        self.nodes.len().clamp(0, 16) as u32
     }
 
     /// How many clients there are.
-    pub fn client_count(&self) -> usize {
-        self.clients.len()
+    pub fn client_count(&self) -> u32 {
+        self.clients.len().clamp(0, 1_024) as u32
     }
 
     /// How many messages were sent.

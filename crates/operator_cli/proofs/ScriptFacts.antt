@@ -5,15 +5,15 @@ use Rattle.std.proofs.lemmas.List.{append-nil}
 use Rattle.std.proofs.lemmas.Bool.Decides.{nat_tests}
 use Rattle.std.proofs.KnownBytes.{Appends-trans, Appends-kept}
 use Rattle.world_model.specs.declared.exact.ExactWorld.{ExactWorld}
-use Rattle.history_check.specs.declared.faults.LineFault.{LineFault}
-use Rattle.history_check.specs.declared.faults.LineFault.TheVariants as bad
+use Rattle.event_lines.specs.declared.faults.LineFault.{LineFault}
+use Rattle.event_lines.specs.declared.faults.LineFault.TheVariants as bad
 use Rattle.operator_cli.specs.declared.faults.ServeFault.{ServeFault}
-use Rattle.history_check.specs.declared.lines.Line.{Line}
-use Rattle.history_check.specs.declared.words.TheConstants.{MAX_LINE_LEN}
+use Rattle.event_lines.specs.declared.lines.Line.{Line}
+use Rattle.event_lines.specs.declared.words.TheConstants.{MAX_LINE_LEN}
 use Rattle.line_streams.specs.declared.reading.End.{End}
 use Rattle.line_streams.specs.declared.reading.End.TheVariants.{LineFeed, Input, Limit}
-use Rattle.history_check.specs.Faults.{line_fault_number}
-use Rattle.history_check.specs.Lines.{line_of as said_in}
+use Rattle.event_lines.specs.Faults.{line_fault_number}
+use Rattle.event_lines.specs.Lines.{line_of as said_in}
 use Rattle.operator_cli.specs.Lines.{line_of}
 use Rattle.line_streams.specs.Streams.{is_last, ends_no_line, lines_in, pieces, KnownLeft, EndsPiece, ReadsPiece, AppendsBeginning}
 use Rattle.operator_cli.specs.Outputs.{Told, Output, told, before, line_output, lines_output, Writes}

@@ -25,7 +25,7 @@ use Rattle.operator_cli.specs.declared.heads.StartFault.TheVariants as start
 use Rattle.operator_cli.specs.declared.settings.Settings.{Settings}
 use Rattle.operator_cli.specs.declared.settings.Start.{Start}
 use Rattle.operator_cli.specs.Settings.{Given, given, settings_of, Refuses}
-use Rattle.history_check.specs.declared.faults.LineFault.{LineFault}
+use Rattle.event_lines.specs.declared.faults.LineFault.{LineFault}
 use Rattle.lossy_link.specs.declared.faults.WeatherFault.{WeatherFault}
 use Rattle.line_streams.specs.Streams.{pieces, lines_in, AppendsBeginning, Grows, with_gathered}
 use Rattle.operator_cli.specs.Outputs.{Output, output_of, opened, start_of, with_lines, head_of, lines_output, settings_output, command_output, verdict_output, verdict_status, refusal_output, refused_ballot_output, refused_output, KeepsLimit, IsLimited, IsLimitedIn, IsCommonFault, MayEndBy, Prints, Writes, Serves}

@@ -6,14 +6,14 @@ use Rattle.std.proofs.lemmas.Bool.{leb-true}
 use Rattle.std.proofs.lemmas.List.Elements.{All-nil, All-cons}
 use Rattle.toml.specs.Data.{Items, no_items, item, Data, Members, get_member, as_str, as_array}
 use Rattle.lock_model.specs.Ballots.{Ballot}
-use Rattle.history_check.specs.declared.faults.LineFault.{LineFault}
-use Rattle.history_check.specs.declared.faults.LineFault.TheVariants as line_fault
-use Rattle.history_check.specs.declared.wishes.Wish.{Wish}
-use Rattle.history_check.specs.Wishes.{wish_among}
+use Rattle.event_lines.specs.declared.faults.LineFault.{LineFault}
+use Rattle.event_lines.specs.declared.faults.LineFault.TheVariants as line_fault
+use Rattle.event_lines.specs.declared.wishes.Wish.{Wish}
+use Rattle.event_lines.specs.Wishes.{wish_among}
 use Rattle.operator_cli.specs.declared.faults.SettingsFault.{SettingsFault}
 use Rattle.operator_cli.specs.declared.faults.SettingsFault.TheVariants as fault
 use Rattle.operator_cli.specs.declared.settings.RunValues.{RunValues}
-use Rattle.history_check.specs.declared.wishes.TheConstants.{MAX_WISHES}
+use Rattle.event_lines.specs.declared.wishes.TheConstants.{MAX_WISHES}
 use Rattle.operator_cli.specs.Settings.{◌>>=◌, AreAmong, count as count_of, are_texts, seed_at, number_or, few_texts_in, wish_texts_in, has_wish_texts, run_values, wish_said, if_placed, wish_from, wishes_in, wishes_of, wishes_at}
 use Rattle.operator_cli.proofs.WishTexts.{within}
 

@@ -6,13 +6,13 @@ use Rattle.std.specs.Str.Parse.{digits_value}
 use Rattle.std.specs.Fmt.{decimal}
 use Rattle.std.proofs.lemmas.Bool.{leb-true}
 use Rattle.vote_weights.specs.declared.lists.TheConstants.{MAX_BALLOTS}
-use Rattle.history_check.specs.declared.faults.LineFault.{LineFault}
-use Rattle.history_check.specs.declared.faults.LineFault.TheVariants as fault
-use Rattle.history_check.specs.declared.wishes.Wish.{Wish}
-use Rattle.history_check.specs.declared.words.TheConstants.{MAX_LINE_LEN}
-use Rattle.history_check.specs.Lines.{◌>>=◌, AName, APlace, Arguments, IsPlace, between, words, spelled, lettered, client_word, wish_mode_word, name_word, behind_first, place_word, values_in}
-use Rattle.history_check.specs.Wishes.{use_kinds, wished, client_among, words_wish, wish_among}
-use Rattle.history_check.proofs.WordFacts.{never_ok}
+use Rattle.event_lines.specs.declared.faults.LineFault.{LineFault}
+use Rattle.event_lines.specs.declared.faults.LineFault.TheVariants as fault
+use Rattle.event_lines.specs.declared.wishes.Wish.{Wish}
+use Rattle.event_lines.specs.declared.words.TheConstants.{MAX_LINE_LEN}
+use Rattle.event_lines.specs.Lines.{◌>>=◌, AName, APlace, Arguments, IsPlace, between, words, spelled, lettered, client_word, wish_mode_word, name_word, behind_first, place_word, values_in}
+use Rattle.event_lines.specs.Wishes.{use_kinds, wished, client_among, words_wish, wish_among}
+use Rattle.event_lines.proofs.WordFacts.{never_ok}
 
 -- what is answered behind a part was answered by it
 behind : {A B : Type 0} (r : Result A LineFault) (f : A → Result B LineFault) (y : B) → r >>= f ≡ Ok y → (x : A) × (r ≡ Ok x) × (f x ≡ Ok y)

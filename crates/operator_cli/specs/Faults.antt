@@ -1,7 +1,7 @@
 -- The numbers of faults.
 use Rattle.std.specs.Prelude.{ℕ}
 use Rattle.vote_weights.specs.Faults.{fault_number}
-use Rattle.history_check.specs.Faults.{line_fault_number}
+use Rattle.event_lines.specs.Faults.{line_fault_number}
 use Rattle.lossy_link.specs.Faults.{weather_fault_number}
 use Rattle.journal_audit.specs.Faults.{audit_fault_number}
 use Rattle.operator_cli.specs.declared.faults.SettingsFault.{SettingsFault}

@@ -1,11 +1,11 @@
 -- The lines of a script: every event, and the three queries. Which line is which of these is said by
--- `history_check`.
+-- `event_lines`.
 use Rattle.std.specs.Prelude.{ℕ, List, [], ◌∷◌, Result}
-use Rattle.history_check.specs.declared.commands.Command.{Command}
-use Rattle.history_check.specs.declared.commands.Command.TheVariants as command
-use Rattle.history_check.specs.declared.faults.LineFault.{LineFault}
-use Rattle.history_check.specs.declared.lines.Line.{Line}
-use Rattle.history_check.specs.Lines as lines
+use Rattle.event_lines.specs.declared.commands.Command.{Command}
+use Rattle.event_lines.specs.declared.commands.Command.TheVariants as command
+use Rattle.event_lines.specs.declared.faults.LineFault.{LineFault}
+use Rattle.event_lines.specs.declared.lines.Line.{Line}
+use Rattle.event_lines.specs.Lines as lines
 
 -- the commands that a script reads: all that there are
 abbrev pub commands : List Command

@@ -10,18 +10,18 @@ use Rattle.world_model.specs.ExactWorlds.{Steps, step}
 use Rattle.vote_weights.specs.Faults.{fault_number as ballot_fault_number}
 use Rattle.world_model.specs.Faults.{fault_number}
 use Rattle.world_model.specs.Views.{inside, waiting, holding}
-use Rattle.history_check.specs.declared.faults.LineFault.{LineFault}
+use Rattle.event_lines.specs.declared.faults.LineFault.{LineFault}
 use Rattle.operator_cli.specs.declared.faults.ServeFault.{ServeFault}
 use Rattle.operator_cli.specs.declared.faults.ServeFault.TheVariants as serving
 use Rattle.operator_cli.specs.declared.faults.SettingsFault.{SettingsFault}
 use Rattle.operator_cli.specs.declared.faults.SettingsFault.TheVariants as settings
 use Rattle.operator_cli.specs.declared.heads.TheConstants.{HEAD_ROOM}
-use Rattle.history_check.specs.declared.lines.Line.{Line}
-use Rattle.history_check.specs.declared.lines.Line.TheVariants as line
-use Rattle.history_check.specs.declared.lines.Query.{Query}
-use Rattle.history_check.specs.declared.lines.Query.TheVariants as query
+use Rattle.event_lines.specs.declared.lines.Line.{Line}
+use Rattle.event_lines.specs.declared.lines.Line.TheVariants as line
+use Rattle.event_lines.specs.declared.lines.Query.{Query}
+use Rattle.event_lines.specs.declared.lines.Query.TheVariants as query
 use Rattle.operator_cli.specs.declared.settings.Settings.{Settings}
-use Rattle.history_check.specs.Faults.{line_fault_number}
+use Rattle.event_lines.specs.Faults.{line_fault_number}
 use Rattle.journal_audit.specs.declared.faults.AuditFault.TheVariants as audit
 use Rattle.journal_audit.specs.declared.verdicts.TheConstants.{MAX_LINES}
 use Rattle.journal_audit.specs.declared.verdicts.Verdict.{Verdict}

@@ -1,6 +1,6 @@
 -- Parts of an output: what the functions of a run owe one another, and who reads settings himself. Who reads
 -- what `serve` promises has no need of them.
-use Rattle.std.specs.Prelude.{◌≡◌, ◌⊎◌, ℕ, ◌+◌, ◌≤◌, ◌-◌, Vec, Bool, true, if◌then◌else◌, List, [], ◌++◌, replicate, length, Option, Some, None, Result, Ok, Err}
+use Rattle.std.specs.Prelude.{◌≡◌, ◌⊎◌, ℕ, ◌≤◌, ◌-◌, Vec, Bool, true, if◌then◌else◌, List, [], ◌++◌, replicate, length, Option, Some, None, Result, Ok, Err}
 use Rattle.std.specs.Global.{Global}
 use Rattle.std.specs.Io.KnownBytes.{Appends, Consumes}
 use Rattle.lock_model.specs.Ballots.{node_count}

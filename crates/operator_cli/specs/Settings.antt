@@ -15,10 +15,10 @@ use Rattle.vote_weights.specs.ListFaults.{list_fault_of, list_unless}
 use Rattle.vote_weights.specs.declared.faults.BallotFault.{BallotFault}
 use Rattle.operator_cli.specs.declared.faults.SettingsFault.{SettingsFault}
 use Rattle.operator_cli.specs.declared.faults.SettingsFault.TheVariants as fault
-use Rattle.history_check.specs.declared.faults.LineFault.{LineFault}
-use Rattle.history_check.specs.declared.faults.LineFault.TheVariants as line_fault
-use Rattle.history_check.specs.declared.wishes.Wish.{Wish}
-use Rattle.history_check.specs.Wishes.{wish_among}
+use Rattle.event_lines.specs.declared.faults.LineFault.{LineFault}
+use Rattle.event_lines.specs.declared.faults.LineFault.TheVariants as line_fault
+use Rattle.event_lines.specs.declared.wishes.Wish.{Wish}
+use Rattle.event_lines.specs.Wishes.{wish_among}
 use Rattle.lossy_link.specs.declared.faults.WeatherFault.TheVariants.{OverThousand}
 use Rattle.lossy_link.specs.Weathers.{Climate, climate_of, odds_of}
 use Rattle.operator_cli.specs.declared.orders.Command.{Command}
@@ -27,7 +27,7 @@ use Rattle.operator_cli.specs.declared.settings.Numbers.{Numbers}
 use Rattle.operator_cli.specs.declared.settings.RunValues.{RunValues}
 use Rattle.operator_cli.specs.declared.settings.Settings.{Settings}
 use Rattle.operator_cli.specs.declared.settings.Start.{Start}
-use Rattle.history_check.specs.declared.wishes.TheConstants.{MAX_WISHES}
+use Rattle.event_lines.specs.declared.wishes.TheConstants.{MAX_WISHES}
 
 infixl 10 ◌>>=◌
 -- the next value is judged where no fault was met

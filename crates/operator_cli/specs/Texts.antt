@@ -8,9 +8,9 @@ use Rattle.lock_messages.specs.declared.tickets.Ticket.{Ticket}
 use Rattle.lock_model.specs.Ballots.{Ballot, total}
 use Rattle.lock_model.specs.declared.hearing.Heard.{Heard}
 use Rattle.lock_model.specs.declared.hearing.Heard.TheVariants as heard
-use Rattle.history_check.specs.declared.lines.Line.TheVariants as line
-use Rattle.history_check.specs.declared.lines.Query.{Query}
-use Rattle.history_check.specs.Lines.{text_of}
+use Rattle.event_lines.specs.declared.lines.Line.TheVariants as line
+use Rattle.event_lines.specs.declared.lines.Query.{Query}
+use Rattle.event_lines.specs.Lines.{text_of}
 use Rattle.world_model.specs.declared.events.Effect.{Effect}
 use Rattle.world_model.specs.declared.events.Effect.TheVariants as effect
 use Rattle.world_model.specs.ExactWorlds.{numbered}

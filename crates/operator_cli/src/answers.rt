@@ -7,7 +7,7 @@ ghost use Rattle.operator_cli.specs.PartOutputs.{AddsAnswer, AddsRefusal, Finds}
 
 use crate::ServeFault;
 use crate::texts::{push_answer, push_effect, push_refused};
-use history_check::{Line, Query};
+use event_lines::{Line, Query};
 use lock_messages::Ticket;
 use std::alloc::Global;
 use world_machine::World;

@@ -3,7 +3,7 @@
 ghost use Rattle.std.specs.Prelude.{◌≡◌};
 ghost use Rattle.operator_cli.specs.Faults.{settings_fault_number, serve_fault_number};
 
-use history_check::LineFault;
+use event_lines::LineFault;
 use journal_audit::AuditFault;
 use lossy_link::WeatherFault;
 use thiserror::Error;
@@ -13,28 +13,28 @@ use vote_weights::BallotFault;
 #[derive(Clone, Copy, Debug, PartialEq, Eq, Error)]
 pub enum SettingsFault {
     /// 924: no line that is exactly `---` begins within the first 65,536 bytes.
-    #[error("no line `---` begins within the first 65,536 bytes")]
+    #[error("no line --- within the first 65536 bytes")]
     NoEnd,
-    /// 921: they aren't a TOML document.
-    #[error("the settings aren't a TOML document")]
+    /// 921: they are not a TOML document.
+    #[error("not a TOML document")]
     NoDocument,
-    /// 923: a key isn't one of those that settings have.
-    #[error("the settings have a key that isn't known")]
+    /// 923: a key is not one of those that settings have.
+    #[error("unknown key")]
     UnknownKey,
-    /// 922: a key that is needed is missing, or a value is of the wrong kind or out of range.
-    #[error("a value of the settings is missing or wrong")]
+    /// 922: a required key is missing, or a value is of the wrong kind or out of range.
+    #[error("a value is missing or out of range")]
     Value,
-    /// 201 to 208: the votes make no ballot, or the ballots no list.
-    #[error("the votes make no ballot: {0}")]
+    /// 201 to 208: a ballot or the list of ballots is refused.
+    #[error("{0}")]
     Ballot(BallotFault),
-    /// 901: of a thousand parcels more than a thousand would be lost, go twice or be late.
-    #[error("the settings make no weather: {0}")]
+    /// 901: of a thousand packets more than a thousand would be lost, go twice or be late.
+    #[error("{0}")]
     Weather(WeatherFault),
-    /// 801 to 805: what is wrong with the first wish that is none.
-    #[error("a wish of the settings is none: {0}")]
+    /// 801 to 805: what is wrong with the first bad wish.
+    #[error("a wish: {0}")]
     Wish(LineFault),
-    /// 925: memory was refused.
-    #[error("there was no memory for the settings")]
+    /// 925: out of memory.
+    #[error("out of memory for settings")]
     Memory,
 }
 
@@ -61,16 +61,16 @@ impl SettingsFault {
 #[derive(Clone, Copy, Debug, PartialEq, Eq, Error)]
 pub enum ServeFault {
     /// 931: the reader failed, or 600,000,000 reads were made.
-    #[error("the input couldn't be read")]
+    #[error("reading standard input failed")]
     Read,
     /// 932: the writer failed.
-    #[error("the output couldn't be written")]
+    #[error("writing standard output failed")]
     Write,
-    /// 933: memory was refused.
-    #[error("there was no memory")]
+    /// 933: out of memory.
+    #[error("out of memory")]
     Memory,
     /// 816 to 819: the audit of a journal met this.
-    #[error("the audit came to no verdict, or couldn't tell it: {0}")]
+    #[error("{0}")]
     Audit(AuditFault),
 }
 

@@ -12,16 +12,19 @@ use crate::{Command, SettingsFault};
 use line_streams::{End, LineReader, StreamFault};
 use std::alloc::{AllocError, Global};
 use std::io::Read;
+use thiserror::Error;
 
 /// The line of dashes begins within this many bytes.
 pub const HEAD_ROOM: usize = 65_536;
 
 /// Why there are no settings.
-#[derive(Clone, Copy, Debug, PartialEq, Eq)]
+#[derive(Clone, Copy, Debug, PartialEq, Eq, Error)]
 pub enum StartFault {
     /// The reader failed.
+    #[error("the input can't be read")]
     Read,
     /// The settings are refused.
+    #[error("{0}")]
     Settings(SettingsFault),
 }
 

@@ -11,14 +11,14 @@
 //!
 //! The crate promises that what `serve` writes for a command is, byte for byte, a stated function of the
 //! bytes that it reads, and so is the status; after a fault a beginning of that output was written. The
-//! function stands in `specs/`: `Lines` (what a line says, as `history_check` reads it), `Settings`
+//! function stands in `specs/`: `Lines` (what a line says, as `event_lines` reads it), `Settings`
 //! (what a TOML document says, and what is wrong with it), `Openings` (the world at the first line),
 //! `Texts` (how effects and answers are written) and `Outputs`, which puts them together over the
 //! exact world of `world_model` (`output_of`). Want of memory alone may put `settings fault 925` in its
 //! place. The input is streamed: beside the world, the settings and one line are all that is kept of
 //! it. The policies by which nodes decide are the caller's.
 //!
-//! It stands on `line_streams`, `history_check`, `journal_audit`, `lossy_link` for the weather,
+//! It stands on `line_streams`, `event_lines`, `journal_audit`, `lossy_link` for the weather,
 //! `lock_messages`, `lock_model`, `vote_weights`, `admission_policy`, `world_model`, `world_machine`,
 //! `toml` and `thiserror`.
 #![tactic(auto)]
@@ -35,9 +35,9 @@ mod serving;
 mod settings;
 mod texts;
 
+pub use event_lines::LineFault;
 pub use faults::{ServeFault, SettingsFault};
 pub use heads::{StartFault, read_head, read_start};
-pub use history_check::LineFault;
 pub use journal_audit::AuditFault;
 pub use lines::read_line;
 pub use lossy_link::WeatherFault;

@@ -4,7 +4,7 @@ ghost use Rattle.std.specs.Prelude.{◌≡◌};
 ghost use Rattle.operator_cli.specs.Lines.{line_of};
 
 use crate::LineFault;
-use history_check::{Command, Line};
+use event_lines::{Command, Line};
 
 /// The commands that a script reads: all that there are.
 const COMMANDS: [Command; 16] = [
@@ -30,10 +30,10 @@ const COMMANDS: [Command; 16] = [
 ///
 /// # Errors
 ///
-/// What is wrong with the line, as `history_check::read_line` judges it where all commands are read.
+/// What is wrong with the line, as `event_lines::read_line` judges it where all commands are read.
 #[tactic(auto, unfolding(crate::specs::Lines::line_of))]
 pub fn read_line(line: &[u8]) -> Result<Line, LineFault>
     ensures { result ≡ line_of line.now }
 {
-    history_check::read_line(&COMMANDS, line)
+    event_lines::read_line(&COMMANDS, line)
 }

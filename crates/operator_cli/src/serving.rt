@@ -1,9 +1,9 @@
 // A whole run of the program, from the bytes that come in to the bytes that go out.
 
-ghost use Rattle.std.specs.Prelude.{◌≡◌, ◌≤◌, length, IfOk, IfErr};
+ghost use Rattle.std.specs.Prelude.{◌≡◌, ◌≤◌, [], length, IfOk, IfErr};
 ghost use Rattle.lock_messages.specs.declared.ids.TheConstants.{MAX_NODES, MAX_CLIENTS};
 ghost use Rattle.vote_weights.specs.Faults.{fault_number};
-ghost use Rattle.history_check.specs.Faults.{line_fault_number};
+ghost use Rattle.event_lines.specs.Faults.{line_fault_number};
 ghost use Rattle.lossy_link.specs.Faults.{weather_fault_number};
 ghost use Rattle.operator_cli.specs.Faults.{settings_fault_number};
 ghost use Rattle.operator_cli.specs.Openings.{all_down};
@@ -195,6 +195,22 @@ fn finish<W: Write>(
     }
 }
 
+/// Does what the lines say and prints it, by way of what is gathered, which is nothing yet.
+fn tell_gathered<R: Read, W: Write>(
+    alloc: Global,
+    world: &mut World,
+    source: &mut LineReader<R>,
+    out: &mut Gathered,
+    writer: &mut W,
+) -> Result<u8, ServeFault>
+    requires { out.old ≡ [] }
+    ensures told { WritesLines world.old source.old (W.contents writer.old) (W.contents writer.new) result }
+    ensures common { IfErr result IsCommonFault }
+{
+    let came = tell_lines(alloc, world, source, out, writer);
+    finish(came, out, writer)
+}
+
 /// Does what the lines say and prints it.
 fn serve_lines<R: Read, W: Write>(
     alloc: Global,
@@ -205,9 +221,10 @@ fn serve_lines<R: Read, W: Write>(
     ensures told { WritesLines world.old source.old (W.contents writer.old) (W.contents writer.new) result }
     ensures common { IfErr result IsCommonFault }
 {
-    let mut out = Gathered::new();
-    let came = tell_lines(alloc, world, source, &mut out, writer);
-    finish(came, &mut out, writer)
+    let Ok(mut out) = Box::new(alloc, Gathered::new()) else {
+        return Err(ServeFault::Memory);
+    };
+    tell_gathered(alloc, world, source, &mut out, writer)
 }
 
 /// The world of the settings in which all actors are down and nothing is kept. The settings' problem is the
@@ -349,6 +366,25 @@ fn serve_behind<R: Read, W: Write>(
     }
 }
 
+/// Does what the order says with the bytes of the source.
+fn serve_source<R: Read, W: Write>(
+    alloc: Global,
+    order: Order,
+    source: &mut LineReader<R>,
+    writer: &mut W,
+) -> Result<u8, ServeFault>
+    requires policies { length order.policies.pairs.items ≡ MAX_NODES }
+    requires served { IsServed order.command }
+    ensures output { Serves order.command source.old (W.contents writer.old) (W.contents writer.new) result }
+    ensures faults { IfErr result (MayEndBy order.command) }
+{
+    let start = match read_start(alloc, order.command, source) {
+        Ok(start) => start,
+        Err(fault) => return refuse_start(order.command, fault, writer),
+    };
+    serve_behind(alloc, order, &start.settings, source, writer)
+}
+
 /// Does what the order says with the bytes of the reader, and answers the status of the program.
 ///
 /// The bytes begin with settings, a TOML document. Its keys `votes`, `read`, `write`, `problem`,
@@ -384,6 +420,7 @@ fn serve_behind<R: Read, W: Write>(
 /// the faults are those of the audit, `Audit` (816 to 819), and no other command ends by one of these; 819
 /// comes just where the verdict would speak of a line behind the greatest number. A read or a write that a
 /// signal interrupts is made again. After a fault a beginning of the output was written.
+/// It reads by value and writes by &mut, because only what the writer holds afterwards is spoken of.
 pub fn serve<R: Read, W: Write>(
     alloc: Global,
     order: Order,
@@ -397,10 +434,13 @@ where
     ensures output { Serves order.command (R.remaining reader) (W.contents writer.old) (W.contents writer.new) result }
     ensures faults { IfErr result (MayEndBy order.command) }
 {
-    let mut source = LineReader::new(reader, MAX_READS);
-    let start = match read_start(alloc, order.command, &mut source) {
-        Ok(start) => start,
-        Err(fault) => return refuse_start(order.command, fault, writer),
+    // Room for what is read ahead is made on the heap: the stack may be small.
+    let Ok(mut source) = Box::new(alloc, LineReader::new(reader, MAX_READS)) else {
+        return refuse_start(
+            order.command,
+            StartFault::Settings(SettingsFault::Memory),
+            writer,
+        );
     };
-    serve_behind(alloc, order, &start.settings, &mut source, writer)
+    serve_source(alloc, order, &mut source, writer)
 }

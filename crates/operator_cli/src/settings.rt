@@ -11,7 +11,7 @@ ghost use Rattle.toml.specs.View.{view, items_view, table_view};
 ghost use Rattle.operator_cli.specs.Settings.{Judges, tells_ballot, world_keys, run_keys, is_known, all_known, all_keys, numbers_of, numbers_at, numbers_in, all_numbers, more_at, judged, all_judged, onto, listed, if_placed, within, number_at, number_or, number_for, seed_at, vote_list, votes_at, problem_numbered, problem_at, clients_at, count, are_texts, are_few_texts, has_wish_texts, run_values, weather_of, wish_from, wishes_in, wishes_at, world_of, given, values_of, settings_of, AreAmong};
 
 use crate::{Command, SettingsFault};
-use history_check::{LineFault, MAX_WISHES, Wish, read_wish_among};
+use event_lines::{LineFault, MAX_WISHES, Wish, read_wish_among};
 use lock_messages::MAX_CLIENTS;
 use lock_model::Problem;
 use lossy_link::Weather;

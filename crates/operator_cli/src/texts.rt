@@ -7,7 +7,7 @@ ghost use Rattle.operator_cli.specs.Texts.{sent_text, found_text, said_text, cha
 ghost use Rattle.world_model.specs.declared.TheConstants.{MAX_MESSAGES};
 ghost use Rattle.world_model.specs.ExactWorlds.{numbered};
 
-use history_check::{Line, Query, write_line};
+use event_lines::{Line, Query, write_line};
 use lock_messages::{Message, Ticket};
 use lock_model::Heard;
 use std::alloc::{AllocError, Global};

@@ -5,7 +5,7 @@ use Rattle.std.specs.List.{range_with_len}
 use Rattle.std.proofs.lemmas.List.FromFn.{map-range_with_len_more}
 use Rattle.lock_model.specs.Ballots.{node_count}
 use Rattle.world_model.specs.declared.exact.ExactWorld.{ExactWorld}
-use Rattle.history_check.specs.Laws.{EventsAreSpelledOnce}
+use Rattle.event_lines.specs.Laws.{EventsAreSpelledOnce}
 use Rattle.line_streams.specs.Streams.{pieces, lines_in}
 use Rattle.journal_audit.specs.declared.faults.AuditFault.{AuditFault}
 use Rattle.journal_audit.specs.declared.faults.AuditFault.TheVariants as audit

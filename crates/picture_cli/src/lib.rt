@@ -13,7 +13,7 @@
 //! how `SvgCanvas` spells what is drawn on it is tested.
 //!
 //! It stands on `operator_cli` for settings and the world that they open, `program_ends` for what is said of
-//! faults and of words, `journal_picture`, `picture_svg`, `run_picture`, `journal_audit`, `history_check`,
+//! faults and of words, `journal_picture`, `picture_svg`, `run_picture`, `journal_audit`, `event_lines`,
 //! `line_streams`, `world_machine`, `world_model`, `lock_model`, `lock_messages` and `clap`.
 #![tactic(auto)]
 

@@ -14,43 +14,55 @@ const ABOUT: &str = "\
 Draws a journal of the lock service as SVG: time goes down, a column for each node and client.";
 
 const HELP: &str = "\
-Draws a journal as SVG on standard output. Standard input is what `rwvote audit` takes: settings in
-TOML, a line `---`, and an event a line. With `rwvote` and `rwdraw` on the path:
+Draws a journal as SVG: time goes down, and each node and each client has a column.
 
-rwvote run --journal < examples/quiet.run | rwdraw > run.svg
+USAGE
+  rwdraw < FILE > X.svg                       Draws the journal in FILE.
+  rwdraw --from 20 --to 80 < FILE > X.svg     Draws lines 20 to 80 alone.
+  rwdraw --resource a < FILE > X.svg          Draws what concerns the resource `a` alone.
+  rwvote run --journal < S | rwdraw > X.svg   Draws the run of the settings in S.
 
-Time goes down, and each node and each client has a column. An arrow leads from where a message was
-said to each event in which it was taken or heard; one that never was ends in a cross. Bars tell who
-is inside, and which votes of a node are held: hatched to read, solid to write. An actor is grey
-while it is down. The pointer on a mark shows what it is, and its line.
+SETTINGS
+  As for `rwvote audit`: see `rwvote audit --help`.
 
-A journal that is not sound is drawn up to the line that does not go on, which is marked with its
-number and why; the verdict is told on standard error too.
+LINES
+  The events of a journal, as for `rwvote audit`. A journal that is not sound is drawn up to the line
+  that cannot follow. This line is marked, and the verdict goes to standard error.
 
-The status is that of `rwvote audit`: 0; 1 where the journal is not sound, or where `fault N` stands on
-standard error (816 or 931 the input failed, 817 the output, 818 or 933 no memory, 819 too many lines);
-2 where the settings (`settings fault N` on standard error) or the words were refused.";
+PICTURE
+  arrow         A message: from where it was sent to where it was taken or heard
+  cross         A message that was never taken or heard
+  hatched bar   A reader is inside, or a node has given its vote to a reader
+  solid bar     The same of a writer
+  grey column   The actor is down
+  Point at a mark to see what it is, and its line.
+
+EXIT STATUS
+  0   The journal is sound.
+  1   The journal is unsound, or `fault N` is on standard error.
+  2   The settings (`settings fault N` on standard error) or the command-line arguments were refused.
+  `rwvote explain N` says what N means.";
 
 const WRONG_FROM: &str = "\
-error: --from takes the number of a line, from 1 on
+error: --from needs the number of a line, 1 or more
 
 For more information, try '--help'.
 ";
 
 const WRONG_TO: &str = "\
-error: --to takes the number of a line, from 1 on
+error: --to needs the number of a line, 1 or more
 
 For more information, try '--help'.
 ";
 
 const WRONG_ORDER: &str = "\
-error: --to is before --from
+error: --to must not be less than --from
 
 For more information, try '--help'.
 ";
 
 const WRONG_RESOURCE: &str = "\
-error: --resource takes a name of 1 to 32 letters a-z, digits and dashes
+error: --resource needs a name of 1 to 32 of a-z, 0-9 and -
 
 For more information, try '--help'.
 ";
@@ -81,19 +93,9 @@ fn bare<'a>(alloc: Global) -> clap::Command<'a>
 fn words_taken<'a>(alloc: Global) -> Result<clap::Command<'a>, AllocError>
     ensures { IfOk result (λ c. app_of c ≡ app) }
 {
-    let from = option(
-        alloc,
-        "from",
-        "LINE",
-        "The first line that is drawn, from 1 on",
-    );
-    let upto = option(alloc, "to", "LINE", "The last line that is drawn");
-    let resource = option(
-        alloc,
-        "resource",
-        "NAME",
-        "Draws what concerns this resource alone",
-    );
+    let from = option(alloc, "from", "LINE", "The first line to draw, 1 or more");
+    let upto = option(alloc, "to", "LINE", "The last line to draw");
+    let resource = option(alloc, "resource", "NAME", "The one resource to draw");
     let with_from = bare(alloc).arg(from)?;
     let with_both = with_from.arg(upto)?;
     let with_all = with_both.arg(resource)?;

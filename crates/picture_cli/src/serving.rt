@@ -9,7 +9,7 @@ ghost use Rattle.world_model.specs.declared.exact.ExactWorld.{ExactWorld};
 ghost use Rattle.run_picture.specs.declared.marks.Lasting.TheVariants.{Down};
 ghost use Rattle.picture_cli.specs.Drawing.{fault_on, FindsBehind, DrawsBehind, RefusesStart, ShowsInput, DrawsPart, KeepsRefused, node_down, client_down, down_at_first};
 
-use history_check::laws::events_are_spelled_once;
+use event_lines::laws::events_are_spelled_once;
 use journal_audit::{AuditFault, Verdict};
 use journal_picture::{Canvas, CanvasFault, Drawing, draw_lines};
 use line_streams::{LineReader, MAX_READS};

@@ -8,7 +8,7 @@
 //! a text or an attribute, or begins a tag. Titles, texts of lines and labels are added by it, which no contract
 //! says. Beyond that the crate promises that it is safe and returns; how marks look is tested.
 //!
-//! It stands on `run_picture`, `history_check` for the text of an event, `world_model`, `lock_model` and
+//! It stands on `run_picture`, `event_lines` for the text of an event, `world_model`, `lock_model` and
 //! `lock_messages`.
 #![tactic(auto)]
 

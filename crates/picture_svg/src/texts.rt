@@ -1,7 +1,8 @@
 // What is said of marks.
 
 use crate::shapes::heard_word;
-use history_check::write_event;
+use event_lines::write_event;
+use fault_numbers::meaning_of;
 use lock_messages::{Actor, Message, Mode};
 use lock_model::Problem;
 use run_picture::{Lasting, Mark, Place, Sign};
@@ -178,13 +179,15 @@ pub(crate) fn push_title(alloc: Global, text: &mut String, mark: &Mark) -> Resul
         }
         Sign::NoEvent(fault) => {
             let number = fault.number();
-            write!(text, "line {from} does not go on: fault {number}, {fault}")
+            let meaning = meaning_of(number);
+            write!(text, "line {from} cannot follow: fault {number}, {meaning}")
         }
         Sign::Refused(fault) => {
             let number = fault.number();
+            let meaning = meaning_of(number);
             write!(
                 text,
-                "line {from} does not go on: refused {number}, {fault}"
+                "line {from} cannot follow: refused {number}, {meaning}"
             )
         }
     }

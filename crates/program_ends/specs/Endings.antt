@@ -30,9 +30,9 @@ EndsSaying status text old new e = (e.status ≡ status) × Says old new text e.
 abbrev pub TellsFault : ServeFault → Option (List ℕ) → Option (List ℕ) → Ended → Type 0
 TellsFault f old new e = EndsSaying 1 (fault_text f) old new e
 
--- What is said of a word that is not UTF-8.
+-- What is said of a command-line argument that is not UTF-8.
 abbrev pub no_text_words : List ℕ
-no_text_words = codes "error: a word is not UTF-8 text\n\nFor more information, try '--help'.\n"
+no_text_words = codes "error: a command-line argument is not UTF-8 text\n\nFor more information, try '--help'.\n"
 
 -- How a program ends whose words could not be taken: memory was refused, or else a word is not UTF-8.
 pub record EndsUnread (IsMemory : Type 0) (old new : Option (List ℕ)) (e : Ended) : Type 0 where

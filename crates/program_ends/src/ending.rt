@@ -83,13 +83,13 @@ pub fn tell_unread<E: Write>(error: io::Error, errors: &mut E) -> Ended
     }
     say(
         2,
-        "error: a word is not UTF-8 text\n\nFor more information, try '--help'.\n",
+        "error: a command-line argument is not UTF-8 text\n\nFor more information, try '--help'.\n",
         errors,
     )
 }
 
-/// Shows a text on the first writer, with status 0. Where that fails, `fault 932` is told, with status 1.
-fn show<W: Write, E: Write>(text: &str, output: &mut W, errors: &mut E) -> Ended
+/// Shows a text on the first writer, with status 0. If that fails, `fault 932` is told on the second, with status 1.
+pub fn show<W: Write, E: Write>(text: &str, output: &mut W, errors: &mut E) -> Ended
     ensures { Shows text.now (record { old = W.contents output.old; new = W.contents output.new; errors_old = E.contents errors.old; errors_new = E.contents errors.new }) result }
 {
     match write_text(output, text.as_bytes()) {

@@ -1,6 +1,6 @@
 //! How a program of the service ends, whatever it serves: its status, and what it says on the second writer.
 //!
-//! `say` and `tell_fault` say a text and a fault, and answer how the program ends by it: `Ended`. `collected`
+//! `show`, `say` and `tell_fault` show a text, say one and say a fault, and return how the program ends: `Ended`. `collected`
 //! takes the words that a program is given, and `tell_unread` ends one whose words can't be taken. Where `clap`
 //! finds nothing to serve in them, `unserved_by` says why not, and `end_unserved` ends the program by it.
 //!
@@ -13,5 +13,5 @@
 mod ending;
 mod wording;
 
-pub use ending::{Ended, end_unserved, end_without_memory, say, tell_fault, tell_unread};
+pub use ending::{Ended, end_unserved, end_without_memory, say, show, tell_fault, tell_unread};
 pub use wording::{Sort, Unserved, collected, unserved_by};

@@ -4,8 +4,7 @@ ghost use Rattle.std.specs.Prelude.{◌≡◌};
 ghost use Rattle.lock_model.specs.Ballots.{HasPlace};
 
 use crate::sites::{AT_WORK, STEPS, Site, TARGETS};
-use book_recorders::SharedRecorder;
-use event_recorders::RunFault;
+use event_recorders::{RunFault, SharedRecorder};
 use lock_messages::{Mode, ResourceName};
 use lock_session::{OwnRecord, Session};
 use lossy_link::Link;

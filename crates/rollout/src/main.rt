@@ -62,7 +62,7 @@ fn main(rt: HostRuntime) -> ExitCode {
         site: Mutex::new(Site::new()),
     };
     let Some(text) = roll_out(rt, rt.alloc(), &rollout) else {
-        let _unsaid = write_text(&mut rt.stderr(), b"no memory, or no thread\n");
+        let _unsaid = write_text(&mut rt.stderr(), b"error: out of memory or threads\n");
         return ExitCode::from(2);
     };
     match write_text(&mut io::writer(&rt), text.as_bytes()) {

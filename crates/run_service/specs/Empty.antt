@@ -6,7 +6,7 @@ use Rattle.stable_record.specs.Records.{node_record_of, client_record_of}
 
 -- the record of a node that solves the problem, without entries
 abbrev pub empty_record : Problem → NodeRecord
-empty_record p = record { policy = p; entries = [] }
+empty_record p = record { problem = p; entries = [] }
 
 abbrev pub empty_node : Problem → List (List ℕ)
 empty_node p = node_record_of (empty_record p) ∷ []

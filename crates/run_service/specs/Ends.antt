@@ -12,7 +12,7 @@ use Rattle.world_model.specs.Forgetting.{forget}
 use Rattle.world_model.specs.Locality.{IsHistory, IsRunOf}
 use Rattle.event_recorders.specs.declared.faults.RunFault.{RunFault}
 use Rattle.event_recorders.specs.Faults.{run_fault_number}
-use Rattle.history_check.specs.declared.wishes.Wish.{Wish}
+use Rattle.event_lines.specs.declared.wishes.Wish.{Wish}
 use Rattle.history_book.specs.Books.{enters}
 use Rattle.journal_text.specs.Journals.{history_text}
 use Rattle.node_threads.specs.Faults.{AreFaults}

@@ -1,7 +1,7 @@
 -- What `serve_run` writes, and its status.
 use Rattle.std.specs.Prelude.{◌≡◌, ◌⊎◌, ℕ, Bool, true, false, List, length, Option, Some, None, Result, Ok, Err}
 use Rattle.std.specs.Io.KnownBytes.{Keeps, Appends}
-use Rattle.history_check.specs.declared.wishes.Wish.{Wish}
+use Rattle.event_lines.specs.declared.wishes.Wish.{Wish}
 use Rattle.journal_audit.specs.declared.verdicts.Verdict.TheVariants.{Sound}
 use Rattle.line_streams.specs.Streams.{pieces, AppendsPart}
 use Rattle.operator_cli.specs.declared.faults.ServeFault.{ServeFault}

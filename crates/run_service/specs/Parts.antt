@@ -2,7 +2,7 @@
 -- promises has no need of them.
 use Rattle.std.specs.Prelude.{◌≡◌, ◌⊎◌, ℕ, Bool, true, List, Option, Result, Ok, Err}
 use Rattle.std.specs.Io.KnownBytes.{Keeps, Appends}
-use Rattle.history_check.specs.declared.wishes.Wish.{Wish}
+use Rattle.event_lines.specs.declared.wishes.Wish.{Wish}
 use Rattle.journal_text.specs.Journals.{IsRecorded}
 use Rattle.line_streams.specs.Streams.{AppendsPart}
 use Rattle.operator_cli.specs.declared.faults.ServeFault.{ServeFault}

@@ -17,7 +17,7 @@
 //!
 //! It stands on `operator_cli` for settings, `node_threads` for the run, `explanations` for what is said of it
 //! in words, `journal_text`, `journal_audit` and `journal_laws` for the journal, `line_streams`, `event_recorders`,
-//! `history_book`, `history_check`, `lock_session`, `lossy_link`, `stable_record`, `admission_policy`,
+//! `history_book`, `event_lines`, `lock_session`, `lossy_link`, `stable_record`, `admission_policy`,
 //! `world_machine`, `world_model`, `lock_messages` and `lock_model`.
 #![tactic(auto)]
 

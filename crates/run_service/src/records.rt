@@ -34,7 +34,7 @@ pub fn empty_node_record(alloc: Global, problem: Problem) -> Result<MemoryRecord
     ensures { IfOk result (λ m. m ≡ node_record_of (empty_record problem)) }
 {
     let empty = NodeRecord {
-        policy: problem,
+        problem,
         entries: Entries::new(alloc),
     };
     let Ok(bytes) = node_bytes(alloc, &empty) else {

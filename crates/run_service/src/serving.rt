@@ -6,7 +6,7 @@ ghost use Rattle.lock_model.specs.declared.problems.Problem.TheVariants.{First, 
 ghost use Rattle.history_book.specs.Books.{enters};
 ghost use Rattle.journal_text.specs.Journals.{IsRecorded};
 ghost use Rattle.line_streams.specs.Streams.{Puts};
-ghost use Rattle.history_check.specs.declared.wishes.Wish.{Wish as WishValue};
+ghost use Rattle.event_lines.specs.declared.wishes.Wish.{Wish as WishValue};
 ghost use Rattle.operator_cli.specs.Openings.{all_down};
 ghost use Rattle.operator_cli.specs.Outputs.{IsCommonFault};
 ghost use Rattle.operator_cli.specs.Settings.{AreAmong};
@@ -17,8 +17,8 @@ ghost use Rattle.run_service.specs.Parts.{TellsEnd, RunsHead};
 
 use crate::ends::{push_end, status_of};
 use crate::records::{Supplies, chosen_records};
+use event_lines::Wish;
 use explanations::RunWords;
-use history_check::Wish;
 use journal_audit::laws::verdicts_are_exact;
 use journal_laws::laws::journals_are_sound;
 use journal_text::JournalFault;
@@ -27,8 +27,8 @@ use lock_session::OpenGate;
 use lossy_link::Weather;
 use node_threads::{RunEnd, run_all};
 use operator_cli::{
-    Command, Order, Policies, ServeFault, Settings, Start, StartFault, chosen, read_head,
-    read_settings, refuse_start, world_down,
+    Command, Order, Policies, ServeFault, Settings, SettingsFault, Start, StartFault, chosen,
+    read_head, read_settings, refuse_start, world_down,
 };
 use std::alloc::Global;
 use std::io::{Read, Write};
@@ -227,6 +227,43 @@ fn run_head<T: Threads + Wait + Copy + Send, W: Write>(
     tell(alloc, journal, head, &settings, &end, writer)
 }
 
+/// Runs the service by the settings that the source gives, and tells what it came to.
+fn run_source<T: Threads + Wait + Copy + Send, R: Read, W: Write>(
+    rt: T,
+    alloc: Global,
+    journal: bool,
+    source: &mut LineReader<R>,
+    for_world: Policies,
+    supplies: Supplies,
+    writer: &mut W,
+    words: &mut Option<String>,
+) -> Result<u8, ServeFault>
+    requires world { length for_world.pairs.items ≡ MAX_NODES }
+    requires threads { length supplies.policies.pairs.items ≡ MAX_NODES }
+    requires records_first { map (λ r. finds r) supplies.records.first.items ≡ replicate MAX_NODES (empty_node First) }
+    requires records_second { map (λ r. finds r) supplies.records.second.items ≡ replicate MAX_NODES (empty_node Second) }
+    requires records_clients { map (λ r. finds r) supplies.records.clients.items ≡ replicate MAX_CLIENTS empty_client }
+    ensures output { ServesRun (Command.Run journal) source.old (W.contents writer.old) (W.contents writer.new) result }
+    ensures faults { IfErr result IsCommonFault }
+{
+    let head = match read_head(alloc, source) {
+        Ok(head) => head,
+        Err(fault) => return refuse_start(Command::Run { journal }, fault, writer),
+    };
+    journals_are_sound();
+    verdicts_are_exact();
+    run_head(
+        rt,
+        alloc,
+        journal,
+        head.as_slice(),
+        for_world,
+        supplies,
+        writer,
+        words,
+    )
+}
+
 /// Runs the service by the settings that the reader gives, and answers the status of the program.
 ///
 /// The bytes begin with settings, as for `operator_cli::serve`, which the line `---` ends; what follows is
@@ -280,18 +317,15 @@ where
     let Command::Run { journal } = command else {
         unreachable!()
     };
-    let mut source = LineReader::new(reader, MAX_READS);
-    let head = match read_head(alloc, &mut source) {
-        Ok(head) => head,
-        Err(fault) => return refuse_start(command, fault, writer),
+    // Room for what is read ahead is made on the heap: the stack may be small.
+    let Ok(mut source) = Box::new(alloc, LineReader::new(reader, MAX_READS)) else {
+        return refuse_start(command, StartFault::Settings(SettingsFault::Memory), writer);
     };
-    journals_are_sound();
-    verdicts_are_exact();
-    run_head(
+    run_source(
         rt,
         alloc,
         journal,
-        head.as_slice(),
+        &mut source,
         for_world,
         supplies,
         writer,

@@ -58,6 +58,7 @@ pub fn plain_policies(alloc: Global) -> Result<Policies, AllocError>
 ///
 /// The only error is that memory was refused or a thread couldn't be started (914). Then the threads that were
 /// started have ended, and what was handed in is dropped.
+/// The caller boxes its records in the function that calls this.
 pub fn run_sessions<T: Threads + Wait + Copy + Send + Sync, S: OwnRecord + Send, J: Work + Sync>(
     rt: T,
     alloc: Global,
@@ -118,6 +119,7 @@ fn add_record(
 ///
 /// The caller owes settings in range. The only error is that memory was refused or a thread couldn't be started
 /// (914).
+/// The boxes of the nodes' records are made here: a library may not hand out a box that it made.
 pub fn run_in_memory<T: Threads + Wait + Copy + Send + Sync, J: Work + Sync>(
     rt: T,
     alloc: Global,

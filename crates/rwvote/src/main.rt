@@ -24,6 +24,8 @@ fn main(rt: HostRuntime) -> ExitCode {
     let mut world = no_policies(alloc);
     let mut threads = no_policies(alloc);
     let mut records = no_records(alloc);
+    // Only main may make boxes and hand them on, and it can't read the arguments first. So it makes the records of a run
+    // too: 32 of nodes and 1,024 of clients, some 2,200 small requests for memory.
     for _ in 0..MAX_NODES {
         let Ok(first) = Box::new(alloc, FirstProblem) else {
             return end_without_memory(&rt);

@@ -10,17 +10,13 @@ with_version s = record s { has_version = true }
 abbrev with_needed : Shape → Shape
 with_needed s = record s { subcommand_required = true }
 
-abbrev without_help : Shape → Shape
-without_help s = record s { disable_help_subcommand = true }
-
 pub returns-clause-app : goal.returns-clause-app
 returns-clause-app c =
     let a : app_of c.about.result ≡ on_top with_version (app_of c.new.result) = ap app_of_fields c.about.ensures ∙ ap app_of_fields c.version.ensures in
     let b : app_of c.subcommand_required.result ≡ on_top with_needed (app_of c.about.result) = ap app_of_fields c.subcommand_required.ensures in
-    let d : app_of c.disable_help_subcommand.result ≡ on_top without_help (app_of c.subcommand_required.result) = ap app_of_fields c.disable_help_subcommand.ensures in
-    d ∙ ap (on_top without_help) (b ∙ ap (on_top with_needed) (a ∙ ap (on_top with_version) c.new.ensures.app))
+    b ∙ ap (on_top with_needed) (a ∙ ap (on_top with_version) c.new.ensures.app)
 
 pub returns-clause-local : goal.returns-clause-local
 returns-clause-local c =
     let globals : Command-F Command → Bool = λ f. f.has_globals in
-    ap globals c.disable_help_subcommand.ensures ∙ ap globals c.subcommand_required.ensures ∙ ap globals c.about.ensures ∙ ap globals c.version.ensures ∙ c.new.ensures.local
+    ap globals c.subcommand_required.ensures ∙ ap globals c.about.ensures ∙ ap globals c.version.ensures ∙ c.new.ensures.local

@@ -1,6 +1,6 @@
 use Rattle.std.proofs.Common.{codes, ap, ◌∙◌}
-use Rattle.clap.specs.Words.{App}
-use Rattle.command_words.specs.Words.{top_app, with_command, run_shape}
+use Rattle.clap.specs.Words.{App, with_subcommand}
+use Rattle.command_words.specs.Words.{top_app, with_command, run_shape, explain_shape}
 use Rattle.command_words.proofs.NameFacts.{with_sub}
 use Rattle.command_words.proofs.reading.words_taken.Goals as goal
 
@@ -12,4 +12,5 @@ returns c =
     let one = c.in_ok-with_script.ensures ∙ ap (λ (a : App). with_command a (codes "script")) c.in_ok-bare.ensures in
     let two = c.in_ok-with_audit.ensures ∙ ap (λ (a : App). with_command a (codes "audit")) one in
     let three = c.in_ok-with_ballot.ensures ∙ ap (λ (a : App). with_command a (codes "ballot")) two in
-    with_sub c.in_ok-with_ballot.with_ballot c.in_ok-run.run' c.in_ok-with_run.with_run third run_shape c.in_ok-with_run.ensures three c.in_ok-run.ensures.shape c.in_ok-run.ensures.local
+    let four = with_sub c.in_ok-with_ballot.with_ballot c.in_ok-run.run' c.in_ok-with_run.with_run third run_shape c.in_ok-with_run.ensures three c.in_ok-run.ensures.shape c.in_ok-run.ensures.local in
+    with_sub c.in_ok-with_run.with_run c.in_ok-explain.explain c.in_ok-with_all.with_all (with_subcommand third run_shape) explain_shape c.in_ok-with_all.ensures four c.in_ok-explain.ensures.shape c.in_ok-explain.ensures.local

@@ -2,8 +2,8 @@ use Rattle.std.proofs.Common.{◌≡◌, ℕ, Result, Ok, Err, refl}
 use Rattle.world_model.specs.declared.events.Event.{Event}
 use Rattle.world_model.specs.declared.exact.ExactWorld.{ExactWorld}
 use Rattle.world_model.specs.ExactWorlds.{Steps, step}
-use Rattle.history_check.specs.declared.faults.LineFault.{LineFault}
-use Rattle.history_check.specs.Events.{event_of}
+use Rattle.event_lines.specs.declared.faults.LineFault.{LineFault}
+use Rattle.event_lines.specs.Events.{event_of}
 use Rattle.journal_audit.specs.declared.verdicts.Verdict.{Verdict}
 use Rattle.journal_audit.specs.Verdicts.{step_verdict, line_verdict}
 use Rattle.operator_cli.specs.Outputs.{told_step}

@@ -1,7 +1,7 @@
 use Rattle.std.proofs.Common.{◌≡◌, ◌∙◌, codes, refl, sym, ap}
 use Rattle.std.specs.Fmt.{digits}
-use Rattle.history_check.specs.declared.faults.LineFault.{LineFault}
-use Rattle.history_check.specs.Faults.{line_fault_number}
+use Rattle.event_lines.specs.declared.faults.LineFault.{LineFault}
+use Rattle.event_lines.specs.Faults.{line_fault_number}
 use Rattle.operator_cli.specs.Texts.{settings_fault_text}
 use Rattle.operator_cli.proofs.serving.wish_text.Goals as goal
 

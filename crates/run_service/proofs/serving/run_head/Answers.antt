@@ -1,5 +1,5 @@
 use Rattle.std.proofs.Common.{List, subst}
-use Rattle.history_check.specs.declared.wishes.Wish.{Wish}
+use Rattle.event_lines.specs.declared.wishes.Wish.{Wish}
 use Rattle.operator_cli.specs.Settings.{given}
 use Rattle.run_service.specs.Ends.{End, IsEndOf}
 use Rattle.run_service.proofs.RunFacts.{settings_refused, told_by}
