@@ -4,9 +4,10 @@ ghost use Rattle.std.specs.Prelude.{◌≡◌, ◌≢◌};
 
 use crate::courses::{Beside, play, try_beside};
 use crate::journals::Journal;
-use crate::logging::{berth_of, logs};
+use crate::logging::logs;
 use crate::scripts::Turn;
 use crate::worlds::{Start, Who};
+use book_support::berth_of;
 use history_book::{Berth, Book, BookFault};
 use lock_messages::Attempt;
 use test_outcomes::{Outcome, check, check_row};

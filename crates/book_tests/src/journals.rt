@@ -1,6 +1,5 @@
 // The journal of a book, and what an audit finds of it.
 
-use crate::faults::of_journal;
 use crate::worlds::Start;
 use crate::writers::all_fit;
 use history_book::Book;
@@ -26,7 +25,7 @@ fn journal_of(book: &Book, alloc: Global) -> Result<Vec<u8>, Failure> {
     let mut text = Vec::new(alloc);
     match book.write_journal(alloc, &mut text) {
         Ok(()) => Ok(text),
-        Err(fault) => Err(of_journal(fault)),
+        Err(_) => Err(Failure::Memory),
     }
 }
 

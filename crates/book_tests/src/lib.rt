@@ -11,8 +11,6 @@ mod books;
 #[cfg(test)]
 mod courses;
 #[cfg(test)]
-mod faults;
-#[cfg(test)]
 mod full;
 #[cfg(test)]
 mod generator;

@@ -3,12 +3,13 @@
 ghost use Rattle.std.specs.Prelude.{◌≡◌, IfOk};
 ghost use Rattle.history_book.specs.Books.{BookValue, BerthValue};
 
-use crate::faults::of_book;
-use crate::worlds::{Start, Who, event};
+use crate::worlds::{Start, Who};
+use book_support::{berth_of, book_over, of_book};
 use history_book::{Berth, Book, BookFault};
 use lock_messages::Actor;
 use std::alloc::Global;
 use test_outcomes::{Failure, Outcome, check, client_id, node_id};
+use test_support::event;
 use world_model::{Age, Effect, Event};
 
 /// A book of this number over the world that starts so.
@@ -19,23 +20,7 @@ pub(crate) fn opened(alloc: Global, number: u64, start: Start) -> Result<Book, F
     let Ok(world) = start.world(alloc) else {
         return Err(Failure::Memory);
     };
-    match Book::over(alloc, number, world) {
-        Ok(book) => Ok(book),
-        Err((_world, fault)) => Err(of_book(fault)),
-    }
-}
-
-/// The berth of an actor that was given none.
-pub(crate) fn berth_of(book: &mut Book, actor: Actor) -> Result<Berth, Failure>
-    requires { Unit {0} }
-    ensures book { (book.new.number ≡ book.old.number) × (book.new.table ≡ book.old.table) }
-    ensures berth { IfOk result (λ k. (k.number ≡ book.new.number) × (k.table ≡ book.new.table)) }
-{
-    match book.berth(actor) {
-        Ok(Some(berth)) => Ok(berth),
-        Ok(None) => Err(Failure::Wrong(0)),
-        Err(fault) => Err(of_book(fault)),
-    }
+    book_over(alloc, number, world)
 }
 
 /// Whether the actor is given a berth, or can't be told for want of memory.

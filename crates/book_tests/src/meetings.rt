@@ -4,9 +4,10 @@ ghost use Rattle.std.specs.Prelude.{◌≡◌, ◌≢◌};
 
 use crate::courses::{Beside, play, try_beside};
 use crate::journals::Journal;
-use crate::logging::{berth_of, is_given, meets};
+use crate::logging::{is_given, meets};
 use crate::scripts::{Answer, Place, Turn};
 use crate::worlds::{Start, Who};
+use book_support::berth_of;
 use history_book::{Book, BookFault};
 use std::alloc::Global;
 use test_outcomes::{Outcome, check};

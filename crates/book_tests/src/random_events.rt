@@ -6,14 +6,16 @@ ghost use Rattle.book_tests.specs.Ties.{IsOf};
 use crate::courses::log_beside;
 use crate::generator::event_of_turn;
 use crate::journals::Journal;
-use crate::logging::{berth_of, log};
+use crate::logging::log;
 use crate::worlds::{Start, Who};
+use book_support::berth_of;
 use history_book::{Berth, Book, BookFault};
 use lock_messages::Actor;
 use rand_core::utils::NextWord;
 use rand_pcg::Pcg32;
 use std::alloc::Global;
 use test_outcomes::{Failure, Outcome, check};
+use test_support::Tally;
 use world_machine::World;
 use world_model::{Effect, Event, StepFault};
 
@@ -57,14 +59,10 @@ fn berths_of(alloc: Global, book: &mut Book) -> Result<Vec<Berth>, Failure>
     Ok(berths)
 }
 
-/// What a history has and what was refused: the messages sent, the entries, the writers that softened, the
-/// nodes that took another problem, the refused events.
+/// What a history has, and how many events were refused.
 #[derive(Clone, Copy)]
 struct Seen {
-    sent: u32,
-    entered: u32,
-    softened: u32,
-    switched: u32,
+    done: Tally,
     refused: u32,
 }
 
@@ -72,12 +70,7 @@ struct Seen {
 fn seen_with(seen: Seen, answer: &Result<Effect, BookFault>) -> Seen {
     let mut seen = seen;
     match answer {
-        Ok(Effect::Sent(number, _)) => seen.sent = *number,
-        Ok(Effect::Said { count, .. }) => seen.sent = seen.sent.saturating_add(*count),
-        Ok(Effect::Inside) => seen.entered = seen.entered.saturating_add(1),
-        Ok(Effect::Softened) => seen.softened = seen.softened.saturating_add(1),
-        Ok(Effect::Switched(true)) => seen.switched = seen.switched.saturating_add(1),
-        Ok(_) => {}
+        Ok(effect) => seen.done = seen.done.after(effect),
         Err(_) => seen.refused = seen.refused.saturating_add(1),
     }
     seen
@@ -117,10 +110,7 @@ fn run(book: &mut Book, berths: &mut Vec<Berth>, world: &mut World) -> Result<Se
 {
     let mut words = Pcg32::new(SEED, 1);
     let mut seen = Seen {
-        sent: 0,
-        entered: 0,
-        softened: 0,
-        switched: 0,
+        done: Tally::NONE,
         refused: 0,
     };
     let mut place = 0;
@@ -132,7 +122,7 @@ fn run(book: &mut Book, berths: &mut Vec<Berth>, world: &mut World) -> Result<Se
             place = words.next_word() % ACTORS;
         }
         let actor = actor_at(place);
-        let event = &event_of_turn(&mut words, world, actor, turn, seen.sent);
+        let event = &event_of_turn(&mut words, world, actor, turn, seen.done.sent);
         let answer = log_at(book, berths, place, *event);
         seen = seen_with(seen, &answer);
         let did = world.step(event);
@@ -143,11 +133,11 @@ fn run(book: &mut Book, berths: &mut Vec<Berth>, world: &mut World) -> Result<Se
 
 /// Whether a history has enough of each kind, and the book has what was seen.
 fn has_enough(book: &Book, seen: Seen) -> Outcome {
-    let logged = check(book.events() == EVENTS && book.entered() == seen.entered);
-    let many = check(seen.refused >= 2_000 && seen.entered >= 5);
+    let logged = check(book.events() == EVENTS && book.entered() == seen.done.entered);
+    let many = check(seen.refused >= 2_000 && seen.done.entered >= 5);
     logged
         .and(many)
-        .and(check(seen.softened >= 2 && seen.switched >= 10))
+        .and(check(seen.done.softened >= 2 && seen.done.switched >= 10))
 }
 
 /// A run logs enough of each kind.

@@ -2,12 +2,14 @@
 
 ghost use Rattle.std.specs.Prelude.{◌≡◌};
 
-use crate::logging::{asks, berth_of, is_given, logs, meets, rises, takes_all};
+use crate::logging::{asks, is_given, logs, meets, rises, takes_all};
 use crate::worlds::{Who, fourth_ticket};
+use book_support::berth_of;
 use history_book::{Berth, Book, BookFault};
 use lock_messages::Message;
 use lock_model::Heard;
-use test_outcomes::{Failure, Outcome, check, node_id};
+use test_outcomes::{Outcome, check, node_id};
+use test_support::in_row;
 use world_model::{Effect, StepFault};
 
 /// One of the three berths.
@@ -116,14 +118,6 @@ fn goes(
         Turn::MeetsFirst(met) => check(meets(book, second, first) == Ok(met)),
         Turn::Events(count) => check(book.events() == count),
         Turn::Entered(count) => check(book.entered() == count),
-    }
-}
-
-/// What went wrong, as what did so in this row.
-fn in_row(outcome: Outcome, row: usize) -> Outcome {
-    match outcome {
-        Err(Failure::Wrong(_)) => Err(Failure::Wrong(row)),
-        other => other,
     }
 }
 

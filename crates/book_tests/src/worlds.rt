@@ -1,14 +1,12 @@
 // Worlds in which all are down and nothing is kept, and a few values.
 
-use admission_policy::{Admission, FirstProblem, Pair, SecondProblem};
-use history_check::read_event;
 use lock_messages::{Actor, Attempt, Mode, ResourceName, Ticket};
 use lock_model::Problem;
 use std::alloc::Global;
 use test_outcomes::{Failure, client_id, node_id};
-use vote_weights::{Ballot, BallotList};
+use test_support::{ballots_of, new_world};
+use vote_weights::BallotList;
 use world_machine::World;
-use world_model::Event;
 
 /// An actor of a table's row: a node of three, or a client of four. The last two are strangers to each world.
 #[derive(Clone, Copy)]
@@ -50,60 +48,6 @@ pub(crate) fn fourth_ticket() -> Ticket {
     }
 }
 
-/// The event of a line.
-pub(crate) fn event(line: &str) -> Result<Event, Failure> {
-    match read_event(line.as_bytes()) {
-        Ok(event) => Ok(event),
-        Err(_) => Err(Failure::Wrong(0)),
-    }
-}
-
-/// The plain policies of both problems.
-fn pair(alloc: Global) -> Result<Pair, Failure> {
-    let first: Box<dyn Admission + Send> = Box::new(alloc, FirstProblem)?;
-    let second: Box<dyn Admission + Send> = Box::new(alloc, SecondProblem)?;
-    Ok(Pair::of(first, second))
-}
-
-/// Adds such a pair, unless memory is refused.
-fn put_pair(alloc: Global, pairs: &mut Vec<Pair>) {
-    if let Ok(pair) = pair(alloc) {
-        let _refused = pairs.push(pair).is_err();
-    }
-}
-
-/// One such pair for each of so many nodes, or fewer where memory is refused.
-fn pairs_of(alloc: Global, count: u8) -> Vec<Pair> {
-    let mut pairs = Vec::new(alloc);
-    for _ in 0..count {
-        put_pair(alloc, &mut pairs);
-    }
-    pairs
-}
-
-/// The list of this one ballot.
-fn ballots_of(votes: &[u8], read: u16, write: u16) -> Result<BallotList, Failure> {
-    let Ok(ballot) = Ballot::of(votes, read, write) else {
-        return Err(Failure::Wrong(0));
-    };
-    match BallotList::of(&[ballot]) {
-        Ok(ballots) => Ok(ballots),
-        Err(_) => Err(Failure::Wrong(0)),
-    }
-}
-
-/// A world of these ballots, under this problem, and of four clients.
-fn world_of(alloc: Global, ballots: BallotList, problem: Problem) -> Result<World, Failure> {
-    let pairs = pairs_of(alloc, ballots.nodes());
-    if pairs.len() != ballots.nodes() as usize {
-        return Err(Failure::Memory);
-    }
-    match World::start(alloc, ballots, 4, problem, pairs) {
-        Ok(world) => Ok(world),
-        Err((_fault, _pairs)) => Err(Failure::Memory),
-    }
-}
-
 /// How a world starts.
 #[derive(Clone, Copy)]
 pub(crate) enum Start {
@@ -133,7 +77,7 @@ impl Start {
     /// The world that starts so.
     pub(crate) fn world(self, alloc: Global) -> Result<World, Failure> {
         match self.ballots() {
-            Ok(ballots) => world_of(alloc, ballots, self.problem()),
+            Ok(ballots) => new_world(alloc, ballots, self.problem(), 4),
             Err(failure) => Err(failure),
         }
     }

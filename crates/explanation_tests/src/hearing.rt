@@ -1,35 +1,16 @@
 // Hearing what is said of an input.
 
-use admission_policy::{Admission, FirstProblem, Pair, SecondProblem};
 use explanations::Explainer;
 use lock_messages::MAX_NODES;
 use operator_cli::{Command, Policies};
 use std::alloc::Global;
 use test_outcomes::{Failure, Outcome, check_row};
-
-/// Settings of three nodes with a vote each, of which two read and two write, and four clients.
-pub(crate) const SETTINGS: &str =
-    "votes = [1, 1, 1]\nread = 2\nwrite = 2\nproblem = 1\nclients = 4\n---\n";
-
-/// The plain policies of both problems.
-fn pair(alloc: Global) -> Result<Pair, Failure> {
-    let first: Box<dyn Admission + Send> = Box::new(alloc, FirstProblem)?;
-    let second: Box<dyn Admission + Send> = Box::new(alloc, SecondProblem)?;
-    Ok(Pair::of(first, second))
-}
-
-/// As many pairs of policies as there may be nodes.
-fn policies(alloc: Global) -> Result<Policies, Failure> {
-    let mut pairs = Vec::new(alloc);
-    for _ in 0..MAX_NODES {
-        pairs.push(pair(alloc)?)?;
-    }
-    Ok(Policies { pairs })
-}
+use test_support::{SETTINGS, plain_pairs};
 
 /// An explainer of an input of this command.
 pub(crate) fn explainer(alloc: Global, command: Command) -> Result<Explainer, Failure> {
-    Ok(Explainer::new(alloc, command, policies(alloc)?))
+    let pairs = plain_pairs(alloc, MAX_NODES)?;
+    Ok(Explainer::new(alloc, command, Policies { pairs }))
 }
 
 /// What is said of an input of a command, which comes in pieces of this size.

@@ -15,47 +15,47 @@ const ROWS: [(&str, &str); 13] = [
     ),
     (
         "rise c1 old\nleave c1\nleave c1\n",
-        "unsound 2 refused 604: leave c1 (line 8 of the input): it is idle\n",
+        "input line 8: refused 604: wrong phase: c1 is idle (leave c1)\n",
     ),
     (
         "rise c1 old\nbegin c1 write a\ntry c1\nkept c1\nenter c1\n",
-        "unsound 5 refused 609: enter c1 (line 11 of the input): the votes are not enough: 0 of 2\n",
+        "input line 11: refused 609: not enough votes: has 0, needs 2 (enter c1)\n",
     ),
     (
         "begin c1 read a\n",
-        "unsound 1 refused 602: begin c1 read a (line 7 of the input): the actor is down\nhint: in a script all are up at first, and `rwvote script` plays it; a journal begins with all of them down\n",
+        "input line 7: refused 602: the actor is down (begin c1 read a)\nhint: a journal begins with all actors down: if this is a script, use `rwvote script`\n",
     ),
     (
         "rise c1 old\nbegin c2 read a\n",
-        "unsound 2 refused 602: begin c2 read a (line 8 of the input): the actor is down\n",
+        "input line 8: refused 602: the actor is down (begin c2 read a)\n",
     ),
     (
         "rise n1 old\ninside a\n",
-        "unsound 2 fault 801: no event has this word: \"inside a\" (line 8 of the input)\nhint: the line begins as a query does; `rwvote script` answers queries, and a journal has events alone\n",
+        "input line 8: fault 801: unknown command \"inside\": expected begin, try, kept, sayto, say, take, hear, enter, leave, soften, fall, rise or switch\nhint: this is a query: `rwvote script` answers queries, a journal has only events\n",
     ),
     (
         "rise n1 old\ninside\n",
-        "unsound 2 fault 801: no event has this word: \"inside\" (line 8 of the input)\nhint: the line begins as a query does; `rwvote script` answers queries, and a journal has events alone\n",
+        "input line 8: fault 801: unknown command \"inside\": expected begin, try, kept, sayto, say, take, hear, enter, leave, soften, fall, rise or switch\nhint: this is a query: `rwvote script` answers queries, a journal has only events\n",
     ),
     (
         "rise n1 old\ninside A\n",
-        "unsound 2 fault 801: no event has this word: \"inside A\" (line 8 of the input)\nhint: the line begins as a query does; `rwvote script` answers queries, and a journal has events alone\n",
+        "input line 8: fault 801: unknown command \"inside\": expected begin, try, kept, sayto, say, take, hear, enter, leave, soften, fall, rise or switch\nhint: this is a query: `rwvote script` answers queries, a journal has only events\n",
     ),
     (
         "rise n1 old\nwaiting n0 a\n",
-        "unsound 2 fault 801: no event has this word: \"waiting n0 a\" (line 8 of the input)\nhint: the line begins as a query does; `rwvote script` answers queries, and a journal has events alone\n",
+        "input line 8: fault 801: unknown command \"waiting\": expected begin, try, kept, sayto, say, take, hear, enter, leave, soften, fall, rise or switch\nhint: this is a query: `rwvote script` answers queries, a journal has only events\n",
     ),
     (
         "rise n1 old\nholding n1 a b\n",
-        "unsound 2 fault 801: no event has this word: \"holding n1 a b\" (line 8 of the input)\nhint: the line begins as a query does; `rwvote script` answers queries, and a journal has events alone\n",
+        "input line 8: fault 801: unknown command \"holding\": expected begin, try, kept, sayto, say, take, hear, enter, leave, soften, fall, rise or switch\nhint: this is a query: `rwvote script` answers queries, a journal has only events\n",
     ),
     (
         "rise n1 old\n\n",
-        "unsound 2 fault 801: no event has this word: \"\" (line 8 of the input)\nhint: the line is blank; behind `---` each line is an event\n",
+        "input line 8: fault 801: unknown command \"\": expected begin, try, kept, sayto, say, take, hear, enter, leave, soften, fall, rise or switch\nhint: the line is blank: after `---` each line is an event\n",
     ),
     (
         "rise n1 old\nrise n2 now\nfoo\n",
-        "unsound 2 fault 801: no event has this word: \"rise n2 now\" (line 8 of the input)\n",
+        "input line 8: fault 801: \"now\" is not old or new\n",
     ),
 ];
 

@@ -16,3 +16,5 @@ mod runs;
 mod scripts;
 #[cfg(test)]
 mod settings;
+#[cfg(test)]
+mod stages;

@@ -1,9 +1,9 @@
 // What is said at limits that no short input reaches.
 
-use crate::hearing::{SETTINGS, explainer};
-use operator_cli::{Command, SettingsFault};
+use crate::hearing::explainer;
+use operator_cli::Command;
 use test_outcomes::{Failure, Outcome, check_row};
-use world_model::StepFault;
+use test_support::SETTINGS;
 
 /// How often a client asks in a row, and how many such rows fill the list of messages.
 const ROW: usize = 4_096;
@@ -11,7 +11,7 @@ const ROW: usize = 4_096;
 const ROWS: u32 = 256;
 
 const FULL_WORDS: &str =
-    "line 1048580: refused 612: the list of messages is full (sayto c1 n1, line 1048586 of the input)\n";
+    "input line 1048586: refused 612: the list of messages is full (sayto c1 n1)\n";
 
 /// The list takes 1,048,576 messages, and the next one is refused.
 #[test]
@@ -33,16 +33,4 @@ fn full_list(rt: HostRuntime) -> Outcome {
         return Err(Failure::Memory);
     }
     check_row(text.as_str() == FULL_WORDS, 1)
-}
-
-/// Two faults are never told of an input. In a script and in a journal each client begins with no attempt made,
-/// and has 1,000,000,000,000 of them (610); and where memory is refused for the settings (925), it is so for what
-/// would be said of them too. Their words are those of the fault alone.
-#[test]
-fn faults_of_no_input(rt: HostRuntime) -> Outcome {
-    let (spent, memory) = (StepFault::AttemptsSpent, SettingsFault::Memory);
-    let (first, second) = (spent.number(), memory.number());
-    let text = format!(in rt.alloc(); "{first} {spent}\n{second} {memory}\n")?;
-    let words = "610 the client's attempts are spent\n925 there was no memory for the settings\n";
-    check_row(text.as_str() == words, 0)
 }

@@ -2,9 +2,9 @@
 
 ghost use Rattle.lock_messages.specs.Ids.{IsNode, IsClient};
 
+use event_lines::{Wish, read_wish};
 use event_recorders::RunFault;
 use explanations::RunWords;
-use history_check::{Wish, read_wish};
 use lock_messages::Actor;
 use std::alloc::Global;
 use std::io::Write;
@@ -54,13 +54,13 @@ c1 entered 2 times: read a
 c2 entered once: soften b
 c1 entered once: write a
 n1 fault 911: the record failed to reopen three times in a row
-c1 fault 913: gave up at its last nudge in wish 7, write a
-c2 fault 914: out of memory, or no thread could be started in wish 2, soften b
-c3 fault 912: too few nodes are left in wish 6, read a
-c4 fault 916: the record or the attempts are spent behind its last wish
-wish 5 is left: c2 write c b2
-wish 6 is left: c3 read a
-wish 7 is left: c1 write a
+c1 fault 913: gave up after 1000 retries in wish 7 (write a)
+c2 fault 914: out of memory or threads in wish 2 (soften b)
+c3 fault 912: cannot get enough votes in wish 6 (read a)
+c4 fault 916: the record's changes or the client's attempts are used up after its last wish
+wish 5 was not done: c2 write c b2
+wish 6 was not done: c3 read a
+wish 7 was not done: c1 write a
 ";
 
 fn client(number: u32) -> Actor
@@ -93,7 +93,7 @@ fn run_with_faults(rt: HostRuntime) -> Outcome {
 fn next_wish(rt: HostRuntime) -> Outcome {
     let faults = [(client(2), RunFault::Book)];
     let left = heard(rt.alloc(), "enter c2\nleave c2\n", faults.as_slice())?;
-    let words = "c2 fault 915: the book takes no more events of this actor in wish 5, write c b2\n";
+    let words = "c2 fault 915: the log or the list of messages is full in wish 5 (write c b2)\n";
     check_row(left.as_str().contains(words), 0)?;
     let fell = heard(rt.alloc(), "enter c2\nfall c2\n", faults.as_slice())?;
     check_row(fell.as_str() == left.as_str(), 1)

@@ -8,24 +8,27 @@ use Rattle.stable_record.specs.Records.{IsNodeRecord, node_record_of}
 use Rattle.history_book.specs.Books.{BookValue, BerthValue}
 use Rattle.event_recorders.specs.OwnLogs.{OwnLog, IsDownAtRest}
 use Rattle.book_recorders.specs.Sharing.{log_of}
-use Rattle.history_check.specs.declared.wishes.Wish.{Wish}
+use Rattle.event_lines.specs.declared.wishes.Wish.{Wish}
 use Rattle.client_loop.specs.Visits.{ArePlaced}
 use Rattle.node_loop.specs.Standing.{IsReady}
 use Rattle.loop_tests.specs.Clients.{IsClientOf}
-use Rattle.loop_tests.specs.Fresh.{IsUnlogged, IsNewNode, empty_record, two_nodes}
+use Rattle.test_support.specs.Fresh.{empty_record}
+use Rattle.book_support.specs.Fresh.{IsUnlogged}
+use Rattle.loop_tests.specs.Fresh.{IsNewNode, two_nodes}
 
-pub node_log : (b : List Ballot) (p : Problem) (n : ℕ) (k : BerthValue) (book : BookValue) → IsUnlogged b p (actor.Node n) k book → n ≡ 1 → IsNewNode p (log_of k)
-node_log b p n k book unlogged one =
-    let at : IsUnlogged b p (actor.Node 1) k book = subst (λ (m : ℕ). IsUnlogged b p (actor.Node m) k book) one unlogged in
+pub node_log : (b : List Ballot) (p : Problem) (n : ℕ) (k : BerthValue) (book : BookValue) → b ≡ two_nodes → IsUnlogged b p 3 (actor.Node n) k book → n ≡ 1 → IsNewNode p (log_of k)
+node_log b p n k book votes unlogged one =
+    let here : IsUnlogged two_nodes p 3 (actor.Node n) k book = subst (λ (c : List Ballot). IsUnlogged c p 3 (actor.Node n) k book) votes unlogged in
+    let at : IsUnlogged two_nodes p 3 (actor.Node 1) k book = subst (λ (m : ℕ). IsUnlogged two_nodes p 3 (actor.Node m) k book) one here in
     record {
       actor = ap (λ (l : OwnLog). l.actor) at.log;
       opening = ap (λ (l : OwnLog). l.opening) at.log;
       events = ap (λ (l : OwnLog). l.events) at.log;
     }
 
-pub client_log : (b : List Ballot) (p : Problem) (n : ℕ) (k : BerthValue) (book : BookValue) → IsUnlogged b p (actor.Client n) k book → n ≡ 1 → IsClientOf b 0 (log_of k)
+pub client_log : (b : List Ballot) (p : Problem) (n : ℕ) (k : BerthValue) (book : BookValue) → IsUnlogged b p 3 (actor.Client n) k book → n ≡ 1 → IsClientOf b 0 (log_of k)
 client_log b p n k book unlogged one =
-    let at : IsUnlogged b p (actor.Client 1) k book = subst (λ (m : ℕ). IsUnlogged b p (actor.Client m) k book) one unlogged in
+    let at : IsUnlogged b p 3 (actor.Client 1) k book = subst (λ (m : ℕ). IsUnlogged b p 3 (actor.Client m) k book) one unlogged in
     record {
       actor = ap (λ (l : OwnLog). l.actor) at.log;
       ballots = ap (λ (l : OwnLog). l.ballots) at.log;

@@ -3,9 +3,10 @@
 use crate::clients_beside::WHOLE;
 use crate::judging::Check;
 use crate::records::Device;
-use crate::runs::{BESIDE, Row, Run, does, ends_as, in_row};
+use crate::runs::{BESIDE, Row, Run, does, ends_as};
 use stable_record::Leaves;
 use test_outcomes::Outcome;
+use test_support::in_row;
 
 const OLD: Row = Row {
     run: Run {

@@ -7,7 +7,6 @@ ghost use Rattle.book_recorders.specs.Sharing.{log_of};
 ghost use Rattle.loop_tests.specs.Clients.{IsClientOf};
 ghost use Rattle.loop_tests.specs.Fresh.{two_nodes};
 
-use crate::audits::write_journal;
 use crate::clients::wishes;
 use crate::neighbours::Neighbour;
 use crate::openings::{own_book, resumed};
@@ -15,12 +14,13 @@ use crate::records::record_on;
 use crate::runs::{Answer, Beside, Run};
 use crate::scripts::{Others, Scripted};
 use crate::watches::{Watch, Watched};
-use crate::worlds::{ballots, opened, world};
-use book_recorders::{BookName, BookRecorder, ListRecorder, Logs, Named};
+use crate::worlds::{CLIENTS, ballots, opened};
+use book_recorders::{BookName, BookRecorder, Logs, Named, OwnBookRecorder};
+use book_support::journal_of;
 use client_loop::run_client;
 use event_recorders::Recorder;
 use history_book::{Berth, Book};
-use lock_messages::{Actor, MAX_ATTEMPT, NodeId};
+use lock_messages::{Actor, MAX_ATTEMPT};
 use lock_model::Problem;
 use lossy_link::{Link, ListLink};
 use stable_record::client_bytes;
@@ -28,6 +28,7 @@ use std::alloc::Global;
 use std::marker::Brand;
 use std::sync::{Arc, Mutex, Wait};
 use test_outcomes::{Failure, client_id, node_id};
+use test_support::new_world;
 use vote_weights::BallotList;
 
 /// Runs c1, which has made this attempt last, over this link.
@@ -74,7 +75,7 @@ fn run_alone<K: Logs + Drop, W: Wait>(
 {
     let (book, berth) = own;
     let mut recorder = Watched {
-        inner: ListRecorder::over(book, berth),
+        inner: OwnBookRecorder::over(book, berth),
         room: run.room,
         watch,
     };
@@ -110,11 +111,8 @@ pub(crate) fn end_alone<R: Wait + Copy>(
         watch,
         &mut answer,
     );
-    let world = resumed(alloc, ballots, attempt);
-    match write_journal(alloc, &book, world, journal) {
-        Ok(()) => answer,
-        Err(failure) => Err(failure),
-    }
+    *journal = journal_of(alloc, &book, resumed(alloc, ballots, attempt)?)?;
+    answer
 }
 
 /// Runs c1 while others log lines, each before a post comes.
@@ -160,10 +158,7 @@ fn play_beside<B: BookName, K: Logs, W: Wait + Copy, R: Recorder>(
             rt, alloc, ballots, run, lines, recorder, others, link, watch,
         ),
         Beside::Node(node, gone, nudges, goes) => {
-            let nodes = (
-                NodeId::of(node).ok_or(Failure::Wrong(0))?,
-                NodeId::of(gone).ok_or(Failure::Wrong(0))?,
-            );
+            let nodes = (test_support::node(node)?, test_support::node(gone)?);
             let mut link = Neighbour::of(alloc, others, link, nodes, nudges, goes)?;
             play(&rt, alloc, ballots, 0, run, recorder, &mut link, watch)
         }
@@ -262,9 +257,7 @@ pub(crate) fn end_beside<R: Wait + Copy>(
         watch,
         &mut answer,
     );
-    let world = world(alloc, ballots, problem);
-    match write_journal(alloc, &book, world, journal) {
-        Ok(()) => answer,
-        Err(failure) => Err(failure),
-    }
+    let world = new_world(alloc, ballots, problem, CLIENTS)?;
+    *journal = journal_of(alloc, &book, world)?;
+    answer
 }

@@ -5,7 +5,7 @@ ghost use Rattle.lock_model.specs.Ballots.{HasPlace};
 ghost use Rattle.client_loop.specs.Visits.{ArePlaced};
 ghost use Rattle.loop_tests.specs.Fresh.{two_nodes};
 
-use history_check::{MAX_WISHES, Wish, read_wish};
+use event_lines::{MAX_WISHES, Wish, read_wish};
 use std::alloc::Global;
 use test_outcomes::Failure;
 

@@ -1,15 +1,14 @@
 // What is checked of a run that has ended.
 
-use crate::audits::count_of;
-use crate::journals::{Match, told};
 use crate::posts::add_sendings;
 use crate::runs::Answer;
 use crate::watches::Seen;
 use event_recorders::RunFault;
-use lock_messages::{Actor, NodeId};
+use lock_messages::Actor;
 use lossy_link::{Post, Sending};
 use std::alloc::Global;
 use test_outcomes::{Failure, Outcome, check_row, node_id};
+use test_support::{Match, count_of, text_of, told};
 
 /// What a run has to leave. Of a run for which memory was refused (914) less is checked.
 #[derive(Clone, Copy)]
@@ -95,7 +94,7 @@ fn is_all(wanted: &[Sending], ended: &Ended<'_>, is_cut: bool) -> bool {
 
 /// Whether what was sent at a place is for the node of the number, and has the frame.
 fn is_frame(sent: &[Sending], place: usize, node: u8, bytes: &[u8]) -> Result<bool, Failure> {
-    let node = Actor::Node(NodeId::of(node).ok_or(Failure::Wrong(0))?);
+    let node = Actor::Node(test_support::node(node)?);
     match sent.get(place) {
         Some(Sending::Sent(to, parcel)) => Ok(*to == node && &*parcel.frame == bytes),
         _ => Ok(false),
@@ -188,9 +187,7 @@ pub(crate) fn judge(
     wanted: Answer,
 ) -> Outcome {
     let answer = found?;
-    let Ok(text) = str::from_utf8(ended.journal) else {
-        return Err(Failure::Wrong(0));
-    };
+    let text = text_of(ended.journal)?;
     let is_cut = is_cut_off(text, checks, answer, wanted);
     let is_untold = matches!(ended.actor, Actor::Node(_)) && ended.sent.is_empty();
     if is_untold && answer.is_err() && !is_cut {

@@ -7,8 +7,6 @@
 #![tactic(auto)]
 
 #[cfg(test)]
-mod audits;
-#[cfg(test)]
 mod client_records;
 #[cfg(test)]
 mod client_runs;
@@ -19,15 +17,13 @@ mod clients_alone;
 #[cfg(test)]
 mod clients_beside;
 #[cfg(test)]
-mod faults;
-#[cfg(test)]
 mod gate_calls;
 #[cfg(test)]
 mod held_votes;
 #[cfg(test)]
-mod journals;
-#[cfg(test)]
 mod judging;
+#[cfg(test)]
+mod lost_answers;
 #[cfg(test)]
 mod neighbours;
 #[cfg(test)]

@@ -12,6 +12,7 @@ use lossy_link::{Link, LinkFault, ListLink, Parcel, Post};
 use std::alloc::Global;
 use std::sync::Wait;
 use test_outcomes::Failure;
+use test_support::Inbox;
 use world_model::{Effect, Event};
 
 /// A link that brings what another one does and, behind that, the answers of a node. The node is one of the others
@@ -26,9 +27,7 @@ pub(crate) struct Neighbour<'l, 'a, B: BookName, K: Logs, R: Copy> {
     node: NodeId,
     gone: NodeId,
     frame: Bytes,
-    posts: Vec<Post>,
-    nudges: u32,
-    due: u32,
+    inbox: Inbox,
     goes: bool,
 }
 
@@ -49,9 +48,7 @@ impl<'l, 'a, B: BookName, K: Logs, R: Wait + Copy> Neighbour<'l, 'a, B, K, R> {
             node,
             gone,
             frame: frame(alloc, "grant")?,
-            posts: Vec::new(alloc),
-            nudges,
-            due: 0,
+            inbox: Inbox::of(alloc, node, nudges),
             goes,
         })
     }
@@ -63,7 +60,7 @@ impl<'l, 'a, B: BookName, K: Logs, R: Wait + Copy> Neighbour<'l, 'a, B, K, R> {
         if let Effect::Took(_, true) = taken {
             self.others.log_event(&Event::Try(Actor::Node(self.node)))?;
             self.others.log_event(&Event::Kept(Actor::Node(self.node)))?;
-            self.due = self.nudges;
+            self.inbox.keep();
         }
         match self.others.log_event(&Event::Say(self.node))? {
             Effect::Said { first, count } => Ok((first, count)),
@@ -71,42 +68,21 @@ impl<'l, 'a, B: BookName, K: Logs, R: Wait + Copy> Neighbour<'l, 'a, B, K, R> {
         }
     }
 
-    /// The post will be brought.
-    fn bring(&mut self, post: Post) -> Result<(), LinkFault>
-        ensures { IsOkUnless result LinkFault.Memory }
-    {
-        if self.posts.push(post).is_err() {
-            return Err(LinkFault::Memory);
-        }
-        Ok(())
-    }
-
-    /// The nudges that the node is about to make will be brought.
-    fn nudge(&mut self) -> Result<(), LinkFault>
-        ensures { IsOkUnless result LinkFault.Memory }
-    {
-        for _ in 0..self.due {
-            self.bring(Post::Nudge(self.node))?;
-        }
-        self.due = 0;
-        Ok(())
-    }
-
     /// The replies of these numbers will be brought, behind the node's nudges, and that the node is gone, if it
     /// goes.
     fn answer(&mut self, first: u32, count: u32) -> Result<(), LinkFault>
         ensures { IsOkUnless result LinkFault.Memory }
     {
-        self.nudge()?;
+        self.inbox.nudge()?;
         for place in 0..count {
             let number = first.wrapping_add(place);
             let Ok(frame) = self.frame.clone() else {
                 return Err(LinkFault::Memory);
             };
-            self.bring(Post::Parcel(Parcel { number, frame }))?;
+            self.inbox.bring(Post::Parcel(Parcel { number, frame }))?;
         }
         if self.goes {
-            self.bring(Post::Gone(self.node))?;
+            self.inbox.bring(Post::Gone(self.node))?;
         }
         self.goes = false;
         Ok(())
@@ -125,7 +101,7 @@ impl<'l, 'a, B: BookName, K: Logs, R: Wait + Copy> Link for Neighbour<'l, 'a, B,
     /// Brings what the node answers or, where it goes to another, that a node is gone.
     fn send(&mut self, to: Actor, parcel: Parcel) -> Result<(), LinkFault> {
         if to != Actor::Node(self.node) {
-            return self.bring(Post::Gone(self.gone));
+            return self.inbox.bring(Post::Gone(self.gone));
         }
         match self.turn(parcel.number) {
             Ok((first, count)) => self.answer(first, count),
@@ -142,8 +118,7 @@ impl<'l, 'a, B: BookName, K: Logs, R: Wait + Copy> Link for Neighbour<'l, 'a, B,
     fn receive(&mut self) -> Result<Post, LinkFault> {
         match self.link.receive() {
             Ok(post) => Ok(post),
-            Err(_) if self.posts.is_empty() => Err(LinkFault::Closed),
-            Err(_) => Ok(self.posts.remove(0)),
+            Err(_) => self.inbox.receive(),
         }
     }
 }

@@ -1,43 +1,27 @@
 // How n1 is run beside others.
 
-ghost use Rattle.std.specs.Prelude.{◌≡◌, IfOk, OnOk};
-ghost use Rattle.stable_record.specs.Records.{IsNodeRecord, node_record_of};
+ghost use Rattle.std.specs.Prelude.{◌≡◌};
 ghost use Rattle.book_recorders.specs.Sharing.{log_of};
-ghost use Rattle.loop_tests.specs.Fresh.{IsNewNode, empty_record};
+ghost use Rattle.loop_tests.specs.Fresh.{IsNewNode};
 
-use crate::audits::write_journal;
 use crate::records::record_on;
 use crate::runs::{Answer, Beside, Run};
 use crate::scripts::{Others, Scripted};
 use crate::watches::{Watch, Watched};
-use crate::worlds::{ballots, opened, pair, world};
+use crate::worlds::{CLIENTS, ballots, opened};
 use book_recorders::{BookName, BookRecorder, Logs, Named};
+use book_support::journal_of;
 use event_recorders::Recorder;
 use history_book::{Berth, Book};
 use lock_messages::Actor;
 use lock_model::Problem;
 use lossy_link::{Link, ListLink};
 use node_loop::run_node;
-use stable_record::{Entries, NodeRecord, node_bytes};
 use std::alloc::Global;
 use std::marker::Brand;
 use std::sync::{Arc, Mutex, Wait};
 use test_outcomes::{Failure, client_id, node_id};
-
-/// The record of a node for this problem that has kept nothing yet.
-fn nothing_kept(alloc: Global, problem: Problem) -> Result<Vec<u8>, Failure>
-    ensures bytes { IfOk result (λ v. v.items ≡ node_record_of (empty_record problem)) }
-    ensures good { OnOk result (IsNodeRecord (empty_record problem)) }
-{
-    let record = NodeRecord {
-        policy: problem,
-        entries: Entries::new(alloc),
-    };
-    match node_bytes(alloc, &record) {
-        Ok(bytes) => Ok(bytes),
-        Err(_) => Err(Failure::Memory),
-    }
-}
+use test_support::{new_world, nothing_kept, plain_pair};
 
 /// Runs n1, which has kept nothing, over this link.
 #[tactic(auto, using(crate::proofs::Ready::node_ready))]
@@ -55,7 +39,7 @@ fn play<W: Wait, R: Recorder, L: Link>(
     let node = node_id(1);
     let nothing = nothing_kept(alloc, problem)?;
     let stable = record_on(alloc, run.device, nothing.as_slice(), watch)?;
-    let policies = pair(alloc)?;
+    let policies = plain_pair();
     let gate: &Watch = watch;
     match run_node(rt, alloc, node, stable, policies, recorder, link, gate) {
         Ok(()) => Ok(Ok(0)),
@@ -178,9 +162,7 @@ pub(crate) fn end_of_node<R: Wait + Copy>(
         watch,
         &mut answer,
     );
-    let world = world(alloc, ballots, problem);
-    match write_journal(alloc, &book, world, journal) {
-        Ok(()) => answer,
-        Err(failure) => Err(failure),
-    }
+    let world = new_world(alloc, ballots, problem, CLIENTS)?;
+    *journal = journal_of(alloc, &book, world)?;
+    answer
 }

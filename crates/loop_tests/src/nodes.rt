@@ -2,10 +2,11 @@
 
 use crate::judging::Check;
 use crate::records::Device;
-use crate::runs::{NODE, Row, Run, do_all, does, ends_as, in_row};
+use crate::runs::{NODE, Row, Run, do_all, does, ends_as};
 use event_recorders::RunFault;
 use stable_record::Leaves;
 use test_outcomes::Outcome;
+use test_support::in_row;
 
 /// How c1 asks n1: message 1.
 const ASKS: &str = "\

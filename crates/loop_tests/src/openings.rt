@@ -7,19 +7,16 @@ ghost use Rattle.book_recorders.specs.Alone.{IsAlone};
 ghost use Rattle.book_recorders.specs.Sharing.{log_of};
 ghost use Rattle.loop_tests.specs.Clients.{HasKept, IsClientOf};
 
-use crate::faults::of_book;
-use crate::worlds::pairs;
 use book_recorders::open_alone;
+use book_support::of_book;
 use history_book::{Berth, Book};
 use lock_messages::Actor;
 use stable_record::client_bytes;
 use std::alloc::Global;
 use test_outcomes::{Failure, client_id};
+use test_support::{NOTHING_KEPT, plain_pairs};
 use vote_weights::BallotList;
 use world_machine::{OpeningFault, World};
-
-/// The record of a node for problem 1 that has kept nothing.
-const NOTHING: [u8; 4] = [1, 1, 0, 0];
 
 /// The records of two actors.
 fn records(alloc: Global, first: &[u8], second: &[u8]) -> Result<Vec<Vec<u8>>, Failure>
@@ -38,8 +35,8 @@ pub(crate) fn resumed(alloc: Global, ballots: BallotList, attempt: u64) -> Resul
     requires attempt { attempt ≤ MAX_ATTEMPT }
     ensures { IfOk result (λ w. HasKept ballots attempt w) }
 {
-    let pairs = pairs(alloc)?;
-    let nodes = records(alloc, &NOTHING, &NOTHING)?;
+    let pairs = plain_pairs(alloc, 2)?;
+    let nodes = records(alloc, &NOTHING_KEPT, &NOTHING_KEPT)?;
     let clients = records(alloc, &client_bytes(attempt), &client_bytes(0))?;
     match World::resume(alloc, ballots, 2, pairs, &nodes, &clients) {
         Ok(world) => Ok(world),

@@ -1,11 +1,11 @@
 // Posts and sendings, as rows of tests spell them.
 
-use crate::worlds::{attempt, resource};
 use bytes::Bytes;
-use lock_messages::{Actor, ClientId, Message, Mode, NodeId, Ticket, encode};
+use lock_messages::{Actor, Message, Mode, NodeId, Ticket, encode};
 use lossy_link::{Parcel, Post, Sending};
 use std::alloc::Global;
 use test_outcomes::{Failure, Outcome, client_id, node_id};
+use test_support::{node, ticket};
 
 /// About which ticket for `a` a text is, by its end: the number of the client and of its attempt, and the mode.
 /// So `grant` is about c1's ticket to read, and `grant write` about c1's to write.
@@ -16,16 +16,6 @@ const TICKETS: [(&str, u32, u64, Mode); 5] = [
     (" c3", 3, 1, Mode::Read),
     ("", 1, 1, Mode::Read),
 ];
-
-/// The ticket of a client for `a` in its attempt of this number.
-fn ticket(client: u32, number: u64, mode: Mode) -> Result<Ticket, Failure> {
-    Ok(Ticket {
-        client: ClientId::of(client).ok_or(Failure::Wrong(0))?,
-        attempt: attempt(number)?,
-        mode,
-        resource: resource(b"a")?,
-    })
-}
 
 /// The message with the node that a word names, about that ticket.
 fn about(word: &str, node: NodeId, ticket: Ticket) -> Result<Message, Failure> {
@@ -49,7 +39,7 @@ fn message(text: &str) -> Result<Message, Failure> {
     };
     for (end, client, number, mode) in &TICKETS {
         if let Some(word) = text.strip_suffix(*end) {
-            return about(word, node, ticket(*client, *number, *mode)?);
+            return about(word, node, ticket(*client, *number, *mode, b"a")?);
         }
     }
     Err(Failure::Wrong(0))
@@ -126,7 +116,7 @@ pub(crate) fn post_all(
     posts: &mut Vec<Post>,
 ) -> Outcome {
     let (number, count) = nudges;
-    let node = NodeId::of(number).ok_or(Failure::Wrong(0))?;
+    let node = node(number)?;
     add_posts(alloc, row, posts)?;
     for _ in 0..count {
         posts.push(Post::Nudge(node))?;

@@ -4,10 +4,11 @@ ghost use Rattle.std.specs.Prelude.{◌≡◌, ◌∷◌, [], IfOk};
 
 use crate::odd_records::OddRecord;
 use crate::watches::Watch;
-use stable_record::{FaultyRecord, Leaves, MemoryRecord, StableRecord};
+use stable_record::{Leaves, StableRecord};
 use std::alloc::Global;
 use std::sync::Arc;
 use test_outcomes::Failure;
+use test_support::{in_memory, on_a_faulty_device};
 
 /// On what a record lies.
 #[derive(Clone, Copy)]
@@ -23,35 +24,6 @@ pub(crate) enum Device {
     Broken,
     /// What can number no change any more.
     Spent,
-}
-
-fn in_memory(alloc: Global, bytes: &[u8]) -> Result<Box<dyn StableRecord + Send>, Failure>
-    ensures { IfOk result (λ r. finds r ≡ bytes.now ∷ []) }
-{
-    let Ok(record) = MemoryRecord::holding(alloc, bytes) else {
-        return Err(Failure::Memory);
-    };
-    let record: Box<dyn StableRecord + Send> = Box::new(alloc, record)?;
-    Ok(record)
-}
-
-fn on_a_faulty_device(
-    alloc: Global,
-    bytes: &[u8],
-    every: u32,
-    leaves: Leaves,
-    bad: u32,
-) -> Result<Box<dyn StableRecord + Send>, Failure>
-    ensures { IfOk result (λ r. finds r ≡ bytes.now ∷ []) }
-{
-    if every == 0 {
-        return Err(Failure::Wrong(0));
-    }
-    let Ok(record) = FaultyRecord::of(alloc, bytes, every, leaves) else {
-        return Err(Failure::Memory);
-    };
-    let record: Box<dyn StableRecord + Send> = Box::new(alloc, record.with_bad_reopens(bad))?;
-    Ok(record)
 }
 
 fn odd(
@@ -78,9 +50,16 @@ pub(crate) fn record_on(
     ensures { IfOk result (λ r. finds r ≡ bytes.now ∷ []) }
 {
     match device {
-        Device::Memory => in_memory(alloc, bytes),
+        Device::Memory => {
+            let record: Box<dyn StableRecord + Send> = Box::new(alloc, in_memory(alloc, bytes)?)?;
+            Ok(record)
+        }
         Device::Counted => odd(alloc, bytes, watch, false, false),
-        Device::Faulty(every, leaves, bad) => on_a_faulty_device(alloc, bytes, every, leaves, bad),
+        Device::Faulty(every, leaves, bad) => {
+            let record = on_a_faulty_device(alloc, bytes, every, leaves, bad)?;
+            let record: Box<dyn StableRecord + Send> = Box::new(alloc, record)?;
+            Ok(record)
+        }
         Device::Broken => odd(alloc, bytes, watch, false, true),
         Device::Spent => odd(alloc, bytes, watch, true, false),
     }

@@ -13,6 +13,7 @@ use lossy_link::ListLink;
 use std::alloc::Global;
 use std::sync::{Arc, Wait};
 use test_outcomes::{Failure, Outcome, client_id, node_id};
+use test_support::in_row;
 
 /// What a client's loop answers. A node's answer is told as that of a client that entered nothing.
 pub(crate) type Answer = Result<u32, (u32, RunFault)>;
@@ -151,14 +152,6 @@ pub(crate) fn ends_as<R: Wait + Copy>(
 /// Ends the test unless a run does what its row says.
 pub(crate) fn does<R: Wait + Copy>(rt: R, alloc: Global, row: &Row) -> Outcome {
     ends_as(rt, alloc, &row.run, row.checks, row.answer)
-}
-
-/// Ends the test, as wrong in the row, where it is wrong.
-pub(crate) fn in_row(outcome: Outcome, row: usize) -> Outcome {
-    match outcome {
-        Err(Failure::Wrong(_)) => Err(Failure::Wrong(row)),
-        outcome => outcome,
-    }
 }
 
 /// Ends the test, in the row that is wrong, unless each run of a table does what its row says.

@@ -2,14 +2,14 @@
 
 ghost use Rattle.std.specs.Prelude.{◌≡◌};
 
-use crate::faults::of_book;
 use book_recorders::{BookName, BookRecorder, Logs, Named};
+use book_support::of_book;
 use history_book::{Berth, BookFault};
-use history_check::read_event;
 use lock_messages::Actor;
 use lossy_link::{Link, LinkFault, ListLink, Parcel, Post};
 use std::sync::{Mutex, Wait};
-use test_outcomes::{Failure, Outcome};
+use test_outcomes::Outcome;
+use test_support::event;
 use world_model::{Effect, Event};
 
 /// Four actors beside the one whose loop runs, in its book.
@@ -58,9 +58,7 @@ impl<'a, B: BookName, K: Logs, R: Wait + Copy> Others<'a, B, K, R> {
 
     /// Logs the event of a line.
     fn log_line(&mut self, line: &str) -> Outcome {
-        let Ok(event) = read_event(line.as_bytes()) else {
-            return Err(Failure::Wrong(0));
-        };
+        let event = event(line)?;
         match self.log_event(&event) {
             Ok(_) => Ok(()),
             Err(fault) => Err(of_book(fault)),

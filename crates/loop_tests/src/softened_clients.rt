@@ -1,12 +1,13 @@
 //! A client that softens while it is inside: what it logs, sends and hears, and where it may end by a fault.
 
 use crate::judging::Check;
-use crate::runs::{Answer, Beside, CLIENT, Row, Run, does, ends_as, in_row};
+use crate::runs::{Answer, Beside, CLIENT, Row, Run, does, ends_as};
 use crate::watches::{ENOUGH, Room};
 use event_recorders::RunFault;
 use std::alloc::Global;
 use std::sync::Wait;
 use test_outcomes::Outcome;
+use test_support::in_row;
 
 /// How n1 grants the first message.
 const FIRST_GRANT: &str = "rise n1 old\ntake n1 1\ntry n1\nkept n1\nsay n1\n";

@@ -2,12 +2,13 @@
 
 use crate::judging::Check;
 use crate::records::Device;
-use crate::runs::{ALONE, Row, Run, does, ends_as, in_row};
+use crate::runs::{ALONE, Row, Run, does, ends_as};
 use crate::watches::Room;
 use event_recorders::RunFault;
 use std::alloc::Global;
 use std::sync::Wait;
 use test_outcomes::Outcome;
+use test_support::in_row;
 
 /// A client with one wish, for which nothing comes.
 const READS: Run<'static> = Run {

@@ -2,12 +2,13 @@
 
 use crate::judging::Check;
 use crate::records::Device;
-use crate::runs::{NODE, Row, Run, does, ends_as, in_row};
+use crate::runs::{NODE, Row, Run, does, ends_as};
 use crate::watches::Room;
 use event_recorders::RunFault;
 use std::alloc::Global;
 use std::sync::Wait;
 use test_outcomes::Outcome;
+use test_support::in_row;
 
 /// c1 asks n1, gives up and releases, by the messages 1 and 2, and asks again, by message 3.
 const KEEPS_THRICE: Row = Row {

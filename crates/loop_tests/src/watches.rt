@@ -6,7 +6,7 @@ use client_core::ClientCore;
 use entry_guard::EntryGuard;
 use event_recorders::{Gate, Recorder};
 use history_book::BookFault;
-use lock_messages::{Actor, Mode};
+use lock_messages::{Actor, Message, Mode};
 use lock_model::Heard;
 use stable_record::StableRecord;
 use std::alloc::Global;
@@ -163,7 +163,19 @@ impl<'a, R: Recorder> Recorder for Watched<'a, R> {
         if matches!(event, Event::Try(_)) {
             self.watch.tries.fetch_add(1, SeqCst);
         }
-        let done = self.inner.log(event, stable);
+        self.inner.log(event, stable)
+    }
+
+    fn log_reading(
+        &mut self,
+        event: Event,
+        message: &Message,
+        stable: &dyn StableRecord,
+    ) -> Result<Effect, BookFault> {
+        if !self.room.take(&event) {
+            return Err(BookFault::Full);
+        }
+        let done = self.inner.log_reading(event, message, stable);
         if let Ok(Effect::Heard(_, heard)) = &done {
             self.watch.hear(*heard);
         }

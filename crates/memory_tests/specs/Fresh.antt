@@ -13,8 +13,8 @@ abbrev pub one_node : List Ballot
 one_node = record { votes = 1 ∷ []; read = 1; write = 1 } ∷ []
 
 -- a world of that node and of one client, in which nothing has happened
-abbrev pub new_world : List Ballot → ExactWorld
-new_world b = opening b (First ∷ []) 1
+abbrev pub one_node_world : List Ballot → ExactWorld
+one_node_world b = opening b (First ∷ []) 1
 
 -- the log of c1, which has logged nothing, and has made no attempt
 abbrev pub IsNewClient : List Ballot → OwnLog → Type 0

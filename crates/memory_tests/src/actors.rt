@@ -64,7 +64,7 @@ fn does(one: &mut WorldNode, request: &Message, step: Step) -> Result<bool, Step
         }
         Step::MaySay(replies, entries, problem) => {
             let kept = one.kept();
-            let is_kept = kept.entries.len() == entries && kept.policy == problem;
+            let is_kept = kept.entries.len() == entries && kept.problem == problem;
             Ok(one.replies() == Ok(replies) && is_kept)
         }
     }

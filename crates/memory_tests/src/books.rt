@@ -4,42 +4,22 @@
 ghost use Rattle.std.specs.Prelude.{◌≡◌, IfOk, OnOk};
 ghost use Rattle.history_book.specs.Books.{BookValue, BerthValue};
 
-use crate::failures::{Failure, Outcome, check, client, node, refused, resource, ticket};
-use crate::policies::for_nodes;
+use crate::failures::{Failure, Outcome, check, refused};
 use crate::rooms::Room;
 use history_book::{Berth, Book, BookFault, JournalFault};
-use history_check::read_event;
 use lock_messages::{Actor, Mode, Ticket};
 use lock_model::Problem;
 use std::alloc::Global;
 use test_outcomes::{client_id, node_id};
-use vote_weights::{Ballot, BallotList};
+use test_support::{ballots_of, client, event, first_ticket, new_world, node, resource};
 use world_machine::World;
 use world_model::Event;
-
-/// A vote of each of three nodes, of which two read and two write.
-fn ballots() -> Result<BallotList, Failure> {
-    let Ok(ballot) = Ballot::of(&[1, 1, 1], 2, 2) else {
-        return Err(Failure::Wrong);
-    };
-    match BallotList::of(&[ballot]) {
-        Ok(ballots) => Ok(ballots),
-        Err(_) => Err(Failure::Wrong),
-    }
-}
 
 /// A world of three nodes with a vote each, of which two read and two write, under problem 1, and of
 /// four clients.
 fn world(alloc: Global) -> Result<World, Failure> {
-    let ballots = ballots()?;
-    let pairs = for_nodes(alloc, 3)?;
-    if pairs.len() != ballots.nodes() as usize {
-        return Err(Failure::Wrong);
-    }
-    match World::start(alloc, ballots, 4, Problem::First, pairs) {
-        Ok(world) => Ok(world),
-        Err(_) => Err(Failure::Memory),
-    }
+    let ballots = ballots_of(&[1, 1, 1], 2, 2)?;
+    Ok(new_world(alloc, ballots, Problem::First, 4)?)
 }
 
 /// A book over that world; where memory is refused the world comes back, and opens a book after that.
@@ -97,10 +77,7 @@ fn logs_all(book: &mut Book, berth: &mut Berth, lines: &str) -> Outcome
     ensures berth { OnOk result (berth.new.table ≡ berth.old.table) }
 {
     for line in lines.lines() {
-        let Ok(event) = read_event(line.as_bytes()) else {
-            return Err(Failure::Wrong);
-        };
-        logs(book, berth, event)?;
+        logs(book, berth, event(line)?)?;
     }
     Ok(())
 }
@@ -209,7 +186,7 @@ fn is_alone(found: &Result<Vec<Ticket>, BookFault>, wanted: Ticket) -> bool {
 fn tells_inside(book: &mut Book, one: &mut Berth) -> Outcome
     requires { one.old.table ≡ book.old.table }
 {
-    let (name, reader) = (resource()?, ticket(1, Mode::Read)?);
+    let (name, reader) = (resource(b"a")?, first_ticket(1, Mode::Read)?);
     let found = book.inside(one, &name);
     match found {
         Err(BookFault::Memory) => {

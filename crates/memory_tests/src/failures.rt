@@ -1,12 +1,13 @@
-// How a test ends before its end, and the few values that tests share.
+// How a test ends before its end, and the messages that tests share.
 
-use lock_messages::{Attempt, ClientId, FrameFault, Message, Mode, NodeId, ResourceName, Ticket};
+use lock_messages::{FrameFault, Message, Mode};
 use lossy_link::LinkFault;
 use operator_cli::ServeFault;
 use slot_record::SlotFault;
 use stable_record::RecordFault;
 use std::alloc::{AllocError, AllocFailed};
 use test_outcomes::node_id;
+use test_support::first_ticket;
 use voter_core::VoterFault;
 use world_model::StepFault;
 
@@ -29,6 +30,13 @@ impl From<AllocError> for Failure {
 impl<T: Drop> From<AllocFailed<T>> for Failure {
     fn from(_error: AllocFailed<T>) -> Failure {
         Failure::Memory
+    }
+}
+
+/// Of a helper that the test crates share: its row says nothing here.
+impl From<test_outcomes::Failure> for Failure {
+    fn from(failure: test_outcomes::Failure) -> Failure {
+        of_fault(failure == test_outcomes::Failure::Memory)
     }
 }
 
@@ -97,32 +105,6 @@ pub(crate) fn refused<T>(is_right: bool) -> Result<T, Failure> {
     }
 }
 
-pub(crate) fn node(number: u8) -> Result<NodeId, Failure> {
-    NodeId::of(number).ok_or(Failure::Wrong)
-}
-
-pub(crate) fn client(number: u32) -> Result<ClientId, Failure> {
-    ClientId::of(number).ok_or(Failure::Wrong)
-}
-
-pub(crate) fn first_attempt() -> Result<Attempt, Failure> {
-    Attempt::of(1).ok_or(Failure::Wrong)
-}
-
-pub(crate) fn resource() -> Result<ResourceName, Failure> {
-    ResourceName::of(b"a").ok_or(Failure::Wrong)
-}
-
-/// The first ticket of a client, to use `a`.
-pub(crate) fn ticket(number: u32, mode: Mode) -> Result<Ticket, Failure> {
-    Ok(Ticket {
-        client: client(number)?,
-        attempt: first_attempt()?,
-        mode,
-        resource: resource()?,
-    })
-}
-
 /// What n1 and a client say to each other.
 #[derive(Clone, Copy)]
 pub(crate) enum Kind {
@@ -137,7 +119,7 @@ pub(crate) enum Kind {
 
 /// The message of this kind between n1 and a client, by the client's first ticket.
 pub(crate) fn message(kind: Kind, number: u32, mode: Mode) -> Result<Message, Failure> {
-    let (node, ticket) = (node_id(1), ticket(number, mode)?);
+    let (node, ticket) = (node_id(1), first_ticket(number, mode)?);
     let (client, attempt) = (ticket.client, ticket.attempt);
     Ok(match kind {
         Kind::Request => Message::Request(node, ticket),

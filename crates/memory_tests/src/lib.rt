@@ -22,6 +22,8 @@ mod lines;
 #[cfg(test)]
 mod links;
 #[cfg(test)]
+mod own_lines;
+#[cfg(test)]
 mod plates;
 #[cfg(test)]
 mod policies;

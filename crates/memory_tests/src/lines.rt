@@ -1,7 +1,7 @@
 // Lines of scripts and journals: want of memory where one is written. To read one takes none.
 
 use crate::failures::{Failure, Outcome, check};
-use history_check::{Command, read_event, read_line, write_line};
+use event_lines::{Command, read_event, read_line, write_line};
 use lock_model::Problem;
 use std::alloc::Global;
 use test_outcomes::node_id;

@@ -4,10 +4,11 @@
 use crate::failures::{Failure, Outcome, check, refused};
 use bytes::Bytes;
 use lock_messages::{Actor, NodeId};
-use lossy_link::{ChannelLink, Link, LinkFault, ListLink, Parcel, Post, Weather};
+use lossy_link::{ChannelLink, Link, LinkFault, ListLink, Parcel, Post};
 use std::alloc::Global;
 use std::sync::Wait;
 use test_outcomes::{client_id, node_id};
+use test_support::weather;
 
 fn parcel(number: u32) -> Parcel {
     Parcel {
@@ -51,9 +52,7 @@ fn tell_all_over_a_list(rt: HostRuntime) -> Outcome {
 
 /// The links of one node and two clients, the node's first, under this weather.
 fn links<R: Wait + Copy>(rt: R, alloc: Global, late: u16) -> Result<Vec<ChannelLink<R>>, Failure> {
-    let Ok(weather) = Weather::of(1, 0, 0, late) else {
-        return Err(Failure::Wrong);
-    };
+    let weather = weather((1, 0, 0, late))?;
     let links = ChannelLink::all(rt, alloc, 1, 2, &weather)?;
     check(links.len() == 3)?;
     Ok(links)

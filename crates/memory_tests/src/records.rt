@@ -1,6 +1,6 @@
 // Records: entries that grow, node records read and written (320), and records that are kept (304).
 
-use crate::failures::{Failure, Outcome, check, client, refused};
+use crate::failures::{Failure, Outcome, check, refused};
 use lock_messages::ResourceName;
 use lock_model::{Entry, Problem};
 use stable_record::{
@@ -9,6 +9,7 @@ use stable_record::{
 };
 use std::alloc::{AllocError, Global};
 use test_outcomes::client_id;
+use test_support::{client, resource};
 
 /// The record of problem 2 in which c1 holds `a` as a reader, c2 waits for it as a writer.
 const TWO: [u8; 52] = [
@@ -51,7 +52,7 @@ fn push_entries(rt: HostRuntime) -> Outcome {
 }
 
 fn reads_two(record: &NodeRecord) -> bool {
-    record.policy == Problem::Second && record.entries.len() == 2 && record.lawful()
+    record.problem == Problem::Second && record.entries.len() == 2 && record.lawful()
 }
 
 /// Whether one holds `a` as a reader, and one waits for it as a writer.
@@ -96,7 +97,7 @@ fn keep_a_record_with_its_index(rt: HostRuntime) -> Outcome {
 
 /// Announces c3 for a resource for which so many wait; where memory is refused nothing has changed.
 fn announces_in(index: &mut ResourceIndex, alloc: Global, name: &[u8], before: usize) -> Outcome {
-    let (name, client) = (ResourceName::of(name).ok_or(Failure::Wrong)?, client_id(3));
+    let (name, client) = (resource(name)?, client_id(3));
     match index.announce(alloc, client, &name) {
         Ok(()) => check(index.waiting_count(&name) > before),
         Err(_) => refused(index.waiting_count(&name) == before && indexes_two(index)),

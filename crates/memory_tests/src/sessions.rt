@@ -4,21 +4,22 @@
 ghost use Rattle.std.specs.Prelude.{◌≡◌, IfOk};
 ghost use Rattle.book_recorders.specs.Alone.{IsAlone};
 ghost use Rattle.book_recorders.specs.Sharing.{log_of};
-ghost use Rattle.memory_tests.specs.Fresh.{IsNewClient, new_world, one_node};
+ghost use Rattle.memory_tests.specs.Fresh.{IsNewClient, one_node_world, one_node};
 
 use crate::failures::{Failure, Outcome, check, refused};
-use crate::policies::for_nodes;
-use book_recorders::{ListRecorder, Logs, open_alone};
+use book_recorders::{Logs, OwnBookRecorder, open_alone};
 use event_recorders::{Recorder, RunFault};
 use history_book::{Berth, Book, BookFault};
-use lock_messages::{Actor, ClientId, Mode, ResourceName};
+use lock_messages::{Actor, Mode};
 use lock_model::Problem;
 use lock_session::{OwnRecord, Session, TryFault};
 use lossy_link::{Link, ListLink};
 use stable_record::{MemoryRecord, StableRecord, client_bytes};
 use std::alloc::Global;
 use std::sync::Wait;
-use vote_weights::{Ballot, BallotList};
+use test_outcomes::client_id;
+use test_support::{ballots_of, new_world, resource};
+use vote_weights::BallotList;
 use world_machine::World;
 
 /// How a session is asked.
@@ -29,39 +30,19 @@ enum Asking {
     Try(&'static [u8]),
 }
 
-/// c1.
-fn first_client() -> Result<ClientId, Failure>
-    ensures { IfOk result (λ c. c ≡ 1) }
-{
-    ClientId::of(1).ok_or(Failure::Wrong)
-}
-
 /// The list of one ballot: a node with a vote, which is enough to read and to write.
 fn ballots() -> Result<BallotList, Failure>
     ensures { IfOk result (λ b. b ≡ one_node) }
 {
-    let Ok(ballot) = Ballot::of(&[1], 1, 1) else {
-        return Err(Failure::Wrong);
-    };
-    match BallotList::of(&[ballot]) {
-        Ok(ballots) => Ok(ballots),
-        Err(_) => Err(Failure::Wrong),
-    }
+    Ok(ballots_of(&[1], 1, 1)?)
 }
 
 /// A world of that ballot and of one client, in which nothing has happened.
 fn world(alloc: Global, ballots: BallotList) -> Result<World, Failure>
     requires { ballots ≡ one_node }
-    ensures { IfOk result (λ w. w ≡ new_world ballots) }
+    ensures { IfOk result (λ w. w ≡ one_node_world ballots) }
 {
-    let pairs = for_nodes(alloc, 1)?;
-    if pairs.len() != 1 {
-        return Err(Failure::Wrong);
-    }
-    match World::start(alloc, ballots, 1, Problem::First, pairs) {
-        Ok(world) => Ok(world),
-        Err(_) => Err(Failure::Memory),
-    }
+    Ok(new_world(alloc, ballots, Problem::First, 1)?)
 }
 
 /// c1's own book over such a world, and its berth.
@@ -70,7 +51,7 @@ fn own_book(alloc: Global, ballots: BallotList) -> Result<(Book, Berth), Failure
     ensures alone { IfOk result (λ r. IsAlone r.0 r.1) }
     ensures log { IfOk result (λ r. IsNewClient ballots (log_of r.1)) }
 {
-    let client = first_client()?;
+    let client = client_id(1);
     match open_alone(alloc, world(alloc, ballots)?, Actor::Client(client)) {
         Ok(Some(opened)) => Ok(opened),
         Err(BookFault::Memory) => Err(Failure::Memory),
@@ -107,14 +88,14 @@ fn ask<W: Wait, S: OwnRecord, R: Recorder, L: Link>(
     let fault = match how {
         Asking::Nothing => return check(session.ended().is_none()),
         Asking::Enter(name) => {
-            let name = ResourceName::of(name).ok_or(Failure::Wrong)?;
+            let name = resource(name)?;
             match session.enter(rt, alloc, Mode::Write, name, 1, 10) {
                 Ok(_) => return Err(Failure::Wrong),
                 Err(fault) => fault,
             }
         }
         Asking::Try(name) => {
-            let name = ResourceName::of(name).ok_or(Failure::Wrong)?;
+            let name = resource(name)?;
             match session.try_enter(rt, alloc, Mode::Write, name, 1, 10) {
                 Ok(_) | Err(TryFault::Busy) => return Err(Failure::Wrong),
                 Err(TryFault::Ended(fault)) => fault,
@@ -143,10 +124,10 @@ fn run<K: Logs + Drop, W: Wait>(
     requires alone { IsAlone (K.book own.0) own.1 }
     requires log { IsNewClient ballots (log_of own.1) }
 {
-    let client = first_client()?;
+    let client = client_id(1);
     let stable = MemoryRecord::holding(alloc, &client_bytes(0))?;
     let (book, berth) = own;
-    let recorder = ListRecorder::over(book, berth);
+    let recorder = OwnBookRecorder::over(book, berth);
     let link = ListLink::of(Vec::new(alloc));
     match Session::rise(client, ballots, stable, recorder, link) {
         Ok(session) => {

@@ -2,63 +2,21 @@
 //
 // A test is a script of steps, behind which the policies are seen when the node has fallen.
 
-use crate::failures::{Failure, Kind, Outcome, check, message, refused, ticket};
+use crate::failures::{Failure, Kind, Outcome, check, message, refused};
 use crate::policies::{have_let_in, told_once};
 use admission_policy::Pair;
-use lock_messages::{Message, Mode, ResourceName, Ticket};
+use lock_messages::{Message, Mode, Ticket};
 use lock_model::Problem;
 use stable_record::RecordFault;
 use std::alloc::Global;
 use test_outcomes::node_id;
+use test_support::{LETS_IN, NOTHING_KEPT, READS, SOFTENED, WAITS, WRITES, first_ticket, resource};
 use voter_core::{NodeCore, Phase, VoterFault};
 
-const NONE: [u8; 4] = [1, 1, 0, 0];
-
-/// The record of problem 1 in which c1 holds `a` as a reader, and that of problem 2.
-const ONE: [u8; 28] = [
-    0x01, 0x01, 0x00, 0x01, //
-    0x00, 0x00, 0x00, 0x01, 0x00, 0x00, 0x00, 0x00, 0x00, 0x00, 0x00, 0x00, 0x02, 0x00, 0x00, 0x00,
-    0x00, 0x00, 0x00, 0x00, 0x01, 0x00, 0x01, 0x61,
-];
-
-const ONE_OF_SECOND: [u8; 28] = [
+/// The record of problem 2 in which c1 holds `a` as a reader.
+const READS_UNDER_SECOND: [u8; 28] = [
     0x01, 0x02, 0x00, 0x01, //
     0x00, 0x00, 0x00, 0x01, 0x00, 0x00, 0x00, 0x00, 0x00, 0x00, 0x00, 0x00, 0x02, 0x00, 0x00, 0x00,
-    0x00, 0x00, 0x00, 0x00, 0x01, 0x00, 0x01, 0x61,
-];
-
-/// The record of problem 1 in which c1 holds `a` as a writer, and once it has softened.
-const WRITES: [u8; 28] = [
-    0x01, 0x01, 0x00, 0x01, //
-    0x00, 0x00, 0x00, 0x01, 0x00, 0x00, 0x00, 0x00, 0x00, 0x00, 0x00, 0x00, 0x02, 0x00, 0x00, 0x00,
-    0x00, 0x00, 0x00, 0x00, 0x01, 0x01, 0x01, 0x61,
-];
-
-const SOFTENED: [u8; 28] = [
-    0x01, 0x01, 0x00, 0x01, //
-    0x00, 0x00, 0x00, 0x01, 0x00, 0x00, 0x00, 0x00, 0x00, 0x00, 0x00, 0x00, 0x03, 0x00, 0x00, 0x00,
-    0x00, 0x00, 0x00, 0x00, 0x01, 0x00, 0x01, 0x61,
-];
-
-/// The record of problem 2 in which c1 holds `a` as a reader, c2 waits for it as a writer, and c3 waits
-/// behind c2 as a reader; and the one of problem 1 in which c3 holds too.
-const SECOND: [u8; 76] = [
-    0x01, 0x02, 0x00, 0x03, //
-    0x00, 0x00, 0x00, 0x01, 0x00, 0x00, 0x00, 0x00, 0x00, 0x00, 0x00, 0x00, 0x02, 0x00, 0x00, 0x00,
-    0x00, 0x00, 0x00, 0x00, 0x01, 0x00, 0x01, 0x61, //
-    0x00, 0x00, 0x00, 0x02, 0x00, 0x00, 0x00, 0x00, 0x00, 0x00, 0x00, 0x00, 0x01, 0x00, 0x00, 0x00,
-    0x00, 0x00, 0x00, 0x00, 0x01, 0x01, 0x01, 0x61, //
-    0x00, 0x00, 0x00, 0x03, 0x00, 0x00, 0x00, 0x00, 0x00, 0x00, 0x00, 0x00, 0x01, 0x00, 0x00, 0x00,
-    0x00, 0x00, 0x00, 0x00, 0x01, 0x00, 0x01, 0x61,
-];
-
-const FIRST: [u8; 76] = [
-    0x01, 0x01, 0x00, 0x03, //
-    0x00, 0x00, 0x00, 0x01, 0x00, 0x00, 0x00, 0x00, 0x00, 0x00, 0x00, 0x00, 0x02, 0x00, 0x00, 0x00,
-    0x00, 0x00, 0x00, 0x00, 0x01, 0x00, 0x01, 0x61, //
-    0x00, 0x00, 0x00, 0x02, 0x00, 0x00, 0x00, 0x00, 0x00, 0x00, 0x00, 0x00, 0x01, 0x00, 0x00, 0x00,
-    0x00, 0x00, 0x00, 0x00, 0x01, 0x01, 0x01, 0x61, //
-    0x00, 0x00, 0x00, 0x03, 0x00, 0x00, 0x00, 0x00, 0x00, 0x00, 0x00, 0x00, 0x02, 0x00, 0x00, 0x00,
     0x00, 0x00, 0x00, 0x00, 0x01, 0x00, 0x01, 0x61,
 ];
 
@@ -155,8 +113,8 @@ fn takes(
 /// c2's request as a writer, for the longest name of a resource.
 fn long_request() -> Result<Message, Failure> {
     let name = b"abcdefghijklmnopqrstuvwxyz-01234";
-    let resource = ResourceName::of(name).ok_or(Failure::Wrong)?;
-    let ticket = ticket(2, Mode::Write)?;
+    let resource = resource(name)?;
+    let ticket = first_ticket(2, Mode::Write)?;
     Ok(Message::Request(node_id(1), Ticket { resource, ..ticket }))
 }
 
@@ -262,23 +220,23 @@ fn lets_in_none(alloc: Global, bytes: &[u8], steps: &[Step]) -> Outcome {
 
 /// Plays the steps of a node with the record of c1's reader, by which each policy has let in so many.
 fn lets_in(alloc: Global, steps: &[Step], first: u64, second: u64) -> Outcome {
-    let mut core = risen(alloc, &ONE)?;
-    let came = plays(alloc, &mut core, &ONE, steps);
+    let mut core = risen(alloc, &READS)?;
+    let came = plays(alloc, &mut core, &READS, steps);
     falls(core, came, first, second)
 }
 
-const RESTS: [Step; 1] = [Step::Rests(&ONE)];
+const RESTS: [Step; 1] = [Step::Rests(&READS)];
 
 #[test]
 fn rise_with_a_record(rt: HostRuntime) -> Outcome {
-    lets_in_none(rt.alloc(), &ONE, &RESTS)
+    lets_in_none(rt.alloc(), &READS, &RESTS)
 }
 
-const RESTARTS: [Step; 1] = [Step::Restarts(&ONE)];
+const RESTARTS: [Step; 1] = [Step::Restarts(&READS)];
 
 #[test]
 fn restart_with_a_record(rt: HostRuntime) -> Outcome {
-    lets_in_none(rt.alloc(), &NONE, &RESTARTS)
+    lets_in_none(rt.alloc(), &NOTHING_KEPT, &RESTARTS)
 }
 
 const TAKES: [Step; 2] = [
@@ -288,12 +246,12 @@ const TAKES: [Step; 2] = [
 
 #[test]
 fn take_a_request(rt: HostRuntime) -> Outcome {
-    lets_in_none(rt.alloc(), &ONE, &TAKES)
+    lets_in_none(rt.alloc(), &READS, &TAKES)
 }
 
 /// A copy of a node that plays these steps has its reply to say; where memory is refused the node still has it.
 fn copies(alloc: Global, core: &mut NodeCore, policies: Pair, steps: &[Step]) -> Outcome {
-    plays(alloc, core, &ONE, steps)?;
+    plays(alloc, core, &READS, steps)?;
     match core.copy(policies) {
         Ok(copy) => {
             let has_reply = copy.phase() == Phase::Decided && copy.replies() == 1;
@@ -311,10 +269,15 @@ fn copies(alloc: Global, core: &mut NodeCore, policies: Pair, steps: &[Step]) ->
 #[test]
 fn copy_what_was_decided(rt: HostRuntime) -> Outcome {
     let policies = told_once(rt.alloc())?;
-    copies(rt.alloc(), &mut risen(rt.alloc(), &ONE)?, policies, &TAKES)
+    copies(
+        rt.alloc(),
+        &mut risen(rt.alloc(), &READS)?,
+        policies,
+        &TAKES,
+    )
 }
 
-const TAKES_A_READER: [Step; 1] = [Step::TakesReader(&ONE)];
+const TAKES_A_READER: [Step; 1] = [Step::TakesReader(&READS)];
 
 /// A reader's new ticket, of which the policy is told.
 #[test]
@@ -327,7 +290,7 @@ const TAKES_A_LONG_NAME: [Step; 2] = [Step::TakesLongName, Step::HasSize(28 + 55
 /// The longest name of a resource.
 #[test]
 fn take_a_long_name(rt: HostRuntime) -> Outcome {
-    lets_in_none(rt.alloc(), &ONE, &TAKES_A_LONG_NAME)
+    lets_in_none(rt.alloc(), &READS, &TAKES_A_LONG_NAME)
 }
 
 const TAKES_AGAIN: [Step; 2] = [
@@ -337,7 +300,7 @@ const TAKES_AGAIN: [Step; 2] = [
 
 #[test]
 fn take_a_request_again(rt: HostRuntime) -> Outcome {
-    lets_in_none(rt.alloc(), &ONE, &TAKES_AGAIN)
+    lets_in_none(rt.alloc(), &READS, &TAKES_AGAIN)
 }
 
 /// The record of this problem in which c1 holds `a` and c2 to c1024 wait for it, all but this one as readers.
@@ -425,13 +388,13 @@ fn take_a_softening_of_a_stranger(rt: HostRuntime) -> Outcome {
 const SWITCHES_TO_THE_FIRST: [Step; 3] = [
     Step::Switches(Problem::First, true),
     Step::Is(Phase::Decided, 1),
-    Step::HasBytes(&FIRST),
+    Step::HasBytes(&LETS_IN),
 ];
 
 /// The reader passes the writer under problem 1, and no policy is told of it.
 #[test]
 fn switch_to_the_first_problem(rt: HostRuntime) -> Outcome {
-    lets_in_none(rt.alloc(), &SECOND, &SWITCHES_TO_THE_FIRST)
+    lets_in_none(rt.alloc(), &WAITS, &SWITCHES_TO_THE_FIRST)
 }
 
 const SWITCHES_TO_THE_SECOND: [Step; 2] = [
@@ -442,18 +405,18 @@ const SWITCHES_TO_THE_SECOND: [Step; 2] = [
 /// Who holds goes on holding, and nobody is told anything.
 #[test]
 fn switch_to_the_second_problem(rt: HostRuntime) -> Outcome {
-    lets_in_none(rt.alloc(), &ONE, &SWITCHES_TO_THE_SECOND)
+    lets_in_none(rt.alloc(), &READS, &SWITCHES_TO_THE_SECOND)
 }
 
 const SWITCHES_TO_THE_SAME: [Step; 3] = [
     Step::Switches(Problem::Second, false),
     Step::Is(Phase::Stored, 0),
-    Step::HasBytes(&SECOND),
+    Step::HasBytes(&WAITS),
 ];
 
 #[test]
 fn switch_to_the_same_problem(rt: HostRuntime) -> Outcome {
-    lets_in_none(rt.alloc(), &SECOND, &SWITCHES_TO_THE_SAME)
+    lets_in_none(rt.alloc(), &WAITS, &SWITCHES_TO_THE_SAME)
 }
 
 const SWITCHES_FOR_ALL: [Step; 4] = [
@@ -472,7 +435,7 @@ fn switch_for_all(rt: HostRuntime) -> Outcome {
 const TAKES_AFTER_A_SWITCH: [Step; 3] = [
     Step::Switches(Problem::Second, true),
     Step::Speaks(1_025),
-    Step::TakesReader(&ONE_OF_SECOND),
+    Step::TakesReader(&READS_UNDER_SECOND),
 ];
 
 /// Once the switch is kept and said to nobody, the policy of problem 2 is told of a new reader's ticket.

@@ -3,17 +3,14 @@
 //
 // A test is a script of steps, which are events and what is asked.
 
-use crate::failures::{
-    Failure, Kind, Outcome, check, first_attempt, message, refused, resource, ticket,
-};
+use crate::failures::{Failure, Kind, Outcome, check, message, refused};
 use crate::policies::{for_nodes, have_let_in};
 use admission_policy::Pair;
-use history_check::read_event;
 use lock_messages::{Actor, Mode, Ticket};
 use lock_model::Problem;
 use std::alloc::Global;
 use test_outcomes::{client_id, node_id};
-use vote_weights::{Ballot, BallotList};
+use test_support::{WAITS, attempt, ballots_of, event, first_ticket, resource};
 use world_machine::{OpeningFault, World};
 use world_model::{Effect, Event, StepFault};
 
@@ -29,18 +26,6 @@ const TWO: [u8; 52] = [
 /// A client's record: it has made one attempt.
 const FIRST: [u8; 9] = [1, 0, 0, 0, 0, 0, 0, 0, 1];
 
-/// The record of problem 2 in which c1 holds `a` as a reader, c2 waits for it as a writer, and c3 waits
-/// behind c2 as a reader.
-const THREE: [u8; 76] = [
-    0x01, 0x02, 0x00, 0x03, //
-    0x00, 0x00, 0x00, 0x01, 0x00, 0x00, 0x00, 0x00, 0x00, 0x00, 0x00, 0x00, 0x02, 0x00, 0x00, 0x00,
-    0x00, 0x00, 0x00, 0x00, 0x01, 0x00, 0x01, 0x61, //
-    0x00, 0x00, 0x00, 0x02, 0x00, 0x00, 0x00, 0x00, 0x00, 0x00, 0x00, 0x00, 0x01, 0x00, 0x00, 0x00,
-    0x00, 0x00, 0x00, 0x00, 0x01, 0x01, 0x01, 0x61, //
-    0x00, 0x00, 0x00, 0x03, 0x00, 0x00, 0x00, 0x00, 0x00, 0x00, 0x00, 0x00, 0x01, 0x00, 0x00, 0x00,
-    0x00, 0x00, 0x00, 0x00, 0x01, 0x00, 0x01, 0x61,
-];
-
 /// What an opening gives; where memory is refused the policies come back as they were.
 fn opened(answer: Result<World, (OpeningFault, Vec<Pair>)>) -> Result<World, Failure> {
     match answer {
@@ -49,16 +34,6 @@ fn opened(answer: Result<World, (OpeningFault, Vec<Pair>)>) -> Result<World, Fai
             [one] => refused(fault == OpeningFault::Memory && have_let_in(one, 1, 0)),
             _ => Err(Failure::Wrong),
         },
-    }
-}
-
-fn ballots() -> Result<BallotList, Failure> {
-    let Ok(ballot) = Ballot::of(&[1], 1, 1) else {
-        return Err(Failure::Wrong);
-    };
-    match BallotList::of(&[ballot]) {
-        Ok(ballots) => Ok(ballots),
-        Err(_) => Err(Failure::Wrong),
     }
 }
 
@@ -74,7 +49,7 @@ fn kept(alloc: Global, record: &[u8]) -> Result<Vec<Vec<u8>>, Failure> {
 }
 
 fn started(alloc: Global) -> Result<World, Failure> {
-    let (ballots, pairs) = (ballots()?, for_nodes(alloc, 1)?);
+    let (ballots, pairs) = (ballots_of(&[1], 1, 1)?, for_nodes(alloc, 1)?);
     if pairs.len() != ballots.nodes() as usize {
         return Err(Failure::Wrong);
     }
@@ -83,7 +58,7 @@ fn started(alloc: Global) -> Result<World, Failure> {
 
 fn resumed_from(alloc: Global, kept: &[Vec<u8>]) -> Result<World, Failure> {
     let (nodes, clients) = kept.split_at_checked(1).ok_or(Failure::Wrong)?;
-    let (ballots, pairs) = (ballots()?, for_nodes(alloc, 1)?);
+    let (ballots, pairs) = (ballots_of(&[1], 1, 1)?, for_nodes(alloc, 1)?);
     let of_node = pairs.len() == 1 && nodes.len() == 1 && ballots.nodes() == 1;
     if !of_node || clients.len() != 3 {
         return Err(Failure::Wrong);
@@ -128,15 +103,8 @@ enum Step {
     ClientHasKept(&'static [u8]),
 }
 
-fn event(line: &str) -> Result<Event, Failure> {
-    match read_event(line.as_bytes()) {
-        Ok(event) => Ok(event),
-        Err(_) => Err(Failure::Wrong),
-    }
-}
-
 fn effect(did: Did) -> Result<Effect, Failure> {
-    let attempt = first_attempt()?;
+    let attempt = attempt(1)?;
     Ok(match did {
         Did::Up => Effect::Up,
         Did::Chose => Effect::Chose(attempt),
@@ -161,7 +129,7 @@ fn takes(world: &mut World, event: &Event, wanted: &Result<Effect, StepFault>) -
 /// Takes an event; where memory is refused the same event is taken after that.
 fn does(world: &mut World, line: &str, did: Did) -> Outcome {
     let wanted = Ok(effect(did)?);
-    let Ok(event) = read_event(line.as_bytes()) else {
+    let Ok(event) = event(line) else {
         return Err(Failure::Wrong);
     };
     match takes(world, &event, &wanted) {
@@ -228,7 +196,7 @@ fn copies(world: &mut World) -> Outcome {
 
 /// Whether the ticket of this client is alone among what was found.
 fn is_alone(found: Result<Vec<Ticket>, StepFault>, number: u32, mode: Mode) -> Outcome {
-    let ticket = ticket(number, mode)?;
+    let ticket = first_ticket(number, mode)?;
     check(found?.as_slice() == [ticket].as_slice())
 }
 
@@ -238,7 +206,7 @@ fn has_kept(world: &World, who: Actor, bytes: &[u8]) -> Outcome {
 }
 
 fn plays_step(world: &mut World, step: &Step) -> Outcome {
-    let (at, resource) = (node_id(1), resource()?);
+    let (at, resource) = (node_id(1), resource(b"a")?);
     match *step {
         Step::Does(line, did) => does(world, line, did),
         Step::Switches => switches(world),
@@ -392,7 +360,7 @@ const SWITCHES: [Step; 7] = [
 
 #[test]
 fn switch_and_say(rt: HostRuntime) -> Outcome {
-    plays_from(rt.alloc(), &THREE, &SWITCHES)
+    plays_from(rt.alloc(), &WAITS, &SWITCHES)
 }
 
 /// Without replies a Say names the number that the next message gets.
@@ -405,7 +373,7 @@ const SAME: [Step; 4] = [
 
 #[test]
 fn switch_to_the_same_and_say(rt: HostRuntime) -> Outcome {
-    plays_from(rt.alloc(), &THREE, &SAME)
+    plays_from(rt.alloc(), &WAITS, &SAME)
 }
 
 const ASKED: [Step; 2] = [Step::Holding(1, Mode::Read), Step::Waiting(2, Mode::Write)];

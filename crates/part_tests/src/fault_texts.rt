@@ -99,7 +99,7 @@ const TEXTS: &str = "\
 305 no change can be numbered any more
 311 the node record ends within a field
 312 the node record is of another version
-313 no policy has this number
+313 no problem has this number
 314 an entry is out of range
 315 a client has two entries
 316 an attempt isn't one above the floor

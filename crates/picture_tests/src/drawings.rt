@@ -1,9 +1,9 @@
 // Journals behind their settings, drawn as SVG and listed: what is found, and how much is written.
 
-use crate::failing::{Breaks, Full};
+use crate::failing::Breaks;
 use crate::listing::Listing;
-use crate::playing::{WHOLE, pair};
-use history_check::LineFault;
+use crate::playing::WHOLE;
+use event_lines::LineFault;
 use journal_audit::{AuditFault, Cause, Verdict};
 use journal_picture::Canvas;
 use lock_messages::MAX_NODES;
@@ -14,17 +14,8 @@ use std::alloc::Global;
 use std::io::{Read, Write};
 use std::str;
 use test_outcomes::{Failure, Outcome, check_row};
+use test_support::{Full, plain_pairs};
 use world_model::StepFault;
-
-/// Policies for as many nodes as there may be.
-fn policies(alloc: Global) -> Result<Policies, Failure> {
-    let mut pairs = Vec::new(alloc);
-    for _ in 0..MAX_NODES {
-        let next = pair(alloc)?;
-        pairs.push(next)?;
-    }
-    Ok(Policies { pairs })
-}
 
 /// What comes of drawing a part of what a reader gives on a canvas.
 fn draw_on<R: Read, C: Canvas>(
@@ -36,10 +27,8 @@ fn draw_on<R: Read, C: Canvas>(
 where
     R: Drop,
 {
-    let policies = policies(alloc)?;
-    if policies.pairs.len() != MAX_NODES as usize {
-        return Err(Failure::Wrong(0));
-    }
+    let pairs = plain_pairs(alloc, MAX_NODES)?;
+    let policies = Policies { pairs };
     match draw_journal(alloc, policies, part, reader, canvas) {
         Ok(Shown::Refused(SettingsFault::Memory)) => Err(Failure::Memory),
         Ok(shown) => Ok(shown),

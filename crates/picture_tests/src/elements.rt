@@ -1,14 +1,13 @@
 // Marks as SVG: of the least and of the greatest size.
 
-use history_check::LineFault;
-use lock_messages::{
-    Actor, Attempt, ClientId, MAX_ATTEMPT, Message, Mode, NodeId, ResourceName, Ticket,
-};
+use event_lines::LineFault;
+use lock_messages::{Actor, MAX_ATTEMPT, Message, Mode, NodeId, ResourceName, Ticket};
 use lock_model::Heard;
 use picture_svg::{Frame, push_end, push_head, push_mark};
 use run_picture::{Lasting, Mark, Part, Place, Sign};
 use std::alloc::Global;
 use test_outcomes::{Failure, Outcome, check_row, node_id};
+use test_support::ticket;
 use world_model::{Effect, Event, StepFault};
 
 const LEAST: Frame = Frame {
@@ -47,27 +46,10 @@ fn is_titled(alloc: Global, frame: &Frame, mark: &Mark) -> Result<bool, Failure>
     Ok(out.as_str().find("><title>").is_some() && out.as_str().find("</title>").is_some())
 }
 
-/// A ticket of this client, attempt and resource.
-fn ticket(client: u32, attempt: u64, name: &[u8]) -> Result<Ticket, Failure> {
-    let (Some(client), Some(attempt), Some(resource)) = (
-        ClientId::of(client),
-        Attempt::of(attempt),
-        ResourceName::of(name),
-    ) else {
-        return Err(Failure::Wrong(0));
-    };
-    Ok(Ticket {
-        client,
-        attempt,
-        mode: Mode::Write,
-        resource,
-    })
-}
-
 /// Each mark of the least numbers has a title.
 #[test]
 fn least_marks(rt: HostRuntime) -> Outcome {
-    let (node, ticket) = (node_id(1), ticket(1, 1, b"a")?);
+    let (node, ticket) = (node_id(1), ticket(1, 1, Mode::Write, b"a")?);
     let place = Place { line: 1, height: 1 };
     for index in 0..SIGNS {
         let mark = Mark {
@@ -85,7 +67,12 @@ fn least_marks(rt: HostRuntime) -> Outcome {
 #[test]
 fn greatest_marks(rt: HostRuntime) -> Outcome {
     let node = node_id(16);
-    let ticket = ticket(1024, MAX_ATTEMPT, b"abcdefghijklmnopqrstuvwxyz-01234")?;
+    let ticket = ticket(
+        1024,
+        MAX_ATTEMPT,
+        Mode::Write,
+        b"abcdefghijklmnopqrstuvwxyz-01234",
+    )?;
     let upto = Place {
         line: 4_194_304,
         height: 8_388_607,
@@ -102,20 +89,20 @@ fn greatest_marks(rt: HostRuntime) -> Outcome {
     Ok(())
 }
 
-/// Rows of a line that does not go on, and what is said of it.
+/// Rows of a line that cannot follow, and what is said of it.
 const STOPS: [(Sign, &str); 2] = [
     (
         Sign::NoEvent(LineFault::Actor),
-        ">line 7 does not go on: fault 802, no node or client is spelled so<",
+        ">line 7 cannot follow: fault 802, not a node or client<",
     ),
     (
         Sign::Refused(StepFault::NoQuorum),
-        ">line 7 does not go on: refused 609, the votes are not enough<",
+        ">line 7 cannot follow: refused 609, not enough votes<",
     ),
 ];
 
 #[test]
-fn lines_that_do_not_go_on(rt: HostRuntime) -> Outcome {
+fn lines_that_cannot_follow(rt: HostRuntime) -> Outcome {
     let place = Place {
         line: 7,
         height: 12,

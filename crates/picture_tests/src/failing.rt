@@ -1,9 +1,9 @@
-// A reader that gives some bytes, and then fails, and a writer that takes none.
+// A reader that gives some bytes, and then fails.
 
 use crate::playing::{WHOLE, draw};
 use journal_audit::AuditFault;
 use std::io;
-use std::io::{Error, ErrorKind, Read, Write};
+use std::io::{Error, ErrorKind, Read};
 use test_outcomes::{Failure, Outcome, check_row};
 
 /// It fails once its bytes are read.
@@ -22,20 +22,6 @@ impl Read for Breaks<'_> {
         buf[..count].copy_from_slice(now);
         self.bytes = later;
         Ok(count)
-    }
-}
-
-/// It takes nothing.
-#[derive(Drop)]
-pub(crate) struct Full;
-
-impl Write for Full {
-    fn write(&mut self, _buf: &[u8]) -> io::Result<usize> {
-        Ok(0)
-    }
-
-    fn flush(&mut self) -> io::Result<()> {
-        Ok(())
     }
 }
 

@@ -1,7 +1,6 @@
 // A journal drawn from a world of one node with one vote and of two clients, all of them down.
 
 use crate::listing::Listing;
-use admission_policy::{Admission, FirstProblem, Pair, SecondProblem};
 use journal_audit::AuditFault;
 use journal_picture::{Drawing, draw_lines};
 use line_streams::{LineReader, MAX_READS};
@@ -11,8 +10,7 @@ use run_picture::{Lasting, Part};
 use std::alloc::Global;
 use std::io::Read;
 use test_outcomes::{Failure, client_id, node_id};
-use vote_weights::{Ballot, BallotList};
-use world_machine::World;
+use test_support::{ballots_of, new_world};
 
 /// The whole of a journal.
 pub(crate) const WHOLE: Part = Part {
@@ -20,32 +18,6 @@ pub(crate) const WHOLE: Part = Part {
     last: u32::MAX,
     resource: None,
 };
-
-/// The plain policies of both problems.
-pub(crate) fn pair(alloc: Global) -> Result<Pair, Failure> {
-    let first: Box<dyn Admission + Send> = Box::new(alloc, FirstProblem)?;
-    let second: Box<dyn Admission + Send> = Box::new(alloc, SecondProblem)?;
-    Ok(Pair::of(first, second))
-}
-
-fn world(alloc: Global) -> Result<World, Failure> {
-    let Ok(ballot) = Ballot::of(&[1], 1, 1) else {
-        return Err(Failure::Wrong(0));
-    };
-    let Ok(ballots) = BallotList::of(&[ballot]) else {
-        return Err(Failure::Wrong(0));
-    };
-    let mut pairs = Vec::new(alloc);
-    let only = pair(alloc)?;
-    pairs.push(only)?;
-    if pairs.len() != ballots.nodes() as usize {
-        return Err(Failure::Wrong(0));
-    }
-    match World::start(alloc, ballots, 2, Problem::First, pairs) {
-        Ok(world) => Ok(world),
-        Err(_) => Err(Failure::Memory),
-    }
-}
 
 /// The world's actors, all of them down.
 fn all_down() -> [Lasting; 3] {
@@ -66,7 +38,7 @@ where
     R: Drop,
 {
     let down = all_down();
-    let world = world(alloc)?;
+    let world = new_world(alloc, ballots_of(&[1], 1, 1)?, Problem::First, 2)?;
     let mut source = LineReader::new(reader, MAX_READS);
     let mut canvas = Listing::new(alloc);
     let came = draw_lines(alloc, world, part, &down, &mut source, &mut canvas);

@@ -3,18 +3,19 @@
 ghost use Rattle.std.specs.Prelude.{◌≡◌};
 ghost use Rattle.book_recorders.specs.Alone.{IsAlone};
 
-use crate::worlds::{client, node, world};
-use book_recorders::{ListRecorder, Logs, open_alone};
+use crate::worlds::world;
+use book_recorders::{Logs, OwnBookRecorder, open_alone};
 use history_book::{Berth, Book, BookFault};
 use lock_messages::Actor;
 use test_outcomes::{Failure, Outcome, check_row};
+use test_support::{client, node};
 use world_model::{Age, Effect, Event, StepFault};
 
 /// Lets the actor rise, rise again, which is refused, and fall.
 fn rise_twice<K: Logs>(book: K, berth: Berth, actor: &Actor) -> (K, Outcome)
     requires { IsAlone (K.book book) berth }
 {
-    let mut recorder = ListRecorder::over(book, berth);
+    let mut recorder = OwnBookRecorder::over(book, berth);
     let risen = recorder.log_event(Event::Rise(*actor, Age::Old));
     let again = recorder.log_event(Event::Rise(*actor, Age::Old));
     let fallen = recorder.log_event(Event::Fall(*actor));

@@ -2,14 +2,16 @@
 
 ghost use Rattle.std.specs.Prelude.{◌≡◌};
 
-use crate::worlds::{berth, book, client, node};
+use crate::worlds::book;
 use book_recorders::{BookName, BookRecorder, Logs, Named};
+use book_support::berth_of;
 use history_book::{Berth, Book, BookFault};
-use lock_messages::{Actor, Attempt, ClientId, Message, Mode, NodeId, ResourceName, Ticket};
+use lock_messages::{Actor, ClientId, Message, Mode, NodeId};
 use lock_model::Problem;
 use std::marker::Brand;
 use std::sync::{Mutex, Wait};
 use test_outcomes::{Failure, Outcome, check};
+use test_support::{client, first_ticket, node};
 use world_model::{Age, Effect, Event, StepFault};
 
 /// Logs an event, and compares the answer.
@@ -25,23 +27,13 @@ fn answers<B: BookName, K: Logs, R: Wait + Copy>(
     check(answer == expected)
 }
 
-/// c1's first ticket, to read `a`.
-fn ticket(client: ClientId) -> Result<Ticket, Failure> {
-    Ok(Ticket {
-        client,
-        attempt: Attempt::of(1).ok_or(Failure::Wrong(0))?,
-        mode: Mode::Read,
-        resource: ResourceName::of(b"a").ok_or(Failure::Wrong(0))?,
-    })
-}
-
 /// The client asks the node; it can't take a problem for the node.
 fn asks<B: BookName, K: Logs, R: Wait + Copy>(
     recorder: &mut BookRecorder<'_, B, K, R>,
     from: ClientId,
     to: NodeId,
 ) -> Outcome {
-    let (who, ticket) = (Actor::Client(from), ticket(from)?);
+    let (who, ticket) = (Actor::Client(from), first_ticket(from.get(), Mode::Read)?);
     let (begin, chose) = (
         Event::Begin(from, Mode::Read, ticket.resource, 1),
         Effect::Chose(ticket.attempt),
@@ -122,7 +114,8 @@ fn both<B: BookName, K: Logs, R: Wait + Copy>(
     let mut one = BookRecorder::of(rt, book, one);
     let mut voter = BookRecorder::of(rt, book, voter);
     asks(&mut one, from, to)?;
-    takes_both(&mut voter, to, Message::Request(to, ticket(from)?))
+    let ticket = first_ticket(from.get(), Mode::Read)?;
+    takes_both(&mut voter, to, Message::Request(to, ticket))
 }
 
 /// The book, in which both have logged.
@@ -152,8 +145,8 @@ fn by_name<R: Wait + Copy>(rt: R, book: Book, one: Berth, voter: Berth) -> (Book
 #[test]
 fn a_node_switches_as_it_takes(rt: HostRuntime) -> Outcome {
     let mut book = book(rt.alloc())?;
-    let one = berth(&mut book, &Actor::Client(client(1)?))?;
-    let voter = berth(&mut book, &Actor::Node(node(1)?))?;
+    let one = berth_of(&mut book, Actor::Client(client(1)?))?;
+    let voter = berth_of(&mut book, Actor::Node(node(1)?))?;
     let (book, done) = by_name(rt, book, one, voter);
     done?;
     check(book.events() == 16)

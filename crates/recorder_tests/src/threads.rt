@@ -2,17 +2,16 @@
 
 ghost use Rattle.std.specs.Prelude.{◌≡◌};
 
-use crate::worlds::{berth, book, client, world};
+use crate::worlds::{book, world};
 use book_recorders::{BookName, BookRecorder, Logs, Named};
+use book_support::{berth_of, journal_of};
 use history_book::{Berth, Book};
-use journal_audit::{Verdict, audit};
 use lock_messages::Actor;
-use std::alloc::Global;
 use std::marker::Brand;
-use std::str;
 use std::sync::{Mutex, Wait};
 use std::thread::{Threads, join};
 use test_outcomes::{Failure, Outcome, check_row};
+use test_support::{client, count_of, text_of};
 use world_model::{Age, Event};
 
 /// How often each actor rises and falls.
@@ -81,52 +80,26 @@ fn in_two_threads<R: Threads + Wait + Copy + Send + Sync>(
     whole::<Brand, Book, R>(rt, book, one, two)
 }
 
-/// How many lines of the journal are this one.
-fn count(journal: &str, line: &str) -> usize {
-    journal.lines().filter(|other| *other == line).count()
-}
-
 /// Whether the journal has each event of both actors, as often as it was logged.
 fn has_all(journal: &[u8]) -> Outcome {
-    let Ok(journal) = str::from_utf8(journal) else {
-        return Err(Failure::Wrong(1));
-    };
+    let journal = text_of(journal)?;
     for line in ["rise c1 old", "fall c1", "rise c2 old", "fall c2"] {
-        check_row(count(journal, line) == ROUNDS as usize, 2)?;
+        check_row(count_of(journal, line) == ROUNDS as usize, 2)?;
     }
     Ok(())
-}
-
-/// Whether an audit from the world finds the journal sound.
-fn is_sound(alloc: Global, journal: &[u8]) -> Outcome {
-    let mut told = Vec::new(alloc);
-    match audit(alloc, world(alloc)?, journal, &mut told) {
-        Ok(Verdict::Sound(lines)) if lines == 4 * ROUNDS => Ok(()),
-        Ok(_) => Err(Failure::Wrong(3)),
-        Err(_) => Err(Failure::Memory),
-    }
-}
-
-fn judge(alloc: Global, book: &Book) -> Outcome
-    requires { Unit {0} }
-{
-    let mut journal = Vec::new(alloc);
-    if book.write_journal(alloc, &mut journal).is_err() {
-        return Err(Failure::Memory);
-    }
-    has_all(journal.as_slice())?;
-    is_sound(alloc, journal.as_slice())
 }
 
 #[test]
 fn two_threads_log_in_one_book(rt: HostRuntime) -> Outcome {
     let mut book = book(rt.alloc())?;
     let (first, second) = (Actor::Client(client(1)?), Actor::Client(client(2)?));
-    let one = berth(&mut book, &first)?;
-    let two = berth(&mut book, &second)?;
+    let one = berth_of(&mut book, first)?;
+    let two = berth_of(&mut book, second)?;
     let (book, one, two) = in_two_threads(rt, book, (one, first), (two, second));
     if one != 2 * ROUNDS || two != 2 * ROUNDS {
         return Err(Failure::Memory);
     }
-    judge(rt.alloc(), &book)
+    check_row(book.events() == 4 * ROUNDS, 3)?;
+    let journal = journal_of(rt.alloc(), &book, world(rt.alloc())?)?;
+    has_all(journal.as_slice())
 }

@@ -12,7 +12,8 @@ use Rattle.world_model.specs.Parts.{node_part, client_part}
 use Rattle.event_recorders.specs.OwnLogs.{OwnLog, IsDownAtRest}
 use Rattle.node_loop.specs.Standing.{IsReady}
 use Rattle.run_service.specs.Empty.{empty_record}
-use Rattle.run_tests.specs.Fresh.{new_log, node_log, client_log}
+use Rattle.book_support.specs.Fresh.{new_log}
+use Rattle.run_tests.specs.Fresh.{node_log, client_log}
 use Rattle.node_threads.proofs.Openings.{image_at}
 
 -- each place of a list of one value has it
@@ -25,7 +26,7 @@ same_at (suc m) (suc i) x within = same_at m i x (omega (arith, within))
 by_number : {A : Type 0} (xs : List A) (n : ℕ) (x : A) → 1 ≤ n → slice_get xs (n - 1) ≡ Some x → numbered xs n ≡ Some x
 by_number xs n x some at = ap (λ b. cond b None (slice_get xs (n - 1))) (ne_eqb n 0 (λ z. absurd (omega (arith, z, some)))) ∙ at
 
-pub logs_as_node : (b : List Ballot) (clients n : ℕ) (l : OwnLog) → l ≡ new_log b clients (actor.Node n) → 1 ≤ n → n ≤ node_count b → l ≡ node_log b n
+pub logs_as_node : (b : List Ballot) (clients n : ℕ) (l : OwnLog) → l ≡ new_log b First clients (actor.Node n) → 1 ≤ n → n ≤ node_count b → l ≡ node_log b n
 logs_as_node b clients n l is some there =
     let m = node_count b in
     let within : n - 1 < m = omega (arith, some, there) in
@@ -34,7 +35,7 @@ logs_as_node b clients n l is some there =
     is ∙ ap (λ o. record { actor = actor.Node n; ballots = b; opening = node_part o; events = [] })
     (by_number (map down_node (map empty_station (replicate m First))) n (down_node (empty_station First)) some node)
 
-pub logs_as_client : (b : List Ballot) (clients c : ℕ) (l : OwnLog) → l ≡ new_log b clients (actor.Client c) → 1 ≤ c → c ≤ clients → l ≡ client_log b c
+pub logs_as_client : (b : List Ballot) (clients c : ℕ) (l : OwnLog) → l ≡ new_log b First clients (actor.Client c) → 1 ≤ c → c ≤ clients → l ≡ client_log b c
 logs_as_client b clients c l is some there =
     let within : c - 1 < clients = omega (arith, some, there) in
     let client = image_at down_client (replicate clients 0) (c - 1) 0 (same_at clients (c - 1) 0 within) in

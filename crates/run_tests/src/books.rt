@@ -4,9 +4,10 @@ ghost use Rattle.std.specs.Prelude.{◌≡◌, ◌≤◌, true, IfOk};
 ghost use Rattle.lock_messages.specs.declared.ids.TheConstants.{MAX_CLIENTS};
 ghost use Rattle.book_recorders.specs.Alone.{IsAlone};
 
-use book_recorders::{ListRecorder, Logs, open_alone};
+use book_recorders::{Logs, OwnBookRecorder, open_alone};
+use book_support::of_book;
 use event_recorders::Recorder;
-use history_book::{Berth, Book, BookFault};
+use history_book::{Berth, Book};
 use journal_audit::{Cause, Verdict};
 use lock_messages::{Actor, ClientId, MAX_CLIENTS};
 use lock_model::Problem;
@@ -14,7 +15,7 @@ use operator_cli::{Settings, world_down};
 use run_service::{audit_book, plain_policies};
 use std::alloc::Global;
 use test_outcomes::{Failure, Outcome, check};
-use vote_weights::{Ballot, BallotList};
+use test_support::ballots_of;
 use world_model::{Age, Event, StepFault};
 
 /// Whether a world may have so many clients.
@@ -28,30 +29,23 @@ fn are_clients(count: u16) -> bool
 fn settings(clients: u16) -> Result<Settings, Failure>
     ensures { IfOk result (λ s. s.clients ≡ clients) }
 {
-    let Ok(ballot) = Ballot::of(&[1], 1, 1) else {
-        return Err(Failure::Wrong(0));
-    };
-    let Ok(ballots) = BallotList::of(&[ballot]) else {
-        return Err(Failure::Wrong(0));
-    };
     Ok(Settings {
-        ballots,
+        ballots: ballots_of(&[1], 1, 1)?,
         problem: Problem::Second,
         clients,
     })
 }
 
 /// Logs an event.
-fn log<K: Logs>(recorder: &mut ListRecorder<K>, event: Event) -> Outcome {
+fn log<K: Logs>(recorder: &mut OwnBookRecorder<K>, event: Event) -> Outcome {
     match recorder.log_event(event) {
         Ok(_) => Ok(()),
-        Err(BookFault::Memory) => Err(Failure::Memory),
-        Err(_) => Err(Failure::Wrong(0)),
+        Err(fault) => Err(of_book(fault)),
     }
 }
 
 /// Lets an actor rise and fall so often.
-fn rise_and_fall<K: Logs>(recorder: &mut ListRecorder<K>, who: &Actor, times: u32) -> Outcome {
+fn rise_and_fall<K: Logs>(recorder: &mut OwnBookRecorder<K>, who: &Actor, times: u32) -> Outcome {
     for _ in 0..times {
         log(recorder, Event::Rise(*who, Age::Old))?;
         log(recorder, Event::Fall(*who))?;
@@ -63,7 +57,7 @@ fn rise_and_fall<K: Logs>(recorder: &mut ListRecorder<K>, who: &Actor, times: u3
 fn log_in<K: Logs>(book: K, berth: Berth, who: &Actor, times: u32) -> (K, Outcome)
     requires { IsAlone (K.book book) berth }
 {
-    let mut recorder = ListRecorder::over(book, berth);
+    let mut recorder = OwnBookRecorder::over(book, berth);
     let logged = rise_and_fall(&mut recorder, who, times);
     (recorder.into_book(), logged)
 }

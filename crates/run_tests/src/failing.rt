@@ -1,14 +1,14 @@
 // Runs over devices that fail.
 
-use crate::devices::Device;
 use crate::gates::OpenGate;
-use crate::rows::{Ends, PLAIN, Row, goes, is_right, run_row, text_of};
+use crate::rows::{Ends, PLAIN, Row, goes, is_right, run_row};
 use event_recorders::RunFault;
 use stable_record::Leaves;
 use std::alloc::Global;
 use std::sync::Wait;
 use std::thread::Threads;
 use test_outcomes::{Outcome, check_row};
+use test_support::{Device, text_of};
 
 /// A device whose first three reopens fail.
 const NOT_REOPENED: Device = Device::Faulty(1000, Leaves::Old, 3);

@@ -1,58 +1,18 @@
-// What a run is handed: pairs of policies, a world in which nothing has happened, records and wishes.
+// What a run is handed: records and wishes.
 
 ghost use Rattle.std.specs.Prelude.{◌≡◌, ◌≤◌, ◌++◌, length, map, replicate, IfOk};
-ghost use Rattle.lock_model.specs.Ballots.{node_count, HasPlace};
-ghost use Rattle.lock_messages.specs.declared.ids.TheConstants.{MAX_CLIENTS};
+ghost use Rattle.lock_model.specs.Ballots.{HasPlace};
 ghost use Rattle.operator_cli.specs.Settings.{AreAmong};
 ghost use Rattle.run_service.specs.Empty.{empty_node, empty_client};
-ghost use Rattle.world_model.specs.Openings.{opening};
 
-use crate::devices::{Device, record_on};
-use admission_policy::{Admission, FirstProblem, Pair, SecondProblem};
-use history_check::{MAX_WISHES, Wish, read_wish};
+use crate::boxed::record_on;
+use event_lines::{MAX_WISHES, Wish, read_wish};
 use lock_model::Problem;
 use stable_record::{StableRecord, client_bytes};
 use std::alloc::Global;
 use test_outcomes::Failure;
+use test_support::{Device, NOTHING_KEPT};
 use vote_weights::BallotList;
-use world_machine::World;
-
-/// The record of a node for problem 1 that has kept nothing.
-const NOTHING: [u8; 4] = [1, 1, 0, 0];
-
-/// The plain policies of both problems.
-pub(crate) fn pair(alloc: Global) -> Result<Pair, Failure> {
-    let first: Box<dyn Admission + Send> = Box::new(alloc, FirstProblem)?;
-    let second: Box<dyn Admission + Send> = Box::new(alloc, SecondProblem)?;
-    Ok(Pair::of(first, second))
-}
-
-/// So many pairs.
-pub(crate) fn pairs(alloc: Global, count: u8) -> Result<Vec<Pair>, Failure>
-    ensures { IfOk result (λ v. length v.items ≡ count) }
-{
-    let mut pairs = Vec::new(alloc);
-    for _ in 0..count {
-        pairs.push(pair(alloc)?)?;
-    }
-    if pairs.len() != count as usize {
-        return Err(Failure::Wrong(0));
-    }
-    Ok(pairs)
-}
-
-/// A world of nodes for problem 1 in which nothing has happened.
-pub(crate) fn world(alloc: Global, ballots: BallotList, clients: u16) -> Result<World, Failure>
-    requires some { 1 ≤ clients }
-    requires few { clients ≤ MAX_CLIENTS }
-    ensures { IfOk result (λ w. w ≡ opening ballots (replicate (node_count ballots) Problem.First) clients) }
-{
-    let pairs = pairs(alloc, ballots.nodes())?;
-    match World::start(alloc, ballots, clients, Problem::First, pairs) {
-        Ok(world) => Ok(world),
-        Err(_) => Err(Failure::Memory),
-    }
-}
 
 /// A record for each node that has kept nothing, on its device.
 pub(crate) fn node_records(
@@ -63,7 +23,7 @@ pub(crate) fn node_records(
 {
     let mut records: Vec<Box<dyn StableRecord + Send>> = Vec::new(alloc);
     for place in 0..devices.len() {
-        records.push(record_on(alloc, devices[place], &NOTHING)?)?;
+        records.push(record_on(alloc, devices[place], &NOTHING_KEPT)?)?;
     }
     Ok(records)
 }

@@ -7,11 +7,9 @@
 #![tactic(auto)]
 
 #[cfg(test)]
-mod audits;
-#[cfg(test)]
 mod books;
 #[cfg(test)]
-mod devices;
+mod boxed;
 #[cfg(test)]
 mod failing;
 #[cfg(test)]
@@ -24,6 +22,8 @@ mod given;
 mod quiet;
 #[cfg(test)]
 mod rows;
+#[cfg(test)]
+mod seeds;
 #[cfg(test)]
 mod served;
 #[cfg(test)]

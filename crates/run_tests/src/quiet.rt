@@ -1,10 +1,10 @@
 // Runs without loss, and one in which all is lost.
 
-use crate::devices::Device;
 use crate::gates::OpenGate;
 use crate::rows::{Ends, PLAIN, Row, goes};
 use event_recorders::RunFault;
 use test_outcomes::Outcome;
+use test_support::Device;
 
 const ONE_WISH: Row<'static> = Row {
     wishes: &[b"c1 read a"],

@@ -4,18 +4,18 @@ ghost use Rattle.std.specs.Prelude.{◌≡◌, ◌≤◌, length};
 ghost use Rattle.lock_model.specs.Ballots.{node_count};
 ghost use Rattle.lock_messages.specs.declared.ids.TheConstants.{MAX_CLIENTS};
 
-use crate::audits::journal_of;
-use crate::devices::Device;
-use crate::given::{pairs, records, wishes, world};
+use crate::given::{records, wishes};
+use book_support::journal_of;
 use event_recorders::{Gate, RunFault};
 use lock_messages::{Actor, MAX_CLIENTS};
-use lossy_link::Weather;
+use lock_model::Problem;
 use node_threads::{RunEnd, run_all};
 use std::alloc::Global;
 use std::sync::Wait;
 use std::thread::Threads;
 use test_outcomes::{Failure, Outcome, check_row};
-use vote_weights::{Ballot, BallotList};
+use test_support::{Device, ballots_of, new_world, place_of, plain_pairs, text_of, weather};
+use vote_weights::BallotList;
 
 /// Who ends by which fault.
 #[derive(Clone, Copy)]
@@ -101,14 +101,11 @@ fn end_of<R: Threads + Wait + Copy + Send, G: Gate + Sync>(
     requires few { row.now.clients ≤ MAX_CLIENTS }
     requires devices { length row.now.devices.now ≡ node_count ballots }
 {
-    let (seed, lose, twice, late) = row.weather;
-    let Ok(weather) = Weather::of(seed, lose, twice, late) else {
-        return Err(Failure::Wrong(0));
-    };
+    let weather = weather(row.weather)?;
     let wishes = wishes(alloc, row.clients, &ballots, row.wishes)?;
     let records = records(alloc, row.devices, row.of_clients, row.clients)?;
-    let pairs = pairs(alloc, ballots.nodes())?;
-    let world = world(alloc, ballots, row.clients)?;
+    let pairs = plain_pairs(alloc, ballots.nodes())?;
+    let world = new_world(alloc, ballots, Problem::First, row.clients)?;
     match run_all(
         rt,
         alloc,
@@ -132,12 +129,7 @@ pub(crate) fn run_row<R: Threads + Wait + Copy + Send, G: Gate + Sync>(
     row: &Row<'_>,
     gate: &G,
 ) -> Result<Seen, Failure> {
-    let Ok(ballot) = Ballot::of(row.votes, row.read, row.write) else {
-        return Err(Failure::Wrong(0));
-    };
-    let Ok(ballots) = BallotList::of(&[ballot]) else {
-        return Err(Failure::Wrong(0));
-    };
+    let ballots = ballots_of(row.votes, row.read, row.write)?;
     if row.clients < 1
         || u32::from(row.clients) > MAX_CLIENTS
         || row.devices.len() != row.votes.len()
@@ -145,7 +137,7 @@ pub(crate) fn run_row<R: Threads + Wait + Copy + Send, G: Gate + Sync>(
         return Err(Failure::Wrong(0));
     }
     let end = end_of(rt, alloc, row, ballots, gate)?;
-    let opening = world(alloc, ballots, row.clients)?;
+    let opening = new_world(alloc, ballots, Problem::First, row.clients)?;
     let journal = journal_of(alloc, &end.book, opening)?;
     Ok(Seen { end, journal })
 }
@@ -167,14 +159,6 @@ fn are_faults(found: &[(Actor, RunFault)], expected: &[Ends], number: usize) -> 
     check_row(are_same, number)
 }
 
-/// The text of a journal.
-pub(crate) fn text_of(journal: &[u8]) -> Result<&str, Failure> {
-    match str::from_utf8(journal) {
-        Ok(text) => Ok(text),
-        Err(_) => Err(Failure::Wrong(0)),
-    }
-}
-
 /// Whether the lines of a text that begin so are just these, in order.
 pub(crate) fn has_lines(text: &str, start: &str, expected: &str) -> bool {
     let mut expected = expected.lines();
@@ -185,20 +169,6 @@ pub(crate) fn has_lines(text: &str, start: &str, expected: &str) -> bool {
         }
     }
     are_same && expected.next().is_none()
-}
-
-/// Which line of the journal this is, from 0 on; it stands there once.
-fn place_of(journal: &str, wanted: &str) -> Result<usize, Failure> {
-    let mut found = None;
-    for (place, line) in journal.lines().enumerate() {
-        if line == wanted && found.is_some() {
-            return Err(Failure::Wrong(0));
-        }
-        if line == wanted {
-            found = Some(place);
-        }
-    }
-    found.ok_or(Failure::Wrong(0))
 }
 
 /// Ends the test unless the journal has the row's lines.

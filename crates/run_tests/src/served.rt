@@ -1,7 +1,6 @@
 // Runs from the bytes of their settings to what is printed: the quiet, the empty and the hopeless one.
 
-use crate::devices::Device;
-use crate::given::{client_records, node_records, pairs};
+use crate::given::{client_records, node_records};
 use crate::supplies::second_records;
 use lock_messages::MAX_NODES;
 use operator_cli::{Command, Order, Policies, ServeFault};
@@ -10,6 +9,7 @@ use std::alloc::Global;
 use std::sync::Wait;
 use std::thread::Threads;
 use test_outcomes::{Failure, Outcome, check_row};
+use test_support::{Device, plain_pairs};
 
 /// Serves a run by these settings, which prints there; its status.
 fn served<R: Threads + Wait + Copy + Send>(
@@ -19,10 +19,10 @@ fn served<R: Threads + Wait + Copy + Send>(
     out: &mut Vec<u8>,
 ) -> Result<u8, Failure> {
     let for_world = Policies {
-        pairs: pairs(alloc, MAX_NODES)?,
+        pairs: plain_pairs(alloc, MAX_NODES)?,
     };
     let policies = Policies {
-        pairs: pairs(alloc, MAX_NODES)?,
+        pairs: plain_pairs(alloc, MAX_NODES)?,
     };
     let records = Records {
         first: node_records(alloc, &[Device::Memory; 16])?,
@@ -56,7 +56,7 @@ fn is_printed(came: Result<u8, Failure>, out: &[u8], expected: &str) -> Outcome 
 }
 
 /// Ends the test unless these settings print this, with status 0.
-fn prints<R: Threads + Wait + Copy + Send>(
+pub(crate) fn prints<R: Threads + Wait + Copy + Send>(
     rt: R,
     alloc: Global,
     settings: &str,

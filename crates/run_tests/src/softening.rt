@@ -1,8 +1,7 @@
 // Runs in which a writer softens and lets a reader in.
 
-use crate::devices::Device;
 use crate::gates::{OpenGate, SoftensTogether, TURNS};
-use crate::rows::{PLAIN, Row, Seen, goes, has_lines, run_row, text_of};
+use crate::rows::{PLAIN, Row, Seen, goes, has_lines, run_row};
 use stable_record::Leaves;
 use std::alloc::Global;
 use std::ops::Range;
@@ -10,6 +9,7 @@ use std::rt::Clock;
 use std::sync::Wait;
 use std::thread::Threads;
 use test_outcomes::{Failure, Outcome, check_row};
+use test_support::{Device, text_of};
 
 /// A writer that softens, and a reader. Both enter.
 const BOTH_ENTER: Row<'static> = Row {

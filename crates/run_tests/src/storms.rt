@@ -1,6 +1,5 @@
 // Runs in a storm of loss, repeats and delays.
 
-use crate::devices::Device;
 use crate::gates::OpenGate;
 use crate::rows::{Row, goes};
 use stable_record::Leaves;
@@ -8,6 +7,7 @@ use std::alloc::Global;
 use std::sync::Wait;
 use std::thread::Threads;
 use test_outcomes::{Failure, Outcome};
+use test_support::Device;
 
 /// Twenty wishes of each of eight clients on three resources.
 const WISHES: u32 = 160;

@@ -4,12 +4,13 @@ ghost use Rattle.std.specs.Prelude.{◌≡◌, map, replicate, IfOk};
 ghost use Rattle.lock_messages.specs.declared.ids.TheConstants.{MAX_NODES};
 ghost use Rattle.run_service.specs.Empty.{empty_node};
 
-use crate::devices::{Device, record_on};
+use crate::boxed::record_on;
 use lock_messages::MAX_NODES;
 use lock_model::Problem;
 use stable_record::StableRecord;
 use std::alloc::Global;
 use test_outcomes::Failure;
+use test_support::Device;
 
 /// The record of a node for problem 2 that has kept nothing.
 const NOTHING: [u8; 4] = [1, 2, 0, 0];

@@ -1,35 +1,34 @@
 // The threads of a run in which each node's link switches the node's problem.
 
-ghost use Rattle.std.specs.Prelude.{◌≡◌, ◌≤◌, ◌∷◌, [], length, All, IfOk, OnOk};
+ghost use Rattle.std.specs.Prelude.{◌≡◌, ◌≤◌, ◌∷◌, [], length, All, IfOk};
 ghost use Rattle.book_recorders.specs.Sharing.{log_of};
 ghost use Rattle.client_loop.specs.Visits.{ArePlaced};
 ghost use Rattle.lock_messages.specs.declared.ids.TheConstants.{MAX_CLIENTS};
 ghost use Rattle.lock_model.specs.Ballots.{node_count, HasPlace};
-ghost use Rattle.run_service.specs.Empty.{empty_record};
-ghost use Rattle.run_tests.specs.Fresh.{IsNewBook, new_log};
-ghost use Rattle.stable_record.specs.Records.{IsNodeRecord, node_record_of};
+ghost use Rattle.book_support.specs.Fresh.{IsNewBook};
 
-use crate::devices::{Device, record_on};
+use crate::boxed::record_on;
 use crate::gates::OpenGate;
-use crate::given::{pair, world};
 use crate::storms::own_text;
 use crate::switching_links::SwitchingLink;
 use book_recorders::{BookName, BookRecorder, Logs, Named};
+use book_support::{book_over, new_berth};
 use client_loop::run_client;
+use event_lines::{MAX_WISHES, Wish, read_wish};
 use event_recorders::RunFault;
-use history_book::{Berth, Book, BookFault};
-use history_check::{MAX_WISHES, Wish, read_wish};
+use history_book::{Berth, Book};
 use lock_messages::{Actor, ClientId, NodeId};
 use lock_model::Problem;
 use lossy_link::{ChannelLink, Weather};
 use node_loop::run_node;
-use stable_record::{Entries, NodeRecord, client_bytes, node_bytes};
+use stable_record::client_bytes;
 use std::alloc::Global;
 use std::marker::{Brand, Model, PhantomData};
 use std::sync::{Mutex, Wait};
 use std::thread;
 use std::thread::Threads;
 use test_outcomes::{Failure, Outcome};
+use test_support::{Device, new_world, nothing_kept, plain_pair};
 use vote_weights::BallotList;
 
 /// What is given to a run: how many wishes each client has, on which device each record lies, and the weather.
@@ -96,21 +95,6 @@ enum Task<B: BookName, R: Wait + Copy> {
     Client(ClientTask<B, R>),
 }
 
-/// The record of a node for problem 1 that has kept nothing yet.
-fn nothing_kept(alloc: Global) -> Result<Vec<u8>, Failure>
-    ensures bytes { IfOk result (λ v. v.items ≡ node_record_of (empty_record Problem.First)) }
-    ensures good { OnOk result (IsNodeRecord (empty_record Problem.First)) }
-{
-    let record = NodeRecord {
-        policy: Problem::First,
-        entries: Entries::new(alloc),
-    };
-    match node_bytes(alloc, &record) {
-        Ok(bytes) => Ok(bytes),
-        Err(_) => Err(Failure::Memory),
-    }
-}
-
 /// What a fault by which an actor ends is to a test that expects none.
 fn of_run(fault: RunFault, row: usize) -> Failure {
     match fault {
@@ -134,8 +118,12 @@ fn do_node<B: BookName, K: Logs, R: Wait + Copy>(
         link,
         ..
     } = task;
-    let stable = record_on(alloc, device, nothing_kept(alloc)?.as_slice())?;
-    let policies = pair(alloc)?;
+    let stable = record_on(
+        alloc,
+        device,
+        nothing_kept(alloc, Problem::First)?.as_slice(),
+    )?;
+    let policies = plain_pair();
     let mut link = link;
     let mut recorder = BookRecorder::of(rt, book, berth);
     match run_node(
@@ -275,29 +263,6 @@ fn under_lock<B: BookName + Send + Sync, K: Logs + Send, R: Threads + Wait + Cop
     (lock.into_inner().into_book(), entered)
 }
 
-/// The berth of an actor that was given none, in a book in which nothing is logged.
-fn berth_of(
-    ballots: BallotList,
-    clients: u16,
-    book: &mut Book,
-    actor: Actor,
-) -> Result<Berth, Failure>
-    requires { IsNewBook ballots clients book.old }
-    ensures book { IsNewBook ballots clients book.new }
-    ensures table { book.new.table ≡ book.old.table }
-    ensures name { IfOk result (λ k. k.table ≡ book.old.table) }
-    ensures log { IfOk result (λ k. log_of k ≡ new_log ballots clients actor) }
-{
-    let _ = ballots;
-    let _ = clients;
-    match book.berth(actor) {
-        Ok(Some(berth)) => Ok(berth),
-        Ok(None) => Err(Failure::Wrong(0)),
-        Err(BookFault::Memory) => Err(Failure::Memory),
-        Err(_) => Err(Failure::Wrong(0)),
-    }
-}
-
 fn node_task<B: BookName, R: Wait + Copy>(
     ballots: BallotList,
     clients: u16,
@@ -306,14 +271,14 @@ fn node_task<B: BookName, R: Wait + Copy>(
     device: Device,
     link: ChannelLink<R>,
 ) -> Result<NodeTask<B, R>, Failure>
-    requires new { IsNewBook ballots clients book.old }
+    requires new { IsNewBook ballots Problem.First clients book.old }
     requires name { book.old.table ≡ B.table }
     requires some { 1 ≤ node }
     requires there { node ≤ node_count ballots }
-    ensures new { IsNewBook ballots clients book.new }
+    ensures new { IsNewBook ballots Problem.First clients book.new }
     ensures table { book.new.table ≡ book.old.table }
 {
-    let berth = berth_of(ballots, clients, book, Actor::Node(node))?;
+    let berth = new_berth(ballots, Problem::First, clients, book, Actor::Node(node))?;
     Ok(NodeTask {
         node,
         ballots,
@@ -332,14 +297,20 @@ fn client_task<B: BookName, R: Wait + Copy>(
     setting: &Setting,
     link: ChannelLink<R>,
 ) -> Result<ClientTask<B, R>, Failure>
-    requires new { IsNewBook ballots clients book.old }
+    requires new { IsNewBook ballots Problem.First clients book.old }
     requires name { book.old.table ≡ B.table }
     requires some { 1 ≤ client }
     requires there { client ≤ clients }
-    ensures new { IsNewBook ballots clients book.new }
+    ensures new { IsNewBook ballots Problem.First clients book.new }
     ensures table { book.new.table ≡ book.old.table }
 {
-    let berth = berth_of(ballots, clients, book, Actor::Client(client))?;
+    let berth = new_berth(
+        ballots,
+        Problem::First,
+        clients,
+        book,
+        Actor::Client(client),
+    )?;
     Ok(ClientTask {
         client,
         ballots,
@@ -368,9 +339,9 @@ fn node_tasks<B: BookName, R: Wait + Copy>(
     links: &mut Vec<ChannelLink<R>>,
     tasks: &mut Vec<Task<B, R>>,
 ) -> Outcome
-    requires new { IsNewBook ballots clients book.old }
+    requires new { IsNewBook ballots Problem.First clients book.old }
     requires name { book.old.table ≡ B.table }
-    ensures new { IsNewBook ballots clients book.new }
+    ensures new { IsNewBook ballots Problem.First clients book.new }
     ensures table { book.new.table ≡ book.old.table }
 {
     for place in 0..ballots.nodes() {
@@ -393,9 +364,9 @@ fn client_tasks<B: BookName, R: Wait + Copy>(
     links: &mut Vec<ChannelLink<R>>,
     tasks: &mut Vec<Task<B, R>>,
 ) -> Outcome
-    requires new { IsNewBook ballots clients book.old }
+    requires new { IsNewBook ballots Problem.First clients book.old }
     requires name { book.old.table ≡ B.table }
-    ensures new { IsNewBook ballots clients book.new }
+    ensures new { IsNewBook ballots Problem.First clients book.new }
     ensures table { book.new.table ≡ book.old.table }
 {
     for place in 0..clients {
@@ -419,7 +390,7 @@ fn named<B: BookName + Send + Sync, R: Threads + Wait + Copy + Send + Sync>(
     setting: &Setting,
     links: Vec<ChannelLink<R>>,
 ) -> Result<(Book, u32), Failure>
-    requires new { IsNewBook ballots clients book }
+    requires new { IsNewBook ballots Problem.First clients book }
     requires name { book.table ≡ B.table }
 {
     let (mut book, mut links) = (book, links);
@@ -435,6 +406,19 @@ fn named<B: BookName + Send + Sync, R: Threads + Wait + Copy + Send + Sync>(
     client_tasks(ballots, clients, &mut book, setting, &mut links, &mut tasks)?;
     let (book, entered) = under_lock::<B, Book, R>(rt, alloc, book, tasks);
     Ok((book, entered?))
+}
+
+/// A book over a new world of these ballots, under problem 1, and of so many clients, in which nothing is logged.
+fn book(alloc: Global, ballots: BallotList, clients: u16) -> Result<Book, Failure>
+    requires some { 1 ≤ clients }
+    requires few { clients ≤ MAX_CLIENTS }
+    ensures { IfOk result (λ b. IsNewBook ballots Problem.First clients b) }
+{
+    book_over(
+        alloc,
+        1,
+        new_world(alloc, ballots, Problem::First, clients)?,
+    )
 }
 
 /// Runs the nodes of these ballots and so many clients in this setting. Answers the book, and how often clients
@@ -453,8 +437,6 @@ pub(crate) fn run_switched<R: Threads + Wait + Copy + Send + Sync>(
     let Ok(links) = ChannelLink::all(rt, alloc, ballots.nodes(), clients, weather) else {
         return Err(Failure::Memory);
     };
-    match Book::over(alloc, 1, world(alloc, ballots, clients)?) {
-        Ok(book) => named::<Brand, R>(rt, alloc, ballots, clients, book, setting, links),
-        Err((_world, _fault)) => Err(Failure::Memory),
-    }
+    let book = book(alloc, ballots, clients)?;
+    named::<Brand, R>(rt, alloc, ballots, clients, book, setting, links)
 }

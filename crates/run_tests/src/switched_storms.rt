@@ -1,38 +1,24 @@
 // Storms in which each node's problem is switched at each fiftieth post.
 
-use crate::audits::journal_of;
-use crate::devices::Device;
-use crate::given::world;
 use crate::switched_actors::{Setting, run_switched};
-use lossy_link::Weather;
+use book_support::journal_of;
+use lock_model::Problem;
 use stable_record::Leaves;
 use std::alloc::Global;
 use std::sync::Wait;
 use std::thread::Threads;
 use test_outcomes::{Failure, Outcome, check_row};
-use vote_weights::{Ballot, BallotList};
+use test_support::{Device, ballots_of, new_world, text_of, weather};
 
 /// Eight clients of three nodes with a vote each, of which two read and two write.
 const CLIENTS: u16 = 8;
-
-fn ballots() -> Result<BallotList, Failure> {
-    let Ok(ballot) = Ballot::of(&[1, 1, 1], 2, 2) else {
-        return Err(Failure::Wrong(0));
-    };
-    match BallotList::of(&[ballot]) {
-        Ok(ballots) => Ok(ballots),
-        Err(_) => Err(Failure::Wrong(0)),
-    }
-}
 
 /// The lines by which the nodes that are always asked take each problem; n3 may have too few posts.
 const LINES: [&str; 4] = ["switch n1 1", "switch n1 2", "switch n2 1", "switch n2 2"];
 
 /// Whether these lines are all in the journal.
 fn are_switched(journal: &[u8]) -> Result<bool, Failure> {
-    let Ok(text) = str::from_utf8(journal) else {
-        return Err(Failure::Wrong(0));
-    };
+    let text = text_of(journal)?;
     Ok(
         LINES
             .iter()
@@ -49,17 +35,15 @@ fn storm<R: Threads + Wait + Copy + Send + Sync>(
     wishes: u32,
     device: Device,
 ) -> Outcome {
-    let Ok(weather) = Weather::of(seed, 200, 200, 200) else {
-        return Err(Failure::Wrong(0));
-    };
     let setting = Setting {
         wishes,
         device,
-        weather,
+        weather: weather((seed, 200, 200, 200))?,
     };
-    let ballots = ballots()?;
+    let ballots = ballots_of(&[1, 1, 1], 2, 2)?;
     let (book, entered) = run_switched(rt, alloc, ballots, CLIENTS, &setting)?;
-    let journal = journal_of(alloc, &book, world(alloc, ballots, CLIENTS)?)?;
+    let opening = new_world(alloc, ballots, Problem::First, CLIENTS)?;
+    let journal = journal_of(alloc, &book, opening)?;
     let all = wishes.wrapping_mul(u32::from(CLIENTS));
     check_row(entered == all && book.entered() == all, seed as usize)?;
     check_row(are_switched(journal.as_slice())?, seed as usize)

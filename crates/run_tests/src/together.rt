@@ -1,9 +1,9 @@
 // Two at the same time: inside a resource, and at their records.
 
-use crate::devices::Device;
 use crate::gates::{InsideTogether, KeepTogether};
 use crate::rows::{PLAIN, Row, goes};
 use test_outcomes::{Outcome, check_row};
+use test_support::Device;
 
 const TWO_INSIDE: Row<'static> = Row {
     wishes: &[b"c1 read a", b"c2 read a"],

@@ -2,13 +2,14 @@
 
 use crate::auditing::{audited, found, world};
 use crate::sips::sips_of;
-use history_check::{LineFault, read_event};
+use event_lines::{LineFault, read_event};
 use journal_audit::{AuditFault, Cause, Verdict, audit, audit_lines};
 use line_streams::LineReader;
 use std::alloc::Global;
 use std::io;
-use std::io::{Read, Write};
+use std::io::Read;
 use test_outcomes::{Failure, Outcome, check, check_row};
+use test_support::Full;
 use world_model::StepFault;
 
 /// A reader asks two nodes, hears two grants and enters.
@@ -96,20 +97,6 @@ fn reads_no_further(rt: HostRuntime) -> Outcome {
             check(found == Ok(Verdict::Unsound(3, Cause::Refused(StepFault::WrongPhase))))?;
             check(calls == 1)
         }
-    }
-}
-
-/// A writer that takes nothing.
-#[derive(Drop)]
-struct Full;
-
-impl Write for Full {
-    fn write(&mut self, _buf: &[u8]) -> io::Result<usize> {
-        Ok(0)
-    }
-
-    fn flush(&mut self) -> io::Result<()> {
-        Ok(())
     }
 }
 

@@ -1,31 +1,17 @@
 // Auditing a journal from a world in which all are down.
 
-use crate::playing::pairs;
 use journal_audit::{AuditFault, Verdict, audit};
 use lock_model::Problem;
 use std::alloc::Global;
 use std::io::Read;
 use test_outcomes::Failure;
-use vote_weights::{Ballot, BallotList};
+use test_support::{ballots_of, new_world};
 use world_machine::World;
 
 /// A world of three nodes with a vote each, of which two read and two write, under this problem, and of
 /// four clients.
 fn world_under(alloc: Global, problem: Problem) -> Result<World, Failure> {
-    let Ok(ballot) = Ballot::of(&[1, 1, 1], 2, 2) else {
-        return Err(Failure::Wrong(0));
-    };
-    let Ok(ballots) = BallotList::of(&[ballot]) else {
-        return Err(Failure::Wrong(0));
-    };
-    let pairs = pairs(alloc, 3)?;
-    if pairs.len() != ballots.nodes() as usize {
-        return Err(Failure::Wrong(0));
-    }
-    match World::start(alloc, ballots, 4, problem, pairs) {
-        Ok(world) => Ok(world),
-        Err(_) => Err(Failure::Memory),
-    }
+    new_world(alloc, ballots_of(&[1, 1, 1], 2, 2)?, problem, 4)
 }
 
 /// The same under problem 1.

@@ -1,8 +1,9 @@
 // Each fault of a line. A line of a table is bad by itself, behind good settings.
 
-use crate::playing::{SETTINGS, each_is_bad, plays, repeated};
+use crate::playing::{each_is_bad, plays, repeated};
 use std::alloc::Global;
 use test_outcomes::Outcome;
+use test_support::SETTINGS;
 
 const FIRST_WORDS: [&str; 11] = [
     "\n",

@@ -80,37 +80,28 @@ fn faults_of_lines(rt: HostRuntime) -> Outcome {
 }
 
 const SETTINGS: [(SettingsFault, &str); 8] = [
-    (
-        SettingsFault::NoDocument,
-        "921 the settings aren't a TOML document",
-    ),
+    (SettingsFault::NoDocument, "921 not a TOML document"),
     (
         SettingsFault::Value,
-        "922 a value of the settings is missing or wrong",
+        "922 a value is missing or out of range",
     ),
-    (
-        SettingsFault::UnknownKey,
-        "923 the settings have a key that isn't known",
-    ),
+    (SettingsFault::UnknownKey, "923 unknown key"),
     (
         SettingsFault::NoEnd,
-        "924 no line `---` begins within the first 65,536 bytes",
+        "924 no line --- within the first 65536 bytes",
     ),
-    (
-        SettingsFault::Memory,
-        "925 there was no memory for the settings",
-    ),
+    (SettingsFault::Memory, "925 out of memory for settings"),
     (
         SettingsFault::Ballot(BallotFault::NoNode),
-        "201 the votes make no ballot: the ballot has no node",
+        "201 the ballot has no node",
     ),
     (
         SettingsFault::Weather(WeatherFault::OverThousand),
-        "901 the settings make no weather: lose, twice and late are over 1000 together",
+        "901 lose, twice and late are over 1000 together",
     ),
     (
         SettingsFault::Wish(LineFault::Actor),
-        "802 a wish of the settings is none: no node or client is spelled so",
+        "802 a wish: no node or client is spelled so",
     ),
 ];
 
@@ -123,9 +114,9 @@ fn faults_of_settings(rt: HostRuntime) -> Outcome {
 }
 
 const RUNS: [(ServeFault, &str); 3] = [
-    (ServeFault::Read, "931 the input couldn't be read"),
-    (ServeFault::Write, "932 the output couldn't be written"),
-    (ServeFault::Memory, "933 there was no memory"),
+    (ServeFault::Read, "931 reading standard input failed"),
+    (ServeFault::Write, "932 writing standard output failed"),
+    (ServeFault::Memory, "933 out of memory"),
 ];
 
 #[test]

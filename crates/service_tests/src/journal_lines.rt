@@ -1,6 +1,6 @@
 // The lines of journals, read and written again, and wishes.
 
-use history_check::{read_event, read_wish, write_event};
+use event_lines::{read_event, read_wish, write_event};
 use std::alloc::Global;
 use test_outcomes::{Failure, Outcome, check_row};
 

@@ -28,6 +28,8 @@ mod greatest_sizes;
 #[cfg(test)]
 mod journal_lines;
 #[cfg(test)]
+mod own_lines;
+#[cfg(test)]
 mod playing;
 #[cfg(test)]
 mod restarts;

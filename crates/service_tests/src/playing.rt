@@ -1,20 +1,16 @@
 // Running a script through `serve`.
 
-ghost use Rattle.std.specs.Prelude.{◌≡◌, length, IfOk, IfSome};
+ghost use Rattle.std.specs.Prelude.{IfSome};
 ghost use Rattle.lock_messages.specs.declared.ids.TheConstants.{MAX_NODES};
 ghost use Rattle.operator_cli.specs.Outputs.{IsServed};
 
-use admission_policy::{Admission, FirstProblem, Pair, SecondProblem};
 use journal_audit::AuditFault;
 use lock_messages::MAX_NODES;
 use operator_cli::{Command, Order, Policies, ServeFault, serve};
 use std::alloc::Global;
 use std::io::{Read, Write};
 use test_outcomes::{Failure, Outcome, check_row};
-
-/// Settings of three nodes with a vote each, of which two read and two write, and four clients.
-pub(crate) const SETTINGS: &str =
-    "votes = [1, 1, 1]\nread = 2\nwrite = 2\nproblem = 1\nclients = 4\n---\n";
+use test_support::{SETTINGS, plain_pairs};
 
 /// The command, unless it is a run of all parts, which `serve` doesn't take.
 fn served_by(command: Command) -> Option<Command>
@@ -28,27 +24,6 @@ fn served_by(command: Command) -> Option<Command>
     }
 }
 
-/// The plain policies of both problems.
-fn pair(alloc: Global) -> Result<Pair, Failure> {
-    let first: Box<dyn Admission + Send> = Box::new(alloc, FirstProblem)?;
-    let second: Box<dyn Admission + Send> = Box::new(alloc, SecondProblem)?;
-    Ok(Pair::of(first, second))
-}
-
-/// So many pairs of these.
-pub(crate) fn pairs(alloc: Global, count: u8) -> Result<Vec<Pair>, Failure>
-    ensures { IfOk result (λ v. length v.items ≡ count) }
-{
-    let mut pairs = Vec::new(alloc);
-    for _ in 0..count {
-        pairs.push(pair(alloc)?)?;
-    }
-    if pairs.len() != count as usize {
-        return Err(Failure::Wrong(0));
-    }
-    Ok(pairs)
-}
-
 /// Serves a command with what a reader gives.
 fn serve_command<R: Read + Drop, W: Write>(
     alloc: Global,
@@ -59,7 +34,7 @@ fn serve_command<R: Read + Drop, W: Write>(
     let Some(command) = served_by(command) else {
         return Err(ServeFault::Read);
     };
-    let Ok(pairs) = pairs(alloc, MAX_NODES) else {
+    let Ok(pairs) = plain_pairs(alloc, MAX_NODES) else {
         return Err(ServeFault::Memory);
     };
     let order = Order {

@@ -1,6 +1,7 @@
 // Worked journals, with their verdicts as they are written.
 
 use crate::auditing::audited;
+use crate::sips::sips_of;
 use journal_audit::AuditFault;
 use std::alloc::Global;
 use test_outcomes::{Failure, Outcome, check_row};
@@ -43,21 +44,26 @@ const ROWS: [&[u8]; 26] = [
         01234567890123456789012345678901234567890123456789012345678901234",
 ];
 
-/// Whether the verdict on a row's journal is written as the row says.
-fn is_right(alloc: Global, row: &[u8]) -> Result<bool, Failure> {
+/// How many bytes of a journal a read gives at most.
+const SIZES: [usize; 4] = [1, 2, 7, 1_000];
+
+/// Whether the verdict on a row's journal, of which a read gives so many bytes, is written as the row says.
+fn is_right(alloc: Global, row: &[u8], most: usize) -> Result<bool, Failure> {
     let Some(end) = row.iter().position(|byte| *byte == b'\n') else {
         return Ok(false);
     };
     let (verdict, journal) = row.split_at_checked(end + 1).ok_or(Failure::Wrong(0))?;
-    let out = audited(alloc, journal)?;
+    let out = audited(alloc, sips_of(journal, most, u32::MAX))?;
     Ok(out.as_slice() == verdict)
 }
 
 #[test]
 fn audit_verdicts(rt: HostRuntime) -> Outcome {
     for (number, row) in ROWS.iter().enumerate() {
-        let right = is_right(rt.alloc(), row)?;
-        check_row(right, number)?;
+        for most in SIZES {
+            let right = is_right(rt.alloc(), row, most)?;
+            check_row(right, number)?;
+        }
     }
     Ok(())
 }

@@ -3,13 +3,12 @@
 // A line of a table has an event and what it does, or asks which message is `sent` by a number or whose
 // tickets are `inside` a resource.
 
-use crate::playing::pairs;
-use history_check::read_event;
+use event_lines::read_event;
 use lock_messages::{ResourceName, Ticket};
 use lock_model::Problem;
 use std::alloc::{AllocError, Global};
 use test_outcomes::{Failure, Outcome, check, check_row};
-use vote_weights::{Ballot, BallotList};
+use test_support::{ballots_of, event, new_world};
 use world_machine::World;
 use world_model::{Effect, Event, MAX_MESSAGES, StepFault};
 
@@ -37,26 +36,9 @@ pub(crate) const THREE_UNDER_THE_SECOND: Opening = Opening {
     ..THREE_NODES
 };
 
-fn ballots(opening: &Opening) -> Result<BallotList, Failure> {
-    let Ok(ballot) = Ballot::of(opening.votes, opening.read, opening.write) else {
-        return Err(Failure::Wrong(0));
-    };
-    match BallotList::of(&[ballot]) {
-        Ok(ballots) => Ok(ballots),
-        Err(_) => Err(Failure::Wrong(0)),
-    }
-}
-
 fn opened(alloc: Global, opening: &Opening) -> Result<World, Failure> {
-    let ballots = ballots(opening)?;
-    let pairs = pairs(alloc, ballots.nodes())?;
-    if pairs.len() != ballots.nodes() as usize {
-        return Err(Failure::Wrong(0));
-    }
-    match World::start(alloc, ballots, 4, opening.problem, pairs) {
-        Ok(world) => Ok(world),
-        Err(_) => Err(Failure::Memory),
-    }
+    let ballots = ballots_of(opening.votes, opening.read, opening.write)?;
+    new_world(alloc, ballots, opening.problem, 4)
 }
 
 /// The word for an effect that has nothing more to tell.
@@ -515,28 +497,19 @@ fn weighted_votes(rt: HostRuntime) -> Outcome {
     plays_in(rt.alloc(), &FOUR_NODES, &[FOURTH_RISES, RISE, WEIGHTED])
 }
 
-fn event(row: &str) -> Option<Event> {
-    let Ok(event) = read_event(row.as_bytes()) else {
-        return None;
-    };
-    Some(event)
-}
-
 /// The events of three rows.
-fn three_events(rows: [&str; 3]) -> Option<[Event; 3]> {
+fn three_events(rows: [&str; 3]) -> Result<[Event; 3], Failure> {
     let [first, second, third] = rows;
     let first = event(first)?;
     let second = event(second)?;
     let third = event(third)?;
-    Some([first, second, third])
+    Ok([first, second, third])
 }
 
 /// Takes the events of three rows by `run`, as far as it goes; answers how many it took and what
 /// stopped it.
 fn run(world: &mut World, rows: [&str; 3]) -> Result<(usize, Option<StepFault>), Failure> {
-    let Some(events) = three_events(rows) else {
-        return Err(Failure::Wrong(0));
-    };
+    let events = three_events(rows)?;
     match world.run(&events) {
         Ok(taken) => Ok((taken, None)),
         Err((_, StepFault::Memory)) => Err(Failure::Memory),
@@ -593,7 +566,7 @@ say n2 > said 1048577 0";
 
 /// c1 says its request to n1.
 fn asks_again(world: &mut World) -> Outcome {
-    let Some(ask) = event("sayto c1 n1") else {
+    let Ok(ask) = event("sayto c1 n1") else {
         return Err(Failure::Wrong(0));
     };
     match world.step(&ask) {

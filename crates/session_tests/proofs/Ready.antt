@@ -11,10 +11,10 @@ use Rattle.world_machine.specs.Opened.{IsResumed}
 use Rattle.node_threads.specs.Conditions.{MayRun}
 use Rattle.node_threads.specs.Laws.{ResumedMayRun}
 use Rattle.node_threads.proofs.Returned.{image_of_image}
-use Rattle.session_tests.specs.Fresh.{new_world}
+use Rattle.session_tests.specs.Fresh.{one_node_world}
 use Rattle.session_tests.specs.Programs.{node_found, clients_found}
 
-pub may_begin : (b : List Ballot) (w : ExactWorld) (pairs : ℕ) (found : List (List (List ℕ))) → w ≡ new_world b → pairs ≡ 1 → found ≡ node_found ++ clients_found → MayRun w b pairs found
+pub may_begin : (b : List Ballot) (w : ExactWorld) (pairs : ℕ) (found : List (List (List ℕ))) → w ≡ one_node_world b → pairs ≡ 1 → found ≡ node_found ++ clients_found → MayRun w b pairs found
 may_begin b w pairs found is one records = record {
   stations = empty_station First ∷ [];
   attempts = 0 ∷ 0 ∷ [];

@@ -1,7 +1,6 @@
 // Calls of a session and of its guards, one after the other, and what each answers.
 
 use crate::rows::Row;
-use crate::worlds::resource;
 use event_recorders::{Recorder, RunFault};
 use lock_messages::Mode;
 use lock_session::{OwnRecord, Session, SessionGuard, TryFault};
@@ -10,6 +9,7 @@ use std::alloc::Global;
 use std::mem::drop;
 use std::sync::Wait;
 use test_outcomes::{Failure, Outcome, check_row};
+use test_support::resource;
 
 /// A resource: `a`, `b`, or one of the longest name.
 #[derive(Clone, Copy)]

@@ -2,12 +2,12 @@
 //! the record is not reopened (911).
 
 use crate::calls::{Call, NOT_REOPENED, READ_A, READ_B, Says, TRY_B};
-use crate::devices::Device;
 use crate::guards::WHOLE;
 use crate::rows::{PLAIN, Row, all_go, goes};
 use event_recorders::RunFault;
 use stable_record::Leaves;
 use test_outcomes::Outcome;
+use test_support::Device;
 
 const OLD: &str = "\
 rise n1 old

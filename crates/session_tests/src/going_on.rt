@@ -4,11 +4,11 @@ ghost use Rattle.std.specs.Prelude.{◌≡◌, ◌≤◌, length, IfOk};
 ghost use Rattle.lock_messages.specs.declared.ids.TheConstants.{MAX_ATTEMPT};
 ghost use Rattle.session_tests.specs.Fresh.{one_node};
 
-use crate::audits::journal_of;
 use crate::kept::{Kept, client_records_of, kept_in, node_records_of, resumed};
-use crate::programs::{FAIR, end_of, pairs, weather};
-use crate::worlds::{ballots, resource, world};
-use book_recorders::SharedRecorder;
+use crate::programs::{FAIR, end_of};
+use crate::worlds::{ballots, world};
+use book_support::journal_of;
+use event_recorders::SharedRecorder;
 use lock_messages::{Mode, ResourceName};
 use lock_session::{OwnRecord, Session};
 use lossy_link::Link;
@@ -19,6 +19,7 @@ use std::alloc::Global;
 use std::sync::Wait;
 use std::thread::Threads;
 use test_outcomes::{Failure, Outcome, check_row};
+use test_support::{plain_pairs, resource, weather};
 use vote_weights::BallotList;
 use world_machine::World;
 
@@ -60,7 +61,7 @@ fn go_on<R: Threads + Wait + Copy + Send + Sync, J: Work + Sync>(
     let weather = weather(FAIR)?;
     let nodes = node_records_of(alloc, of_nodes)?;
     let clients = client_records_of(alloc, of_clients)?;
-    let pairs = pairs(alloc)?;
+    let pairs = plain_pairs(alloc, 1)?;
     let world = resumed(alloc, ballots, of_nodes, of_clients)?;
     resumed_worlds_may_run();
     match with_sessions(

@@ -3,9 +3,7 @@
 ghost use Rattle.std.specs.Prelude.{◌≡◌};
 
 use crate::programs::{Ended, run_program};
-use crate::worlds::resource;
-use book_recorders::SharedRecorder;
-use event_recorders::Recorder;
+use event_recorders::{Recorder, SharedRecorder};
 use lock_messages::{Mode, ResourceName};
 use lock_session::{OwnRecord, Session};
 use lossy_link::Link;
@@ -17,7 +15,8 @@ use std::sync::atomic::Ordering::SeqCst;
 use std::sync::{Barrier, Wait};
 use std::thread;
 use std::thread::Threads;
-use test_outcomes::{Failure, Outcome, check_row};
+use test_outcomes::{Outcome, check_row};
+use test_support::{place_of, resource, text_of};
 
 /// At which nudge a session gives up; no nudge comes in this weather.
 const NUDGES: u32 = 1_000;
@@ -84,25 +83,12 @@ impl Work for ReadTogether {
     }
 }
 
-/// Which line of the journal this is, from 0 on; it stands there once.
-fn place_of(journal: &[u8], wanted: &str) -> Result<usize, Failure> {
-    let Ok(journal) = str::from_utf8(journal) else {
-        return Err(Failure::Wrong(0));
-    };
-    if journal.lines().filter(|line| *line == wanted).count() != 1 {
-        return Err(Failure::Wrong(0));
-    }
-    match journal.lines().position(|line| line == wanted) {
-        Some(place) => Ok(place),
-        None => Err(Failure::Wrong(0)),
-    }
-}
-
 /// Two lines of a journal, the one that stands first before the other.
 type InOrder = (&'static str, &'static str);
 
 /// Ends the test unless these lines are in their order.
 fn are_in_order(journal: &[u8], lines: &[InOrder]) -> Outcome {
+    let journal = text_of(journal)?;
     for (first, then) in lines {
         check_row(place_of(journal, first)? < place_of(journal, then)?, 5)?;
     }

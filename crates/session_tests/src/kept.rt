@@ -4,12 +4,13 @@ ghost use Rattle.std.specs.Prelude.{◌≡◌, ◌∷◌, ◌+◌, [], length, m
 ghost use Rattle.world_machine.specs.Opened.{IsResumed};
 ghost use Rattle.session_tests.specs.Fresh.{one_node};
 
-use crate::programs::{in_memory, pairs};
+use crate::boxed::boxed;
 use history_book::Book;
 use lock_messages::Actor;
 use stable_record::{MemoryRecord, StableRecord};
 use std::alloc::Global;
 use test_outcomes::{Failure, Outcome, client_id, node_id};
+use test_support::{in_memory, plain_pairs};
 use vote_weights::BallotList;
 use world_machine::World;
 
@@ -57,19 +58,17 @@ pub(crate) fn resumed(
     requires clients { length of_clients.now ≡ 2 }
     ensures { IfOk result (IsResumed ballots (map (λ v. v.items) of_nodes.now) (map (λ v. v.items) of_clients.now)) }
 {
-    match World::resume(alloc, ballots, 2, pairs(alloc)?, of_nodes, of_clients) {
+    match World::resume(
+        alloc,
+        ballots,
+        2,
+        plain_pairs(alloc, 1)?,
+        of_nodes,
+        of_clients,
+    ) {
         Ok(world) => Ok(world),
         Err(_) => Err(Failure::Memory),
     }
-}
-
-/// A record in memory that has these bytes, as a node's thread owns it.
-fn boxed(alloc: Global, bytes: &[u8]) -> Result<Box<dyn StableRecord + Send>, Failure>
-    ensures { IfOk result (λ r. finds r ≡ bytes.now ∷ []) }
-{
-    let record = in_memory(alloc, bytes)?;
-    let record: Box<dyn StableRecord + Send> = Box::new(alloc, record)?;
-    Ok(record)
 }
 
 /// A record in memory that holds each of these, as a node's thread owns it.

@@ -3,9 +3,9 @@
 ghost use Rattle.std.specs.Prelude.{◌≡◌, ◌∷◌, [], map, IfOk};
 ghost use Rattle.stable_record.specs.Records.{client_record_of};
 
-use crate::programs::{FAIR, in_memory, node_records, pairs, weather};
-use crate::worlds::{ballots, resource, world};
-use book_recorders::SharedRecorder;
+use crate::programs::{FAIR, node_records};
+use crate::worlds::{ballots, world};
+use event_recorders::SharedRecorder;
 use lock_messages::{Mode, ResourceName};
 use lock_session::{LentRecord, OwnRecord, Session};
 use lossy_link::Link;
@@ -15,6 +15,7 @@ use std::alloc::Global;
 use std::sync::Wait;
 use std::thread::Threads;
 use test_outcomes::{Failure, Outcome, check_row};
+use test_support::{in_memory, plain_pairs, resource, weather};
 
 /// Each session writes once, in a resource of its own.
 #[derive(Drop)]
@@ -72,7 +73,7 @@ fn entries_of<R: Threads + Wait + Copy + Send + Sync, J: Work + Sync>(
     let ballots = ballots()?;
     let nodes = node_records(alloc)?;
     let clients = lent(alloc, one, other)?;
-    let pairs = pairs(alloc)?;
+    let pairs = plain_pairs(alloc, 1)?;
     let weather = weather(FAIR)?;
     let world = world(alloc, ballots)?;
     match with_sessions(

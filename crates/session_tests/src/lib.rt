@@ -7,25 +7,19 @@
 #![tactic(auto)]
 
 #[cfg(test)]
-mod audits;
+mod boxed;
 #[cfg(test)]
 mod broken_links;
 #[cfg(test)]
 mod calls;
 #[cfg(test)]
-mod devices;
-#[cfg(test)]
 mod failing_records;
-#[cfg(test)]
-mod faults;
 #[cfg(test)]
 mod going_on;
 #[cfg(test)]
 mod guards;
 #[cfg(test)]
 mod inside;
-#[cfg(test)]
-mod journals;
 #[cfg(test)]
 mod kept;
 #[cfg(test)]
@@ -46,6 +40,8 @@ mod refused_events;
 mod refusing;
 #[cfg(test)]
 mod rows;
+#[cfg(test)]
+mod seeds;
 #[cfg(test)]
 mod storms;
 #[cfg(test)]

@@ -4,15 +4,13 @@ ghost use Rattle.std.specs.Prelude.{◌≡◌, IfOk, IsOkUnless};
 ghost use Rattle.book_recorders.specs.Sharing.{log_of};
 ghost use Rattle.session_tests.specs.Fresh.{IsNew};
 
-use crate::audits::journal_of;
-use crate::faults::of_book;
 use crate::neighbours::Neighbour;
-use crate::programs::in_memory;
-use crate::worlds::{Berths, ballots, book, frame_for, give_berths, resource, world};
-use book_recorders::{BookName, BookRecorder, Logs, Named, SharedRecorder};
-use event_recorders::Recorder;
+use crate::worlds::{Berths, ballots, book, frame_for, give_berths, world};
+use book_recorders::{BookName, BookRecorder, Logs, Named};
+use book_support::{journal_of, of_book};
+use event_recorders::{Recorder, SharedRecorder};
 use history_book::Book;
-use lock_messages::{Actor, ClientId, Mode, NodeId};
+use lock_messages::{Actor, Mode, NodeId};
 use lock_session::Session;
 use lossy_link::{Link, LinkFault, Parcel, Post};
 use stable_record::{MemoryRecord, client_bytes};
@@ -20,6 +18,7 @@ use std::alloc::Global;
 use std::marker::Brand;
 use std::sync::{Mutex, Wait};
 use test_outcomes::{Failure, Outcome, check_row, node_id};
+use test_support::{client, in_memory, resource};
 use vote_weights::BallotList;
 use world_machine::World;
 
@@ -84,7 +83,7 @@ fn risen<R: Recorder + Drop, L: Link + Drop>(
     requires { IsNew number ballots (R.own_log recorder) }
     ensures { IfOk result (λ s. s.ballots ≡ ballots) }
 {
-    let client = ClientId::of(number).ok_or(Failure::Wrong(0))?;
+    let client = client(number)?;
     let stable = in_memory(alloc, &client_bytes(0))?;
     match Session::rise(client, ballots, stable, recorder, link) {
         Ok(session) => Ok(session),

@@ -9,6 +9,7 @@ use lock_messages::{Actor, NodeId};
 use lossy_link::{Link, LinkFault, Parcel, Post};
 use std::alloc::Global;
 use std::sync::Wait;
+use test_support::Inbox;
 use world_model::{Age, Effect, Event};
 
 /// A link that brings given posts and, behind them, the answers of a node. The node is beside the
@@ -23,9 +24,7 @@ pub(crate) struct Neighbour<'a, B: BookName, K: Logs, R: Copy> {
     alloc: Global,
     node: NodeId,
     recorder: BookRecorder<'a, B, K, R>,
-    posts: Vec<Post>,
-    nudges: u32,
-    due: u32,
+    inbox: Inbox,
     lost: Option<(u32, LinkFault)>,
 }
 
@@ -42,9 +41,7 @@ impl<'a, B: BookName, K: Logs, R: Wait + Copy> Neighbour<'a, B, K, R> {
             alloc,
             node,
             recorder,
-            posts: Vec::new(alloc),
-            nudges,
-            due: 0,
+            inbox: Inbox::of(alloc, node, nudges),
             lost,
         }
     }
@@ -60,7 +57,7 @@ impl<'a, B: BookName, K: Logs, R: Wait + Copy> Neighbour<'a, B, K, R> {
         self.recorder.log_event(Event::Try(Actor::Node(self.node)))?;
         self.recorder
             .log_event(Event::Kept(Actor::Node(self.node)))?;
-        self.due = self.nudges;
+        self.inbox.keep();
         Ok(())
     }
 
@@ -76,21 +73,11 @@ impl<'a, B: BookName, K: Logs, R: Wait + Copy> Neighbour<'a, B, K, R> {
         }
     }
 
-    /// The post will be brought.
-    fn bring(&mut self, post: Post) -> Result<(), LinkFault>
-        ensures { IsOkUnless result LinkFault.Memory }
-    {
-        if self.posts.push(post).is_err() {
-            return Err(LinkFault::Memory);
-        }
-        Ok(())
-    }
-
     /// That the node is gone will be brought.
     pub(crate) fn go(&mut self) -> Result<(), LinkFault>
         ensures { IsOkUnless result LinkFault.Memory }
     {
-        self.bring(Post::Gone(self.node))
+        self.inbox.bring(Post::Gone(self.node))
     }
 
     /// The reply of this number will be brought.
@@ -98,27 +85,16 @@ impl<'a, B: BookName, K: Logs, R: Wait + Copy> Neighbour<'a, B, K, R> {
         ensures { IsOkUnless result LinkFault.Memory }
     {
         match frame_for(self.alloc, 1) {
-            Ok(frame) => self.bring(Post::Parcel(Parcel { number, frame })),
+            Ok(frame) => self.inbox.bring(Post::Parcel(Parcel { number, frame })),
             Err(_) => Err(LinkFault::Memory),
         }
-    }
-
-    /// The nudges that the node is about to make will be brought.
-    fn nudge(&mut self) -> Result<(), LinkFault>
-        ensures { IsOkUnless result LinkFault.Memory }
-    {
-        for _ in 0..self.due {
-            self.bring(Post::Nudge(self.node))?;
-        }
-        self.due = 0;
-        Ok(())
     }
 
     /// The replies of these numbers will be brought, behind the node's nudges.
     fn answer(&mut self, first: u32, count: u32) -> Result<(), LinkFault>
         ensures { IsOkUnless result LinkFault.Memory }
     {
-        self.nudge()?;
+        self.inbox.nudge()?;
         for place in 0..count {
             self.reply(first.wrapping_add(place))?;
         }
@@ -173,9 +149,6 @@ impl<'a, B: BookName, K: Logs, R: Wait + Copy> Link for Neighbour<'a, B, K, R> {
     }
 
     fn receive(&mut self) -> Result<Post, LinkFault> {
-        if self.posts.is_empty() {
-            return Err(LinkFault::Closed);
-        }
-        Ok(self.posts.remove(0))
+        self.inbox.receive()
     }
 }

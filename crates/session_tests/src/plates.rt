@@ -3,12 +3,12 @@
 ghost use Rattle.std.specs.Prelude.{◌≡◌, ◌∷◌, [], IfOk};
 
 use client_loop::{Patience, Progress, enter, leave, rise, soften};
+use event_lines::Wish;
 use event_recorders::{Gate, Recorder, RunFault};
-use history_check::Wish;
 use lock_messages::ClientId;
 use lock_session::OwnRecord;
 use lossy_link::Link;
-use slot_record::{LEAST_PLATE_LEN, MemoryPlate, SlotRecord};
+use slot_record::{MemoryPlate, SlotRecord};
 use stable_record::{RecordFault, StableRecord};
 use std::alloc::Global;
 use std::sync::Wait;
@@ -22,34 +22,12 @@ pub(crate) struct PlateRecord {
     record: SlotRecord<MemoryPlate>,
 }
 
-/// A plate that is the home of a record of these bytes, and whose calls fail from that one on; with 0 none
-/// fails.
-fn plate(alloc: Global, bytes: &[u8], fuse: u32) -> Result<MemoryPlate, Failure> {
-    let Ok(plate) = MemoryPlate::of(alloc, LEAST_PLATE_LEN) else {
-        return Err(Failure::Memory);
-    };
-    match SlotRecord::format(alloc, plate, bytes) {
-        Ok(record) => {
-            let mut plate = record.into_plate();
-            if fuse >= 1 {
-                plate.fuse(fuse);
-            }
-            Ok(plate)
-        }
-        Err((_plate, _fault)) => Err(Failure::Memory),
-    }
-}
-
 /// A record of these bytes on a plate whose calls fail from that one on.
 pub(crate) fn on_a_plate(alloc: Global, bytes: &[u8], fuse: u32) -> Result<PlateRecord, Failure>
     ensures { IfOk result (λ r. r.record.finds ≡ bytes.now ∷ []) }
 {
-    let plate = plate(alloc, bytes, fuse)?;
-    match SlotRecord::open(alloc, plate) {
-        Ok((record, found)) if found.as_slice() == bytes => Ok(PlateRecord { record }),
-        Ok((_record, _found)) => Err(Failure::Wrong(0)),
-        Err((_plate, _fault)) => Err(Failure::Memory),
-    }
+    let record = test_support::on_a_plate(alloc, bytes, fuse)?;
+    Ok(PlateRecord { record })
 }
 
 impl StableRecord for PlateRecord {

@@ -1,12 +1,12 @@
 // A service of one node and two clients with a program's work inside, and what is seen of its end.
 
-ghost use Rattle.std.specs.Prelude.{◌≡◌, ◌∷◌, [], map, length, IfOk};
+ghost use Rattle.std.specs.Prelude.{◌≡◌, ◌∷◌, [], map, IfOk};
 ghost use Rattle.session_tests.specs.Fresh.{one_node};
 ghost use Rattle.session_tests.specs.Programs.{node_found, clients_found};
 
-use crate::audits::journal_of;
-use crate::worlds::{ballots, pair, world};
-use admission_policy::Pair;
+use crate::boxed::boxed;
+use crate::worlds::{ballots, world};
+use book_support::journal_of;
 use lossy_link::Weather;
 use node_threads::{ServiceEnd, Work, with_sessions};
 use stable_record::{MemoryRecord, StableRecord, client_bytes};
@@ -14,10 +14,8 @@ use std::alloc::Global;
 use std::sync::Wait;
 use std::thread::Threads;
 use test_outcomes::Failure;
+use test_support::{NOTHING_KEPT, in_memory, plain_pairs, weather};
 use vote_weights::BallotList;
-
-/// The record of a node for problem 1 that has kept nothing.
-const NOTHING: [u8; 4] = [1, 1, 0, 0];
 
 /// Nothing is lost, repeated or delayed.
 pub(crate) const FAIR: (u64, u16, u16, u16) = (1, 0, 0, 0);
@@ -29,33 +27,12 @@ pub(crate) struct Ended {
     pub(crate) journal: Vec<u8>,
 }
 
-/// A pair of policies for the node.
-pub(crate) fn pairs(alloc: Global) -> Result<Vec<Pair>, Failure>
-    ensures { IfOk result (λ v. length v.items ≡ 1) }
-{
-    let mut pairs = Vec::new(alloc);
-    pairs.push(pair(alloc)?)?;
-    Ok(pairs)
-}
-
-/// A record in memory that has these bytes.
-pub(crate) fn in_memory(alloc: Global, bytes: &[u8]) -> Result<MemoryRecord, Failure>
-    ensures { IfOk result (λ r. r ≡ bytes.now) }
-{
-    match MemoryRecord::holding(alloc, bytes) {
-        Ok(record) => Ok(record),
-        Err(_) => Err(Failure::Memory),
-    }
-}
-
 /// The record of the node, which has kept nothing.
 pub(crate) fn node_records(alloc: Global) -> Result<Vec<Box<dyn StableRecord + Send>>, Failure>
     ensures { IfOk result (λ v. map (λ r. finds r) v.items ≡ node_found) }
 {
-    let record = in_memory(alloc, &NOTHING)?;
-    let record: Box<dyn StableRecord + Send> = Box::new(alloc, record)?;
     let mut records: Vec<Box<dyn StableRecord + Send>> = Vec::new(alloc);
-    records.push(record)?;
+    records.push(boxed(alloc, &NOTHING_KEPT)?)?;
     Ok(records)
 }
 
@@ -67,15 +44,6 @@ fn client_records(alloc: Global) -> Result<Vec<MemoryRecord>, Failure>
     records.push(in_memory(alloc, &client_bytes(0))?)?;
     records.push(in_memory(alloc, &client_bytes(0))?)?;
     Ok(records)
-}
-
-/// Weather by a seed and the odds of loss, repeats and delays, of a thousand.
-pub(crate) fn weather(of: (u64, u16, u16, u16)) -> Result<Weather, Failure> {
-    let (seed, lose, twice, late) = of;
-    match Weather::of(seed, lose, twice, late) {
-        Ok(weather) => Ok(weather),
-        Err(_) => Err(Failure::Wrong(0)),
-    }
 }
 
 /// Runs the service with the work inside, in this weather.
@@ -90,7 +58,7 @@ pub(crate) fn end_of<R: Threads + Wait + Copy + Send + Sync, J: Work + Sync>(
 {
     let of_nodes = node_records(alloc)?;
     let of_clients = client_records(alloc)?;
-    let pairs = pairs(alloc)?;
+    let pairs = plain_pairs(alloc, 1)?;
     let world = world(alloc, ballots)?;
     match with_sessions(
         rt, alloc, ballots, of_nodes, of_clients, world, pairs, weather, work,

@@ -1,9 +1,10 @@
 // A recorder that refuses one event.
 
-use book_recorders::SharedRecorder;
-use event_recorders::Recorder;
+ghost use Rattle.std.specs.Prelude.{◌≡◌};
+
+use event_recorders::{Recorder, SharedRecorder};
 use history_book::BookFault;
-use lock_messages::{ResourceName, Ticket};
+use lock_messages::{Message, ResourceName, Ticket};
 use stable_record::StableRecord;
 use world_model::{Effect, Event};
 
@@ -27,14 +28,39 @@ pub(crate) struct Refusing<R: Recorder> {
     pub(crate) refusal: Refusal,
 }
 
+impl<R: Recorder> Refusing<R> {
+    /// Whether the event that comes now is the one that is refused.
+    fn is_refused(&mut self) -> bool
+        ensures { R.own_log self.new.inner ≡ R.own_log self.old.inner }
+    {
+        let is_refused = self.number == 1;
+        self.number = self.number.saturating_sub(1);
+        is_refused
+    }
+}
+
 impl<R: Recorder> Recorder for Refusing<R> {
     ghost own_log = { λ r. R.own_log r.inner };
 
     fn log(&mut self, event: Event, stable: &dyn StableRecord) -> Result<Effect, BookFault> {
-        let is_refused = self.number == 1;
-        self.number = self.number.saturating_sub(1);
-        if !is_refused {
+        if !self.is_refused() {
             return self.inner.log(event, stable);
+        }
+        match self.refusal {
+            Refusal::Memory => Err(BookFault::Memory),
+            Refusal::Full => Err(BookFault::Full),
+            Refusal::OtherBook => Err(BookFault::OtherBook),
+        }
+    }
+
+    fn log_reading(
+        &mut self,
+        event: Event,
+        message: &Message,
+        stable: &dyn StableRecord,
+    ) -> Result<Effect, BookFault> {
+        if !self.is_refused() {
+            return self.inner.log_reading(event, message, stable);
         }
         match self.refusal {
             Refusal::Memory => Err(BookFault::Memory),

@@ -5,18 +5,14 @@ ghost use Rattle.book_recorders.specs.Sharing.{log_of};
 ghost use Rattle.stable_record.specs.Records.{client_record_of};
 ghost use Rattle.session_tests.specs.Fresh.{IsNew, one_node};
 
-use crate::audits::journal_of;
 use crate::calls::{Answer, Call, Says, play};
-use crate::devices::{Device, on_a_faulty_device};
-use crate::faults::of_book;
-use crate::journals::{Match, told};
 use crate::neighbours::Neighbour;
 use crate::plates::on_a_plate;
-use crate::programs::in_memory;
 use crate::refusing::{Refusal, Refusing};
-use crate::worlds::{Berths, ballots, book, give_berths, resource, world};
-use book_recorders::{BookName, BookRecorder, Logs, Named, SharedRecorder};
-use event_recorders::RunFault;
+use crate::worlds::{Berths, ballots, book, give_berths, world};
+use book_recorders::{BookName, BookRecorder, Logs, Named};
+use book_support::{journal_of, of_book};
+use event_recorders::{RunFault, SharedRecorder};
 use history_book::{Book, BookFault};
 use lock_messages::{Actor, ClientId, MAX_ATTEMPT, Mode, NodeId};
 use lock_session::{OwnRecord, Session, TryFault};
@@ -26,6 +22,7 @@ use std::alloc::Global;
 use std::marker::Brand;
 use std::sync::{Mutex, Wait};
 use test_outcomes::{Failure, Outcome, check_row, client_id, node_id};
+use test_support::{Device, Match, in_memory, on_a_faulty_device, resource, text_of, told};
 use vote_weights::BallotList;
 use world_machine::World;
 use world_model::{Age, Effect, Event};
@@ -332,10 +329,7 @@ fn is_right(ended: Ended, journal: &[u8], row: &Row<'_>) -> Outcome {
     }
     check_row(ended.risen == row.rises, 99)?;
     ended.played?;
-    let Ok(journal) = str::from_utf8(journal) else {
-        return Err(Failure::Wrong(100));
-    };
-    let found = told(journal, row.journal);
+    let found = told(text_of(journal)?, "", row.journal);
     check_row(found != Match::Else, 100)?;
     row.or_memory(found == Match::All, 101)?;
     ended.kept

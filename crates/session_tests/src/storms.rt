@@ -3,9 +3,7 @@
 ghost use Rattle.std.specs.Prelude.{◌≡◌};
 
 use crate::programs::{Ended, run_in};
-use crate::worlds::resource;
-use book_recorders::SharedRecorder;
-use event_recorders::Recorder;
+use event_recorders::{Recorder, SharedRecorder};
 use lock_messages::{Mode, ResourceName};
 use lock_session::{OwnRecord, Session};
 use lossy_link::Link;
@@ -16,6 +14,7 @@ use std::sync::atomic::AtomicU32;
 use std::sync::atomic::Ordering::SeqCst;
 use std::thread::Threads;
 use test_outcomes::{Outcome, check_row};
+use test_support::resource;
 
 /// How often each session comes in.
 const VISITS: u32 = 12;

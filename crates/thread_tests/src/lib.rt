@@ -7,6 +7,8 @@
 #[cfg(test)]
 mod fault_texts;
 #[cfg(test)]
+mod last_movers;
+#[cfg(test)]
 mod links;
 #[cfg(test)]
 mod links_of_threads;

@@ -12,12 +12,12 @@ use std::time::{Clock, Duration};
 use test_outcomes::{Outcome, check_answer, check_answers, client_id, node_id};
 
 /// Gives actors the time to rest. What comes of a test doesn't hang on it.
-fn give_time<C: Clock>(clock: &C) {
+pub(crate) fn give_time<C: Clock>(clock: &C) {
     thread::sleep(clock, Duration::from_millis(10));
 }
 
 /// What is to come to each of some actors until its link is closed, by numbers.
-type Wanted = &'static [&'static [u32]];
+pub(crate) type Wanted = &'static [&'static [u32]];
 
 /// Whether just these come over a link until it is closed, as it has to stay then.
 fn rests_behind<L: Link>(link: &mut L, numbers: &[u32]) -> bool {
@@ -37,7 +37,7 @@ fn awaited<R: Wait + Copy>(link: ChannelLink<R>, want: Option<&[u32]>) -> bool {
 }
 
 /// A thread for each link, which waits until the link is closed, and answers whether just what is wanted came.
-fn waiting<R: Threads + Wait + Copy + Send + 'static>(
+pub(crate) fn waiting<R: Threads + Wait + Copy + Send + 'static>(
     rt: R,
     alloc: Global,
     links: Vec<ChannelLink<R>>,
@@ -55,7 +55,7 @@ fn waiting<R: Threads + Wait + Copy + Send + 'static>(
 }
 
 /// Whether just what is wanted came to each of those that waited, and whether they are so many.
-fn all_came<R: Threads>(rt: &R, threads: Vec<JoinHandle<bool>>, count: usize) -> bool {
+pub(crate) fn all_came<R: Threads>(rt: &R, threads: Vec<JoinHandle<bool>>, count: usize) -> bool {
     let mut right = threads.len() == count;
     for thread in threads {
         right &= thread.join(rt);

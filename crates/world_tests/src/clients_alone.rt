@@ -1,11 +1,11 @@
 // One client of the world by itself: what it keeps over a restart, and what it says.
 
 use crate::rows::Note;
-use crate::steps::{ballot_of, done, in_row};
-use crate::values::{attempt, resource, ticket};
+use crate::steps::done;
 use lock_messages::Mode;
 use lock_model::Heard;
 use test_outcomes::{Failure, Outcome, check, client_id, node_id};
+use test_support::{attempt, ballots_of, first_ticket, in_row, resource};
 use world_actors::WorldClient;
 use world_model::{Age, StepFault};
 
@@ -42,12 +42,12 @@ enum Turn {
 
 /// Whether it begins the attempt of this number.
 fn begins(one: &mut WorldClient, mode: Mode, number: u64) -> Result<bool, Failure> {
-    let begun = one.begin(mode, resource()?, 1)?;
+    let begun = one.begin(mode, resource(b"a")?, 1)?;
     Ok(begun == attempt(number)?)
 }
 
 fn finds_no_place(one: &mut WorldClient) -> Result<bool, Failure> {
-    let begun = one.begin(Mode::Write, resource()?, 2);
+    let begun = one.begin(Mode::Write, resource(b"a")?, 2);
     Ok(begun == Err(StepFault::NoSuchPlace))
 }
 
@@ -68,7 +68,7 @@ fn goes(one: &mut WorldClient, turn: &Turn) -> Outcome {
         Turn::MayNotHear => check(one.may_hear() == Err(StepFault::Down)),
         Turn::Message(note) => check(one.message_for(node_id(1))? == note.message()?),
         Turn::NotStored => check(one.message_for(node_id(1)) == Err(StepFault::NotStored)),
-        Turn::Inside(mode) => check(one.inside() == Some(ticket(1, mode)?)),
+        Turn::Inside(mode) => check(one.inside() == Some(first_ticket(1, mode)?)),
         Turn::Outside => check(one.inside().is_none()),
         Turn::Kept(number) => check(one.kept() == number),
     }
@@ -84,7 +84,7 @@ fn plays(one: &mut WorldClient, script: &[Turn]) -> Outcome {
 
 /// c1 under a ballot of one node, down, with nothing kept.
 fn empty() -> Result<WorldClient, Failure> {
-    let ballots = ballot_of(&[1], 1, 1)?;
+    let ballots = ballots_of(&[1], 1, 1)?;
     Ok(WorldClient::opened(client_id(1), 0, ballots))
 }
 

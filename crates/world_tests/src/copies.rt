@@ -3,11 +3,11 @@
 use crate::rows::{Deed, Done, Note, Who};
 use crate::sights::{Sight, keeps};
 use crate::steps::{Step, begins, happens, play_all, plays, world};
-use crate::values::client;
 use lock_messages::{Actor, Mode};
 use lock_model::Problem;
 use std::alloc::Global;
 use test_outcomes::{Failure, Outcome, check};
+use test_support::client;
 use world_machine::World;
 use world_model::{Age, StepFault};
 

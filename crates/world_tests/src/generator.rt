@@ -7,6 +7,7 @@ use lock_model::Problem;
 use rand_core::utils::NextWord;
 use rand_pcg::Pcg32;
 use test_outcomes::{Failure, client_id, node_id};
+use test_support::resource;
 use world_machine::World;
 use world_model::{Age, Event};
 
@@ -24,7 +25,7 @@ fn client(number: u32) -> ClientId {
 
 pub(crate) fn name(number: u32) -> Result<ResourceName, Failure> {
     let name: &[u8] = if number % 2 == 0 { b"a" } else { b"b" };
-    ResourceName::of(name).ok_or(Failure::Wrong(0))
+    resource(name)
 }
 
 fn some_actor(words: &mut Pcg32) -> Actor {

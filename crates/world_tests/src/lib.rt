@@ -16,6 +16,8 @@ mod copies;
 #[cfg(test)]
 mod generator;
 #[cfg(test)]
+mod mild_ways;
+#[cfg(test)]
 mod nodes_alone;
 #[cfg(test)]
 mod openings;
@@ -37,7 +39,5 @@ mod softening;
 mod steps;
 #[cfg(test)]
 mod switching;
-#[cfg(test)]
-mod values;
 #[cfg(test)]
 mod ways_in;

@@ -1,47 +1,15 @@
 // One node of the world by itself: what it keeps over a restart, and what it says.
 
-use crate::pairs::plain;
 use crate::rows::Note;
-use crate::steps::{done, in_row};
+use crate::steps::done;
 use lock_messages::{Message, Mode};
 use lock_model::Problem;
 use stable_record::read_node;
 use std::alloc::Global;
 use test_outcomes::{Failure, Outcome, check, node_id};
+use test_support::{READS, SOFTENED, WAITS, WRITES, in_row, plain_pair};
 use world_actors::WorldNode;
 use world_model::{Age, StepFault};
-
-/// The record of problem 1 in which c1 holds `a` as a reader.
-const ONE: [u8; 28] = [
-    0x01, 0x01, 0x00, 0x01, //
-    0x00, 0x00, 0x00, 0x01, 0x00, 0x00, 0x00, 0x00, 0x00, 0x00, 0x00, 0x00, 0x02, 0x00, 0x00, 0x00,
-    0x00, 0x00, 0x00, 0x00, 0x01, 0x00, 0x01, 0x61,
-];
-
-/// The records of problem 1 in which c1 holds `a` as a writer, and once it has softened.
-const WRITES: [u8; 28] = [
-    0x01, 0x01, 0x00, 0x01, //
-    0x00, 0x00, 0x00, 0x01, 0x00, 0x00, 0x00, 0x00, 0x00, 0x00, 0x00, 0x00, 0x02, 0x00, 0x00, 0x00,
-    0x00, 0x00, 0x00, 0x00, 0x01, 0x01, 0x01, 0x61,
-];
-
-const SOFTENED: [u8; 28] = [
-    0x01, 0x01, 0x00, 0x01, //
-    0x00, 0x00, 0x00, 0x01, 0x00, 0x00, 0x00, 0x00, 0x00, 0x00, 0x00, 0x00, 0x03, 0x00, 0x00, 0x00,
-    0x00, 0x00, 0x00, 0x00, 0x01, 0x00, 0x01, 0x61,
-];
-
-/// The record of problem 2 in which c1 holds `a` as a reader, c2 waits for it as a writer and c3 behind that
-/// one as a reader.
-const WAITS: [u8; 76] = [
-    0x01, 0x02, 0x00, 0x03, //
-    0x00, 0x00, 0x00, 0x01, 0x00, 0x00, 0x00, 0x00, 0x00, 0x00, 0x00, 0x00, 0x02, 0x00, 0x00, 0x00,
-    0x00, 0x00, 0x00, 0x00, 0x01, 0x00, 0x01, 0x61, //
-    0x00, 0x00, 0x00, 0x02, 0x00, 0x00, 0x00, 0x00, 0x00, 0x00, 0x00, 0x00, 0x01, 0x00, 0x00, 0x00,
-    0x00, 0x00, 0x00, 0x00, 0x01, 0x01, 0x01, 0x61, //
-    0x00, 0x00, 0x00, 0x03, 0x00, 0x00, 0x00, 0x00, 0x00, 0x00, 0x00, 0x00, 0x01, 0x00, 0x00, 0x00,
-    0x00, 0x00, 0x00, 0x00, 0x01, 0x00, 0x01, 0x61,
-];
 
 /// What n1 does by itself, or what is so of it.
 #[derive(Clone, Copy)]
@@ -116,7 +84,7 @@ fn goes(one: &mut WorldNode, turn: &Turn) -> Outcome {
         Turn::NotStored => check(one.replies() == Err(StepFault::NotStored)),
         Turn::MayTake => check(one.may_take() == Ok(())),
         Turn::Entries(count) => check(one.kept().entries.len() == count),
-        Turn::Problem(problem) => check(one.kept().policy == problem),
+        Turn::Problem(problem) => check(one.kept().problem == problem),
     }
 }
 
@@ -144,7 +112,7 @@ fn play_numbered(one: &mut WorldNode, scripts: &[&[Turn]]) -> Outcome {
 /// n1, down, with this record or, under problem 1, with nothing kept. (A pair of policies is dear to prove, so one
 /// function makes both.)
 fn opened(alloc: Global, record: Option<&[u8]>) -> Result<WorldNode, Failure> {
-    let pair = plain(alloc)?;
+    let pair = plain_pair();
     let Some(bytes) = record else {
         return Ok(WorldNode::empty(alloc, node_id(1), Problem::First, pair));
     };
@@ -266,7 +234,7 @@ fn risen_with_a_softened_holder(rt: HostRuntime) -> Outcome {
 
 #[test]
 fn opened_with_a_record(rt: HostRuntime) -> Outcome {
-    play_opened(rt.alloc(), &ONE, &[&[Turn::Entries(1)]])
+    play_opened(rt.alloc(), &READS, &[&[Turn::Entries(1)]])
 }
 
 /// With a writer that waits n1 rises, takes problem 1 and tries to keep that.

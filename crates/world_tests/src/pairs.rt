@@ -1,25 +1,9 @@
-// Pairs of policies: plain ones, and three that can be told apart.
+// Three pairs of policies that can be told apart.
 
 use admission_policy::{Admission, Counted, FirstProblem, Pair, SecondProblem};
 use lock_model::Problem;
 use std::alloc::Global;
 use test_outcomes::Failure;
-
-/// The plain policies of both problems.
-pub(crate) fn plain(alloc: Global) -> Result<Pair, Failure> {
-    let first: Box<dyn Admission + Send> = Box::new(alloc, FirstProblem)?;
-    let second: Box<dyn Admission + Send> = Box::new(alloc, SecondProblem)?;
-    Ok(Pair::of(first, second))
-}
-
-/// One such pair for each of so many nodes.
-pub(crate) fn plain_pairs(alloc: Global, count: u8) -> Result<Vec<Pair>, Failure> {
-    let mut pairs = Vec::new(alloc);
-    for _ in 0..count {
-        pairs.push(plain(alloc)?)?;
-    }
-    Ok(pairs)
-}
 
 /// Policies that count, and that were told of so many readers: let in under problem 1, and waiting under
 /// problem 2.

@@ -2,11 +2,12 @@
 
 use crate::rows::{Deed, Note, Who};
 use crate::sights::Sight;
-use crate::steps::{Step, ballot_of, played_by};
+use crate::steps::{Step, played_by};
 use lock_messages::Mode;
 use lock_model::Problem;
 use std::alloc::Global;
 use test_outcomes::Outcome;
+use test_support::ballots_of;
 use world_model::Age;
 
 /// The record of n1 below: c2 and c1 hold `a` as readers, c3 waits for it as a writer.
@@ -35,7 +36,7 @@ const CROWDED: [Step; 9] = [
 
 /// Plays a script in such a world, of n1 under problem 1 and of c1 to c3.
 fn play_crowded(alloc: Global, script: &[Step]) -> Outcome {
-    let ballots = ballot_of(&[1], 1, 1)?;
+    let ballots = ballots_of(&[1], 1, 1)?;
     played_by(alloc, ballots, Problem::First, 3, &[&CROWDED, script])
 }
 

@@ -10,6 +10,7 @@ use lock_model::Problem;
 use rand_pcg::Pcg32;
 use std::alloc::Global;
 use test_outcomes::{Failure, Outcome, check, check_row};
+use test_support::Tally;
 use vote_weights::{Ballot, BallotList};
 use world_machine::World;
 use world_model::{Age, Effect, Event, StepFault};
@@ -122,43 +123,6 @@ fn is_settled(
     Ok(are_exclusive(&holding) && are_caused(problem, &holding, &waiting))
 }
 
-/// What a run has seen: the messages sent, the events taken, the entries, the writers that softened, and the
-/// nodes that took another problem.
-#[derive(Clone, Copy)]
-pub(crate) struct Seen {
-    pub(crate) sent: u32,
-    taken: u32,
-    entered: u32,
-    softened: u32,
-    switched: u32,
-}
-
-/// How many messages were sent, after an event with this effect.
-fn sent_after(sent: u32, effect: &Effect) -> u32 {
-    match effect {
-        Effect::Sent(number, _) => *number,
-        Effect::Said { count, .. } => sent.saturating_add(*count),
-        _ => sent,
-    }
-}
-
-fn seen_with(seen: Seen, effect: &Effect) -> Seen {
-    let entries = if *effect == Effect::Inside { 1 } else { 0 };
-    let softens = if *effect == Effect::Softened { 1 } else { 0 };
-    let switches = if *effect == Effect::Switched(true) {
-        1
-    } else {
-        0
-    };
-    Seen {
-        sent: sent_after(seen.sent, effect),
-        taken: seen.taken.saturating_add(1),
-        entered: seen.entered.saturating_add(entries),
-        softened: seen.softened.saturating_add(softens),
-        switched: seen.switched.saturating_add(switches),
-    }
-}
-
 /// Whether a writer that is inside is alone, and this node is settled under its present problem.
 fn look(world: &World, node: NodeId) -> Outcome {
     let problem = present_problem(world, node)?;
@@ -179,25 +143,16 @@ fn follows(sent: u32, effect: &Effect) -> bool {
 }
 
 /// Takes an event.
-fn seen_after(world: &mut World, event: &Event, seen: Seen) -> Result<Seen, Failure> {
+fn seen_after(world: &mut World, event: &Event, seen: Tally) -> Result<Tally, Failure> {
     match world.step(event) {
         Ok(effect) => {
             check(follows(seen.sent, &effect))?;
-            Ok(seen_with(seen, &effect))
+            Ok(seen.after(&effect))
         }
         Err(StepFault::Memory) => Err(Failure::Memory),
         Err(_) => Ok(seen),
     }
 }
-
-/// Before the first event.
-pub(crate) const NOTHING: Seen = Seen {
-    sent: 0,
-    taken: 0,
-    entered: 0,
-    softened: 0,
-    switched: 0,
-};
 
 /// Tries the event of a turn: what is seen then, and the node that was to take a message last.
 pub(crate) fn goes_on(
@@ -205,8 +160,8 @@ pub(crate) fn goes_on(
     world: &mut World,
     turn: u32,
     last: NodeId,
-    seen: Seen,
-) -> Result<(Seen, NodeId), Failure> {
+    seen: Tally,
+) -> Result<(Tally, NodeId), Failure> {
     let Ok(event) = event_of_turn(words, world, turn, last, seen.sent) else {
         return Err(Failure::Wrong(0));
     };
@@ -223,7 +178,7 @@ fn is_long(world: &mut World) -> Outcome {
     raise(world)?;
     let mut words = Pcg32::new(SEED, 1);
     let mut last = node(0);
-    let mut seen = NOTHING;
+    let mut seen = Tally::NONE;
     for turn in 0..TURNS {
         let (after, next) = goes_on(&mut words, world, turn, last, seen)?;
         seen = after;

@@ -1,9 +1,9 @@
 // The rows that scripts of worlds are made of: plain numbers, and what they stand for.
 
-use crate::values::{attempt, client, node, resource, ticket};
 use lock_messages::{Actor, Message, Mode};
 use lock_model::{Heard, Problem};
 use test_outcomes::Failure;
+use test_support::{attempt, client, first_ticket, node, resource};
 use world_model::{Age, Effect, Event};
 
 /// An actor, by its number.
@@ -44,7 +44,7 @@ pub(crate) enum Deed {
 impl Deed {
     pub(crate) fn event(self) -> Result<Event, Failure> {
         Ok(match self {
-            Deed::Begin(from, mode) => Event::Begin(client(from)?, mode, resource()?, 1),
+            Deed::Begin(from, mode) => Event::Begin(client(from)?, mode, resource(b"a")?, 1),
             Deed::Try(who) => Event::Try(who.actor()?),
             Deed::Kept(who) => Event::Kept(who.actor()?),
             Deed::SayTo(from, to) => Event::SayTo(client(from)?, node(to)?),
@@ -76,9 +76,9 @@ impl Note {
     pub(crate) fn message(self) -> Result<Message, Failure> {
         let (at, first) = (node(1)?, attempt(1)?);
         Ok(match self {
-            Note::Request(from, mode) => Message::Request(at, ticket(from, mode)?),
-            Note::Grant(to, mode) => Message::Grant(at, ticket(to, mode)?),
-            Note::Busy(to, mode) => Message::Busy(at, ticket(to, mode)?),
+            Note::Request(from, mode) => Message::Request(at, first_ticket(from, mode)?),
+            Note::Grant(to, mode) => Message::Grant(at, first_ticket(to, mode)?),
+            Note::Busy(to, mode) => Message::Busy(at, first_ticket(to, mode)?),
             Note::Release(from) => Message::Release(at, client(from)?, first),
             Note::Soften(from) => Message::Soften(at, client(from)?, first),
             Note::Softened(to) => Message::Softened(at, client(to)?, first),

@@ -1,9 +1,9 @@
 // What is looked at in a world, in the rows of scripts.
 
 use crate::rows::{Note, Who};
-use crate::values::{client, node, ticket};
-use lock_messages::{Actor, Mode, ResourceName, Ticket};
+use lock_messages::{Actor, Mode, Ticket};
 use test_outcomes::{Failure, Outcome, check, node_id};
+use test_support::{client, first_ticket, node, resource};
 use world_machine::World;
 
 /// The clients of tickets, each a client's first and for `a`, with their modes.
@@ -37,7 +37,7 @@ pub(crate) enum Sight {
 }
 
 fn is(found: &Ticket, number: u32, mode: Mode) -> bool {
-    match ticket(number, mode) {
+    match first_ticket(number, mode) {
         Ok(wanted) => wanted == *found,
         Err(_) => false,
     }
@@ -57,10 +57,6 @@ pub(crate) fn keeps(world: &World, who: &Actor, bytes: &[u8]) -> Result<bool, Fa
         Ok(kept) => Ok(kept.as_slice() == bytes),
         Err(fault) => Err(Failure::from(fault)),
     }
-}
-
-fn resource(name: &[u8]) -> Result<ResourceName, Failure> {
-    ResourceName::of(name).ok_or(Failure::Wrong(0))
 }
 
 fn are_inside(world: &World, name: &[u8], holders: Holders) -> Result<bool, Failure> {
@@ -107,7 +103,7 @@ pub(crate) fn is_so(world: &World, sight: &Sight) -> Result<bool, Failure> {
         Sight::Waiting(at, name, holders) => are_waiting(world, at, name, holders)?,
         Sight::HoldingSo(count) => holding_so(world, count)?,
         Sight::IsInside(number, mode) => {
-            world.ticket_inside(client(number)?) == Some(ticket(number, mode)?)
+            world.ticket_inside(client(number)?) == Some(first_ticket(number, mode)?)
         }
         Sight::IsOutside(number) => world.ticket_inside(client(number)?).is_none(),
         Sight::IsUnknown(who) => !world.has(who.actor()?),

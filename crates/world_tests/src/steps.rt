@@ -1,30 +1,19 @@
 // The steps that tests of worlds share, and the scripts that are made of them.
 
-use crate::pairs::plain_pairs;
 use crate::rows::{Deed, Done, Who};
 use crate::sights::{Sight, is_so};
 use lock_messages::{MAX_CLIENTS, Mode};
 use lock_model::Problem;
 use std::alloc::Global;
 use test_outcomes::{Failure, Outcome, check};
-use vote_weights::{Ballot, BallotList};
+use test_support::{ballots_of, in_row, new_world};
+use vote_weights::BallotList;
 use world_machine::World;
 use world_model::{Age, Event, StepFault};
 
-/// The list of this one ballot.
-pub(crate) fn ballot_of(votes: &[u8], read: u16, write: u16) -> Result<BallotList, Failure> {
-    let Ok(ballot) = Ballot::of(votes, read, write) else {
-        return Err(Failure::Wrong(0));
-    };
-    match BallotList::of(&[ballot]) {
-        Ok(ballots) => Ok(ballots),
-        Err(_) => Err(Failure::Wrong(0)),
-    }
-}
-
 /// Three nodes of one vote each.
 pub(crate) fn three_votes() -> Result<BallotList, Failure> {
-    ballot_of(&[1, 1, 1], 2, 2)
+    ballots_of(&[1, 1, 1], 2, 2)
 }
 
 /// A world of three nodes with a vote each under this problem, and of so many clients.
@@ -39,14 +28,10 @@ pub(crate) fn world_by(
     problem: Problem,
     clients: u16,
 ) -> Result<World, Failure> {
-    let pairs = plain_pairs(alloc, ballots.nodes())?;
-    if pairs.len() != ballots.nodes() as usize || clients == 0 || clients as u32 > MAX_CLIENTS {
+    if clients == 0 || clients as u32 > MAX_CLIENTS {
         return Err(Failure::Wrong(0));
     }
-    match World::start(alloc, ballots, clients, problem, pairs) {
-        Ok(world) => Ok(world),
-        Err((_fault, _pairs)) => Err(Failure::Memory),
-    }
+    new_world(alloc, ballots, problem, clients)
 }
 
 /// A step of a script.
@@ -146,14 +131,6 @@ fn goes(world: &mut World, step: &Step) -> Outcome {
 /// Where a step has to be taken, a refusal is wrong.
 pub(crate) fn done(answer: Result<(), StepFault>) -> Outcome {
     Ok(answer?)
-}
-
-/// What went wrong, as what did so in this row.
-pub(crate) fn in_row(outcome: Outcome, row: usize) -> Outcome {
-    match outcome {
-        Err(Failure::Wrong(_)) => Err(Failure::Wrong(row)),
-        other => other,
-    }
 }
 
 /// Takes the steps of a script; what goes wrong is told by the step's place.

@@ -3,16 +3,16 @@
 
 use crate::generator::{CLIENTS, name};
 use crate::openings::world_from;
-use crate::random_events::{NOTHING, SEED, ballots, goes_on, new_world, raise};
+use crate::random_events::{SEED, ballots, goes_on, new_world, raise};
 use crate::rows::{Deed, Who};
 use crate::sights::{Sight, are_so};
-use crate::steps::{Step, ballot_of, in_row, plays, runs, world};
-use crate::values::{client, resource};
+use crate::steps::{Step, plays, runs, world};
 use lock_messages::{Mode, Ticket};
 use lock_model::Problem;
 use rand_pcg::Pcg32;
 use std::alloc::Global;
 use test_outcomes::{Failure, Outcome, check, node_id};
+use test_support::{Tally, ballots_of, client, in_row, resource};
 use vote_weights::BallotList;
 use world_machine::World;
 use world_model::{Age, Event, StepFault, Want};
@@ -40,7 +40,7 @@ struct Wish(u32, Mode, u8);
 
 fn want(wish: Wish) -> Result<Want, Failure> {
     let Wish(number, mode, place) = wish;
-    let (client, resource) = (client(number)?, resource()?);
+    let (client, resource) = (client(number)?, resource(b"a")?);
     Ok(Want {
         client,
         mode,
@@ -109,7 +109,7 @@ fn all_get_in(world: &mut World, places: u8) -> Outcome {
     raise(world)?;
     let mut words = Pcg32::new(SEED, 1);
     let mut last = node_id(1);
-    let mut seen = NOTHING;
+    let mut seen = Tally::NONE;
     for turn in 0..TURNS {
         let (after, next) = goes_on(&mut words, world, turn, last, seen)?;
         seen = after;
@@ -131,7 +131,7 @@ fn runs_lead_in(alloc: Global, problem: Problem, ballots: BallotList) -> Outcome
 
 /// One ballot of unlike votes.
 fn one_ballot() -> Result<BallotList, Failure> {
-    ballot_of(&[3, 1, 2, 0, 1], 3, 5)
+    ballots_of(&[3, 1, 2, 0, 1], 3, 5)
 }
 
 #[test]

@@ -1,5 +1,5 @@
 use Rattle.std.proofs.Common.{List, ◌++◌, replicate, sym, ap, subst, ◌∙◌}
-use Rattle.history_check.specs.declared.wishes.Wish.{Wish}
+use Rattle.event_lines.specs.declared.wishes.Wish.{Wish}
 use Rattle.lock_model.specs.declared.problems.Problem.TheVariants.{First}
 use Rattle.operator_cli.specs.declared.settings.Settings.{Settings}
 use Rattle.operator_cli.specs.Settings.{AreAmong}
