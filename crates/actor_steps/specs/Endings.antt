@@ -1,9 +1,9 @@
 -- How an actor ends by a fault, as its own log and its record tell.
 use Rattle.std.specs.Prelude.{◌≡◌, ◌⊎◌, ℕ, ◌+◌, Bool, true, false, IsSome, count_by}
 use Rattle.world_model.specs.declared.events.Event.{Event}
-use Rattle.world_model.specs.declared.events.Event.TheVariants as event
 use Rattle.world_model.specs.declared.exact.ExactNodePhase.TheVariants as node
 use Rattle.world_model.specs.declared.exact.ExactClientPhase.TheVariants as client
+use Rattle.world_model.specs.Kinds.{kind_of, is_falling}
 use Rattle.world_model.specs.Parts.{Part, NoPart, NodePart, ClientPart}
 use Rattle.event_recorders.specs.declared.faults.RunFault.{RunFault}
 use Rattle.event_recorders.specs.declared.faults.RunFault.TheVariants as fault
@@ -12,19 +12,7 @@ use Rattle.actor_steps.specs.declared.reopening.TheConstants.{MAX_REOPENS}
 use Rattle.actor_steps.specs.Steps.{HasFailed}
 
 abbrev pub is_fall : Event → Bool
-is_fall (event.Fall who) = true
-is_fall (event.Begin c m x place) = false
-is_fall (event.Try who) = false
-is_fall (event.Kept who) = false
-is_fall (event.SayTo c n) = false
-is_fall (event.Say n) = false
-is_fall (event.Take n k) = false
-is_fall (event.Hear c k) = false
-is_fall (event.Enter c) = false
-is_fall (event.Leave c) = false
-is_fall (event.Soften c) = false
-is_fall (event.Rise who age) = false
-is_fall (event.Switch n p) = false
+is_fall e = is_falling (kind_of e)
 
 -- how often the actor has fallen
 abbrev pub falls_of : OwnLog → ℕ

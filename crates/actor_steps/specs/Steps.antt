@@ -1,16 +1,18 @@
 -- What the steps that nodes and clients share have done.
 use Rattle.std.specs.Prelude.{◌≡◌, ◌⊎◌, ℕ, ◌+◌, ◌<◌, ◌≤◌, Bool, true, false, List, [], ◌∷◌, Option, Some, None, Result, Ok, Err}
 use Rattle.lock_messages.specs.declared.ids.Actor.{Actor}
+use Rattle.lock_messages.specs.declared.messages.Message.{Message}
 use Rattle.lock_model.specs.Decisions.{Among}
 use Rattle.stable_record.specs.Finding.{FindsOnly, FindsOnlyOr, most_failures}
 use Rattle.world_model.specs.declared.events.Age.{Age}
 use Rattle.world_model.specs.declared.events.Age.TheVariants.{Old, New}
 use Rattle.world_model.specs.declared.events.Effect.{Effect}
 use Rattle.world_model.specs.declared.events.Effect.TheVariants as effect
+use Rattle.world_model.specs.declared.events.Event.{Event}
 use Rattle.world_model.specs.declared.events.Event.TheVariants as event
-use Rattle.world_model.specs.Parts.{own_refusal, after_own}
-use Rattle.history_book.specs.declared.faults.BookFault.{BookFault}
-use Rattle.history_book.specs.declared.faults.BookFault.TheVariants as book
+use Rattle.world_model.specs.Parts.{own_refusal, after_own, message_of}
+use Rattle.event_recorders.specs.declared.log_faults.LogFault.{LogFault}
+use Rattle.event_recorders.specs.declared.log_faults.LogFault.TheVariants as book
 use Rattle.event_recorders.specs.declared.faults.RunFault.{RunFault}
 use Rattle.event_recorders.specs.declared.faults.RunFault.TheVariants as fault
 use Rattle.actor_steps.specs.declared.reopening.TheConstants.{MAX_REOPENS}
@@ -19,7 +21,7 @@ use Rattle.actor_steps.specs.declared.keeping.Keeping.TheVariants as keeping
 use Rattle.event_recorders.specs.OwnLogs.{OwnLog, part_now, kept_in, tried_in, FindsKept, FindsPart, adds, IsAdded}
 
 -- want of memory is told as such, and all else as the book's refusal
-abbrev pub run_fault_of : BookFault → RunFault
+abbrev pub run_fault_of : LogFault → RunFault
 run_fault_of book.Memory = fault.Memory
 run_fault_of book.Full = fault.Book
 run_fault_of book.OtherActor = fault.Book
@@ -27,19 +29,25 @@ run_fault_of book.OtherBook = fault.Book
 run_fault_of (book.NotAStep f) = fault.Book
 
 -- what comes of any other event: its effect, or the fault by which the thread ends
-abbrev pub effect_of : Result Effect BookFault → Result Effect RunFault
+abbrev pub effect_of : Result Effect LogFault → Result Effect RunFault
 effect_of (Ok done) = Ok done
 effect_of (Err f) = Err (run_fault_of f)
 
--- What comes of a Take or a Hear: its effect, or nothing where the book says that it is no step; the thread
--- ends where the book refuses it for another reason.
-abbrev pub reading_of : Result Effect BookFault → Result (Option Effect) RunFault
-reading_of (Ok done) = Ok (Some done)
+-- What comes of a Take or a Hear: its message, or nothing where the log says that it is no step; the thread
+-- ends where the log refuses it for another reason.
+abbrev pub reading_of : Result Effect LogFault → Result (Option Message) RunFault
+reading_of (Ok done) = Ok (message_of done)
 reading_of (Err (book.NotAStep f)) = Ok None
 reading_of (Err book.Memory) = Err (run_fault_of book.Memory)
 reading_of (Err book.Full) = Err (run_fault_of book.Full)
 reading_of (Err book.OtherActor) = Err (run_fault_of book.OtherActor)
 reading_of (Err book.OtherBook) = Err (run_fault_of book.OtherBook)
+
+-- The event that reads a message joined the log, and this is the message that its effect has.
+pub record HasRead (l : OwnLog) (e : Event) (m : Message) (l' : OwnLog) : Type 0 where
+  pub done : Effect
+  pub message : message_of done ≡ Some m
+  pub added : IsAdded l e done l'
 
 -- the faults of logging, of rising and of keeping
 abbrev pub IsBookFault : RunFault → Type 0
@@ -52,6 +60,7 @@ abbrev pub IsKeepingFault : RunFault → Type 0
 IsKeepingFault f = (f ≡ fault.Spent) ⊎ IsBookFault f
 
 -- the device failed so many times more, or its count stands at the greatest
+-- This is a lower bound: a record's meaning says that its count rose at a failure, and not by how much.
 abbrev pub HasFailed : ℕ → ℕ → ℕ → Type 0
 HasFailed times before now = (before + times ≤ now) ⊎ (most_failures ≤ now)
 

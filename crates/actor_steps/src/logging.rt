@@ -1,33 +1,33 @@
 // Events that leave the actor's record as it is.
 
 ghost use Rattle.std.specs.Prelude.{◌≡◌, true, false, None, OnOk, IfOk, IfErr, IfSome, IfNone};
+ghost use Rattle.lock_messages.specs.Messages.{is_for};
 ghost use Rattle.world_model.specs.Parts.{is_own, own_refusal};
 ghost use Rattle.event_recorders.specs.OwnLogs.{part_now, FindsPart, FindsAfter, IsAdded, reads, changes_record};
-ghost use Rattle.actor_steps.specs.Steps.{run_fault_of, effect_of, reading_of, IsBookFault};
+ghost use Rattle.actor_steps.specs.Steps.{run_fault_of, effect_of, reading_of, HasRead, IsBookFault};
 ghost use Rattle.actor_steps.specs.Endings.{is_fall, falls_of};
 
 use event_recorders::laws::own_logs_tell_parts;
-use event_recorders::{Recorder, RunFault};
-use history_book::BookFault;
-use lock_messages::{Actor, NodeId};
+use event_recorders::{LogFault, Recorder, RunFault};
+use lock_messages::{Actor, Message, NodeId};
 use lock_model::Problem;
 use stable_record::StableRecord;
 use world_model::{Effect, Event};
 
 /// The fault by which a thread ends where its book refuses an event that may happen: want of memory
 /// (813) is 914, and all else is 915.
-pub fn run_fault_of(fault: BookFault) -> RunFault
+pub fn run_fault_of(fault: LogFault) -> RunFault
     ensures { result ≡ run_fault_of fault }
 {
     match fault {
-        BookFault::Memory => RunFault::Memory,
-        BookFault::Full | BookFault::OtherBook | BookFault::OtherActor | BookFault::NotAStep(_) =>
+        LogFault::Memory => RunFault::Memory,
+        LogFault::Full | LogFault::OtherBook | LogFault::OtherActor | LogFault::NotAStep(_) =>
             RunFault::Book,
     }
 }
 
 /// What came of an event that reads no message: its effect, or the fault of the thread.
-fn effect_of(logged: Result<Effect, BookFault>) -> Result<Effect, RunFault>
+fn effect_of(logged: Result<Effect, LogFault>) -> Result<Effect, RunFault>
     ensures { result ≡ effect_of logged }
 {
     match logged {
@@ -83,6 +83,8 @@ pub fn log_plain<R: Recorder>(
 /// The caller owes that the log is the node's and allows it, so that the node is up and about nothing, and
 /// that a restart finds in the record what the node keeps. The errors leave the log as it was: memory was
 /// refused (914), or the book is full or another's (915).
+/// A call of its own: by log_plain a loop would have any effect to look at.
+#[tactic(auto, using(crate::proofs::ReadingFacts::switch_added))]
 pub fn log_switch<R: Recorder>(
     recorder: &mut R,
     node: NodeId,
@@ -98,44 +100,44 @@ pub fn log_switch<R: Recorder>(
     ensures falls { falls_of (R.own_log recorder.new) ≡ falls_of (R.own_log recorder.old) }
 {
     let done = log_plain(recorder, Event::Switch(node, problem), stable)?;
-    let Effect::Switched(changed) = done else {
-        unreachable!()
-    };
-    Ok(changed)
+    Ok(done.changes())
 }
 
-/// What came of a reading: its effect; `None` exactly where the event is no step, since no message of the
-/// number was sent or it is for another; else the fault of the thread.
-fn reading_of(logged: Result<Effect, BookFault>) -> Result<Option<Effect>, RunFault>
+/// What came of a reading: its message; `None` exactly where the event is no step, since the log knows no message of
+/// the number for the actor; else the fault of the thread.
+fn reading_of(logged: Result<Effect, LogFault>) -> Result<Option<Message>, RunFault>
     ensures { result ≡ reading_of logged }
 {
     match logged {
-        Ok(effect) => Ok(Some(effect)),
-        Err(BookFault::NotAStep(_)) => Ok(None),
+        Ok(done) => Ok(done.message()),
+        Err(LogFault::NotAStep(_)) => Ok(None),
         Err(fault) => Err(run_fault_of(fault)),
     }
 }
 
-/// Logs a Take or a Hear; `None` where no message of that number was sent (607) or it is for another
-/// (608), and then nothing is logged.
+/// Logs a Take or a Hear of the message that came, and returns the message that the log has of it. `None`: the log knows
+/// no message of the number (607), or one for another actor (608), and nothing is logged.
 ///
-/// The caller owes what `log_plain` asks for. The errors leave the log as it was: memory was refused
-/// (914), or the book is full or another's (915).
+/// The caller owes what `log_plain` asks for, and a message for the actor. The errors leave the log as it was: it ran
+/// out of memory (914), or the log takes nothing more or is another book's (915).
+#[tactic(auto, using(crate::proofs::ReadingFacts::has_read, crate::proofs::ReadingFacts::has_dropped, crate::proofs::ReadingFacts::has_refused))]
 pub fn log_reading<R: Recorder>(
     recorder: &mut R,
     event: Event,
+    message: &Message,
     stable: &dyn StableRecord,
-) -> Result<Option<Effect>, RunFault>
+) -> Result<Option<Message>, RunFault>
     requires own { is_own (R.own_log recorder.old).actor event ≡ true }
     requires allowed { own_refusal (R.own_log recorder.old).ballots event (part_now (R.own_log recorder.old)) ≡ None }
     requires reading { reads event ≡ true }
+    requires addressed { is_for (R.own_log recorder.old).actor message.now ≡ true }
     requires found { FindsPart (part_now (R.own_log recorder.old)) (finds stable.now) }
-    ensures logged { IfOk result (λ o. IfSome o (λ done. IsAdded (R.own_log recorder.old) event done (R.own_log recorder.new))) }
+    ensures read { IfOk result (λ o. IfSome o (λ m. HasRead (R.own_log recorder.old) event m (R.own_log recorder.new))) }
     ensures dropped { IfOk result (λ o. IfNone o (R.own_log recorder.new ≡ R.own_log recorder.old)) }
     ensures found { FindsPart (part_now (R.own_log recorder.new)) (finds stable.now) }
     ensures refused { IfErr result (λ fault. IsBookFault fault × (R.own_log recorder.new ≡ R.own_log recorder.old)) }
     ensures falls { falls_of (R.own_log recorder.new) ≡ falls_of (R.own_log recorder.old) }
 {
     own_logs_tell_parts();
-    reading_of(recorder.log(event, stable))
+    reading_of(recorder.log_reading(event, message, stable))
 }

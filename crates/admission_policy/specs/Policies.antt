@@ -1,8 +1,10 @@
 -- What policies are: their problem's number, and the tally of what one was told.
+-- A pair of policies has no meaning of its own: contracts see its two halves, each a policy or none.
 use Rattle.std.specs.Prelude.{ℕ, ◌+◌, Bool, true, false, min}
 use Rattle.lock_model.specs.declared.problems.Problem.{Problem}
 use Rattle.lock_model.specs.declared.problems.Problem.TheVariants.{First, Second}
 
+-- the number of a problem, by which settings and records name it
 abbrev pub problem_number : Problem → ℕ
 problem_number First = 1
 problem_number Second = 2

@@ -51,6 +51,7 @@ impl Model for BerthSeat {
 impl BookSeat {
     /// The seat of a new book, which is opened with the world that the call picks. Its history is
     /// empty, and no actor was given a berth.
+    /// The opening is a ghost member, because the table's key can't have it: no value of an exact world is ever made.
     pub fn open<B: OpenedWith>(alloc: Global) -> Result<BookSeat, AllocError>
         ensures { IfOk result (λ s. s.book ≡ opened B.world) }
     {

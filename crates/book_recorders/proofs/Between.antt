@@ -9,8 +9,8 @@ use Rattle.world_model.specs.declared.events.Event.{Event}
 use Rattle.world_model.specs.declared.events.StepFault.{StepFault}
 use Rattle.world_model.specs.Locality.{own_events, IsHistory, IsAsListed, IsLocalRefusal}
 use Rattle.world_model.specs.Parts.{is_own, own_refusal}
-use Rattle.history_book.specs.declared.faults.BookFault.{BookFault}
-use Rattle.history_book.specs.declared.faults.BookFault.TheVariants as book
+use Rattle.event_recorders.specs.declared.log_faults.LogFault.{LogFault}
+use Rattle.event_recorders.specs.declared.log_faults.LogFault.TheVariants as book
 use Rattle.history_book.specs.Books.{BookValue, BerthValue, own_of, own_part, Known, IsLogged, IsNoStep, IsFull, IsRefused}
 use Rattle.history_book.proofs.Histories.{history_more}
 use Rattle.book_recorders.specs.Sharing.{after_seeing, Between, HasLogged, HasRefused, HasFoundFull, MayRefuse}
@@ -73,7 +73,7 @@ has_found_full b k e k' own known full same = record {
   berth = same;
 }
 
-pub may_refuse : (f : BookFault) (b : BookValue) (k : BerthValue) (e : Event) (b' : BookValue) (k' : BerthValue) → IsRefused f b k e b' k' → MayRefuse f k e k'
+pub may_refuse : (f : LogFault) (b : BookValue) (k : BerthValue) (e : Event) (b' : BookValue) (k' : BerthValue) → IsRefused f b k e b' k' → MayRefuse f k e k'
 may_refuse book.OtherBook b k e b' k' r = r.1.berth
 may_refuse book.OtherActor b k e b' k' r = (r.1, r.2.berth)
 may_refuse book.Full b k e b' k' r = has_found_full b k e k' r.0.actor r.2 r.1 r.3.berth
@@ -85,22 +85,22 @@ may_refuse (book.NotAStep f) b k e b' k' r = has_refused f b k e b' k' r.0.actor
 pub logged_table : (b : BookValue) (k : BerthValue) (e : Event) (done : Effect) (b' : BookValue) (k' : BerthValue) → IsLogged b k e done b' k' → b'.table ≡ b.table
 logged_table b k e done b' k' logged = ap (λ (x : BookValue). x.table) logged.book
 
-pub refused_same : (f : BookFault) (b : BookValue) (k : BerthValue) (e : Event) (b' : BookValue) (k' : BerthValue) → IsRefused f b k e b' k' → b' ≡ b
+pub refused_same : (f : LogFault) (b : BookValue) (k : BerthValue) (e : Event) (b' : BookValue) (k' : BerthValue) → IsRefused f b k e b' k' → b' ≡ b
 refused_same book.OtherBook b k e b' k' r = r.1.book
 refused_same book.OtherActor b k e b' k' r = r.2.book
 refused_same book.Full b k e b' k' r = r.3.book
 refused_same book.Memory b k e b' k' r = r.2.book
 refused_same (book.NotAStep f) b k e b' k' r = r.2.book
 
-pub refused_table : (f : BookFault) (b : BookValue) (k : BerthValue) (e : Event) (b' : BookValue) (k' : BerthValue) → IsRefused f b k e b' k' → b'.table ≡ b.table
+pub refused_table : (f : LogFault) (b : BookValue) (k : BerthValue) (e : Event) (b' : BookValue) (k' : BerthValue) → IsRefused f b k e b' k' → b'.table ≡ b.table
 refused_table f b k e b' k' r = ap (λ (x : BookValue). x.table) (refused_same f b k e b' k' r)
 
 -- the same of an answer
 
-pub logged_if : (r : Result Effect BookFault) (b : BookValue) (k : BerthValue) (e : Event) (b' : BookValue) (k' : BerthValue) → IfOk r (λ done. IsLogged b k e done b' k') → IfOk r (λ done. IsAsListed b.world e done) → IfOk r (λ done. HasLogged k e done k')
+pub logged_if : (r : Result Effect LogFault) (b : BookValue) (k : BerthValue) (e : Event) (b' : BookValue) (k' : BerthValue) → IfOk r (λ done. IsLogged b k e done b' k') → IfOk r (λ done. IsAsListed b.world e done) → IfOk r (λ done. HasLogged k e done k')
 logged_if (Ok done) b k e b' k' logged listed = has_logged b k e done b' k' logged listed
 logged_if (Err f) b k e b' k' logged listed = tt
 
-pub refused_if : (r : Result Effect BookFault) (b : BookValue) (k : BerthValue) (e : Event) (b' : BookValue) (k' : BerthValue) → IfErr r (λ f. IsRefused f b k e b' k') → IfErr r (λ f. MayRefuse f k e k')
+pub refused_if : (r : Result Effect LogFault) (b : BookValue) (k : BerthValue) (e : Event) (b' : BookValue) (k' : BerthValue) → IfErr r (λ f. IsRefused f b k e b' k') → IfErr r (λ f. MayRefuse f k e k')
 refused_if (Ok done) b k e b' k' refused = tt
 refused_if (Err f) b k e b' k' refused = may_refuse f b k e b' k' refused

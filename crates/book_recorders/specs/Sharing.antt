@@ -11,8 +11,8 @@ use Rattle.world_model.specs.ExactWorlds.{step}
 use Rattle.world_model.specs.Laws.{Takes}
 use Rattle.world_model.specs.Locality.{own_events, IsHistory, IsAsListed, IsLocalRefusal}
 use Rattle.world_model.specs.Parts.{is_own, part, own_refusal}
-use Rattle.history_book.specs.declared.faults.BookFault.{BookFault}
-use Rattle.history_book.specs.declared.faults.BookFault.TheVariants as book
+use Rattle.event_recorders.specs.declared.log_faults.LogFault.{LogFault}
+use Rattle.event_recorders.specs.declared.log_faults.LogFault.TheVariants as book
 use Rattle.history_book.specs.Books.{BerthValue, own_of, own_part, IsOfEvent, IsFull}
 
 -- the berth, once it has seen this much
@@ -62,7 +62,7 @@ pub record HasFoundFull (k : BerthValue) (e : Event) (k' : BerthValue) : Type 0 
 
 -- Why the event was not logged. The world that refuses it and the list that is full are those that the history
 -- has come to when it is asked. But for what the berth has seen after 811 nothing is changed.
-abbrev pub MayRefuse : BookFault → BerthValue → Event → BerthValue → Type 0
+abbrev pub MayRefuse : LogFault → BerthValue → Event → BerthValue → Type 0
 MayRefuse book.OtherBook k e k' = k' ≡ k
 MayRefuse book.OtherActor k e k' = (is_own k.actor e ≡ false) × (k' ≡ k)
 MayRefuse book.Full k e k' = HasFoundFull k e k'

@@ -10,7 +10,7 @@ ghost use Rattle.book_recorders.specs.Sharing.{log_of};
 use crate::Logs;
 use event_recorders::Recorder;
 use history_book::{Berth, Book, BookFault};
-use lock_messages::Actor;
+use lock_messages::{Actor, Message};
 use stable_record::StableRecord;
 use std::alloc::Global;
 use std::marker::Model;
@@ -21,12 +21,12 @@ use world_model::{Effect, Event};
 /// A recorder over a book of its own, in which its actor alone logs; for tests of what an actor does.
 /// There is no lock. Contracts see it as the book and the berth.
 #[derive(Drop)]
-pub struct ListRecorder<K: Logs> {
+pub struct OwnBookRecorder<K: Logs> {
     book: K,
     berth: Berth,
 }
 
-impl<K: Logs> Model for ListRecorder<K> {
+impl<K: Logs> Model for OwnBookRecorder<K> {
     ghost Value = { Alone };
 
     ghost view = { λ r. record { book = K.book r.book; berth = r.berth } };
@@ -37,7 +37,7 @@ impl<K: Logs> Model for ListRecorder<K> {
 /// A book of this world for one actor alone, and the actor's berth; `None` exactly where the world has no
 /// such actor. The only error is want of memory (813). Nothing is handed back.
 ///
-/// A `ListRecorder` is made of the two. It is no call of its own that makes it of a world, since a type
+/// A `OwnBookRecorder` is made of the two. It is no call of its own that makes it of a world, since a type
 /// with a parameter like `K` can't be named together with a `Book`.
 pub fn open_alone(
     alloc: Global,
@@ -62,14 +62,14 @@ pub fn open_alone(
     Ok(Some((book, berth)))
 }
 
-impl<K: Logs> ListRecorder<K> {
+impl<K: Logs> OwnBookRecorder<K> {
     /// The recorder over a book and its berth. The caller owes that the berth is this book's, and has
     /// seen all of its history, as the two that `open_alone` gives.
-    pub fn over(book: K, berth: Berth) -> ListRecorder<K>
+    pub fn over(book: K, berth: Berth) -> OwnBookRecorder<K>
         requires { IsAlone (K.book book) berth }
         ensures { result ≡ record { book = K.book book; berth = berth } }
     {
-        ListRecorder { book, berth }
+        OwnBookRecorder { book, berth }
     }
 
     /// The book, in which this recorder's actor alone has logged.
@@ -93,12 +93,26 @@ impl<K: Logs> ListRecorder<K> {
     }
 }
 
-impl<K: Logs> Recorder for ListRecorder<K> {
+impl<K: Logs> Recorder for OwnBookRecorder<K> {
     ghost own_log = { λ r. log_of r.berth };
 
     /// Logs an event of the actor in the recorder's own book, as `log_event` does.
     #[tactic(auto, using(crate::proofs::Logging::refused_alone))]
     fn log(&mut self, event: Event, stable: &dyn StableRecord) -> Result<Effect, BookFault> {
+        let _ = stable;
+        steps_change_one_part();
+        self.log_event(event)
+    }
+
+    /// Logs that the actor takes or hears the message that was sent under the event's number, as `log_event` does.
+    #[tactic(auto, using(crate::proofs::Logging::refused_alone))]
+    fn log_reading(
+        &mut self,
+        event: Event,
+        message: &Message,
+        stable: &dyn StableRecord,
+    ) -> Result<Effect, BookFault> {
+        let _ = message;
         let _ = stable;
         steps_change_one_part();
         self.log_event(event)

@@ -4,7 +4,8 @@ ghost use Rattle.std.specs.Prelude.{◌≡◌, ◌⊎◌, OnOk, IfOk, IfErr};
 ghost use Rattle.berth_seats.specs.Views.{TableId};
 ghost use Rattle.world_model.specs.declared.exact.ExactWorld.{ExactWorld};
 ghost use Rattle.history_book.specs.Books.{BookValue};
-ghost use Rattle.book_recorders.specs.Meeting.{HaveMet, HasSeenInside, HasSeenOn, SeesInside};
+ghost use Rattle.event_recorders.specs.Sharing.{HaveMet, HasSeenInside};
+ghost use Rattle.book_recorders.specs.Meeting.{HasSeenOn, SeesInside};
 ghost use Rattle.book_recorders.specs.Sharing.{HasLogged, MayRefuse, log_of, no_table};
 
 use crate::Logs;

@@ -9,7 +9,7 @@ ghost use Rattle.vote_weights.specs.Sets.{has_node};
 ghost use Rattle.client_core.specs.Clients.{phase_of, ticket_of, place_of, softened_ticket, granted_of, IsLawfulClient};
 ghost use Rattle.client_core.specs.Calls.{at_rest, begun, begin_answer, asking, entered, MayEnter, MaySoften, softened, MayLeave, left, release_of, said_inside, message_for, ReleasesAll, SoftensAll, heard_inside, HearsInside, heard_by, counted, AddsVote, after_hearing, Hears, IsOpen, skipping};
 
-use crate::hearing::{heard_at_rest, heard_of_ticket, heard_softened, is_node_of, node_of};
+use crate::hearing::{heard_at_rest, heard_of_ticket, heard_softened, is_node_of};
 use crate::phases::{Present, State};
 use crate::{ClientFault, Phase};
 use lock_messages::{Attempt, ClientId, MAX_ATTEMPT, Message, Mode, NodeId, ResourceName, Ticket};
@@ -301,7 +301,7 @@ impl ClientCore {
     {
         let heard = self.heard(message);
         if let Heard::Counted = heard {
-            self.count(node_of(message));
+            self.count(message.node());
         }
         heard
     }

@@ -1,7 +1,6 @@
 // What a client makes of a message.
 
 ghost use Rattle.std.specs.Prelude.{◌≡◌};
-ghost use Rattle.lock_messages.specs.Messages.{named_node};
 ghost use Rattle.lock_model.specs.ExactHearing.{is_node_of, same_ticket, heard_of_ticket, heard_softened, heard_at_rest};
 ghost use Rattle.vote_weights.specs.Sets.{has_node};
 
@@ -25,21 +24,6 @@ fn same_ticket(a: &Ticket, b: &Ticket) -> bool
         && a.attempt == b.attempt
         && a.mode == b.mode
         && a.resource.bytes() == b.resource.bytes()
-}
-
-/// The node that the message names.
-pub(crate) fn node_of(message: &Message) -> NodeId
-    ensures { result ≡ named_node message.now }
-{
-    match *message {
-        Message::Request(node, _) | Message::Grant(node, _) | Message::Busy(node, _) => node,
-        Message::Release(node, _, _)
-        | Message::Over(node, _, _)
-        | Message::Done(node, _, _)
-        | Message::Muddled(node, _, _)
-        | Message::Soften(node, _, _)
-        | Message::Softened(node, _, _) => node,
-    }
 }
 
 /// What a client makes of the message while it asks with the ticket, or is inside with it.

@@ -9,7 +9,7 @@ use Rattle.client_core.specs.Clients.{Client}
 use Rattle.world_model.specs.declared.events.Effect.{Effect}
 use Rattle.world_model.specs.declared.events.Event.{Event}
 use Rattle.world_model.specs.declared.events.Event.TheVariants as event
-use Rattle.history_check.specs.declared.wishes.Wish.{Wish}
+use Rattle.event_lines.specs.declared.wishes.Wish.{Wish}
 use Rattle.event_recorders.specs.OwnLogs.{OwnLog}
 use Rattle.client_loop.specs.Standing.{Stands, IsSameClient}
 use Rattle.client_loop.specs.Visits.{Use, Visits, AreWished, BeginsOnly, BeginsNothing, BeginsMore, HasBegun, ArePlaced, use_of, visits_after, visits_from, visits_of, visits_entering, visits_softening, visits_beginning}

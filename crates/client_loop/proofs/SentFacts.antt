@@ -1,6 +1,5 @@
 -- What a client's own log tells of what it sends.
 use Rattle.std.proofs.Common.{◌≡◌, ◌↔◌, ◌⊎◌, inl, inr, ℕ, Bool, true, false, List, [], ◌∷◌, ◌++◌, Option, None, Some, refl, sym, ap, ◌∙◌, append-nil, if◌then◌else◌, map, ◌==◌, subst, arith}
-use Rattle.lock_messages.specs.declared.ids.Actor.{Actor}
 use Rattle.lock_messages.specs.declared.ids.Actor.TheVariants as actor
 use Rattle.lock_messages.specs.declared.messages.Message.{Message}
 use Rattle.lock_messages.specs.declared.tickets.Mode.{Mode}
@@ -21,28 +20,21 @@ use Rattle.world_model.specs.declared.events.Effect.{Effect}
 use Rattle.world_model.specs.declared.events.Effect.TheVariants as effect
 use Rattle.world_model.specs.declared.events.Event.{Event}
 use Rattle.world_model.specs.declared.events.Event.TheVariants as event
-use Rattle.world_model.specs.Parts.{Part, ClientPart, said_by}
+use Rattle.world_model.specs.Parts.{Part, ClientPart, said_by, number_of}
 use Rattle.event_recorders.specs.declared.faults.RunFault.{RunFault}
 use Rattle.event_recorders.specs.declared.faults.RunFault.TheVariants as fault
-use Rattle.event_recorders.specs.OwnLogs.{OwnLog, all_of, part_now, adds, IsAdded, IsUnused}
-use Rattle.event_recorders.proofs.LogFacts.{log_more, nothing_more}
-use Rattle.actor_steps.specs.Steps.{IsKept, IsRisenAgain}
+use Rattle.event_recorders.specs.OwnLogs.{OwnLog, part_now, adds, IsAdded}
+use Rattle.actor_steps.specs.Steps.{HasRead, IsRisenAgain}
 use Rattle.client_loop.specs.Standing.{Stands, part_of}
-use Rattle.client_loop.specs.Sendings.{sent_for, sent_of, sending_to, number_of, SentFollows, SentUnlessMemory, ToldUnlessMemory, EndsHere}
-
--- one event more sends what it sends from the part before it
-pub sent_more : (l l' : OwnLog) (e : Event) (done : Effect) → IsAdded l e done l' → sent_of l' ≡ sent_of l ++ sent_for l.ballots e done (part_now l)
-sent_more l l' e done added = log_more sent_for l l' e done added
-
--- all events but SayTo send nothing
-silent : (l l' : OwnLog) (e : Event) (done : Effect) → IsAdded l e done l' → sent_for l.ballots e done (part_now l) ≡ [] → sent_of l' ≡ sent_of l
-silent l l' e done added nothing = nothing_more sent_for l l' e done added nothing
+use Rattle.actor_steps.specs.Sendings.{sent_of, sending_to, SentFollows}
+use Rattle.actor_steps.proofs.SendingFacts.{sent_more, silent, follows_none}
+use Rattle.client_loop.specs.Sendings.{SentUnlessMemory, ToldUnlessMemory, EndsHere}
 
 pub begin_sends_nothing : (l l' : OwnLog) (c : ℕ) (m : Mode) (x : List ℕ) (place : ℕ) (done : Effect) → IsAdded l (event.Begin c m x place) done l' → sent_of l' ≡ sent_of l
 begin_sends_nothing l l' c m x place done added = silent l l' (event.Begin c m x place) done added refl
 
-pub hear_sends_nothing : (l l' : OwnLog) (c k : ℕ) (done : Effect) → IsAdded l (event.Hear c k) done l' → sent_of l' ≡ sent_of l
-hear_sends_nothing l l' c k done added = silent l l' (event.Hear c k) done added refl
+pub read_sends_nothing : (l l' : OwnLog) (c k : ℕ) (m : Message) → HasRead l (event.Hear c k) m l' → sent_of l' ≡ sent_of l
+read_sends_nothing l l' c k m read = silent l l' (event.Hear c k) read.done read.added refl
 
 pub enter_sends_nothing : (l l' : OwnLog) (c : ℕ) (done : Effect) → IsAdded l (event.Enter c) done l' → sent_of l' ≡ sent_of l
 enter_sends_nothing l l' c done added = silent l l' (event.Enter c) done added refl
@@ -53,32 +45,14 @@ leave_sends_nothing l l' c done added = silent l l' (event.Leave c) done added r
 pub soften_sends_nothing : (l l' : OwnLog) (c : ℕ) (done : Effect) → IsAdded l (event.Soften c) done l' → sent_of l' ≡ sent_of l
 soften_sends_nothing l l' c done added = silent l l' (event.Soften c) done added refl
 
-pub first_rise_sends_nothing : (l l' : OwnLog) (who : Actor) (age : Age) → IsUnused l who → IsAdded l (event.Rise who age) effect.Up l' → sent_of l' ≡ []
-first_rise_sends_nothing l l' who age unused added = silent l l' (event.Rise who age) effect.Up added refl ∙ ap (all_of sent_for l.ballots l.opening) unused.events
-
-pub keeping_sends_nothing : (l l' : OwnLog) (who : Actor) → IsKept l who l' → sent_of l' ≡ sent_of l
-keeping_sends_nothing l l' who kept =
-    let tried = adds l (event.Try who) effect.Tried in
-    silent tried l' (event.Kept who) effect.Kept kept.kept refl ∙ silent l tried (event.Try who) effect.Tried kept.tried refl
-
-pub trying_sends_nothing : (l l' : OwnLog) (who : Actor) → IsAdded l (event.Try who) effect.Tried l' → sent_of l' ≡ sent_of l
-trying_sends_nothing l l' who added = silent l l' (event.Try who) effect.Tried added refl
-
--- at most a Try was logged
-pub tried_sends_nothing : (l l' : OwnLog) (who : Actor) → (l' ≡ l) ⊎ IsAdded l (event.Try who) effect.Tried l' → sent_of l' ≡ sent_of l
-tried_sends_nothing l l' who (inl same) = ap sent_of same
-tried_sends_nothing l l' who (inr added) = trying_sends_nothing l l' who added
-
 -- at most a Fall was logged
-pub fallen_sends_nothing : (l l' : OwnLog) (who : Actor) → (l' ≡ l) ⊎ IsAdded l (event.Fall who) effect.Down l' → sent_of l' ≡ sent_of l
-fallen_sends_nothing l l' who (inl same) = ap sent_of same
-fallen_sends_nothing l l' who (inr added) = silent l l' (event.Fall who) effect.Down added refl
+pub fallen_sends_nothing : (l l' : OwnLog) (c : ℕ) → (l' ≡ l) ⊎ IsAdded l (event.Fall (actor.Client c)) effect.Down l' → sent_of l' ≡ sent_of l
+fallen_sends_nothing l l' c (inl same) = ap sent_of same
+fallen_sends_nothing l l' c (inr added) = silent l l' (event.Fall (actor.Client c)) effect.Down added refl
 
-pub unused_sends_nothing : (l : OwnLog) (who : Actor) → IsUnused l who → sent_of l ≡ []
-unused_sends_nothing l who unused = ap (all_of sent_for l.ballots l.opening) unused.events
-
-pub rising_sends_nothing : (l l' : OwnLog) (who : Actor) (bytes tried : List ℕ) → ((age : Age) × IsRisenAgain l who age l' × ((age ≡ New) ↔ (bytes ≡ tried))) → sent_of l' ≡ sent_of l
-rising_sends_nothing l l' who bytes tried (age, again, new) =
+pub rising_sends_nothing : (l l' : OwnLog) (c : ℕ) (bytes tried : List ℕ) → ((age : Age) × IsRisenAgain l (actor.Client c) age l' × ((age ≡ New) ↔ (bytes ≡ tried))) → sent_of l' ≡ sent_of l
+rising_sends_nothing l l' c bytes tried (age, again, new) =
+    let who = actor.Client c in
     let fallen = adds l (event.Fall who) effect.Down in
     silent fallen l' (event.Rise who age) effect.Up again.risen refl ∙ silent l fallen (event.Fall who) effect.Down again.fallen refl
 
@@ -100,15 +74,15 @@ pub says_message : (c : Client) (n : ℕ) (m : Message) → message_for c n ≡ 
 says_message c n m has = says_in c.ballots c.client n c.attempt c.state (is_node_of (node_count c.ballots) n) (c.attempt == 0) m refl refl has
 
 -- a SayTo sends its message
-pub sayto_sends : (l l' : OwnLog) (finds : List (List ℕ)) (c : Client) (who n number : ℕ) (m said : Message) (done : Effect) → Stands l finds c → who ≡ c.client → message_for c n ≡ Some m →
-    done ≡ effect.Sent number said → IsAdded l (event.SayTo who n) done l' → sent_of l' ≡ sent_of l ++ sending_to n number m ∷ []
-sayto_sends l l' finds c who n number m said done s same has is added =
+pub sayto_sends : (l l' : OwnLog) (finds : List (List ℕ)) (c : Client) (who n number : ℕ) (m : Message) (done : Effect) → Stands l finds c → who ≡ c.client → message_for c n ≡ Some m →
+    number ≡ number_of done → IsAdded l (event.SayTo who n) done l' → sent_of l' ≡ sent_of l ++ sending_to n number m ∷ []
+sayto_sends l l' finds c who n number m done s same has is added =
     let says : said_by l.ballots (event.SayTo who n) (part_now l) ≡ m ∷ [] =
     ap (λ (p : Part). said_by l.ballots (event.SayTo who n) p) s.part ∙ ap (λ (b : List Ballot). said_by b (event.SayTo who n) (ClientPart (part_of c))) s.ballots
     ∙ ap (λ (k : ℕ). said_by c.ballots (event.SayTo k n) (ClientPart (part_of c))) same ∙ says_message c n m has in
     sent_more l l' (event.SayTo who n) done added
     ∙ ap (λ (xs : List Message). sent_of l ++ map (sending_to n (number_of done)) xs) says
-    ∙ ap (λ (d : Effect). sent_of l ++ sending_to n (number_of d) m ∷ []) is
+    ∙ ap (λ k. sent_of l ++ sending_to n k m ∷ []) (sym is)
 
 -- one more in the log, and one more over the link
 pub one_follows : (l l' : OwnLog) (x : Sending) (given given' : Option (List Sending)) → sent_of l' ≡ sent_of l ++ x ∷ [] → given' ≡ one_more given x → SentFollows l l' given given'
@@ -123,22 +97,6 @@ pub tell_follows : (l l' : OwnLog) (n number : ℕ) (m : Message) (frame : List 
 tell_follows l l' n number m frame given given' so spelled told =
     one_follows l l' (sending_to n number m) given given' so
     (told ∙ ap (λ (bytes : List ℕ). one_more given (sending.Sent (actor.Node n) (record { number = number; frame = bytes }))) spelled)
-
--- nothing more in either
-pub follows_none : (l l' : OwnLog) (given : Option (List Sending)) → sent_of l' ≡ sent_of l → SentFollows l l' given given
-follows_none l l' given same = record { follows = λ before was. was ∙ ap (all_more before) (sym same) }
-
--- one after the other
-pub follows_on : (l m l' : OwnLog) (given between given' : Option (List Sending)) → SentFollows l m given between → SentFollows m l' between given' → SentFollows l l' given given'
-follows_on l m l' given between given' first second = record { follows = λ before was. second.follows before (first.follows before was) }
-
--- what was sent after a log that sends no more follows from it too
-pub follows_from : (l m l' : OwnLog) (given given' : Option (List Sending)) → sent_of m ≡ sent_of l → SentFollows m l' given given' → SentFollows l l' given given'
-follows_from l m l' given given' same later = record { follows = λ before was. later.follows before (was ∙ ap (all_more before) (sym same)) }
-
--- on top of what was there before a log that sends nothing
-pub all_told : (l l' : OwnLog) (given given' : Option (List Sending)) → sent_of l ≡ [] → SentFollows l l' given given' → given' ≡ all_more given (sent_of l')
-all_told l l' given given' nothing follows = follows.follows given (sym (ap (all_more given) nothing ∙ none_more given))
 
 -- The same where it ends by a fault.
 

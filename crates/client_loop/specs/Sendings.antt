@@ -1,69 +1,17 @@
 -- What a client sends.
-use Rattle.std.specs.Prelude.{◌≡◌, ℕ, ◌≤◌, length, Bool, true, false, List, [], ◌∷◌, ◌++◌, map, filter, Option, None, Some}
+use Rattle.std.specs.Prelude.{◌≡◌, ℕ, ◌≤◌, length, Bool, true, false, List, [], ◌∷◌, ◌++◌, filter, Option, None, Some}
 use Rattle.std.specs.List.{range_with_len}
-use Rattle.lock_messages.specs.declared.ids.Actor.TheVariants as actor
 use Rattle.lock_messages.specs.declared.messages.Message.{Message}
 use Rattle.lock_messages.specs.declared.messages.Message.TheVariants as message
-use Rattle.lock_messages.specs.Frames.{frame_of}
-use Rattle.lock_model.specs.Ballots.{Ballot, node_count}
+use Rattle.lock_model.specs.Ballots.{node_count}
 use Rattle.vote_weights.specs.Sets.{has_node}
 use Rattle.client_core.specs.Clients.{Client}
 use Rattle.lossy_link.specs.declared.parcels.Sending.{Sending}
-use Rattle.lossy_link.specs.declared.parcels.Sending.TheVariants as sending
 use Rattle.lossy_link.specs.Links.{all_more}
-use Rattle.world_model.specs.declared.events.Effect.{Effect}
-use Rattle.world_model.specs.declared.events.Effect.TheVariants as effect
-use Rattle.world_model.specs.declared.events.Event.{Event}
-use Rattle.world_model.specs.declared.events.Event.TheVariants as event
-use Rattle.world_model.specs.Parts.{Part, said_by}
 use Rattle.event_recorders.specs.declared.faults.RunFault.{RunFault}
 use Rattle.event_recorders.specs.declared.faults.RunFault.TheVariants as fault
-use Rattle.event_recorders.specs.OwnLogs.{OwnLog, in_log}
-
--- a message to a node, as its frame and under its number
-abbrev pub sending_to : ℕ → ℕ → Message → Sending
-sending_to n number m = sending.Sent (actor.Node n) (record { number = number; frame = frame_of m })
-
--- the number under which a message was said; what else comes of an event has none
-abbrev pub number_of : Effect → ℕ
-number_of (effect.Sent number m) = number
-number_of (effect.Chose a) = 0
-number_of effect.Tried = 0
-number_of effect.Kept = 0
-number_of (effect.Said first count) = 0
-number_of (effect.Took m changed) = 0
-number_of (effect.Heard m made) = 0
-number_of effect.Inside = 0
-number_of effect.Outside = 0
-number_of effect.Softened = 0
-number_of effect.Down = 0
-number_of effect.Up = 0
-number_of (effect.Switched changed) = 0
-
--- What a client sends for an event of its own: at a SayTo what its part says there, to the node.
-abbrev pub sent_for : List Ballot → Event → Effect → Part → List Sending
-sent_for b (event.SayTo c n) done p = map (sending_to n (number_of done)) (said_by b (event.SayTo c n) p)
-sent_for b (event.Begin c m x place) done p = []
-sent_for b (event.Try who) done p = []
-sent_for b (event.Kept who) done p = []
-sent_for b (event.Say n) done p = []
-sent_for b (event.Take n k) done p = []
-sent_for b (event.Hear c k) done p = []
-sent_for b (event.Enter c) done p = []
-sent_for b (event.Leave c) done p = []
-sent_for b (event.Soften c) done p = []
-sent_for b (event.Fall who) done p = []
-sent_for b (event.Rise who age) done p = []
-sent_for b (event.Switch n q) done p = []
-
--- what a client has sent, as its own log tells it
-abbrev pub sent_of : OwnLog → List Sending
-sent_of l = in_log sent_for l
-
--- Where what was given to a link before is what one log tells, on top of what was there, what was given
--- since is what the other log tells.
-pub record SentFollows (l l' : OwnLog) (given given' : Option (List Sending)) : Type 0 where
-  pub follows : (before : Option (List Sending)) → given ≡ all_more before (sent_of l) → given' ≡ all_more before (sent_of l')
+use Rattle.event_recorders.specs.OwnLogs.{OwnLog}
+pub use Rattle.actor_steps.specs.Sendings.{sending_to, sent_for, sent_of, SentFollows}
 
 -- The same where it ended by a fault, but for what is left of what the other log tells: its last message at most, and
 -- nothing unless memory was refused, which may come between a message's line in the log and its sending.

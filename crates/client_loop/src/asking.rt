@@ -16,15 +16,15 @@ ghost use Rattle.actor_steps.specs.Endings.{falls_of};
 use crate::posts::take_post;
 use crate::progress::Progress;
 use crate::talking::tell;
+use event_lines::Wish;
 use event_recorders::{Recorder, RunFault};
-use history_check::Wish;
 use lossy_link::Link;
 use stable_record::StableRecord;
 use std::alloc::Global;
 use std::sync::Wait;
 
 /// Asks the node that is to be asked next, unless it was asked already.
-#[tactic(auto, using(crate::proofs::SentFacts::follows_none))]
+#[tactic(auto, using(actor_steps::proofs::SendingFacts::follows_none))]
 fn ask_on<R: Recorder, L: Link>(
     alloc: Global,
     progress: &mut Progress,
@@ -57,7 +57,7 @@ fn ask_on<R: Recorder, L: Link>(
 /// Asks one node after another until the votes are enough for the wish, or, where it isn't to wait, until a
 /// node lets it wait; whether they are enough. 912: the nodes that granted and those that aren't gone are not
 /// enough.
-#[tactic(auto, using(crate::proofs::SentFacts::follows_none, crate::proofs::SentFacts::follows_on, crate::proofs::SentFacts::unless_on, crate::proofs::SentFacts::unless_follows, crate::proofs::NudgeFacts::book_has_none))]
+#[tactic(auto, using(actor_steps::proofs::SendingFacts::follows_none, actor_steps::proofs::SendingFacts::follows_on, crate::proofs::SentFacts::unless_on, crate::proofs::SentFacts::unless_follows, crate::proofs::NudgeFacts::book_has_none))]
 pub(crate) fn ask<W: Wait, R: Recorder, L: Link>(
     rt: &W,
     alloc: Global,

@@ -14,9 +14,9 @@ ghost use Rattle.event_recorders.specs.OwnLogs.{FindsItsOwn, part_now};
 use crate::progress::Progress;
 use actor_steps::{Keeping, keep_next, log_plain, rise_again};
 use client_core::{ClientCore, ClientFault};
+use event_lines::Wish;
 use event_recorders::laws::records_fit;
 use event_recorders::{Gate, Recorder, RunFault};
-use history_check::Wish;
 use lock_messages::Actor;
 use stable_record::{StableRecord, client_bytes, read_client};
 use std::sync::Wait;
@@ -96,7 +96,7 @@ fn rise_anew<R: Recorder>(
 
 /// Keeps the chosen attempt, with which the client then asks. Whether it was kept; where the record
 /// failed, the client has risen again.
-#[tactic(auto, using(crate::proofs::SentFacts::keeping_sends_nothing, crate::proofs::SentFacts::trying_sends_nothing, crate::proofs::SentFacts::tried_sends_nothing, crate::proofs::EndFacts::client_ends, crate::proofs::EndFacts::client_ends_on, actor_steps::proofs::EndFacts::failures_stay, actor_steps::proofs::EndFacts::failures_rise, actor_steps::proofs::EndFacts::failures_on, actor_steps::proofs::FindingFacts::part_own))]
+#[tactic(auto, using(actor_steps::proofs::SendingFacts::keeping_sends_nothing, actor_steps::proofs::SendingFacts::trying_sends_nothing, actor_steps::proofs::SendingFacts::tried_sends_nothing, crate::proofs::EndFacts::client_ends, crate::proofs::EndFacts::client_ends_on, actor_steps::proofs::EndFacts::failures_stay, actor_steps::proofs::EndFacts::failures_rise, actor_steps::proofs::EndFacts::failures_on, actor_steps::proofs::FindingFacts::part_own))]
 fn keep_chosen<R: Recorder, G: Gate>(
     core: &mut ClientCore,
     stable: &mut dyn StableRecord,

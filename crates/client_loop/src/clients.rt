@@ -15,8 +15,8 @@ ghost use Rattle.client_loop.specs.Visits.{visits_of, HasEntered, HasBegun, Soft
 use crate::progress::Progress;
 use crate::rising::rise;
 use crate::wishing::fulfil;
+use event_lines::{MAX_WISHES, Wish};
 use event_recorders::{Gate, Recorder, RunFault};
-use history_check::{MAX_WISHES, Wish};
 use lock_messages::{Actor, ClientId};
 use lossy_link::Link;
 use stable_record::StableRecord;
@@ -25,7 +25,7 @@ use std::sync::Wait;
 use vote_weights::BallotList;
 
 /// Fulfils the wishes in order.
-#[tactic(auto, using(crate::proofs::SentFacts::follows_on, crate::proofs::SentFacts::unless_on, crate::proofs::EndFacts::client_ends_on, crate::proofs::EndFacts::is_outside, actor_steps::proofs::EndFacts::failures_on, crate::proofs::FindingFacts::stands_own))]
+#[tactic(auto, using(actor_steps::proofs::SendingFacts::follows_on, crate::proofs::SentFacts::unless_on, crate::proofs::EndFacts::client_ends_on, crate::proofs::EndFacts::is_outside, actor_steps::proofs::EndFacts::failures_on, crate::proofs::FindingFacts::stands_own))]
 fn fulfil_all<W: Wait, R: Recorder, L: Link, G: Gate>(
     rt: &W,
     alloc: Global,
@@ -80,7 +80,7 @@ fn fulfil_all<W: Wait, R: Recorder, L: Link, G: Gate>(
 /// and each fault, to what that record answers afterwards.
 ///
 /// The caller owes what it owes `run_client`, and gets its errors.
-#[tactic(auto, using(crate::proofs::SentFacts::all_told, crate::proofs::SentFacts::told_unless, crate::proofs::SentFacts::told_nothing, actor_steps::proofs::EndFacts::failures_on, crate::proofs::BeginFacts::none_begun))]
+#[tactic(auto, using(actor_steps::proofs::SendingFacts::all_told, crate::proofs::SentFacts::told_unless, crate::proofs::SentFacts::told_nothing, actor_steps::proofs::EndFacts::failures_on, crate::proofs::BeginFacts::none_begun))]
 pub fn run_client_over<W: Wait, R: Recorder, L: Link, G: Gate>(
     rt: &W,
     alloc: Global,

@@ -21,7 +21,7 @@ use stable_record::StableRecord;
 use std::alloc::Global;
 
 /// Leaves, where the client asks, and says the release once to each node that was asked and isn't gone.
-#[tactic(auto, using(crate::proofs::SentFacts::follows_from, crate::proofs::SentFacts::unless_none, crate::proofs::SentFacts::unless_from, crate::proofs::EndFacts::is_outside, crate::proofs::FindingFacts::stands_own, crate::proofs::FindingFacts::stands_still))]
+#[tactic(auto, using(actor_steps::proofs::SendingFacts::follows_from, crate::proofs::SentFacts::unless_none, crate::proofs::SentFacts::unless_from, crate::proofs::EndFacts::is_outside, crate::proofs::FindingFacts::stands_own, crate::proofs::FindingFacts::stands_still))]
 fn give_up<R: Recorder, L: Link>(
     alloc: Global,
     progress: &mut Progress,

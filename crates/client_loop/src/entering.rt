@@ -21,8 +21,8 @@ use crate::leaving::leave;
 use crate::progress::{Patience, Progress};
 use actor_steps::log_plain;
 use client_core::ClientCore;
+use event_lines::Wish;
 use event_recorders::{Gate, Recorder, RunFault};
-use history_check::Wish;
 use lossy_link::Link;
 use stable_record::StableRecord;
 use std::alloc::Global;
@@ -81,7 +81,7 @@ fn take_back<W: Wait, R: Recorder, L: Link>(
 }
 
 /// Asks for what is wished and, once the votes are enough, logs the Enter; whether it did.
-#[tactic(auto, using(crate::proofs::SentFacts::follows_from, crate::proofs::SentFacts::follows_on, crate::proofs::SentFacts::follows_none, crate::proofs::SentFacts::unless_none, crate::proofs::SentFacts::unless_on, crate::proofs::BeginFacts::nothing_begun, crate::proofs::BeginFacts::nothing_after, crate::proofs::NudgeFacts::last_ended, crate::proofs::NudgeFacts::book_has_none, crate::proofs::FindingFacts::stands_own, crate::proofs::FindingFacts::stands_still))]
+#[tactic(auto, using(actor_steps::proofs::SendingFacts::follows_from, actor_steps::proofs::SendingFacts::follows_on, actor_steps::proofs::SendingFacts::follows_none, crate::proofs::SentFacts::unless_none, crate::proofs::SentFacts::unless_on, crate::proofs::BeginFacts::nothing_begun, crate::proofs::BeginFacts::nothing_after, crate::proofs::NudgeFacts::last_ended, crate::proofs::NudgeFacts::book_has_none, crate::proofs::FindingFacts::stands_own, crate::proofs::FindingFacts::stands_still))]
 fn ask_and_enter<W: Wait, R: Recorder, L: Link>(
     rt: &W,
     alloc: Global,
@@ -145,7 +145,7 @@ fn ask_and_enter<W: Wait, R: Recorder, L: Link>(
 /// release once to each asked node that isn't gone (that last is tested). Three reopens of the record failed in a row (911); memory
 /// was refused (914); the book is full or another's (915); no change of the record can be numbered any more,
 /// or no attempt is left (916).
-#[tactic(auto, using(crate::proofs::SentFacts::follows_from, crate::proofs::SentFacts::follows_on, crate::proofs::SentFacts::follows_none, crate::proofs::SentFacts::unless_none, crate::proofs::SentFacts::unless_on, crate::proofs::SentFacts::unless_from, crate::proofs::EndFacts::client_ends_on, crate::proofs::EndFacts::asking_ends, crate::proofs::EndFacts::book_ends, crate::proofs::EndFacts::failures_same, actor_steps::proofs::EndFacts::failures_on, crate::proofs::BeginFacts::begins_still, crate::proofs::BeginFacts::begins_no_more, crate::proofs::NudgeFacts::attempt_has_none))]
+#[tactic(auto, using(actor_steps::proofs::SendingFacts::follows_from, actor_steps::proofs::SendingFacts::follows_on, actor_steps::proofs::SendingFacts::follows_none, crate::proofs::SentFacts::unless_none, crate::proofs::SentFacts::unless_on, crate::proofs::SentFacts::unless_from, crate::proofs::EndFacts::client_ends_on, crate::proofs::EndFacts::asking_ends, crate::proofs::EndFacts::book_ends, crate::proofs::EndFacts::failures_same, actor_steps::proofs::EndFacts::failures_on, crate::proofs::BeginFacts::begins_still, crate::proofs::BeginFacts::begins_no_more, crate::proofs::NudgeFacts::attempt_has_none))]
 pub fn enter<W: Wait, R: Recorder, L: Link, G: Gate>(
     rt: &W,
     alloc: Global,

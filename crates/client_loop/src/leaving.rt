@@ -53,7 +53,7 @@ pub(crate) fn log_leave<R: Recorder>(
 ///
 /// The attempt had its last nudge (913), and then the client rests, and has said its release once more to each
 /// asked node that isn't gone (that last is tested); memory was refused (914), or the book is full or another's (915).
-#[tactic(auto, using(crate::proofs::SentFacts::follows_from, crate::proofs::SentFacts::unless_none, crate::proofs::SentFacts::unless_from, crate::proofs::BeginFacts::still_client, crate::proofs::NudgeFacts::last_ended, crate::proofs::FindingFacts::stands_own, crate::proofs::FindingFacts::left_still))]
+#[tactic(auto, using(actor_steps::proofs::SendingFacts::follows_from, crate::proofs::SentFacts::unless_none, crate::proofs::SentFacts::unless_from, crate::proofs::BeginFacts::still_client, crate::proofs::NudgeFacts::last_ended, crate::proofs::FindingFacts::stands_own, crate::proofs::FindingFacts::left_still))]
 pub fn leave<W: Wait, R: Recorder, L: Link>(
     rt: &W,
     alloc: Global,

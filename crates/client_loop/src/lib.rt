@@ -13,7 +13,7 @@
 //!
 //! It stands on `client_core` for what a client decides, `entry_guard` for being inside, `actor_steps`
 //! for the steps that nodes and clients share, `event_recorders`, `lossy_link`, `stable_record`,
-//! `history_check` for wishes, `world_model`, `vote_weights`, `lock_messages` and `lock_model`; the
+//! `event_lines` for wishes, `world_model`, `vote_weights`, `lock_messages` and `lock_model`; the
 //! definitions of `world_actors` tie a core to its part of the world.
 #![tactic(auto)]
 

@@ -53,7 +53,7 @@ fn take_parcel<R: Recorder>(
 /// Sends again to a node that nudges. A nudge of a node to which nothing was sent in the present wish is
 /// dropped; the last nudge of those that one wish may have ends it, and what is sent to a node that is
 /// gone goes nowhere.
-#[tactic(auto, using(crate::proofs::SentFacts::follows_none, crate::proofs::SentFacts::unless_none, crate::proofs::NudgeFacts::book_has_none))]
+#[tactic(auto, using(actor_steps::proofs::SendingFacts::follows_none, crate::proofs::SentFacts::unless_none, crate::proofs::NudgeFacts::book_has_none))]
 fn take_nudge<R: Recorder, L: Link>(
     alloc: Global,
     progress: &mut Progress,
@@ -93,7 +93,7 @@ fn take_nudge<R: Recorder, L: Link>(
 }
 
 /// Takes the next post. A link over which nothing comes any more has lost every node.
-#[tactic(auto, using(crate::proofs::SentFacts::follows_none, crate::proofs::SentFacts::unless_none, crate::proofs::NudgeFacts::book_has_none))]
+#[tactic(auto, using(actor_steps::proofs::SendingFacts::follows_none, crate::proofs::SentFacts::unless_none, crate::proofs::NudgeFacts::book_has_none))]
 pub(crate) fn take_post<R: Recorder, L: Link>(
     alloc: Global,
     progress: &mut Progress,

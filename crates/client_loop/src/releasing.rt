@@ -22,7 +22,7 @@ use std::alloc::Global;
 use std::sync::Wait;
 
 /// Says the release to each node that was asked and isn't gone.
-#[tactic(auto, using(crate::proofs::SentFacts::follows_none, crate::proofs::SentFacts::follows_on, crate::proofs::SentFacts::unless_on))]
+#[tactic(auto, using(actor_steps::proofs::SendingFacts::follows_none, actor_steps::proofs::SendingFacts::follows_on, crate::proofs::SentFacts::unless_on))]
 pub(crate) fn tell_releases<R: Recorder, L: Link>(
     alloc: Global,
     progress: &Progress,
@@ -50,7 +50,7 @@ pub(crate) fn tell_releases<R: Recorder, L: Link>(
 }
 
 /// Says the release to each node that was asked, until each has answered or is gone.
-#[tactic(auto, using(crate::proofs::SentFacts::follows_on, crate::proofs::SentFacts::unless_on, crate::proofs::NudgeFacts::book_has_none))]
+#[tactic(auto, using(actor_steps::proofs::SendingFacts::follows_on, crate::proofs::SentFacts::unless_on, crate::proofs::NudgeFacts::book_has_none))]
 pub(crate) fn release<W: Wait, R: Recorder, L: Link>(
     rt: &W,
     alloc: Global,

@@ -29,7 +29,7 @@ use vote_weights::NodeSet;
 use world_model::Event;
 
 /// Says to the node what the client has to say to it, where it is of the set.
-#[tactic(auto, using(crate::proofs::SentFacts::follows_none))]
+#[tactic(auto, using(actor_steps::proofs::SendingFacts::follows_none))]
 fn tell_if_granted<R: Recorder, L: Link>(
     alloc: Global,
     core: &ClientCore,
@@ -55,7 +55,7 @@ fn tell_if_granted<R: Recorder, L: Link>(
 }
 
 /// Says to each node of the set, once, that the client has softened.
-#[tactic(auto, using(crate::proofs::SentFacts::follows_none, crate::proofs::SentFacts::follows_on, crate::proofs::SentFacts::unless_on))]
+#[tactic(auto, using(actor_steps::proofs::SendingFacts::follows_none, actor_steps::proofs::SendingFacts::follows_on, crate::proofs::SentFacts::unless_on))]
 fn tell_granted<R: Recorder, L: Link>(
     alloc: Global,
     core: &ClientCore,

@@ -1,8 +1,8 @@
 // What a client says and hears.
 
-ghost use Rattle.std.specs.Prelude.{◌≡◌, ◌↔◌, ◌++◌, ◌∷◌, [], IsTrue, IfOk, IfSome, IfNone, OnOk, OnErr, IfErr};
+ghost use Rattle.std.specs.Prelude.{◌≡◌, ◌↔◌, ◌++◌, ◌∷◌, [], true, IsSome, IfOk, IfSome, IfNone, OnOk, OnErr, IfErr};
 ghost use Rattle.std.specs.Option.{option_map};
-ghost use Rattle.lock_messages.specs.Messages.{named_node};
+ghost use Rattle.lock_messages.specs.Messages.{is_for_client};
 ghost use Rattle.client_core.specs.Clients.{phase_of, ticket_of};
 ghost use Rattle.client_core.specs.Calls.{message_for};
 ghost use Rattle.client_loop.specs.Sendings.{sent_of, sending_to, SentFollows, SentUnlessMemory, Tells};
@@ -20,7 +20,7 @@ use lock_model::Heard;
 use lossy_link::{Link, Parcel};
 use stable_record::StableRecord;
 use std::alloc::Global;
-use world_model::{Effect, Event};
+use world_model::Event;
 
 /// Logs what the client has to say to the node, and answers it with its number; `None` where there is
 /// nothing: it says the request of its ticket while it asks, that it has softened while it is inside so, the
@@ -46,14 +46,11 @@ fn said<R: Recorder>(
         return Ok(None);
     };
     let said = log_plain(recorder, Event::SayTo(core.client(), node), stable)?;
-    let Effect::Sent(number, _) = said else {
-        unreachable!()
-    };
-    Ok(Some((number, message)))
+    Ok(Some((said.number(), message)))
 }
 
 /// Says to the node what the client has to say to it, if there is anything, and sends it.
-#[tactic(auto, using(crate::proofs::SentFacts::tell_follows, crate::proofs::SentFacts::follows_none, crate::proofs::SentFacts::unless_none, crate::proofs::SentFacts::unless_memory))]
+#[tactic(auto, using(crate::proofs::SentFacts::tell_follows, actor_steps::proofs::SendingFacts::follows_none, crate::proofs::SentFacts::unless_none, crate::proofs::SentFacts::unless_memory))]
 pub(crate) fn tell<R: Recorder, L: Link>(
     alloc: Global,
     core: &ClientCore,
@@ -86,41 +83,29 @@ pub(crate) fn tell<R: Recorder, L: Link>(
     Ok(())
 }
 
-/// The node that a message names.
-fn node_of(message: &Message) -> NodeId
-    ensures { result ≡ named_node message.now }
-{
-    match *message {
-        Message::Request(node, _) | Message::Grant(node, _) | Message::Busy(node, _) => node,
-        Message::Release(node, _, _)
-        | Message::Over(node, _, _)
-        | Message::Done(node, _, _)
-        | Message::Muddled(node, _, _)
-        | Message::Soften(node, _, _)
-        | Message::Softened(node, _, _) => node,
-    }
-}
-
-/// Whether the frame is a message for the client.
-fn is_for_client(frame: &[u8], client: ClientId) -> bool
-    ensures { IsTrue result ↔ IsFrameFor frame.now client }
+/// The message for the client that the frame is, if it is one.
+fn message_to(frame: &[u8], client: ClientId) -> Option<Message>
+    ensures frame { IsSome result ↔ IsFrameFor frame.now client }
+    ensures addressed { IfSome result (λ m. is_for_client m client ≡ true) }
 {
     match decode(frame) {
-        Ok(message) => message.is_for_client(client),
-        Err(_) => false,
+        Ok(message) if message.is_for_client(client) => Some(message),
+        _ => None,
     }
 }
 
-/// Hears the message that was sent under the number, and answers it with what the client made of it;
-/// `None` where no message was, or one to another actor.
-#[tactic(auto, using(crate::proofs::SentFacts::hear_sends_nothing))]
+/// Hears the message that came under the number, as the log has it, and returns it with what the client made of it.
+/// `None`: the log knows no message of the number to the client.
+#[tactic(auto, using(crate::proofs::SentFacts::read_sends_nothing))]
 fn heard<R: Recorder>(
     core: &mut ClientCore,
     number: u32,
+    message: &Message,
     stable: &dyn StableRecord,
     recorder: &mut R,
 ) -> Result<Option<(Message, Heard)>, RunFault>
-    requires { Stands (R.own_log recorder.old) (finds stable.now) core.old }
+    requires stands { Stands (R.own_log recorder.old) (finds stable.now) core.old }
+    requires addressed { is_for_client message.now core.old.client ≡ true }
     ensures heard { IfOk result (λ o. IfSome o (λ p. Hears number (R.own_log recorder.old) (R.own_log recorder.new) core.old core.new p.0 p.1)) }
     ensures dropped { IfOk result (λ o. IfNone o (HearsNothing (R.own_log recorder.old) (R.own_log recorder.new) core.old core.new)) }
     ensures refused { OnErr result (HearsNothing (R.own_log recorder.old) (R.own_log recorder.new) core.old core.new) }
@@ -132,14 +117,12 @@ fn heard<R: Recorder>(
     ensures falls { falls_of (R.own_log recorder.new) ≡ falls_of (R.own_log recorder.old) }
     ensures faults { IfErr result IsBookFault }
 {
-    let Some(done) = log_reading(recorder, Event::Hear(core.client(), number), stable)? else {
+    let event = Event::Hear(core.client(), number);
+    let Some(message) = log_reading(recorder, event, message, stable)? else {
         return Ok(None);
     };
-    let Effect::Heard(message, _) = done else {
-        unreachable!()
-    };
-    let message = &message;
-    Ok(Some((*message, core.hear(message))))
+    let heard = core.hear(&message);
+    Ok(Some((message, heard)))
 }
 
 /// Hears a parcel, and answers what the client made of its message, and of which node it was. A frame
@@ -163,11 +146,11 @@ pub(crate) fn hear<R: Recorder>(
     ensures falls { falls_of (R.own_log recorder.new) ≡ falls_of (R.own_log recorder.old) }
     ensures faults { IfErr result IsBookFault }
 {
-    if !is_for_client(&parcel.frame, core.client()) {
-        return Ok(None);
-    }
-    let Some((message, heard)) = heard(core, parcel.number, stable, recorder)? else {
+    let Some(message) = message_to(&parcel.frame, core.client()) else {
         return Ok(None);
     };
-    Ok(Some((node_of(&message), heard)))
+    let Some((message, heard)) = heard(core, parcel.number, &message, stable, recorder)? else {
+        return Ok(None);
+    };
+    Ok(Some((message.node(), heard)))
 }

@@ -16,8 +16,8 @@ use crate::entering::enter;
 use crate::leaving::leave;
 use crate::progress::{MAX_NUDGES, Patience, Progress};
 use crate::staying::stay;
+use event_lines::{MAX_WISHES, Wish};
 use event_recorders::{Gate, Recorder, RunFault};
-use history_check::{MAX_WISHES, Wish};
 use lossy_link::Link;
 use stable_record::StableRecord;
 use std::alloc::Global;
@@ -25,7 +25,7 @@ use std::sync::Wait;
 
 /// Fulfils the wish: enters, is inside by a guard for as long as the gate keeps it, and leaves. The entering is
 /// counted, also where the client ends by a fault after it. A wish may have `MAX_NUDGES` nudges.
-#[tactic(auto, using(crate::proofs::SentFacts::follows_from, crate::proofs::SentFacts::follows_on, crate::proofs::SentFacts::follows_none, crate::proofs::SentFacts::unless_none, crate::proofs::SentFacts::unless_on, crate::proofs::SentFacts::unless_from, crate::proofs::EndFacts::client_ends_on, crate::proofs::EndFacts::asking_ends, crate::proofs::EndFacts::book_ends, crate::proofs::EndFacts::failures_same, actor_steps::proofs::EndFacts::failures_on, crate::proofs::BeginFacts::begins_still, crate::proofs::BeginFacts::begins_no_more, crate::proofs::TallyFacts::adds_nothing, crate::proofs::TallyFacts::adds_use, crate::proofs::TallyFacts::adds_half, crate::proofs::NudgeFacts::book_has_none))]
+#[tactic(auto, using(actor_steps::proofs::SendingFacts::follows_from, actor_steps::proofs::SendingFacts::follows_on, actor_steps::proofs::SendingFacts::follows_none, crate::proofs::SentFacts::unless_none, crate::proofs::SentFacts::unless_on, crate::proofs::SentFacts::unless_from, crate::proofs::EndFacts::client_ends_on, crate::proofs::EndFacts::asking_ends, crate::proofs::EndFacts::book_ends, crate::proofs::EndFacts::failures_same, actor_steps::proofs::EndFacts::failures_on, crate::proofs::BeginFacts::begins_still, crate::proofs::BeginFacts::begins_no_more, crate::proofs::TallyFacts::adds_nothing, crate::proofs::TallyFacts::adds_use, crate::proofs::TallyFacts::adds_half, crate::proofs::NudgeFacts::book_has_none))]
 pub(crate) fn fulfil<W: Wait, R: Recorder, L: Link, G: Gate>(
     rt: &W,
     alloc: Global,

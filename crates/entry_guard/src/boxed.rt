@@ -26,6 +26,7 @@ pub struct Seen {
 ///
 /// The core left in its box as one does that is not boxed: it is idle after the same attempt, and has
 /// its release to say to each node of its ballot. The only error is want of memory for the box.
+/// It returns what is seen of the door and not the door: a call that made a box may not hand it out.
 pub fn enter_and_leave(alloc: Global, core: ClientCore) -> Result<Option<Seen>, AllocError>
     ensures entered { IfOk result (λ o. IsSome o ↔ MayEnter core) }
     ensures with { IfOk result (λ o. IfSome o (λ seen. client_ticket core ≡ Some seen.with)) }

@@ -40,6 +40,8 @@ impl<'a, D: Door> EntryGuard<'a, D> {
     }
 
     /// The guard, where the door may enter; else the door back, unchanged.
+    /// The checker proves by itself that the door rests at None only if the door's type is a named struct. For a type
+    /// parameter a proof of the walk stands in its place (proofs/), over this call, which hands the door back.
     fn guard_or_door(door: &'a mut D) -> (Option<EntryGuard<'a, D>>, Option<&'a mut D>)
         ensures entered { IsSome result.0 ↔ D.can_enter door.old }
         ensures same_door { IfSome result.0 (λ guard. lender_of guard ≡ door.entry.ghost_name) }

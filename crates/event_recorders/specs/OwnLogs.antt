@@ -1,23 +1,22 @@
 -- An actor's own log, and what it means that the actor's record finds what the actor has kept.
-use Rattle.std.specs.Prelude.{◌≡◌, ◌⊎◌, ℕ, Bool, true, false, List, [], ◌∷◌, ◌++◌, Option, Some, None}
+use Rattle.std.specs.Prelude.{◌≡◌, ◌⊎◌, ℕ, Bool, true, List, [], ◌∷◌, ◌++◌, ◌||◌, Option, Some, None}
 use Rattle.std.specs.Option.{option_map}
 use Rattle.lock_messages.specs.declared.ids.Actor.{Actor}
 use Rattle.lock_messages.specs.declared.ids.Actor.TheVariants as actor
 use Rattle.lock_model.specs.Ballots.{Ballot}
 use Rattle.lock_model.specs.Decisions.{Among}
-use Rattle.stable_record.specs.Records.{client_record_of}
+use Rattle.stable_record.specs.Records.{client_record_of, record_bytes}
 use Rattle.world_model.specs.declared.events.Effect.{Effect}
 use Rattle.world_model.specs.declared.events.Event.{Event}
-use Rattle.world_model.specs.declared.events.Event.TheVariants as event
 use Rattle.world_model.specs.declared.events.StepFault.{StepFault}
 use Rattle.world_model.specs.declared.events.StepFault.TheVariants as fault
 use Rattle.world_model.specs.declared.exact.ExactNodePhase.TheVariants as node
 use Rattle.world_model.specs.declared.exact.ExactClientPhase.TheVariants as client
+use Rattle.world_model.specs.Kinds.{kind_of, is_keeping, is_reading, is_rising}
 use Rattle.world_model.specs.Locality.{local_part, IsEffectOf}
 use Rattle.world_model.specs.Parts.{Part, NoPart, NodePart, ClientPart, after_own}
-use Rattle.world_machine.specs.Listing.{station_bytes}
-use Rattle.history_book.specs.declared.faults.BookFault.{BookFault}
-use Rattle.history_book.specs.declared.faults.BookFault.TheVariants as book
+use Rattle.event_recorders.specs.declared.log_faults.LogFault.{LogFault}
+use Rattle.event_recorders.specs.declared.log_faults.LogFault.TheVariants as book
 
 -- An actor's own log: the actor; the ballots, and the actor's part of the world, as the log was opened;
 -- and the actor's events since then, each with its effect.
@@ -60,12 +59,12 @@ FindsKept kept (Some tried) strings = (found : List ℕ) → Among found strings
 -- the record of what an actor has kept, and of what it is trying to keep
 abbrev pub kept_in : Part → List ℕ
 kept_in NoPart = []
-kept_in (NodePart v) = station_bytes v.kept
+kept_in (NodePart v) = record_bytes v.kept.problem v.kept.entries
 kept_in (ClientPart k) = client_record_of k.kept
 
 abbrev pub tried_in : Part → Option (List ℕ)
 tried_in NoPart = None
-tried_in (NodePart v) = option_map station_bytes v.tried
+tried_in (NodePart v) = option_map (λ s. record_bytes s.problem s.entries) v.tried
 tried_in (ClientPart k) = option_map client_record_of k.tried
 
 -- a restart may find this of the actor's record
@@ -82,24 +81,16 @@ pub record FindsItsOwn (p : Part) (strings : List (List ℕ)) : Type 0 where
 abbrev pub FindsAfter : OwnLog → Event → List (List ℕ) → Type 0
 FindsAfter l e strings = (done : Effect) → IsEffectOf e done → FindsPart (after_own l.ballots e done (part_now l)) strings
 
+-- the events that read a message
+abbrev pub reads : Event → Bool
+reads e = is_reading (kind_of e)
+
 -- no message of the number was sent, or it is for another actor
 abbrev pub IsUnread : Event → StepFault → Type 0
-IsUnread (event.Take n k) f = (f ≡ fault.NoSuchMessage) ⊎ (f ≡ fault.NotAddressed)
-IsUnread (event.Hear c k) f = (f ≡ fault.NoSuchMessage) ⊎ (f ≡ fault.NotAddressed)
-IsUnread (event.Begin c m x place) f = ⊥
-IsUnread (event.Try who) f = ⊥
-IsUnread (event.Kept who) f = ⊥
-IsUnread (event.SayTo c n) f = ⊥
-IsUnread (event.Say n) f = ⊥
-IsUnread (event.Enter c) f = ⊥
-IsUnread (event.Leave c) f = ⊥
-IsUnread (event.Soften c) f = ⊥
-IsUnread (event.Fall who) f = ⊥
-IsUnread (event.Rise who age) f = ⊥
-IsUnread (event.Switch n p) f = ⊥
+IsUnread e f = (reads e ≡ true) × ((f ≡ fault.NoSuchMessage) ⊎ (f ≡ fault.NotAddressed))
 
 -- why a recorder may refuse an event that its own log allows
-abbrev pub IsRecorderFault : Event → BookFault → Type 0
+abbrev pub IsRecorderFault : Event → LogFault → Type 0
 IsRecorderFault e (book.NotAStep f) = IsUnread e f
 IsRecorderFault e book.Full = Unit {0}
 IsRecorderFault e book.Memory = Unit {0}
@@ -121,34 +112,6 @@ pub record IsUnused (l : OwnLog) (who : Actor) : Type 0 where
   pub events : l.events ≡ []
   pub down : IsDownAtRest who l.opening
 
--- the events that read a message
-abbrev pub reads : Event → Bool
-reads (event.Take n k) = true
-reads (event.Hear c k) = true
-reads (event.Begin c m x place) = false
-reads (event.Try who) = false
-reads (event.Kept who) = false
-reads (event.SayTo c n) = false
-reads (event.Say n) = false
-reads (event.Enter c) = false
-reads (event.Leave c) = false
-reads (event.Soften c) = false
-reads (event.Fall who) = false
-reads (event.Rise who age) = false
-reads (event.Switch n p) = false
-
 -- the events that change what an actor keeps or tries to keep
 abbrev pub changes_record : Event → Bool
-changes_record (event.Try who) = true
-changes_record (event.Kept who) = true
-changes_record (event.Rise who age) = true
-changes_record (event.Begin c m x place) = false
-changes_record (event.SayTo c n) = false
-changes_record (event.Say n) = false
-changes_record (event.Take n k) = false
-changes_record (event.Hear c k) = false
-changes_record (event.Enter c) = false
-changes_record (event.Leave c) = false
-changes_record (event.Soften c) = false
-changes_record (event.Fall who) = false
-changes_record (event.Switch n p) = false
+changes_record e = is_keeping (kind_of e) || is_rising (kind_of e)

@@ -1,7 +1,7 @@
 // What is called beside the work.
 
 ghost use Rattle.std.specs.Prelude.{◌≡◌, Some};
-ghost use Rattle.history_book.specs.Books.{inside_ticket};
+ghost use Rattle.world_model.specs.Staying.{inside_ticket};
 ghost use Rattle.entry_guard.specs.Guards.{guard_ticket};
 ghost use Rattle.event_recorders.specs.OwnLogs.{part_now};
 

@@ -1,31 +1,30 @@
 -- What contracts see of a book and of a berth.
-use Rattle.std.specs.Prelude.{◌≡◌, ◌≢◌, ◌↔◌, ◌⊎◌, ℕ, ◌+◌, ◌<◌, ◌≤◌, Bool, true, false, IsTrue, List, [], ◌∷◌, ◌++◌, length, Option, Some, None, Err, not, ◌&&◌, ◌==◌}
-use Rattle.std.specs.Str.{bytes_eq}
+use Rattle.std.specs.Prelude.{◌≡◌, ◌≢◌, ◌↔◌, ◌⊎◌, ℕ, ◌+◌, ◌<◌, ◌≤◌, Bool, true, false, IsTrue, List, [], ◌∷◌, ◌++◌, length, Option, Some, None, Err, if◌then◌else◌}
 use mathlib.Core.List.{IsPrefix}
 use Rattle.berth_seats.specs.declared.views.BookView.{BookView}
 use Rattle.berth_seats.specs.Views.{TableId, is_given}
 use Rattle.lock_messages.specs.declared.ids.Actor.{Actor}
 use Rattle.lock_messages.specs.declared.ids.Actor.TheVariants as actor
 use Rattle.lock_messages.specs.declared.tickets.Mode.{Mode}
-use Rattle.lock_messages.specs.declared.tickets.Mode.TheVariants.{Read}
 use Rattle.lock_messages.specs.declared.tickets.Ticket.{Ticket}
 use Rattle.world_model.specs.declared.events.Effect.{Effect}
 use Rattle.world_model.specs.declared.events.Event.{Event}
-use Rattle.world_model.specs.declared.events.Event.TheVariants as event
 use Rattle.world_model.specs.declared.events.StepFault.{StepFault}
 use Rattle.world_model.specs.declared.events.StepFault.TheVariants as fault
 use Rattle.world_model.specs.declared.exact.ExactWorld.{ExactWorld}
 use Rattle.world_model.specs.ExactWorlds.{step}
 use Rattle.world_model.specs.Forgetting.{forget, IsSound}
+use Rattle.world_model.specs.Kinds.{kind_of, is_entering}
 use Rattle.world_model.specs.Laws.{Takes}
 use Rattle.world_model.specs.Locality.{own_events, local_part, IsHistory, IsLocalRefusal}
 use Rattle.world_model.specs.Parts.{is_own, Part, part, own_refusal}
+pub use Rattle.world_model.specs.Company.{are_together, Reads}
 pub use Rattle.world_model.specs.Staying.{inside_ticket}
 use Rattle.world_model.specs.Worlds.{World, IsInside}
 use Rattle.world_machine.specs.Listing.{IsInsideBy}
 use Rattle.history_book.specs.declared.books.TheConstants.{MAX_EVENTS}
-use Rattle.history_book.specs.declared.faults.BookFault.{BookFault}
-use Rattle.history_book.specs.declared.faults.BookFault.TheVariants as bf
+use Rattle.event_recorders.specs.declared.log_faults.LogFault.{LogFault}
+use Rattle.event_recorders.specs.declared.log_faults.LogFault.TheVariants as bf
 
 -- A book: its number, the table that ties its berths, the world that it was opened with, its history, the
 -- actors that were given a berth, and the world as it is now.
@@ -125,7 +124,7 @@ abbrev pub IsFull : List (Event × Effect) → ExactWorld → Event → Type 0
 IsFull history w e = (length history ≡ MAX_EVENTS) ⊎ (step w e ≡ Err fault.SentListFull)
 
 -- what comes of a fault of the world's step
-abbrev pub IsRefusedBy : BookFault → BookValue → BerthValue → Event → BookValue → BerthValue → Type 0
+abbrev pub IsRefusedBy : LogFault → BookValue → BerthValue → Event → BookValue → BerthValue → Type 0
 IsRefusedBy bf.OtherBook b k e b' k' = ⊥
 IsRefusedBy bf.OtherActor b k e b' k' = ⊥
 IsRefusedBy bf.Full b k e b' k' = (step b.world e ≡ Err fault.SentListFull) × Known b k × IsSame b k b' k'
@@ -133,7 +132,7 @@ IsRefusedBy bf.Memory b k e b' k' = IsSame b k b' k'
 IsRefusedBy (bf.NotAStep f) b k e b' k' = IsNoStep f b k e b' k'
 
 -- why an event was not logged, in the order in which it is asked
-abbrev pub IsRefused : BookFault → BookValue → BerthValue → Event → BookValue → BerthValue → Type 0
+abbrev pub IsRefused : LogFault → BookValue → BerthValue → Event → BookValue → BerthValue → Type 0
 IsRefused bf.OtherBook b k e b' k' = (k.number ≢ b.number) × IsSame b k b' k'
 IsRefused bf.OtherActor b k e b' k' = (k.number ≡ b.number) × (is_own k.actor e ≡ false) × IsSame b k b' k'
 IsRefused bf.Full b k e b' k' = MayLog b k e × IsFull b.history b.world e × Known b k × IsSame b k b' k'
@@ -142,19 +141,7 @@ IsRefused (bf.NotAStep f) b k e b' k' = MayLog b k e × (length b.history < MAX_
 
 -- 1 for an Enter, else 0
 abbrev pub enters_by : Event → ℕ
-enters_by (event.Enter c) = 1
-enters_by (event.Begin c m x place) = 0
-enters_by (event.Try who) = 0
-enters_by (event.Kept who) = 0
-enters_by (event.SayTo c n) = 0
-enters_by (event.Say n) = 0
-enters_by (event.Take n k) = 0
-enters_by (event.Hear c k) = 0
-enters_by (event.Leave c) = 0
-enters_by (event.Soften c) = 0
-enters_by (event.Fall who) = 0
-enters_by (event.Rise who age) = 0
-enters_by (event.Switch n p) = 0
+enters_by e = if is_entering (kind_of e) then 1 else 0
 
 -- how many Enters a history has
 abbrev pub enters : List (Event × Effect) → ℕ
@@ -190,21 +177,10 @@ pub record IsGiven (who : Actor) (b : BookValue) (k : BerthValue) (b' : BookValu
   pub own : own_of k ≡ []
   pub book : b' ≡ record { number = b.number; table = b.table; opening = b.opening; history = b.history; given = b.given ++ who ∷ []; world = b.world }
 
--- two tickets, of two clients, for one resource
-abbrev pub are_together : Option Ticket → Option Ticket → Bool
-are_together None u = false
-are_together (Some t) None = false
-are_together (Some t) (Some u) = not (t.client == u.client) && bytes_eq t.resource u.resource
-
 -- a ticket, if there is one, is the actor's own: the actor is the client that it names
 abbrev pub IsOwnTicket : Actor → Option Ticket → Type 0
 IsOwnTicket who None = Unit {0}
 IsOwnTicket who (Some t) = who ≡ actor.Client t.client
-
--- a ticket, if there is one, is a reader's
-abbrev pub Reads : Option Ticket → Type 0
-Reads None = Unit {0}
-Reads (Some t) = t.mode ≡ Read
 
 -- a ticket was found exactly where the actor is a client that is inside
 abbrev pub IsInsideAs : World → Actor → Option Ticket → Type 0

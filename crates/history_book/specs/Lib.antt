@@ -1,4 +1,3 @@
-pub mod Faults
 pub mod Books
 pub mod Inside
 pub mod Laws

@@ -14,7 +14,7 @@ ghost use Rattle.berth_seats.specs.Views.{is_given};
 ghost use Rattle.journal_text.specs.Journals.{history_text, IsRecorded};
 ghost use Rattle.line_streams.specs.Streams.{Puts};
 
-use crate::faults::BookFault;
+use crate::BookFault;
 use crate::meeting::are_inside_together;
 use crate::owners::{enters_by, has_given, is_of};
 use berth_seats::{BerthSeat, BookSeat, OpenedWith};
@@ -187,6 +187,7 @@ impl Book {
     ///
     /// The only error is that the berth has another book's number (815), which changes nothing. The
     /// caller owes that a berth of this number is this book's own.
+    /// It logs nothing, so that a program may compare what it has seen with the history.
     pub fn observe(&mut self, berth: &mut Berth) -> Result<(), BookFault>
         requires { berth.old.number ≡ self.old.number → berth.old.table ≡ self.old.table }
         ensures book { self.new ≡ self.old }
@@ -229,6 +230,8 @@ impl Book {
         }
         if self.history.len() >= MAX_EVENTS {
             self.tie(berth);
+            // A full book is found with the berth's seat aboard, though nothing is logged: only a tied berth shows the history of
+            // a book under a lock. The step changes nothing, and is taken only in the refusal.
             return Err(BookFault::Full);
         }
         if self.history.reserve(1).is_err() {

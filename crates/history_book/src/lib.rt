@@ -6,16 +6,15 @@
 //! the history has of a berth's actor just what was logged by that berth, whatever others log between;
 //! and so that an actor's part of the world, and what is refused to it, is told by its own events. The
 //! module `laws` says what that means for a client inside: it is inside until its own Leave or Fall. It
-//! stands on `world_machine`, `berth_seats`, `journal_text` for the journal, `line_streams`,
-//! `world_model`, `lock_model`, `lock_messages`, `vote_weights` and `thiserror`.
+//! stands on `world_machine`, `berth_seats`, `event_recorders` for the faults of logs, `journal_text` for the
+//! journal, `line_streams`, `world_model`, `lock_model`, `lock_messages` and `vote_weights`.
 #![tactic(auto)]
 
 mod books;
-mod faults;
 pub mod laws;
 mod meeting;
 mod owners;
 
 pub use books::{Berth, Book, MAX_EVENTS};
-pub use faults::BookFault;
+pub use event_recorders::LogFault as BookFault;
 pub use journal_text::JournalFault;

@@ -13,9 +13,9 @@ use Rattle.world_model.specs.declared.exact.ExactWorld.{ExactWorld}
 use Rattle.world_model.specs.ExactWorlds.{Steps, step, refusal_of}
 use Rattle.world_model.specs.Locality.{MemoryIsNoRefusal}
 use Rattle.world_model.specs.StepsOf.{Does, IsRefused, asks_for_memory}
-use Rattle.history_check.specs.declared.words.TheConstants.{MAX_LINE_LEN}
-use Rattle.history_check.specs.Events.{event_of}
-use Rattle.history_check.specs.Laws.{EventsAreSpelledOnce}
+use Rattle.event_lines.specs.declared.words.TheConstants.{MAX_LINE_LEN}
+use Rattle.event_lines.specs.Events.{event_of}
+use Rattle.event_lines.specs.Laws.{EventsAreSpelledOnce}
 use Rattle.line_streams.specs.declared.reading.End.{End}
 use Rattle.line_streams.specs.declared.reading.End.TheVariants.{LineFeed, Input, Limit}
 use Rattle.line_streams.specs.Streams.{is_last, ends_no_line, IsPlain, HasMore, ReadsPiece, TakesLine, FitsLimit, feed_of, fed_lines}

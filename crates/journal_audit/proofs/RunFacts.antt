@@ -6,7 +6,7 @@ use Rattle.world_model.specs.declared.events.Effect.{Effect}
 use Rattle.world_model.specs.declared.exact.ExactWorld.{ExactWorld}
 use Rattle.world_model.specs.ExactWorlds.{Ran, one_more, ran_on, ran, step}
 use Rattle.world_model.specs.StepsOf.{took}
-use Rattle.history_check.specs.Events.{IsSpelling, AreJournal}
+use Rattle.event_lines.specs.Events.{IsSpelling, AreJournal}
 use Rattle.journal_audit.specs.Verdicts.{Leads}
 use Rattle.world_machine.proofs.RunFacts.{ran-snoc}
 

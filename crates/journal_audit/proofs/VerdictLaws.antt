@@ -5,9 +5,9 @@ use Rattle.world_model.specs.declared.events.Event.{Event}
 use Rattle.world_model.specs.declared.exact.ExactWorld.{ExactWorld}
 use Rattle.world_model.specs.ExactWorlds.{Steps, ran_on, ran, step}
 use Rattle.world_model.specs.StepsOf.{took}
-use Rattle.history_check.specs.declared.faults.LineFault.{LineFault}
-use Rattle.history_check.specs.Events.{event_of, IsSpelling, AreJournal}
-use Rattle.history_check.specs.Laws.{EventsAreSpelledOnce}
+use Rattle.event_lines.specs.declared.faults.LineFault.{LineFault}
+use Rattle.event_lines.specs.Events.{event_of, IsSpelling, AreJournal}
+use Rattle.event_lines.specs.Laws.{EventsAreSpelledOnce}
 use Rattle.journal_audit.specs.declared.verdicts.Cause.{Cause}
 use Rattle.journal_audit.specs.declared.verdicts.Cause.TheVariants as cause
 use Rattle.journal_audit.specs.declared.verdicts.Verdict.{Verdict}

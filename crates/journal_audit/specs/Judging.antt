@@ -2,7 +2,7 @@
 -- what `audit` promises has no need of them.
 use Rattle.std.specs.Prelude.{◌≡◌, ℕ, ◌≤◌, List, [], ◌∷◌, ◌++◌, length, Option, Some, None, Result, Ok, Err}
 use Rattle.std.specs.Io.KnownBytes.{Consumes}
-use Rattle.history_check.specs.declared.words.TheConstants.{MAX_LINE_LEN}
+use Rattle.event_lines.specs.declared.words.TheConstants.{MAX_LINE_LEN}
 use Rattle.line_streams.specs.declared.reading.End.{End}
 use Rattle.line_streams.specs.Streams.{IsPlain, HasMore, feed_of}
 use Rattle.journal_audit.specs.declared.faults.AuditFault.{AuditFault}

@@ -6,8 +6,8 @@ use Rattle.world_model.specs.declared.events.Event.{Event}
 use Rattle.world_model.specs.declared.exact.ExactWorld.{ExactWorld}
 use Rattle.world_model.specs.ExactWorlds.{step}
 use Rattle.world_model.specs.StepsOf.{asks_for_memory}
-use Rattle.history_check.specs.Events.{IsSpelling}
-use Rattle.history_check.specs.declared.words.TheConstants.{MAX_LINE_LEN}
+use Rattle.event_lines.specs.Events.{IsSpelling}
+use Rattle.event_lines.specs.declared.words.TheConstants.{MAX_LINE_LEN}
 use Rattle.line_streams.specs.declared.reading.End.{End}
 use Rattle.line_streams.specs.declared.reading.End.TheVariants.{LineFeed, Input, Limit}
 use Rattle.line_streams.specs.Streams.{IsPlain, KnownLeft, HasMore, feed_of, fed_lines}

@@ -6,9 +6,9 @@ use Rattle.world_model.specs.declared.exact.ExactWorld.{ExactWorld}
 use Rattle.world_model.specs.ExactWorlds.{Steps, step, ran}
 use Rattle.world_model.specs.Faults.{fault_number}
 use Rattle.world_model.specs.StepsOf.{took}
-use Rattle.history_check.specs.declared.faults.LineFault.{LineFault}
-use Rattle.history_check.specs.Events.{event_of, IsSpelling, AreJournal}
-use Rattle.history_check.specs.Faults.{line_fault_number}
+use Rattle.event_lines.specs.declared.faults.LineFault.{LineFault}
+use Rattle.event_lines.specs.Events.{event_of, IsSpelling, AreJournal}
+use Rattle.event_lines.specs.Faults.{line_fault_number}
 use Rattle.line_streams.specs.Streams.{pieces, lines_in}
 use Rattle.journal_audit.specs.declared.faults.AuditFault.{AuditFault}
 use Rattle.journal_audit.specs.declared.faults.AuditFault.TheVariants as fault

@@ -8,7 +8,7 @@ ghost use Rattle.journal_audit.specs.Verdicts.{Finds};
 use crate::judging::judge_lines;
 use crate::telling::tell_verdict;
 use crate::{AuditFault, Verdict};
-use history_check::laws::events_are_spelled_once;
+use event_lines::laws::events_are_spelled_once;
 use line_streams::{LineReader, MAX_READS};
 use std::alloc::Global;
 use std::io::{Read, Write};

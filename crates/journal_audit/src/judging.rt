@@ -1,15 +1,15 @@
 // The lines of a journal, one after another.
 
 ghost use Rattle.std.specs.Prelude.{◌≡◌, ◌≢◌, [], IfOk, IfErr, OnErr};
-ghost use Rattle.history_check.specs.declared.words.TheConstants.{MAX_LINE_LEN};
+ghost use Rattle.event_lines.specs.declared.words.TheConstants.{MAX_LINE_LEN};
 ghost use Rattle.line_streams.specs.Streams.{ReadsPiece, TakesLine, FitsLimit, HasMore};
 ghost use Rattle.journal_audit.specs.Judging.{CutsShort, EndsLines, TakesLast};
 ghost use Rattle.journal_audit.specs.Leavings.{Leaves};
 ghost use Rattle.journal_audit.specs.Verdicts.{Finds};
 
 use crate::{AuditFault, Cause, MAX_LINES, Verdict};
-use history_check::laws::events_are_spelled_once;
-use history_check::{MAX_LINE_LEN, read_event};
+use event_lines::laws::events_are_spelled_once;
+use event_lines::{MAX_LINE_LEN, read_event};
 use line_streams::{End, LineReader, StreamFault};
 use std::alloc::Global;
 use std::io::Read;

@@ -4,7 +4,7 @@ ghost use Rattle.std.specs.Prelude.{◌≡◌};
 ghost use Rattle.journal_audit.specs.Verdicts.{VerdictsAreExact};
 
 use crate::MAX_LINES;
-use history_check::laws::events_are_spelled_once;
+use event_lines::laws::events_are_spelled_once;
 
 /// Of any world and any lines just one verdict is right, and it is the one that is computed line by
 /// line.

@@ -15,7 +15,7 @@
 //! does, `refused` says what is found where the world refuses it, `end_lines` where there may be no more,
 //! and `tell_verdict` writes the verdict's line. `Judging` in `specs/` has their words.
 //!
-//! It stands on `history_check` for lines, `line_streams`, `world_machine`, `world_model`, `itoa`,
+//! It stands on `event_lines` for lines, `line_streams`, `world_machine`, `world_model`, `itoa`,
 //! `arrayvec` and `thiserror`.
 #![tactic(auto)]
 

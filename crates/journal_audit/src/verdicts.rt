@@ -1,6 +1,6 @@
 // What an audit finds.
 
-use history_check::LineFault;
+use event_lines::LineFault;
 use world_model::StepFault;
 
 /// The most lines that a journal has.

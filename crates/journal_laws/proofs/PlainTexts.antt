@@ -5,11 +5,11 @@ use Rattle.std.proofs.lemmas.List.Splits.{slice_split_at}
 use Rattle.world_model.specs.declared.events.Effect.{Effect}
 use Rattle.world_model.specs.declared.events.Event.{Event}
 use Rattle.world_model.specs.declared.events.Event.TheVariants as event
-use Rattle.history_check.specs.declared.commands.Command.{Command}
-use Rattle.history_check.specs.declared.commands.Command.TheVariants as command
-use Rattle.history_check.specs.Lines.{Arguments, kinds_of, parts_text, AreValues}
-use Rattle.history_check.specs.Events.{event_text, IsEventInRange}
-use Rattle.history_check.proofs.WordBytes.{IsOutside, lacks_parts}
+use Rattle.event_lines.specs.declared.commands.Command.{Command}
+use Rattle.event_lines.specs.declared.commands.Command.TheVariants as command
+use Rattle.event_lines.specs.Lines.{Arguments, kinds_of, parts_text, AreValues}
+use Rattle.event_lines.specs.Events.{event_text, IsEventInRange}
+use Rattle.event_lines.proofs.WordBytes.{IsOutside, lacks_parts}
 use Rattle.line_streams.specs.Streams.{is_line_feed, lines_in, IsPlain}
 use Rattle.line_streams.proofs.LineFacts.{line_then_bytes}
 use Rattle.journal_text.specs.Journals.{history_text}

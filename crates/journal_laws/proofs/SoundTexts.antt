@@ -15,8 +15,8 @@ use Rattle.world_model.specs.Parts.{message_of}
 use Rattle.world_model.specs.StepsOf.{took}
 use Rattle.world_model.specs.Worlds.{Client, Setting, Begins, begins}
 use Rattle.world_model.specs.Numbered.{numbered-one}
-use Rattle.history_check.specs.Lines.{IsPlace}
-use Rattle.history_check.specs.Events.{event_text, IsEventInRange, AreJournal}
+use Rattle.event_lines.specs.Lines.{IsPlace}
+use Rattle.event_lines.specs.Events.{event_text, IsEventInRange, AreJournal}
 use Rattle.journal_text.specs.Journals.{history_text, IsWellNamed, AreWellNamed, HasFewBallots, IsRecorded}
 use Rattle.journal_audit.specs.declared.faults.AuditFault.{AuditFault}
 use Rattle.journal_audit.specs.declared.faults.AuditFault.TheVariants as fault

@@ -7,9 +7,9 @@ use Rattle.world_model.specs.declared.events.StepFault.TheVariants as refusal
 use Rattle.world_model.specs.declared.exact.ExactWorld.{ExactWorld}
 use Rattle.world_model.specs.ExactWorlds.{Steps, step, after, world_after}
 use Rattle.world_model.specs.StepsOf.{Does}
-use Rattle.history_check.specs.declared.faults.LineFault.{LineFault}
-use Rattle.history_check.specs.declared.words.TheConstants.{MAX_LINE_LEN}
-use Rattle.history_check.specs.Events.{event_of}
+use Rattle.event_lines.specs.declared.faults.LineFault.{LineFault}
+use Rattle.event_lines.specs.declared.words.TheConstants.{MAX_LINE_LEN}
+use Rattle.event_lines.specs.Events.{event_of}
 use Rattle.line_streams.specs.declared.reading.End.{End}
 use Rattle.line_streams.specs.declared.reading.End.TheVariants.{LineFeed, Input, Limit}
 use Rattle.line_streams.specs.Streams.{is_last, ends_no_line, KnownLeft, ReadsPiece}

@@ -8,8 +8,8 @@ ghost use Rattle.journal_picture.specs.Drawings.{found, found_beside, DrawsHisto
 
 use crate::Canvas;
 use crate::ending::{Drawing, draw_end, draw_step};
-use history_check::laws::events_are_spelled_once;
-use history_check::{MAX_LINE_LEN, read_event};
+use event_lines::laws::events_are_spelled_once;
+use event_lines::{MAX_LINE_LEN, read_event};
 use journal_audit::{AuditFault, Cause, MAX_LINES, Verdict, end_lines, read_piece, refused};
 use line_streams::LineReader;
 use run_picture::{Drawer, Lasting, Part};

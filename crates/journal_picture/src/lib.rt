@@ -10,7 +10,7 @@
 //! end. `Drawings` in `specs/` says so. What is left of the input is what an audit leaves that finds the same. Of a
 //! picture that a fault cut short it promises no more than that the fault is right, if it is 819.
 //!
-//! It stands on `journal_audit` for verdicts and for how lines are read, `history_check` for lines, `line_streams`,
+//! It stands on `journal_audit` for verdicts and for how lines are read, `event_lines` for lines, `line_streams`,
 //! `run_picture`, `stable_record` for what a node has kept, `world_machine`, `world_model`, `lock_model`,
 //! `lock_messages` and `thiserror`.
 #![tactic(auto)]

@@ -7,7 +7,7 @@ use Rattle.std.proofs.KnownBytes.{Appends-nil, Appends-trans}
 use Rattle.world_model.specs.declared.events.Effect.{Effect}
 use Rattle.world_model.specs.declared.events.Event.{Event}
 use Rattle.line_streams.specs.Streams.{AppendsPart, Grows, LetsOut, with_gathered}
-use Rattle.history_check.specs.Events.{event_text}
+use Rattle.event_lines.specs.Events.{event_text}
 use Rattle.journal_text.specs.Journals.{event_line, history_text, IsWellNamed, AreWellNamed}
 
 -- a part of a part is one of the whole

@@ -11,8 +11,8 @@ use Rattle.world_model.specs.declared.events.Event.TheVariants as event
 use Rattle.world_model.specs.declared.exact.ExactWorld.{ExactWorld}
 use Rattle.world_model.specs.Forgetting.{IsSound}
 use Rattle.world_model.specs.Locality.{IsHistory}
-use Rattle.history_check.specs.Lines.{IsActor}
-use Rattle.history_check.specs.Events.{event_text}
+use Rattle.event_lines.specs.Lines.{IsActor}
+use Rattle.event_lines.specs.Events.{event_text}
 
 -- the line of an event, with its line feed
 abbrev pub event_line : Event → List ℕ
@@ -28,6 +28,7 @@ AppendsLines old new history = (count : ℕ) × Appends old new (history_text (t
 
 -- The nodes, the clients and the resource that an event names may be some. (That the place of a ballot may
 -- be one is told by the world that took the event.)
+-- (The run says that the number of a message is one that messages may have.)
 abbrev pub IsWellNamed : Event → Type 0
 IsWellNamed (event.Begin c m x place) = IsClient c × IsName x
 IsWellNamed (event.Try who) = IsActor who

@@ -4,7 +4,7 @@
 //! of it that isn't all. It gathers lines before it writes, and asks for memory for one line at a time. `Journals` in
 //! `specs/` has the words. That an audit finds such a text sound is said by `journal_laws`.
 //!
-//! It stands on `history_check` for the lines, `line_streams`, `lock_messages`, `vote_weights` for how many
+//! It stands on `event_lines` for the lines, `line_streams`, `lock_messages`, `vote_weights` for how many
 //! ballots there may be, `world_model` and `thiserror`.
 #![tactic(auto)]
 

@@ -1,6 +1,6 @@
 // What an event names: numbers and names that there may be, since each id and each name is one.
 
-ghost use Rattle.history_check.specs.Lines.{IsActor};
+ghost use Rattle.event_lines.specs.Lines.{IsActor};
 ghost use Rattle.journal_text.specs.Journals.{IsWellNamed};
 
 use lock_messages::Actor;

@@ -7,7 +7,7 @@ ghost use Rattle.journal_text.specs.Journals.{event_line, history_text, AppendsL
 
 use crate::JournalFault;
 use crate::naming::tell_names;
-use history_check::write_event;
+use event_lines::write_event;
 use line_streams::Gathered;
 use std::alloc::Global;
 use std::io::Write;

@@ -18,6 +18,7 @@ pub const MAX_GATHERED: usize = 32_768;
 /// each call.
 ///
 /// Contracts see the bytes.
+/// It does not hold the writer by &mut: then it could not say what the writer holds once it is gone.
 #[derive(Drop)]
 pub struct Gathered {
     // The bytes before `end`.

@@ -1,5 +1,7 @@
 -- Which messages there are, and to whom one is sent.
 use Rattle.std.specs.Prelude.{ℕ, ◌==◌, Bool, false}
+use Rattle.lock_messages.specs.declared.ids.Actor.{Actor}
+use Rattle.lock_messages.specs.declared.ids.Actor.TheVariants.{Node, Client}
 use Rattle.lock_messages.specs.declared.tickets.Ticket.{Ticket}
 use Rattle.lock_messages.specs.declared.messages.Message.{Message}
 use Rattle.lock_messages.specs.declared.messages.Message.TheVariants.{Request, Release, Grant, Busy, Over, Done, Muddled, Soften, Softened}
@@ -48,6 +50,11 @@ is_for_client (Muddled n c a) client = c == client
 is_for_client (Soften n c a) client = false
 is_for_client (Softened n c a) client = c == client
 
+-- the message is for the actor
+abbrev pub is_for : Actor → Message → Bool
+is_for (Node n) m = is_for_node m n
+is_for (Client c) m = is_for_client m c
+
 -- the node that a message names
 abbrev pub named_node : Message → ℕ
 named_node (Request n t) = n
@@ -59,3 +66,15 @@ named_node (Done n c a) = n
 named_node (Muddled n c a) = n
 named_node (Soften n c a) = n
 named_node (Softened n c a) = n
+
+-- the actor to which a message goes
+abbrev pub addressee : Message → Actor
+addressee (Request n t) = Node n
+addressee (Release n c a) = Node n
+addressee (Grant n t) = Client t.client
+addressee (Busy n t) = Client t.client
+addressee (Over n c a) = Client c
+addressee (Done n c a) = Client c
+addressee (Muddled n c a) = Client c
+addressee (Soften n c a) = Node n
+addressee (Softened n c a) = Client c

@@ -1,9 +1,9 @@
 // Messages: everything that nodes and clients say to each other.
 
 ghost use Rattle.std.specs.Prelude.{◌≡◌};
-ghost use Rattle.lock_messages.specs.Messages.{is_for_node, is_for_client};
+ghost use Rattle.lock_messages.specs.Messages.{is_for, is_for_node, is_for_client, named_node, addressee};
 
-use crate::{Attempt, ClientId, NodeId, Ticket};
+use crate::{Actor, Attempt, ClientId, NodeId, Ticket};
 use std::fmt;
 
 /// What nodes and clients say to each other. The node that a message names is the one that it
@@ -61,6 +61,47 @@ impl Message {
             | Message::Muddled(_, to, _)
             | Message::Softened(_, to, _) => to == client,
             Message::Request(..) | Message::Release(..) | Message::Soften(..) => false,
+        }
+    }
+
+    /// Whether this is for that actor.
+    pub fn is_for(&self, actor: Actor) -> bool
+        ensures { result ≡ is_for actor self.now }
+    {
+        match actor {
+            Actor::Node(node) => self.is_for_node(node),
+            Actor::Client(client) => self.is_for_client(client),
+        }
+    }
+
+    /// The node that it names: the one that it goes to or comes from.
+    pub fn node(&self) -> NodeId
+        ensures { result ≡ named_node self.now }
+    {
+        match *self {
+            Message::Request(node, _) | Message::Grant(node, _) | Message::Busy(node, _) => node,
+            Message::Release(node, _, _)
+            | Message::Over(node, _, _)
+            | Message::Done(node, _, _)
+            | Message::Muddled(node, _, _)
+            | Message::Soften(node, _, _)
+            | Message::Softened(node, _, _) => node,
+        }
+    }
+
+    /// The actor that it goes to: its node or its client.
+    pub fn addressee(&self) -> Actor
+        ensures { result ≡ addressee self.now }
+    {
+        match *self {
+            Message::Request(node, _)
+            | Message::Release(node, _, _)
+            | Message::Soften(node, _, _) => Actor::Node(node),
+            Message::Grant(_, ticket) | Message::Busy(_, ticket) => Actor::Client(ticket.client),
+            Message::Over(_, client, _)
+            | Message::Done(_, client, _)
+            | Message::Muddled(_, client, _)
+            | Message::Softened(_, client, _) => Actor::Client(client),
         }
     }
 }

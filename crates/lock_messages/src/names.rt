@@ -86,6 +86,7 @@ impl ResourceName {
     }
 }
 
+// Hand-written, so that == says that the bytes are equal: a derived one would speak of the padding.
 impl PartialEq for ResourceName {
     ghost use Rattle.std.specs.Prelude.{nat_eq};
     ghost use Rattle.std.specs.Cmp.{partial_equiv_from_equiv};

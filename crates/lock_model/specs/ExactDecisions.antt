@@ -158,6 +158,8 @@ abbrev pub switches : ℕ → Problem → List Entry → Outcome
 switches n p entries = record { entries = settled p entries; replies = grants n entries (settled p entries) }
 
 -- The decision on a message. What is for a client changes nothing and has no reply.
+-- A new ticket's entry comes last, and so does the entry that a release of an unknown client adds. No other change moves
+-- an entry, and none is taken out. The replies are the sender's first, then the Grants in the order of the entries.
 abbrev pub decision : Problem → List Entry → Message → Outcome
 decision p entries (Request n t) = answered n p entries t (reply_to_known n t (entry_of entries t.client))
 decision p entries (Release n c a) = releases n p entries c a

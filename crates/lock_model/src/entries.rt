@@ -164,39 +164,27 @@ impl Entry {
     pub(crate) fn waits(&self) -> bool
         ensures { result ≡ if_live (λ l. is_waiting l.status) self.now.live }
     {
-        match self.live {
-            None => false,
-            Some(live) => live.waits(),
-        }
+        self.live.is_some_and(|live| live.waits())
     }
 
     /// Whether its ticket holds the resource.
     pub(crate) fn holds(&self, resource: &ResourceName) -> bool
         ensures { result ≡ if_live (holds resource.now) self.now.live }
     {
-        match self.live {
-            None => false,
-            Some(live) => live.holds(resource),
-        }
+        self.live.is_some_and(|live| live.holds(resource))
     }
 
     /// Whether its ticket is a writer's that holds the resource.
     pub(crate) fn writer_holds(&self, resource: &ResourceName) -> bool
         ensures { result ≡ if_live (writer_holds resource.now) self.now.live }
     {
-        match self.live {
-            None => false,
-            Some(live) => live.writer_holds(resource),
-        }
+        self.live.is_some_and(|live| live.writer_holds(resource))
     }
 
     /// Whether its ticket is a writer's that waits for the resource.
     pub(crate) fn writer_waits(&self, resource: &ResourceName) -> bool
         ensures { result ≡ if_live (writer_waits resource.now) self.now.live }
     {
-        match self.live {
-            None => false,
-            Some(live) => live.writer_waits(resource),
-        }
+        self.live.is_some_and(|live| live.writer_waits(resource))
     }
 }

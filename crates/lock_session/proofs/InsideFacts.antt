@@ -9,7 +9,7 @@ use Rattle.client_core.specs.Clients.{phase_in, phase_of, ticket_in, ticket_of, 
 use Rattle.client_core.specs.Calls.{MaySoften, MaySoftenIn, softened, softens_in}
 use Rattle.world_model.specs.Parts.{ClientPart}
 use Rattle.world_actors.specs.Clients.{phase_of as part_phase}
-use Rattle.history_book.specs.Books.{inside_ticket}
+use Rattle.world_model.specs.Staying.{inside_ticket}
 use Rattle.client_loop.specs.declared.progress.Progress.{Progress}
 use Rattle.client_loop.specs.Remembering.{core_of, with_core}
 use Rattle.client_loop.specs.Standing.{Stands}

@@ -8,7 +8,7 @@ use Rattle.lossy_link.specs.declared.parcels.Sending.{Sending}
 use Rattle.client_core.specs.declared.phases.Phase.TheVariants as phase
 use Rattle.client_core.specs.Calls.{left as core_left}
 use Rattle.client_core.specs.Clients.{Client, phase_of, ticket_of, softened_ticket}
-use Rattle.history_book.specs.Books.{inside_ticket}
+use Rattle.world_model.specs.Staying.{inside_ticket}
 use Rattle.event_recorders.specs.declared.faults.RunFault.{RunFault}
 use Rattle.event_recorders.specs.declared.faults.RunFault.TheVariants as fault
 use Rattle.event_recorders.specs.OwnLogs.{OwnLog, part_now, FindsItsOwn}

@@ -7,7 +7,7 @@ use thiserror::Error;
 #[derive(Clone, Copy, Debug, PartialEq, Eq, Error)]
 pub enum TryFault {
     /// A node let it wait, and it has taken back what it asked for.
-    #[error("others go before it")]
+    #[error("busy: a node queued this request")]
     Busy,
     /// The attempt ended by this fault, or the session is over by it.
     #[error("{0}")]

@@ -2,8 +2,8 @@
 
 use crate::OwnRecord;
 use client_loop::{Patience, Progress, enter, leave, rise, soften};
+use event_lines::Wish;
 use event_recorders::{Gate, Recorder, RunFault};
-use history_check::Wish;
 use lock_messages::ClientId;
 use lossy_link::Link;
 use stable_record::FaultyRecord;

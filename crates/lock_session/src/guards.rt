@@ -5,7 +5,7 @@ ghost use Rattle.std.specs.Borrow.{sem, RestsIfErr};
 ghost use Rattle.lock_messages.specs.declared.tickets.Mode.TheVariants.{Read, Write};
 ghost use Rattle.lock_messages.specs.declared.tickets.Ticket.{Ticket as TicketValue};
 ghost use Rattle.lock_model.specs.Ballots.{HasPlace};
-ghost use Rattle.history_book.specs.Books.{are_together};
+ghost use Rattle.world_model.specs.Company.{are_together};
 ghost use Rattle.client_core.specs.Clients.{phase_of, softened_ticket};
 ghost use Rattle.client_core.specs.declared.phases.Phase.TheVariants as phase;
 ghost use Rattle.client_loop.specs.Sendings.{SentFollows, SentUnlessMemory};
@@ -15,10 +15,8 @@ ghost use Rattle.lock_session.specs.Guards.{session_of, lender_of, guard_ticket,
 ghost use Rattle.lock_session.specs.Sessions.{IsResting, IsInside, GoesOut, StandsAfter, Settles, Softens, EndsSoftening, EndsGuard, Enters, EndsEntering, EndsTrying, HasReleased, use_by};
 
 use crate::{OwnRecord, Session, TryFault};
-use book_recorders::SharedRecorder;
 use client_loop::Patience;
-use event_recorders::{Recorder, RunFault};
-use history_book::BookFault;
+use event_recorders::{LogFault, Recorder, RunFault, SharedRecorder};
 use lock_messages::{Mode, ResourceName, Ticket};
 use lossy_link::Link;
 use std::alloc::Global;
@@ -30,6 +28,7 @@ use std::sync::Wait;
 /// `leave` logs the Leave and says the releases. A guard that is dropped instead, on whatever path, is outside at
 /// once, and takes no memory and does not wait; the next call that enters or settles logs it then and says the
 /// releases, before anything else (that it is the first is in the calls' bodies alone, and tested). So does the next such call after a guard that was forgotten.
+/// Its fact is in clauses and in no ghost field, which would have to hold of what its drop leaves too.
 pub struct SessionGuard<'a, S: OwnRecord, R: Recorder, L: Link> {
     session: &'a mut Session<S, R, L>,
     ticket: Ticket,
@@ -198,12 +197,12 @@ impl<S: OwnRecord, R: SharedRecorder, L: Link> SessionGuard<'_, S, R, L> {
     /// # Errors
     ///
     /// The sessions log in two books (815).
-    pub fn meets(&mut self, other: &mut SessionGuard<'_, S, R, L>) -> Result<bool, BookFault>
+    pub fn meets(&mut self, other: &mut SessionGuard<'_, S, R, L>) -> Result<bool, LogFault>
         ensures one { (session_of self.new ≡ session_of self.old) × (guard_ticket self.new ≡ guard_ticket self.old) × (lender_of self.new ≡ lender_of self.old) }
         ensures other { (session_of other.new ≡ session_of other.old) × (guard_ticket other.new ≡ guard_ticket other.old) × (lender_of other.new ≡ lender_of other.old) }
         ensures met { IsHeld self.old → IsHeld other.old → IfOk result (λ met. met ≡ are_together (Some (guard_ticket self.old)) (Some (guard_ticket other.old))) }
         ensures readers { IsHeld self.old → IsHeld other.old → IfOk result (λ met. met ≡ true → ((guard_ticket self.old).mode ≡ Read) × ((guard_ticket other.old).mode ≡ Read)) }
-        ensures err { IfErr result (λ f. f ≡ BookFault.OtherBook) }
+        ensures err { IfErr result (λ f. f ≡ LogFault.OtherBook) }
     {
         self.session.meet(other.session)
     }

@@ -4,8 +4,8 @@ ghost use Rattle.std.specs.Prelude.{◌≡◌};
 
 use crate::OwnRecord;
 use client_loop::{Patience, Progress};
+use event_lines::Wish;
 use event_recorders::{Gate, Recorder, RunFault};
-use history_check::Wish;
 use lock_messages::ClientId;
 use lossy_link::Link;
 use stable_record::{RecordFault, StableRecord};

@@ -8,8 +8,8 @@
 //!
 //! The crate promises what `client_loop` promises of each of its calls, whose parts a session is: what is
 //! logged and sent, and by which fault a call ends; and that each holds of a session as it stands, whatever
-//! was called before. It stands on `client_loop`, `book_recorders`, `actor_steps`, `event_recorders`,
-//! `entry_guard`, `client_core`, `lossy_link`, `stable_record`, `history_check` for wishes, `history_book`,
+//! was called before. It stands on `client_loop`, `actor_steps`, `event_recorders`, `entry_guard`,
+//! `client_core`, `lossy_link`, `stable_record`, `event_lines` for wishes,
 //! `world_actors`, `world_model`, `vote_weights`, `lock_messages`, `lock_model` and `thiserror`.
 #![tactic(auto)]
 

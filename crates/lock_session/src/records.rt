@@ -15,8 +15,8 @@ ghost use Rattle.client_loop.specs.Endings.{ClientEndsFrom, EndsAsking, EndsOneA
 ghost use Rattle.client_loop.specs.Visits.{visits_of, use_of, AsksFor, visits_softening, BeginsOnly, BeginsMore};
 
 use client_loop::{Patience, Progress, enter, leave, rise, soften};
+use event_lines::Wish;
 use event_recorders::{Gate, Recorder, RunFault};
-use history_check::Wish;
 use lock_messages::{Actor, ClientId};
 use lossy_link::Link;
 use stable_record::{MemoryRecord, StableRecord};
@@ -29,6 +29,9 @@ use vote_weights::BallotList;
 /// The calls take a record as `&dyn`, and of a value whose type is a parameter no `&dyn` can be made. So each
 /// type of record makes it for itself: each method is one line, the call of `client_loop` of its name with
 /// `self` as the record, and has that call's contract.
+/// Nothing shorter was found. A body in the trait would make the &dyn of Self, and an impl for SlotRecord<P> one of a type
+/// that names a parameter. A method that returns the &dyn hands one out, and a macro of this repository's writes it: CI
+/// refuses both. So a program on disks has a struct of its own, as session_tests has.
 pub trait OwnRecord: StableRecord {
     /// `client_loop::rise` over this record.
     fn rise<R: Recorder>(

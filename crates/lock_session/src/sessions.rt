@@ -8,7 +8,7 @@ ghost use Rattle.client_core.specs.Clients.{phase_of, ticket_of, softened_ticket
 ghost use Rattle.client_core.specs.declared.phases.Phase.TheVariants as phase;
 ghost use Rattle.event_recorders.specs.OwnLogs.{IsUnused, FindsPart, FindsItsOwn, part_now};
 ghost use Rattle.actor_steps.specs.Endings.{falls_of, FailuresFollow};
-ghost use Rattle.book_recorders.specs.Meeting.{HaveMet, HasSeenInside};
+ghost use Rattle.event_recorders.specs.Sharing.{HaveMet, HasSeenInside};
 ghost use Rattle.client_loop.specs.Sendings.{sent_of, SentFollows, SentUnlessMemory};
 ghost use Rattle.client_loop.specs.Standing.{KeepsAttempt};
 ghost use Rattle.client_loop.specs.Endings.{ClientEndsFrom};
@@ -17,12 +17,10 @@ ghost use Rattle.lock_session.specs.Sessions.{IsResting, IsInside, IsInsideStill
 
 use crate::OwnRecord;
 use crate::gates::OpenGate;
-use book_recorders::SharedRecorder;
 use client_core::Phase;
 use client_loop::{Patience, Progress};
-use event_recorders::{Recorder, RunFault};
-use history_book::BookFault;
-use history_check::Wish;
+use event_lines::Wish;
+use event_recorders::{LogFault, Recorder, RunFault, SharedRecorder};
 use lock_messages::{Actor, ClientId, Mode, ResourceName, Ticket};
 use lossy_link::Link;
 use std::alloc::Global;
@@ -360,11 +358,11 @@ impl<S: OwnRecord, R: Recorder, L: Link> Session<S, R, L> {
 
 impl<S: OwnRecord, R: SharedRecorder, L: Link> Session<S, R, L> {
     /// Whether the clients of both sessions are inside one resource, as their own logs tell it.
-    pub(crate) fn meet(&mut self, other: &mut Session<S, R, L>) -> Result<bool, BookFault>
+    pub(crate) fn meet(&mut self, other: &mut Session<S, R, L>) -> Result<bool, LogFault>
         ensures one { self.new ≡ self.old }
         ensures other { other.new ≡ other.old }
         ensures met { IfOk result (λ met. HaveMet met self.old.log other.old.log self.new.log other.new.log) }
-        ensures err { IfErr result (λ f. f ≡ BookFault.OtherBook) }
+        ensures err { IfErr result (λ f. f ≡ LogFault.OtherBook) }
     {
         self.recorder.meet(&mut other.recorder)
     }
@@ -377,10 +375,10 @@ impl<S: OwnRecord, R: SharedRecorder, L: Link> Session<S, R, L> {
     /// # Errors
     ///
     /// The session's berth is another book's (815), or memory was refused (813).
-    pub fn inside(&mut self, resource: &ResourceName) -> Result<Vec<Ticket>, BookFault>
+    pub fn inside(&mut self, resource: &ResourceName) -> Result<Vec<Ticket>, LogFault>
         ensures same { self.new ≡ self.old }
         ensures seen { IfOk result (λ tickets. HasSeenInside self.old.log resource.now tickets.items self.new.log) }
-        ensures err { IfErr result (λ f. (f ≡ BookFault.OtherBook) ⊎ (f ≡ BookFault.Memory)) }
+        ensures err { IfErr result (λ f. (f ≡ LogFault.OtherBook) ⊎ (f ≡ LogFault.Memory)) }
     {
         self.recorder.inside(resource)
     }

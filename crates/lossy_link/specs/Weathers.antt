@@ -34,6 +34,7 @@ fate_of odds word =
     else (if nat_lt draw (odds.lose + odds.twice + odds.late) then Late else Plain))
 
 -- the weather of a number, before its first fate
+-- The words of the generator are what rand_pcg says.
 abbrev pub climate_of : ℕ → Odds → Climate
 climate_of seed odds = record { seed = seed; odds = odds; generator = pcg32_of_seed (pcg32_seed 16 seed) }
 

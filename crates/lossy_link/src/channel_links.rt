@@ -28,6 +28,7 @@ use std::sync::Wait;
 /// in `receive` and nothing lies in their inboxes: then nobody could wake another any more, and each
 /// `receive` ends by 902. A late parcel that a link holds wakes nobody. An actor that does something
 /// else, whatever it may be, does not rest.
+/// Its calls need the handle Wait: crossbeam_channel puts each message into a queue under a lock, for one push or pop.
 pub struct ChannelLink<R: Wait + Copy> {
     rt: R,
     passage: Passage,

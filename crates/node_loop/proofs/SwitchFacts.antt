@@ -28,7 +28,7 @@ module _ (l l' : OwnLog) (core : Voter) (p : Problem) (told : Bool) (strings : L
   o = switches core.node p core.entries
 
   abbrev after : NodeRecord
-  after = record { policy = p; entries = o.entries }
+  after = record { problem = p; entries = o.entries }
 
   owner : l'.actor ≡ actor.Node core.node
   owner = ap (λ (x : OwnLog). x.actor) added.log ∙ s.actor
@@ -49,7 +49,7 @@ module _ (l l' : OwnLog) (core : Voter) (p : Problem) (told : Bool) (strings : L
   still same compared e =
       let is : core.problem ≡ p = (compared core.problem p).0 e in
       let nothing : o ≡ record { entries = core.entries; replies = [] } = same p core.entries core.node s.good.well_formed (subst (λ q. IsCaused (meaning q core.entries)) is s.good.caused) in
-      ap (λ (u : Outcome). record { policy = p; entries = u.entries }) nothing ∙ ap (λ q. record { policy = q; entries = core.entries }) (sym is)
+      ap (λ (u : Outcome). record { problem = p; entries = u.entries }) nothing ∙ ap (λ q. record { problem = q; entries = core.entries }) (sym is)
 
   the_same : SwitchToTheSame → ProblemsAreCompared → same_problem core.problem p ≡ true → HasTaken false l' (switched core p) (record_of core) strings stuck
   the_same same compared e =

@@ -20,16 +20,18 @@ use Rattle.world_model.specs.declared.events.Effect.TheVariants as effect
 use Rattle.world_model.specs.declared.events.Event.{Event}
 use Rattle.world_model.specs.declared.events.Event.TheVariants as event
 use Rattle.world_model.specs.Locality.{local_part}
-use Rattle.world_model.specs.Parts.{Part, after_own}
+use Rattle.world_model.specs.Parts.{Part, after_own, number_of}
 use Rattle.event_recorders.specs.declared.faults.RunFault.{RunFault}
 use Rattle.event_recorders.specs.declared.faults.RunFault.TheVariants as fault
 use Rattle.event_recorders.specs.OwnLogs.{OwnLog, part_now, adds, IsAdded}
 use Rattle.actor_steps.specs.Endings.{IsDown}
 use Rattle.actor_steps.specs.Steps.{IsRisenAgain}
 use Rattle.node_loop.specs.Standing.{StandsBy, FailsToKeep}
-use Rattle.node_loop.specs.Replies.{addressee, sendings, sent_for, sent_of, SentFollows}
+use Rattle.lock_messages.specs.Messages.{addressee}
+use Rattle.actor_steps.specs.Sendings.{sendings, sent_for, sent_of, SentFollows}
 use Rattle.node_loop.specs.Unsent.{latest, last_by, last_sent, HasGiven, GivesSome, HasSent, IsWhole, SentAsFar, ToldAsFar, TellsGone, HasGone}
-use Rattle.node_loop.proofs.SentFacts.{sent_more, trying_sends_nothing, said_is_sent}
+use Rattle.node_loop.proofs.SentFacts.{said_is_sent}
+use Rattle.actor_steps.proofs.SendingFacts.{sent_more, trying_sends_nothing}
 
 latest_of_none : {X : Type 0} (xs : List X) → latest [] xs ≡ xs
 latest_of_none [] = refl
@@ -119,13 +121,13 @@ pub whole_from : (f : RunFault) (l m l' : OwnLog) → sent_of m ≡ sent_of l �
 whole_from f l m l' same whole = subst (IsWhole f l') same whole
 
 -- what was sent of what the node says
-pub said_as_far : (l l' : OwnLog) (v : Voter) (n first count : ℕ) (done : Effect) (strings : List (List ℕ)) (stuck : Bool) (replies : List Message) (given given' : Option (List Sending)) →
-    StandsBy (Stored (replies_in v.state)) l v (record_of v) strings stuck → n ≡ v.node → done ≡ effect.Said first count → IsAdded l (event.Say n) done l' → replies ≡ replies_in v.state →
+pub said_as_far : (l l' : OwnLog) (v : Voter) (n first : ℕ) (done : Effect) (strings : List (List ℕ)) (stuck : Bool) (replies : List Message) (given given' : Option (List Sending)) →
+    StandsBy (Stored (replies_in v.state)) l v (record_of v) strings stuck → n ≡ v.node → first ≡ number_of done → IsAdded l (event.Say n) done l' → replies ≡ replies_in v.state →
     GivesSome (sendings first replies) given given' → SentAsFar fault.Memory l l' given given'
-said_as_far l l' v n first count done strings stuck replies given given' s same kind added all some =
+said_as_far l l' v n first done strings stuck replies given given' s same kind added all some =
     let xs = sendings first replies in
     let left = some.0 in
-    let is = said_is_sent l v n first count done strings stuck replies s same kind all in
+    let is = said_is_sent l v n first done strings stuck replies s same kind all in
     let last = ends_last (last_sent l) xs some.1.begun left some.1.whole in
     record {
       sent = sent_of l ++ some.1.begun;
@@ -151,7 +153,7 @@ nothing_given f l l' given given' same far whole = record { sent = sent_of l; fa
 -- one after the other
 pub far_on : (f : RunFault) (l m l' : OwnLog) (given between given' : Option (List Sending)) → SentFollows l m given between → SentAsFar f m l' between given' → SentAsFar f l l' given given'
 far_on f l m l' given between given' first second =
-    record { sent = second.sent; far = second.far; whole = second.whole; follows = λ before was. second.follows before (first before was) }
+    record { sent = second.sent; far = second.far; whole = second.whole; follows = λ before was. second.follows before (first.follows before was) }
 
 -- behind a log that tells nothing more
 pub far_from : (f : RunFault) (l m l' : OwnLog) (given given' : Option (List Sending)) → sent_of m ≡ sent_of l → SentAsFar f m l' given given' → SentAsFar f l l' given given'

@@ -1,6 +1,7 @@
 // A node's turn: from a post to the replies.
 
-ghost use Rattle.std.specs.Prelude.{◌≡◌, ◌≢◌, [], ◌∷◌, ◌++◌, ◌+◌, IfOk, IfErr, IfSome, IfNone, IsOk, OnOk, OnErr, IsOkUnless};
+ghost use Rattle.std.specs.Prelude.{◌≡◌, ◌≢◌, true, [], ◌∷◌, ◌++◌, ◌+◌, IfOk, IfErr, IfSome, IfNone, IsOk, OnOk, OnErr, IsOkUnless};
+ghost use Rattle.lock_messages.specs.Messages.{is_for_node};
 ghost use Rattle.lock_model.specs.declared.problems.Problem.{Problem as ProblemValue};
 ghost use Rattle.admission_policy.specs.Policies.{problem_number};
 ghost use Rattle.stable_record.specs.declared.node_records.NodeRecord.{NodeRecord};
@@ -19,7 +20,7 @@ use crate::replies::send_all;
 use actor_steps::{Keeping, keep_next, log_plain, log_reading, log_switch, rise_again};
 use event_recorders::laws::records_fit;
 use event_recorders::{Gate, Recorder, RunFault};
-use lock_messages::{Actor, NodeId, decode};
+use lock_messages::{Actor, Message, NodeId, decode};
 use lock_model::Problem;
 use lock_model::laws::{changes_are_seen, switch_is_allowed};
 use lossy_link::{Link, Parcel, Post};
@@ -27,18 +28,20 @@ use stable_record::StableRecord;
 use stable_record::laws::one_spelling;
 use std::alloc::Global;
 use voter_core::{NodeCore, VoterFault};
-use world_model::{Effect, Event};
+use world_model::Event;
 
-/// Takes the message that was sent under this number, and answers whether it changes the node's
-/// record; `None` where no message of the number was sent to the node.
-#[tactic(auto, using(crate::proofs::SentFacts::take_sends_nothing, actor_steps::proofs::FindingFacts::part_own))]
+/// Takes the message that came under this number, as the log has it, and returns whether it changes the node's record.
+/// `None`: the log knows no message of the number to the node.
+#[tactic(auto, using(crate::proofs::SentFacts::read_sends_nothing, actor_steps::proofs::FindingFacts::part_own, actor_steps::proofs::ReadingFacts::read_took))]
 fn take<R: Recorder>(
     number: u32,
+    message: &Message,
     core: &mut NodeCore,
     stable: &dyn StableRecord,
     recorder: &mut R,
 ) -> Result<Option<bool>, RunFault>
-    requires { StandsIdle (R.own_log recorder.old) core.old (finds stable.now) (stuck_of stable.now) }
+    requires stands { StandsIdle (R.own_log recorder.old) core.old (finds stable.now) (stuck_of stable.now) }
+    requires addressed { is_for_node message.now core.old.node ≡ true }
     ensures dropped { IfOk result (λ o. IfNone o ((core.new ≡ core.old) × (R.own_log recorder.new ≡ R.own_log recorder.old))) }
     ensures taken { IfOk result (λ o. IfSome o (λ changed. HasTaken changed (R.own_log recorder.new) core.new (record_of core.old) (finds stable.now) (stuck_of stable.now))) }
     ensures silent { sent_of (R.own_log recorder.new) ≡ sent_of (R.own_log recorder.old) }
@@ -47,11 +50,8 @@ fn take<R: Recorder>(
     ensures falls { falls_of (R.own_log recorder.new) ≡ falls_of (R.own_log recorder.old) }
 {
     let event = Event::Take(core.node(), number);
-    let Some(done) = log_reading(recorder, event, stable)? else {
+    let Some(message) = log_reading(recorder, event, message, stable)? else {
         return Ok(None);
-    };
-    let Effect::Took(message, _) = done else {
-        unreachable!()
     };
     changes_are_seen();
     let Ok(changed) = core.take(&message) else {
@@ -98,7 +98,7 @@ fn switch<R: Recorder>(
 
 /// Keeps what the node decided. Where the record's device fails, the node falls and rises again with
 /// what is found.
-#[tactic(auto, using(crate::proofs::SentFacts::keeping_sends_nothing, crate::proofs::SentFacts::trying_sends_nothing, actor_steps::proofs::EndFacts::failures_stay, actor_steps::proofs::EndFacts::failures_rise, actor_steps::proofs::EndFacts::failures_on, crate::proofs::UnsentFacts::none_left, crate::proofs::UnsentFacts::trying_leaves, crate::proofs::UnsentFacts::sent_before, actor_steps::proofs::FindingFacts::part_own, crate::proofs::KeepFacts::stands_own, crate::proofs::UnsentFacts::memory_whole, crate::proofs::UnsentFacts::silent_whole, crate::proofs::UnsentFacts::trying_whole, crate::proofs::UnsentFacts::whole_from))]
+#[tactic(auto, using(actor_steps::proofs::SendingFacts::keeping_sends_nothing, actor_steps::proofs::SendingFacts::trying_sends_nothing, actor_steps::proofs::EndFacts::failures_stay, actor_steps::proofs::EndFacts::failures_rise, actor_steps::proofs::EndFacts::failures_on, crate::proofs::UnsentFacts::none_left, crate::proofs::UnsentFacts::trying_leaves, crate::proofs::UnsentFacts::sent_before, actor_steps::proofs::FindingFacts::part_own, crate::proofs::KeepFacts::stands_own, crate::proofs::UnsentFacts::memory_whole, crate::proofs::UnsentFacts::silent_whole, crate::proofs::UnsentFacts::trying_whole, crate::proofs::UnsentFacts::whole_from))]
 fn keep<R: Recorder, G: Gate>(
     alloc: Global,
     core: &mut NodeCore,
@@ -179,12 +179,9 @@ fn say<R: Recorder, L: Link>(
     ensures faults { IfErr result IsBookFault }
     ensures falls { falls_of (R.own_log recorder.new) ≡ falls_of (R.own_log recorder.old) }
 {
-    let done = log_plain(recorder, Event::Say(core.node()), stable)?;
-    let Effect::Said { first, .. } = done else {
-        unreachable!()
-    };
+    let said = log_plain(recorder, Event::Say(core.node()), stable)?;
     let replies = core.speak();
-    send_all(alloc, first, &replies, link)
+    send_all(alloc, said.number(), &replies, link)
 }
 
 /// Tells every client that it should ask the node again, since replies are lost.
@@ -200,7 +197,7 @@ fn tell_lost<L: Link>(node: NodeId, link: &mut L) -> Result<(), RunFault>
 }
 
 /// Keeps what the node took, where it changed the record, and sends the replies.
-#[tactic(auto, using(crate::proofs::SentFacts::follows_none, crate::proofs::SentFacts::follows_from, crate::proofs::SentFacts::nudge_follows, actor_steps::proofs::EndFacts::failures_stay, actor_steps::proofs::EndFacts::failures_on, crate::proofs::UnsentFacts::nothing_given, crate::proofs::UnsentFacts::far_from, crate::proofs::UnsentFacts::memory_whole))]
+#[tactic(auto, using(actor_steps::proofs::SendingFacts::follows_none, actor_steps::proofs::SendingFacts::follows_from, crate::proofs::SentFacts::nudge_follows, actor_steps::proofs::EndFacts::failures_stay, actor_steps::proofs::EndFacts::failures_on, crate::proofs::UnsentFacts::nothing_given, crate::proofs::UnsentFacts::far_from, crate::proofs::UnsentFacts::memory_whole))]
 fn finish<R: Recorder, L: Link, G: Gate>(
     alloc: Global,
     changed: bool,
@@ -228,18 +225,20 @@ fn finish<R: Recorder, L: Link, G: Gate>(
     say(alloc, core, &*stable, recorder, link)
 }
 
-/// A turn: takes the message of the number, keeps what it changes, and sends the replies.
-#[tactic(auto, using(crate::proofs::SentFacts::follows_none, crate::proofs::SentFacts::follows_from, actor_steps::proofs::EndFacts::failures_stay, actor_steps::proofs::EndFacts::failures_on, crate::proofs::UnsentFacts::nothing_given, crate::proofs::UnsentFacts::none_left, crate::proofs::UnsentFacts::far_from, crate::proofs::KeepFacts::stands_own, crate::proofs::UnsentFacts::silent_whole))]
+/// A turn: takes the message that came under the number, keeps what it changes, and sends the replies.
+#[tactic(auto, using(actor_steps::proofs::SendingFacts::follows_none, actor_steps::proofs::SendingFacts::follows_from, actor_steps::proofs::EndFacts::failures_stay, actor_steps::proofs::EndFacts::failures_on, crate::proofs::UnsentFacts::nothing_given, crate::proofs::UnsentFacts::none_left, crate::proofs::UnsentFacts::far_from, crate::proofs::KeepFacts::stands_own, crate::proofs::UnsentFacts::silent_whole))]
 fn take_turn<R: Recorder, L: Link, G: Gate>(
     alloc: Global,
     number: u32,
+    message: &Message,
     core: &mut NodeCore,
     stable: &mut dyn StableRecord,
     recorder: &mut R,
     link: &mut L,
     gate: &G,
 ) -> Result<(), RunFault>
-    requires { StandsIdle (R.own_log recorder.old) core.old (finds stable.old) (stuck_of stable.old) }
+    requires stands { StandsIdle (R.own_log recorder.old) core.old (finds stable.old) (stuck_of stable.old) }
+    requires addressed { is_for_node message.now core.old.node ≡ true }
     ensures idle { OnOk result (StandsIdle (R.own_log recorder.new) core.new (finds stable.new) (stuck_of stable.new)) }
     ensures sent { OnOk result (SentFollows (R.own_log recorder.old) (R.own_log recorder.new) (L.given link.old) (L.given link.new)) }
     ensures faulted { IfErr result (λ f. SentAsFar f (R.own_log recorder.old) (R.own_log recorder.new) (L.given link.old) (L.given link.new)) }
@@ -248,7 +247,7 @@ fn take_turn<R: Recorder, L: Link, G: Gate>(
     ensures ended { IfErr result (λ fault. EndsFrom fault (falls_of (R.own_log recorder.old)) (R.own_log recorder.new) (stuck_of stable.new) (spent_of stable.new) (failures_of stable.old) (failures_of stable.new)) }
     ensures falls { FailuresFollow (falls_of (R.own_log recorder.old)) (falls_of (R.own_log recorder.new)) (failures_of stable.old) (failures_of stable.new) }
 {
-    let Some(changed) = take(number, core, &*stable, recorder)? else {
+    let Some(changed) = take(number, message, core, &*stable, recorder)? else {
         return Ok(());
     };
     finish(alloc, changed, core, stable, recorder, link, gate)
@@ -256,7 +255,7 @@ fn take_turn<R: Recorder, L: Link, G: Gate>(
 
 /// A turn: takes the problem of this number, keeps what that changes, and sends the replies. A number that
 /// no problem has is dropped.
-#[tactic(auto, using(crate::proofs::SentFacts::follows_none, crate::proofs::SentFacts::follows_from, actor_steps::proofs::EndFacts::failures_stay, actor_steps::proofs::EndFacts::failures_on, crate::proofs::UnsentFacts::nothing_given, crate::proofs::UnsentFacts::none_left, crate::proofs::UnsentFacts::far_from, crate::proofs::KeepFacts::stands_own, crate::proofs::UnsentFacts::silent_whole))]
+#[tactic(auto, using(actor_steps::proofs::SendingFacts::follows_none, actor_steps::proofs::SendingFacts::follows_from, actor_steps::proofs::EndFacts::failures_stay, actor_steps::proofs::EndFacts::failures_on, crate::proofs::UnsentFacts::nothing_given, crate::proofs::UnsentFacts::none_left, crate::proofs::UnsentFacts::far_from, crate::proofs::KeepFacts::stands_own, crate::proofs::UnsentFacts::silent_whole))]
 fn switch_turn<R: Recorder, L: Link, G: Gate>(
     alloc: Global,
     number: u8,
@@ -284,7 +283,7 @@ fn switch_turn<R: Recorder, L: Link, G: Gate>(
 }
 
 /// Does what a parcel asks for. What is no message for the node is dropped.
-#[tactic(auto, using(crate::proofs::SentFacts::follows_none, crate::proofs::KeepFacts::stands_own))]
+#[tactic(auto, using(actor_steps::proofs::SendingFacts::follows_none, crate::proofs::KeepFacts::stands_own))]
 fn parcel_turn<R: Recorder, L: Link, G: Gate>(
     alloc: Global,
     parcel: &Parcel,
@@ -309,11 +308,20 @@ fn parcel_turn<R: Recorder, L: Link, G: Gate>(
     if !message.is_for_node(core.node()) {
         return Ok(());
     }
-    take_turn(alloc, parcel.number, core, stable, recorder, link, gate)
+    take_turn(
+        alloc,
+        parcel.number,
+        &message,
+        core,
+        stable,
+        recorder,
+        link,
+        gate,
+    )
 }
 
 /// Does what a post asks for. A nudge and a node that is gone are dropped.
-#[tactic(auto, using(crate::proofs::SentFacts::follows_none, crate::proofs::KeepFacts::stands_own))]
+#[tactic(auto, using(actor_steps::proofs::SendingFacts::follows_none, crate::proofs::KeepFacts::stands_own))]
 pub(crate) fn attend<R: Recorder, L: Link, G: Gate>(
     alloc: Global,
     post: Post,

@@ -2,29 +2,13 @@
 
 ghost use Rattle.std.specs.Prelude.{◌≡◌, OnOk, OnErr, IsOkUnless};
 ghost use Rattle.lossy_link.specs.Links.{all_more};
-ghost use Rattle.node_loop.specs.Replies.{addressee, sendings};
+ghost use Rattle.actor_steps.specs.Sendings.{sendings};
 ghost use Rattle.node_loop.specs.Unsent.{GivesSome};
 
 use event_recorders::RunFault;
-use lock_messages::{Actor, Message, encode};
+use lock_messages::{Message, encode};
 use lossy_link::{Link, Parcel};
 use std::alloc::Global;
-
-/// To whom a message goes.
-fn addressee(message: &Message) -> Actor
-    ensures { result ≡ addressee message.now }
-{
-    match *message {
-        Message::Request(node, _) | Message::Release(node, _, _) | Message::Soften(node, _, _) => {
-            Actor::Node(node)
-        }
-        Message::Grant(_, ticket) | Message::Busy(_, ticket) => Actor::Client(ticket.client),
-        Message::Over(_, client, _)
-        | Message::Done(_, client, _)
-        | Message::Muddled(_, client, _)
-        | Message::Softened(_, client, _) => Actor::Client(client),
-    }
-}
 
 /// Sends each reply as its frame to whom it goes, numbered from `first` on, as far as there is memory.
 #[tactic(auto, using(crate::proofs::UnsentFacts::none_given, crate::proofs::UnsentFacts::reply_given, crate::proofs::UnsentFacts::all_given))]
@@ -44,7 +28,7 @@ pub(crate) fn send_all<L: Link>(
             return Err(RunFault::Memory);
         };
         if link
-            .send(addressee(reply), Parcel { number, frame })
+            .send(reply.addressee(), Parcel { number, frame })
             .is_err()
         {
             return Err(RunFault::Memory);

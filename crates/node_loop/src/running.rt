@@ -24,7 +24,7 @@ use std::sync::Wait;
 use voter_core::{NodeCore, VoterFault};
 
 /// The node rises with what its record is found to be.
-#[tactic(auto, using(crate::proofs::SentFacts::first_rise_sends_nothing, crate::proofs::SentFacts::unused_sends_nothing))]
+#[tactic(auto, using(actor_steps::proofs::SendingFacts::first_rise_sends_nothing, actor_steps::proofs::SendingFacts::unused_sends_nothing))]
 fn rise<R: Recorder>(
     alloc: Global,
     node: NodeId,
@@ -50,7 +50,7 @@ fn rise<R: Recorder>(
 }
 
 /// Attends to one post after the other, until no more come.
-#[tactic(auto, using(crate::proofs::SentFacts::follows_on, crate::proofs::SentFacts::follows_none, actor_steps::proofs::EndFacts::failures_on, actor_steps::proofs::EndFacts::ends_on, crate::proofs::UnsentFacts::far_on, crate::proofs::KeepFacts::stands_own))]
+#[tactic(auto, using(actor_steps::proofs::SendingFacts::follows_on, actor_steps::proofs::SendingFacts::follows_none, actor_steps::proofs::EndFacts::failures_on, actor_steps::proofs::EndFacts::ends_on, crate::proofs::UnsentFacts::far_on, crate::proofs::KeepFacts::stands_own))]
 fn serve<W: Wait, R: Recorder, L: Link, G: Gate>(
     rt: &W,
     alloc: Global,
@@ -80,7 +80,7 @@ fn serve<W: Wait, R: Recorder, L: Link, G: Gate>(
 }
 
 /// The node rises, and attends to its posts until no more come.
-#[tactic(auto, using(crate::proofs::SentFacts::all_told, crate::proofs::UnsentFacts::told_far, crate::proofs::UnsentFacts::none_told))]
+#[tactic(auto, using(actor_steps::proofs::SendingFacts::all_told, crate::proofs::UnsentFacts::none_told))]
 fn live<W: Wait, R: Recorder, L: Link, G: Gate>(
     rt: &W,
     alloc: Global,
@@ -175,6 +175,7 @@ pub fn run_node_over<W: Wait, R: Recorder, L: Link, G: Gate>(
 /// full or another's (915), no change of the record can be numbered any more (916). Then every client is
 /// told that the node is gone, as far as there is memory for it. It waits where its link, its recorder or
 /// its gate does. The way of a turn, and what is dropped, are our own rules.
+/// Its loop has no end of its own, so it takes a Wait also over links and recorders that never wait.
 #[tactic(auto, using(crate::proofs::EndFacts::ends_somehow))]
 pub fn run_node<W: Wait, R: Recorder, L: Link, G: Gate>(
     rt: &W,

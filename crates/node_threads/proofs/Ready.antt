@@ -5,14 +5,14 @@ use Rattle.std.proofs.lemmas.List.Sums.{length-filter, count_by-le-length}
 use Rattle.lock_messages.specs.declared.ids.Actor.{Actor}
 use Rattle.lock_messages.specs.declared.ids.Actor.TheVariants as actor
 use Rattle.lock_model.specs.Ballots.{Ballot, HasPlace}
-use Rattle.history_check.specs.declared.wishes.Wish.{Wish}
+use Rattle.event_lines.specs.declared.wishes.Wish.{Wish}
 use Rattle.history_book.specs.Books.{BookValue, BerthValue, IsGiven}
 use Rattle.world_model.specs.Openings.{down_node, down_client}
 use Rattle.world_model.specs.Parts.{Part, NodePart, ClientPart, part}
 use Rattle.world_actors.specs.Nodes.{station_in}
 use Rattle.event_recorders.specs.OwnLogs.{IsDownAtRest, FindsPart}
 use Rattle.book_recorders.specs.Sharing.{log_of}
-use Rattle.history_check.specs.declared.wishes.TheConstants.{MAX_WISHES}
+use Rattle.event_lines.specs.declared.wishes.TheConstants.{MAX_WISHES}
 use Rattle.client_loop.specs.Standing.{KeepsAttempt}
 use Rattle.client_loop.specs.Visits.{ArePlaced}
 use Rattle.node_threads.specs.Actors.{IsNodeReady, IsClientReady}

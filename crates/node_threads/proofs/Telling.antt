@@ -10,7 +10,7 @@ use Rattle.berth_seats.specs.Views.{TableId}
 use Rattle.lock_messages.specs.declared.ids.Actor.{Actor}
 use Rattle.lock_messages.specs.declared.ids.Actor.TheVariants as actor
 use Rattle.event_recorders.specs.declared.faults.RunFault.{RunFault}
-use Rattle.history_check.specs.declared.wishes.Wish.{Wish}
+use Rattle.event_lines.specs.declared.wishes.Wish.{Wish}
 use Rattle.lock_model.specs.Decisions.{Among}
 use Rattle.world_model.specs.declared.exact.ExactWorld.{ExactWorld}
 use Rattle.node_threads.specs.declared.ends.NodeEnd.{NodeEnd}

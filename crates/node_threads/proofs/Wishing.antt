@@ -14,7 +14,7 @@ use Rattle.world_model.specs.declared.events.Event.{Event}
 use Rattle.world_model.specs.declared.exact.ExactWorld.{ExactWorld}
 use Rattle.world_model.specs.Locality.{own_events}
 use Rattle.world_model.specs.Parts.{part}
-use Rattle.history_check.specs.declared.wishes.Wish.{Wish}
+use Rattle.event_lines.specs.declared.wishes.Wish.{Wish}
 use Rattle.history_book.specs.Books.{BookValue, BerthValue, Known, own_of}
 use Rattle.event_recorders.specs.declared.faults.RunFault.{RunFault}
 use Rattle.event_recorders.specs.OwnLogs.{OwnLog, part_now}

@@ -5,7 +5,7 @@ use Rattle.berth_seats.specs.Views.{TableId}
 use Rattle.lock_messages.specs.declared.ids.Actor.{Actor}
 use Rattle.lock_messages.specs.declared.ids.Actor.TheVariants as actor
 use Rattle.event_recorders.specs.declared.faults.RunFault.{RunFault}
-use Rattle.history_check.specs.declared.wishes.Wish.{Wish}
+use Rattle.event_lines.specs.declared.wishes.Wish.{Wish}
 use Rattle.event_recorders.specs.OwnLogs.{part_now}
 use Rattle.book_recorders.specs.Sharing.{log_of}
 use Rattle.client_loop.specs.Endings.{IsOutside}

@@ -4,12 +4,12 @@ use Rattle.berth_seats.specs.Views.{TableId}
 use Rattle.lock_messages.specs.declared.ids.Actor.TheVariants as actor
 use Rattle.lock_model.specs.Ballots.{Ballot}
 use Rattle.stable_record.specs.declared.node_records.NodeRecord.{NodeRecord}
-use Rattle.history_check.specs.declared.wishes.Wish.{Wish}
+use Rattle.event_lines.specs.declared.wishes.Wish.{Wish}
 use Rattle.history_book.specs.Books.{BerthValue}
 use Rattle.event_recorders.specs.OwnLogs.{IsUnused, FindsPart}
 use Rattle.book_recorders.specs.Sharing.{log_of}
 use Rattle.node_loop.specs.Standing.{IsReady}
-use Rattle.history_check.specs.declared.wishes.TheConstants.{MAX_WISHES}
+use Rattle.event_lines.specs.declared.wishes.TheConstants.{MAX_WISHES}
 use Rattle.client_loop.specs.Standing.{KeepsAttempt}
 use Rattle.client_loop.specs.Visits.{ArePlaced}
 

@@ -10,9 +10,9 @@ ghost use Rattle.node_threads.specs.Tasks.{IsNodeTask, IsClientTask, own_wishes}
 
 use crate::tasks::{ClientTask, NodeTask};
 use admission_policy::Pair;
+use event_lines::{MAX_WISHES, Wish};
 use event_recorders::RunFault;
 use history_book::{Berth, Book};
-use history_check::{MAX_WISHES, Wish};
 use lock_messages::{Actor, ClientId, NodeId};
 use lossy_link::ChannelLink;
 use stable_record::StableRecord;

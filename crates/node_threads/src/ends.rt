@@ -4,9 +4,9 @@ ghost use Rattle.std.specs.Prelude.{◌≡◌, ◌++◌, IfOk};
 ghost use Rattle.std.specs.List.{filter_map};
 ghost use Rattle.node_threads.specs.Ends.{node_fault, client_fault};
 
+use event_lines::Wish;
 use event_recorders::RunFault;
 use history_book::Berth;
-use history_check::Wish;
 use lock_messages::{Actor, ClientId, NodeId};
 use std::alloc::{AllocError, Global};
 

@@ -13,7 +13,7 @@
 //!
 //! It stands on `node_loop` and `client_loop` for what a thread runs, `lock_session` for sessions,
 //! `book_recorders` for the lock, `lossy_link` for what is sent, `history_book`, `berth_seats`,
-//! `event_recorders`, `history_check` for wishes, `stable_record`,
+//! `event_recorders`, `event_lines` for wishes, `stable_record`,
 //! `admission_policy`, `vote_weights`, `world_machine`, `world_actors`, `world_opening`, `world_model`,
 //! `lock_messages` and `lock_model`.
 #![tactic(auto)]

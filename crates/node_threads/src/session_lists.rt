@@ -96,6 +96,7 @@ fn take_end<S: Drop>(ends: &mut Vec<SessionEnd<S>>, client: ClientId) -> Option<
 }
 
 /// The ends of so many clients, one of each, in the order of clients. There is one of each here.
+/// Only what holds of each session is known of one that was in a thread, so it counts by the client whose log it has.
 pub(crate) fn in_order<S: Drop>(
     alloc: Global,
     clients: u32,

@@ -3,7 +3,7 @@
 ghost use Rattle.std.specs.Prelude.{◌≡◌};
 ghost use Rattle.lock_session.specs.Sessions.{IsResting};
 
-use book_recorders::SharedRecorder;
+use event_recorders::SharedRecorder;
 use lock_session::{OwnRecord, Session};
 use lossy_link::Link;
 use std::alloc::Global;

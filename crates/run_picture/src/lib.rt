@@ -10,7 +10,7 @@
 //! over which something lasts, and in the end a mark for what was never taken. It keeps where each message
 //! was said, and what lasts now; nothing else grows with the history. It knows no text and no SVG.
 //!
-//! It stands on `lock_messages`, `lock_model`, `world_model`, `history_check` for the faults of lines, and
+//! It stands on `lock_messages`, `lock_model`, `world_model`, `event_lines` for the faults of lines, and
 //! `thiserror`.
 #![tactic(auto)]
 

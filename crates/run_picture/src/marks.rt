@@ -3,7 +3,7 @@
 ghost use Rattle.std.specs.Prelude.{◌≡◌, ◌++◌, ◌∷◌, [], OnOk};
 ghost use Rattle.std.specs.Option.{option_to_list};
 
-use history_check::LineFault;
+use event_lines::LineFault;
 use lock_messages::{Actor, Message, NodeId, ResourceName, Ticket};
 use std::alloc::AllocError;
 use world_model::{Effect, Event, StepFault};

@@ -19,8 +19,8 @@ use Rattle.lock_model.specs.declared.problems.Problem.TheVariants.{First, Second
 use Rattle.lock_model.specs.ExactStations.{knows, IsAboveFloor, IsReaderIfSoftened}
 use Rattle.stable_record.specs.declared.faults.RecordFault.{RecordFault}
 use Rattle.stable_record.specs.declared.faults.RecordFault.TheVariants as faults
-use Rattle.stable_record.specs.Records.{policy_number, status_number, ticket_bytes, live_bytes, entry_bytes, IsTicketOf, IsEntry}
-use Rattle.stable_record.specs.Reading.{policy_at, client_at, floor_at, state_at, attempt_at, goes_with, ticket_mode_at, length_at, ticket_at, live_at, entry_at}
+use Rattle.stable_record.specs.Records.{problem_byte, status_number, ticket_bytes, live_bytes, entry_bytes, IsTicketOf, IsEntry}
+use Rattle.stable_record.specs.Reading.{problem_at, client_at, floor_at, state_at, attempt_at, goes_with, ticket_mode_at, length_at, ticket_at, live_at, entry_at}
 use Rattle.lock_messages.specs.FieldSteps.{bind_ok, bind_again, not_stopped, went_on, chosen, done, ok_is, behind, Takes, takes, Takes-then}
 
 pub is16 : IsFieldWidth w16
@@ -34,12 +34,12 @@ is64 = inr (inr refl)
 
 -- ---- policies and states
 
-one_policy : (b : ℕ) (p : Problem) (rest : List ℕ) (x : Problem × List ℕ) → AreBytes (b ∷ rest) → b ≡ policy_number p → done {A = Problem × List ℕ} RecordFault (p, rest) ≡ Ok x → Takes (b ∷ rest) (policy_number x.0 ∷ []) x.1
+one_policy : (b : ℕ) (p : Problem) (rest : List ℕ) (x : Problem × List ℕ) → AreBytes (b ∷ rest) → b ≡ problem_byte p → done {A = Problem × List ℕ} RecordFault (p, rest) ≡ Ok x → Takes (b ∷ rest) (problem_byte x.0 ∷ []) x.1
 one_policy b p rest x fits h e =
-    subst (λ (y : Problem × List ℕ). Takes (b ∷ rest) (policy_number y.0 ∷ []) y.1) (ok_is (p, rest) x e)
+    subst (λ (y : Problem × List ℕ). Takes (b ∷ rest) (problem_byte y.0 ∷ []) y.1) (ok_is (p, rest) x e)
     (record { parts = ap (λ (n : ℕ). n ∷ rest) h; rest_fits = behind (b ∷ []) rest fits })
 
-pub policy_takes : (bytes : List ℕ) (x : Problem × List ℕ) → AreBytes bytes → policy_at bytes ≡ Ok x → Takes bytes (policy_number x.0 ∷ []) x.1
+pub policy_takes : (bytes : List ℕ) (x : Problem × List ℕ) → AreBytes bytes → problem_at bytes ≡ Ok x → Takes bytes (problem_byte x.0 ∷ []) x.1
 policy_takes [] x fits e = absurd cc
 policy_takes (b ∷ rest) x fits e =
     elim (chosen (eqb b 1) _ _ _ e) [
@@ -50,9 +50,9 @@ policy_takes (b ∷ rest) x fits e =
       ]
     ]
 
-pub policy_again : (p : Problem) (rest : List ℕ) → policy_at (policy_number p ∷ rest) ≡ Ok (p, rest)
-policy_again First rest = refl
-policy_again Second rest = refl
+pub problem_again : (p : Problem) (rest : List ℕ) → problem_at (problem_byte p ∷ rest) ≡ Ok (p, rest)
+problem_again First rest = refl
+problem_again Second rest = refl
 
 abbrev pub state_number : Option Status → ℕ
 state_number None = 0

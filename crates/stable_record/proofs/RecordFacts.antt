@@ -18,13 +18,13 @@ use Rattle.stable_record.specs.declared.formats.TheConstants.{VERSION}
 use Rattle.lock_model.specs.Laws.{LawfulIsSeen, CausedIsSeen}
 use Rattle.stable_record.specs.declared.node_records.NodeRecord.{NodeRecord}
 use Rattle.lock_model.specs.Judgement.{is_lawful, is_caused}
-use Rattle.stable_record.specs.Records.{policy_number, entry_bytes, head_bytes, node_record_of, IsEntry, IsNodeRecord}
+use Rattle.stable_record.specs.Records.{problem_byte, entry_bytes, head_bytes, node_record_of, IsEntry, IsNodeRecord}
 use Rattle.lock_messages.specs.Fields.{◌>>=◌, AreBytes, FieldsAreExact}
-use Rattle.stable_record.specs.Reading.{IsOrRefused, IsGoodSoFar, AreGood, version_at, policy_at, count_at, entry_at, entries_at, head_at, record_at, judged, reading}
+use Rattle.stable_record.specs.Reading.{IsOrRefused, IsGoodSoFar, AreGood, version_at, problem_at, count_at, entry_at, entries_at, head_at, record_at, judged, reading}
 use Rattle.stable_record.specs.Laws.{OneSpelling}
 use Rattle.stable_record.proofs.MapFacts.{same-turned}
 use Rattle.lock_messages.specs.FieldSteps.{bind_ok, bind_again, went_on, ok_is, Takes, Takes-then}
-use Rattle.stable_record.proofs.FieldFacts.{is16, byte_takes, number_takes, policy_takes, policy_again, entry_takes, entry_again}
+use Rattle.stable_record.proofs.FieldFacts.{is16, byte_takes, number_takes, policy_takes, problem_again, entry_takes, entry_again}
 
 abbrev pub read : {A : Type 0} → A → Result A RecordFault
 read x = Ok x
@@ -74,8 +74,8 @@ record TakesRecord (bytes : List ℕ) (r : NodeRecord) (rest : List ℕ) : Type 
 abbrev at_count : Problem → List ℕ → Result ((Problem × ℕ) × List ℕ) RecordFault
 at_count p bytes = count_at bytes >>= λ count. Ok ((p, count.0), count.1)
 
-abbrev at_policy : List ℕ → Result ((Problem × ℕ) × List ℕ) RecordFault
-at_policy bytes = policy_at bytes >>= λ policy. at_count policy.0 policy.1
+abbrev at_problem : List ℕ → Result ((Problem × ℕ) × List ℕ) RecordFault
+at_problem bytes = problem_at bytes >>= λ problem. at_count problem.0 problem.1
 
 -- ---- by the law of fields
 
@@ -117,16 +117,16 @@ module _ (law : FieldsAreExact RecordFault) where
   head_takes : (bytes : List ℕ) (x : (Problem × ℕ) × List ℕ) → AreBytes bytes → head_at bytes ≡ Ok x → Takes bytes (head_bytes x.0.0 x.0.1) x.1 × (x.0.1 ≤ MAX_CLIENTS)
   unfolding head_at
   head_takes bytes x fits e =
-      let v = bind_ok (version_at bytes) (λ version. at_policy version.1) x e in
-      let p = bind_ok (policy_at v.0.1) (λ policy. at_count policy.0 policy.1) x v.2 in
+      let v = bind_ok (version_at bytes) (λ version. at_problem version.1) x e in
+      let p = bind_ok (problem_at v.0.1) (λ problem. at_count problem.0 problem.1) x v.2 in
       let n = bind_ok (count_at p.0.1) (λ count. Ok ((p.0.0, count.0), count.1)) x p.2 in
       let tv = byte_takes law VERSION VERSION faults.Short faults.Version bytes v.0 fits v.1 in
       let tp = policy_takes v.0.1 p.0 tv.0.rest_fits p.1 in
       let tn = number_takes law w16 is16 0 MAX_CLIENTS faults.Short faults.EntryField p.0.1 n.0 tp.rest_fits n.1 in
       let is : v.0.0 ≡ VERSION = omega (arith, tv.1, tv.2) in
       let first : Takes bytes (VERSION ∷ []) v.0.1 = subst (λ (b : ℕ). Takes bytes (b ∷ []) v.0.1) is tv.0 in
-      let from_policy = Takes-then v.0.1 (policy_number p.0.0 ∷ []) p.0.1 (to_be_bytes w16 n.0.0) n.0.1 tp tn.0 in
-      let whole = Takes-then bytes (VERSION ∷ []) v.0.1 (policy_number p.0.0 ∷ to_be_bytes w16 n.0.0) n.0.1 first from_policy in
+      let from_policy = Takes-then v.0.1 (problem_byte p.0.0 ∷ []) p.0.1 (to_be_bytes w16 n.0.0) n.0.1 tp tn.0 in
+      let whole = Takes-then bytes (VERSION ∷ []) v.0.1 (problem_byte p.0.0 ∷ to_be_bytes w16 n.0.0) n.0.1 first from_policy in
       let made : (Problem × ℕ) × List ℕ = ((p.0.0, n.0.0), n.0.1) in
       subst (λ (y : (Problem × ℕ) × List ℕ). Takes bytes (head_bytes y.0.0 y.0.1) y.1 × (y.0.1 ≤ MAX_CLIENTS)) (ok_is made x n.2) (whole, tn.2)
 
@@ -134,16 +134,16 @@ module _ (law : FieldsAreExact RecordFault) where
   unfolding head_at
   head_again p n rest few =
       let b2 = to_be_bytes w16 n ++ rest in
-      let b1 = policy_number p ∷ b2 in
-      bind_again (version_at (VERSION ∷ b1)) (λ version. at_policy version.1) (VERSION, b1) refl
-      ∙ bind_again (policy_at b1) (λ policy. at_count policy.0 policy.1) (p, b2) (policy_again p b2)
+      let b1 = problem_byte p ∷ b2 in
+      bind_again (version_at (VERSION ∷ b1)) (λ version. at_problem version.1) (VERSION, b1) refl
+      ∙ bind_again (problem_at b1) (λ problem. at_count problem.0 problem.1) (p, b2) (problem_again p b2)
       ∙ bind_again (count_at b2) (λ count. Ok ((p, count.0), count.1)) (n, rest) (law.number_again w16 0 MAX_CLIENTS faults.Short faults.EntryField n rest is16 (omega arith) (omega arith) few)
 
   record_takes : (bytes : List ℕ) (x : NodeRecord × List ℕ) → AreBytes bytes → record_at bytes ≡ Ok x → TakesRecord bytes x.0 x.1
   unfolding record_at
   record_takes bytes x fits e =
-      let h = bind_ok (head_at bytes) (λ head. entries_at head.0.1 [] head.1 >>= λ entries. Ok (record { policy = head.0.0; entries = entries.0 }, entries.1)) x e in
-      let b = bind_ok (entries_at h.0.0.1 [] h.0.1) (λ entries. Ok (record { policy = h.0.0.0; entries = entries.0 }, entries.1)) x h.2 in
+      let h = bind_ok (head_at bytes) (λ head. entries_at head.0.1 [] head.1 >>= λ entries. Ok (record { problem = head.0.0; entries = entries.0 }, entries.1)) x e in
+      let b = bind_ok (entries_at h.0.0.1 [] h.0.1) (λ entries. Ok (record { problem = h.0.0.0; entries = entries.0 }, entries.1)) x h.2 in
       let th = head_takes bytes h.0 fits h.1 in
       let tb = entries_take h.0.0.1 [] h.0.1 b.0 th.0.rest_fits b.1 in
       let all : tb.more ≡ b.0.0 = sym tb.all_is in
@@ -151,7 +151,7 @@ module _ (law : FieldsAreExact RecordFault) where
       let len : length b.0.0 ≡ h.0.0.1 = ap length (sym all) ∙ tb.length_is in
       let both = Takes-then bytes (head_bytes h.0.0.0 h.0.0.1) h.0.1 (flat_map entry_bytes b.0.0) b.0.1 th.0 text in
       let whole : Takes bytes (head_bytes h.0.0.0 (length b.0.0) ++ flat_map entry_bytes b.0.0) b.0.1 = subst (λ (n : ℕ). Takes bytes (head_bytes h.0.0.0 n ++ flat_map entry_bytes b.0.0) b.0.1) (sym len) both in
-      let made : NodeRecord × List ℕ = (record { policy = h.0.0.0; entries = b.0.0 }, b.0.1) in
+      let made : NodeRecord × List ℕ = (record { problem = h.0.0.0; entries = b.0.0 }, b.0.1) in
       subst (λ (y : NodeRecord × List ℕ). TakesRecord bytes y.0 y.1) (ok_is made x b.2)
       (record {
         taken = whole;
@@ -164,10 +164,10 @@ module _ (law : FieldsAreExact RecordFault) where
   unfolding record_at
   record_again r rest fits =
       let body = flat_map entry_bytes r.entries ++ rest in
-      ap record_at (append_assoc (head_bytes r.policy (length r.entries)) (flat_map entry_bytes r.entries) rest)
-      ∙ bind_again (head_at (head_bytes r.policy (length r.entries) ++ body)) (λ head. entries_at head.0.1 [] head.1 >>= λ entries. Ok (record { policy = head.0.0; entries = entries.0 }, entries.1)) ((r.policy, length r.entries), body)
-      (head_again r.policy (length r.entries) body fits.few)
-      ∙ bind_again (entries_at (length r.entries) [] body) (λ entries. Ok (record { policy = r.policy; entries = entries.0 }, entries.1)) (r.entries, rest)
+      ap record_at (append_assoc (head_bytes r.problem (length r.entries)) (flat_map entry_bytes r.entries) rest)
+      ∙ bind_again (head_at (head_bytes r.problem (length r.entries) ++ body)) (λ head. entries_at head.0.1 [] head.1 >>= λ entries. Ok (record { problem = head.0.0; entries = entries.0 }, entries.1)) ((r.problem, length r.entries), body)
+      (head_again r.problem (length r.entries) body fits.few)
+      ∙ bind_again (entries_at (length r.entries) [] body) (λ entries. Ok (record { problem = r.problem; entries = entries.0 }, entries.1)) (r.entries, rest)
       (entries_again r.entries [] rest fits.entries fits.well_formed.attempts fits.well_formed.softened fits.well_formed.once)
 
   reading_takes : LawfulIsSeen → CausedIsSeen → (bytes : List ℕ) (r : NodeRecord) → AreBytes bytes → reading bytes ≡ Ok r → IsNodeRecord r × (bytes ≡ node_record_of r)
@@ -175,9 +175,9 @@ module _ (law : FieldsAreExact RecordFault) where
   reading_takes lawful_seen caused_seen bytes r fits e =
       let b = bind_ok (record_at bytes) judged r e in
       let x = b.0 in
-      let g1 = went_on (eqb (length x.1) 0) faults.Trailing (cond (is_lawful x.0.entries) (cond (is_caused x.0.policy x.0.entries) (Ok x.0) (Err faults.NoCause)) (Err faults.WriterNotAlone)) r b.2 in
-      let g2 = went_on (is_lawful x.0.entries) faults.WriterNotAlone (cond (is_caused x.0.policy x.0.entries) (Ok x.0) (Err faults.NoCause)) r g1.1 in
-      let g3 = went_on (is_caused x.0.policy x.0.entries) faults.NoCause (Ok x.0) r g2.1 in
+      let g1 = went_on (eqb (length x.1) 0) faults.Trailing (cond (is_lawful x.0.entries) (cond (is_caused x.0.problem x.0.entries) (Ok x.0) (Err faults.NoCause)) (Err faults.WriterNotAlone)) r b.2 in
+      let g2 = went_on (is_lawful x.0.entries) faults.WriterNotAlone (cond (is_caused x.0.problem x.0.entries) (Ok x.0) (Err faults.NoCause)) r g1.1 in
+      let g3 = went_on (is_caused x.0.problem x.0.entries) faults.NoCause (Ok x.0) r g2.1 in
       let t = record_takes bytes x fits b.1 in
       let nothing : x.1 ≡ [] = nil_from_length x.1 (eqb-true _ _ g1.0) in
       let whole : bytes ≡ node_record_of x.0 = t.taken.parts ∙ ap (λ (q : List ℕ). node_record_of x.0 ++ q) nothing ∙ append-nil (node_record_of x.0) in
@@ -186,8 +186,8 @@ module _ (law : FieldsAreExact RecordFault) where
           few = t.few;
           entries = t.entries;
           well_formed = t.well_formed;
-          lawful = (lawful_seen x.0.policy x.0.entries t.well_formed.once).0 g2.0;
-          caused = (caused_seen x.0.policy x.0.entries t.well_formed.once).0 g3.0;
+          lawful = (lawful_seen x.0.problem x.0.entries t.well_formed.once).0 g2.0;
+          caused = (caused_seen x.0.problem x.0.entries t.well_formed.once).0 g3.0;
         },
         whole,
       )
@@ -196,10 +196,10 @@ module _ (law : FieldsAreExact RecordFault) where
   unfolding reading
   reading_again lawful_seen caused_seen r fits =
       let e : record_at (node_record_of r) ≡ Ok (r, []) = ap record_at (sym (append-nil (node_record_of r))) ∙ record_again r [] fits in
-      let lawful : is_lawful r.entries ≡ true = (lawful_seen r.policy r.entries fits.well_formed.once).1 fits.lawful in
-      let caused : is_caused r.policy r.entries ≡ true = (caused_seen r.policy r.entries fits.well_formed.once).1 fits.caused in
+      let lawful : is_lawful r.entries ≡ true = (lawful_seen r.problem r.entries fits.well_formed.once).1 fits.lawful in
+      let caused : is_caused r.problem r.entries ≡ true = (caused_seen r.problem r.entries fits.well_formed.once).1 fits.caused in
       bind_again (record_at (node_record_of r)) judged (r, []) e
-      ∙ ap (λ (b : Bool). cond b (cond (is_caused r.policy r.entries) (read r) (Err faults.NoCause)) (Err faults.WriterNotAlone)) lawful
+      ∙ ap (λ (b : Bool). cond b (cond (is_caused r.problem r.entries) (read r) (Err faults.NoCause)) (Err faults.WriterNotAlone)) lawful
       ∙ ap (λ (b : Bool). cond b (read r) (Err faults.NoCause)) caused
 
   pub is_found : LawfulIsSeen → CausedIsSeen → (good : Type 0) (bytes : List ℕ) (r : Result NodeRecord RecordFault) → AreBytes bytes → IsOrRefused good r (reading bytes) → IfOk r (λ n. IsNodeRecord n × (bytes ≡ node_record_of n))
@@ -282,9 +282,9 @@ some-count (suc n) bytes x e some = omega arith
 pub good-whole : (bytes : List ℕ) (x : NodeRecord × List ℕ) → record_at bytes ≡ Ok x → (x.0.entries ≡ [] → ⊥) → IsGoodSoFar bytes
 unfolding record_at
 good-whole bytes x e some =
-    let h = bind_ok (head_at bytes) (λ head. entries_at head.0.1 [] head.1 >>= λ entries. Ok (record { policy = head.0.0; entries = entries.0 }, entries.1)) x e in
-    let b = bind_ok (entries_at h.0.0.1 [] h.0.1) (λ entries. Ok (record { policy = h.0.0.0; entries = entries.0 }, entries.1)) x h.2 in
-    let same : b.0.0 ≡ x.0.entries = ap (λ (y : NodeRecord × List ℕ). y.0.entries) (ok_is (record { policy = h.0.0.0; entries = b.0.0 }, b.0.1) x b.2) in
+    let h = bind_ok (head_at bytes) (λ head. entries_at head.0.1 [] head.1 >>= λ entries. Ok (record { problem = head.0.0; entries = entries.0 }, entries.1)) x e in
+    let b = bind_ok (entries_at h.0.0.1 [] h.0.1) (λ entries. Ok (record { problem = h.0.0.0; entries = entries.0 }, entries.1)) x h.2 in
+    let same : b.0.0 ≡ x.0.entries = ap (λ (y : NodeRecord × List ℕ). y.0.entries) (ok_is (record { problem = h.0.0.0; entries = b.0.0 }, b.0.1) x b.2) in
     record {
       head = h.0;
       read = h.1;

@@ -13,6 +13,7 @@ use Rattle.stable_record.specs.Lines.{Tickets, Indexes, line_in, one_if}
 
 -- the ticket of a client that is announced for the resource: it counts nowhere, but waits behind the
 -- others as a reader does
+-- So an announcement changes no answer of the index.
 abbrev pub announced_ticket : List ℕ → Live
 announced_ticket x = record { attempt = 1; mode = Read; resource = x; status = Waiting }
 

@@ -11,7 +11,8 @@ use Rattle.lock_model.specs.declared.problems.Problem.{Problem}
 use Rattle.lock_model.specs.ExactStations.{is_waiting, is_holding, is_write, if_live, any_live, holds, writer_holds, writer_waits, admits_reader}
 
 -- One resource's tickets: how many hold it, how many of these are writers', how many writers wait for
--- it, and the clients whose tickets wait, in the order of the entries.
+-- it, and the clients whose tickets wait, in the order of the entries. A softened ticket counts as a
+-- reader's that holds.
 pub record Tickets : Type 0 where
   pub holders : ℕ
   pub writing_holders : ℕ

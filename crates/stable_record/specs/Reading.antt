@@ -38,9 +38,9 @@ IsOrRefused good result read = ((result ≡ Err faults.NoMemory) × good) ⊎ (r
 abbrev pub version_at : List ℕ → Result (ℕ × List ℕ) RecordFault
 version_at bytes = byte_at VERSION VERSION faults.Short faults.Version bytes
 
-abbrev pub policy_at : List ℕ → Result (Problem × List ℕ) RecordFault
-policy_at [] = Err faults.Short
-policy_at (b ∷ rest) =
+abbrev pub problem_at : List ℕ → Result (Problem × List ℕ) RecordFault
+problem_at [] = Err faults.Short
+problem_at (b ∷ rest) =
     if b == 1 then Ok (First, rest)
     else (if b == 2 then Ok (Second, rest)
     else Err faults.Policy)
@@ -114,26 +114,26 @@ entries_at (suc n) seen bytes = do
   first ← entry_at seen bytes
   entries_at n (seen ++ first.0 ∷ []) first.1
 
--- the policy and the number of entries
+-- the problem and the number of entries
 unfoldable pub head_at : List ℕ → Result ((Problem × ℕ) × List ℕ) RecordFault
 head_at bytes = do
   version ← version_at bytes
-  policy ← policy_at version.1
-  count ← count_at policy.1
-  Ok ((policy.0, count.0), count.1)
+  problem ← problem_at version.1
+  count ← count_at problem.1
+  Ok ((problem.0, count.0), count.1)
 
 unfoldable pub record_at : List ℕ → Result (NodeRecord × List ℕ) RecordFault
 record_at bytes = do
   head ← head_at bytes
   entries ← entries_at head.0.1 [] head.1
-  Ok (record { policy = head.0.0; entries = entries.0 }, entries.1)
+  Ok (record { problem = head.0.0; entries = entries.0 }, entries.1)
 
 -- nothing may follow; then writers that hold have to be alone, and then waits to have causes
 abbrev pub judged : NodeRecord × List ℕ → Result NodeRecord RecordFault
 judged x =
     if length x.1 == 0
     then (if is_lawful x.0.entries
-    then (if is_caused x.0.policy x.0.entries then Ok x.0 else Err faults.NoCause)
+    then (if is_caused x.0.problem x.0.entries then Ok x.0 else Err faults.NoCause)
     else Err faults.WriterNotAlone)
     else Err faults.Trailing
 

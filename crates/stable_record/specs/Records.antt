@@ -17,9 +17,9 @@ use Rattle.lock_model.specs.ExactStations.{IsWellFormed, meaning}
 use Rattle.stable_record.specs.declared.formats.TheConstants.{VERSION}
 use Rattle.stable_record.specs.declared.node_records.NodeRecord.{NodeRecord}
 
-abbrev pub policy_number : Problem → ℕ
-policy_number First = 1
-policy_number Second = 2
+abbrev pub problem_byte : Problem → ℕ
+problem_byte First = 1
+problem_byte Second = 2
 
 abbrev pub status_number : Status → ℕ
 status_number Waiting = 1
@@ -39,13 +39,17 @@ live_bytes (Some l) = status_number l.status ∷ ticket_bytes l
 abbrev pub entry_bytes : Entry → List ℕ
 entry_bytes e = to_be_bytes w32 e.client ++ to_be_bytes w64 e.floor ++ live_bytes e.live
 
--- one byte each for the version and the policy, two for the number of entries, and the entries
+-- one byte each for the version and the problem, two for the number of entries, and the entries
 abbrev pub head_bytes : Problem → ℕ → List ℕ
-head_bytes policy count = VERSION ∷ policy_number policy ∷ to_be_bytes w16 count
+head_bytes problem count = VERSION ∷ problem_byte problem ∷ to_be_bytes w16 count
 
 -- the spelling of a node's record
 abbrev pub node_record_of : NodeRecord → List ℕ
-node_record_of r = head_bytes r.policy (length r.entries) ++ flat_map entry_bytes r.entries
+node_record_of r = head_bytes r.problem (length r.entries) ++ flat_map entry_bytes r.entries
+
+-- the same of a problem and entries, as a station has them
+abbrev pub record_bytes : Problem → List Entry → List ℕ
+record_bytes problem entries = node_record_of (record { problem = problem; entries = entries })
 
 -- the spelling of a client's record: the attempt that it made last, or 0
 abbrev pub client_record_of : ℕ → List ℕ
@@ -68,5 +72,5 @@ pub record IsNodeRecord (r : NodeRecord) : Type 0 where
   pub few : length r.entries ≤ MAX_CLIENTS
   pub entries : AllByRecursion IsEntry r.entries
   pub well_formed : IsWellFormed r.entries
-  pub lawful : IsLawful (meaning r.policy r.entries)
-  pub caused : IsCaused (meaning r.policy r.entries)
+  pub lawful : IsLawful (meaning r.problem r.entries)
+  pub caused : IsCaused (meaning r.problem r.entries)

@@ -30,8 +30,8 @@ pub enum RecordFault {
     /// 312: the version of a node record isn't 1.
     #[error("the node record is of another version")]
     Version,
-    /// 313: the policy isn't 1 or 2.
-    #[error("no policy has this number")]
+    /// 313: the problem isn't 1 or 2.
+    #[error("no problem has this number")]
     Policy,
     /// 314: the number of entries, or a field of an entry, is out of its range. A softened ticket's mode
     /// is `Read`.

@@ -5,7 +5,7 @@ ghost use Rattle.stable_record.specs.Lines.{Indexes};
 
 use crate::{Entries, NodeRecord, RecordFault, ResourceIndex};
 use lock_model::Problem;
-use std::alloc::Global;
+use std::alloc::{AllocError, Global};
 use std::marker::Model;
 
 /// A node's record, and its tickets by resource. Contracts see it as the record: the index is always
@@ -42,13 +42,24 @@ impl IndexedRecord {
         }
     }
 
+    /// A copy of a record, with its index. The only error is that memory was refused.
+    pub fn copy_of(alloc: Global, node: &NodeRecord) -> Result<IndexedRecord, AllocError>
+        ensures { IfOk result (λ copy. copy ≡ node.now) }
+    {
+        let copy = node.clone()?;
+        match IndexedRecord::of(alloc, copy) {
+            Ok(copy) => Ok(copy),
+            Err(_) => Err(AllocError),
+        }
+    }
+
     /// The record of this problem without entries. It takes no memory.
-    pub fn empty(alloc: Global, policy: Problem) -> IndexedRecord
-        ensures { result ≡ record { policy = policy; entries = [] } }
+    pub fn empty(alloc: Global, problem: Problem) -> IndexedRecord
+        ensures { result ≡ record { problem = problem; entries = [] } }
     {
         IndexedRecord {
             node: NodeRecord {
-                policy,
+                problem,
                 entries: Entries::new(alloc),
             },
             index: ResourceIndex::empty(alloc),

@@ -28,29 +28,20 @@ impl Kept {
     pub(crate) fn holds(&self, resource: &ResourceName) -> bool
         ensures { result ≡ if_live (holds resource.now) self.now.live }
     {
-        match self.live {
-            None => false,
-            Some(live) => live.holds(resource),
-        }
+        self.live.is_some_and(|live| live.holds(resource))
     }
 
     /// Whether a writer's ticket holds the resource.
     pub(crate) fn writer_holds(&self, resource: &ResourceName) -> bool
         ensures { result ≡ if_live (writer_holds resource.now) self.now.live }
     {
-        match self.live {
-            None => false,
-            Some(live) => live.writer_holds(resource),
-        }
+        self.live.is_some_and(|live| live.writer_holds(resource))
     }
 
     /// Whether a writer's ticket waits for the resource.
     pub(crate) fn writer_waits(&self, resource: &ResourceName) -> bool
         ensures { result ≡ if_live (writer_waits resource.now) self.now.live }
     {
-        match self.live {
-            None => false,
-            Some(live) => live.writer_waits(resource),
-        }
+        self.live.is_some_and(|live| live.writer_waits(resource))
     }
 }

@@ -13,6 +13,7 @@ use std::marker::Model;
 
 /// What a node knows of one resource: how many tickets hold it and whether one is a writer's, how
 /// many writers wait for it, and who waits, in the order of the entries.
+/// It counts writers that hold, though a lawful record has one at most: a count can be taken back, a yes or no can't.
 #[derive(Debug, Drop)]
 pub struct Line {
     held: usize,

@@ -11,7 +11,7 @@ use std::alloc::AllocError;
 /// What a node keeps: the problem that it solves, and its entries.
 #[derive(Debug, Drop)]
 pub struct NodeRecord {
-    pub policy: Problem,
+    pub problem: Problem,
     pub entries: Entries,
 }
 
@@ -24,7 +24,7 @@ impl Clone for NodeRecord {
 
     fn clone(&self) -> Result<NodeRecord, AllocError> {
         Ok(NodeRecord {
-            policy: self.policy,
+            problem: self.problem,
             entries: self.entries.clone()?,
         })
     }
@@ -34,7 +34,7 @@ impl NodeRecord {
     /// Whether each writer that holds a resource is its only holder (Courtois, Heymans and Parnas
     /// 1971). It takes no memory, and time of the square of the number of entries at most.
     pub fn lawful(&self) -> bool
-        ensures { IsTrue result ↔ IsLawful (meaning self.now.policy self.now.entries) }
+        ensures { IsTrue result ↔ IsLawful (meaning self.now.problem self.now.entries) }
     {
         lock_model::laws::judgement_is_exact();
         self.entries.is_lawful()
@@ -44,9 +44,9 @@ impl NodeRecord {
     /// reader, that a writer holds it or, under problem 2, waits for it. It takes no memory, and
     /// time of the square of the number of entries at most.
     pub fn caused(&self) -> bool
-        ensures { IsTrue result ↔ IsCaused (meaning self.now.policy self.now.entries) }
+        ensures { IsTrue result ↔ IsCaused (meaning self.now.problem self.now.entries) }
     {
         lock_model::laws::judgement_is_exact();
-        self.entries.is_caused(self.policy)
+        self.entries.is_caused(self.problem)
     }
 }

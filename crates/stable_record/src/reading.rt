@@ -6,7 +6,7 @@ ghost use Rattle.lock_messages.specs.Fields.{Gives, number_at, mode_at, name_at}
 ghost use Rattle.lock_model.specs.declared.entries.Entry.{Entry};
 ghost use Rattle.stable_record.specs.declared.node_records.NodeRecord.{NodeRecord};
 ghost use Rattle.stable_record.specs.Records.{IsNodeRecord, node_record_of};
-ghost use Rattle.stable_record.specs.Reading.{GivesOr, LeavesOr, IsOrRefused, AreGood, IsGoodSoFar, version_at, policy_at, count_at, client_at, floor_at, state_at, attempt_at, goes_with, ticket_mode_at, length_at, ticket_at, live_at, entry_at, entries_at, head_at, record_at, judged, reading};
+ghost use Rattle.stable_record.specs.Reading.{GivesOr, LeavesOr, IsOrRefused, AreGood, IsGoodSoFar, version_at, problem_at, count_at, client_at, floor_at, state_at, attempt_at, goes_with, ticket_mode_at, length_at, ticket_at, live_at, entry_at, entries_at, head_at, record_at, judged, reading};
 
 use crate::formats::VERSION;
 use crate::{Entries, Entry, Live, NodeRecord, RecordFault, ResourceIndex, Status};
@@ -47,8 +47,8 @@ impl Unread<'_> {
         Ok(*byte)
     }
 
-    fn policy(&mut self) -> Result<Problem, RecordFault>
-        ensures { Gives result self.new.bytes.now (policy_at self.old.bytes.now) }
+    fn problem(&mut self) -> Result<Problem, RecordFault>
+        ensures { Gives result self.new.bytes.now (problem_at self.old.bytes.now) }
     {
         let [byte, rest @ ..] = self.bytes else {
             return Err(RecordFault::Short);
@@ -276,18 +276,18 @@ impl Unread<'_> {
         ensures { Gives result self.new.bytes.now (head_at self.old.bytes.now) }
     {
         self.version()?;
-        let policy = self.policy()?;
+        let problem = self.problem()?;
         let count = self.count()?;
-        Ok((policy, count))
+        Ok((problem, count))
     }
 
     #[tactic(auto, unfolding(crate::specs::Reading::record_at))]
     fn record(&mut self, alloc: Global) -> Result<NodeRecord, RecordFault>
         ensures { GivesOr (IsGoodSoFar self.old.bytes.now) result self.new.bytes.now (record_at self.old.bytes.now) }
     {
-        let (policy, count) = self.head()?;
+        let (problem, count) = self.head()?;
         let entries = self.entries(alloc, count)?;
-        Ok(NodeRecord { policy, entries })
+        Ok(NodeRecord { problem, entries })
     }
 }
 
@@ -303,7 +303,7 @@ fn judge(alloc: Global, node: NodeRecord) -> Result<NodeRecord, RecordFault>
     if !node.entries.is_lawful_by(&index) {
         return Err(RecordFault::WriterNotAlone);
     }
-    if !node.entries.is_caused_by(&index, node.policy) {
+    if !node.entries.is_caused_by(&index, node.problem) {
         return Err(RecordFault::NoCause);
     }
     Ok(node)
@@ -324,7 +324,7 @@ fn whole(alloc: Global, bytes: &[u8]) -> Result<NodeRecord, RecordFault>
 /// The node record that the bytes spell, all of the bytes.
 ///
 /// Else the fault of the first field from the front that isn't wholly there (311) or whose value is
-/// wrong: the version (312), the policy (313), the number of entries and an entry's fields (314; the
+/// wrong: the version (312), the problem (313), the number of entries and an entry's fields (314; the
 /// mode of a softened ticket is `Read`, and judged at the mode), a client that an earlier entry has
 /// (315, at the client's field), an attempt that isn't one above the floor (316, behind the attempt's
 /// own range). Behind the last entry it is bytes that follow (319), a writer that holds beside another

@@ -11,8 +11,8 @@ use crate::formats::MAX_RECORD_LEN;
 ///
 /// What it means is in four words, which no code computes. `finds`: the byte strings, one or two,
 /// one of which a restart now may find. `stuck_of`: whether a change has failed since the last
-/// reopen. `spent_of`: whether no change can be numbered any more. `failures_of`: how often the
-/// device has failed, up to `u64::MAX`. The rules are our own.
+/// reopen. `spent_of`: whether no change can be numbered any more (without it "305 comes before 304" could not
+/// be said). `failures_of`: how often the device has failed, up to `u64::MAX`. The rules are our own.
 pub trait StableRecord: Drop {
     ghost finds: { Self → List (List ℕ) };
 
@@ -61,6 +61,7 @@ pub trait StableRecord: Drop {
 
     /// Whether a change has failed since the last reopen. That a restart may find one or two byte
     /// strings is learned here, also of a record that was handed in.
+    /// It is learned here because a trait has no invariant.
     fn stuck(&self) -> bool
         ensures answer { result ≡ stuck_of self.now }
         ensures some { IsOneOrTwo (finds self.now) };

@@ -2,7 +2,7 @@
 
 ghost use Rattle.std.specs.Prelude.{◌≡◌, ◌++◌, OnOk, IfOk, IsOkUnless};
 ghost use Rattle.lock_messages.specs.Fields.{mode_number};
-ghost use Rattle.stable_record.specs.Records.{ticket_bytes, live_bytes, entry_bytes, head_bytes, node_record_of, status_number, policy_number};
+ghost use Rattle.stable_record.specs.Records.{ticket_bytes, live_bytes, entry_bytes, head_bytes, node_record_of, status_number, problem_byte};
 
 use crate::formats::VERSION;
 use crate::{Entry, Live, NodeRecord, RecordFault, Status};
@@ -29,10 +29,10 @@ fn mode_number(mode: Mode) -> u8
     }
 }
 
-fn policy_number(policy: Problem) -> u8
-    ensures { result ≡ policy_number policy }
+fn problem_byte(problem: Problem) -> u8
+    ensures { result ≡ problem_byte problem }
 {
-    match policy {
+    match problem {
         Problem::First => 1,
         Problem::Second => 2,
     }
@@ -67,10 +67,10 @@ fn put_entry(out: &mut Vec<u8>, entry: &Entry) -> Result<(), AllocError>
     put_live(out, entry.live)
 }
 
-fn put_head(out: &mut Vec<u8>, policy: Problem, count: u16) -> Result<(), AllocError>
-    ensures { OnOk result (out.new.items ≡ out.old.items ++ head_bytes policy count) }
+fn put_head(out: &mut Vec<u8>, problem: Problem, count: u16) -> Result<(), AllocError>
+    ensures { OnOk result (out.new.items ≡ out.old.items ++ head_bytes problem count) }
 {
-    out.extend_from_slice(&[VERSION, policy_number(policy)])?;
+    out.extend_from_slice(&[VERSION, problem_byte(problem)])?;
     out.extend_from_slice(&count.to_be_bytes())?;
     Ok(())
 }
@@ -78,7 +78,7 @@ fn put_head(out: &mut Vec<u8>, policy: Problem, count: u16) -> Result<(), AllocE
 fn put_record(out: &mut Vec<u8>, node: &NodeRecord) -> Result<(), AllocError>
     ensures { OnOk result (out.new.items ≡ out.old.items ++ node_record_of node.now) }
 {
-    put_head(out, node.policy, node.entries.len() as u16)?;
+    put_head(out, node.problem, node.entries.len() as u16)?;
     for place in 0..node.entries.len() {
         put_entry(out, &node.entries.at(place))?;
     }

@@ -41,6 +41,7 @@ is_freed None l = false
 is_freed (Some x) l = is_for x l
 
 -- no ticket but those for the freed resource would settle among the entries
+-- Private functions promise it to one another. It follows from a caused station.
 abbrev pub OthersStay : Problem → Option (List ℕ) → List Entry → Type 0
 OthersStay p freed entries = AllByRecursion (λ e. if_live (is_freed freed) e.live ≡ false → settled_entry p entries e ≡ e) entries
 

@@ -1,4 +1,5 @@
 -- Settling client by client, in the order in which they wait.
+-- To go so over those that wait for the freed resource is to settle. The code proves that where it does it.
 use Rattle.std.specs.Prelude.{ℕ, List, [], ◌∷◌, ◌++◌, Option, Some, None}
 use Rattle.lock_messages.specs.declared.messages.Message.{Message}
 use Rattle.lock_model.specs.declared.entries.Entry.{Entry}

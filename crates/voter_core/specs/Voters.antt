@@ -59,11 +59,11 @@ replies_in (Stored replies) = replies
 
 -- the node's record
 abbrev pub record_of : Voter → NodeRecord
-record_of v = record { policy = v.problem; entries = v.entries }
+record_of v = record { problem = v.problem; entries = v.entries }
 
 -- a node that rises with this record
 abbrev pub risen : ℕ → NodeRecord → Voter
-risen n r = record { node = n; problem = r.policy; entries = r.entries; state = Idle }
+risen n r = record { node = n; problem = r.problem; entries = r.entries; state = Idle }
 
 -- the state after a decision that changes the record, or doesn't
 abbrev pub state_after : Bool → List Message → State

@@ -408,6 +408,7 @@ fn take_up(
     let last = ticket.attempt.get() - 1;
     let freed = freed(entries, ticket.client, last);
     make_way(entries, index, alloc, ticket)?;
+    // Busy first. The Grant replaces it if the ticket is admitted, so the replies grow once, before anything changes.
     replies.push_reserved(Message::Busy(node, *ticket));
     let waiting = waiting_beside(index, &freed, &ticket.resource);
     settle(
@@ -550,11 +551,11 @@ fn is_message(message: &Message)
 /// client's floor.
 pub(crate) fn is_caused(station: &NodeRecord)
     requires record { IsNodeRecord station.now }
-    ensures caused { is_caused station.now.policy station.now.entries ≡ true }
+    ensures caused { is_caused station.now.problem station.now.entries ≡ true }
     ensures attempts { AllByRecursion IsAboveFloor station.now.entries }
     ensures few { length station.now.entries ≤ MAX_CLIENTS }
 {
-    let _policy = station.policy;
+    let _problem = station.problem;
     judgement_is_exact();
 }
 
@@ -563,11 +564,11 @@ pub(crate) fn is_caused(station: &NodeRecord)
 pub(crate) fn stays_a_record(station: &NodeRecord, node: NodeId, message: &Message)
     requires record { IsNodeRecord station.now }
     requires for_node { is_for_node message.now node ≡ true }
-    ensures record { IsNodeRecord (record { policy = station.now.policy; entries = (decision station.now.policy station.now.entries message.now).entries }) }
-    ensures allowed { IsAllowed station.now.policy station.now.entries message.now }
-    ensures changes { (b : Bool) → IsTrue b ↔ Changes station.now.policy station.now.entries message.now → b ≡ changes station.now.policy station.now.entries message.now }
+    ensures record { IsNodeRecord (record { problem = station.now.problem; entries = (decision station.now.problem station.now.entries message.now).entries }) }
+    ensures allowed { IsAllowed station.now.problem station.now.entries message.now }
+    ensures changes { (b : Bool) → IsTrue b ↔ Changes station.now.problem station.now.entries message.now → b ≡ changes station.now.problem station.now.entries message.now }
 {
-    let _policy = station.policy;
+    let _problem = station.problem;
     is_message(message);
     decision_is_allowed();
     changes_are_seen();
@@ -578,10 +579,10 @@ pub(crate) fn stays_a_record(station: &NodeRecord, node: NodeId, message: &Messa
 /// the switch is one that the node may take.
 pub(crate) fn switches_to_a_record(station: &NodeRecord, node: NodeId, problem: Problem)
     requires { IsNodeRecord station.now }
-    ensures record { IsNodeRecord (record { policy = problem; entries = (switches node problem station.now.entries).entries }) }
-    ensures allowed { IsAllowedSwitch station.now.policy problem station.now.entries node }
+    ensures record { IsNodeRecord (record { problem = problem; entries = (switches node problem station.now.entries).entries }) }
+    ensures allowed { IsAllowedSwitch station.now.problem problem station.now.entries node }
 {
-    let _policy = station.policy;
+    let _problem = station.problem;
     switch_is_allowed();
     entries_are_few();
 }

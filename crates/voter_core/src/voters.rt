@@ -44,20 +44,9 @@ impl Model for NodeCore {
 
     ghost Value = { Voter };
 
-    ghost view = { λ c. record { node = c.id; problem = c.station.policy; entries = c.station.entries; state = state_of c.about c.told.items } };
+    ghost view = { λ c. record { node = c.id; problem = c.station.problem; entries = c.station.entries; state = state_of c.about c.told.items } };
 
     ghost invariant = { λ c. IsIndexed c.station c.index };
-}
-
-/// A copy of a station, with its index. The only error is want of memory.
-fn indexed_copy(alloc: Global, station: &NodeRecord) -> Result<IndexedRecord, AllocError>
-    ensures { IfOk result (λ copy. copy ≡ station.now) }
-{
-    let copy = station.clone()?;
-    match IndexedRecord::of(alloc, copy) {
-        Ok(copy) => Ok(copy),
-        Err(_) => Err(AllocError),
-    }
 }
 
 impl NodeCore {
@@ -215,7 +204,7 @@ impl NodeCore {
         let Ok(mut replies) = room_for(self.alloc, &self.index, freed) else {
             return Err(VoterFault::Memory);
         };
-        let problem = self.station.policy;
+        let problem = self.station.problem;
         let entries = &mut self.station.entries;
         let index = &mut self.index;
         let policies = &mut self.policies;
@@ -262,8 +251,8 @@ impl NodeCore {
         let entries = &mut self.station.entries;
         let index = &mut self.index;
         settle_all(policies, problem, self.id, entries, index, &mut replies);
-        let changed = !same_problem(self.station.policy, problem);
-        self.station.policy = problem;
+        let changed = !same_problem(self.station.problem, problem);
+        self.station.problem = problem;
         self.told = replies;
         self.about = phase_after(changed);
         Ok(changed)
@@ -325,7 +314,7 @@ impl NodeCore {
         ensures memory { IsOkUnless result VoterFault.Memory }
     {
         let alloc = self.alloc;
-        let Ok(copy) = indexed_copy(alloc, &self.station) else {
+        let Ok(copy) = IndexedRecord::copy_of(alloc, &self.station) else {
             return Err(VoterFault::Memory);
         };
         let Ok(told) = self.told.clone() else {

@@ -24,13 +24,13 @@ switch-in-step same compared core k t p good now none = go (same_problem core.pr
     o : Outcome
     o = switches core.node p core.entries
 
-    go : (b : Bool) → same_problem core.problem p ≡ b → IsInStep (state_after (not b) o.replies) (record { policy = p; entries = o.entries }) k t
-    go false e = subst (λ u. IfSome u (λ r. r ≡ record { policy = p; entries = o.entries })) (sym none) tt
+    go : (b : Bool) → same_problem core.problem p ≡ b → IsInStep (state_after (not b) o.replies) (record { problem = p; entries = o.entries }) k t
+    go false e = subst (λ u. IfSome u (λ r. r ≡ record { problem = p; entries = o.entries })) (sym none) tt
     go true e =
         let is : core.problem ≡ p = (compared core.problem p).0 e in
         let well = subst IsNodeRecord (sym now) good in
         let still : o ≡ record { entries = core.entries; replies = [] } = same p core.entries core.node well.well_formed (subst (λ q. IsCaused (meaning q core.entries)) is well.caused) in
-        (ap (λ (u : Outcome). record { policy = p; entries = u.entries }) still ∙ ap (λ q. record { policy = q; entries = core.entries }) (sym is) ∙ now, none)
+        (ap (λ (u : Outcome). record { problem = p; entries = u.entries }) still ∙ ap (λ q. record { problem = q; entries = core.entries }) (sym is) ∙ now, none)
 
 pub switched-acting : SwitchToTheSame → ProblemsAreCompared → (core : Voter) (k : NodeRecord) (t : Option NodeRecord) (up : Bool) (p : Problem) (new : Voter) → IsActing core k t up → phase_if up core ≡ node.Idle →
     new ≡ switched core p → IsActing new k t up

@@ -10,8 +10,9 @@ use Rattle.world_model.specs.declared.exact.ExactNodePhase.TheVariants as node
 use Rattle.world_actors.specs.Acting.{ActingNode}
 
 -- what a record keeps
+-- One line in each of the two crates: a crate for it would make the longest chain of crates longer.
 abbrev pub station_in : NodeRecord → ExactStation
-station_in r = record { problem = r.policy; entries = r.entries }
+station_in r = record { problem = r.problem; entries = r.entries }
 
 -- what a node that is up is about, where this is its core's record
 abbrev pub phase_of : NodeRecord → State → ExactNodePhase

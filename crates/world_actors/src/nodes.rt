@@ -55,19 +55,8 @@ fn empty_record(alloc: Global, problem: Problem) -> NodeRecord
     ensures good { IsNodeRecord result }
 {
     NodeRecord {
-        policy: problem,
+        problem,
         entries: Entries::new(alloc),
-    }
-}
-
-/// A copy of a record, with its index. The only error is want of memory.
-fn indexed_copy(alloc: Global, station: &NodeRecord) -> Result<IndexedRecord, AllocError>
-    ensures { IfOk result (λ copy. copy ≡ station.now) }
-{
-    let copy = station.clone()?;
-    match IndexedRecord::of(alloc, copy) {
-        Ok(copy) => Ok(copy),
-        Err(_) => Err(AllocError),
     }
 }
 
@@ -99,7 +88,7 @@ impl WorldNode {
         ensures number { result.number ≡ id }
         ensures down { result.part ≡ down_node (station_in station) }
     {
-        let empty = IndexedRecord::empty(alloc, station.policy);
+        let empty = IndexedRecord::empty(alloc, station.problem);
         WorldNode {
             alloc,
             core: NodeCore::rise_with(alloc, id, empty, policies),
@@ -331,7 +320,7 @@ impl WorldNode {
         ensures unchanged { OnErr result (self.new ≡ self.old) }
         ensures number { self.new.number ≡ self.old.number }
     {
-        let Ok(copy) = indexed_copy(self.alloc, &self.kept) else {
+        let Ok(copy) = IndexedRecord::copy_of(self.alloc, &self.kept) else {
             return Err(StepFault::Memory);
         };
         self.core.restart_with(copy);
@@ -351,7 +340,7 @@ impl WorldNode {
         let Some(found) = &self.tried else {
             return Err(StepFault::NothingTried);
         };
-        let Ok(copy) = indexed_copy(self.alloc, found) else {
+        let Ok(copy) = IndexedRecord::copy_of(self.alloc, found) else {
             return Err(StepFault::Memory);
         };
         if let Some(next) = self.tried.take() {

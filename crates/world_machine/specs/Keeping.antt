@@ -8,7 +8,7 @@ use Rattle.world_model.specs.declared.exact.ExactWorld.{ExactWorld}
 
 -- the record of a station
 abbrev pub record_in : ExactStation → NodeRecord
-record_in s = record { policy = s.problem; entries = s.entries }
+record_in s = record { problem = s.problem; entries = s.entries }
 
 -- What each node has kept is a record that is read again as it was written, and there are no more nodes
 -- and clients than have numbers.

@@ -9,11 +9,12 @@ use Rattle.lock_model.specs.declared.entries.Live.{Live}
 use Rattle.lock_model.specs.Stations.{Station, Holds, Waits, ticket_at}
 use Rattle.lock_model.specs.Decisions.{Among}
 use Rattle.lock_model.specs.ExactStations.{holds}
-use Rattle.stable_record.specs.Records.{node_record_of, client_record_of}
+use Rattle.stable_record.specs.Records.{record_bytes, client_record_of}
 use Rattle.world_model.specs.declared.events.StepFault.{StepFault}
 use Rattle.world_model.specs.declared.events.StepFault.TheVariants as fault
 use Rattle.world_model.specs.declared.exact.ExactStation.{ExactStation}
 use Rattle.world_model.specs.declared.exact.ExactWorld.{ExactWorld}
+pub use Rattle.world_model.specs.Company.{AreInside}
 use Rattle.world_model.specs.ExactWorlds.{numbered}
 use Rattle.world_model.specs.Views.{waits, waiting, holding}
 use Rattle.world_model.specs.Worlds.{World, IsInside}
@@ -36,7 +37,7 @@ has_actor w (actor.Client c) = nat_le c (length w.clients)
 
 -- the bytes of a station's record
 abbrev pub station_bytes : ExactStation → List ℕ
-station_bytes s = node_record_of (record { policy = s.problem; entries = s.entries })
+station_bytes s = record_bytes s.problem s.entries
 
 -- the record of what the actor has kept; none where there is no such actor
 abbrev pub kept_bytes : Actor → ExactWorld → Option (List ℕ)
@@ -47,10 +48,6 @@ kept_bytes (actor.Client c) w = option_map (λ k. client_record_of k.kept) (numb
 abbrev pub Tells : {A B : Type 0} → (A → B) → Option B → Result A StepFault → Type 0
 Tells view there (Ok a) = there ≡ Some (view a)
 Tells view there (Err f) = ((f ≡ fault.UnknownActor) × (there ≡ None)) ⊎ ((f ≡ fault.Memory) × (there ≢ None))
-
--- the list is that of those inside the resource, each with a ticket of its own
-abbrev pub AreInside : World → List ℕ → List Ticket → Type 0
-AreInside w x tickets = (c : ℕ) (m : Mode) → IsInside w c m x ↔ ((t : Ticket) × Among t tickets × (t.client ≡ c) × (t.mode ≡ m))
 
 -- the client is inside exactly where a ticket was found, and then with that
 abbrev pub IsInsideBy : World → ℕ → Option Ticket → Type 0

@@ -102,7 +102,7 @@ fn empty_records(
     let mut records = Vec::with_capacity(alloc, count)?;
     for place in 0..count {
         records.push(NodeRecord {
-            policy: problem,
+            problem,
             entries: Entries::new(alloc),
         })?;
     }

@@ -174,6 +174,8 @@ abbrev pub own_move : Setting → (ℕ → Bool) → Want → World → Option M
 own_move s chosen a w = found (alone (beginning a (w.clients a.client))) (own_in s chosen a w (w.clients a.client).phase)
 
 -- the next move, if there is one
+-- You need not believe this to believe the law: it is the way that the proof takes, and the body of World::way_in.
+-- No clause speaks of it.
 abbrev pub next_move : Setting → (ℕ → Bool) → Want → World → Option Move
 next_move s chosen a w = found (finish_move s chosen w) (found (clear_move s chosen a w) (own_move s chosen a w))
 

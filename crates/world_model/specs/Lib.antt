@@ -1,4 +1,5 @@
 pub mod Faults
+pub mod Kinds
 pub mod Worlds
 pub mod Invariants
 pub mod Exclusion
@@ -18,4 +19,5 @@ pub mod Ways
 pub mod ExactWays
 pub mod Locality
 pub mod Staying
+pub mod Company
 pub mod Examples

@@ -8,16 +8,17 @@ use Rattle.lock_model.specs.Ballots.{Ballot}
 use Rattle.world_model.specs.declared.events.Effect.{Effect}
 use Rattle.world_model.specs.declared.events.Effect.TheVariants as effect
 use Rattle.world_model.specs.declared.events.Event.{Event}
-use Rattle.world_model.specs.declared.events.Event.TheVariants as event
 use Rattle.world_model.specs.declared.events.StepFault.{StepFault}
 use Rattle.world_model.specs.declared.events.StepFault.TheVariants as fault
 use Rattle.world_model.specs.declared.exact.ExactNode.{ExactNode}
 use Rattle.world_model.specs.declared.exact.ExactClient.{ExactClient}
 use Rattle.world_model.specs.declared.exact.ExactWorld.{ExactWorld}
+use Rattle.world_model.specs.Kinds.{Kind, Reading, Speaking, kind_of}
 use Rattle.world_model.specs.Turns.{Acts, Speaks, Reads, Turns}
 use Rattle.world_model.specs.ExactWorlds.{numbered, Deed, NodeDoes, ClientDoes, deed_of, actor_of, refusal_of}
 
 -- a number for each actor, of which no other has the same
+-- Even numbers for nodes and odd ones for clients, so that no bound on their numbers is needed.
 abbrev pub place : Actor → ℕ
 place (actor.Node n) = n + n
 place (actor.Client c) = c + c + 1
@@ -73,21 +74,14 @@ is_own_fault fault.AttemptsSpent = true
 is_own_fault fault.NothingTried = true
 is_own_fault fault.NoSuchPlace = true
 
--- the refusals that the list of messages may have for an event
+-- the refusals that the list of messages may have for an event: of one that reads a message or says something
+abbrev pub IsFaultOfKind : Kind → StepFault → Type 0
+IsFaultOfKind Reading f = (f ≡ fault.NoSuchMessage) ⊎ (f ≡ fault.NotAddressed)
+IsFaultOfKind Speaking f = f ≡ fault.SentListFull
+IsFaultOfKind _ f = ⊥
+
 abbrev pub IsListFault : Event → StepFault → Type 0
-IsListFault (event.Take n k) f = (f ≡ fault.NoSuchMessage) ⊎ (f ≡ fault.NotAddressed)
-IsListFault (event.Hear c k) f = (f ≡ fault.NoSuchMessage) ⊎ (f ≡ fault.NotAddressed)
-IsListFault (event.SayTo c n) f = f ≡ fault.SentListFull
-IsListFault (event.Say n) f = f ≡ fault.SentListFull
-IsListFault (event.Begin c m x place) f = ⊥
-IsListFault (event.Try who) f = ⊥
-IsListFault (event.Kept who) f = ⊥
-IsListFault (event.Enter c) f = ⊥
-IsListFault (event.Leave c) f = ⊥
-IsListFault (event.Soften c) f = ⊥
-IsListFault (event.Fall who) f = ⊥
-IsListFault (event.Rise who age) f = ⊥
-IsListFault (event.Switch n p) f = ⊥
+IsListFault e f = IsFaultOfKind (kind_of e) f
 
 -- the message that an effect carries
 abbrev pub message_of : Effect → Option Message
@@ -104,6 +98,38 @@ message_of effect.Softened = None
 message_of effect.Down = None
 message_of effect.Up = None
 message_of (effect.Switched changed) = None
+
+-- the number of the message that was sent, or of the first one that was said; 0 where nothing is said
+abbrev pub number_of : Effect → ℕ
+number_of (effect.Sent k m) = k
+number_of (effect.Said first count) = first
+number_of (effect.Chose a) = 0
+number_of effect.Tried = 0
+number_of effect.Kept = 0
+number_of (effect.Took m changed) = 0
+number_of (effect.Heard m heard) = 0
+number_of effect.Inside = 0
+number_of effect.Outside = 0
+number_of effect.Softened = 0
+number_of effect.Down = 0
+number_of effect.Up = 0
+number_of (effect.Switched changed) = 0
+
+-- whether a message that was taken, or a problem that was switched to, changes the record
+abbrev pub changed_by : Effect → Bool
+changed_by (effect.Took m changed) = changed
+changed_by (effect.Switched changed) = changed
+changed_by (effect.Chose a) = false
+changed_by effect.Tried = false
+changed_by effect.Kept = false
+changed_by (effect.Sent k m) = false
+changed_by (effect.Said first count) = false
+changed_by (effect.Heard m heard) = false
+changed_by effect.Inside = false
+changed_by effect.Outside = false
+changed_by effect.Softened = false
+changed_by effect.Down = false
+changed_by effect.Up = false
 
 -- the actor after its turn
 abbrev pub after_reading : {A : Type 0} → A → (Message → A) → Option Message → A

@@ -1,5 +1,5 @@
 -- Who is inside stays inside until its own Leave or Fall.
-use Rattle.std.specs.Prelude.{◌≡◌, ℕ, ◌⊎◌, Bool, true, false, List, Option, Some, None}
+use Rattle.std.specs.Prelude.{◌≡◌, ℕ, ◌⊎◌, Bool, true, false, ◌||◌, List, Option, Some, None}
 use Rattle.std.specs.List.{AllByRecursion}
 use Rattle.lock_messages.specs.declared.ids.Actor.TheVariants as actor
 use Rattle.lock_messages.specs.declared.tickets.Mode.TheVariants.{Write}
@@ -7,9 +7,9 @@ use Rattle.lock_messages.specs.declared.tickets.Ticket.{Ticket}
 use Rattle.lock_model.specs.Ballots.{Ballot}
 use Rattle.world_model.specs.declared.events.Effect.{Effect}
 use Rattle.world_model.specs.declared.events.Event.{Event}
-use Rattle.world_model.specs.declared.events.Event.TheVariants as event
 use Rattle.world_model.specs.declared.exact.ExactWorld.{ExactWorld}
 use Rattle.world_model.specs.ExactWorlds.{actor_of}
+use Rattle.world_model.specs.Kinds.{kind_of, is_leaving, is_softening, is_falling}
 use Rattle.world_model.specs.Laws.{Takes}
 use Rattle.world_model.specs.Locality.{IsHistory, own_events, local_part}
 use Rattle.world_model.specs.Parts.{Part, NoPart, NodePart, ClientPart}
@@ -23,35 +23,11 @@ inside_ticket (ClientPart k) = ticket_in k.phase
 
 -- the event is a Leave or a Fall
 abbrev pub leaves_or_falls : Event → Bool
-leaves_or_falls (event.Leave c) = true
-leaves_or_falls (event.Soften c) = false
-leaves_or_falls (event.Fall who) = true
-leaves_or_falls (event.Begin c m x place) = false
-leaves_or_falls (event.Try who) = false
-leaves_or_falls (event.Kept who) = false
-leaves_or_falls (event.SayTo c n) = false
-leaves_or_falls (event.Say n) = false
-leaves_or_falls (event.Take n k) = false
-leaves_or_falls (event.Hear c k) = false
-leaves_or_falls (event.Enter c) = false
-leaves_or_falls (event.Rise who age) = false
-leaves_or_falls (event.Switch n p) = false
+leaves_or_falls e = is_leaving (kind_of e) || is_falling (kind_of e)
 
 -- the event is a Soften
 abbrev pub is_soften : Event → Bool
-is_soften (event.Soften c) = true
-is_soften (event.Begin c m x place) = false
-is_soften (event.Try who) = false
-is_soften (event.Kept who) = false
-is_soften (event.SayTo c n) = false
-is_soften (event.Say n) = false
-is_soften (event.Take n k) = false
-is_soften (event.Hear c k) = false
-is_soften (event.Enter c) = false
-is_soften (event.Leave c) = false
-is_soften (event.Fall who) = false
-is_soften (event.Rise who age) = false
-is_soften (event.Switch n p) = false
+is_soften e = is_softening (kind_of e)
 
 -- none of these events is a Soften
 abbrev pub HasNoSoften : List (Event × Effect) → Type 0

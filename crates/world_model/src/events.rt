@@ -3,6 +3,7 @@
 ghost use Rattle.std.specs.Prelude.{◌≡◌};
 ghost use Rattle.world_model.specs.ExactWorlds.{actor_of};
 ghost use Rattle.world_model.specs.Faults.{fault_number};
+ghost use Rattle.world_model.specs.Parts.{message_of, number_of, changed_by};
 
 use lock_messages::{Actor, Attempt, ClientId, Message, Mode, NodeId, ResourceName};
 use lock_model::{Heard, Problem};
@@ -91,6 +92,39 @@ pub enum Effect {
     Up,
     /// Whether the problem is another one than before.
     Switched(bool),
+}
+
+impl Effect {
+    /// The message that was taken or heard, of an effect that has one.
+    pub fn message(&self) -> Option<Message>
+        ensures { result ≡ message_of self.now }
+    {
+        match *self {
+            Effect::Took(message, _) | Effect::Heard(message, _) => Some(message),
+            _ => None,
+        }
+    }
+
+    /// The number of the message that was sent, or of the first reply that was said; 0 where nothing is said.
+    pub fn number(&self) -> u32
+        ensures { result ≡ number_of self.now }
+    {
+        match *self {
+            Effect::Sent(number, _) => number,
+            Effect::Said { first, .. } => first,
+            _ => 0,
+        }
+    }
+
+    /// Whether what was taken, or the problem that was switched to, changes the node's record.
+    pub fn changes(&self) -> bool
+        ensures { result ≡ changed_by self.now }
+    {
+        match *self {
+            Effect::Took(_, changed) | Effect::Switched(changed) => changed,
+            _ => false,
+        }
+    }
 }
 
 /// Why an event was refused. Of several that apply, the one of the lowest number is answered.

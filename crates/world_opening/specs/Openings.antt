@@ -61,8 +61,9 @@ abbrev pub AreAttempts : List (List ℕ) → List ℕ → Type 0
 AreAttempts found attempts = IsEach (length found) (ClientFinds found) attempts
 
 -- a record as a station
+-- One line in each of the two crates: a crate for it would make the longest chain of crates longer.
 abbrev pub station_in : NodeRecord → ExactStation
-station_in r = record { problem = r.policy; entries = r.entries }
+station_in r = record { problem = r.problem; entries = r.entries }
 
 abbrev pub stations_in : List NodeRecord → List ExactStation
 stations_in records = map station_in records

@@ -2,7 +2,7 @@ use Rattle.std.proofs.Common.{rules, arith, ◌∙◌}
 use Rattle.std.proofs.lemmas.Grind.{common_steps}
 use Rattle.actor_steps.proofs.EndFacts.{failures_on}
 use Rattle.client_loop.proofs.BeginFacts.{wish_begun, same_ballots, wish_placed}
-use Rattle.client_loop.proofs.SentFacts.{follows_on}
+use Rattle.actor_steps.proofs.SendingFacts.{follows_on}
 use Rattle.client_loop.proofs.SoftenedFacts.{wish_softened, wish_half_softened}
 use Rattle.client_loop.proofs.clients.fulfil_all.Goals as goal
 

@@ -1,5 +1,5 @@
 use Rattle.std.proofs.Common.{rules, arith}
-use Rattle.client_loop.proofs.SentFacts.{follows_on}
+use Rattle.actor_steps.proofs.SendingFacts.{follows_on}
 use Rattle.client_loop.proofs.SoftFacts.{tells_next}
 use Rattle.client_loop.proofs.softening.tell_granted.Goals as goal
 

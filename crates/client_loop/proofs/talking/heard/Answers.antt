@@ -1,11 +1,19 @@
+use Rattle.actor_steps.proofs.ReadingFacts.{read_heard}
 use Rattle.client_loop.proofs.Logs.{visits-adds}
 use Rattle.client_loop.proofs.HearFacts.{hear_stands}
 use Rattle.client_loop.proofs.talking.heard.Goals as goal
 
 pub returns-clause-visits : goal.returns-clause-visits
-returns-clause-visits g c = visits-adds _ _ _ _ (rw c.in-Some.is at c.in_ok-done.ensures.logged)
+returns-clause-visits g c = let read = rw c.in-Some.is at c.in_ok-message.ensures.read in visits-adds _ _ _ _ read.added
 
 pub returns-clause-stands : goal.returns-clause-stands
 returns-clause-stands g c =
-    let logged = rw c.in-Heard.is at (rw c.in-Some.is at c.in_ok-done.ensures.logged) in
-    rw c.hear.ensures.exact (hear_stands _ _ _ c.args.core.now c.client.result c.args.number c.in-Heard.message c.in-Heard.field-1 c.requires c.client.ensures logged)
+    let read = rw c.in-Some.is at c.in_ok-message.ensures.read in
+    let logged = read_heard _ _ _ _ _ read in
+    rw c.hear-heard.ensures.exact (hear_stands _ _ _ c.args.core.now c.client.result c.args.number c.in-Some.message logged.0 c.requires.stands c.client.ensures logged.1)
+
+pub returns-clause-heard : goal.returns-clause-heard
+returns-clause-heard g c =
+    let read = rw c.in-Some.is at c.in_ok-message.ensures.read in
+    let logged = read_heard _ _ _ _ _ (rw c.client.ensures at read) in
+    record { told = logged.0; logged = logged.1; made = c.hear-heard.ensures.heard; core = c.hear-heard.ensures.exact }

@@ -8,4 +8,4 @@ returns-clause-visits g c = visits-adds _ _ _ _ c.in_ok-said.ensures.logged
 
 pub returns-clause-said : goal.returns-clause-said
 returns-clause-said g c =
-    sayto_sends _ _ _ c.args.core.now c.client.result c.args.node c.in-Sent.number c.in-Some.message c.in-Sent.field-1 c.in_ok-said.said c.requires c.client.ensures (sym c.in-Some.ensures) c.in-Sent.is c.in_ok-said.ensures.logged
+    sayto_sends _ _ _ c.args.core.now c.client.result c.args.node c.number.result c.in-Some.message c.in_ok-said.said c.requires c.client.ensures (sym c.in-Some.ensures) c.number.ensures c.in_ok-said.ensures.logged

@@ -8,11 +8,11 @@ pub returns-clause-sent : goal.returns-clause-sent
 returns-clause-sent g c =
     let replies = c.deref.ensures.value ∙ c.speak-replies.ensures.replies in
     on_ok_weaker c.send_all.result
-    (λ sent. say_is_told _ _ c.args.core.now c.node.result c.in-Said.first c.in-Said.count c.in_ok-done.done _ _ c.deref.result.now _ _ c.requires c.node.ensures c.in-Said.is c.in_ok-done.ensures.logged replies sent)
+    (λ sent. say_is_told _ _ c.args.core.now c.node.result c.number.result c.in_ok-said.said _ _ c.deref.result.now _ _ c.requires c.node.ensures c.number.ensures c.in_ok-said.ensures.logged replies sent)
     c.send_all.ensures.sent
 
 pub returns-clause-faulted : goal.returns-clause-faulted
 returns-clause-faulted g c =
     let replies = c.deref.ensures.value ∙ c.speak-replies.ensures.replies in
     fails_for_memory c.send_all.result _ _ c.send_all.ensures.memory c.send_all.ensures.faulted
-    (λ some. said_as_far _ _ c.args.core.now c.node.result c.in-Said.first c.in-Said.count c.in_ok-done.done _ _ c.deref.result.now _ _ c.requires c.node.ensures c.in-Said.is c.in_ok-done.ensures.logged replies some)
+    (λ some. said_as_far _ _ c.args.core.now c.node.result c.number.result c.in_ok-said.said _ _ c.deref.result.now _ _ c.requires c.node.ensures c.number.ensures c.in_ok-said.ensures.logged replies some)

@@ -1,6 +1,10 @@
 use Rattle.std.proofs.lemmas.Result.{IfErr-weaker}
 use Rattle.actor_steps.proofs.EndFacts.{failures_on, ends_on, failed_since, ended_since}
+use Rattle.node_loop.proofs.UnsentFacts.{told_far}
 use Rattle.node_loop.proofs.running.live.Goals as goal
+
+pub returns-clause-faulted : goal.returns-clause-faulted
+returns-clause-faulted g c = IfErr-weaker c.serve.result _ _ (λ f far. told_far f _ _ _ _ c.rise.ensures.silent far) c.serve.ensures.faulted
 
 pub returns-in_err-core-clause-falls : goal.returns-in_err-core-clause-falls
 returns-in_err-core-clause-falls g c =

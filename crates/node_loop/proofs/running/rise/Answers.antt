@@ -1,7 +1,7 @@
 use Rattle.lock_messages.specs.declared.ids.Actor.TheVariants as actor
 use Rattle.world_model.specs.declared.events.Age.TheVariants.{Old}
 use Rattle.node_loop.proofs.KeepFacts.{rises}
-use Rattle.node_loop.proofs.SentFacts.{first_rise_sends_nothing}
+use Rattle.actor_steps.proofs.SendingFacts.{first_rise_sends_nothing}
 use Rattle.node_loop.proofs.running.rise.Goals as goal
 
 pub returns-in-Ok-clause-idle : goal.returns-in-Ok-clause-idle

@@ -5,7 +5,7 @@ use denote.Param.Send.{sendable}
 use denote.Param.Sent.{Sends}
 use Rattle.lock_messages.proofs.ids.ClientId.TheSendSync as client_id
 use Rattle.vote_weights.proofs.lists.BallotList.TheSendSync as ballots
-use Rattle.history_check.proofs.wishes.Wish.TheSendSync as wish
+use Rattle.event_lines.proofs.wishes.Wish.TheSendSync as wish
 use Rattle.history_book.proofs.books.Berth.TheSendSync as berth
 use Rattle.lossy_link.proofs.channel_links.ChannelLink.TheSendSync as link
 use Rattle.book_recorders.proofs.named.Named.TheSendSync as named

@@ -6,4 +6,4 @@ use Rattle.stable_record.proofs.node_records.NodeRecord.lawful.Goals as goal
 pub returns : goal.returns
 returns c =
     let r = c.args.self.now in
-    subst (λ (b : Bool). IsTrue b ↔ IsLawful (meaning r.policy r.entries)) (sym c.is_lawful.ensures.test) (c.judgement_is_exact.ensures.lawful r.policy r.entries c.is_lawful.ensures.once)
+    subst (λ (b : Bool). IsTrue b ↔ IsLawful (meaning r.problem r.entries)) (sym c.is_lawful.ensures.test) (c.judgement_is_exact.ensures.lawful r.problem r.entries c.is_lawful.ensures.once)

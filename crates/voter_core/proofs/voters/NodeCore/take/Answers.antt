@@ -15,7 +15,7 @@ pub returns-clause-exact : goal.returns-clause-exact
 returns-clause-exact g c =
     let m = c.args.message.now in
     let s = c.self.inside in
-    let p = s.station.policy in
+    let p = s.station.problem in
     let es = s.station.entries in
     let same : c.in-Ok-decide.changed ≡ changes p es m = c.stays_a_record.ensures.changes c.in-Ok-decide.changed c.in-Ok-decide.ensures.changed in
     taken-is s.id p es (state_of s.about s.told.items) m c.decide.new.entries _ c.in-Ok-decide.ensures.entries

@@ -1,6 +1,0 @@
-use Rattle.std.proofs.Common.{◌≡◌, drop}
-use Rattle.history_check.specs.Commands.{named}
-use Rattle.history_check.proofs.commands.named.Given as goal
-
-abbrev pub invariant-loop-command : goal.invariant-loop-command
-invariant-loop-command l = named (drop l.command-index l.commands) l.word ≡ named l.commands l.word
