@@ -96,12 +96,13 @@ fn spent_sequence(rt: HostRuntime) -> Outcome {
     check_answer(keeps_the_last(rt.alloc()), 0)
 }
 
-/// What a plate of this size is answered.
+/// The number of the fault with which a plate of this size is refused, and 0 if it is formatted. A plate
+/// in memory fails only if memory runs out, which is no answer.
 fn refused(alloc: Global, size: u32, bytes: &[u8]) -> Option<u16> {
     match RotatingRecord::format(alloc, MemoryPlate::of(alloc, size).ok()?, bytes) {
         Ok(_) => Some(0),
         Err((_, SlotFault::Memory)) => None,
-        Err((plate, fault)) => Some(fault.number() + plate.failures() as u16),
+        Err((plate, fault)) => (plate.failures() == 0).then_some(fault.number()),
     }
 }
 
