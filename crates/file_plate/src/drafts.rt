@@ -1,6 +1,7 @@
 // New records, which are written under another name first.
 
-ghost use Rattle.std.specs.Prelude.{◌≡◌, [], false, IfOk, IfErr};
+ghost use Rattle.std.specs.Prelude.{◌≡◌, ◌⊎◌, [], false, IfOk, IfErr};
+ghost use Rattle.file_plate.specs.FileFaults.{IsDraftFault};
 
 use crate::disk_files::{is_there, take_lock};
 use crate::{DiskFile, FileFault};
@@ -27,13 +28,18 @@ fn folder_of(path: &str) -> &str {
 }
 
 /// Opens the file of this name, or makes it, and leaves what it holds.
-fn open_or_make<R: Files<File = File>>(files: &R, name: &str) -> Result<File, FileFault> {
+fn open_or_make<R: Files<File = File>>(files: &R, name: &str) -> Result<File, FileFault>
+    ensures { IfErr result (λ fault. fault ≡ FileFault.Unwritable) }
+{
     let opened = OpenOptions::new()
         .read(true)
         .write(true)
         .create(true)
         .open(files, name);
-    opened.map_err(|_| FileFault::Unwritable)
+    match opened {
+        Ok(file) => Ok(file),
+        Err(_) => Err(FileFault::Unwritable),
+    }
 }
 
 /// Whether this is the file that has the name now.
@@ -45,7 +51,9 @@ fn is_named<R: Files>(files: &R, file: &File, name: &str) -> bool {
 }
 
 /// Gives a file this many bytes, all of them 0, each with its place on the device.
-fn clear(file: &File, alloc: Global, size: u32) -> Result<(), FileFault> {
+fn clear(file: &File, alloc: Global, size: u32) -> Result<(), FileFault>
+    ensures { IfErr result (λ fault. (fault ≡ FileFault.Memory) ⊎ (fault ≡ FileFault.Unwritable)) }
+{
     let Ok(zeros) = vec![in alloc; 0u8; size as usize] else {
         return Err(FileFault::Memory);
     };
@@ -69,7 +77,8 @@ impl Draft {
         path: &str,
         size: u32,
     ) -> Result<(Draft, DiskFile), FileFault>
-        ensures { IfOk result (λ r. r.1.calls.items ≡ []) }
+        ensures fresh { IfOk result (λ r. r.1.calls.items ≡ []) }
+        ensures faults { IfErr result (λ fault. IsDraftFault fault) }
     {
         if is_there(files, path)? {
             return Err(FileFault::Exists);
