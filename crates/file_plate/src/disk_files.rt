@@ -1,6 +1,7 @@
 // Files of the operating system, and how a record's file is opened.
 
-ghost use Rattle.std.specs.Prelude.{◌≡◌, [], IfOk};
+ghost use Rattle.std.specs.Prelude.{◌≡◌, ◌⊎◌, [], IfOk, IfErr};
+ghost use Rattle.file_plate.specs.FileFaults.{IsHoldFault};
 
 use crate::{FileFault, Medium};
 use event_lists::CallList;
@@ -88,7 +89,9 @@ impl Medium for DiskFile {
 }
 
 /// Takes the file's lock, or says why it can't.
-pub(crate) fn take_lock(file: &File) -> Result<(), FileFault> {
+pub(crate) fn take_lock(file: &File) -> Result<(), FileFault>
+    ensures { IfErr result (λ fault. (fault ≡ FileFault.Held) ⊎ (fault ≡ FileFault.Unreadable)) }
+{
     match file.try_lock() {
         Ok(()) => Ok(()),
         Err(TryLockError::WouldBlock) => Err(FileFault::Held),
@@ -97,7 +100,9 @@ pub(crate) fn take_lock(file: &File) -> Result<(), FileFault> {
 }
 
 /// Whether there is a file of this name, a link to nothing among them.
-pub(crate) fn is_there<R: Files>(files: &R, path: &str) -> Result<bool, FileFault> {
+pub(crate) fn is_there<R: Files>(files: &R, path: &str) -> Result<bool, FileFault>
+    ensures { IfErr result (λ fault. fault ≡ FileFault.Unreadable) }
+{
     match fs::symlink_metadata(files, path) {
         Ok(_) => Ok(true),
         Err(error) if error.kind() == ErrorKind::NotFound => Ok(false),
@@ -105,7 +110,9 @@ pub(crate) fn is_there<R: Files>(files: &R, path: &str) -> Result<bool, FileFaul
     }
 }
 
-fn open_file<R: Files<File = File>>(files: &R, path: &str) -> Result<File, FileFault> {
+fn open_file<R: Files<File = File>>(files: &R, path: &str) -> Result<File, FileFault>
+    ensures { IfErr result (λ fault. (fault ≡ FileFault.Missing) ⊎ (fault ≡ FileFault.Unreadable)) }
+{
     match OpenOptions::new().read(true).write(true).open(files, path) {
         Ok(file) => Ok(file),
         Err(error) if error.kind() == ErrorKind::NotFound => Err(FileFault::Missing),
@@ -119,7 +126,8 @@ fn open_file<R: Files<File = File>>(files: &R, path: &str) -> Result<File, FileF
 /// The first of these is answered: 942 (there is no such file), 945 (it can't be opened), 941 (another
 /// process holds it), 945 (it can't be locked, or is no regular file), 943 (it hasn't this size).
 pub fn hold<R: Files<File = File>>(files: &R, path: &str, size: u32) -> Result<DiskFile, FileFault>
-    ensures { IfOk result (λ f. f.calls.items ≡ []) }
+    ensures fresh { IfOk result (λ f. f.calls.items ≡ []) }
+    ensures faults { IfErr result (λ fault. IsHoldFault fault) }
 {
     let file = open_file(files, path)?;
     take_lock(&file)?;

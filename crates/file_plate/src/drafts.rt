@@ -1,6 +1,7 @@
 // New records, which are written under another name first.
 
-ghost use Rattle.std.specs.Prelude.{◌≡◌, [], false, IfOk, IfErr};
+ghost use Rattle.std.specs.Prelude.{◌≡◌, ◌⊎◌, [], false, IfOk, IfErr};
+ghost use Rattle.file_plate.specs.FileFaults.{IsDraftFault};
 
 use crate::disk_files::{is_there, take_lock};
 use crate::{DiskFile, FileFault};
@@ -27,13 +28,18 @@ fn folder_of(path: &str) -> &str {
 }
 
 /// Opens the file of this name, or makes it, and leaves what it holds.
-fn open_or_make<R: Files<File = File>>(files: &R, name: &str) -> Result<File, FileFault> {
+fn open_or_make<R: Files<File = File>>(files: &R, name: &str) -> Result<File, FileFault>
+    ensures { IfErr result (λ fault. fault ≡ FileFault.Unwritable) }
+{
     let opened = OpenOptions::new()
         .read(true)
         .write(true)
         .create(true)
         .open(files, name);
-    opened.map_err(|_| FileFault::Unwritable)
+    match opened {
+        Ok(file) => Ok(file),
+        Err(_) => Err(FileFault::Unwritable),
+    }
 }
 
 /// Whether this is the file that has the name now.
@@ -44,8 +50,17 @@ fn is_named<R: Files>(files: &R, file: &File, name: &str) -> bool {
     own.is_file() && own.dev() == named.dev() && own.ino() == named.ino()
 }
 
+/// Removes this file's name, if it has it and it can. The caller holds the file's lock.
+fn take_away<R: Files>(files: &R, file: &File, name: &str) {
+    if is_named(files, file, name) {
+        let _ = fs::remove_file(files, name);
+    }
+}
+
 /// Gives a file this many bytes, all of them 0, each with its place on the device.
-fn clear(file: &File, alloc: Global, size: u32) -> Result<(), FileFault> {
+fn clear(file: &File, alloc: Global, size: u32) -> Result<(), FileFault>
+    ensures { IfErr result (λ fault. (fault ≡ FileFault.Memory) ⊎ (fault ≡ FileFault.Unwritable)) }
+{
     let Ok(zeros) = vec![in alloc; 0u8; size as usize] else {
         return Err(FileFault::Memory);
     };
@@ -60,16 +75,18 @@ impl Draft {
     /// exclusive lock on the file until the file is dropped. What a process left there that ended before
     /// is written over.
     ///
-    /// The first of these is answered: 947 (the record's own name is taken), 933 (out of memory), 946
-    /// (the file can't be made), 941 (another process makes this record), 947, 946 (the file can't have
-    /// so many bytes).
+    /// It returns the first of these faults: 945 (the record's name can't be looked up), 947 (it is taken),
+    /// 933 (out of memory), 946 (the file can't be made), 941 (another process makes this record), 945 (the
+    /// file can't be locked), 945, 947, 946, 933, 946 (the file can't have so many bytes). It then removes
+    /// the file, if it can.
     pub fn begin<R: Files<File = File>>(
         files: &R,
         alloc: Global,
         path: &str,
         size: u32,
     ) -> Result<(Draft, DiskFile), FileFault>
-        ensures { IfOk result (λ r. r.1.calls.items ≡ []) }
+        ensures fresh { IfOk result (λ r. r.1.calls.items ≡ []) }
+        ensures faults { IfErr result (λ fault. IsDraftFault fault) }
     {
         if is_there(files, path)? {
             return Err(FileFault::Exists);
@@ -81,12 +98,16 @@ impl Draft {
         take_lock(&file)?;
         // Another process may have finished the same record before the lock was taken.
         if is_there(files, path)? {
+            take_away(files, &file, name.as_str());
             return Err(FileFault::Exists);
         }
         if !is_named(files, &file, name.as_str()) {
             return Err(FileFault::Unwritable);
         }
-        clear(&file, alloc, size)?;
+        if let Err(fault) = clear(&file, alloc, size) {
+            take_away(files, &file, name.as_str());
+            return Err(fault);
+        }
         Ok((Draft { name }, DiskFile::of(file)))
     }
 
@@ -102,6 +123,7 @@ impl Draft {
         ensures { IfErr result (λ fault. fault ≡ FileFault.Unwritable) }
     {
         if fs::rename(files, self.name.as_str(), path).is_err() {
+            self.discard(files);
             return Err(FileFault::Unwritable);
         }
         match File::open(files, folder_of(path)) {

@@ -1,10 +1,11 @@
 // Plates over files.
 
-ghost use Rattle.std.specs.Prelude.{◌≡◌, ◌↔◌, ◌⊎◌, ◌+◌, ◌≤◌, true, [], length, OnOk, IfOk, IfErr};
+ghost use Rattle.std.specs.Prelude.{◌≡◌, ◌↔◌, ◌+◌, ◌≤◌, true, [], length, OnOk, IfOk, IfErr};
 ghost use Rattle.stable_record.specs.Faulty.{counted};
 ghost use Rattle.slot_record.specs.Images.{part, IsWritten};
 ghost use Rattle.slot_record.specs.Plates.{Only, NothingNew, Tears, GoesOn, Called};
 ghost use Rattle.slot_record.specs.MemoryPlates.{put};
+ghost use Rattle.file_plate.specs.FileFaults.{IsOverFault};
 ghost use Rattle.file_plate.specs.Media.{Gave, Took, Synced, WriteFailed, SyncFailed};
 ghost use Rattle.file_plate.specs.FilePlates.{file_state, image_of, IsOpened, Asks, Reads};
 
@@ -71,7 +72,7 @@ impl<M: Medium> FilePlate<M> {
     pub fn over(alloc: Global, medium: M, size: u32) -> Result<FilePlate<M>, FileFault>
         requires { M.asked medium ≡ [] }
         ensures opened { IfOk result (λ p. IsOpened size p) }
-        ensures faults { IfErr result (λ fault. (fault ≡ FileFault.Memory) ⊎ (fault ≡ FileFault.Unwritable) ⊎ (fault ≡ FileFault.Unreadable)) }
+        ensures faults { IfErr result (λ fault. IsOverFault fault) }
     {
         let mut medium = medium;
         let Ok(mut image) = vec![in alloc; 0u8; size as usize] else {

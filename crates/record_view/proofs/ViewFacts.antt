@@ -1,10 +1,10 @@
 -- What opening finds on a plate in memory is what it finds on its bytes.
-use Rattle.std.proofs.Common.{◌≡◌, ℕ, List, length, take, Option, Some, None, refl, sym, ◌∙◌, ap, subst, arith}
+use Rattle.std.proofs.Common.{◌≡◌, ℕ, List, length, Option, Some, None, sym, ◌∙◌, ap, subst, arith}
 use Rattle.std.specs.Option.{option_map}
 use Rattle.std.proofs.lemmas.List.{take_all}
 use Rattle.slot_record.specs.Images.{Image, IsWritten}
 use Rattle.slot_record.specs.Plates.{Only, LeavesOnly}
-use Rattle.slot_record.specs.MemoryPlates.{Memory, MayLeave, content, state_of}
+use Rattle.slot_record.specs.MemoryPlates.{Memory, content, state_of}
 use Rattle.slot_record.specs.MemoryLaws.{seen_may_be_left}
 use Rattle.record_view.specs.Views.{IsImageOf}
 

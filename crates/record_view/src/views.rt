@@ -1,6 +1,6 @@
 // What a file holds, as a value and as lines.
 
-ghost use Rattle.std.specs.Prelude.{◌≡◌, ◌↔◌, ◌≢◌, length, Err, IfOk, IfErr};
+ghost use Rattle.std.specs.Prelude.{◌≡◌, ◌↔◌, ◌≢◌, ◌⊎◌, length, Err, IfOk, IfErr};
 ghost use Rattle.slot_record.specs.declared.slots.TheConstants.{LEAST_PLATE_LEN as TWO};
 ghost use Rattle.rotating_record.specs.declared.slots.TheConstants.{ROTATING_PLATE_LEN as THREE};
 ghost use Rattle.slot_record.specs.Slots as TwoSlots;
@@ -26,12 +26,13 @@ pub struct RecordView {
     content: Option<Content>,
 }
 
-/// What the bytes of a file hold.
+/// Finds what the bytes of a file hold.
 ///
-/// 943 (the file has the size of neither format) or 933 (out of memory) is answered.
+/// It returns 943 if the file has the size of neither format, or 933 if memory runs out.
 pub fn view(alloc: Global, bytes: &[u8]) -> Result<RecordView, FileFault>
     ensures size { (result ≡ Err FileFault.WrongSize) ↔ ((length bytes.now ≢ TWO) × (length bytes.now ≢ THREE)) }
     ensures two { length bytes.now ≡ TWO → IfOk result (λ v. Finds v.body (TwoSlots.found_on bytes.now)) }
+    ensures faults { IfErr result (λ fault. (fault ≡ FileFault.WrongSize) ⊎ (fault ≡ FileFault.Memory)) }
     ensures three { length bytes.now ≡ THREE → IfOk result (λ v. Finds v.body (ThreeSlots.found_on bytes.now)) }
 {
     if bytes.len() == LEAST_PLATE_LEN as usize {

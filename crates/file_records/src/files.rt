@@ -1,8 +1,9 @@
 // How the file of a record is made and opened.
 
-ghost use Rattle.std.specs.Prelude.{◌≡◌, ◌↔◌, ◌<◌, false, [], ◌∷◌, length, Some, Err, IfOk, List, ℕ};
+ghost use Rattle.std.specs.Prelude.{◌≡◌, ◌↔◌, ◌⊎◌, ◌<◌, ◌≤◌, false, [], ◌∷◌, length, Some, Err, IfOk, IfErr, List, ℕ};
 ghost use Rattle.file_plate.specs.FilePlates.{file_state};
 ghost use Rattle.rotating_record.specs.Slots.{record_on};
+ghost use Rattle.file_plate.specs.FileFaults.{IsDraftFault, IsOverFault, IsHoldFault};
 ghost use Rattle.file_records.specs.Faults.{file_fault_of};
 
 use file_plate::{DiskFile, Draft, FileFault, FilePlate, hold};
@@ -15,7 +16,7 @@ use std::fs::{File, Files};
 /// A record on a file.
 pub type FileRecord = RotatingRecord<FilePlate<DiskFile>>;
 
-/// What the fault of a record on a file is called as a file's fault.
+/// The fault of a file that stands for a fault of the record on it.
 fn file_fault(fault: SlotFault) -> FileFault
     ensures { result ≡ file_fault_of fault }
 {
@@ -30,24 +31,28 @@ fn file_fault(fault: SlotFault) -> FileFault
 
 /// A record of these bytes on a file that holds none.
 fn formatted(alloc: Global, file: DiskFile, bytes: &[u8]) -> Result<FileRecord, FileFault>
-    requires { file.calls.items ≡ [] }
+    requires fresh { file.calls.items ≡ [] }
+    requires fits { length bytes.now ≤ MAX_RECORD_LEN }
     ensures made { IfOk result (λ r. (r.finds ≡ bytes.now ∷ []) × (r.sequence ≡ 1) × (r.stuck ≡ false)) }
     ensures lasts { IfOk result (λ r. (c : List ℕ) → (file_state r.plate).may_leave c → record_on c ≡ Some (1, bytes.now)) }
+    ensures fine { IfOk result (λ r. (file_state r.plate).failures ≡ 0) }
+    ensures faults { IfErr result (λ fault. IsOverFault fault) }
 {
     let plate = FilePlate::over(alloc, file, ROTATING_PLATE_LEN)?;
     match RotatingRecord::format(alloc, plate, bytes) {
         Ok(record) => Ok(record),
-        Err((_, SlotFault::Device)) => Err(FileFault::Unwritable),
-        Err((_, fault)) => Err(file_fault(fault)),
+        // The plate has the right size and the bytes fit, so a write or a sync failed.
+        Err(_) => Err(FileFault::Unwritable),
     }
 }
 
 /// Makes a new record of these bytes under this name. Another process that opens it finds these bytes
-/// or no file, whatever moment this one or the power stops.
+/// or no file, whenever this process or the power stops.
 ///
-/// The first of these is answered: 404 (more than `MAX_RECORD_LEN` bytes), 947 (the name is taken), 933
-/// (out of memory), 941 (another process makes this record), 946 (the file can't be made, written or
-/// synced), 945 (it can't be read).
+/// It returns the first of these faults: 404 (more than `MAX_RECORD_LEN` bytes), 947 (the name is taken),
+/// 933 (out of memory), 941 (another process makes this record), 946 (the file, its name or its folder
+/// can't be written or synced), 945 (the name can't be looked up, or the new file can't be locked or read).
+/// After 946 the record may be there under its name.
 pub fn create_record<R: Files<File = File>>(
     files: &R,
     alloc: Global,
@@ -57,7 +62,11 @@ pub fn create_record<R: Files<File = File>>(
     ensures made { IfOk result (λ r. (r.finds ≡ bytes.now ∷ []) × (r.sequence ≡ 1) × (r.stuck ≡ false)) }
     // Whatever a crash leaves from now on, opening finds just these bytes.
     ensures lasts { IfOk result (λ r. (c : List ℕ) → (file_state r.plate).may_leave c → record_on c ≡ Some (1, bytes.now)) }
+    // No call of the file failed.
+    ensures fine { IfOk result (λ r. (file_state r.plate).failures ≡ 0) }
     ensures too_long { (result ≡ Err FileFault.TooLong) ↔ (MAX_RECORD_LEN < length bytes.now) }
+    // It returns no other fault.
+    ensures faults { IfErr result (λ fault. (fault ≡ FileFault.TooLong) ⊎ IsDraftFault fault) }
 {
     if bytes.len() > MAX_RECORD_LEN {
         return Err(FileFault::TooLong);
@@ -75,12 +84,12 @@ pub fn create_record<R: Files<File = File>>(
     }
 }
 
-/// Opens the record of this name, whatever a crash made of it, and finds its bytes.
+/// Opens the record of this name, whatever a crash made of it, and finds its bytes. It changes nothing.
 ///
-/// The first of these is answered: 942 (there is no such file), 945 (it can't be opened), 941 (another
+/// It returns the first of these faults: 942 (there is no such file), 945 (it can't be opened), 941 (another
 /// process has the record open), 945 (it can't be locked, or is no regular file), 943 (it has the wrong
-/// size), 933 (out of memory), 946 (it can't be synced), 945 (it can't be read), 944 (it holds no record).
-/// The file stays as it is.
+/// size), 933 (out of memory), 946 (it can't be synced), 945 (it can't be read), 933, 944 (it holds no
+/// record).
 pub fn open_record<R: Files<File = File>>(
     files: &R,
     alloc: Global,
@@ -89,6 +98,10 @@ pub fn open_record<R: Files<File = File>>(
     ensures opened { IfOk result (λ r. (r.0.finds ≡ r.1.items ∷ []) × (r.0.stuck ≡ false)) }
     // Whatever a crash leaves from now on, opening finds just these bytes.
     ensures lasts { IfOk result (λ r. (c : List ℕ) → (file_state r.0.plate).may_leave c → record_on c ≡ Some (r.0.sequence, r.1.items)) }
+    // No call of the file failed.
+    ensures fine { IfOk result (λ r. (file_state r.0.plate).failures ≡ 0) }
+    // It returns no other fault.
+    ensures faults { IfErr result (λ fault. IsHoldFault fault ⊎ IsOverFault fault ⊎ (fault ≡ FileFault.NotFormatted)) }
 {
     let file = hold(files, path, ROTATING_PLATE_LEN)?;
     let plate = FilePlate::over(alloc, file, ROTATING_PLATE_LEN)?;

@@ -9,7 +9,7 @@ use rotating_record::{ROTATING_PLATE_LEN, RotatingRecord};
 use slot_record::{LEAST_PLATE_LEN, MemoryPlate, Plate, SlotFault, SlotRecord};
 use std::alloc::{AllocError, Global};
 
-/// A plate in memory that holds these bytes, and is synced.
+/// A synced plate in memory that holds these bytes. Its calls fail only if memory runs out.
 fn plate_of(alloc: Global, size: u32, bytes: &[u8]) -> Result<MemoryPlate, AllocError>
     requires { length bytes.now ≡ size }
     ensures holds { IfOk result (λ m. IsImageOf bytes.now m) }
@@ -17,9 +17,12 @@ fn plate_of(alloc: Global, size: u32, bytes: &[u8]) -> Result<MemoryPlate, Alloc
     let Ok(mut plate) = MemoryPlate::of(alloc, size) else {
         return Err(AllocError);
     };
-    if plate.write_at(0, bytes).is_err() || plate.sync().is_err() {
+    let Ok(()) = plate.write_at(0, bytes) else {
         return Err(AllocError);
-    }
+    };
+    let Ok(()) = plate.sync() else {
+        return Err(AllocError);
+    };
     Ok(plate)
 }
 

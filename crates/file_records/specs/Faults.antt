@@ -1,4 +1,4 @@
--- What the faults of a record are called as faults of its file.
+-- The fault of a file that stands for a fault of the record on it.
 use Rattle.slot_record.specs.declared.faults.SlotFault.{SlotFault}
 use Rattle.slot_record.specs.declared.faults.SlotFault.TheVariants as slots
 use Rattle.file_plate.specs.declared.faults.FileFault.{FileFault}

@@ -5,7 +5,7 @@ use stable_record::{NodeRecord, RecordFault, read_client, read_node};
 use std::alloc::{AllocError, Global};
 use std::fmt;
 
-/// The record of an actor, or bytes that are none.
+/// The record of an actor, or other bytes.
 #[derive(Drop)]
 pub(crate) enum Content {
     Node(NodeRecord),
@@ -15,8 +15,7 @@ pub(crate) enum Content {
     Other(usize),
 }
 
-/// What a body says: the spellings of a node's record and of a client's never meet, since their lengths
-/// differ.
+/// What a body says. No bytes are the record of a node and of a client, since their lengths differ.
 pub(crate) fn content_of(alloc: Global, body: &[u8]) -> Result<Content, AllocError> {
     if let Ok(attempt) = read_client(body) {
         return Ok(Content::Client(attempt));
