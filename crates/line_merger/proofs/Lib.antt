@@ -1,0 +1,3 @@
+pub mod OfferFacts
+pub mod LifeOffers
+pub mod LineFacts

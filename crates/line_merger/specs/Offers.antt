@@ -1,0 +1,75 @@
+-- What comes of a line of an actor's own journal.
+use Rattle.std.specs.Prelude.{◌≡◌, ℕ, List, [], ◌∷◌, map, Some, Result, Ok, Err}
+use Rattle.lock_messages.specs.declared.ids.Actor.{Actor}
+use Rattle.lock_messages.specs.declared.ids.Actor.TheVariants as actor
+use Rattle.lock_messages.specs.declared.messages.Message.{Message}
+use Rattle.lock_messages.specs.Frames.{frame_of}
+use Rattle.world_model.specs.declared.events.Effect.{Effect}
+use Rattle.world_model.specs.declared.events.Event.{Event}
+use Rattle.world_model.specs.declared.events.Event.TheVariants as event
+use Rattle.world_model.specs.declared.events.StepFault.{StepFault}
+use Rattle.world_model.specs.declared.events.StepFault.TheVariants as step
+use Rattle.world_model.specs.declared.exact.ExactWorld.{ExactWorld}
+use Rattle.world_model.specs.ExactWorlds.{numbered}
+use Rattle.world_model.specs.Locality.{IsHistory}
+use Rattle.world_model.specs.Parts.{part}
+use Rattle.own_journals.specs.declared.lines.OwnLine.{OwnLine}
+use Rattle.journal_merge.specs.LineMerges.{TellsLine, IsRefused, IsWaiting}
+use Rattle.line_merger.specs.declared.offers.MergeFault.{MergeFault}
+use Rattle.line_merger.specs.declared.offers.MergeFault.TheVariants as fault
+use Rattle.line_merger.specs.declared.offers.Offer.{Offer}
+use Rattle.line_merger.specs.declared.offers.Offer.TheVariants as offer
+use Rattle.line_merger.specs.declared.offers.Refusal.TheVariants as refusal
+use Rattle.line_merger.specs.declared.offers.Taken.{Taken}
+use Rattle.line_merger.specs.declared.offers.Taken.TheVariants as taken
+
+-- the events that a line came to
+abbrev pub events_of : Taken → List Event
+events_of (taken.One e) = e ∷ []
+events_of (taken.Two e f) = e ∷ f ∷ []
+
+-- What came of a line of the actor is right: what it says happened, by these events, or nobody said yet what it reads and nothing
+-- changed, or it says nothing that the actor could do.
+abbrev pub TakesLine : ExactWorld → Actor → OwnLine → Result Offer MergeFault → ExactWorld → Type 0
+TakesLine w who line (Ok (offer.Took taken)) v =
+    (events : List (Event × Effect)) × TellsLine w.ballots who (part w who) line events × IsHistory w events v × (map (λ q. q.0) events ≡ events_of taken)
+TakesLine w who line (Ok offer.Waits) v = (v ≡ w) × IsWaiting w who line
+TakesLine w who line (Ok (offer.Refused why)) v = IsRefused w who line
+TakesLine w who line (Err f) v = Unit {0}
+
+-- the line was not refused
+abbrev pub GoesOn : Offer → Type 0
+GoesOn (offer.Took t) = Unit {0}
+GoesOn offer.Waits = Unit {0}
+GoesOn (offer.Refused why) = ⊥
+
+-- what comes of a refused step: a full list and want of memory say nothing of the line
+abbrev pub refused : StepFault → Result Offer MergeFault
+refused step.SentListFull = Err fault.Full
+refused step.Memory = Err fault.Memory
+refused step.UnknownActor = Ok (offer.Refused (refusal.Step step.UnknownActor))
+refused step.Down = Ok (offer.Refused (refusal.Step step.Down))
+refused step.Up = Ok (offer.Refused (refusal.Step step.Up))
+refused step.WrongPhase = Ok (offer.Refused (refusal.Step step.WrongPhase))
+refused step.NotStored = Ok (offer.Refused (refusal.Step step.NotStored))
+refused step.NothingToSay = Ok (offer.Refused (refusal.Step step.NothingToSay))
+refused step.NoSuchMessage = Ok (offer.Refused (refusal.Step step.NoSuchMessage))
+refused step.NotAddressed = Ok (offer.Refused (refusal.Step step.NotAddressed))
+refused step.NoQuorum = Ok (offer.Refused (refusal.Step step.NoQuorum))
+refused step.AttemptsSpent = Ok (offer.Refused (refusal.Step step.AttemptsSpent))
+refused step.NothingTried = Ok (offer.Refused (refusal.Step step.NothingTried))
+refused step.NoSuchPlace = Ok (offer.Refused (refusal.Step step.NoSuchPlace))
+
+-- what comes of the last step of these events
+abbrev pub offered : Taken → Result Effect StepFault → Result Offer MergeFault
+offered t (Ok done) = Ok (offer.Took t)
+offered t (Err f) = refused f
+
+-- the event by which an actor reads the message of a number
+abbrev pub reading_by : Actor → ℕ → Event
+reading_by (actor.Node n) k = event.Take n k
+reading_by (actor.Client c) k = event.Hear c k
+
+-- the message of this number has this frame
+abbrev pub HasFrame : List Message → ℕ → List ℕ → Type 0
+HasFrame sent number frame = (m : Message) × (numbered sent number ≡ Some m) × (frame_of m ≡ frame)

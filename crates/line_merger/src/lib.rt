@@ -1,0 +1,24 @@
+//! One line of an actor's own journal, taken in the world of all actors.
+//!
+//! A line is *taken* if its actor can do what it says, and what it reads was said before. It *waits* if nobody said
+//! yet what it reads. It is *refused* if its actor can't do it, whatever is said.
+//!
+//! `take_line` takes a line of any kind. A line that is taken returns its events.
+//! The crate promises that each answer is right in the words of `journal_merge`. So the laws of that crate apply:
+//! whoever takes lines as long as one can be taken finds a merge of the journals, or knows that there is none.
+//!
+//! It stands on `journal_merge`, `own_journals` and `world_machine`, and on `frame_numbers` for the frames that were
+//! said.
+#![tactic(auto)]
+
+mod events;
+mod lines;
+mod lives;
+mod offers;
+mod readings;
+
+pub use events::take_event;
+pub use lines::take_line;
+pub use lives::take_life;
+pub use offers::{MergeFault, Offer, Refusal, Taken};
+pub use readings::take_frame;
