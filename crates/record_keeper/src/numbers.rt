@@ -2,14 +2,17 @@
 
 use std::alloc::{AllocError, Global};
 
-/// The bytes of a body: three blocks of a device, so that a torn body shows.
+/// How often a body has its number: it fills three blocks of a device, so that a torn body shows.
+const COPIES: u32 = 1_500;
+
 const BODY_LEN: usize = 12_000;
 
 /// The body of a number: its eight bytes, again and again.
 pub(crate) fn body_of(alloc: Global, number: u64) -> Result<Vec<u8>, AllocError> {
-    let mut body = vec![in alloc; 0u8; BODY_LEN]?;
-    for chunk in body.chunks_exact_mut(8) {
-        chunk.copy_from_slice(&number.to_be_bytes());
+    let bytes = number.to_be_bytes();
+    let mut body = Vec::with_capacity(alloc, BODY_LEN)?;
+    for _ in 0..COPIES {
+        body.extend_from_slice(&bytes)?;
     }
     Ok(body)
 }
