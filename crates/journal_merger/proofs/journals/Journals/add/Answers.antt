@@ -1,0 +1,29 @@
+use Rattle.std.proofs.Common.{◌∙◌, refl, sym, subst}
+use Rattle.journal_merger.specs.Pendings.{AreApart}
+use Rattle.journal_merger.proofs.PendingFacts.{apart-pushed, was-added, on-ok, not-ok, on-err, not-err}
+use Rattle.journal_merger.proofs.journals.Journals.add.Goals as goal
+use Rattle.journal_merger.proofs.journals.Journals.add.Goals.{in-Ok-push, in-Err-push}
+
+pub invariant_of-self : goal.invariant_of-self
+invariant_of-self g c =
+    elim c.match-push.branch [
+      | in-Ok-push w ↦ apart-pushed c.self.inside.journals.items c.as_slice.result.now c.push.new.self.items _ c.as_slice.ensures.value w.in-Ok-push.ensures.items c.self.invariant (c.has.ensures c.if-has.false)
+      | in-Err-push w ↦ subst AreApart (sym w.in-Err-push.ensures.items) c.self.invariant
+    ]
+
+pub returns-clause-added : goal.returns-clause-added
+returns-clause-added g c =
+    elim c.match-push.branch [
+      | in-Ok-push w ↦
+          on-ok c.match-push.result _ w.result-is
+          (was-added c.args.self.now c.self.inside.journals.items c.push.new.self.items (g.R.Read.remaining c.args.reader) c.new-source.result c.read_next.new.source _ c.in-Ok.next c.in-Some.line
+          c.self.view_is w.in-Ok-push.ensures.items c.new-source.ensures c.in-Ok.ensures c.in-Some.is (let v = c.source.view_is in cc) refl c.owner-who.ensures)
+      | in-Err-push w ↦ not-ok _ c.match-push.result _ w.result-is
+    ]
+
+pub returns-clause-same : goal.returns-clause-same
+returns-clause-same g c =
+    elim c.match-push.branch [
+      | in-Ok-push w ↦ not-err _ c.match-push.result _ w.result-is
+      | in-Err-push w ↦ on-err c.match-push.result _ w.result-is (w.in-Err-push.ensures.items ∙ c.self.view_is)
+    ]

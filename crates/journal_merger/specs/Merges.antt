@@ -1,0 +1,104 @@
+-- What is found of journals: whether they have a merge, and one if there is one.
+use Rattle.std.specs.Prelude.{◌≡◌, ◌⊎◌, ◌<◌, ℕ, length, Bool, true, false, List, map, Option, Some, None, Result, Ok, Err, slice_get}
+use Rattle.std.specs.Io.KnownBytes.{Appends}
+use Rattle.lock_messages.specs.declared.ids.Actor.{Actor}
+use Rattle.world_model.specs.declared.events.Effect.{Effect}
+use Rattle.world_model.specs.declared.events.Event.{Event}
+use Rattle.world_model.specs.declared.exact.ExactWorld.{ExactWorld}
+use Rattle.world_model.specs.Locality.{IsHistory, own_events}
+use Rattle.world_model.specs.Parts.{part}
+use Rattle.own_journals.specs.declared.lines.OwnLine.{OwnLine}
+use Rattle.journal_text.specs.Journals.{history_text}
+use Rattle.journal_merge.specs.LineMerges.{TellsLine, TellsLines, Journals, HasMerge, IsRefused, IsWaiting}
+use Rattle.line_merger.specs.declared.offers.MergeFault.{MergeFault}
+use Rattle.line_merger.specs.declared.offers.MergeFault.TheVariants as full
+use Rattle.line_merger.specs.declared.offers.Offer.{Offer}
+use Rattle.line_merger.specs.declared.offers.Offer.TheVariants as offer
+use Rattle.line_merger.specs.declared.offers.Taken.{Taken}
+use Rattle.line_merger.specs.Offers.{events_of}
+use Rattle.journal_merger.specs.Pendings.{Pending, AreLeft}
+use Rattle.journal_merger.specs.declared.faults.Failure.{Failure}
+use Rattle.journal_merger.specs.declared.faults.JournalsFault.{JournalsFault}
+use Rattle.journal_merger.specs.declared.faults.JournalsFault.TheVariants as fault
+use Rattle.journal_merger.specs.declared.finding.Found.{Found}
+use Rattle.journal_merger.specs.declared.finding.Found.TheVariants as found
+use Rattle.journal_merger.specs.declared.finding.Turn.{Turn}
+use Rattle.journal_merger.specs.declared.finding.Turn.TheVariants as turn
+use Rattle.journal_merger.specs.declared.merging.Outcome.{Outcome}
+use Rattle.journal_merger.specs.declared.merging.Outcome.TheVariants as outcome
+
+-- A history from the world, of which each actor's own events are those that its journal tells.
+pub record IsMerged (w : ExactWorld) (journals : Journals) (told : List (Event × Effect)) : Type 0 where
+  pub world : ExactWorld
+  pub history : IsHistory w told world
+  pub own : (who : Actor) → TellsLines w.ballots who (part w who) (journals who) (own_events who told)
+
+-- What is found of journals, and what is then written. Merged: the texts have lines, these have a merge, and the text of
+-- a merge was written. Stuck: whatever lines the texts have, they have no merge.
+abbrev pub Finds : ExactWorld → List Pending → Option (List ℕ) → Option (List ℕ) → Result Outcome Failure → Type 0
+Finds w pending old new (Ok (outcome.Merged lines)) =
+    (journals : Journals) × (told : List (Event × Effect)) × AreLeft (Unit {0}) pending journals × IsMerged w journals told × HasMerge w journals × Appends old new (history_text told)
+Finds w pending old new (Ok (outcome.Stuck why)) = (journals : Journals) → AreLeft ⊥ pending journals → HasMerge w journals → ⊥
+Finds w pending old new (Err f) = Unit {0}
+
+-- The next line of the actor is taken, by these events.
+pub record IsTaken (w : ExactWorld) (who : Actor) (next : Option OwnLine) (t : Taken) (v : ExactWorld) : Type 0 where
+  pub line : OwnLine
+  pub next_is : next ≡ Some line
+  pub events : List (Event × Effect)
+  pub tells : TellsLine w.ballots who (part w who) line events
+  pub history : IsHistory w events v
+  pub are : map (λ q. q.0) events ≡ events_of t
+
+-- The next line of the actor waits, or is refused.
+abbrev pub Waits : ExactWorld → Actor → Option OwnLine → Type 0
+Waits w who next = (line : OwnLine) × (next ≡ Some line) × IsWaiting w who line
+
+abbrev pub Refuses : ExactWorld → Actor → Option OwnLine → Type 0
+Refuses w who next = (line : OwnLine) × (next ≡ Some line) × IsRefused w who line
+
+-- What came of an actor's turn. Only a line that is taken or refused may change the world.
+abbrev pub IsTurn : ExactWorld → Actor → Option OwnLine → Turn → ExactWorld → Type 0
+IsTurn w who next turn.Ended v = (v ≡ w) × (next ≡ None)
+IsTurn w who next turn.Waits v = (v ≡ w) × Waits w who next
+IsTurn w who next (turn.Took t) v = IsTaken w who next t v
+IsTurn w who next (turn.Refused why) v = Refuses w who next
+
+abbrev pub IsGoing : Turn → Type 0
+IsGoing turn.Ended = Unit {0}
+IsGoing turn.Waits = Unit {0}
+IsGoing (turn.Took t) = Unit {0}
+IsGoing (turn.Refused why) = ⊥
+
+-- what comes of an offer
+abbrev pub turn_of : Result Offer MergeFault → Result Turn JournalsFault
+turn_of (Ok (offer.Took t)) = Ok (turn.Took t)
+turn_of (Ok offer.Waits) = Ok turn.Waits
+turn_of (Ok (offer.Refused why)) = Ok (turn.Refused why)
+turn_of (Err full.Full) = Err fault.Full
+turn_of (Err full.Memory) = Err fault.Memory
+
+-- No line of the journal can be taken: it has none, or it waits.
+abbrev pub IsIdle : ExactWorld → Pending → Type 0
+IsIdle w p = (p.next ≡ None) ⊎ Waits w p.who p.next
+
+abbrev pub AreIdle : ExactWorld → List Pending → ℕ → Type 0
+AreIdle w pending count = (i : ℕ) (p : Pending) → i < count → slice_get pending i ≡ Some p → IsIdle w p
+
+-- Whether one of the first journals waits. If none does, they have no line left.
+abbrev pub OneWaits : ExactWorld → List Pending → ℕ → Bool → Type 0
+OneWaits w pending count true = (i : ℕ) × (p : Pending) × (slice_get pending i ≡ Some p) × Waits w p.who p.next
+OneWaits w pending count false = (i : ℕ) (p : Pending) → i < count → slice_get pending i ≡ Some p → p.next ≡ None
+
+-- What was found in a round over all journals.
+abbrev pub IsFound : ExactWorld → List Pending → Found → ExactWorld → Type 0
+IsFound w pending (found.Took i t) v = (p : Pending) × (slice_get pending i ≡ Some p) × IsTaken w p.who p.next t v
+IsFound w pending (found.Refused i why) v = (p : Pending) × (slice_get pending i ≡ Some p) × Refuses w p.who p.next
+IsFound w pending found.Stuck v = AreIdle w pending (length pending) × OneWaits w pending (length pending) true
+IsFound w pending found.Merged v = (v ≡ w) × OneWaits w pending (length pending) false
+
+abbrev pub Goes : Found → Type 0
+Goes (found.Took i t) = Unit {0}
+Goes (found.Refused i why) = ⊥
+Goes found.Stuck = ⊥
+Goes found.Merged = ⊥

@@ -1,0 +1,105 @@
+// Whose line can be taken.
+
+ghost use Rattle.std.specs.Prelude.{◌≡◌, IfOk};
+ghost use Rattle.frame_numbers.specs.FrameNumbers.{IsIndexOf};
+ghost use Rattle.journal_merger.specs.Merges.{IsTurn, IsFound, IsGoing, Goes, turn_of};
+
+use crate::reading::OwnJournal;
+use crate::{Failure, JournalsFault};
+use frame_numbers::FrameNumbers;
+use line_merger::{MergeFault, Offer, Refusal, Taken, take_line};
+use lock_messages::Actor;
+use own_journals::OwnLine;
+use std::io::Read;
+use world_machine::World;
+
+/// What came of a journal's turn.
+#[derive(Clone, Copy, Debug, PartialEq, Eq)]
+pub enum Turn {
+    /// It has no line left.
+    Ended,
+    /// Nobody said yet what its next line reads.
+    Waits,
+    /// Its next line was taken, by these events.
+    Took(Taken),
+    /// Its actor refuses its next line.
+    Refused(Refusal),
+}
+
+/// What was found in a round over all journals.
+#[derive(Clone, Copy, Debug, PartialEq, Eq)]
+pub enum Found {
+    /// The next line of the journal at this index was taken, by these events.
+    Took(usize, Taken),
+    /// The actor of the journal at this index refuses its next line.
+    Refused(usize, Refusal),
+    /// Each journal that has lines left waits, and one has.
+    Stuck,
+    /// No journal has a line left.
+    Merged,
+}
+
+/// What comes of an offer.
+fn turn_of(offer: Result<Offer, MergeFault>) -> Result<Turn, JournalsFault>
+    ensures { result ≡ turn_of offer }
+{
+    match offer {
+        Ok(Offer::Took(taken)) => Ok(Turn::Took(taken)),
+        Ok(Offer::Waits) => Ok(Turn::Waits),
+        Ok(Offer::Refused(why)) => Ok(Turn::Refused(why)),
+        Err(MergeFault::Full) => Err(JournalsFault::Full),
+        Err(MergeFault::Memory) => Err(JournalsFault::Memory),
+    }
+}
+
+/// Offers this line of the actor, if there is one.
+fn offer_next(
+    world: &mut World,
+    numbers: &mut FrameNumbers,
+    who: &Actor,
+    next: &Option<OwnLine>,
+) -> Result<Turn, JournalsFault>
+    requires { IsIndexOf numbers.old world.old.sent }
+    ensures turn { IfOk result (λ t. IsTurn world.old who.now next.now t world.new) }
+    ensures index { IfOk result (λ t. IsGoing t → IsIndexOf numbers.new world.new.sent) }
+{
+    match next {
+        Some(line) => turn_of(take_line(world, numbers, who, line)),
+        None => Ok(Turn::Ended),
+    }
+}
+
+/// Looks for a journal whose next line can be taken, in order, and takes it. It stops at a line that is refused.
+pub fn find<R: Read>(
+    world: &mut World,
+    numbers: &mut FrameNumbers,
+    journals: &[OwnJournal<R>],
+) -> Result<Found, Failure>
+    requires { IsIndexOf numbers.old world.old.sent }
+    ensures found { IfOk result (λ f. IsFound world.old journals.now f world.new) }
+    ensures index { IfOk result (λ f. Goes f → IsIndexOf numbers.new world.new.sent) }
+{
+    let mut waits = false;
+    for (index, journal) in journals.iter().enumerate() {
+        let turn = match offer_next(world, numbers, &journal.who, &journal.next) {
+            Ok(turn) => turn,
+            Err(fault) => {
+                return Err(Failure {
+                    journal: index,
+                    fault,
+                });
+            }
+        };
+        match turn {
+            Turn::Ended => {}
+            Turn::Waits => waits = true,
+            Turn::Took(taken) => return Ok(Found::Took(index, taken)),
+            Turn::Refused(why) => return Ok(Found::Refused(index, why)),
+        }
+    }
+    if waits {
+        Ok(Found::Stuck)
+    } else {
+        Ok(Found::Merged)
+    }
+}
