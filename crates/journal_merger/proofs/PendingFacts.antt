@@ -141,8 +141,8 @@ left-moves unknown i old new p q before after was now others who apart left same
     none whose absent =
         same whose (λ w. absent i q now (who ∙ sym w))
         ∙ left.only whose (λ j x h w. by-place j i
-            (λ e. let z : Some p ≡ Some x = sym was ∙ ap (slice_get old) (sym e) ∙ h in let is : p ≡ x = cc in absent i q now (who ∙ ap (λ (y : Pending). y.who) is ∙ w))
-            (λ e. absent j x (others j e ∙ h) w))
+        (λ e. let z : Some p ≡ Some x = sym was ∙ ap (slice_get old) (sym e) ∙ h in let is : p ≡ x = cc in absent i q now (who ∙ ap (λ (y : Pending). y.who) is ∙ w))
+        (λ e. absent j x (others j e ∙ h) w))
 
 -- a journal more
 
