@@ -27,6 +27,15 @@ fn plate(
     plate_over(rt, path, SIZE, fault, failing)
 }
 
+/// Whether a call of a record was done. Want of memory is no answer.
+fn is_done(came: Result<(), RecordFault>) -> Option<bool> {
+    match came {
+        Ok(()) => Some(true),
+        Err(RecordFault::Memory) => None,
+        Err(_) => Some(false),
+    }
+}
+
 /// How many calls were made of a record's file.
 fn calls_of(record: Record) -> u32 {
     record.into_plate().into_medium().made()
@@ -45,11 +54,14 @@ fn found(rt: &HostRuntime, path: &str) -> Option<u8> {
 /// Makes a record `F` on a new file, and returns how many calls were made.
 fn formats(rt: &HostRuntime, path: &str, fault: Fault, failing: u32) -> Option<u32> {
     let _ = fs::remove_file(rt, path);
-    let Ok(plate) = plate(rt, path, fault, failing)? else {
-        return Some(failing);
+    let plate = match plate(rt, path, fault, failing)? {
+        Ok(plate) => plate,
+        Err(FileFault::Memory) => return None,
+        Err(_) => return Some(failing),
     };
     match RotatingRecord::format(rt.alloc(), plate, b"F") {
         Ok(record) => Some(calls_of(record)),
+        Err((_, SlotFault::Memory)) => None,
         Err((plate, _)) => Some(plate.into_medium().made()),
     }
 }
@@ -65,17 +77,20 @@ fn made(rt: &HostRuntime, path: &str) -> Option<()> {
 /// Opens the record and keeps `B`. A record that failed can't be opened again in place.
 /// Returns how many calls were made, whether the record opened, and whether it kept.
 fn keeps(rt: &HostRuntime, path: &str, fault: Fault, failing: u32) -> Option<(u32, bool, bool)> {
-    let Ok(plate) = plate(rt, path, fault, failing)? else {
-        return Some((failing, false, false));
+    let plate = match plate(rt, path, fault, failing)? {
+        Ok(plate) => plate,
+        Err(FileFault::Memory) => return None,
+        Err(_) => return Some((failing, false, false)),
     };
     match RotatingRecord::open(rt.alloc(), plate) {
         Ok((mut record, _)) => {
-            let kept = record.keep(b"B").is_ok();
-            if !kept && record.reopen().is_ok() {
+            let kept = is_done(record.keep(b"B"))?;
+            if !kept && is_done(record.reopen().map(|_| ()))? {
                 return None;
             }
             Some((calls_of(record), true, kept))
         }
+        Err((_, SlotFault::Memory)) => None,
         Err((plate, _)) => Some((plate.into_medium().made(), false, false)),
     }
 }
@@ -196,7 +211,7 @@ fn a_wrong_read_ends_a_keep(rt: HostRuntime) -> Outcome {
 fn reopens(rt: &HostRuntime, path: &str, fault: Fault, failing: u32) -> Option<(u32, bool)> {
     let plate = plate(rt, path, fault, failing)?.ok()?;
     let (mut record, _) = RotatingRecord::open(rt.alloc(), plate).ok()?;
-    let again = record.reopen().is_ok();
+    let again = is_done(record.reopen().map(|_| ()))?;
     Some((calls_of(record), again))
 }
 
@@ -228,7 +243,8 @@ fn is_found_out(rt: &HostRuntime, path: &str) -> Outcome {
     let Ok((mut record, _)) = RotatingRecord::open(rt.alloc(), plate) else {
         return Err(Failure::NoAnswer(1));
     };
-    check_row(record.keep(b"B").is_ok() && record.failures() == 0, 2)?;
+    check_answer(is_done(record.keep(b"B")), 2)?;
+    check_row(record.failures() == 0, 2)?;
     match record.reopen() {
         Err(RecordFault::Device) => check_row(record.failures() == 1 && record.stuck(), 3),
         Err(RecordFault::Memory) => Err(Failure::Memory),

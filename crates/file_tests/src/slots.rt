@@ -4,7 +4,7 @@ use crate::media::{Fault, FaultyFile, plate_over};
 use crate::rooms::{after, path_of};
 use file_plate::{FileFault, FilePlate};
 use slot_record::{SlotFault, SlotRecord};
-use stable_record::StableRecord;
+use stable_record::{RecordFault, StableRecord};
 use std::alloc::Global;
 use test_outcomes::{Failure, Outcome, check_answer};
 
@@ -45,14 +45,21 @@ fn made(rt: &HostRuntime, path: &str) -> Option<()> {
 /// Opens the record and keeps `B`.
 /// Returns how many calls were made, whether the record opened, and whether it kept.
 fn keeps(rt: &HostRuntime, path: &str, fault: Fault, failing: u32) -> Option<(u32, bool, bool)> {
-    let Ok(plate) = plate(rt, path, fault, failing)? else {
-        return Some((failing, false, false));
+    let plate = match plate(rt, path, fault, failing)? {
+        Ok(plate) => plate,
+        Err(FileFault::Memory) => return None,
+        Err(_) => return Some((failing, false, false)),
     };
     match SlotRecord::open(rt.alloc(), plate) {
         Ok((mut record, _)) => {
-            let kept = record.keep(b"B").is_ok();
+            let kept = match record.keep(b"B") {
+                Ok(()) => true,
+                Err(RecordFault::Memory) => return None,
+                Err(_) => false,
+            };
             Some((record.into_plate().into_medium().made(), true, kept))
         }
+        Err((_, SlotFault::Memory)) => None,
         Err((plate, _)) => Some((plate.into_medium().made(), false, false)),
     }
 }
