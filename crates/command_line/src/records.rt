@@ -44,6 +44,7 @@ fn look_text(fault: FileFault) -> &'static str
 
 /// Prints what a record's file holds, with status 0 if it would open as a record, and 1 if not. A file that can't be
 /// read is said on the second writer, with status 2.
+#[tactic(auto, using(crate::proofs::RecordFacts::shows_report, crate::proofs::RecordFacts::refuses_file, crate::proofs::RecordFacts::lacks_memory))]
 pub(crate) fn show_record<F: Files<File = File>, W: Write, E: Write>(
     files: &F,
     alloc: Global,

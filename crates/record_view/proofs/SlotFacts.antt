@@ -7,7 +7,7 @@ use Rattle.record_view.specs.declared.slots.SlotView.{SlotView}
 use Rattle.record_view.specs.Slots.{slot_seen_at, rank_seen, holder_seen}
 use Rattle.record_view.specs.Texts.{lines_of_two, two_text, place_in_two, lines_of_three, three_text, place_in_three}
 
-abbrev two_from : SlotView → SlotView → ℕ
+abbrev pub two_from : SlotView → SlotView → ℕ
 two_from first second = place_in_two (holder_of_ranks (rank_seen first) (rank_seen second))
 
 -- the two slots of a file, as they are computed
@@ -22,7 +22,7 @@ two_lines image h first second e f g =
     ∙ ap (λ (s : SlotView). lines_of_two (two_from (slot_seen_at 0 1 image) s) (slot_seen_at 0 1 image) s) g
     ∙ two_are image
 
-abbrev three_from : ℕ → SlotView → SlotView → SlotView → ℕ
+abbrev pub three_from : ℕ → SlotView → SlotView → SlotView → ℕ
 three_from mark first second third = place_in_three (holder_seen mark first second third)
 
 -- the three slots of a file

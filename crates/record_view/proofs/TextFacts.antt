@@ -1,12 +1,15 @@
--- The lines of one more entry, and what is said of a body.
-use Rattle.std.proofs.Common.{◌≡◌, ◌∙◌, ◌++◌, ℕ, ◌+◌, List, [], ◌∷◌, ◌≤◌, length, Option, Some, None, Result, Ok, Err, inl, inr, take, slice_get, get_or, refl, sym, ap, append_assoc}
+-- Texts that are put together, and what is said of a file.
+use Rattle.std.proofs.Common.{◌≡◌, ◌≢◌, ◌∙◌, ◌++◌, ℕ, ◌+◌, List, [], ◌∷◌, length, Some, inl, inr, take, slice_get, get_or, sym, ap, subst, append_assoc}
 use Rattle.std.proofs.lemmas.List.{append-nil, take_more}
 use Rattle.std.proofs.lemmas.List.Concat.{flat_map-append}
 use Rattle.std.proofs.lemmas.Option.{slice_get_within, get_or_from_slice_get}
 use Rattle.std.specs.List.{flat_map}
 use Rattle.lock_model.specs.declared.entries.Entry.{Entry}
-use Rattle.stable_record.specs.declared.node_records.NodeRecord.{NodeRecord}
-use Rattle.record_view.specs.Texts.{entry_text, SaysBody, IsOfClient, IsOfNode, client_words, node_words, other_words}
+use Rattle.slot_record.specs.declared.slots.TheConstants.{LEAST_PLATE_LEN}
+use Rattle.rotating_record.specs.declared.slots.TheConstants.{ROTATING_PLATE_LEN}
+use Rattle.record_view.specs.declared.files.SeenFile.{SeenFile}
+use Rattle.record_view.specs.Views.{IsSize, IsWhole}
+use Rattle.record_view.specs.Texts.{entry_text, SaysContent, SaysTwo, SaysThree}
 
 entry_more : (entries : List Entry) (place : ℕ) (e : Entry) → slice_get entries place ≡ Some e → flat_map entry_text (take (place + 1) entries) ≡ flat_map entry_text (take place entries) ++ entry_text e
 entry_more entries place e h =
@@ -26,7 +29,24 @@ entries_more entries place e front text new at h g =
 pub joined : (old a b one two : List ℕ) → one ≡ old ++ a → two ≡ one ++ b → two ≡ old ++ (a ++ b)
 joined old a b one two e f = f ∙ ap (λ (bs : List ℕ). bs ++ b) e ∙ append_assoc old a b
 
-pub all_joined : (old a b c d one two three four : List ℕ) → one ≡ old ++ a → two ≡ one ++ b → three ≡ two ++ c → four ≡ three ++ d → four ≡ old ++ (a ++ (b ++ (c ++ d)))
-all_joined old a b c d one two three four e f g h =
-    joined old ((a ++ b) ++ c) d three four (joined old (a ++ b) c two three (joined old a b one two e f) g) h
-    ∙ ap (λ (bs : List ℕ). old ++ bs) (append_assoc (a ++ b) c d ∙ append_assoc a b (c ++ d))
+pub three_joined : (old a b c one two three : List ℕ) → one ≡ old ++ a → two ≡ one ++ b → three ≡ two ++ c → three ≡ old ++ ((a ++ b) ++ c)
+three_joined old a b c one two three e f g = joined old (a ++ b) c two three (joined old a b one two e f) g
+
+pub four_joined : (old a b c d one two three four : List ℕ) → one ≡ old ++ a → two ≡ one ++ b → three ≡ two ++ c → four ≡ three ++ d → four ≡ old ++ (((a ++ b) ++ c) ++ d)
+four_joined old a b c d one two three four e f g h = joined old ((a ++ b) ++ c) d three four (three_joined old a b c one two three e f g) h
+
+pub five_joined : (old a b c d x one two three four five : List ℕ) → one ≡ old ++ a → two ≡ one ++ b → three ≡ two ++ c → four ≡ three ++ d → five ≡ four ++ x → five ≡ old ++ ((((a ++ b) ++ c) ++ d) ++ x)
+five_joined old a b c d x one two three four five e f g h k = joined old (((a ++ b) ++ c) ++ d) x four five (four_joined old a b c d one two three four e f g h) k
+
+-- what a view says of the bytes of a file that was read whole
+no_other : (n : ℕ) → IsSize n → n ≢ LEAST_PLATE_LEN → n ≢ ROTATING_PLATE_LEN → ⊥
+no_other n (inl e) a b = a e
+no_other n (inr e) a b = b e
+
+pub view_says : (f : SeenFile) (bytes text : List ℕ) → IsWhole f → IsSize f.size → bytes ≡ f.bytes.items → (length bytes ≡ LEAST_PLATE_LEN → SaysTwo bytes text) → (length bytes ≡ ROTATING_PLATE_LEN → SaysThree bytes text)
+    → SaysContent f text
+view_says f bytes text whole sized is two three = record {
+  two = λ e. subst (λ (b : List ℕ). SaysTwo b text) is (two (ap (λ (b : List ℕ). length b) is ∙ whole (inl e) ∙ e));
+  three = λ e. subst (λ (b : List ℕ). SaysThree b text) is (three (ap (λ (b : List ℕ). length b) is ∙ whole (inr e) ∙ e));
+  other = λ a b. absurd (no_other f.size sized a b);
+}

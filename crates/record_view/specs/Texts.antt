@@ -57,13 +57,15 @@ gate_text gate = if gate == OPEN then codes "open" else codes "closed"
 abbrev pub holder_text : ℕ → ℕ → List ℕ
 holder_text holder place = if place == holder then codes ", has the record" else codes ""
 
--- `slot 2: open, sequence 7, 9 bytes, has the record`
-abbrev pub slot_words : ℕ → List ℕ → ℕ → ℕ → List ℕ → List ℕ
-slot_words place gate sequence length record_words =
-    codes "slot " ++ decimal place ++ codes ": " ++ gate ++ codes ", sequence " ++ decimal sequence ++ codes ", " ++ decimal length ++ codes " bytes" ++ record_words ++ codes "\n"
+abbrev pub place_text : ℕ → List ℕ
+place_text place = codes "slot " ++ decimal place ++ codes ": "
 
+abbrev pub numbers_text : ℕ → ℕ → List ℕ
+numbers_text sequence length = codes ", sequence " ++ decimal sequence ++ codes ", " ++ decimal length ++ codes " bytes"
+
+-- `slot 2: open, sequence 7, 9 bytes, has the record`
 abbrev pub slot_text : ℕ → ℕ → SlotView → List ℕ
-slot_text holder place s = slot_words place (gate_text s.gate) s.sequence s.length (holder_text holder place)
+slot_text holder place s = place_text place ++ gate_text s.gate ++ numbers_text s.sequence s.length ++ holder_text holder place ++ codes "\n"
 
 -- the lines of two slots and of three, of which one has this number
 abbrev pub lines_of_two : ℕ → SlotView → SlotView → List ℕ
@@ -106,8 +108,11 @@ abbrev pub problem_text : Problem → List ℕ
 problem_text problem.First = codes "1 (reader-first)"
 problem_text problem.Second = codes "2 (writer-first)"
 
+abbrev pub count_words : ℕ → List ℕ
+count_words count = codes ", entries " ++ decimal count ++ codes "\n"
+
 abbrev pub head_words : List ℕ → ℕ → List ℕ
-head_words problem count = codes "a node's record: problem " ++ problem ++ codes ", entries " ++ decimal count ++ codes "\n"
+head_words problem count = codes "a node's record: problem " ++ problem ++ count_words count
 
 abbrev pub node_words : NodeRecord → List ℕ
 node_words r = head_words (problem_text r.problem) (length r.entries) ++ flat_map entry_text r.entries

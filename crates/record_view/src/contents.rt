@@ -2,7 +2,7 @@
 
 ghost use Rattle.std.specs.Prelude.{◌≡◌, OnOk, ◌++◌, List, ℕ, string_bytes};
 ghost use Rattle.std.specs.List.{flat_map};
-ghost use Rattle.record_view.specs.Texts.{SaysBody, client_words, head_words, node_words, other_words, entry_text, live_text, status_text, problem_text};
+ghost use Rattle.record_view.specs.Texts.{SaysBody, client_words, count_words, head_words, node_words, other_words, entry_text, live_text, status_text, problem_text};
 
 use lock_model::{Problem, Status};
 use stable_record::{Entry, Live, NodeRecord, RecordFault, read_client, read_node};
@@ -62,11 +62,21 @@ fn push_entries(text: &mut String, record: &NodeRecord) -> Result<(), AllocError
     Ok(())
 }
 
+/// Adds how many entries a node's record has.
+fn push_count(text: &mut String, count: usize) -> Result<(), AllocError>
+    ensures { OnOk result (string_bytes text.new ≡ string_bytes text.old ++ count_words count) }
+{
+    writeln!(text, ", entries {count}")
+}
+
 /// Adds the first line of a node's record.
 fn push_head(text: &mut String, problem: &str, count: usize) -> Result<(), AllocError>
     ensures { OnOk result (string_bytes text.new ≡ string_bytes text.old ++ head_words problem.now count) }
 {
-    writeln!(text, "a node's record: problem {problem}, entries {count}")
+    text.push_str("a node's record: problem ")?;
+    text.push_str(problem)?;
+    push_count(text, count)?;
+    Ok(())
 }
 
 /// Adds what a node's record says.

@@ -1,7 +1,7 @@
 // What is said of a file, and whether it would be opened as a record.
 
 ghost use Rattle.std.specs.Prelude.{◌≡◌, IfOk, IfErr, string_bytes};
-ghost use Rattle.record_view.specs.Views.{IsWhole, Knows, IsLookFault, verdict_on};
+ghost use Rattle.record_view.specs.Views.{IsSize, IsWhole, Knows, IsLookFault, verdict_on};
 ghost use Rattle.record_view.specs.Texts.{SaysContent, Reports, IsReport, verdict_text};
 
 use crate::files::{SeenFile, read_file};
@@ -49,17 +49,13 @@ fn verdict_word(verdict: Verdict) -> &'static str
     }
 }
 
-/// The lines of a file's content, and whether its slots have a record.
-fn content_of(alloc: Global, file: &SeenFile) -> Result<(String, bool), AllocError>
-    requires { IsWhole file.now }
+/// The lines of a file with two slots or three, and whether they have a record.
+fn viewed(alloc: Global, file: &SeenFile) -> Result<(String, bool), AllocError>
+    requires whole { IsWhole file.now }
+    requires sized { IsSize file.now.size }
     ensures says { IfOk result (λ c. SaysContent file.now (string_bytes c.0)) }
     ensures found { IfOk result (λ c. Knows file.now c.1) }
 {
-    let size = file.size;
-    if size != u64::from(LEAST_PLATE_LEN) && size != u64::from(ROTATING_PLATE_LEN) {
-        let text = format!(in alloc; "{size} bytes\n")?;
-        return Ok((text, false));
-    }
     match view(alloc, &file.bytes) {
         Ok(seen) => {
             let RecordView { body, text } = seen;
@@ -67,6 +63,23 @@ fn content_of(alloc: Global, file: &SeenFile) -> Result<(String, bool), AllocErr
         }
         Err(_) => Err(AllocError),
     }
+}
+
+/// The lines of a file's content, and whether its slots have a record.
+fn content_of(alloc: Global, file: &SeenFile) -> Result<(String, bool), AllocError>
+    requires { IsWhole file.now }
+    ensures says { IfOk result (λ c. SaysContent file.now (string_bytes c.0)) }
+    ensures found { IfOk result (λ c. Knows file.now c.1) }
+{
+    let size = file.size;
+    if size == u64::from(LEAST_PLATE_LEN) {
+        return viewed(alloc, file);
+    }
+    if size == u64::from(ROTATING_PLATE_LEN) {
+        return viewed(alloc, file);
+    }
+    let text = format!(in alloc; "{size} bytes\n")?;
+    Ok((text, false))
 }
 
 /// The verdict on a file, by whether its slots have a record.

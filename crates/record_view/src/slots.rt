@@ -6,7 +6,7 @@ ghost use Rattle.slot_record.specs.declared.slots.TheConstants.{LEAST_PLATE_LEN 
 ghost use Rattle.rotating_record.specs.declared.slots.TheConstants.{ROTATING_PLATE_LEN as THREE};
 ghost use Rattle.slot_record.specs.Slots as TwoSlots;
 ghost use Rattle.record_view.specs.Slots.{counts_seen, rank_seen, has_seen, holder_seen, slot_seen_at};
-ghost use Rattle.record_view.specs.Texts.{gate_text, holder_text, slot_words, slot_text, mark_text, lines_of_two, lines_of_three, two_text, three_text, place_in_two, place_in_three};
+ghost use Rattle.record_view.specs.Texts.{gate_text, holder_text, place_text, numbers_text, slot_text, mark_text, lines_of_two, lines_of_three, two_text, three_text, place_in_two, place_in_three};
 
 use rotating_record::MARK;
 use slot_record::{MAX_SEQUENCE, OPEN};
@@ -123,21 +123,18 @@ fn mark_line(mark: u64) -> &'static str
     }
 }
 
-/// Adds the line of a slot, whose gate and record are these words.
-fn push_words(
-    text: &mut String,
-    place: u32,
-    gate: &str,
-    slot: SlotView,
-    record: &str,
-) -> Result<(), AllocError>
-    ensures { OnOk result (string_bytes text.new ≡ string_bytes text.old ++ slot_words place gate.now slot.sequence slot.length record.now) }
+/// Adds the number of a slot.
+fn push_place(text: &mut String, place: u32) -> Result<(), AllocError>
+    ensures { OnOk result (string_bytes text.new ≡ string_bytes text.old ++ place_text place) }
 {
-    let (sequence, length) = (slot.sequence, slot.length);
-    writeln!(
-        text,
-        "slot {place}: {gate}, sequence {sequence}, {length} bytes{record}"
-    )
+    write!(text, "slot {place}: ")
+}
+
+/// Adds the numbers of a slot.
+fn push_numbers(text: &mut String, sequence: u64, length: u32) -> Result<(), AllocError>
+    ensures { OnOk result (string_bytes text.new ≡ string_bytes text.old ++ numbers_text sequence length) }
+{
+    write!(text, ", sequence {sequence}, {length} bytes")
 }
 
 /// Adds the line of a slot.
@@ -145,7 +142,11 @@ fn push_slot(text: &mut String, holder: u32, place: u32, slot: SlotView) -> Resu
     ensures { OnOk result (string_bytes text.new ≡ string_bytes text.old ++ slot_text holder place slot) }
 {
     let (gate, record) = (gate_word(slot.gate), holder_word(holder, place));
-    push_words(text, place, gate, slot, record)?;
+    push_place(text, place)?;
+    text.push_str(gate)?;
+    push_numbers(text, slot.sequence, slot.length)?;
+    text.push_str(record)?;
+    text.push_str("\n")?;
     Ok(())
 }
 

@@ -30,10 +30,10 @@ pub struct RecordView {
 fn push_found(alloc: Global, text: &mut String, body: &Option<Vec<u8>>) -> Result<(), AllocError>
     ensures { OnOk result ((words : List ℕ) × SaysFound (option_map (λ v. v.items) body.now) words × (string_bytes text.new ≡ string_bytes text.old ++ words)) }
 {
-    match body {
-        Some(body) => push_body(alloc, text, body)?,
-        None => text.push_str("no slot has a record\n")?,
-    }
+    let Some(body) = body else {
+        return text.push_str("no slot has a record\n");
+    };
+    push_body(alloc, text, body)?;
     Ok(())
 }
 

@@ -3,8 +3,8 @@ use Rattle.std.specs.Global.{Global}
 use Rattle.record_view.specs.Texts.{SaysBody, SaysFound}
 use Rattle.record_view.proofs.views.push_found.Goals as goal
 
-pub returns-in-Some : goal.returns-in-Some
-returns-in-Some c =
+pub returns : goal.returns
+returns c =
     let old = string_bytes c.args.text.now in
     let new = string_bytes c.push_body.new.text in
     subst (λ (o : Option (Vec ℕ Global)). (x : List ℕ) × SaysFound (option_map (λ v. v.items) o) x × (new ≡ old ++ x)) (sym c.in-Some.is)
