@@ -1,8 +1,16 @@
 -- What the program does with its words: the status that it ends with, what it writes, and what it
 -- says on the second writer.
-use Rattle.std.specs.Prelude.{◌≡◌, ◌⊎◌, ◌||◌, ℕ, Bool, true, false, List, [], Option, Some, None, Result, Ok, Err, codes}
-use Rattle.std.specs.Io.KnownBytes.{Keeps}
+use Rattle.std.specs.Prelude.{◌≡◌, ◌⊎◌, ◌||◌, ℕ, Bool, true, false, List, [], Option, Some, None, Result, Ok, Err, codes, string_bytes}
+use Rattle.std.specs.Io.KnownBytes.{Keeps, Appends}
 use Rattle.clap.specs.Words.{Kinds, fault_of}
+use Rattle.line_streams.specs.Streams.{AppendsPart}
+use Rattle.file_plate.specs.declared.faults.FileFault.{FileFault}
+use Rattle.file_plate.specs.declared.faults.FileFault.TheVariants as file_fault
+use Rattle.record_view.specs.declared.reports.Verdict.{Verdict}
+use Rattle.record_view.specs.declared.reports.Verdict.TheVariants as verdict
+use Rattle.record_view.specs.declared.reports.Report.{Report}
+use Rattle.record_view.specs.Texts.{IsReport}
+use Rattle.operator_cli.specs.declared.faults.ServeFault.TheVariants as fault
 use Rattle.operator_cli.specs.declared.faults.ServeFault.{ServeFault}
 use Rattle.operator_cli.specs.declared.orders.Command.{Command}
 use Rattle.operator_cli.specs.declared.orders.Command.TheVariants as command
@@ -60,10 +68,44 @@ abbrev pub ExplainsNumber : Option Words → Writers → Ended → Type 0
 ExplainsNumber None w e = Keeps w.old w.new × EndsSaying 2 unknown_text w.errors_old w.errors_new e
 ExplainsNumber (Some words) w e = Shows (explained_text words) w e ⊎ LacksMemory w e
 
+-- A text is shown with this status, unless it could not be written.
+abbrev pub ShowsWith : ℕ → List ℕ → Writers → Ended → Type 0
+ShowsWith status text w e =
+    (Appends w.old w.new text × (e.status ≡ status) × (e.told ≡ true) × Keeps w.errors_old w.errors_new)
+    ⊎ (AppendsPart w.old w.new text × TellsFault fault.Write w.errors_old w.errors_new e)
+
+-- the status of a file that was read: 0 exactly if it would open as a record
+abbrev pub status_for : Verdict → ℕ
+status_for verdict.Opens = 0
+status_for verdict.NotWritable = 1
+status_for verdict.WrongSize = 1
+status_for verdict.NoRecord = 1
+
+-- what is said of a file that can't be read
+abbrev pub missing_text : List ℕ
+missing_text = codes "fault 942: there is no such file\n"
+
+abbrev pub unreadable_text : List ℕ
+unreadable_text = codes "fault 945: the file can't be read, or is not a regular file\n"
+
+abbrev pub look_text : FileFault → List ℕ
+look_text file_fault.Missing = missing_text
+look_text f = unreadable_text
+
+-- A file that can't be read is refused with status 2, by one of these texts.
+abbrev pub RefusesFile : Writers → Ended → Type 0
+RefusesFile w e = (f : FileFault) × Keeps w.old w.new × EndsSaying 2 (look_text f) w.errors_old w.errors_new e
+
+-- What a file holds is shown, by a report on some file that was read. Or the file can't be read, or memory ran out.
+-- No contract can say what bytes a file has.
+abbrev pub LooksAtFile : Writers → Ended → Type 0
+LooksAtFile w e = ((r : Report) × IsReport r × ShowsWith (status_for r.verdict) (string_bytes r.text) w e) ⊎ (RefusesFile w e ⊎ LacksMemory w e)
+
 -- a command is explained if `--explain` is anywhere
 abbrev pub RunsRequest : Request → Option (List ℕ) → Writers → Ended → Type 0
 RunsRequest (request.Serve a) input w e = RunsAsked (a.front || a.behind) a.command input w e
 RunsRequest (request.Explain number) input w e = ExplainsNumber (words_for number) w e
+RunsRequest (request.Record file) input w e = LooksAtFile w e
 
 -- what is asked for is what the words name
 abbrev pub RunsNamed : FoundWords → Option (List ℕ) → Writers → Ended → Type 0

@@ -12,12 +12,14 @@ ghost use Rattle.command_line.specs.CommandLine.{EndsServed, ServesFor, RunsComm
 
 use crate::explaining::explain_command;
 use crate::numbers::explain_number;
+use crate::records::show_record;
 use command_words::{Request, read_words};
 use operator_cli::{Command, Order, Policies, ServeFault, serve};
 use program_ends::{Ended, collected, end_unserved, tell_fault, tell_unread};
 use run_service::{Supplies, serve_run};
 use std::alloc::Global;
 use std::env::Args;
+use std::fs::{File, Files};
 use std::io;
 use std::io::{ErrorKind, Read, Write};
 use std::sync::Wait;
@@ -110,10 +112,10 @@ where
 }
 
 /// Does what is asked for.
-fn run_request<T: Threads + Wait + Copy + Send, R: Read, W: Write, E: Write>(
+fn run_request<T: Threads + Wait + Files<File = File> + Copy + Send, R: Read, W: Write, E: Write>(
     rt: T,
     alloc: Global,
-    request: Request,
+    request: Request<'_>,
     policies: Policies,
     supplies: Supplies,
     reader: R,
@@ -137,12 +139,13 @@ where
             run_asked(rt, alloc, explain, order, supplies, reader, output, errors)
         }
         Request::Explain(number) => explain_number(alloc, number, output, errors),
+        Request::Record(path) => show_record(&rt, alloc, path, output, errors),
     }
 }
 
 /// Does what the words say.
 #[tactic(auto, using(crate::proofs::WordFacts::runs_request, crate::proofs::WordFacts::runs_unserved))]
-fn run_words<T: Threads + Wait + Copy + Send, R: Read, W: Write, E: Write>(
+fn run_words<T: Threads + Wait + Files<File = File> + Copy + Send, R: Read, W: Write, E: Write>(
     rt: T,
     alloc: Global,
     words: &[String],
@@ -171,7 +174,7 @@ where
 
 /// Does what the words say that the program was given.
 #[tactic(auto, using(crate::proofs::WordFacts::runs_lacking))]
-fn run_given<T: Threads + Wait + Copy + Send, R: Read, W: Write, E: Write>(
+fn run_given<T: Threads + Wait + Files<File = File> + Copy + Send, R: Read, W: Write, E: Write>(
     rt: T,
     alloc: Global,
     given: Args,
@@ -216,15 +219,18 @@ where
 /// fails while the input is read hears less of them, which `Ended::told` doesn't tell.
 /// `explain N` writes what the number N means, its cause and its remedy to `output`, with status 0. If no fault has
 /// the number, `errors` says so, and the status is 2.
+/// `record FILE` writes what the file of a record holds to `output`. The status is 0 if it would open as a record,
+/// and 1 if not. If the file can't be read, `errors` says so with its number (942, 945), and the status is 2.
 /// `--help`, `help` and `--version`, also `script --help`, `help script` and the like, go to `output`, with status 0 (`fault 932`
 /// and 1 where that fails). Other words are wrong, and so is one that is not UTF-8: a text on `errors`
 /// says so, and the status is 2. Where memory is refused while words are read, `fault 933` is told, with
 /// status 1.
 ///
-/// Contracts speak of what the reader has left and of what the writers hold, where these are known.
+/// Contracts speak of what the reader has left and of what the writers hold, where these are known. No contract says
+/// which bytes a file has.
 /// The caller owes sixteen pairs of policies, as for `serve`, and for the threads of a run as many again;
 /// and the empty records that `serve_run` asks for. A run may wait without end.
-pub fn run<T: Threads + Wait + Copy + Send, R: Read, W: Write, E: Write>(
+pub fn run<T: Threads + Wait + Files<File = File> + Copy + Send, R: Read, W: Write, E: Write>(
     rt: T,
     alloc: Global,
     words: io::Result<Args>,

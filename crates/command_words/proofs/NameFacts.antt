@@ -53,11 +53,11 @@ found_one f (s ∷ subs) words = find_by f (f (label_of s)) s subs (find (λ t. 
 abbrev pub label : Text → Text × List Text
 label name = (name, [])
 
-abbrev pub six_labels : Names
-six_labels = label (codes "script") ∷ label (codes "audit") ∷ label (codes "ballot") ∷ label (codes "run") ∷ label (codes "explain") ∷ label (codes "help") ∷ []
+abbrev pub all_labels : Names
+all_labels = label (codes "script") ∷ label (codes "audit") ∷ label (codes "ballot") ∷ label (codes "run") ∷ label (codes "explain") ∷ label (codes "record") ∷ label (codes "help") ∷ []
 
 -- the program's commands have these names, and `clap` adds the last
-labels_are : labels (built app).subs ≡ six_labels
+labels_are : labels (built app).subs ≡ all_labels
 unfolding clap_on_literals
 labels_are = refl
 
@@ -68,21 +68,22 @@ answers_by_name word name h = (bytes_eq-Decides name word).0 (or_false (bytes_eq
     or_false true h = refl
     or_false false h = h
 
-is_name : (word n : Text) → OneOf (answers_to word) six_labels n → (word ≡ codes "help" → ⊥) → IsRequest n
+is_name : (word n : Text) → OneOf (answers_to word) all_labels n → (word ≡ codes "help" → ⊥) → IsRequest n
 is_name word n (inl e) other = inl (inl e.0)
 is_name word n (inr (inl e)) other = inl (inr (inl e.0))
 is_name word n (inr (inr (inl e))) other = inl (inr (inr (inl e.0)))
 is_name word n (inr (inr (inr (inl e)))) other = inl (inr (inr (inr e.0)))
-is_name word n (inr (inr (inr (inr (inl e))))) other = inr e.0
-is_name word n (inr (inr (inr (inr (inr (inl e)))))) other = absurd (other (sym (answers_by_name word (codes "help") e.1)))
-is_name word n (inr (inr (inr (inr (inr (inr e)))))) other = absurd e
+is_name word n (inr (inr (inr (inr (inl e))))) other = inr (inl e.0)
+is_name word n (inr (inr (inr (inr (inr (inl e)))))) other = inr (inr e.0)
+is_name word n (inr (inr (inr (inr (inr (inr (inl e))))))) other = absurd (other (sym (answers_by_name word (codes "help") e.1)))
+is_name word n (inr (inr (inr (inr (inr (inr (inr e))))))) other = absurd e
 
-some_command : (word : Text) (subs : List Shape) (found : Option (Text × List Row)) (n : Text) → labels subs ≡ six_labels → (word ≡ codes "help" → ⊥) → FoundOne (answers_to word) subs found
+some_command : (word : Text) (subs : List Shape) (found : Option (Text × List Row)) (n : Text) → labels subs ≡ all_labels → (word ≡ codes "help" → ⊥) → FoundOne (answers_to word) subs found
     → option_map (λ p. p.0) found ≡ Some n → IsRequest n
 some_command word subs None n e other h k = let clash : None ≡ Some n = k in cc
 some_command word subs (Some found) n e other h k =
     let same : found.0 ≡ n = let s : Some found.0 ≡ Some n = k in cc in
-    is_name word n (subst (λ (m : Text). OneOf (answers_to word) six_labels m) same (subst (λ (ns : Names). OneOf (answers_to word) ns found.0) e h)) other
+    is_name word n (subst (λ (m : Text). OneOf (answers_to word) all_labels m) same (subst (λ (ns : Names). OneOf (answers_to word) ns found.0) e h)) other
 
 stopped_command : (stop : Option (Text × List Text)) (n : Text) → NotHelp stop → option_map (λ p. p.0) (entered (built app) stop) ≡ Some n → IsRequest n
 stopped_command None n other k = let clash : None ≡ Some n = k in cc

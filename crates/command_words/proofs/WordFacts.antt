@@ -1,5 +1,5 @@
 -- The words that the program takes, and what `clap` says of others.
-use Rattle.std.proofs.Common.{◌≡◌, ◌∙◌, true, List, ℕ, Option, Some, None, Result, Err, refl, subst}
+use Rattle.std.proofs.Common.{◌≡◌, ◌∙◌, true, List, ℕ, Option, Some, None, Result, Err, codes, refl, subst}
 use Rattle.std.specs.Prelude.{SomeIff}
 use Rattle.clap.proofs.WalkLemmas.{first_value-rows}
 use Rattle.clap.specs.declared.parser.matches.Found.{Found}
@@ -8,7 +8,7 @@ use Rattle.clap.specs.Words.{App, Kinds, FailsBy, HasKind, fault_of, is_simple_a
 use Rattle.clap.specs.declared.error.Error.{Error}
 use Rattle.program_ends.specs.declared.wording.Unserved.{Unserved}
 use Rattle.program_ends.specs.Wordings.{IsUnserved}
-use Rattle.command_words.specs.Words.{app, ReadsWords, FoundWords, IsNumber, number_value, TellsNumber}
+use Rattle.command_words.specs.Words.{app, ReadsWords, FoundWords, IsNumber, number_value, TellsNumber, NamesFile}
 
 is_simple_app : is_simple_and_free app ≡ true
 unfolding clap_on_literals
@@ -28,3 +28,10 @@ number_told f name text r at h = subst (λ (o : Option (List ℕ)). TellsNumber 
 
 pub number_absent : (f : Found) (name : List ℕ) → None ≡ first_value f name → TellsNumber (first_of name (rows_of f)) None
 number_absent f name at = subst (λ (o : Option (List ℕ)). TellsNumber o None) (at ∙ first_value-rows f name) refl
+
+-- and what the name of a file is
+pub file_told : (f : Found) (name text : List ℕ) → Some text ≡ first_value f name → NamesFile (first_of name (rows_of f)) text
+file_told f name text at = subst (λ (o : Option (List ℕ)). NamesFile o text) (at ∙ first_value-rows f name) refl
+
+pub file_absent : (f : Found) (name text : List ℕ) → text ≡ codes "" → None ≡ first_value f name → NamesFile (first_of name (rows_of f)) text
+file_absent f name text empty at = subst (λ (o : Option (List ℕ)). NamesFile o text) (at ∙ first_value-rows f name) empty

@@ -14,7 +14,7 @@ use Rattle.command_words.specs.declared.reading.Request.{Request}
 use Rattle.command_words.specs.declared.reading.Request.TheVariants as request
 
 -- The words that the program takes: one of `script`, `audit`, `ballot` and `run`, with `--explain` before it or
--- after it, or at both places, and after `run` also `--journal`; or `explain` and one word; or `help`. On either
+-- after it, or at both places, and after `run` also `--journal`; or `explain` or `record` and one word; or `help`. On either
 -- level help may be asked for by a flag, and on the upper one also the version.
 
 -- the flag of this name
@@ -42,26 +42,34 @@ command_shape name = record (new_shape name) { rules = explain_rule ∷ [] }
 abbrev pub run_shape : Shape
 run_shape = record (new_shape (codes "run")) { rules = explain_rule ∷ flag_rule (codes "journal") ∷ [] }
 
--- the command that explains a number, which is its one word
-abbrev pub number_rule : Rule
-number_rule = record (new_rule (codes "number")) { value_names = 1; required = true; action = Some Set }
+-- the one word of a command
+abbrev pub word_rule : List ℕ → Rule
+word_rule name = record (new_rule name) { value_names = 1; required = true; action = Some Set }
 
+-- the command that explains a number, and the one that prints what a file holds
 abbrev pub explain_shape : Shape
-explain_shape = record (new_shape (codes "explain")) { rules = number_rule ∷ [] }
+explain_shape = record (new_shape (codes "explain")) { rules = word_rule (codes "number") ∷ [] }
+
+abbrev pub record_shape : Shape
+record_shape = record (new_shape (codes "record")) { rules = word_rule (codes "file") ∷ [] }
 
 abbrev pub with_command : App → List ℕ → App
 with_command a name = with_subcommand a (command_shape name)
 
+-- the four commands that are served
+abbrev pub served_app : App
+served_app = with_subcommand (with_command (with_command (with_command top_app (codes "script")) (codes "audit")) (codes "ballot")) run_shape
+
 abbrev pub app : App
-app = with_subcommand (with_subcommand (with_command (with_command (with_command top_app (codes "script")) (codes "audit")) (codes "ballot")) run_shape) explain_shape
+app = with_subcommand (with_subcommand served_app explain_shape) record_shape
 
 -- the name of a command that is served
 abbrev pub IsName : List ℕ → Type 0
 IsName name = (name ≡ codes "script") ⊎ ((name ≡ codes "audit") ⊎ ((name ≡ codes "ballot") ⊎ (name ≡ codes "run")))
 
--- the same, or the one that explains a number
+-- the same, or the one that explains a number or prints what a file holds
 abbrev pub IsRequest : List ℕ → Type 0
-IsRequest name = IsName name ⊎ (name ≡ codes "explain")
+IsRequest name = IsName name ⊎ ((name ≡ codes "explain") ⊎ (name ≡ codes "record"))
 
 abbrev pub NamesOne : Option (List ℕ) → Type 0
 NamesOne None = ⊥
@@ -107,10 +115,16 @@ abbrev pub TellsNumber : Option (List ℕ) → Option ℕ → Type 0
 TellsNumber None r = r ≡ None
 TellsNumber (Some text) r = SomeIff r (IsNumber text) (number_value text)
 
+-- The name of a file is the word. There is always one, since `clap` refuses the command without it.
+abbrev pub NamesFile : Option (List ℕ) → List ℕ → Type 0
+NamesFile None name = name ≡ codes ""
+NamesFile (Some text) name = name ≡ text
+
 -- what is asked for by a name, what was found after it, and whether `--explain` is before it
 abbrev pub RequestsBehind : Bool → List ℕ → List Row → Request → Type 0
 RequestsBehind front name rows (request.Serve a) = AsksBehind name rows a × (a.front ≡ front)
 RequestsBehind front name rows (request.Explain number) = (name ≡ codes "explain") × TellsNumber (first_of (codes "number") rows) number
+RequestsBehind front name rows (request.Record file) = (name ≡ codes "record") × NamesFile (first_of (codes "file") rows) file.now
 
 -- the same of what was found
 abbrev pub RequestsNamed : Bool → Option (List ℕ × List Row) → Request → Type 0

@@ -5,7 +5,8 @@ A lock service for readers and writers, decided by the votes of nodes. It runs i
 without a network. A script or a list of wishes says what its clients do.
 
 `rwvote help COMMAND` shows the lines and settings of a command, with an example to paste.
-`rwvote explain N` says what a printed number N means.";
+`rwvote explain N` says what a printed number N means.
+`rwvote record FILE` prints what a record's file holds.";
 
 pub(crate) const SCRIPT_HELP: &str = "\
 Plays a script: one event or query a line, each answered at once.
@@ -209,3 +210,23 @@ EXIT STATUS
   0   The number was explained.
   1   `fault N` is on standard error.
   2   No fault has this number.";
+
+pub(crate) const RECORD_HELP: &str = "\
+Prints what a record's file holds: each slot, the record, and whether the file would open.
+
+USAGE
+  rwvote record FILE   Reads FILE. It writes nothing to it, and takes no lock.
+
+OUTPUT
+  200704 bytes, 3 slots                               The size of the file, and its slots.
+  slot 2: open, sequence 5, 9 bytes, has the record   One line for each slot.
+  a client's record: last attempt 4                   The record. A node's entries have a line each.
+  would open                                          Or `would not open: fault N` and why.
+
+  A program that has the file open may change it while it is read.
+  `rwvote explain N` says what N means.
+
+EXIT STATUS
+  0   The file would open as a record.
+  1   It would not open, or `fault N` is on standard error.
+  2   The file cannot be read, or the command-line arguments were refused.";

@@ -4,9 +4,11 @@ ghost use Rattle.std.specs.Prelude.{◌≡◌, IfOk, SomeIff, false, map, string
 ghost use Rattle.clap.specs.Words.{app_of, shape_of, rule_of, rows_of, first_of, one_of, found_of, fault_of, subcommand_name_of, subcommand_rows_of};
 ghost use Rattle.clap.specs.Simple.{new_shape};
 ghost use Rattle.clap.specs.declared.builder.command.Command.TheViews.{out-Command};
-ghost use Rattle.command_words.specs.Words.{app, bare_app, top_app, explain_rule, flag_rule, number_rule, command_shape, run_shape, explain_shape, with_command, found_in, IsName, IsRequest, IsCommand, AsksBehind, RequestsBehind, Requests, IsFlag, IsNumber, number_value, TellsNumber, NamesOne, Parses, ReadsWords};
+ghost use Rattle.command_words.specs.Words.{app, bare_app, top_app, explain_rule, flag_rule, word_rule, command_shape, run_shape, explain_shape, record_shape, with_command, found_in, IsName, IsRequest, IsCommand, AsksBehind, RequestsBehind, Requests, IsFlag, IsNumber, number_value, TellsNumber, NamesFile, NamesOne, Parses, ReadsWords};
 
-use crate::help::{ABOUT, AUDIT_HELP, BALLOT_HELP, EXPLAIN_HELP, RUN_HELP, SCRIPT_HELP};
+use crate::help::{
+    ABOUT, AUDIT_HELP, BALLOT_HELP, EXPLAIN_HELP, RECORD_HELP, RUN_HELP, SCRIPT_HELP,
+};
 use clap::{Arg, ArgAction, ArgMatches};
 use operator_cli::Command;
 use program_ends::{Unserved, unserved_by};
@@ -94,16 +96,16 @@ fn run_below<'a>(alloc: Global) -> Result<clap::Command<'a>, AllocError>
     Ok(with_flags)
 }
 
-/// The word of the command that explains a number.
-fn number_argument<'a>(alloc: Global) -> Arg<'a>
-    ensures rule { rule_of result ≡ number_rule }
+/// The one word that a command takes.
+fn word_argument<'a>(alloc: Global, name: &'a str, value: &'a str, help: &'a str) -> Arg<'a>
+    ensures rule { rule_of result ≡ word_rule name.entry.now }
     ensures local { result.global ≡ false }
 {
-    Arg::new(alloc, "number")
-        .value_name("N")
+    Arg::new(alloc, name)
+        .value_name(value)
         .required(true)
         .action(ArgAction::Set)
-        .help("A number that a program printed, 101 to 947")
+        .help(help)
 }
 
 /// The command that explains a number.
@@ -117,8 +119,30 @@ fn explain_below<'a>(alloc: Global) -> Result<clap::Command<'a>, AllocError>
         "Explains the number of a fault",
         EXPLAIN_HELP,
     );
-    let with_number = command.arg(number_argument(alloc))?;
+    let number = word_argument(
+        alloc,
+        "number",
+        "N",
+        "A number that a program printed, 101 to 947",
+    );
+    let with_number = command.arg(number)?;
     Ok(with_number)
+}
+
+/// The command that prints what a record's file holds.
+fn record_below<'a>(alloc: Global) -> Result<clap::Command<'a>, AllocError>
+    ensures shape { IfOk result (λ c. shape_of c ≡ record_shape) }
+    ensures local { IfOk result (λ c. (out-Command c).has_globals ≡ false) }
+{
+    let command = below(
+        alloc,
+        "record",
+        "Prints what a record's file holds",
+        RECORD_HELP,
+    );
+    let file = word_argument(alloc, "file", "FILE", "The file of a record");
+    let with_file = command.arg(file)?;
+    Ok(with_file)
 }
 
 /// The program with one more command, which takes the flag that asks for words.
@@ -147,7 +171,9 @@ fn words_taken<'a>(alloc: Global) -> Result<clap::Command<'a>, AllocError>
     let run = run_below(alloc)?;
     let with_run = with_ballot.subcommand(run)?;
     let explain = explain_below(alloc)?;
-    let with_all = with_run.subcommand(explain)?;
+    let with_explain = with_run.subcommand(explain)?;
+    let viewer = record_below(alloc)?;
+    let with_all = with_explain.subcommand(viewer)?;
     Ok(with_all)
 }
 
@@ -163,11 +189,13 @@ pub struct Asked {
 
 /// What the words ask for.
 #[derive(Clone, Copy)]
-pub enum Request {
+pub enum Request<'a> {
     /// To serve a command.
     Serve(Asked),
     /// To explain a number; `None` if the word is not a number below 65,536.
     Explain(Option<u16>),
+    /// To print what the record's file of this name holds.
+    Record(&'a str),
 }
 
 /// Whether the flag of this name was found.
@@ -227,19 +255,32 @@ fn number_at(found: &ArgMatches) -> Option<u16>
     }
 }
 
+/// The name of the file that is to be printed.
+fn file_at<'a>(found: &ArgMatches<'a>) -> &'a str
+    ensures { NamesFile (first_of (codes "file") (rows_of (found_of found.now))) result.now }
+{
+    match found.get_str("file") {
+        Some(text) => text,
+        None => "",
+    }
+}
+
 /// What is asked for by this name and what was found behind it.
-fn request_of(front: bool, name: &str, found: &ArgMatches) -> Request
+fn request_of<'a>(front: bool, name: &str, found: &ArgMatches<'a>) -> Request<'a>
     requires { IsRequest name.now }
     ensures { RequestsBehind front name.now (rows_of (found_of found.now)) result }
 {
     if name == "explain" {
         return Request::Explain(number_at(found));
     }
+    if name == "record" {
+        return Request::Record(file_at(found));
+    }
     Request::Serve(asked_of(front, name, found))
 }
 
 /// What the words ask for.
-fn request_in(matches: &ArgMatches) -> Request
+fn request_in<'a>(matches: &ArgMatches<'a>) -> Request<'a>
     requires { NamesOne (subcommand_name_of matches.now) }
     ensures { Requests (subcommand_rows_of matches.now) (rows_of (found_of matches.now)) result }
 {
@@ -251,7 +292,7 @@ fn request_in(matches: &ArgMatches) -> Request
 }
 
 /// What `clap` makes of the words by a command.
-fn parse_by<'a>(command: clap::Command<'a>, words: &'a [String]) -> Result<Request, clap::Error>
+fn parse_by<'a>(command: clap::Command<'a>, words: &'a [String]) -> Result<Request<'a>, clap::Error>
     requires { app_of command ≡ app }
     ensures { Parses (fault_of app (map string_bytes words.now)) (found_in (map string_bytes words.now)) result }
 {
@@ -262,7 +303,7 @@ fn parse_by<'a>(command: clap::Command<'a>, words: &'a [String]) -> Result<Reque
 }
 
 /// What `clap` makes of the words.
-fn parse(alloc: Global, words: &[String]) -> Result<Request, clap::Error>
+fn parse<'a>(alloc: Global, words: &'a [String]) -> Result<Request<'a>, clap::Error>
     ensures { Parses (fault_of app (map string_bytes words.now)) (found_in (map string_bytes words.now)) result }
 {
     match words_taken(alloc) {
@@ -278,7 +319,7 @@ fn parse(alloc: Global, words: &[String]) -> Result<Request, clap::Error>
 /// What is to be said of words that name none: help or the version where they ask for it, what is wrong with them,
 /// or that memory was refused.
 #[tactic(auto, using(crate::proofs::WordFacts::unread_so))]
-pub fn read_words(alloc: Global, words: &[String]) -> Result<Request, Unserved>
+pub fn read_words<'a>(alloc: Global, words: &'a [String]) -> Result<Request<'a>, Unserved>
     ensures { ReadsWords (fault_of app (map string_bytes words.now)) (found_in (map string_bytes words.now)) result }
 {
     match parse(alloc, words) {

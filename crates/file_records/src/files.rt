@@ -1,10 +1,10 @@
 // How the file of a record is made and opened.
 
 ghost use Rattle.std.specs.Prelude.{◌≡◌, ◌↔◌, ◌⊎◌, ◌<◌, ◌≤◌, false, [], ◌∷◌, length, Some, Err, IfOk, IfErr, List, ℕ};
-ghost use Rattle.file_plate.specs.FilePlates.{file_state};
+ghost use Rattle.file_plate.specs.FilePlates.{file_state, IsOpened};
 ghost use Rattle.rotating_record.specs.Slots.{record_on};
 ghost use Rattle.file_plate.specs.FileFaults.{IsDraftFault, IsOverFault, IsHoldFault};
-ghost use Rattle.file_records.specs.Faults.{file_fault_of};
+ghost use Rattle.file_records.specs.Faults.{file_fault_of, IsOpenFault, HasNone};
 
 use file_plate::{DiskFile, Draft, FileFault, FilePlate, hold};
 use rotating_record::{ROTATING_PLATE_LEN, RotatingRecord};
@@ -84,6 +84,25 @@ pub fn create_record<R: Files<File = File>>(
     }
 }
 
+/// The record on a plate, and its bytes. With a fault it returns the plate.
+fn opened(
+    alloc: Global,
+    plate: FilePlate<DiskFile>,
+) -> Result<(FileRecord, Vec<u8>), (FilePlate<DiskFile>, FileFault)>
+    requires { IsOpened ROTATING_PLATE_LEN plate }
+    ensures opened { IfOk result (λ r. (r.0.finds ≡ r.1.items ∷ []) × (r.0.stuck ≡ false)) }
+    ensures lasts { IfOk result (λ r. (c : List ℕ) → (file_state r.0.plate).may_leave c → record_on c ≡ Some (r.0.sequence, r.1.items)) }
+    ensures fine { IfOk result (λ r. (file_state r.0.plate).failures ≡ 0) }
+    ensures faults { IfErr result (λ e. IsOpenFault e.1) }
+    // 944 comes only if no slot has a record.
+    ensures unformatted { IfErr result (λ e. e.1 ≡ FileFault.NotFormatted → HasNone e.0) }
+{
+    match RotatingRecord::open(alloc, plate) {
+        Ok(found) => Ok(found),
+        Err((plate, fault)) => Err((plate, file_fault(fault))),
+    }
+}
+
 /// Opens the record of this name, whatever a crash made of it, and finds its bytes. It changes nothing.
 ///
 /// It returns the first of these faults: 942 (there is no such file), 945 (it can't be opened), 941 (another
@@ -105,8 +124,8 @@ pub fn open_record<R: Files<File = File>>(
 {
     let file = hold(files, path, ROTATING_PLATE_LEN)?;
     let plate = FilePlate::over(alloc, file, ROTATING_PLATE_LEN)?;
-    match RotatingRecord::open(alloc, plate) {
+    match opened(alloc, plate) {
         Ok(found) => Ok(found),
-        Err((_, fault)) => Err(file_fault(fault)),
+        Err((_, fault)) => Err(fault),
     }
 }

@@ -1,1 +1,3 @@
 mod ViewFacts
+mod SlotFacts
+mod TextFacts

@@ -1,67 +1,122 @@
 // What the body of a record says.
 
-use lock_model::{Live, Problem, Status};
-use stable_record::{NodeRecord, RecordFault, read_client, read_node};
+ghost use Rattle.std.specs.Prelude.{◌≡◌, OnOk, ◌++◌, List, ℕ, string_bytes};
+ghost use Rattle.std.specs.List.{flat_map};
+ghost use Rattle.record_view.specs.Texts.{SaysBody, client_words, count_words, head_words, node_words, other_words, entry_text, live_text, status_text, problem_text};
+
+use lock_model::{Problem, Status};
+use stable_record::{Entry, Live, NodeRecord, RecordFault, read_client, read_node};
 use std::alloc::{AllocError, Global};
-use std::fmt;
 
-/// The record of an actor, or other bytes.
-#[derive(Drop)]
-pub(crate) enum Content {
-    Node(NodeRecord),
-    /// The last attempt that a client made, or 0.
-    Client(u64),
-    /// So many bytes.
-    Other(usize),
-}
-
-/// What a body says. No bytes are the record of a node and of a client, since their lengths differ.
-pub(crate) fn content_of(alloc: Global, body: &[u8]) -> Result<Content, AllocError> {
-    if let Ok(attempt) = read_client(body) {
-        return Ok(Content::Client(attempt));
-    }
-    match read_node(alloc, body) {
-        Ok(record) => Ok(Content::Node(record)),
-        Err(RecordFault::NoMemory) => Err(AllocError),
-        Err(_) => Ok(Content::Other(body.len())),
-    }
-}
-
-fn write_live<W: fmt::Write>(f: &mut fmt::Formatter<W>, live: &Live) -> fmt::Result {
-    let status = match live.status {
+fn status_word(status: Status) -> &'static str
+    ensures { result.now ≡ status_text status }
+{
+    match status {
         Status::Waiting => "waits",
         Status::Holding => "holds",
         Status::Softened => "holds, downgraded",
-    };
-    let (attempt, mode, resource) = (live.attempt, live.mode, live.resource);
-    write!(f, ", attempt {attempt} {mode} {resource} {status}")
+    }
 }
 
-fn write_node<W: fmt::Write>(f: &mut fmt::Formatter<W>, record: &NodeRecord) -> fmt::Result {
-    let problem = match record.problem {
+fn problem_word(problem: Problem) -> &'static str
+    ensures { result.now ≡ problem_text problem }
+{
+    match problem {
         Problem::First => "1 (reader-first)",
         Problem::Second => "2 (writer-first)",
+    }
+}
+
+/// Adds the ticket of an entry, if it has one.
+fn push_live(text: &mut String, live: &Option<Live>) -> Result<(), AllocError>
+    ensures { OnOk result (string_bytes text.new ≡ string_bytes text.old ++ live_text live.now) }
+{
+    let Some(live) = live else {
+        return text.push_str("");
     };
-    let count = record.entries.len();
-    writeln!(f, "a node's record: problem {problem}, entries {count}")?;
-    for place in 0..count {
-        if let Some(entry) = record.entries.get(place) {
-            write!(f, "{}: floor {}", entry.client, entry.floor)?;
-            if let Some(live) = entry.live {
-                write_live(f, &live)?;
-            }
-            writeln!(f)?;
-        }
+    let (attempt, mode, resource) = (live.attempt, live.mode, live.resource);
+    let status = status_word(live.status);
+    write!(text, ", attempt {attempt} {mode} {resource} {status}")
+}
+
+/// Adds the line of an entry.
+fn push_entry(text: &mut String, entry: &Entry) -> Result<(), AllocError>
+    ensures { OnOk result (string_bytes text.new ≡ string_bytes text.old ++ entry_text entry.now) }
+{
+    let (client, floor) = (entry.client, entry.floor);
+    write!(text, "{client}: floor {floor}")?;
+    push_live(text, &entry.live)?;
+    text.push_str("\n")
+}
+
+/// Adds the lines of the entries.
+fn push_entries(text: &mut String, record: &NodeRecord) -> Result<(), AllocError>
+    ensures { OnOk result (string_bytes text.new ≡ string_bytes text.old ++ flat_map entry_text record.now.entries) }
+{
+    for place in 0..record.entries.len() {
+        let Some(entry) = record.entries.get(place) else {
+            unreachable!()
+        };
+        push_entry(text, &entry)?;
     }
     Ok(())
 }
 
-impl fmt::Display for Content {
-    fn fmt<W: fmt::Write>(&self, f: &mut fmt::Formatter<W>) -> fmt::Result {
-        match self {
-            Content::Node(record) => write_node(f, record),
-            Content::Client(attempt) => writeln!(f, "a client's record: last attempt {attempt}"),
-            Content::Other(length) => writeln!(f, "{length} bytes, not the record of an actor"),
-        }
+/// Adds how many entries a node's record has.
+fn push_count(text: &mut String, count: usize) -> Result<(), AllocError>
+    ensures { OnOk result (string_bytes text.new ≡ string_bytes text.old ++ count_words count) }
+{
+    writeln!(text, ", entries {count}")
+}
+
+/// Adds the first line of a node's record.
+fn push_head(text: &mut String, problem: &str, count: usize) -> Result<(), AllocError>
+    ensures { OnOk result (string_bytes text.new ≡ string_bytes text.old ++ head_words problem.now count) }
+{
+    text.push_str("a node's record: problem ")?;
+    text.push_str(problem)?;
+    push_count(text, count)?;
+    Ok(())
+}
+
+/// Adds what a node's record says.
+fn push_node(text: &mut String, record: &NodeRecord) -> Result<(), AllocError>
+    ensures { OnOk result (string_bytes text.new ≡ string_bytes text.old ++ node_words record.now) }
+{
+    let problem = problem_word(record.problem);
+    let count = record.entries.len();
+    push_head(text, problem, count)?;
+    push_entries(text, record)?;
+    Ok(())
+}
+
+/// Adds what a client's record says.
+fn push_client(text: &mut String, attempt: u64) -> Result<(), AllocError>
+    ensures { OnOk result (string_bytes text.new ≡ string_bytes text.old ++ client_words attempt) }
+{
+    writeln!(text, "a client's record: last attempt {attempt}")
+}
+
+/// Adds what is said of other bytes.
+fn push_other(text: &mut String, length: usize) -> Result<(), AllocError>
+    ensures { OnOk result (string_bytes text.new ≡ string_bytes text.old ++ other_words length) }
+{
+    writeln!(text, "{length} bytes, not the record of an actor")
+}
+
+/// Adds what a body says. No bytes are the record of a node and of a client, since their lengths differ.
+pub(crate) fn push_body(alloc: Global, text: &mut String, body: &[u8]) -> Result<(), AllocError>
+    ensures { OnOk result ((words : List ℕ) × SaysBody body.now words × (string_bytes text.new ≡ string_bytes text.old ++ words)) }
+{
+    let client = read_client(body);
+    if let Ok(attempt) = client {
+        push_client(text, attempt)?;
+        return Ok(());
     }
+    match read_node(alloc, body) {
+        Ok(record) => push_node(text, &record)?,
+        Err(RecordFault::NoMemory) => return Err(AllocError),
+        Err(_) => push_other(text, body.len())?,
+    }
+    Ok(())
 }

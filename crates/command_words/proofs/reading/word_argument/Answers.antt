@@ -2,7 +2,7 @@ use Rattle.std.proofs.Common.{◌≡◌, ◌∙◌, true, Some, ap}
 use Rattle.clap.specs.Walk.{Rule, rule_of}
 use Rattle.clap.specs.declared.builder.action.ArgAction.TheVariants.{Set}
 use Rattle.clap.specs.declared.builder.arg.Arg.{Arg}
-use Rattle.command_words.proofs.reading.number_argument.Goals as goal
+use Rattle.command_words.proofs.reading.word_argument.Goals as goal
 
 abbrev with_value : Rule → Rule
 with_value r = record r { value_names = 1 }
