@@ -1,5 +1,5 @@
 -- What is left of journals.
-use Rattle.std.proofs.Common.{◌≡◌, ◌==◌, ◌⊎◌, ℕ, ◌+◌, ◌<◌, Bool, true, false, List, [], ◌∷◌, ◌++◌, length, Option, Some, None, refl, sym, ◌∙◌, ap, subst, inl, inr, set, zero, suc, arith}
+use Rattle.std.proofs.Common.{◌≡◌, ◌==◌, ◌⊎◌, ℕ, ◌+◌, ◌<◌, Bool, true, false, List, [], ◌∷◌, ◌++◌, length, length-append, Option, Some, None, refl, sym, ◌∙◌, ap, subst, inl, inr, set, zero, suc, arith}
 use Rattle.std.specs.Prelude.{slice_get, slice_set}
 use Rattle.std.proofs.lemmas.Bool.{eqb-true, eq-eqb}
 use Rattle.std.proofs.lemmas.List.{get_or-set_same}
@@ -7,19 +7,21 @@ use Rattle.std.proofs.lemmas.Option.{slice_get-get_or, slice_get_within}
 use Rattle.std.proofs.Math.ListN.{length-set}
 use Rattle.lock_messages.specs.declared.ids.Actor.{Actor}
 use Rattle.line_streams.specs.declared.reading.End.{End}
-use Rattle.line_streams.specs.declared.reading.End.TheVariants.{LineFeed, Input}
+use Rattle.line_streams.specs.declared.reading.End.TheVariants.{LineFeed, Input, Limit}
 use Rattle.line_streams.specs.Streams.{is_line_feed, pieces, ReadsPiece}
 use Rattle.line_streams.proofs.StreamFacts.{some_part}
 use Rattle.world_model.specs.Parts.{place}
 use Rattle.own_journals.specs.declared.lines.OwnLine.{OwnLine}
-use Rattle.own_journals.specs.OwnLines.{ReadsLine}
+use Rattle.own_journals.specs.OwnLines.{IsText, ReadsLine}
 use Rattle.own_journals.specs.declared.faults.OwnLineFault.{OwnLineFault}
 use Rattle.own_journals.specs.declared.faults.OwnLineFault.TheVariants as fault
 use Rattle.world_model.specs.Numbered.{get-last}
-use Rattle.std.specs.Prelude.{Result, Ok, Err, OnOk, OnErr}
+use Rattle.std.specs.Prelude.{Result, Ok, Err, IfErr, OnOk, OnErr}
 use Rattle.journal_merger.specs.declared.faults.JournalsFault.{JournalsFault}
+use Rattle.journal_merger.specs.declared.faults.JournalsFault.TheVariants as journals
+use Rattle.journal_merger.specs.declared.reading.TheConstants.{MAX_OWN_LINE_LEN}
 use Rattle.journal_merge.specs.LineMerges.{Journals}
-use Rattle.journal_merger.specs.Pendings.{whole_lines, AreTexts, HasLines, Pending, IsLeft, AreLeft, AreApart, IsOnlyText, ReadsNext, IsRead, Adds, owner}
+use Rattle.journal_merger.specs.Pendings.{whole_lines, AreTexts, HasLines, Pending, IsLeft, AreLeft, AreApart, IsOnlyText, journals_fault_of, ReadsNext, IsRead, Adds, owner, BeginsWithNoLine, IsNoText, IsReadFault, HasActor, IsAddFault}
 
 -- a line that was read
 
@@ -182,3 +184,94 @@ pub none-more : (pending : List Pending) (who : Actor) (n : ℕ) (q : Pending) �
 none-more pending who n q at apart all i p less h = by-place i n
     (λ e. let z : Some q ≡ Some p = sym at ∙ ap (slice_get pending) (sym e) ∙ h in let is : q ≡ p = cc in subst (λ (x : Pending). (place x.who == place who) ≡ false) is apart)
     (λ e. all i p (let other : (i ≡ n) → ⊥ = e in omega (arith, less, other)) h)
+
+-- why no line was read
+
+no-line : (bytes : List ℕ) → ReadsLine bytes (Err fault.NoLine) → (l : OwnLine) → IsText bytes l → ⊥
+no-line bytes h l text = go (h.only l text)
+  where
+    go : (◌≡◌ {A = Result OwnLine OwnLineFault} (Err fault.NoLine) (Ok l)) ⊎ (◌≡◌ {A = Result OwnLine OwnLineFault} (Err fault.NoLine) (Err fault.Memory)) → ⊥
+    go (inl e) = cc
+    go (inr e) = cc
+
+pub no-text : (bytes : List ℕ) (f : OwnLineFault) → ReadsLine bytes (Err f) → IsNoText bytes (journals_fault_of f)
+no-text bytes fault.NoLine h = record { one_of = inl refl; line = λ e. no-line bytes h }
+no-text bytes fault.Memory h = record { one_of = inr refl; line = λ e. let z : journals.Memory ≡ journals.NoLine = e in cc }
+
+fed-no-line : (limit : ℕ) (old new : Option (List ℕ)) (piece : List ℕ) → ReadsPiece limit old new piece LineFeed → ((l : OwnLine) → IsText piece l → ⊥) → BeginsWithNoLine old
+fed-no-line limit None new piece h none = tt
+fed-no-line limit (Some xs) None piece h none = absurd h
+fed-no-line limit (Some xs) (Some ys) piece h none = (piece, pieces ys, h, inr none)
+
+pub read-no-line : (limit : ℕ) (old new : Option (List ℕ)) (piece bytes : List ℕ) (end : End) (f : JournalsFault) → bytes ≡ piece → end ≡ LineFeed → ReadsPiece limit old new piece end → IsNoText bytes f → IsReadFault old f
+read-no-line limit old new piece bytes end f same fed h none = record {
+  one_of = go none.one_of;
+  line = λ e. fed-no-line limit old new piece (subst (ReadsPiece limit old new piece) fed h) (subst (λ (bs : List ℕ). (l : OwnLine) → IsText bs l → ⊥) same (none.line e));
+}
+  where
+    go : (f ≡ journals.NoLine) ⊎ (f ≡ journals.Memory) → (f ≡ journals.NoLine) ⊎ ((f ≡ journals.Read) ⊎ (f ≡ journals.Memory))
+    go (inl e) = inl e
+    go (inr e) = inr (inr e)
+
+limit-no-line : (old new : Option (List ℕ)) (piece : List ℕ) → ReadsPiece MAX_OWN_LINE_LEN old new piece Limit → BeginsWithNoLine old
+limit-no-line None new piece h = tt
+limit-no-line (Some xs) new piece h =
+    let (rest, more, is, long) = h in
+    let whole : length (piece ++ rest) ≡ length piece + length rest = length-append piece rest in
+    (piece ++ rest, more, is, inl (omega (arith, long, whole)))
+
+pub read-too-long : (old new : Option (List ℕ)) (piece : List ℕ) (end : End) → end ≡ Limit → ReadsPiece MAX_OWN_LINE_LEN old new piece end → IsReadFault old journals.NoLine
+read-too-long old new piece end is h = record { one_of = inl refl; line = λ e. limit-no-line old new piece (subst (ReadsPiece MAX_OWN_LINE_LEN old new piece) is h) }
+
+pub read-failed : (text : Option (List ℕ)) (f : JournalsFault) → (f ≡ journals.Read) ⊎ (f ≡ journals.Memory) → IsReadFault text f
+read-failed text f h = record { one_of = inr h; line = λ e. absurd (go h e) }
+  where
+    go : (f ≡ journals.Read) ⊎ (f ≡ journals.Memory) → f ≡ journals.NoLine → ⊥
+    go (inl a) e = let z : journals.Read ≡ journals.NoLine = sym a ∙ e in cc
+    go (inr a) e = let z : journals.Memory ≡ journals.NoLine = sym a ∙ e in cc
+
+-- why no journal was added
+
+pub add-unread : (old : List Pending) (text : Option (List ℕ)) (f : JournalsFault) → IsReadFault text f → IsAddFault old text f
+add-unread old text f h = record {
+  one_of = inr (inr h.one_of);
+  empty = λ e. absurd (not h.one_of e);
+  same = λ e. absurd (other h.one_of e);
+  line = h.line;
+}
+  where
+    not : (f ≡ journals.NoLine) ⊎ ((f ≡ journals.Read) ⊎ (f ≡ journals.Memory)) → f ≡ journals.NoActor → ⊥
+    not (inl a) e = let z : journals.NoLine ≡ journals.NoActor = sym a ∙ e in cc
+    not (inr (inl a)) e = let z : journals.Read ≡ journals.NoActor = sym a ∙ e in cc
+    not (inr (inr a)) e = let z : journals.Memory ≡ journals.NoActor = sym a ∙ e in cc
+
+    other : (f ≡ journals.NoLine) ⊎ ((f ≡ journals.Read) ⊎ (f ≡ journals.Memory)) → f ≡ journals.SameActor → ⊥
+    other (inl a) e = let z : journals.NoLine ≡ journals.SameActor = sym a ∙ e in cc
+    other (inr (inl a)) e = let z : journals.Read ≡ journals.SameActor = sym a ∙ e in cc
+    other (inr (inr a)) e = let z : journals.Memory ≡ journals.SameActor = sym a ∙ e in cc
+
+pub add-empty : (old : List Pending) (text source rest : Option (List ℕ)) (next : Option OwnLine) → source ≡ text → next ≡ None → ReadsNext source next rest → IsAddFault old text journals.NoActor
+add-empty old text source rest next from none reads = record {
+  one_of = inl refl;
+  empty = λ e. (rest, subst (λ t. ReadsNext t None rest) from (subst (λ n. ReadsNext source n rest) none reads));
+  same = λ e. let z : journals.NoActor ≡ journals.SameActor = e in cc;
+  line = λ e. let z : journals.NoActor ≡ journals.NoLine = e in cc;
+}
+
+pub add-same : (old items shown : List Pending) (text source rest : Option (List ℕ)) (next : Option OwnLine) (l : OwnLine) (who : Actor) → shown ≡ items → items ≡ old → source ≡ text → next ≡ Some l → ReadsNext source next rest → who ≡ owner l → HasActor shown who
+    → IsAddFault old text journals.SameActor
+add-same old items shown text source rest next l who seen was from some reads is has = record {
+  one_of = inr (inl refl);
+  empty = λ e. let z : journals.SameActor ≡ journals.NoActor = e in cc;
+  same = λ e. (l, rest, subst (λ t. ReadsNext t (Some l) rest) from (subst (λ n. ReadsNext source n rest) some reads), subst (HasActor old) is (subst (λ (ps : List Pending). HasActor ps who) (seen ∙ was) has));
+  line = λ e. let z : journals.SameActor ≡ journals.NoLine = e in cc;
+}
+
+pub add-memory : (old : List Pending) (text : Option (List ℕ)) → IsAddFault old text journals.Memory
+add-memory old text = add-unread old text journals.Memory (read-failed text journals.Memory (inr refl))
+
+pub fault-ok : (Q : JournalsFault → Type 0) (r : Result (Unit {0}) JournalsFault) (x : Unit {0}) → r ≡ Ok x → IfErr r Q
+fault-ok Q r x is = subst (λ (s : Result (Unit {0}) JournalsFault). IfErr s Q) (sym is) tt
+
+pub fault-err : (Q : JournalsFault → Type 0) (r : Result (Unit {0}) JournalsFault) (e : JournalsFault) → r ≡ Err e → Q e → IfErr r Q
+fault-err Q r e is q = subst (λ (s : Result (Unit {0}) JournalsFault). IfErr s Q) (sym is) q

@@ -1,14 +1,19 @@
 -- The journals of actors, read line by line, and what is left of them.
-use Rattle.std.specs.Prelude.{◌≡◌, ◌==◌, ℕ, not, Bool, false, List, [], ◌∷◌, ◌++◌, Option, Some, None, slice_get}
+use Rattle.std.specs.Prelude.{◌≡◌, ◌==◌, ◌⊎◌, ◌<◌, ℕ, length, not, Bool, true, false, List, [], ◌∷◌, ◌++◌, Option, Some, None, slice_get}
 use Rattle.lock_messages.specs.declared.ids.Actor.{Actor}
 use Rattle.line_streams.specs.Streams.{pieces, KnownLeft}
+use Rattle.own_journals.specs.declared.faults.OwnLineFault.{OwnLineFault}
+use Rattle.own_journals.specs.declared.faults.OwnLineFault.TheVariants as line_fault
 use Rattle.own_journals.specs.declared.lines.OwnLine.{OwnLine}
 use Rattle.own_journals.specs.declared.lines.OwnLine.TheVariants as own
 use Rattle.own_journals.specs.OwnLines.{IsText}
 use Rattle.world_model.specs.ExactWorlds.{actor_of}
 use Rattle.world_model.specs.Parts.{place}
 use Rattle.journal_merge.specs.LineMerges.{Journals}
+use Rattle.journal_merger.specs.declared.faults.JournalsFault.{JournalsFault}
+use Rattle.journal_merger.specs.declared.faults.JournalsFault.TheVariants as fault
 use Rattle.journal_merger.specs.declared.journals.LineLeft.{LineLeft}
+use Rattle.journal_merger.specs.declared.reading.TheConstants.{MAX_OWN_LINE_LEN}
 
 -- The lines of a text: what is before each line feed. What is after the last line feed was cut off, and counts for nothing.
 abbrev pub whole_lines : List (List ℕ) → List (List ℕ)
@@ -61,6 +66,39 @@ abbrev pub owner : OwnLine → Actor
 owner (own.Life who found) = who
 owner (own.Reads who frame) = who
 owner (own.Does e) = actor_of e
+
+-- A text that is known begins with a line, or with what is left of a line that was cut off, that is no line of a journal, or
+-- is longer than a line may be.
+abbrev pub BeginsWithNoLine : Option (List ℕ) → Type 0
+BeginsWithNoLine None = Unit {0}
+BeginsWithNoLine (Some text) = (p : List ℕ) × (ps : List (List ℕ)) × (pieces text ≡ p ∷ ps) × ((MAX_OWN_LINE_LEN < length p) ⊎ ((l : OwnLine) → IsText p l → ⊥))
+
+-- why bytes were read as no line, of a journal's faults
+abbrev pub journals_fault_of : OwnLineFault → JournalsFault
+journals_fault_of line_fault.NoLine = fault.NoLine
+journals_fault_of line_fault.Memory = fault.Memory
+
+-- Why bytes were read as no line: they are the text of none, or there was no memory.
+pub record IsNoText (bytes : List ℕ) (f : JournalsFault) : Type 0 where
+  pub one_of : (f ≡ fault.NoLine) ⊎ (f ≡ fault.Memory)
+  pub line : f ≡ fault.NoLine → (l : OwnLine) → IsText bytes l → ⊥
+
+-- Why no line of a text was read: it goes on with no line, or the reader failed, or there was no memory.
+pub record IsReadFault (text : Option (List ℕ)) (f : JournalsFault) : Type 0 where
+  pub one_of : (f ≡ fault.NoLine) ⊎ ((f ≡ fault.Read) ⊎ (f ≡ fault.Memory))
+  pub line : f ≡ fault.NoLine → BeginsWithNoLine text
+
+-- one of the journals is the actor's
+abbrev pub HasActor : List Pending → Actor → Type 0
+HasActor pending who = (i : ℕ) × (p : Pending) × (slice_get pending i ≡ Some p) × ((place p.who == place who) ≡ true)
+
+-- Why a journal was not added to others: it has no line, its first line is the same actor's as another journal, or its first
+-- line was not read.
+pub record IsAddFault (old : List Pending) (text : Option (List ℕ)) (f : JournalsFault) : Type 0 where
+  pub one_of : (f ≡ fault.NoActor) ⊎ ((f ≡ fault.SameActor) ⊎ ((f ≡ fault.NoLine) ⊎ ((f ≡ fault.Read) ⊎ (f ≡ fault.Memory))))
+  pub empty : f ≡ fault.NoActor → (rest : Option (List ℕ)) × ReadsNext text None rest
+  pub same : f ≡ fault.SameActor → (l : OwnLine) × (rest : Option (List ℕ)) × ReadsNext text (Some l) rest × HasActor old (owner l)
+  pub line : f ≡ fault.NoLine → BeginsWithNoLine text
 
 abbrev pub is_others : Option OwnLine → Actor → Bool
 is_others None who = false

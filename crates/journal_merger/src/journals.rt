@@ -1,13 +1,13 @@
 // The journals that are merged.
 
-ghost use Rattle.std.specs.Prelude.{◌≡◌, ◌==◌, ◌<◌, ℕ, false, [], length, slice_get, Some, OnOk, OnErr};
+ghost use Rattle.std.specs.Prelude.{◌≡◌, ◌==◌, ◌<◌, ℕ, true, false, [], length, slice_get, Some, IfErr, OnOk, OnErr};
 ghost use Rattle.std.specs.Io.KnownBytes.{Appends};
 ghost use Rattle.std.specs.List.{flat_map};
 ghost use Rattle.journal_text.specs.Journals.{event_line};
 ghost use Rattle.line_merger.specs.Offers.{events_of};
 ghost use Rattle.line_streams.specs.Streams.{with_gathered};
 ghost use Rattle.world_model.specs.Parts.{place};
-ghost use Rattle.journal_merger.specs.Pendings.{Pending, Adds, AreApart, IsNextLine, IsRead};
+ghost use Rattle.journal_merger.specs.Pendings.{Pending, Adds, AreApart, HasActor, IsAddFault, IsNextLine, IsRead};
 
 use crate::JournalsFault;
 use crate::reading::{OwnJournal, is_same, owner, read_next};
@@ -55,7 +55,8 @@ impl<R: Read> Model for Journals<R> {
 
 /// Whether one of the journals is the actor's.
 fn has<R: Read>(journals: &[OwnJournal<R>], who: &Actor) -> bool
-    ensures { result ≡ false → (i : ℕ) (p : Pending) → slice_get journals.now i ≡ Some p → (place p.who == place who.now) ≡ false }
+    ensures none { result ≡ false → (i : ℕ) (p : Pending) → slice_get journals.now i ≡ Some p → (place p.who == place who.now) ≡ false }
+    ensures one { result ≡ true → HasActor journals.now who.now }
 {
     for journal in journals {
         if is_same(&journal.who, who) {
@@ -141,6 +142,7 @@ impl<R: Read + Drop> Journals<R> {
     pub fn add(&mut self, reader: R) -> Result<(), JournalsFault>
         ensures added { OnOk result (Adds self.old (R.remaining reader) self.new) }
         ensures same { OnErr result (self.new ≡ self.old) }
+        ensures fault { IfErr result (λ f. IsAddFault self.old (R.remaining reader) f) }
     {
         let mut source = LineReader::new(reader, MAX_READS);
         let mut piece = Vec::new(self.alloc);
@@ -148,8 +150,9 @@ impl<R: Read + Drop> Journals<R> {
             Ok(next) => next,
             Err(fault) => return Err(fault),
         };
-        let Some(line) = next else {
-            return Err(JournalsFault::NoActor);
+        let line = match next {
+            Some(line) => line,
+            None => return Err(JournalsFault::NoActor),
         };
         let who = owner(&line);
         if has(self.journals.as_slice(), &who) {

@@ -1,9 +1,9 @@
 // A journal, read line by line.
 
-ghost use Rattle.std.specs.Prelude.{◌≡◌, ◌==◌, Some, IfOk, OnOk};
+ghost use Rattle.std.specs.Prelude.{◌≡◌, ◌==◌, ◌⊎◌, Some, IfOk, IfErr, OnOk};
 ghost use Rattle.own_journals.specs.declared.lines.OwnLine.{OwnLine as LineValue};
 ghost use Rattle.world_model.specs.Parts.{place};
-ghost use Rattle.journal_merger.specs.Pendings.{IsOnlyText, ReadsNext, owner, is_others};
+ghost use Rattle.journal_merger.specs.Pendings.{IsNoText, IsOnlyText, IsReadFault, ReadsNext, journals_fault_of, owner, is_others};
 
 use crate::JournalsFault;
 use line_merger::Refusal;
@@ -67,19 +67,31 @@ pub fn is_same(one: &Actor, other: &Actor) -> bool
     place(one) == place(other)
 }
 
+/// Why the bytes were read as no line.
+fn no_text(fault: OwnLineFault) -> JournalsFault
+    ensures { result ≡ journals_fault_of fault }
+{
+    match fault {
+        OwnLineFault::NoLine => JournalsFault::NoLine,
+        OwnLineFault::Memory => JournalsFault::Memory,
+    }
+}
+
 /// The line that the bytes spell.
 fn whole_line(alloc: Global, bytes: &[u8]) -> Result<Option<OwnLine>, JournalsFault>
-    ensures { IfOk result (λ next. (l : LineValue) × (next ≡ Some l) × IsOnlyText bytes.now l) }
+    ensures line { IfOk result (λ next. (l : LineValue) × (next ≡ Some l) × IsOnlyText bytes.now l) }
+    ensures fault { IfErr result (λ f. IsNoText bytes.now f) }
 {
     match read_own_line(alloc, bytes) {
         Ok(line) => Ok(Some(line)),
-        Err(OwnLineFault::NoLine) => Err(JournalsFault::NoLine),
-        Err(OwnLineFault::Memory) => Err(JournalsFault::Memory),
+        Err(fault) => Err(no_text(fault)),
     }
 }
 
 /// Why no line was read.
-fn no_line(fault: StreamFault) -> JournalsFault {
+fn no_line(fault: StreamFault) -> JournalsFault
+    ensures { (result ≡ JournalsFault.Read) ⊎ (result ≡ JournalsFault.Memory) }
+{
     match fault {
         StreamFault::Memory => JournalsFault::Memory,
         StreamFault::Read | StreamFault::Write => JournalsFault::Read,
@@ -92,7 +104,8 @@ pub fn read_next<R: Read>(
     source: &mut LineReader<R>,
     piece: &mut Vec<u8>,
 ) -> Result<Option<OwnLine>, JournalsFault>
-    ensures { IfOk result (λ next. ReadsNext source.old next source.new) }
+    ensures next { IfOk result (λ next. ReadsNext source.old next source.new) }
+    ensures fault { IfErr result (λ f. IsReadFault source.old f) }
 {
     let end = match source.read_line(piece, MAX_OWN_LINE_LEN) {
         Ok(end) => end,
