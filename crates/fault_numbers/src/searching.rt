@@ -10,7 +10,7 @@ use std::alloc::AllocError;
 /// The words of a number by which programs report a fault.
 #[derive(Clone, Copy, Debug, PartialEq, Eq)]
 pub struct FaultText {
-    /// The number: 101 to 947, with gaps.
+    /// The number: 101 to 959, with gaps.
     pub number: u16,
     /// What it means, without a full stop.
     pub meaning: &'static str,

@@ -509,7 +509,7 @@ pub(crate) const LINES: [FaultText; 14] = [
 ];
 
 /// 901 to 999: links, actors that ended early, settings, the program, and files of records.
-pub(crate) const RUNS: [FaultText; 24] = [
+pub(crate) const RUNS: [FaultText; 33] = [
     FaultText {
         number: 901,
         meaning: "lose, twice and late are more than 1000 together",
@@ -653,5 +653,59 @@ pub(crate) const RUNS: [FaultText; 24] = [
         meaning: "the file exists already",
         cause: "A new record is never made over a file that is there.",
         remedy: "Open the file, or use another name.",
+    },
+    FaultText {
+        number: 951,
+        meaning: "the journal has no line",
+        cause: "The file is empty, so it is no actor's journal.",
+        remedy: "Leave the file out, or name the journal of an actor.",
+    },
+    FaultText {
+        number: 952,
+        meaning: "another journal is of the same actor",
+        cause: "Two files begin with the same actor.",
+        remedy: "Name each journal once. Put all lives of an actor into one file, in order.",
+    },
+    FaultText {
+        number: 953,
+        meaning: "not a line of an actor's own journal",
+        cause: "The line is not an event, a life, or a take or hear with hexadecimal digits, or it has more than 120064 bytes.",
+        remedy: "Mend the line. If a process was killed while it wrote the line, delete what is before the word life.",
+    },
+    FaultText {
+        number: 954,
+        meaning: "a line of another actor",
+        cause: "A file is the journal of one actor, which its first line names.",
+        remedy: "Put the line into the journal of its actor.",
+    },
+    FaultText {
+        number: 955,
+        meaning: "the journals say too many messages",
+        cause: "A merge takes at most 1,048,576 messages.",
+        remedy: "Merge beginnings of the journals that say fewer messages.",
+    },
+    FaultText {
+        number: 956,
+        meaning: "the journal cannot be read",
+        cause: "There is no such file, it is a folder, or the program may not read it.",
+        remedy: "Check the name, the permissions and the device.",
+    },
+    FaultText {
+        number: 957,
+        meaning: "the merged journal cannot be written",
+        cause: "Standard output cannot be written, such as a full disk or a closed pipe.",
+        remedy: "Check where the output goes.",
+    },
+    FaultText {
+        number: 958,
+        meaning: "out of memory for journals",
+        cause: "The program ran out of memory while it merged journals.",
+        remedy: "Give the program more memory.",
+    },
+    FaultText {
+        number: 959,
+        meaning: "the journals have too many lines",
+        cause: "A merge takes at most 1,000,000,000,000 lines.",
+        remedy: "Merge beginnings of the journals.",
     },
 ];

@@ -8,6 +8,7 @@ use Rattle.own_journals.specs.OwnLines.{IsText}
 use Rattle.world_model.specs.ExactWorlds.{actor_of}
 use Rattle.world_model.specs.Parts.{place}
 use Rattle.journal_merge.specs.LineMerges.{Journals}
+use Rattle.journal_merger.specs.declared.journals.LineLeft.{LineLeft}
 
 -- The lines of a text: what is before each line feed. What is after the last line feed was cut off, and counts for nothing.
 abbrev pub whole_lines : List (List ℕ) → List (List ℕ)
@@ -68,6 +69,11 @@ is_others (Some l) who = not (place (owner l) == place who)
 -- A journal was added: its first line was read.
 abbrev pub Adds : List Pending → Option (List ℕ) → List Pending → Type 0
 Adds old text new = (p : Pending) × (new ≡ old ++ p ∷ []) × ReadsNext text p.next p.rest × ((l : OwnLine) × (p.next ≡ Some l) × (p.who ≡ owner l))
+
+-- What is shown of the next line of the journal at an index, if it has one.
+abbrev pub IsNextLine : List Pending → ℕ → Option LineLeft → Type 0
+IsNextLine pending i None = (p : Pending) → slice_get pending i ≡ Some p → p.next ≡ None
+IsNextLine pending i (Some left) = (p : Pending) × (slice_get pending i ≡ Some p) × (left.who ≡ p.who) × (p.next ≡ Some left.line.now)
 
 -- The journal at an index was read on.
 pub record IsRead (i : ℕ) (old new : List Pending) : Type 0 where

@@ -53,7 +53,7 @@ fn turn_of(offer: Result<Offer, MergeFault>) -> Result<Turn, JournalsFault>
 }
 
 /// Offers this line of the actor, if there is one.
-fn offer_next(
+pub(crate) fn offer_next(
     world: &mut World,
     numbers: &mut FrameNumbers,
     who: &Actor,

@@ -7,12 +7,12 @@ ghost use Rattle.journal_text.specs.Journals.{event_line};
 ghost use Rattle.line_merger.specs.Offers.{events_of};
 ghost use Rattle.line_streams.specs.Streams.{with_gathered};
 ghost use Rattle.world_model.specs.Parts.{place};
-ghost use Rattle.journal_merger.specs.Pendings.{Pending, Adds, AreApart, IsRead};
+ghost use Rattle.journal_merger.specs.Pendings.{Pending, Adds, AreApart, IsNextLine, IsRead};
 
 use crate::JournalsFault;
 use crate::reading::{OwnJournal, is_same, owner, read_next};
 use crate::writing::put_taken;
-use line_merger::Taken;
+use line_merger::{Refusal, Taken};
 use line_streams::{Gathered, LineReader, MAX_READS};
 use lock_messages::Actor;
 use own_journals::OwnLine;
@@ -20,13 +20,26 @@ use std::alloc::Global;
 use std::io::{Read, Write};
 use std::marker::Model;
 
+/// The next line of a journal.
+#[derive(Clone, Copy, Debug)]
+pub struct LineLeft<'a> {
+    /// Whose journal it is.
+    pub who: Actor,
+    /// Its number in the journal, from 1.
+    pub number: u64,
+    /// What it says.
+    pub line: &'a OwnLine,
+    /// Why its actor refuses it. If the journals have no merge and there is no refusal, nobody said what it reads.
+    pub refusal: Option<Refusal>,
+}
+
 /// The journals that are to be merged, each of another actor.
 ///
 /// Contracts see what is left of each.
 #[derive(Drop)]
 pub struct Journals<R: Read> {
     alloc: Global,
-    journals: Vec<OwnJournal<R>>,
+    pub(crate) journals: Vec<OwnJournal<R>>,
 }
 
 impl<R: Read> Model for Journals<R> {
@@ -103,11 +116,18 @@ impl<R: Read> Journals<R> {
         self.journals[index].advance(self.alloc)
     }
 
-    /// The actor of the journal at this index, the number of its next line from 1, and the line, if there is one.
-    pub fn next_line(&self, index: usize) -> Option<(Actor, u64, &OwnLine)> {
+    /// The next line of the journal at this index, if it has one.
+    pub fn next_line(&self, index: usize) -> Option<LineLeft<'_>>
+        ensures { IsNextLine self.now index result }
+    {
         let journal = self.journals.get(index)?;
         let line = journal.next.as_ref()?;
-        Some((journal.who, journal.number, line))
+        Some(LineLeft {
+            who: journal.who,
+            number: journal.number,
+            line,
+            refusal: journal.refusal,
+        })
     }
 }
 
@@ -141,6 +161,7 @@ impl<R: Read + Drop> Journals<R> {
             next: Some(line),
             number: 1,
             piece,
+            refusal: None,
         };
         match self.journals.push(journal) {
             Ok(()) => Ok(()),

@@ -5,8 +5,9 @@
 //! the lines that it takes, with numbers for messages, as a journal of all actors.
 //!
 //! The crate promises, in the words of `journal_merge`: if it says `Merged`, the journals have a merge, and the text of
-//! one was written. If it says `Stuck`, they have none. After a fault it promises nothing. It holds the world, one line
-//! of each journal, and the frames of the messages that were said.
+//! one was written. If it says `Stuck`, they have none: then `next_line` shows which line of each journal is left, and
+//! why. After a fault it promises nothing. It holds the world, one line of each journal, and the frames of the messages
+//! that were said.
 //!
 //! It stands on `line_merger` for a line, `own_journals` for the text of a line, `line_streams` for reading and
 //! writing, `event_lines` for the lines that it writes, and `journal_text` for the words about them.
@@ -17,9 +18,10 @@ mod finding;
 mod journals;
 mod merging;
 mod reading;
+mod settling;
 mod writing;
 
 pub use faults::{Failure, JournalsFault};
-pub use journals::Journals;
+pub use journals::{Journals, LineLeft};
 pub use merging::{Outcome, merge};
 pub use reading::MAX_OWN_LINE_LEN;

@@ -15,15 +15,15 @@ use std::io::{Read, Write};
 use world_machine::World;
 
 /// The most lines that are merged.
-const MAX_LINES: u64 = 1_000_000_000_000;
+pub(crate) const MAX_LINES: u64 = 1_000_000_000_000;
 
 /// What is found of journals.
 #[derive(Clone, Copy, Debug, PartialEq, Eq)]
 pub enum Outcome {
     /// They have a merge, of so many lines.
     Merged(u64),
-    /// They have none: the actor of the journal at this index refuses its next line, or all next lines wait for
-    /// messages that nobody said.
+    /// They have none. First the actor of the journal at this index refused a line, or all next lines wait for messages
+    /// that nobody said.
     Stuck(Option<(usize, Refusal)>),
 }
 
@@ -66,7 +66,8 @@ fn take_all<R: Read, W: Write>(
 /// Merges the journals, and writes the events of the merge, each in a line, with numbers for messages.
 ///
 /// It takes any next line that can be taken, as long as there is one. If it says `Merged`, the text of a merge was
-/// written. If it says `Stuck` or fails, a beginning of a text may have been written.
+/// written. If it says `Stuck` or fails, a beginning of a text may have been written. If it says `Stuck`, the lines that
+/// are left can't be taken, and `Journals::next_line` shows them.
 ///
 /// # Errors
 ///
@@ -88,7 +89,10 @@ pub fn merge<R: Read, W: Write>(
         Err(failure) => return Err(failure),
     };
     match outcome {
-        Outcome::Stuck(why) => Ok(Outcome::Stuck(why)),
+        Outcome::Stuck(why) => match journals.settle(alloc, &mut world) {
+            Ok(()) => Ok(Outcome::Stuck(why)),
+            Err(failure) => Err(failure),
+        },
         Outcome::Merged(lines) => match out.let_out(writer) {
             Ok(()) => Ok(Outcome::Merged(lines)),
             Err(_) => Err(Failure {

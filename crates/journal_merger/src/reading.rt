@@ -6,6 +6,7 @@ ghost use Rattle.world_model.specs.Parts.{place};
 ghost use Rattle.journal_merger.specs.Pendings.{IsOnlyText, ReadsNext, owner, is_others};
 
 use crate::JournalsFault;
+use line_merger::Refusal;
 use line_streams::{End, LineReader, StreamFault};
 use lock_messages::Actor;
 use own_journals::{OwnLine, OwnLineFault, read_own_line};
@@ -26,6 +27,8 @@ pub struct OwnJournal<R: Read> {
     pub(crate) number: u64,
     // Room for the text of a line.
     pub(crate) piece: Vec<u8>,
+    // Why the actor refuses the next line, if that was found.
+    pub(crate) refusal: Option<Refusal>,
 }
 
 impl<R: Read> Model for OwnJournal<R> {

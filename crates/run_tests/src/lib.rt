@@ -40,3 +40,5 @@ mod switched_storms;
 mod switching_links;
 #[cfg(test)]
 mod together;
+#[cfg(test)]
+mod whose_policy;

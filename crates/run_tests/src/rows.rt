@@ -5,6 +5,7 @@ ghost use Rattle.lock_model.specs.Ballots.{node_count};
 ghost use Rattle.lock_messages.specs.declared.ids.TheConstants.{MAX_CLIENTS};
 
 use crate::given::{records, wishes};
+use admission_policy::Pair;
 use book_support::journal_of;
 use event_recorders::{Gate, RunFault};
 use lock_messages::{Actor, MAX_CLIENTS};
@@ -89,22 +90,23 @@ pub(crate) struct Seen {
     pub(crate) journal: Vec<u8>,
 }
 
-/// Runs a row of these ballots, with the gate.
+/// Runs a row of these ballots, with the policies of its nodes and the gate.
 fn end_of<R: Threads + Wait + Copy + Send, G: Gate + Sync>(
     rt: R,
     alloc: Global,
     row: &Row<'_>,
     ballots: BallotList,
+    pairs: Vec<Pair>,
     gate: &G,
 ) -> Result<RunEnd, Failure>
     requires some { 1 ≤ row.now.clients }
     requires few { row.now.clients ≤ MAX_CLIENTS }
     requires devices { length row.now.devices.now ≡ node_count ballots }
+    requires policies { length pairs.items ≡ node_count ballots }
 {
     let weather = weather(row.weather)?;
     let wishes = wishes(alloc, row.clients, &ballots, row.wishes)?;
     let records = records(alloc, row.devices, row.of_clients, row.clients)?;
-    let pairs = plain_pairs(alloc, ballots.nodes())?;
     let world = new_world(alloc, ballots, Problem::First, row.clients)?;
     match run_all(
         rt,
@@ -130,13 +132,27 @@ pub(crate) fn run_row<R: Threads + Wait + Copy + Send, G: Gate + Sync>(
     gate: &G,
 ) -> Result<Seen, Failure> {
     let ballots = ballots_of(row.votes, row.read, row.write)?;
+    let pairs = plain_pairs(alloc, ballots.nodes())?;
+    run_row_by(rt, alloc, row, pairs, gate)
+}
+
+/// Runs the row, with the policies of its nodes and the gate, and audits its journal.
+pub(crate) fn run_row_by<R: Threads + Wait + Copy + Send, G: Gate + Sync>(
+    rt: R,
+    alloc: Global,
+    row: &Row<'_>,
+    pairs: Vec<Pair>,
+    gate: &G,
+) -> Result<Seen, Failure> {
+    let ballots = ballots_of(row.votes, row.read, row.write)?;
     if row.clients < 1
         || u32::from(row.clients) > MAX_CLIENTS
         || row.devices.len() != row.votes.len()
+        || pairs.len() != row.votes.len()
     {
         return Err(Failure::Wrong(0));
     }
-    let end = end_of(rt, alloc, row, ballots, gate)?;
+    let end = end_of(rt, alloc, row, ballots, pairs, gate)?;
     let opening = new_world(alloc, ballots, Problem::First, row.clients)?;
     let journal = journal_of(alloc, &end.book, opening)?;
     Ok(Seen { end, journal })

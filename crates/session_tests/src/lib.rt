@@ -15,6 +15,8 @@ mod calls;
 #[cfg(test)]
 mod failing_records;
 #[cfg(test)]
+mod full_lists;
+#[cfg(test)]
 mod going_on;
 #[cfg(test)]
 mod guards;

@@ -41,3 +41,5 @@ mod steps;
 mod switching;
 #[cfg(test)]
 mod ways_in;
+#[cfg(test)]
+mod whose_policy;

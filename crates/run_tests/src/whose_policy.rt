@@ -2,8 +2,7 @@
 
 use crate::gates::OpenGate;
 use crate::rows::{PLAIN, Row, is_right, run_row_by};
-use admission_policy::{Admission, Pair};
-use lock_model::Problem;
+use admission_policy::{Admission, FirstProblem, Pair, SecondProblem};
 use std::alloc::Global;
 use std::sync::atomic::{AtomicU64, Ordering};
 use std::sync::{Arc, Wait};
@@ -15,8 +14,8 @@ use told_policies::Telling;
 /// as much.
 fn telling(alloc: Global, weight: u64, cell: &Arc<AtomicU64>) -> Result<Pair, Failure> {
     let other = weight.saturating_mul(1_000);
-    let first = Telling::of(Problem::First, weight, other, cell)?;
-    let second = Telling::of(Problem::Second, other, other, cell)?;
+    let first = Telling::of(FirstProblem, weight, other, cell)?;
+    let second = Telling::of(SecondProblem, other, other, cell)?;
     let first: Box<dyn Admission + Send> = Box::new(alloc, first)?;
     let second: Box<dyn Admission + Send> = Box::new(alloc, second)?;
     Ok(Pair::of(first, second))

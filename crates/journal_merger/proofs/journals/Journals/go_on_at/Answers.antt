@@ -1,0 +1,11 @@
+use Rattle.std.proofs.Common.{◌<◌, List, length, refl, sym, subst, arith}
+use Rattle.std.proofs.lemmas.Option.{slice_get_read}
+use Rattle.journal_merger.specs.Pendings.{Pending}
+use Rattle.journal_merger.proofs.PendingFacts.{apart-set}
+use Rattle.journal_merger.proofs.journals.Journals.go_on_at.Goals as goal
+
+pub invariant_of-self : goal.invariant_of-self
+invariant_of-self g c =
+    let within : c.args.index < length c.self.inside.journals.items = omega (arith, c.if-index-len.false, c.len.ensures) in
+    apart-set c.args.index c.self.inside.journals.items c.index_mut.result.now c.go_on_alone.new.self
+    (slice_get_read c.self.inside.journals.items (length c.self.inside.journals.items) c.args.index c.index_mut.result.now refl within c.index_mut.ensures.value) c.go_on_alone.ensures.who c.self.invariant

@@ -1,0 +1,106 @@
+// Lines that are taken after one was refused, to see which are left.
+
+ghost use Rattle.std.specs.Prelude.{◌≡◌, IfOk};
+ghost use Rattle.frame_numbers.specs.FrameNumbers.{IsIndexOf};
+
+use crate::finding::{Turn, offer_next};
+use crate::merging::MAX_LINES;
+use crate::reading::OwnJournal;
+use crate::{Failure, Journals, JournalsFault};
+use frame_numbers::FrameNumbers;
+use std::alloc::Global;
+use std::io::Read;
+use world_machine::World;
+
+impl<R: Read> OwnJournal<R> {
+    /// Takes the next line if it can be taken, and reads the one after it. Returns whether it was taken. A refusal is
+    /// noted, and the line is not offered again.
+    fn go_on_alone(
+        &mut self,
+        alloc: Global,
+        world: &mut World,
+        numbers: &mut FrameNumbers,
+    ) -> Result<bool, JournalsFault>
+        requires { IsIndexOf numbers.old world.old.sent }
+        ensures who { self.new.who ≡ self.old.who }
+        ensures index { IfOk result (λ _. IsIndexOf numbers.new world.new.sent) }
+    {
+        if self.refusal.is_some() {
+            return Ok(false);
+        }
+        let turn = match offer_next(world, numbers, &self.who, &self.next) {
+            Ok(turn) => turn,
+            Err(fault) => return Err(fault),
+        };
+        match turn {
+            Turn::Ended => Ok(false),
+            Turn::Waits => Ok(false),
+            Turn::Took(_) => match self.advance(alloc) {
+                Ok(()) => Ok(true),
+                Err(fault) => Err(fault),
+            },
+            Turn::Refused(why) => {
+                self.refusal = Some(why);
+                // After a refusal nothing is known of the numbers.
+                *numbers = FrameNumbers::new(alloc);
+                Ok(false)
+            }
+        }
+    }
+}
+
+impl<R: Read> Journals<R> {
+    /// Takes the next line of the journal at this index if it can be taken. Returns whether it was.
+    fn go_on_at(
+        &mut self,
+        index: usize,
+        alloc: Global,
+        world: &mut World,
+        numbers: &mut FrameNumbers,
+    ) -> Result<bool, JournalsFault>
+        requires { IsIndexOf numbers.old world.old.sent }
+        ensures { IfOk result (λ _. IsIndexOf numbers.new world.new.sent) }
+    {
+        if index >= self.journals.len() {
+            return Ok(false);
+        }
+        self.journals[index].go_on_alone(alloc, world, numbers)
+    }
+
+    /// Offers the next line of each journal once. Returns whether one was taken.
+    fn go_round(
+        &mut self,
+        alloc: Global,
+        world: &mut World,
+        numbers: &mut FrameNumbers,
+    ) -> Result<bool, Failure>
+        requires { IsIndexOf numbers.old world.old.sent }
+        ensures { IfOk result (λ _. IsIndexOf numbers.new world.new.sent) }
+    {
+        let mut took = false;
+        for journal in 0..self.count() {
+            match self.go_on_at(journal, alloc, world, numbers) {
+                Ok(true) => took = true,
+                Ok(false) => {}
+                Err(fault) => return Err(Failure { journal, fault }),
+            }
+        }
+        Ok(took)
+    }
+
+    /// Takes lines as long as one can be taken, though the journals have no merge. Then each line that is left was
+    /// refused, or waits for a message that nobody said.
+    pub(crate) fn settle(&mut self, alloc: Global, world: &mut World) -> Result<(), Failure>
+        requires { Unit {0} }
+    {
+        let mut numbers = FrameNumbers::new(alloc);
+        for _ in 0..MAX_LINES {
+            match self.go_round(alloc, world, &mut numbers) {
+                Ok(true) => {}
+                Ok(false) => return Ok(()),
+                Err(failure) => return Err(failure),
+            }
+        }
+        Ok(())
+    }
+}
