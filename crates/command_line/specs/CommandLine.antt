@@ -1,6 +1,6 @@
 -- What the program does with its words: the status that it ends with, what it writes, and what it
 -- says on the second writer.
-use Rattle.std.specs.Prelude.{◌≡◌, ◌⊎◌, ◌||◌, ℕ, Bool, true, false, List, [], Option, Some, None, Result, Ok, Err, codes, string_bytes}
+use Rattle.std.specs.Prelude.{◌≡◌, ◌⊎◌, ◌||◌, ℕ, Bool, true, false, List, [], length, Option, Some, None, Result, Ok, Err, codes, string_bytes}
 use Rattle.std.specs.Io.KnownBytes.{Keeps, Appends}
 use Rattle.clap.specs.Words.{Kinds, fault_of}
 use Rattle.line_streams.specs.Streams.{AppendsPart}
@@ -16,6 +16,7 @@ use Rattle.operator_cli.specs.declared.orders.Command.{Command}
 use Rattle.operator_cli.specs.declared.orders.Command.TheVariants as command
 use Rattle.operator_cli.specs.Outputs.{Serves}
 use Rattle.run_service.specs.Outputs.{ServesRun}
+use Rattle.merge_service.specs.Merging.{RunsMerge}
 use Rattle.program_ends.specs.declared.ending.Ended.{Ended}
 use Rattle.program_ends.specs.Endings.{Writers, Shows, LacksMemory, EndsSaying, TellsFault, EndsUnserved}
 use Rattle.command_words.specs.declared.reading.Request.{Request}
@@ -60,7 +61,7 @@ words_for (Some number) = words_of number
 
 -- what is said if no fault has the number
 abbrev pub unknown_text : List ℕ
-unknown_text = codes "error: no fault has this number: docs/REFERENCE.md lists all numbers, from 101 to 947\n\nFor more information, try '--help'.\n"
+unknown_text = codes "error: no fault has this number: docs/REFERENCE.md lists all numbers, from 101 to 959\n\nFor more information, try '--help'.\n"
 
 -- The words of a number are shown, with status 0, unless there was no memory for them. If no fault has the number,
 -- that is said, with status 2.
@@ -106,6 +107,7 @@ abbrev pub RunsRequest : Request → Option (List ℕ) → Writers → Ended →
 RunsRequest (request.Serve a) input w e = RunsAsked (a.front || a.behind) a.command input w e
 RunsRequest (request.Explain number) input w e = ExplainsNumber (words_for number) w e
 RunsRequest (request.Record file) input w e = LooksAtFile w e
+RunsRequest (request.Merge m) input w e = RunsMerge m.judged (length m.names.items) input w e
 
 -- what is asked for is what the words name
 abbrev pub RunsNamed : FoundWords → Option (List ℕ) → Writers → Ended → Type 0

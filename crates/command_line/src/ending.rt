@@ -14,6 +14,7 @@ use crate::explaining::explain_command;
 use crate::numbers::explain_number;
 use crate::records::show_record;
 use command_words::{Request, read_words};
+use merge_service::run_merge;
 use operator_cli::{Command, Order, Policies, ServeFault, serve};
 use program_ends::{Ended, collected, end_unserved, tell_fault, tell_unread};
 use run_service::{Supplies, serve_run};
@@ -140,6 +141,16 @@ where
         }
         Request::Explain(number) => explain_number(alloc, number, output, errors),
         Request::Record(path) => show_record(&rt, alloc, path, output, errors),
+        Request::Merge(merging) => run_merge(
+            &rt,
+            alloc,
+            merging.judged,
+            merging.names.as_slice(),
+            policies,
+            reader,
+            output,
+            errors,
+        ),
     }
 }
 
@@ -221,6 +232,8 @@ where
 /// the number, `errors` says so, and the status is 2.
 /// `record FILE` writes what the file of a record holds to `output`. The status is 0 if it would open as a record,
 /// and 1 if not. If the file can't be read, `errors` says so with its number (942, 945), and the status is 2.
+/// `merge` and the names of files merge the journals in them, as `merge_service::run_merge` does, and with `--judge` only
+/// judge them.
 /// `--help`, `help` and `--version`, also `script --help`, `help script` and the like, go to `output`, with status 0 (`fault 932`
 /// and 1 where that fails). Other words are wrong, and so is one that is not UTF-8: a text on `errors`
 /// says so, and the status is 2. Where memory is refused while words are read, `fault 933` is told, with

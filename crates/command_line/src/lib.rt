@@ -8,11 +8,12 @@
 //! and 1; wrong words as 2, by what `clap` says of them; a request for help or for the version as 0. With
 //! `--explain` output and status are the same, and words go to the second writer, of which nothing is
 //! promised. `explain` writes the words of a number, exactly those of `fault_numbers`. `record` writes what `record_view`
-//! reports of a file, with 0 exactly if the file would open. `specs/CommandLine` says so.
+//! reports of a file, with 0 exactly if the file would open. `merge` writes what `merge_service` promises.
+//! `specs/CommandLine` says so.
 //!
 //! It stands on `command_words` for what the words ask for, `program_ends` for what is said of faults and of
-//! words, `fault_numbers` for what numbers mean, `operator_cli`, `run_service`, `explanations` for what is said in
-//! words, `record_view` and `file_plate` for files of records, `line_streams`, `lock_messages`, `lock_model` and `clap`.
+//! words, `fault_numbers` for what numbers mean, `operator_cli`, `run_service`, `merge_service`, `explanations` for what is said
+//! in words, `record_view` and `file_plate` for files of records, `line_streams`, `lock_messages`, `lock_model` and `clap`.
 #![tactic(auto)]
 
 mod ending;

@@ -1,5 +1,6 @@
 -- The command that words name is one of the program's.
-use Rattle.std.proofs.Common.{◌≡◌, ◌⊎◌, inl, inr, ◌&&◌, ◌||◌, not, Bool, true, false, cond, ℕ, List, [], ◌∷◌, ◌++◌, map, codes, Option, Some, None, option_map, find, is_some, refl, sym, ap, subst, ◌∙◌, Box}
+use Rattle.std.proofs.Common.{◌≡◌, ◌⊎◌, inl, inr, ◌&&◌, ◌||◌, not, Bool, true, false, cond, ℕ, List, [], ◌∷◌, ◌++◌, map, codes, Option, Some, None, Result, Ok, Err, option_map, find, is_some, refl, sym, ap, subst, ◌∙◌, Box}
+use Rattle.std.specs.Prelude.{IfOk}
 use Rattle.std.specs.Box.{box_value}
 use Rattle.std.proofs.lemmas.Option.{same_Some}
 use Rattle.clap.proofs.CallerLemmas.{subcommand_required}
@@ -20,7 +21,7 @@ use Rattle.clap.specs.declared.builder.command.Command as clap
 use Rattle.clap.specs.declared.parser.matches.ArgMatches.{ArgMatches}
 use Rattle.clap.specs.declared.parser.matches.ArgMatches.TheViews.{out-ArgMatches, out-SubCommand}
 use Rattle.clap.specs.declared.parser.matches.SubCommand.{SubCommand}
-use Rattle.command_words.specs.Words.{app, found_in, IsRequest, NamesOne, IsFlag, RequestsBehind, RequestsNamed}
+use Rattle.command_words.specs.Words.{app, found_in, IsRequest, NamesOne, IsFlag, RequestsBehind, RequestsNamed, Requests}
 use Rattle.command_words.specs.declared.reading.Request.{Request}
 use Rattle.command_words.proofs.HelpFacts.{NotHelp, walk_keeps}
 
@@ -54,7 +55,7 @@ abbrev pub label : Text → Text × List Text
 label name = (name, [])
 
 abbrev pub all_labels : Names
-all_labels = label (codes "script") ∷ label (codes "audit") ∷ label (codes "ballot") ∷ label (codes "run") ∷ label (codes "explain") ∷ label (codes "record") ∷ label (codes "help") ∷ []
+all_labels = label (codes "script") ∷ label (codes "audit") ∷ label (codes "ballot") ∷ label (codes "run") ∷ label (codes "explain") ∷ label (codes "merge") ∷ label (codes "record") ∷ label (codes "help") ∷ []
 
 -- the program's commands have these names, and `clap` adds the last
 labels_are : labels (built app).subs ≡ all_labels
@@ -74,9 +75,10 @@ is_name word n (inr (inl e)) other = inl (inr (inl e.0))
 is_name word n (inr (inr (inl e))) other = inl (inr (inr (inl e.0)))
 is_name word n (inr (inr (inr (inl e)))) other = inl (inr (inr (inr e.0)))
 is_name word n (inr (inr (inr (inr (inl e))))) other = inr (inl e.0)
-is_name word n (inr (inr (inr (inr (inr (inl e)))))) other = inr (inr e.0)
-is_name word n (inr (inr (inr (inr (inr (inr (inl e))))))) other = absurd (other (sym (answers_by_name word (codes "help") e.1)))
-is_name word n (inr (inr (inr (inr (inr (inr (inr e))))))) other = absurd e
+is_name word n (inr (inr (inr (inr (inr (inl e)))))) other = inr (inr (inl e.0))
+is_name word n (inr (inr (inr (inr (inr (inr (inl e))))))) other = inr (inr (inr e.0))
+is_name word n (inr (inr (inr (inr (inr (inr (inr (inl e)))))))) other = absurd (other (sym (answers_by_name word (codes "help") e.1)))
+is_name word n (inr (inr (inr (inr (inr (inr (inr (inr e)))))))) other = absurd e
 
 some_command : (word : Text) (subs : List Shape) (found : Option (Text × List Row)) (n : Text) → labels subs ≡ all_labels → (word ≡ codes "help" → ⊥) → FoundOne (answers_to word) subs found
     → option_map (λ p. p.0) found ≡ Some n → IsRequest n
@@ -164,6 +166,11 @@ names_found front (Some found) name rows r e k h =
     let same : name ≡ found.0 = same_Some name found.0 e in
     let rest : rows ≡ found.1 = same_Some rows found.1 k in
     subst (λ (rs : List Row). RequestsBehind front found.0 rs r) rest (subst (λ (n : Text). RequestsBehind front n rows r) same h)
+
+pub request_found : {E : Type 0} (rows : List Row) (front : Bool) (o : Option (Text × List Row)) (name : Text) (behind : List Row) (r : Result Request E) → IsFlag (one_of (codes "explain") rows) front
+    → Some name ≡ option_map (λ p. p.0) o → Some behind ≡ option_map (λ p. p.1) o → IfOk r (λ q. RequestsBehind front name behind q) → IfOk r (λ q. Requests o rows q)
+request_found {E} rows front o name behind (Ok q) flag e k h = (front, flag, names_found front o name behind q e k h)
+request_found {E} rows front o name behind (Err x) flag e k h = tt
 
 pub found_name : (m : ArgMatches) → subcommand_name_of m ≡ option_map (λ p. p.0) (subcommand_rows_of m)
 found_name m = name_of_rows (out-ArgMatches m).subcommand

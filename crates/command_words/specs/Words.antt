@@ -1,9 +1,9 @@
 -- The words that the program takes, and what is read of them.
-use Rattle.std.specs.Prelude.{◌≡◌, ◌⊎◌, ℕ, ◌<◌, ◌^◌, Bool, true, false, List, [], ◌∷◌, Option, Some, None, SomeIff, Result, Ok, Err, codes}
+use Rattle.std.specs.Prelude.{◌≡◌, ◌⊎◌, ℕ, ◌<◌, ◌^◌, Bool, true, false, List, [], ◌∷◌, Option, Some, None, SomeIff, Result, Ok, Err, codes, map, string_bytes}
 use Rattle.std.specs.Str.Parse.{IsNumeral, digits_value, without_leading_plus}
-use Rattle.clap.specs.Words.{App, Shape, Rule, Row, new_rule, one_of, first_of, with_rule, with_subcommand, subcommand_of, matches_of, HasKind, Kinds}
+use Rattle.clap.specs.Words.{App, Shape, Rule, Row, new_rule, all_of, one_of, first_of, with_rule, with_subcommand, subcommand_of, matches_of, HasKind, Kinds}
 use Rattle.clap.specs.Simple.{new_shape}
-use Rattle.clap.specs.declared.builder.action.ArgAction.TheVariants.{Set, SetTrue}
+use Rattle.clap.specs.declared.builder.action.ArgAction.TheVariants.{Append, Set, SetTrue}
 use Rattle.clap.specs.declared.error.Error.{Error}
 use Rattle.operator_cli.specs.declared.orders.Command.{Command}
 use Rattle.operator_cli.specs.declared.orders.Command.TheVariants as command
@@ -14,8 +14,9 @@ use Rattle.command_words.specs.declared.reading.Request.{Request}
 use Rattle.command_words.specs.declared.reading.Request.TheVariants as request
 
 -- The words that the program takes: one of `script`, `audit`, `ballot` and `run`, with `--explain` before it or
--- after it, or at both places, and after `run` also `--journal`; or `explain` or `record` and one word; or `help`. On either
--- level help may be asked for by a flag, and on the upper one also the version.
+-- after it, or at both places, and after `run` also `--journal`; or `explain` or `record` and one word; or `merge`, words,
+-- and `--judge` among them; or `help`. On either level help may be asked for by a flag, and on the upper one also the
+-- version.
 
 -- the flag of this name
 abbrev pub flag_rule : List ℕ → Rule
@@ -53,6 +54,13 @@ explain_shape = record (new_shape (codes "explain")) { rules = word_rule (codes 
 abbrev pub record_shape : Shape
 record_shape = record (new_shape (codes "record")) { rules = word_rule (codes "file") ∷ [] }
 
+-- the command that merges journals, which are its words
+abbrev pub journals_rule : Rule
+journals_rule = record (new_rule (codes "journal")) { value_names = 1; required = true; action = Some Append }
+
+abbrev pub merge_shape : Shape
+merge_shape = record (new_shape (codes "merge")) { rules = flag_rule (codes "judge") ∷ journals_rule ∷ [] }
+
 abbrev pub with_command : App → List ℕ → App
 with_command a name = with_subcommand a (command_shape name)
 
@@ -61,15 +69,15 @@ abbrev pub served_app : App
 served_app = with_subcommand (with_command (with_command (with_command top_app (codes "script")) (codes "audit")) (codes "ballot")) run_shape
 
 abbrev pub app : App
-app = with_subcommand (with_subcommand served_app explain_shape) record_shape
+app = with_subcommand (with_subcommand (with_subcommand served_app explain_shape) merge_shape) record_shape
 
 -- the name of a command that is served
 abbrev pub IsName : List ℕ → Type 0
 IsName name = (name ≡ codes "script") ⊎ ((name ≡ codes "audit") ⊎ ((name ≡ codes "ballot") ⊎ (name ≡ codes "run")))
 
--- the same, or the one that explains a number or prints what a file holds
+-- the same, or the one that explains a number, merges journals, or prints what a file holds
 abbrev pub IsRequest : List ℕ → Type 0
-IsRequest name = IsName name ⊎ ((name ≡ codes "explain") ⊎ (name ≡ codes "record"))
+IsRequest name = IsName name ⊎ ((name ≡ codes "explain") ⊎ ((name ≡ codes "merge") ⊎ (name ≡ codes "record")))
 
 abbrev pub NamesOne : Option (List ℕ) → Type 0
 NamesOne None = ⊥
@@ -120,10 +128,17 @@ abbrev pub NamesFile : Option (List ℕ) → List ℕ → Type 0
 NamesFile None name = name ≡ codes ""
 NamesFile (Some text) name = name ≡ text
 
+-- the words that are journals, if there are some
+abbrev pub AreNames : Option (List (List ℕ)) → List (List ℕ) → Type 0
+AreNames None names = names ≡ []
+AreNames (Some words) names = names ≡ words
+
 -- what is asked for by a name, what was found after it, and whether `--explain` is before it
 abbrev pub RequestsBehind : Bool → List ℕ → List Row → Request → Type 0
 RequestsBehind front name rows (request.Serve a) = AsksBehind name rows a × (a.front ≡ front)
 RequestsBehind front name rows (request.Explain number) = (name ≡ codes "explain") × TellsNumber (first_of (codes "number") rows) number
+RequestsBehind front name rows (request.Merge m) =
+    (name ≡ codes "merge") × IsFlag (one_of (codes "judge") rows) m.judged × AreNames (all_of (codes "journal") rows) (map string_bytes m.names.items)
 RequestsBehind front name rows (request.Record file) = (name ≡ codes "record") × NamesFile (first_of (codes "file") rows) file.now
 
 -- the same of what was found

@@ -211,6 +211,51 @@ EXIT STATUS
   1   `fault N` is on standard error.
   2   No fault has this number.";
 
+pub(crate) const MERGE_HELP: &str = "\
+Merges the journals that nodes and clients wrote alone into one journal of all.
+
+USAGE
+  rwvote merge JOURNAL.. < FILE           Prints the settings in FILE and the merged journal.
+  rwvote merge --judge JOURNAL.. < FILE   Prints how many lines were merged.
+  rwvote merge JOURNAL.. < FILE | rwvote audit
+
+Each JOURNAL is the file of one actor, with all its lives in order. Standard input has settings in
+TOML and a line ---. Paste this to try it:
+
+cat >n1.journal <<'END'
+life n1 01010000
+END
+rwvote merge n1.journal <<'END'
+votes = [1]
+read = 1
+write = 1
+problem = 1
+clients = 2
+---
+END
+
+SETTINGS
+  The same as for `rwvote script`.
+
+LINES OF A JOURNAL
+  life nN HEX, life cC HEX   A life of the actor begins: its process found these bytes in the record
+  take nN HEX, hear cC HEX   The actor reads the message with this frame
+  any other event            As in `rwvote audit`
+  HEX is hexadecimal digits. What follows the last line feed was cut off, and counts for nothing.
+
+OUTPUT
+  The settings, ---, and the merged journal. With --judge instead:
+  merged N             The journals have a merge, of N lines.
+  settings fault N     The settings are refused.
+  If the journals have no merge, standard error says which line of each journal is left, and why:
+  c1.journal line 5 enter c1: refused 609
+  `rwvote explain N` says what N means.
+
+EXIT STATUS
+  0   The journals have a merge.
+  1   They have none, or `fault N` is on standard error.
+  2   The settings, a journal or the command-line arguments were refused.";
+
 pub(crate) const RECORD_HELP: &str = "\
 Prints what a record's file holds: each slot, the record, and whether the file would open.
 

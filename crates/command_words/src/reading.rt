@@ -1,13 +1,13 @@
 // The words that the program takes, and their help.
 
 ghost use Rattle.std.specs.Prelude.{◌≡◌, IfOk, SomeIff, false, map, string_bytes, codes};
-ghost use Rattle.clap.specs.Words.{app_of, shape_of, rule_of, rows_of, first_of, one_of, found_of, fault_of, subcommand_name_of, subcommand_rows_of};
+ghost use Rattle.clap.specs.Words.{app_of, shape_of, rule_of, rows_of, first_of, one_of, found_of, all_of, fault_of, subcommand_name_of, subcommand_rows_of};
 ghost use Rattle.clap.specs.Simple.{new_shape};
 ghost use Rattle.clap.specs.declared.builder.command.Command.TheViews.{out-Command};
-ghost use Rattle.command_words.specs.Words.{app, bare_app, top_app, explain_rule, flag_rule, word_rule, command_shape, run_shape, explain_shape, record_shape, with_command, found_in, IsName, IsRequest, IsCommand, AsksBehind, RequestsBehind, Requests, IsFlag, IsNumber, number_value, TellsNumber, NamesFile, NamesOne, Parses, ReadsWords};
+ghost use Rattle.command_words.specs.Words.{app, bare_app, top_app, explain_rule, flag_rule, word_rule, command_shape, run_shape, explain_shape, journals_rule, merge_shape, record_shape, with_command, found_in, IsName, IsRequest, IsCommand, AsksBehind, RequestsBehind, Requests, IsFlag, IsNumber, number_value, TellsNumber, AreNames, NamesFile, NamesOne, Parses, ReadsWords};
 
 use crate::help::{
-    ABOUT, AUDIT_HELP, BALLOT_HELP, EXPLAIN_HELP, RECORD_HELP, RUN_HELP, SCRIPT_HELP,
+    ABOUT, AUDIT_HELP, BALLOT_HELP, EXPLAIN_HELP, MERGE_HELP, RECORD_HELP, RUN_HELP, SCRIPT_HELP,
 };
 use clap::{Arg, ArgAction, ArgMatches};
 use operator_cli::Command;
@@ -123,10 +123,38 @@ fn explain_below<'a>(alloc: Global) -> Result<clap::Command<'a>, AllocError>
         alloc,
         "number",
         "N",
-        "A number that a program printed, 101 to 947",
+        "A number that a program printed, 101 to 959",
     );
     let with_number = command.arg(number)?;
     Ok(with_number)
+}
+
+/// The words of the command that merges journals: their names.
+fn journals_argument<'a>(alloc: Global) -> Arg<'a>
+    ensures rule { rule_of result ≡ journals_rule }
+    ensures local { result.global ≡ false }
+{
+    Arg::new(alloc, "journal")
+        .value_name("JOURNAL")
+        .required(true)
+        .action(ArgAction::Append)
+        .help("The journal of an actor")
+}
+
+/// The command that merges journals.
+fn merge_below<'a>(alloc: Global) -> Result<clap::Command<'a>, AllocError>
+    ensures shape { IfOk result (λ c. shape_of c ≡ merge_shape) }
+    ensures local { IfOk result (λ c. (out-Command c).has_globals ≡ false) }
+{
+    let command = below(alloc, "merge", "Merges the journals of actors", MERGE_HELP);
+    let judge = flag(
+        alloc,
+        "judge",
+        "Prints no journal, but how many lines were merged",
+    );
+    let with_flag = command.arg(judge)?;
+    let with_journals = with_flag.arg(journals_argument(alloc))?;
+    Ok(with_journals)
 }
 
 /// The command that prints what a record's file holds.
@@ -172,8 +200,10 @@ fn words_taken<'a>(alloc: Global) -> Result<clap::Command<'a>, AllocError>
     let with_run = with_ballot.subcommand(run)?;
     let explain = explain_below(alloc)?;
     let with_explain = with_run.subcommand(explain)?;
+    let merge = merge_below(alloc)?;
+    let with_merge = with_explain.subcommand(merge)?;
     let viewer = record_below(alloc)?;
-    let with_all = with_explain.subcommand(viewer)?;
+    let with_all = with_merge.subcommand(viewer)?;
     Ok(with_all)
 }
 
@@ -187,13 +217,24 @@ pub struct Asked {
     pub behind: bool,
 }
 
+/// Journals to merge.
+#[derive(Drop)]
+pub struct Merging {
+    /// Whether they are only judged.
+    pub judged: bool,
+    /// The names of their files.
+    pub names: Vec<String>,
+}
+
 /// What the words ask for.
-#[derive(Clone, Copy)]
+#[derive(Drop)]
 pub enum Request<'a> {
     /// To serve a command.
     Serve(Asked),
     /// To explain a number; `None` if the word is not a number below 65,536.
     Explain(Option<u16>),
+    /// To merge journals.
+    Merge(Merging),
     /// To print what the record's file of this name holds.
     Record(&'a str),
 }
@@ -265,39 +306,87 @@ fn file_at<'a>(found: &ArgMatches<'a>) -> &'a str
     }
 }
 
+/// Copies texts.
+fn copied(alloc: Global, texts: &[&str]) -> Result<Vec<String>, AllocError>
+    ensures { IfOk result (λ names. map string_bytes names.items ≡ map (λ t. t.now) texts.now) }
+{
+    let mut names = Vec::new(alloc);
+    for text in texts {
+        let name = String::from_str(alloc, *text)?;
+        names.push(name)?;
+    }
+    Ok(names)
+}
+
+/// The names of the journals that are to be merged.
+fn names_at(alloc: Global, found: &ArgMatches) -> Result<Vec<String>, AllocError>
+    ensures { IfOk result (λ names. AreNames (all_of (codes "journal") (rows_of (found_of found.now))) (map string_bytes names.items)) }
+{
+    match found.get_strs("journal") {
+        Some(texts) => copied(alloc, texts),
+        None => Ok(Vec::new(alloc)),
+    }
+}
+
+/// The journals that are to be merged.
+fn merging_of(alloc: Global, found: &ArgMatches) -> Result<Merging, AllocError>
+    ensures judged { IfOk result (λ m. IsFlag (one_of (codes "judge") (rows_of (found_of found.now))) m.judged) }
+    ensures names { IfOk result (λ m. AreNames (all_of (codes "journal") (rows_of (found_of found.now))) (map string_bytes m.names.items)) }
+{
+    let judged = has_flag(found, "judge");
+    let names = names_at(alloc, found)?;
+    Ok(Merging { judged, names })
+}
+
 /// What is asked for by this name and what was found behind it.
-fn request_of<'a>(front: bool, name: &str, found: &ArgMatches<'a>) -> Request<'a>
+fn request_of<'a>(
+    alloc: Global,
+    front: bool,
+    name: &str,
+    found: &ArgMatches<'a>,
+) -> Result<Request<'a>, AllocError>
     requires { IsRequest name.now }
-    ensures { RequestsBehind front name.now (rows_of (found_of found.now)) result }
+    ensures { IfOk result (λ r. RequestsBehind front name.now (rows_of (found_of found.now)) r) }
 {
     if name == "explain" {
-        return Request::Explain(number_at(found));
+        return Ok(Request::Explain(number_at(found)));
+    }
+    if name == "merge" {
+        let merging = merging_of(alloc, found)?;
+        return Ok(Request::Merge(merging));
     }
     if name == "record" {
-        return Request::Record(file_at(found));
+        return Ok(Request::Record(file_at(found)));
     }
-    Request::Serve(asked_of(front, name, found))
+    Ok(Request::Serve(asked_of(front, name, found)))
 }
 
 /// What the words ask for.
-fn request_in<'a>(matches: &ArgMatches<'a>) -> Request<'a>
+fn request_in<'a>(alloc: Global, matches: &ArgMatches<'a>) -> Result<Request<'a>, AllocError>
     requires { NamesOne (subcommand_name_of matches.now) }
-    ensures { Requests (subcommand_rows_of matches.now) (rows_of (found_of matches.now)) result }
+    ensures { IfOk result (λ r. Requests (subcommand_rows_of matches.now) (rows_of (found_of matches.now)) r) }
 {
     let front = has_flag(matches, "explain");
     let Some((name, found)) = matches.subcommand() else {
         unreachable!()
     };
-    request_of(front, name, found)
+    request_of(alloc, front, name, found)
 }
 
 /// What `clap` makes of the words by a command.
-fn parse_by<'a>(command: clap::Command<'a>, words: &'a [String]) -> Result<Request<'a>, clap::Error>
+fn parse_by<'a>(
+    alloc: Global,
+    command: clap::Command<'a>,
+    words: &'a [String],
+) -> Result<Request<'a>, clap::Error>
     requires { app_of command ≡ app }
     ensures { Parses (fault_of app (map string_bytes words.now)) (found_in (map string_bytes words.now)) result }
 {
     match command.try_get_matches_from(words) {
-        Ok(matches) => Ok(request_in(&matches)),
+        Ok(matches) => match request_in(alloc, &matches) {
+            Ok(request) => Ok(request),
+            Err(error) => Err(clap::Error::from(error)),
+        },
         Err(error) => Err(error),
     }
 }
@@ -307,7 +396,7 @@ fn parse<'a>(alloc: Global, words: &'a [String]) -> Result<Request<'a>, clap::Er
     ensures { Parses (fault_of app (map string_bytes words.now)) (found_in (map string_bytes words.now)) result }
 {
     match words_taken(alloc) {
-        Ok(command) => parse_by(command, words),
+        Ok(command) => parse_by(alloc, command, words),
         Err(error) => Err(clap::Error::from(error)),
     }
 }

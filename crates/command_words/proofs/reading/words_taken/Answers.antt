@@ -1,6 +1,6 @@
 use Rattle.std.proofs.Common.{codes, ap, ◌∙◌}
 use Rattle.clap.specs.Words.{App, with_subcommand}
-use Rattle.command_words.specs.Words.{top_app, served_app, with_command, run_shape, explain_shape, record_shape}
+use Rattle.command_words.specs.Words.{top_app, served_app, with_command, run_shape, explain_shape, merge_shape, record_shape}
 use Rattle.command_words.proofs.NameFacts.{with_sub}
 use Rattle.command_words.proofs.reading.words_taken.Goals as goal
 
@@ -14,4 +14,5 @@ returns c =
     let three = c.in_ok-with_ballot.ensures ∙ ap (λ (a : App). with_command a (codes "ballot")) two in
     let four = with_sub c.in_ok-with_ballot.with_ballot c.in_ok-run.run' c.in_ok-with_run.with_run third run_shape c.in_ok-with_run.ensures three c.in_ok-run.ensures.shape c.in_ok-run.ensures.local in
     let five = with_sub c.in_ok-with_run.with_run c.in_ok-explain.explain c.in_ok-with_explain.with_explain served_app explain_shape c.in_ok-with_explain.ensures four c.in_ok-explain.ensures.shape c.in_ok-explain.ensures.local in
-    with_sub c.in_ok-with_explain.with_explain c.in_ok-viewer.viewer c.in_ok-with_all.with_all (with_subcommand served_app explain_shape) record_shape c.in_ok-with_all.ensures five c.in_ok-viewer.ensures.shape c.in_ok-viewer.ensures.local
+    let six = with_sub c.in_ok-with_explain.with_explain c.in_ok-merge.merge c.in_ok-with_merge.with_merge (with_subcommand served_app explain_shape) merge_shape c.in_ok-with_merge.ensures five c.in_ok-merge.ensures.shape c.in_ok-merge.ensures.local in
+    with_sub c.in_ok-with_merge.with_merge c.in_ok-viewer.viewer c.in_ok-with_all.with_all (with_subcommand (with_subcommand served_app explain_shape) merge_shape) record_shape c.in_ok-with_all.ensures six c.in_ok-viewer.ensures.shape c.in_ok-viewer.ensures.local

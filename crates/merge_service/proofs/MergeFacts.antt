@@ -1,0 +1,93 @@
+-- From what is found of journals to what is written.
+use Rattle.std.proofs.Common.{◌≡◌, inl, inr, ℕ, Bool, true, false, Vec, List, ◌++◌, Option, Some, None, Result, Ok, Err, codes, refl, sym, subst}
+use Rattle.std.specs.Global.{Global}
+use Rattle.std.specs.Io.KnownBytes.{Appends}
+use Rattle.std.proofs.KnownBytes.{Appends-trans}
+use Rattle.world_model.specs.declared.exact.ExactWorld.{ExactWorld}
+use Rattle.journal_text.specs.Journals.{history_text}
+use Rattle.journal_merger.specs.Merges.{Finds}
+use Rattle.journal_merger.specs.Pendings.{Pending}
+use Rattle.journal_merger.specs.declared.merging.Outcome.TheVariants as outcome
+use Rattle.line_streams.specs.Streams.{pieces, lines_in}
+use Rattle.operator_cli.specs.declared.faults.ServeFault.{ServeFault}
+use Rattle.operator_cli.specs.declared.faults.ServeFault.TheVariants as serving
+use Rattle.operator_cli.specs.declared.faults.SettingsFault.{SettingsFault}
+use Rattle.operator_cli.specs.declared.faults.SettingsFault.TheVariants as settings
+use Rattle.operator_cli.specs.declared.heads.StartFault.{StartFault}
+use Rattle.operator_cli.specs.declared.heads.StartFault.TheVariants as start
+use Rattle.operator_cli.specs.declared.orders.Command.TheVariants as command
+use Rattle.operator_cli.specs.Openings.{all_down}
+use Rattle.operator_cli.specs.Settings.{Given, Refuses, settings_of}
+use Rattle.operator_cli.specs.Outputs.{head_of, refusal_output, Prints}
+use Rattle.operator_cli.specs.PartOutputs.{FindsHead, RefusesStart}
+use Rattle.merge_service.specs.declared.ends.MergeEnd.{MergeEnd}
+use Rattle.merge_service.specs.declared.ends.MergeEnd.TheVariants as end
+use Rattle.merge_service.specs.declared.ends.MergeFault.{MergeFault}
+use Rattle.merge_service.specs.declared.ends.MergeFault.TheVariants as met
+use Rattle.merge_service.specs.Merging.{merged_text, refused_of, Merges, MergesBy, MergesHead, MergesBehind, RefusesSettings, ServesMerge}
+
+abbrev Out : Type 0
+Out = Option (List ℕ)
+
+abbrev Came : Type 0
+Came = Result MergeEnd MergeFault
+
+-- a merge that was written
+
+pub judged_so : (head : List ℕ) (w : ExactWorld) (pending : List Pending) (a b old new : Out) (lines : ℕ) → Finds w pending a b (Ok (outcome.Merged lines)) → Appends old new (merged_text lines) → Merges true head w pending old new (Ok end.Merged)
+judged_so head w pending a b old new lines f put =
+    let (journals, told, left, merged, has, text) = f in
+    (journals, told, left, merged, has, (lines, put))
+
+pub written_so : (head : List ℕ) (w : ExactWorld) (pending : List Pending) (old mid new : Out) (lines : ℕ) → Appends old mid (head ++ codes "---\n") → Finds w pending mid new (Ok (outcome.Merged lines)) → Merges false head w pending old new (Ok end.Merged)
+written_so head w pending old mid new lines put f =
+    let (journals, told, left, merged, has, text) = f in
+    (journals, told, left, merged, has, Appends-trans old mid new (head ++ codes "---\n") (history_text told) put text)
+
+-- settings that were read, or are refused
+
+pub by_settings : (judged : Bool) (head : List ℕ) (g : Given) (pending : List Pending) (old new : Out) (r : Came) → settings_of command.Audit head ≡ Ok g → Merges judged head (all_down g.settings) pending old new r → MergesHead judged head pending old new r
+by_settings judged head g pending old new r is h = inl (subst (λ (q : Result Given SettingsFault). MergesBy judged head q pending old new r) (sym is) h)
+
+pub settings_refused : (judged : Bool) (head : List ℕ) (e : SettingsFault) (pending : List Pending) (old new : Out) (r : Came) → Refuses e (settings_of command.Audit head) → RefusesSettings e old new r → MergesHead judged head pending old new r
+settings_refused judged head settings.NoEnd pending old new r h p = inl (subst (λ (q : Result Given SettingsFault). MergesBy judged head q pending old new r) (sym h) p)
+settings_refused judged head settings.NoDocument pending old new r h p = inl (subst (λ (q : Result Given SettingsFault). MergesBy judged head q pending old new r) (sym h) p)
+settings_refused judged head settings.UnknownKey pending old new r h p = inl (subst (λ (q : Result Given SettingsFault). MergesBy judged head q pending old new r) (sym h) p)
+settings_refused judged head settings.Value pending old new r h p = inl (subst (λ (q : Result Given SettingsFault). MergesBy judged head q pending old new r) (sym h) p)
+settings_refused judged head (settings.Ballot f) pending old new r h p = inl (subst (λ (q : Result Given SettingsFault). MergesBy judged head q pending old new r) (sym h) p)
+settings_refused judged head (settings.Weather f) pending old new r h p = inl (subst (λ (q : Result Given SettingsFault). MergesBy judged head q pending old new r) (sym h) p)
+settings_refused judged head (settings.Wish f) pending old new r h p = inl (subst (λ (q : Result Given SettingsFault). MergesBy judged head q pending old new r) (sym h) p)
+settings_refused judged head settings.Memory pending old new r h p = inr p
+
+-- a head that was read, or is not there
+
+abbrev Parts : Type 0
+Parts = Result (List ℕ × List (List ℕ)) SettingsFault
+
+pub serves : (judged : Bool) (input left old new : Out) (pending : List Pending) (head : Vec ℕ Global) (text : List ℕ) (r : Came) → FindsHead input left (Ok head) → text ≡ head.items → MergesHead judged text pending old new r → ServesMerge judged input pending old new r
+serves judged None left old new pending head text r h same p = tt
+serves judged (Some xs) None old new pending head text r h same p = absurd h
+serves judged (Some xs) (Some ys) old new pending head text r h same p =
+    let q : MergesHead judged head.items pending old new r = subst (λ (t : List ℕ). MergesHead judged t pending old new r) same p in
+    inl (subst (λ (o : Parts). MergesBehind judged o pending old new r) (sym h) q)
+
+head_refused : (judged : Bool) (xs : List ℕ) (e : SettingsFault) (pending : List Pending) (old new : Out) (r : Came) → Refuses e (head_of (pieces xs)) → RefusesSettings e old new r → ServesMerge judged (Some xs) pending old new r
+head_refused judged xs settings.NoEnd pending old new r h p = inl (subst (λ (o : Parts). MergesBehind judged o pending old new r) (sym h) p)
+head_refused judged xs settings.NoDocument pending old new r h p = inl (subst (λ (o : Parts). MergesBehind judged o pending old new r) (sym h) p)
+head_refused judged xs settings.UnknownKey pending old new r h p = inl (subst (λ (o : Parts). MergesBehind judged o pending old new r) (sym h) p)
+head_refused judged xs settings.Value pending old new r h p = inl (subst (λ (o : Parts). MergesBehind judged o pending old new r) (sym h) p)
+head_refused judged xs (settings.Ballot f) pending old new r h p = inl (subst (λ (o : Parts). MergesBehind judged o pending old new r) (sym h) p)
+head_refused judged xs (settings.Weather f) pending old new r h p = inl (subst (λ (o : Parts). MergesBehind judged o pending old new r) (sym h) p)
+head_refused judged xs (settings.Wish f) pending old new r h p = inl (subst (λ (o : Parts). MergesBehind judged o pending old new r) (sym h) p)
+head_refused judged xs settings.Memory pending old new r h p = inr (inl p)
+
+pub not_started : (judged : Bool) (input left old new : Out) (pending : List Pending) (f : StartFault) (came : Result ℕ ServeFault) (r : Came) → FindsHead input left (Err f) → RefusesStart command.Audit f old new came → r ≡ refused_of came
+    → ServesMerge judged input pending old new r
+not_started judged None left old new pending f came r h p is = tt
+not_started judged (Some xs) left old new pending start.Read came r h p is = inr (inr (subst (λ (c : Result ℕ ServeFault). r ≡ refused_of c) p.0 is, p.1))
+not_started judged (Some xs) left old new pending (start.Settings e) came r h p is = head_refused judged xs e pending old new r h (came, is, p)
+
+-- no memory to begin with
+pub no_room : (judged : Bool) (input old new : Out) (pending : List Pending) (came : Result ℕ ServeFault) (r : Came) → Prints (refusal_output settings.Memory) old new came → r ≡ refused_of came → ServesMerge judged input pending old new r
+no_room judged None old new pending came r p is = tt
+no_room judged (Some xs) old new pending came r p is = inr (inl (came, is, p))

@@ -1,0 +1,114 @@
+-- What comes of a merge that begins with settings, what is written, and the status.
+use Rattle.std.specs.Prelude.{◌≡◌, ◌⊎◌, ℕ, Bool, true, false, List, ◌++◌, length, Option, Some, None, Result, Ok, Err, codes}
+use Rattle.std.specs.Fmt.{decimal}
+use Rattle.std.specs.Io.KnownBytes.{Keeps, Appends}
+use Rattle.world_model.specs.declared.events.Effect.{Effect}
+use Rattle.world_model.specs.declared.events.Event.{Event}
+use Rattle.world_model.specs.declared.exact.ExactWorld.{ExactWorld}
+use Rattle.journal_text.specs.Journals.{history_text}
+use Rattle.journal_merge.specs.LineMerges.{Journals, HasMerge}
+use Rattle.journal_merger.specs.Merges.{IsMerged}
+use Rattle.journal_merger.specs.Pendings.{Pending, AreLeft}
+use Rattle.journal_merger.specs.declared.faults.Failure.{Failure}
+use Rattle.journal_merger.specs.declared.faults.JournalsFault.{JournalsFault}
+use Rattle.journal_merger.specs.declared.faults.JournalsFault.TheVariants as fault
+use Rattle.line_streams.specs.Streams.{pieces}
+use Rattle.operator_cli.specs.declared.faults.ServeFault.{ServeFault}
+use Rattle.operator_cli.specs.declared.faults.ServeFault.TheVariants as serving
+use Rattle.operator_cli.specs.declared.faults.SettingsFault.{SettingsFault}
+use Rattle.operator_cli.specs.declared.faults.SettingsFault.TheVariants as settings
+use Rattle.operator_cli.specs.declared.orders.Command.TheVariants as command
+use Rattle.operator_cli.specs.Openings.{all_down}
+use Rattle.operator_cli.specs.Settings.{Given, settings_of}
+use Rattle.operator_cli.specs.Outputs.{head_of, refusal_output, Prints}
+use Rattle.program_ends.specs.declared.ending.Ended.{Ended}
+use Rattle.program_ends.specs.Endings.{Writers}
+use Rattle.merge_service.specs.declared.ends.MergeEnd.{MergeEnd}
+use Rattle.merge_service.specs.declared.ends.MergeEnd.TheVariants as end
+use Rattle.merge_service.specs.declared.ends.MergeFault.{MergeFault}
+use Rattle.merge_service.specs.declared.ends.MergeFault.TheVariants as met
+
+-- how many lines were merged
+abbrev pub merged_text : ℕ → List ℕ
+merged_text lines = codes "merged " ++ decimal lines ++ codes "\n"
+
+-- the settings, the line that ends them, and the journal of a merge
+abbrev pub journal_after : List ℕ → List (Event × Effect) → List ℕ
+journal_after head told = (head ++ codes "---\n") ++ history_text told
+
+-- What is written of a merge: the number of lines if the journals are only judged, else the journal.
+abbrev pub WritesMerge : Bool → List ℕ → List (Event × Effect) → Option (List ℕ) → Option (List ℕ) → Type 0
+WritesMerge true head told old new = (lines : ℕ) × Appends old new (merged_text lines)
+WritesMerge false head told old new = Appends old new (journal_after head told)
+
+-- What comes of journals that are merged from a world. Merged: the texts have lines, these have a merge, and it was
+-- written. Stuck: whatever lines the texts have, they have no merge.
+abbrev pub Merges : Bool → List ℕ → ExactWorld → List Pending → Option (List ℕ) → Option (List ℕ) → Result MergeEnd MergeFault → Type 0
+Merges judged head w pending old new (Ok end.Merged) =
+    (journals : Journals) × (told : List (Event × Effect)) × AreLeft (Unit {0}) pending journals × IsMerged w journals told × HasMerge w journals × WritesMerge judged head told old new
+Merges judged head w pending old new (Ok end.Stuck) = (journals : Journals) → AreLeft ⊥ pending journals → HasMerge w journals → ⊥
+Merges judged head w pending old new (Ok end.Refused) = ⊥
+Merges judged head w pending old new (Err f) = Unit {0}
+
+-- what comes of a merge whose settings are refused, by what came of writing that
+abbrev pub refused_of : Result ℕ ServeFault → Result MergeEnd MergeFault
+refused_of (Ok status) = Ok end.Refused
+refused_of (Err f) = Err (met.Serve f)
+
+-- The settings were refused, which was written, or could not be.
+abbrev pub RefusesSettings : SettingsFault → Option (List ℕ) → Option (List ℕ) → Result MergeEnd MergeFault → Type 0
+RefusesSettings e old new r = (came : Result ℕ ServeFault) × (r ≡ refused_of came) × Prints (refusal_output e) old new came
+
+-- The reader failed, and nothing was written.
+abbrev pub EndsUnread : Option (List ℕ) → Option (List ℕ) → Result MergeEnd MergeFault → Type 0
+EndsUnread old new r = (r ≡ Err (met.Serve serving.Read)) × (new ≡ old)
+
+-- What comes of journals that are merged by settings, or by a text of settings.
+abbrev pub MergesBy : Bool → List ℕ → Result Given SettingsFault → List Pending → Option (List ℕ) → Option (List ℕ) → Result MergeEnd MergeFault → Type 0
+MergesBy judged head (Err e) pending old new r = RefusesSettings e old new r
+MergesBy judged head (Ok g) pending old new r = Merges judged head (all_down g.settings) pending old new r
+
+abbrev pub MergesHead : Bool → List ℕ → List Pending → Option (List ℕ) → Option (List ℕ) → Result MergeEnd MergeFault → Type 0
+MergesHead judged head pending old new r = MergesBy judged head (settings_of command.Audit head) pending old new r ⊎ RefusesSettings settings.Memory old new r
+
+abbrev pub MergesBehind : Bool → Result (List ℕ × List (List ℕ)) SettingsFault → List Pending → Option (List ℕ) → Option (List ℕ) → Result MergeEnd MergeFault → Type 0
+MergesBehind judged (Err e) pending old new r = RefusesSettings e old new r
+MergesBehind judged (Ok parts) pending old new r = MergesHead judged parts.0 pending old new r
+
+-- What comes of journals that are merged by known bytes: by the settings before the line of dashes, whatever is after
+-- it. If there was no memory for the settings, the line that says so is written.
+abbrev pub ServesMerge : Bool → Option (List ℕ) → List Pending → Option (List ℕ) → Option (List ℕ) → Result MergeEnd MergeFault → Type 0
+ServesMerge judged None pending old new r = Unit {0}
+ServesMerge judged (Some input) pending old new r =
+    MergesBehind judged (head_of (pieces input)) pending old new r ⊎ (RefusesSettings settings.Memory old new r ⊎ EndsUnread old new r)
+
+-- the status after a fault of a journal: 2 if a journal has to be mended
+abbrev pub failure_status : JournalsFault → ℕ
+failure_status fault.NoActor = 2
+failure_status fault.SameActor = 2
+failure_status fault.NoLine = 2
+failure_status fault.OtherActor = 2
+failure_status fault.Read = 2
+failure_status fault.Full = 1
+failure_status fault.Write = 1
+failure_status fault.Memory = 1
+failure_status fault.TooManyLines = 1
+
+abbrev pub merge_status : Result MergeEnd MergeFault → ℕ
+merge_status (Ok end.Merged) = 0
+merge_status (Ok end.Stuck) = 1
+merge_status (Ok end.Refused) = 2
+merge_status (Err (met.Serve f)) = 1
+merge_status (Err (met.Journals f)) = failure_status f.fault
+
+-- Journals in files, so many, were merged, and the status says what came of it.
+abbrev pub MergesFiles : Bool → ℕ → Option (List ℕ) → Writers → Ended → Type 0
+MergesFiles judged count input w e =
+    (pending : List Pending) × (came : Result MergeEnd MergeFault) × (length pending ≡ count) × ServesMerge judged input pending w.old w.new came × (e.status ≡ merge_status came)
+
+-- A file could not be opened, or is no journal that could be added. Then nothing is written.
+abbrev pub LacksFile : Writers → Ended → Type 0
+LacksFile w e = (f : Failure) × Keeps w.old w.new × (e.status ≡ failure_status f.fault)
+
+abbrev pub RunsMerge : Bool → ℕ → Option (List ℕ) → Writers → Ended → Type 0
+RunsMerge judged count input w e = MergesFiles judged count input w e ⊎ LacksFile w e
