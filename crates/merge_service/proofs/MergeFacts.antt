@@ -1,5 +1,5 @@
 -- From what is found of journals to what is written.
-use Rattle.std.proofs.Common.{◌≡◌, inl, inr, ℕ, Bool, true, false, Vec, List, ◌++◌, Option, Some, None, Result, Ok, Err, codes, refl, sym, subst}
+use Rattle.std.proofs.Common.{◌≡◌, inl, inr, ℕ, Bool, true, false, Vec, List, ◌++◌, Option, Some, None, Result, Ok, Err, codes, sym, subst}
 use Rattle.std.specs.Global.{Global}
 use Rattle.std.specs.Io.KnownBytes.{Appends}
 use Rattle.std.proofs.KnownBytes.{Appends-trans}
@@ -8,9 +8,8 @@ use Rattle.journal_text.specs.Journals.{history_text}
 use Rattle.journal_merger.specs.Merges.{Finds}
 use Rattle.journal_merger.specs.Pendings.{Pending}
 use Rattle.journal_merger.specs.declared.merging.Outcome.TheVariants as outcome
-use Rattle.line_streams.specs.Streams.{pieces, lines_in}
+use Rattle.line_streams.specs.Streams.{pieces}
 use Rattle.operator_cli.specs.declared.faults.ServeFault.{ServeFault}
-use Rattle.operator_cli.specs.declared.faults.ServeFault.TheVariants as serving
 use Rattle.operator_cli.specs.declared.faults.SettingsFault.{SettingsFault}
 use Rattle.operator_cli.specs.declared.faults.SettingsFault.TheVariants as settings
 use Rattle.operator_cli.specs.declared.heads.StartFault.{StartFault}
@@ -23,7 +22,6 @@ use Rattle.operator_cli.specs.PartOutputs.{FindsHead, RefusesStart}
 use Rattle.merge_service.specs.declared.ends.MergeEnd.{MergeEnd}
 use Rattle.merge_service.specs.declared.ends.MergeEnd.TheVariants as end
 use Rattle.merge_service.specs.declared.ends.MergeFault.{MergeFault}
-use Rattle.merge_service.specs.declared.ends.MergeFault.TheVariants as met
 use Rattle.merge_service.specs.Merging.{merged_text, refused_of, Merges, MergesBy, MergesHead, MergesBehind, RefusesSettings, ServesMerge}
 
 abbrev Out : Type 0

@@ -1,5 +1,4 @@
-use Rattle.operator_cli.specs.Settings.{given}
-use Rattle.merge_service.proofs.MergeFacts.{by_settings, settings_refused}
+use Rattle.merge_service.proofs.MergeFacts.{settings_refused}
 use Rattle.merge_service.proofs.serving.merge_head.Goals as goal
 
 pub returns-in-Err : goal.returns-in-Err
