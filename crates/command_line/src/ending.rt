@@ -130,7 +130,7 @@ where
     requires records_first { map (λ r. finds (r.vtable, r.value)) supplies.records.first.items ≡ replicate MAX_NODES (empty_node First) }
     requires records_second { map (λ r. finds (r.vtable, r.value)) supplies.records.second.items ≡ replicate MAX_NODES (empty_node Second) }
     requires records_clients { map (λ r. finds (r.vtable, r.value)) supplies.records.clients.items ≡ replicate MAX_CLIENTS empty_client }
-    ensures { RunsRequest request (R.remaining reader) (record { old = W.contents output.old; new = W.contents output.new; errors_old = E.contents errors.old; errors_new = E.contents errors.new }) result }
+    ensures { RunsRequest request.entry (R.remaining reader) (record { old = W.contents output.old; new = W.contents output.new; errors_old = E.contents errors.old; errors_new = E.contents errors.new }) result }
 {
     match request {
         Request::Serve(asked) => {
