@@ -25,28 +25,34 @@ enum Sort {
     Record,
 }
 
-/// Why this line is left.
+/// Why this line is left. If nothing was tried, 611 says that a life did not find the kept record.
 fn sort_of(left: &LineLeft<'_>) -> Sort {
+    match (left.refusal, left.line) {
+        (None, _) => Sort::Unsaid,
+        (Some(Refusal::OtherRecord), _) => Sort::Record,
+        (Some(Refusal::Step(_)), OwnLine::Life(_, _)) => Sort::Record,
+        (Some(Refusal::Step(_)), _) => Sort::Event,
+        (Some(Refusal::OtherActor), _) => Sort::Event,
+    }
+}
+
+/// Says why the actor refuses the event.
+fn say_refusal<E: Write>(left: &LineLeft<'_>, errors: &mut E) -> bool {
     match left.refusal {
-        None => Sort::Unsaid,
-        Some(Refusal::OtherActor) => Sort::Event,
-        Some(Refusal::Step(_)) => Sort::Event,
-        Some(Refusal::OtherRecord) => Sort::Record,
+        Some(Refusal::Step(fault)) => {
+            let number = fault.number();
+            writeln!(errors, "refused {number}").is_ok()
+        }
+        _ => writeln!(errors, "a line of another actor").is_ok(),
     }
 }
 
 /// Says a reason.
 fn say_why<E: Write>(left: &LineLeft<'_>, errors: &mut E) -> bool {
-    match left.refusal {
-        None => writeln!(errors, "nobody said this message").is_ok(),
-        Some(Refusal::OtherActor) => writeln!(errors, "a line of another actor").is_ok(),
-        Some(Refusal::OtherRecord) => {
-            writeln!(errors, "neither the kept record nor the tried one").is_ok()
-        }
-        Some(Refusal::Step(fault)) => {
-            let number = fault.number();
-            writeln!(errors, "refused {number}").is_ok()
-        }
+    match sort_of(left) {
+        Sort::Unsaid => writeln!(errors, "nobody said this message").is_ok(),
+        Sort::Record => writeln!(errors, "neither the kept record nor the tried one").is_ok(),
+        Sort::Event => say_refusal(left, errors),
     }
 }
 
