@@ -1,5 +1,6 @@
-use Rattle.std.proofs.Common.{List, ◌++◌, replicate, sym, ap, subst, ◌∙◌}
+use Rattle.std.proofs.Common.{List, ◌++◌, replicate, refl, sym, ap, subst, ◌∙◌}
 use Rattle.event_lines.specs.declared.wishes.Wish.{Wish}
+use Rattle.lock_model.specs.Ballots.{node_count}
 use Rattle.lock_model.specs.declared.problems.Problem.TheVariants.{First}
 use Rattle.operator_cli.specs.declared.settings.Settings.{Settings}
 use Rattle.operator_cli.specs.Settings.{AreAmong}
@@ -10,8 +11,8 @@ use Rattle.run_tests.proofs.rows.end_of.Goals as goal
 pub run_all-requires-clause-may : goal.run_all-requires-clause-may
 run_all-requires-clause-may g c κs within =
     let s : Settings = record { ballots = c.args.ballots; problem = First; clients = c.args.row.now.clients } in
-    may_run s c.in_ok-world.world c.nodes.result _ _ c.in_ok-world.ensures c.nodes.ensures.nodes c.in_ok-pairs.ensures
-    (c.in_ok-records.ensures ∙ ap (λ n. replicate n (empty_node First) ++ replicate c.args.row.now.clients empty_client) (c.requires.devices ∙ sym c.nodes.ensures.nodes))
+    may_run s c.in_ok-world.world (node_count c.args.ballots) _ _ c.in_ok-world.ensures refl c.requires.policies
+    (c.in_ok-records.ensures ∙ ap (λ n. replicate n (empty_node First) ++ replicate c.args.row.now.clients empty_client) c.requires.devices)
 
 pub run_all-requires-clause-theirs : goal.run_all-requires-clause-theirs
 run_all-requires-clause-theirs g c κs within =
