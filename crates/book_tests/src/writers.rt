@@ -74,7 +74,7 @@ fn short_journal(rt: HostRuntime) -> Outcome {
 }
 
 #[test]
-fn journal_of_five_parts(rt: HostRuntime) -> Outcome {
-    let rooms = [0, 1, 8_191, 8_192, 8_193, 39_999, 40_000];
+fn journal_of_ten_parts(rt: HostRuntime) -> Outcome {
+    let rooms = [0, 1, 4_095, 4_096, 4_097, 39_999, 40_000];
     fits_or_not(rt.alloc(), &[Turn::Rises(2_000)], 40_000, &rooms)
 }

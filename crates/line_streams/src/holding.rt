@@ -12,7 +12,7 @@ use std::io::{Error, ErrorKind, Read};
 use std::marker::Model;
 
 /// The most bytes that are read ahead: so many a read may give.
-pub const MAX_AHEAD: usize = 8_192;
+pub const MAX_AHEAD: usize = 4_096;
 
 /// Bytes that were read and are still to be given, and how often the reader may be asked yet. The
 /// reader is passed beside them, the same one at each call.

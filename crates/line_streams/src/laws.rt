@@ -12,9 +12,9 @@ pub fn fed_lines_come_first()
 {}
 
 /// The limits by number: at most 600,000,000 reads, and as many tries of writing one text; and at most
-/// 8,192 bytes that are read ahead, and as many that are gathered.
+/// 4,096 bytes that are read ahead, and as many that are gathered.
 pub fn limits()
     ensures reads { MAX_READS ≡ 600000000 }
-    ensures ahead { MAX_AHEAD ≡ 8192 }
-    ensures gathered { MAX_GATHERED ≡ 8192 }
+    ensures ahead { MAX_AHEAD ≡ 4096 }
+    ensures gathered { MAX_GATHERED ≡ 4096 }
 {}

@@ -12,7 +12,7 @@ use std::io::{Error, ErrorKind, Write};
 use std::marker::Model;
 
 /// How many bytes are gathered at most.
-pub const MAX_GATHERED: usize = 8_192;
+pub const MAX_GATHERED: usize = 4_096;
 
 /// Bytes that are to be written. They are passed a writer where some may be written, the same one at
 /// each call.
