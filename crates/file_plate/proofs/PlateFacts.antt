@@ -10,7 +10,7 @@ use Rattle.slot_record.specs.MemoryPlates as plates
 use Rattle.slot_record.specs.MemoryLaws.{length_of_put, length_of_content, seen_may_be_left}
 use Rattle.file_plate.specs.Media.{MediumCall, Took, WriteFailed, Synced, SyncFailed}
 use Rattle.file_plate.specs.FilePlates.{OnFile, plate_call, file_state, image_of, model_of, Asks}
-use Rattle.file_plate.proofs.PutFacts.{put_writes}
+use Rattle.slot_record.specs.PutLaws.{put_writes}
 
 pub synced_leaves : {T E : Type 0} (p q : OnFile) (result : Result T E) → Asks Synced SyncFailed p result q → NothingNew (file_state p) (file_state q)
 synced_leaves p q result (inl was) =

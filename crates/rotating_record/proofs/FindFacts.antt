@@ -10,7 +10,7 @@ use Rattle.rotating_record.specs.declared.slots.TheConstants.{MARK}
 use Rattle.rotating_record.specs.declared.heads.Head.{Head}
 use Rattle.rotating_record.specs.Slots.{start_of, mark_on, head_on, body_of, has_record, holder}
 use Rattle.rotating_record.specs.Finding.{found_in, chosen, IsLookedUp}
-use Rattle.rotating_record.proofs.ImageFacts.{part-part, get_or-part}
+use Rattle.slot_record.specs.ImageLaws.{part-part, get_or-part}
 use Rattle.rotating_record.proofs.SlotFacts.{heads_same}
 
 -- a head by its gate and its numbers

@@ -9,7 +9,7 @@ use Rattle.slot_record.specs.Plates.{PlateState, IsPlate, LeavesOnly}
 use Rattle.rotating_record.specs.Slots.{after, body_of}
 use Rattle.rotating_record.specs.Records.{FindsAmong, IsFound, bodies_on}
 use Rattle.rotating_record.specs.Keeping.{Stays}
-use Rattle.rotating_record.proofs.Moments.{weakened, chained}
+use Rattle.slot_record.specs.Moments.{weakened, chained}
 
 -- two facts of a call that was done
 pub both_ok : {T E : Type 0} (r : Result T E) (P Q R : Type 0) → OnOk r P → OnOk r Q → (P → Q → R) → OnOk r R

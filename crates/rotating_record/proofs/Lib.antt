@@ -1,5 +1,3 @@
-mod ImageFacts
-mod Moments
 mod SlotFacts
 mod StepFacts
 mod KeepFacts

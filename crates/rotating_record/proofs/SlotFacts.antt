@@ -14,7 +14,7 @@ use Rattle.rotating_record.specs.declared.slots.Slot.TheVariants.{First, Second,
 use Rattle.rotating_record.specs.declared.slots.TheConstants.{MARK}
 use Rattle.rotating_record.specs.declared.heads.Head.{Head}
 use Rattle.rotating_record.specs.Slots.{start_of, after, mark_on, head_on, body_of, counts, has_record, holder, holder_on, found_on, numbers_of}
-use Rattle.rotating_record.proofs.ImageFacts.{part_before, part_behind, index_before, index_behind, part-part, get_or-part}
+use Rattle.slot_record.specs.ImageLaws.{part_before, part_behind, index_before, index_behind, part-part, get_or-part}
 
 -- a slot is the same in two images
 pub record SameSlot (slot : Slot) (old new : Image) : Type 0 where

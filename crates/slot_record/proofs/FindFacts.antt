@@ -11,7 +11,7 @@ use Rattle.slot_record.specs.Images.{Image, part}
 use Rattle.slot_record.specs.Plates.{PlateState, Only}
 use Rattle.slot_record.specs.Slots.{start_of, head_on, body_of, rank}
 use Rattle.slot_record.specs.Finding.{found_in, chosen, IsLookedUp}
-use Rattle.slot_record.proofs.ImageFacts.{part-part, get_or-part}
+use Rattle.slot_record.specs.ImageLaws.{part-part, get_or-part}
 use Rattle.slot_record.proofs.SlotFacts.{heads_same}
 
 -- a head by its bytes

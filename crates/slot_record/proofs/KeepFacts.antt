@@ -8,7 +8,7 @@ use Rattle.slot_record.specs.Plates.{PlateState, IsPlate, LeavesOnly}
 use Rattle.slot_record.specs.Slots.{other_of, body_of}
 use Rattle.slot_record.specs.Records.{FindsAmong, IsFound, bodies_on}
 use Rattle.slot_record.specs.Keeping.{Stays}
-use Rattle.slot_record.proofs.Moments.{weakened, chained}
+use Rattle.slot_record.specs.Moments.{weakened, chained}
 
 -- two facts of a call that was done
 pub both_ok : {T E : Type 0} (r : Result T E) (P Q R : Type 0) → OnOk r P → OnOk r Q → (P → Q → R) → OnOk r R

@@ -1,6 +1,4 @@
-mod ImageFacts
 mod SlotFacts
-mod Moments
 mod StepFacts
 mod FindFacts
 mod EntryFacts

@@ -12,7 +12,7 @@ use Rattle.slot_record.specs.declared.slots.TheConstants.{SLOT_LEN, OPEN, MAX_SE
 use Rattle.slot_record.specs.declared.heads.Head.{Head}
 use Rattle.slot_record.specs.Images.{Image, part, DiffersWithin, IsWritten}
 use Rattle.slot_record.specs.Slots.{start_of, other_of, head_on, body_of, rank, holder, holder_on, found_on, entry_of}
-use Rattle.slot_record.proofs.ImageFacts.{part_before, part_behind, index_before, index_behind, part-part, get_or-part}
+use Rattle.slot_record.specs.ImageLaws.{part_before, part_behind, index_before, index_behind, part-part, get_or-part}
 
 -- a slot is the same in two images
 pub record SameSlot (slot : Slot) (old new : Image) : Type 0 where

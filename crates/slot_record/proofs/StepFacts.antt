@@ -13,7 +13,7 @@ use Rattle.slot_record.specs.Slots.{start_of, other_of, head_on, body_of, rank, 
 use Rattle.slot_record.specs.Records.{FindsAmong, IsSettled, bodies_on}
 use Rattle.slot_record.specs.Keeping.{IsClosed, IsWaiting, Stays, next_of}
 use Rattle.slot_record.proofs.SlotFacts.{SameSlot, elsewhere, gate_sequence, gate_length, gate_body, written_gate, entry_gate, length-entry_of, entry_sequence, entry_length, entry_body, counted, rank_closed, rank_open, rank_same, holds, holder_greater, holder_less, holder_stays, found_there, other_other}
-use Rattle.slot_record.proofs.Moments.{weakened}
+use Rattle.slot_record.specs.Moments.{weakened}
 
 -- the slot is the same, and still has the record
 pub record StillHolds (own : Slot) (old new : Image) : Type 0 where

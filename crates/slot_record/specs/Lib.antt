@@ -1,5 +1,7 @@
 pub mod Images
+pub mod ImageLaws
 pub mod Plates
+pub mod Moments
 pub mod Slots
 pub mod Faults
 pub mod Records
@@ -8,3 +10,4 @@ pub mod Finding
 pub mod Formatting
 pub mod MemoryPlates
 pub mod MemoryLaws
+pub mod PutLaws

@@ -1,6 +1,6 @@
 use Rattle.std.proofs.Common.{ℕ, ◌≡◌, ◌+◌, ◌-◌, ◌∙◌, ap, sym, length, take, drop, arith, replicate, length-drop}
 use Rattle.std.proofs.lemmas.List.{length-replicate, length-take}
-use Rattle.slot_record.proofs.PutFacts.{put_mid-put}
+use Rattle.slot_record.specs.PutLaws.{put_mid-put}
 use Rattle.slot_record.proofs.memory_plates.fill_range.Goals as goal
 
 pub returns : goal.returns

@@ -1,5 +1,5 @@
 use Rattle.std.proofs.Common.{length, refl}
-use Rattle.slot_record.proofs.PutFacts.{put_mid-put}
+use Rattle.slot_record.specs.PutLaws.{put_mid-put}
 use Rattle.slot_record.proofs.memory_plates.overwrite.Goals as goal
 
 pub returns : goal.returns

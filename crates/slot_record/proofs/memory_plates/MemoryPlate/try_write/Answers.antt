@@ -2,7 +2,7 @@ use Rattle.std.proofs.Common.{◌≡◌, ◌∷◌, List, ℕ, length, drop, map
 use Rattle.std.proofs.lemmas.List.{take_at}
 use Rattle.slot_record.specs.MemoryPlates.{Written, call_of, put}
 use Rattle.slot_record.specs.MemoryLaws.{length_of_put}
-use Rattle.slot_record.proofs.PutFacts.{memory_written}
+use Rattle.slot_record.specs.PutLaws.{memory_written}
 use Rattle.slot_record.proofs.memory_plates.MemoryPlate.try_write.Goals as goal
 
 pub invariant_of-self-2 : goal.invariant_of-self-2

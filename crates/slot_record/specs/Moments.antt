@@ -1,4 +1,4 @@
--- How work on a plate goes on from call to call.
+-- How work on a plate goes on from call to call. Nothing here has to be believed: each line is proved from `Plates`.
 use Rattle.std.proofs.Common.{ℕ, inl, inr, ⊎_elim, arith}
 use Rattle.slot_record.specs.Images.{Image, DiffersWithin}
 use Rattle.slot_record.specs.Plates.{PlateState, IsPlate, LeavesOnly, Tears, NothingNew, GoesOn}

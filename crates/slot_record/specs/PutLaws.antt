@@ -1,4 +1,5 @@
--- What is put into an image.
+-- What follows of bytes that are put into an image. Nothing here has to be believed: each line is proved from
+-- `MemoryPlates`.
 use Rattle.std.proofs.Common.{◌≡◌, ℕ, zero, suc, ◌+◌, ◌-◌, ◌≤◌, List, [], ◌∷◌, ◌++◌, length, take, drop, refl, sym, ◌∙◌, ap, subst, arith}
 use borrow.Rule.Slice.PartMut.{put_mid}
 use Rattle.slot_record.specs.Images.{Image, part, IsWritten}

@@ -1,4 +1,5 @@
--- Parts of images, and what differs outside a range.
+-- What follows of parts of images, and of images that differ within a range. Nothing here has to be believed: each
+-- line is proved from `Images`.
 use Rattle.std.proofs.Common.{◌≡◌, ℕ, ◌+◌, ◌-◌, ◌<◌, ◌≤◌, get_or, take, drop, sym, ◌∙◌, ap, arith, get_or-take, get_or-drop}
 use Rattle.std.proofs.lemmas.List.{take-take, drop-take, drop-drop}
 use Rattle.slot_record.specs.Images.{Image, part, DiffersWithin}
