@@ -1,20 +1,16 @@
 -- What the two steps of a keep make together.
 use Rattle.std.specs.Result.{is_err}
-use Rattle.std.proofs.Common.{◌≡◌, false, inl, ⊎_elim, ℕ, List, [], ◌∷◌, Result, Ok, Err, OnOk, sym, ◌∙◌, subst}
+use Rattle.std.proofs.Common.{◌≡◌, false, ℕ, List, [], ◌∷◌, Result, Ok, Err, OnOk, ◌∙◌, subst}
 use Rattle.rotating_record.specs.declared.slots.Slot.{Slot}
-use Rattle.rotating_record.specs.declared.standing.Standing.{Standing}
-use Rattle.rotating_record.specs.declared.standing.Standing.TheVariants.{Failed, Either}
+use Rattle.slot_record.specs.declared.standing.Standing.{Standing}
+use Rattle.slot_record.specs.declared.standing.Standing.TheVariants.{Failed, Either}
 use Rattle.slot_record.specs.Images.{Image}
 use Rattle.slot_record.specs.Plates.{PlateState, IsPlate, LeavesOnly}
-use Rattle.rotating_record.specs.Slots.{after, body_of}
+use Rattle.rotating_record.specs.Slots.{after, body_of, record_on}
 use Rattle.rotating_record.specs.Records.{FindsAmong, IsFound, bodies_on}
 use Rattle.rotating_record.specs.Keeping.{Stays}
 use Rattle.slot_record.specs.Moments.{weakened, chained}
-
--- two facts of a call that was done
-pub both_ok : {T E : Type 0} (r : Result T E) (P Q R : Type 0) → OnOk r P → OnOk r Q → (P → Q → R) → OnOk r R
-both_ok (Ok t) P Q R p q f = f p q
-both_ok (Err e) P Q R p q f = tt
+use Rattle.slot_record.specs.KeepLaws.{stays_bodies, stays_found, first_of, second_of, among_both}
 
 -- a fact of a call that gave no error
 pub of_done : {T E : Type 0} (r : Result T E) (P : Type 0) → OnOk r P → is_err r ≡ false → P
@@ -22,31 +18,18 @@ of_done (Ok t) P p done = p
 of_done (Err e) P p done = absurd cc
 
 module _ (standing : Standing) (own : Slot) (old new : PlateState) (sound : IsPlate new) (stays : Stays standing own old new) where
-  pub stays_bodies : bodies_on standing own new.seen ≡ bodies_on standing own old.seen
-  stays_bodies = stays.same new.seen sound.seen_may_be_left
+  pub kept_bodies : bodies_on standing own new.seen ≡ bodies_on standing own old.seen
+  kept_bodies = stays_bodies record_on (bodies_on standing own) old new sound stays
 
-  pub stays_found : IsFound new standing own
-  stays_found = record {
-    finds = λ c left. subst (λ (xs : List (List ℕ)). FindsAmong xs c) (sym stays_bodies) (stays.moments.now c left);
-    same = λ c left. stays.same c left ∙ sym stays_bodies;
-  }
-
-first_of : (a b : List ℕ) → (let xs : List (List ℕ) = a ∷ [] in let ys : List (List ℕ) = b ∷ [] in xs ≡ ys) → a ≡ b
-first_of a b e = cc
-
-second_of : (a b c d : List ℕ) → (let xs : List (List ℕ) = a ∷ b ∷ [] in let ys : List (List ℕ) = c ∷ d ∷ [] in xs ≡ ys) → b ≡ d
-second_of a b c d e = cc
-
--- the body of the slot that has the record is found among it and another one
-among_both : (b t : List ℕ) (c : Image) → FindsAmong (b ∷ []) c → FindsAmong (b ∷ t ∷ []) c
-among_both b t c found = (found.0, found.1, ⊎_elim (λ e. inl e) (λ none. absurd none) found.2)
+  pub kept_found : IsFound new standing own
+  kept_found = stays_found record_on (bodies_on standing own) old new sound stays
 
 module _ (own : Slot) (bytes : List ℕ) (s q p : PlateState) where
   pub prepared_moments : Stays Failed own s q → LeavesOnly s q (FindsAmong (body_of own s.seen ∷ bytes ∷ []))
-  prepared_moments one = weakened s q (FindsAmong (body_of own s.seen ∷ [])) (FindsAmong (body_of own s.seen ∷ bytes ∷ [])) one.moments (among_both (body_of own s.seen) bytes)
+  prepared_moments one = weakened s q (FindsAmong (body_of own s.seen ∷ [])) (FindsAmong (body_of own s.seen ∷ bytes ∷ [])) one.moments (among_both record_on (body_of own s.seen) bytes)
 
   pub body_kept : IsPlate q → Stays Failed own s q → body_of own q.seen ≡ body_of own s.seen
-  body_kept sound one = first_of (body_of own q.seen) (body_of own s.seen) (stays_bodies Failed own s q sound one)
+  body_kept sound one = first_of (body_of own q.seen) (body_of own s.seen) (kept_bodies Failed own s q sound one)
 
   pub bodies_both : IsPlate q → Stays Failed own s q → body_of (after own) q.seen ≡ bytes → bodies_on Either own q.seen ≡ body_of own s.seen ∷ bytes ∷ []
   bodies_both sound one behind = λ i. body_kept sound one i ∷ behind i ∷ []
@@ -59,4 +42,4 @@ module _ (own : Slot) (bytes : List ℕ) (s q p : PlateState) where
 
   pub opened_body : IsPlate p → body_of (after own) q.seen ≡ bytes → Stays Either own q p → body_of (after own) p.seen ≡ bytes
   opened_body sound behind two =
-      second_of (body_of own p.seen) (body_of (after own) p.seen) (body_of own q.seen) (body_of (after own) q.seen) (stays_bodies Either own q p sound two) ∙ behind
+      second_of (body_of own p.seen) (body_of (after own) p.seen) (body_of own q.seen) (body_of (after own) q.seen) (kept_bodies Either own q p sound two) ∙ behind

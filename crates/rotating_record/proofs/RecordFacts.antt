@@ -5,7 +5,7 @@ use Rattle.slot_record.specs.Images.{Image}
 use Rattle.slot_record.specs.Plates.{PlateState}
 use Rattle.rotating_record.specs.declared.slots.Slot.{Slot}
 use Rattle.rotating_record.specs.declared.slots.TheConstants.{ROTATING_PLATE_LEN}
-use Rattle.rotating_record.specs.declared.standing.Standing.TheVariants.{Settled}
+use Rattle.slot_record.specs.declared.standing.Standing.TheVariants.{Settled}
 use Rattle.rotating_record.specs.declared.standing.Known.{Known}
 use Rattle.rotating_record.specs.Slots.{head_on, body_of, record_on}
 use Rattle.rotating_record.specs.Records.{IsSettled, IsFound, IsOnPlate}

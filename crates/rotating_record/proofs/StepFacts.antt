@@ -7,7 +7,7 @@ use Rattle.slot_record.specs.Images.{Image, DiffersWithin, IsWritten}
 use Rattle.slot_record.specs.Plates.{PlateState, IsPlate, Only, LeavesOnly, Tears, NothingNew, GoesOn}
 use Rattle.rotating_record.specs.declared.slots.Slot.{Slot}
 use Rattle.rotating_record.specs.declared.slots.Slot.TheVariants.{First, Second, Third}
-use Rattle.rotating_record.specs.declared.standing.Standing.TheVariants.{Failed, Either}
+use Rattle.slot_record.specs.declared.standing.Standing.TheVariants.{Failed, Either}
 use Rattle.rotating_record.specs.declared.standing.Known.{Known}
 use Rattle.rotating_record.specs.declared.heads.Head.{Head}
 use Rattle.rotating_record.specs.Slots.{start_of, after, mark_on, head_on, body_of, counts, holder_on, found_on, numbers_of}

@@ -1,13 +1,15 @@
 -- What is read of the slots.
-use Rattle.std.specs.Prelude.{◌≡◌, ℕ, ◌==◌, if◌then◌else◌, Option, Some, None, MatchOption}
+use Rattle.std.specs.Prelude.{◌≡◌, ℕ, List, ◌==◌, if◌then◌else◌, Option, Some, None, MatchOption}
 use Rattle.slot_record.specs.Plates.{PlateState}
 use Rattle.rotating_record.specs.declared.slots.Slot.{Slot}
 use Rattle.rotating_record.specs.declared.slots.Slot.TheVariants.{First, Second, Third}
 use Rattle.rotating_record.specs.declared.slots.TheConstants.{MARK}
 use Rattle.rotating_record.specs.declared.heads.Head.{Head}
 use Rattle.rotating_record.specs.declared.finding.Found.{Found}
+use Rattle.rotating_record.specs.declared.standing.Known.{Known}
 use Rattle.rotating_record.specs.Slots.{has_record, head_on, holder_on}
 use Rattle.rotating_record.specs.Records.{IsSettled}
+use Rattle.rotating_record.specs.Keeping.{IsKept}
 
 -- what is known where this slot has the record
 abbrev pub found_in : Slot → Head → Found
@@ -27,3 +29,7 @@ abbrev pub IsLookedUp : PlateState → Option Found → Type 0
 IsLookedUp s found =
     MatchOption found (holder_on s.seen ≡ None)
     (λ f. IsSettled s f.known × (f.length ≡ (head_on f.known.own s.seen).length))
+
+-- the record was found with its body, or no slot has it
+abbrev pub IsSearched : PlateState → Option Known → List ℕ → Type 0
+IsSearched s found body = MatchOption found (holder_on s.seen ≡ None) (λ known. IsKept s known body)

@@ -1,10 +1,11 @@
 // Finding a record: a sync, the mark, the three heads, and the body.
 
-ghost use Rattle.std.specs.Prelude.{◌≡◌, ◌≤◌, None, Some, length, take, OnOk, IfOk, IfSome, IfNone};
+ghost use Rattle.std.specs.Prelude.{◌≡◌, ◌≤◌, Some, length, take, OnOk, IfOk};
 ghost use Rattle.stable_record.specs.declared.formats.TheConstants.{MAX_RECORD_LEN as MOST};
 ghost use Rattle.slot_record.specs.Plates.{Only, LeavesOnly, Called};
-ghost use Rattle.rotating_record.specs.Slots.{mark_on, holder_on, body_of};
+ghost use Rattle.rotating_record.specs.Slots.{mark_on, body_of};
 ghost use Rattle.rotating_record.specs.Records.{IsSettled};
+ghost use Rattle.rotating_record.specs.Finding.{IsSearched};
 
 use crate::heads::Head;
 use crate::slots::{BODY_AT, MARK, ROTATING_PLATE_LEN, Slot};
@@ -103,9 +104,7 @@ impl Found {
 pub(crate) fn find<P: Plate>(plate: &mut P, body: &mut Vec<u8>) -> Result<Option<Known>, PlateFault>
     requires room { ROTATING_PLATE_LEN ≤ (P.state plate.old).size }
     requires body { length body.old.items ≡ MOST }
-    ensures none { IfOk result (λ known. IfNone known (holder_on (P.state plate.new).seen ≡ None)) }
-    ensures found { IfOk result (λ known. IfSome known (λ k. IsSettled (P.state plate.new) k)) }
-    ensures body { IfOk result (λ known. IfSome known (λ k. body.new.items ≡ body_of k.own (P.state plate.new).seen)) }
+    ensures found { IfOk result (λ found. IsSearched (P.state plate.new) found body.new.items) }
     ensures synced { OnOk result (Only (P.state plate.new).seen (P.state plate.new)) }
     ensures moments { LeavesOnly (P.state plate.old) (P.state plate.new) (P.state plate.old).may_leave }
     ensures called { Called (P.state plate.old) (P.state plate.new) result }

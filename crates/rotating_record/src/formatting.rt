@@ -8,10 +8,9 @@ ghost use Rattle.rotating_record.specs.Records.{IsSettled};
 ghost use Rattle.rotating_record.specs.Formatting.{IsEmpty};
 
 use crate::heads::Head;
-use crate::keeping::store;
 use crate::slots::{BODY_AT, MARK, NUMBERS_AT, ROTATING_PLATE_LEN, Slot};
 use crate::standing::Known;
-use slot_record::{CLOSED, OPEN, Plate, PlateFault};
+use slot_record::{CLOSED, OPEN, Plate, PlateFault, store};
 
 /// Writes the mark and closes the three gates: five calls.
 fn close_all<P: Plate>(plate: &mut P) -> Result<(), PlateFault>

@@ -1,21 +1,21 @@
 // Records in three slots of a plate.
 
-ghost use Rattle.std.specs.Prelude.{◌≡◌, ◌↔◌, ◌⊎◌, ℕ, ◌+◌, ◌<◌, ◌≤◌, true, false, [], ◌∷◌, ◌++◌, length, Some, None, Ok, Err, OnOk, IfOk, IfErr};
-ghost use Rattle.lock_model.specs.Decisions.{Among};
-ghost use Rattle.stable_record.specs.Finding.{Counts, FindsOnly, FindsOnlyOr, IsOneOrTwo, IsReopenFault};
+ghost use Rattle.std.specs.Prelude.{◌≡◌, ◌↔◌, ◌⊎◌, ◌+◌, ◌<◌, ◌≤◌, [], ◌∷◌, ◌++◌, length, Some, Err, OnOk, IfOk, IfErr};
+ghost use Rattle.stable_record.specs.Finding.{IsOneOrTwo};
 ghost use Rattle.slot_record.specs.Images.{Image};
 ghost use Rattle.slot_record.specs.Plates.{FailedOnce, LeavesOnly};
-ghost use Rattle.rotating_record.specs.Slots.{record_on};
+ghost use Rattle.slot_record.specs.Promises.{HasJust, Opens, FailsToOpen, FindsSome, RefusesToKeep, FailsToKeep, FailsOnceAtMost, LeavesAsBefore, Reopens, FailsToReopen};
 ghost use Rattle.slot_record.specs.Faults.{fault_of};
-ghost use Rattle.slot_record.specs.Records.{IsOpenFault, IsKeepFault};
+ghost use Rattle.slot_record.specs.Records.{IsOpenFault};
+ghost use Rattle.rotating_record.specs.Slots.{record_on};
 ghost use Rattle.rotating_record.specs.Records.{FindsAmong, IsFormatFault};
 
 use crate::finding::find;
 use crate::formatting::lay_out;
 use crate::keeping::keep_body;
 use crate::slots::ROTATING_PLATE_LEN;
-use crate::standing::{Known, Standing};
-use slot_record::{MAX_SEQUENCE, Plate, PlateFault, SlotFault};
+use crate::standing::Known;
+use slot_record::{MAX_SEQUENCE, Plate, PlateFault, SlotFault, Standing};
 use stable_record::{MAX_RECORD_LEN, RecordFault, StableRecord};
 use std::alloc::{AllocError, Global};
 use std::marker::Model;
@@ -36,8 +36,9 @@ pub struct RotatingRecord<P: Plate> {
 }
 
 impl<P: Plate> Model for RotatingRecord<P> {
-    ghost use Rattle.slot_record.specs.Records.{OnPlate};
-    ghost use Rattle.rotating_record.specs.Records.{IsOnPlate, bodies_on, is_stuck};
+    ghost use Rattle.slot_record.specs.Promises.{OnPlate};
+    ghost use Rattle.slot_record.specs.Records.{is_stuck};
+    ghost use Rattle.rotating_record.specs.Records.{IsOnPlate, bodies_on};
 
     ghost Value = { OnPlate P };
 
@@ -64,11 +65,8 @@ impl<P: Plate> RotatingRecord<P> {
         plate: P,
         bytes: &[u8],
     ) -> Result<RotatingRecord<P>, (P, SlotFault)>
-        ensures formatted { IfOk result (λ r. (r.finds ≡ bytes.now ∷ []) × (r.sequence ≡ 1) × (r.stuck ≡ false)) }
-        // Whatever a crash leaves from now on, opening finds just these bytes.
-        ensures lasts { IfOk result (λ r. (c : Image) → (P.state r.plate).may_leave c → record_on c ≡ Some (1, bytes.now)) }
-        // No device call failed.
-        ensures fine { IfOk result (λ r. (P.state r.plate).failures ≡ (P.state plate).failures) }
+        // Opening finds just these bytes from now on, and no device call failed.
+        ensures formatted { IfOk result (λ r. HasJust record_on (P.state plate) (P.state r.plate) r 1 bytes.now) }
         // Nothing else is answered.
         ensures faults { IfErr result (λ e. IsFormatFault e.1) }
         ensures too_small { (fault_of result ≡ Some SlotFault.TooSmall) ↔ ((P.state plate).size < ROTATING_PLATE_LEN) }
@@ -103,27 +101,15 @@ impl<P: Plate> RotatingRecord<P> {
     /// call failed), and 403 (no slot has a record); a crash then leaves nothing that it could not leave
     /// before.
     pub fn open(alloc: Global, plate: P) -> Result<(RotatingRecord<P>, Vec<u8>), (P, SlotFault)>
-        ensures opened { IfOk result (λ r. (r.0.finds ≡ r.1.items ∷ []) × (r.0.stuck ≡ false)) }
-        // It is the record of one of the images that a crash could leave,
-        ensures found { IfOk result (λ r. (c : Image) × (P.state plate).may_leave c × (record_on c ≡ Some (r.0.sequence, r.1.items))) }
-        // and from now on opening finds just this one, whatever gate was not synced there before.
-        ensures lasts { IfOk result (λ r. (c : Image) → (P.state r.0.plate).may_leave c → record_on c ≡ Some (r.0.sequence, r.1.items)) }
-        // No device call failed.
-        ensures fine { IfOk result (λ r. (P.state r.0.plate).failures ≡ (P.state plate).failures) }
-        // A crash at any moment leaves what it could leave before.
-        ensures moments { IfOk result (λ r. LeavesOnly (P.state plate) (P.state r.0.plate) (P.state plate).may_leave) }
-        ensures moments_of_fault { IfErr result (λ e. LeavesOnly (P.state plate) (P.state e.0) (P.state plate).may_leave) }
+        // It is the record of one of the images that a crash could leave, and from now on opening finds just this one.
+        ensures opened { IfOk result (λ r. Opens record_on (P.state plate) (P.state r.0.plate) r.0 r.1.items) }
         // Nothing else is answered.
         ensures faults { IfErr result (λ e. IsOpenFault e.1) }
         ensures too_small { (fault_of result ≡ Some SlotFault.TooSmall) ↔ ((P.state plate).size < ROTATING_PLATE_LEN) }
-        // 403 comes only where no slot has a record.
-        ensures not_formatted { IfErr result (λ e. e.1 ≡ SlotFault.NotFormatted → (c : Image) → (P.state e.0).may_leave c → record_on c ≡ None) }
         // 401 and 406 come before the device is called.
         ensures untouched { IfErr result (λ e. (e.1 ≡ SlotFault.Device) ⊎ (e.1 ≡ SlotFault.NotFormatted) ⊎ (e.0 ≡ plate)) }
-        // 402: one device call failed, which ended the work.
-        ensures device { IfErr result (λ e. e.1 ≡ SlotFault.Device → FailedOnce (P.state plate).failures (P.state e.0).failures) }
-        // With any other fault no device call failed.
-        ensures unfailed { IfErr result (λ e. (e.1 ≡ SlotFault.Device) ⊎ ((P.state e.0).failures ≡ (P.state plate).failures)) }
+        // 402 comes only if a device call failed, and 403 only if no slot has a record.
+        ensures failed { IfErr result (λ e. FailsToOpen record_on (P.state plate) (P.state e.0) e.1) }
     {
         if plate.size() < ROTATING_PLATE_LEN {
             return Err((plate, SlotFault::TooSmall));
@@ -177,30 +163,18 @@ impl<P: Plate> StableRecord for RotatingRecord<P> {
     /// (stuck), 303 (more than `MAX_RECORD_LEN` bytes), 305 (the record's sequence is
     /// `MAX_SEQUENCE`). The first device call that fails ends the work: 301, and the record is stuck.
     fn keep(&mut self, bytes: &[u8]) -> Result<(), RecordFault>
-        ensures kept { OnOk result ((self.new.finds ≡ bytes.now ∷ []) × (self.new.stuck ≡ false)) }
-        ensures numbered { OnOk result (self.new.sequence ≡ self.old.sequence + 1) }
-        // Whatever a crash leaves from now on, opening finds just these bytes.
-        ensures lasts { OnOk result ((c : Image) → (P.state self.new.plate).may_leave c → record_on c ≡ Some (self.new.sequence, bytes.now)) }
-        // No device call failed.
-        ensures fine { OnOk result ((P.state self.new.plate).failures ≡ (P.state self.old.plate).failures) }
+        // Opening finds just these bytes from now on, and no device call failed.
+        ensures kept { OnOk result (HasJust record_on (P.state self.old.plate) (P.state self.new.plate) self.new (self.old.sequence + 1) bytes.now) }
         // At each moment of the call opening finds what it could find before, or these bytes.
         ensures moments { LeavesOnly (P.state self.old.plate) (P.state self.new.plate) (FindsAmong (self.old.finds ++ bytes.now ∷ [])) }
         // After it opening finds one of the bodies, whatever a crash leaves.
-        ensures found { (c : Image) → (P.state self.new.plate).may_leave c → FindsAmong self.new.finds c }
-        // Nothing else is answered.
-        ensures faults { IfErr result IsKeepFault }
-        // 302, 303, 305: the first of them.
-        ensures stuck { (result ≡ Err RecordFault.Stuck) ↔ (self.old.stuck ≡ true) }
-        ensures too_long { (result ≡ Err RecordFault.TooLong) ↔ ((self.old.stuck ≡ false) × (MAX_RECORD_LEN < length bytes.now)) }
-        ensures spent { (result ≡ Err RecordFault.Spent) ↔ ((self.old.stuck ≡ false) × (length bytes.now ≤ MAX_RECORD_LEN) × (MAX_SEQUENCE ≤ self.old.sequence)) }
-        // They come before the device is called.
-        ensures unchanged { IfErr result (λ fault. (fault ≡ RecordFault.Device) ⊎ (self.new ≡ self.old)) }
-        // One device call failed at most: the first that fails ends the work.
-        ensures once { (P.state self.new.plate).failures ≤ (P.state self.old.plate).failures + 1 }
+        ensures found { FindsSome record_on (P.state self.new.plate) self.new.finds }
+        // 302, 303, 305: the first of them, before the device is called.
+        ensures refused { RefusesToKeep self.old self.new bytes.now result }
         // 301.
-        ensures device { result ≡ Err RecordFault.Device → Counts (P.state self.old.plate).failures (P.state self.new.plate).failures × FindsOnlyOr self.old.finds bytes.now self.new.finds × (self.new.stuck ≡ true) }
-        ensures some { IsOneOrTwo self.new.finds }
-        ensures count { (P.state self.old.plate).failures ≤ (P.state self.new.plate).failures }
+        ensures device { result ≡ Err RecordFault.Device → FailsToKeep (P.state self.old.plate).failures (P.state self.new.plate).failures self.old bytes.now self.new }
+        // The first device call that fails ends the work.
+        ensures once { FailsOnceAtMost (P.state self.old.plate).failures (P.state self.new.plate).failures }
     {
         if self.standing.is_stuck() {
             return Err(RecordFault::Stuck);
@@ -226,25 +200,17 @@ impl<P: Plate> StableRecord for RotatingRecord<P> {
     /// What opening finds, and from now on just this: nine device calls. 304 (memory was refused)
     /// comes before the device is called; after 301 (a device call failed) the record is stuck.
     fn reopen(&mut self) -> Result<Vec<u8>, RecordFault>
-        ensures found { IfOk result (λ bytes. Among bytes.items self.old.finds × (self.new.finds ≡ bytes.items ∷ []) × (self.new.stuck ≡ false)) }
-        ensures lasts { IfOk result (λ bytes. (c : Image) → (P.state self.new.plate).may_leave c → record_on c ≡ Some (self.new.sequence, bytes.items)) }
-        // No device call failed.
-        ensures fine { OnOk result ((P.state self.new.plate).failures ≡ (P.state self.old.plate).failures) }
+        // It returns bytes that opening could find, and from now on opening finds just these.
+        ensures reopened { IfOk result (λ bytes. Reopens record_on (P.state self.old.plate) (P.state self.new.plate) self.old self.new bytes.items) }
         // A crash at any moment leaves what it could leave before,
-        ensures moments { LeavesOnly (P.state self.old.plate) (P.state self.new.plate) (P.state self.old.plate).may_leave }
+        ensures moments { LeavesAsBefore (P.state self.old.plate) (P.state self.new.plate) }
         // on which opening finds one of the bodies.
-        ensures some_found { (c : Image) → (P.state self.old.plate).may_leave c → FindsAmong self.old.finds c }
-        // Nothing else is answered.
-        ensures faults { IfErr result IsReopenFault }
-        ensures nothing_new { IfErr result (λ fault. FindsOnly self.old.finds self.new.finds) }
-        // One device call failed at most: the first that fails ends the work.
-        ensures once { (P.state self.new.plate).failures ≤ (P.state self.old.plate).failures + 1 }
-        // 301.
-        ensures device { result ≡ Err RecordFault.Device → Counts (P.state self.old.plate).failures (P.state self.new.plate).failures × (self.new.stuck ≡ true) }
-        // 304.
-        ensures unchanged { result ≡ Err RecordFault.Memory → self.new ≡ self.old }
+        ensures found { FindsSome record_on (P.state self.old.plate) self.old.finds }
+        // 301 and 304.
+        ensures failed { FailsToReopen (P.state self.old.plate).failures (P.state self.new.plate).failures self.old self.new result }
         ensures some { IsOneOrTwo self.new.finds }
-        ensures count { (P.state self.old.plate).failures ≤ (P.state self.new.plate).failures }
+        // The first device call that fails ends the work.
+        ensures once { FailsOnceAtMost (P.state self.old.plate).failures (P.state self.new.plate).failures }
     {
         let Ok(mut body) = room_for_body(self.alloc) else {
             return Err(RecordFault::Memory);
@@ -265,9 +231,8 @@ impl<P: Plate> StableRecord for RotatingRecord<P> {
 
     fn stuck(&self) -> bool
         ensures answer { result ≡ self.now.stuck }
-        ensures some { IsOneOrTwo self.now.finds }
         // Opening finds one of the bodies, whatever a crash leaves.
-        ensures found { (c : Image) → (P.state self.now.plate).may_leave c → FindsAmong self.now.finds c }
+        ensures found { FindsSome record_on (P.state self.now.plate) self.now.finds }
     {
         self.standing.is_stuck()
     }

@@ -4,6 +4,8 @@ pub mod Plates
 pub mod Moments
 pub mod Slots
 pub mod Faults
+pub mod Promises
+pub mod KeepLaws
 pub mod Records
 pub mod Keeping
 pub mod Finding

@@ -2,9 +2,9 @@
 -- which all that is said of plates rests: between two syncs that succeed each written range, that of a
 -- failed write too, may hold any bytes after a crash; bytes outside these ranges stay; what a read gives is
 -- one of the images that a crash may leave; after a sync that succeeds a crash leaves what a read gives.
-use Rattle.std.specs.Prelude.{◌≡◌, ◌⊎◌, ℕ, ◌+◌, ◌≤◌, length, Result, OnOk, OnErr}
+use Rattle.std.specs.Prelude.{◌≡◌, ◌⊎◌, ℕ, ◌+◌, ◌≤◌, List, length, Result, OnOk, OnErr}
 use Rattle.stable_record.specs.Finding.{Counts}
-use Rattle.slot_record.specs.Images.{Image, DiffersWithin}
+use Rattle.slot_record.specs.Images.{Image, part, DiffersWithin}
 
 pub record PlateState : Type 1 where
   -- how many bytes it has
@@ -28,6 +28,10 @@ pub record IsPlate (s : PlateState) : Type 0 where
   -- this moment is one of those since an earlier one, and since this moment there is no other
   pub now_counts : (t : ℕ) (image : Image) → t ≤ s.clock → s.may_leave image → s.left_since t image
   pub only_now : (image : Image) → s.left_since s.clock image → s.may_leave image
+
+-- a read gave what stands from a place on, and changed nothing of it
+abbrev pub HasRead : ℕ → List ℕ → List ℕ → PlateState → PlateState → Type 0
+HasRead at before now old new = (now ≡ part at (length before) old.seen) × (new.seen ≡ old.seen)
 
 -- a crash may leave this image and no other
 abbrev pub Only : Image → PlateState → Type 0

@@ -1,8 +1,5 @@
 -- What a record on a plate is: what opening finds on each image, at each moment.
 use Rattle.std.specs.Prelude.{◌≡◌, ◌↔◌, ◌⊎◌, ℕ, ◌≤◌, Bool, true, false, IsTrue, List, [], ◌∷◌, length, Some}
-use Rattle.lock_model.specs.Decisions.{Among}
-use Rattle.stable_record.specs.declared.faults.RecordFault.{RecordFault}
-use Rattle.stable_record.specs.declared.faults.RecordFault.TheVariants as records
 use Rattle.slot_record.specs.declared.faults.SlotFault.{SlotFault}
 use Rattle.slot_record.specs.declared.faults.SlotFault.TheVariants as slots
 use Rattle.slot_record.specs.declared.slots.Slot.{Slot}
@@ -13,38 +10,26 @@ use Rattle.slot_record.specs.declared.standing.Known.{Known}
 use Rattle.slot_record.specs.declared.entries.TheConstants.{BUFFER_LEN}
 use Rattle.slot_record.specs.Images.{Image}
 use Rattle.slot_record.specs.Plates.{PlateState, Only}
-use Rattle.slot_record.specs.Slots.{other_of, head_on, body_of, holder_on, found_on}
+use Rattle.slot_record.specs.Promises.{Opening, FindsOneOf, IsFoundBy}
+use Rattle.slot_record.specs.Slots.{other_of, head_on, body_of, holder_on, record_on}
 
--- what contracts see of a record on a plate
-pub record OnPlate (P : Type 0) : Type 0 where
-  pub plate : P
-  -- the sequence of the slot that has the record
-  pub sequence : ℕ
-  -- the bodies, one or two, one of which opening now may find
-  pub finds : List (List ℕ)
-  pub stuck : Bool
-
--- the faults of formatting and of opening a plate, and those of a record on one
+-- the faults of formatting and of opening a plate
 abbrev pub IsFormatFault : SlotFault → Type 0
 IsFormatFault fault = (fault ≡ slots.TooSmall) ⊎ ((fault ≡ slots.TooLong) ⊎ ((fault ≡ slots.Memory) ⊎ (fault ≡ slots.Device)))
 
 abbrev pub IsOpenFault : SlotFault → Type 0
 IsOpenFault fault = (fault ≡ slots.TooSmall) ⊎ ((fault ≡ slots.Memory) ⊎ ((fault ≡ slots.Device) ⊎ (fault ≡ slots.NotFormatted)))
 
--- a keep takes no memory but its plate's
-abbrev pub IsKeepFault : RecordFault → Type 0
-IsKeepFault fault = (fault ≡ records.Device) ⊎ ((fault ≡ records.Stuck) ⊎ ((fault ≡ records.TooLong) ⊎ (fault ≡ records.Spent)))
-
 -- opening finds one of these bodies on the image
 abbrev pub FindsAmong : List (List ℕ) → Image → Type 0
-FindsAmong bodies image = (body : List ℕ) × (found_on image ≡ Some body) × Among body bodies
+FindsAmong bodies image = FindsOneOf record_on bodies image
 
--- the bodies that opening may find: that of the slot that has the record, and where a call failed while the
--- other slot's gate was opened that one's too
+-- the bodies that opening may find: that of the slot that has the record, and if a call failed while the gate
+-- of the next record was opened that one's too
 abbrev pub bodies : Standing → List ℕ → List ℕ → List (List ℕ)
-bodies Settled own other = own ∷ []
-bodies Failed own other = own ∷ []
-bodies Either own other = own ∷ other ∷ []
+bodies Settled own next = own ∷ []
+bodies Failed own next = own ∷ []
+bodies Either own next = own ∷ next ∷ []
 
 abbrev pub bodies_on : Standing → Slot → Image → List (List ℕ)
 bodies_on standing own image = bodies standing (body_of own image) (body_of (other_of own) image)
@@ -67,9 +52,14 @@ pub record IsSettled (s : PlateState) (known : Known) : Type 0 where
   pub gate : IsTrue known.other_open ↔ ((head_on (other_of known.own) s.seen).gate ≡ OPEN)
 
 -- whatever image a crash leaves, opening finds one of the bodies, and each image has the same ones
-pub record IsFound (s : PlateState) (standing : Standing) (own : Slot) : Type 0 where
-  pub finds : (c : Image) → s.may_leave c → FindsAmong (bodies_on standing own s.seen) c
-  pub same : (c : Image) → s.may_leave c → bodies_on standing own c ≡ bodies_on standing own s.seen
+abbrev pub IsFound : PlateState → Standing → Slot → Type 0
+IsFound s standing own = IsFoundBy record_on (bodies_on standing own) s
+
+-- A keep of this body failed after that one was kept: opening finds what the standing says, and the record is stuck.
+pub record IsTried (record_on : Opening) (bodies_on : Image → List (List ℕ)) (s : PlateState) (standing : Standing) (own body : List ℕ) : Type 0 where
+  pub stuck : is_stuck standing ≡ true
+  pub found : IsFoundBy record_on bodies_on s
+  pub bodies : bodies_on s.seen ≡ bodies standing own body
 
 -- what holds of a record on a plate between two calls
 pub record IsOnPlate (s : PlateState) (known : Known) (standing : Standing) (buffer : List ℕ) : Type 0 where

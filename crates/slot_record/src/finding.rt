@@ -1,10 +1,11 @@
 // Finding a record: a sync, the two heads, and the body.
 
-ghost use Rattle.std.specs.Prelude.{◌≡◌, ◌≤◌, None, Some, length, take, OnOk, IfOk, IfSome, IfNone};
+ghost use Rattle.std.specs.Prelude.{◌≡◌, ◌≤◌, Some, length, take, OnOk, IfOk};
 ghost use Rattle.stable_record.specs.declared.formats.TheConstants.{MAX_RECORD_LEN as MOST};
 ghost use Rattle.slot_record.specs.Plates.{Only, LeavesOnly, Called};
-ghost use Rattle.slot_record.specs.Slots.{holder_on, body_of};
+ghost use Rattle.slot_record.specs.Slots.{body_of};
 ghost use Rattle.slot_record.specs.Records.{IsSettled};
+ghost use Rattle.slot_record.specs.Finding.{IsSearched};
 
 use crate::heads::{HEAD_LEN, Head};
 use crate::slots::{LEAST_PLATE_LEN, OPEN, Slot};
@@ -85,9 +86,7 @@ impl Found {
 pub(crate) fn find<P: Plate>(plate: &mut P, body: &mut Vec<u8>) -> Result<Option<Known>, PlateFault>
     requires room { LEAST_PLATE_LEN ≤ (P.state plate.old).size }
     requires body { length body.old.items ≡ MOST }
-    ensures none { IfOk result (λ known. IfNone known (holder_on (P.state plate.new).seen ≡ None)) }
-    ensures found { IfOk result (λ known. IfSome known (λ k. IsSettled (P.state plate.new) k)) }
-    ensures body { IfOk result (λ known. IfSome known (λ k. body.new.items ≡ body_of k.own (P.state plate.new).seen)) }
+    ensures found { IfOk result (λ found. IsSearched (P.state plate.new) found body.new.items) }
     ensures synced { OnOk result (Only (P.state plate.new).seen (P.state plate.new)) }
     ensures moments { LeavesOnly (P.state plate.old) (P.state plate.new) (P.state plate.old).may_leave }
     ensures called { Called (P.state plate.old) (P.state plate.new) result }

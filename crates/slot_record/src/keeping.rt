@@ -1,13 +1,13 @@
 // Keeping a record: the other slot is closed, written and opened, with a sync behind each.
 
-ghost use Rattle.std.specs.Prelude.{◌≡◌, ℕ, ◌+◌, ◌<◌, ◌≤◌, true, [], ◌∷◌, length, OnOk, OnErr, IfErr};
+ghost use Rattle.std.specs.Prelude.{◌≡◌, ◌+◌, ◌<◌, ◌≤◌, [], ◌∷◌, length, OnOk, IfErr};
 ghost use Rattle.stable_record.specs.declared.formats.TheConstants.{MAX_RECORD_LEN as MOST};
 ghost use Rattle.slot_record.specs.declared.standing.Standing.TheVariants.{Failed as FAILED, Either as EITHER};
 ghost use Rattle.slot_record.specs.Images.{DiffersWithin, IsWritten};
 ghost use Rattle.slot_record.specs.Plates.{Only, LeavesOnly, Called};
-ghost use Rattle.slot_record.specs.Slots.{other_of, body_of, entry_of};
-ghost use Rattle.slot_record.specs.Records.{FindsAmong, IsSettled, IsFound, bodies, bodies_on, is_stuck};
-ghost use Rattle.slot_record.specs.Keeping.{IsClosed, IsWaiting, Stays, next_of};
+ghost use Rattle.slot_record.specs.Slots.{body_of, entry_of, record_on};
+ghost use Rattle.slot_record.specs.Records.{FindsAmong, IsSettled, IsTried, bodies_on};
+ghost use Rattle.slot_record.specs.Keeping.{CanKeep, IsKept, IsClosed, IsWaiting, Stays, next_of};
 
 use crate::entries::{BUFFER_LEN, ENTRY_HEAD_LEN, fill};
 use crate::slots::{CLOSED, LEAST_PLATE_LEN, MAX_SEQUENCE, OPEN, Slot};
@@ -15,7 +15,7 @@ use crate::standing::{Known, Standing};
 use crate::{Plate, PlateFault};
 
 /// Writes these bytes from a place on and syncs, on a plate that is synced: two calls.
-pub(crate) fn store<P: Plate>(plate: &mut P, at: u32, bytes: &[u8]) -> Result<(), PlateFault>
+pub fn store<P: Plate>(plate: &mut P, at: u32, bytes: &[u8]) -> Result<(), PlateFault>
     requires range { at + length bytes.now ≤ (P.state plate.old).size }
     requires synced { Only (P.state plate.old).seen (P.state plate.old) }
     ensures stored { OnOk result (Only (P.state plate.new).seen (P.state plate.new)) }
@@ -81,16 +81,10 @@ pub(crate) fn keep_body<P: Plate>(
     buffer: &mut [u8],
     bytes: &[u8],
 ) -> Result<(), Standing>
-    requires room { LEAST_PLATE_LEN ≤ (P.state plate.old).size }
+    requires can { CanKeep (P.state plate.old) known bytes.now }
     requires buffer { length buffer.old ≡ BUFFER_LEN }
-    requires settled { IsSettled (P.state plate.old) known }
-    requires next { known.sequence < MAX_SEQUENCE }
-    requires fits { length bytes.now ≤ MOST }
-    ensures settled { OnOk result (IsSettled (P.state plate.new) (next_of known)) }
-    ensures body { OnOk result (body_of (other_of known.own) (P.state plate.new).seen ≡ bytes.now) }
-    ensures stuck { IfErr result (λ standing. is_stuck standing ≡ true) }
-    ensures found { IfErr result (λ standing. IsFound (P.state plate.new) standing known.own) }
-    ensures bodies { IfErr result (λ standing. bodies_on standing known.own (P.state plate.new).seen ≡ bodies standing (body_of known.own (P.state plate.old).seen) bytes.now) }
+    ensures kept { OnOk result (IsKept (P.state plate.new) (next_of known) bytes.now) }
+    ensures tried { IfErr result (λ standing. IsTried record_on (bodies_on standing known.own) (P.state plate.new) standing (body_of known.own (P.state plate.old).seen) bytes.now) }
     ensures moments { LeavesOnly (P.state plate.old) (P.state plate.new) (FindsAmong (body_of known.own (P.state plate.old).seen ∷ bytes.now ∷ [])) }
     ensures called { Called (P.state plate.old) (P.state plate.new) result }
 {

@@ -34,7 +34,9 @@ mod slots;
 mod standing;
 
 pub use faults::{PlateFault, SlotFault};
+pub use keeping::store;
 pub use memory_plates::MemoryPlate;
 pub use plates::Plate;
 pub use records::SlotRecord;
 pub use slots::{CLOSED, LEAST_PLATE_LEN, MAX_SEQUENCE, OPEN, SLOT_LEN};
+pub use standing::Standing;

@@ -3,7 +3,7 @@
 ghost use Rattle.std.specs.Prelude.{◌≡◌, ◌+◌, ◌<◌, ◌≤◌, ◌^◌, [], Some, None, length, map, replicate, OnOk, IfOk, IsOkUnless};
 ghost use Rattle.stable_record.specs.Faulty.{counted};
 ghost use Rattle.slot_record.specs.Images.{part, IsWritten};
-ghost use Rattle.slot_record.specs.Plates.{Only, NothingNew, Tears, GoesOn, Called};
+ghost use Rattle.slot_record.specs.Plates.{Only, NothingNew, Tears, GoesOn, Called, HasRead};
 ghost use Rattle.slot_record.specs.MemoryPlates.{Idle, Written, Torn, Synced, state_of, call_of, Makes, MayLeave, put, content, filled, IsWithin, lasts, burnt};
 
 use crate::{Plate, PlateFault, SlotFault};
@@ -247,8 +247,7 @@ impl Plate for MemoryPlate {
     /// where the fuse lets it fail.
     fn read_at(&mut self, at: u32, buffer: &mut [u8]) -> Result<(), PlateFault>
         requires { at + length buffer.old ≤ (state_of self.old).size }
-        ensures read { OnOk result (buffer.new ≡ part at (length buffer.old) (state_of self.old).seen) }
-        ensures seen { OnOk result ((state_of self.new).seen ≡ (state_of self.old).seen) }
+        ensures read { OnOk result (HasRead at buffer.old buffer.new (state_of self.old) (state_of self.new)) }
         ensures images { NothingNew (state_of self.old) (state_of self.new) }
         ensures time { GoesOn (state_of self.old) (state_of self.new) }
         ensures called { Called (state_of self.old) (state_of self.new) result }

@@ -18,14 +18,14 @@ pub(crate) struct Known {
     pub(crate) other_open: bool,
 }
 
-/// Which slots' bodies opening may find.
+/// Which bodies opening may find on a plate.
 #[derive(Clone, Copy)]
-pub(crate) enum Standing {
+pub enum Standing {
     /// The plate is synced: the body of the slot that has the record.
     Settled,
     /// A call failed: that body still.
     Failed,
-    /// A call failed while the other slot's gate was opened: either body.
+    /// A call failed while the gate of the next record was opened: either body.
     Either,
 }
 
@@ -45,7 +45,7 @@ impl Known {
 
 impl Standing {
     /// Whether a call has failed.
-    pub(crate) fn is_stuck(self) -> bool
+    pub fn is_stuck(self) -> bool
         ensures { result ≡ is_stuck self }
     {
         match self {
@@ -55,7 +55,7 @@ impl Standing {
     }
 
     /// After another call failed.
-    pub(crate) fn failed(self) -> Standing
+    pub fn failed(self) -> Standing
         ensures { result ≡ failed_of self }
     {
         match self {

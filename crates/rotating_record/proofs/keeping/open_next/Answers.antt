@@ -1,6 +1,6 @@
 use Rattle.std.proofs.Common.{◌∙◌, ap}
 use Rattle.rotating_record.specs.Slots.{start_of}
-use Rattle.rotating_record.proofs.KeepFacts.{both_ok}
+use Rattle.slot_record.specs.KeepLaws.{both_ok}
 use Rattle.rotating_record.proofs.StepFacts.{opening_stays, opening_done}
 use Rattle.rotating_record.proofs.keeping.open_next.Goals as goal
 

@@ -1,7 +1,7 @@
 use Rattle.std.proofs.Common.{◌≡◌, true, ◌∙◌, ap, rules}
 use Rattle.slot_record.specs.Slots.{start_of}
 use Rattle.slot_record.specs.Moments.{rests}
-use Rattle.slot_record.proofs.KeepFacts.{both_ok}
+use Rattle.slot_record.specs.KeepLaws.{both_ok}
 use Rattle.slot_record.proofs.StepFacts.{only_own, settled_holds, closing_stays, closing_done}
 use Rattle.slot_record.proofs.keeping.close_other.Goals as goal
 

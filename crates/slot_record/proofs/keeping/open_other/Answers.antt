@@ -1,6 +1,6 @@
 use Rattle.std.proofs.Common.{◌∙◌, ap}
 use Rattle.slot_record.specs.Slots.{start_of}
-use Rattle.slot_record.proofs.KeepFacts.{both_ok}
+use Rattle.slot_record.specs.KeepLaws.{both_ok}
 use Rattle.slot_record.proofs.StepFacts.{opening_stays, opening_done}
 use Rattle.slot_record.proofs.keeping.open_other.Goals as goal
 

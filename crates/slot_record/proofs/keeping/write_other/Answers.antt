@@ -2,7 +2,7 @@ use Rattle.std.proofs.Common.{◌≤◌, ℕ, ◌+◌, List, length, ◌∙◌, 
 use Rattle.slot_record.specs.Slots.{start_of}
 use Rattle.slot_record.specs.Images.{IsWritten}
 use Rattle.slot_record.proofs.SlotFacts.{length-entry_of}
-use Rattle.slot_record.proofs.KeepFacts.{both_ok}
+use Rattle.slot_record.specs.KeepLaws.{both_ok}
 use Rattle.slot_record.proofs.StepFacts.{writing_stays, writing_done}
 use Rattle.slot_record.proofs.keeping.write_other.Goals as goal
 

@@ -2,7 +2,7 @@ use Rattle.std.proofs.Common.{◌≡◌, ◌≤◌, ℕ, ◌+◌, ap, length, dr
 use Rattle.std.proofs.lemmas.List.{length-take-le}
 use Rattle.rotating_record.proofs.SlotFacts.{holder_fits}
 use Rattle.rotating_record.proofs.FindFacts.{body_read}
-use Rattle.rotating_record.proofs.KeepFacts.{both_ok}
+use Rattle.slot_record.specs.KeepLaws.{both_ok}
 use Rattle.rotating_record.proofs.finding.Found.read_body.Goals as goal
 
 pub slice_bounds-read_at-end : goal.slice_bounds-read_at-end
