@@ -21,7 +21,3 @@ IsHoldFault fault = (fault ≡ faults.Missing) ⊎ ((fault ≡ faults.Unreadable
 -- those of reading it whole
 abbrev pub IsOverFault : FileFault → Type 0
 IsOverFault fault = (fault ≡ faults.Memory) ⊎ ((fault ≡ faults.Unwritable) ⊎ (fault ≡ faults.Unreadable))
-
--- those of making one
-abbrev pub IsDraftFault : FileFault → Type 0
-IsDraftFault fault = (fault ≡ faults.Exists) ⊎ ((fault ≡ faults.Held) ⊎ IsOverFault fault)

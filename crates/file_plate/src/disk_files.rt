@@ -3,28 +3,12 @@
 ghost use Rattle.std.specs.Prelude.{◌≡◌, ◌⊎◌, [], IfOk, IfErr};
 ghost use Rattle.file_plate.specs.FileFaults.{IsHoldFault};
 
+use crate::noting::{note_reading, note_settling, note_syncing, note_writing};
 use crate::{FileFault, Medium};
 use event_lists::CallList;
 use std::fs::{self, File, Files, OpenOptions, TryLockError};
 use std::io::{self, ErrorKind};
 use std::os::unix::fs::FileExt;
-
-// The kinds of calls in the list of a file's calls.
-const SETTLED: u64 = 0;
-
-const GAVE: u64 = 1;
-
-const TOOK: u64 = 2;
-
-const SYNCED: u64 = 3;
-
-const SETTLE_FAILED: u64 = 4;
-
-const READ_FAILED: u64 = 5;
-
-const WRITE_FAILED: u64 = 6;
-
-const SYNC_FAILED: u64 = 7;
 
 /// An open file. Each call of it makes one call of the operating system and notes what came of it.
 #[derive(Drop)]
@@ -53,43 +37,32 @@ impl Medium for DiskFile {
 
     fn settle(&mut self) -> io::Result<()> {
         let answer = self.file.sync_all();
-        match answer {
-            Ok(()) => self.calls.note(&[SETTLED], &[]),
-            Err(_) => self.calls.note(&[SETTLE_FAILED], &[]),
-        }
+        note_settling(&mut self.calls, &answer);
         answer
     }
 
     fn read_at(&mut self, at: u32, buffer: &mut [u8]) -> io::Result<()> {
         let answer = self.file.read_exact_at(buffer, u64::from(at));
-        match answer {
-            Ok(()) => self.calls.note(&[GAVE, u64::from(at)], buffer),
-            Err(_) => self.calls.note(&[READ_FAILED, u64::from(at)], buffer),
-        }
+        note_reading(&mut self.calls, at, buffer, &answer);
         answer
     }
 
     fn write_at(&mut self, at: u32, bytes: &[u8]) -> io::Result<()> {
         let answer = self.file.write_all_at(bytes, u64::from(at));
-        match answer {
-            Ok(()) => self.calls.note(&[TOOK, u64::from(at)], bytes),
-            Err(_) => self.calls.note(&[WRITE_FAILED, u64::from(at)], bytes),
-        }
+        note_writing(&mut self.calls, at, bytes, &answer);
         answer
     }
 
     fn sync(&mut self) -> io::Result<()> {
         let answer = self.file.sync_data();
-        match answer {
-            Ok(()) => self.calls.note(&[SYNCED], &[]),
-            Err(_) => self.calls.note(&[SYNC_FAILED], &[]),
-        }
+        note_syncing(&mut self.calls, &answer);
         answer
     }
 }
 
-/// Takes the file's lock, or says why it can't.
-pub(crate) fn take_lock(file: &File) -> Result<(), FileFault>
+/// Takes the file's exclusive lock, which lasts until the file is dropped. It returns 941 (another process has
+/// it) or 945 (the file can't be locked).
+pub fn take_lock(file: &File) -> Result<(), FileFault>
     ensures { IfErr result (λ fault. (fault ≡ FileFault.Held) ⊎ (fault ≡ FileFault.Unreadable)) }
 {
     match file.try_lock() {
@@ -99,8 +72,9 @@ pub(crate) fn take_lock(file: &File) -> Result<(), FileFault>
     }
 }
 
-/// Whether there is a file of this name, a link to nothing among them.
-pub(crate) fn is_there<R: Files>(files: &R, path: &str) -> Result<bool, FileFault>
+/// Whether there is a file of this name, a link to nothing among them. It returns 945 if the name can't be
+/// looked up.
+pub fn is_there<R: Files>(files: &R, path: &str) -> Result<bool, FileFault>
     ensures { IfErr result (λ fault. fault ≡ FileFault.Unreadable) }
 {
     match fs::symlink_metadata(files, path) {

@@ -3,7 +3,7 @@
 ghost use Rattle.std.specs.Prelude.{◌≡◌, ◌↔◌, ◌+◌, ◌≤◌, true, [], length, OnOk, IfOk, IfErr};
 ghost use Rattle.stable_record.specs.Faulty.{counted};
 ghost use Rattle.slot_record.specs.Images.{part, IsWritten};
-ghost use Rattle.slot_record.specs.Plates.{Only, NothingNew, Tears, GoesOn, Called};
+ghost use Rattle.slot_record.specs.Plates.{Only, NothingNew, Tears, GoesOn, Called, HasRead};
 ghost use Rattle.slot_record.specs.MemoryPlates.{put};
 ghost use Rattle.file_plate.specs.FileFaults.{IsOverFault};
 ghost use Rattle.file_plate.specs.Media.{Gave, Took, Synced, WriteFailed, SyncFailed};
@@ -173,8 +173,7 @@ impl<M: Medium> Plate for FilePlate<M> {
     /// Answers Ok just where the file gave what the image has. After a failure the file is asked nothing.
     fn read_at(&mut self, at: u32, buffer: &mut [u8]) -> Result<(), PlateFault>
         requires { at + length buffer.old ≤ (file_state self.old).size }
-        ensures read { OnOk result (buffer.new ≡ part at (length buffer.old) (file_state self.old).seen) }
-        ensures seen { OnOk result ((file_state self.new).seen ≡ (file_state self.old).seen) }
+        ensures read { OnOk result (HasRead at buffer.old buffer.new (file_state self.old) (file_state self.new)) }
         ensures images { NothingNew (file_state self.old) (file_state self.new) }
         ensures time { GoesOn (file_state self.old) (file_state self.new) }
         ensures called { Called (file_state self.old) (file_state self.new) result }

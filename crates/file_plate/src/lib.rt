@@ -12,22 +12,23 @@
 //! does what it is asked. The premise is: if no failure was counted, the file holds the image, and a crash
 //! leaves of it what `slot_record::Plate` allows. A file that another program writes breaks it, and so
 //! does a disk that reports a sync that it hasn't made. `DiskFile` is the medium that a program uses; its
-//! methods make one call of the operating system each and note it, and have to be read.
+//! methods make one call of the operating system each and note it, and have to be read. A medium of your own keeps a
+//! `CallList` of `event_lists` and notes its calls by `note_settling`, `note_reading`, `note_writing` and `note_syncing`.
 //!
-//! `hold` opens the file of a record with an exclusive lock. A new record is written under another name:
-//! `Draft` makes that file, and gives it its own name once the record on it is synced.
+//! `hold` opens the file of a record with an exclusive lock. `take_lock` and `is_there` are for a caller that makes
+//! a new file.
 //!
 //! The crate stands on `slot_record`, `stable_record`, `event_lists` and `thiserror`.
 #![tactic(auto)]
 
 mod disk_files;
-mod drafts;
 mod faults;
 mod file_plates;
 mod media;
+mod noting;
 
-pub use disk_files::{DiskFile, hold};
-pub use drafts::Draft;
+pub use disk_files::{DiskFile, hold, is_there, take_lock};
 pub use faults::FileFault;
 pub use file_plates::FilePlate;
 pub use media::Medium;
+pub use noting::{note_reading, note_settling, note_syncing, note_writing};

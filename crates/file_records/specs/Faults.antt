@@ -16,6 +16,10 @@ file_fault_of slots.TooLong = files.TooLong
 file_fault_of slots.Spent = files.Unreadable
 file_fault_of slots.Memory = files.Memory
 
+-- the faults of making a new record's file
+abbrev pub IsDraftFault : FileFault → Type 0
+IsDraftFault fault = (fault ≡ files.Exists) ⊎ ((fault ≡ files.Held) ⊎ IsOverFault fault)
+
 -- the faults of finding the record on a file
 abbrev pub IsOpenFault : FileFault → Type 0
 IsOpenFault fault = IsOverFault fault ⊎ (fault ≡ files.NotFormatted)

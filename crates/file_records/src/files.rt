@@ -3,10 +3,11 @@
 ghost use Rattle.std.specs.Prelude.{◌≡◌, ◌↔◌, ◌⊎◌, ◌<◌, ◌≤◌, false, [], ◌∷◌, length, Some, Err, IfOk, IfErr, List, ℕ};
 ghost use Rattle.file_plate.specs.FilePlates.{file_state, IsOpened};
 ghost use Rattle.rotating_record.specs.Slots.{record_on};
-ghost use Rattle.file_plate.specs.FileFaults.{IsDraftFault, IsOverFault, IsHoldFault};
-ghost use Rattle.file_records.specs.Faults.{file_fault_of, IsOpenFault, HasNone};
+ghost use Rattle.file_plate.specs.FileFaults.{IsOverFault, IsHoldFault};
+ghost use Rattle.file_records.specs.Faults.{file_fault_of, IsDraftFault, IsOpenFault, HasNone};
 
-use file_plate::{DiskFile, Draft, FileFault, FilePlate, hold};
+use crate::drafts::Draft;
+use file_plate::{DiskFile, FileFault, FilePlate, hold};
 use rotating_record::{ROTATING_PLATE_LEN, RotatingRecord};
 use slot_record::SlotFault;
 use stable_record::MAX_RECORD_LEN;
@@ -26,23 +27,6 @@ fn file_fault(fault: SlotFault) -> FileFault
         SlotFault::TooLong => FileFault::TooLong,
         SlotFault::Memory => FileFault::Memory,
         SlotFault::Device | SlotFault::Spent => FileFault::Unreadable,
-    }
-}
-
-/// A record of these bytes on a file that holds none.
-fn formatted(alloc: Global, file: DiskFile, bytes: &[u8]) -> Result<FileRecord, FileFault>
-    requires fresh { file.calls.items ≡ [] }
-    requires fits { length bytes.now ≤ MAX_RECORD_LEN }
-    ensures made { IfOk result (λ r. (r.finds ≡ bytes.now ∷ []) × (r.sequence ≡ 1) × (r.stuck ≡ false)) }
-    ensures lasts { IfOk result (λ r. (c : List ℕ) → (file_state r.plate).may_leave c → record_on c ≡ Some (1, bytes.now)) }
-    ensures fine { IfOk result (λ r. (file_state r.plate).failures ≡ 0) }
-    ensures faults { IfErr result (λ fault. IsOverFault fault) }
-{
-    let plate = FilePlate::over(alloc, file, ROTATING_PLATE_LEN)?;
-    match RotatingRecord::format(alloc, plate, bytes) {
-        Ok(record) => Ok(record),
-        // The plate has the right size and the bytes fit, so a write or a sync failed.
-        Err(_) => Err(FileFault::Unwritable),
     }
 }
 
@@ -71,16 +55,13 @@ pub fn create_record<R: Files<File = File>>(
     if bytes.len() > MAX_RECORD_LEN {
         return Err(FileFault::TooLong);
     }
-    let (draft, file) = Draft::begin(files, alloc, path, ROTATING_PLATE_LEN)?;
-    match formatted(alloc, file, bytes) {
-        Ok(record) => {
-            draft.publish(files, path, &record)?;
-            Ok(record)
-        }
-        Err(fault) => {
-            draft.discard(files);
-            Err(fault)
-        }
+    let draft = match Draft::begin(files, alloc, path) {
+        Ok(draft) => draft,
+        Err(fault) => return Err(fault),
+    };
+    match draft.write(files, alloc, bytes) {
+        Ok(written) => written.publish(files),
+        Err(fault) => Err(fault),
     }
 }
 

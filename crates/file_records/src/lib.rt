@@ -11,6 +11,7 @@
 //! The crate uses `file_plate`, `rotating_record`, `slot_record` and `stable_record`.
 #![tactic(auto)]
 
+mod drafts;
 mod files;
 
 pub use files::{FileRecord, create_record, open_record};

@@ -50,11 +50,11 @@ fn push_entry(text: &mut String, entry: &Entry) -> Result<(), AllocError>
 }
 
 /// Adds the lines of the entries.
-fn push_entries(text: &mut String, record: &NodeRecord) -> Result<(), AllocError>
-    ensures { OnOk result (string_bytes text.new ≡ string_bytes text.old ++ flat_map entry_text record.now.entries) }
+fn push_entries(text: &mut String, kept: &NodeRecord) -> Result<(), AllocError>
+    ensures { OnOk result (string_bytes text.new ≡ string_bytes text.old ++ flat_map entry_text kept.now.entries) }
 {
-    for place in 0..record.entries.len() {
-        let Some(entry) = record.entries.get(place) else {
+    for place in 0..kept.entries.len() {
+        let Some(entry) = kept.entries.get(place) else {
             unreachable!()
         };
         push_entry(text, &entry)?;
@@ -80,13 +80,13 @@ fn push_head(text: &mut String, problem: &str, count: usize) -> Result<(), Alloc
 }
 
 /// Adds what a node's record says.
-fn push_node(text: &mut String, record: &NodeRecord) -> Result<(), AllocError>
-    ensures { OnOk result (string_bytes text.new ≡ string_bytes text.old ++ node_words record.now) }
+fn push_node(text: &mut String, kept: &NodeRecord) -> Result<(), AllocError>
+    ensures { OnOk result (string_bytes text.new ≡ string_bytes text.old ++ node_words kept.now) }
 {
-    let problem = problem_word(record.problem);
-    let count = record.entries.len();
+    let problem = problem_word(kept.problem);
+    let count = kept.entries.len();
     push_head(text, problem, count)?;
-    push_entries(text, record)?;
+    push_entries(text, kept)?;
     Ok(())
 }
 

@@ -5,4 +5,4 @@ use Rattle.record_view.proofs.finding.find_in_three.Goals as goal
 pub returns-in-Err-default-NotFormatted : goal.returns-in-Err-default-NotFormatted
 returns-in-Err-default-NotFormatted c =
     let err = c.in-Err-default-NotFormatted in
-    record { found = none_on_bytes record_on c.args.bytes.now c.in_ok-plate.plate err.field-0-0 c.in_ok-plate.ensures.holds err.ensures.moments_of_fault (err.ensures.not_formatted err.field-0-1-is) }
+    record { found = none_on_bytes record_on c.args.bytes.now c.in_ok-plate.plate err.field-0-0 c.in_ok-plate.ensures.holds err.ensures.failed.moments (err.ensures.failed.none err.field-0-1-is) }
