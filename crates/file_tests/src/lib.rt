@@ -7,6 +7,8 @@
 #[cfg(test)]
 mod files;
 #[cfg(test)]
+mod lies;
+#[cfg(test)]
 mod media;
 #[cfg(test)]
 mod rooms;

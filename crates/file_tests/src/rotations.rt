@@ -42,7 +42,7 @@ fn calls_of(record: Record) -> u32 {
 }
 
 /// The first byte of the record that is found if no call fails. A dash stands for none.
-fn found(rt: &HostRuntime, path: &str) -> Option<u8> {
+pub(crate) fn found(rt: &HostRuntime, path: &str) -> Option<u8> {
     let plate = plate(rt, path, Fault::Refused, 0)?.ok()?;
     match RotatingRecord::open(rt.alloc(), plate) {
         Ok((_, body)) => body.first().copied(),
@@ -67,7 +67,7 @@ fn formats(rt: &HostRuntime, path: &str, fault: Fault, failing: u32) -> Option<u
 }
 
 /// Makes a record `F` on a new file, and keeps `A`.
-fn made(rt: &HostRuntime, path: &str) -> Option<()> {
+pub(crate) fn made(rt: &HostRuntime, path: &str) -> Option<()> {
     let _ = fs::remove_file(rt, path);
     let plate = plate(rt, path, Fault::Refused, 0)?.ok()?;
     let mut record = RotatingRecord::format(rt.alloc(), plate, b"F").ok()?;
