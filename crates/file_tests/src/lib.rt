@@ -7,6 +7,8 @@
 #[cfg(test)]
 mod files;
 #[cfg(test)]
+mod homes;
+#[cfg(test)]
 mod lies;
 #[cfg(test)]
 mod media;
@@ -16,5 +18,7 @@ mod rooms;
 mod rotations;
 #[cfg(test)]
 mod slots;
+#[cfg(test)]
+mod stops;
 #[cfg(test)]
 mod views;
