@@ -15,11 +15,12 @@ use Rattle.world_model.specs.Parts.{place, is_own, Part, NoPart, NodePart, Clien
 use Rattle.world_model.specs.Locality.{IsHistory, own_events, EffectsAreOfTheirEvents, MessagesAreAsListed, ChangesOne, StepsChangeOnePart}
 use Rattle.world_model.proofs.LocalityFacts.{places-apart}
 use Rattle.merge_model.specs.OwnRuns.{IsOwnRun}
+use Rattle.merge_model.specs.LongHistories.{IsLongHistory}
 use Rattle.merge_model.specs.Merging.{Logs, moved, says, HasSource, IsSourced, IsMerge, unnumbered, unsaid, content_of}
 use Rattle.merge_model.proofs.OwnRunFacts.{Pair, own-self, own-rest}
 use Rattle.merge_model.proofs.Greed.{sourced-same, comes-first}
 use Rattle.merge_model.proofs.Numbers.{by_number, actor-same, same-turn}
-use Rattle.merge_model.proofs.TakenTurns.{taken-source, parts-move, ballots-stay}
+use Rattle.merge_model.proofs.TakenTurns.{history-comes, parts-move, ballots-stay}
 
 -- what has the same content does the same
 
@@ -196,8 +197,8 @@ one-told w u v q logs begun left told history change source m is again [] begins
 one-told w u v q logs begun left told history change source m is again (first ∷ later) begins same =
     again (λ who. own_events who (rest w u q logs begun left told history change source m is first later begins same)) (begun-now w u q logs begun left told history change source m is first later begins same) (rest w u q logs begun left told history change source m is first later begins same) (merge-now w u q logs begun left told history change source m is first later begins same) (begun-on w u q logs begun left told history change source m is first later begins same)
 
-goes-on : StepsChangeOnePart → EffectsAreOfTheirEvents → MessagesAreAsListed → (told : List Pair) (w v : ExactWorld) (logs begun left : Logs) (history : List Pair) → IsMerge w logs history → IsHistory w told v → Begun logs begun left told → GoesOn v left
-goes-on changes effects messages [] w v logs begun left history m h is = (
+goes-on : (told : List Pair) (w v : ExactWorld) (logs begun left : Logs) (history : List Pair) → IsMerge w logs history → IsLongHistory w told v → Begun logs begun left told → GoesOn v left
+goes-on [] w v logs begun left history m h is = (
   history,
   subst (λ x. IsMerge x left history) (sym h) (record {
     own = λ who. subst (IsOwnRun w.ballots who (part w who)) (all who) (m.own who);
@@ -208,11 +209,15 @@ goes-on changes effects messages [] w v logs begun left history m h is = (
   where
     all : (who : Actor) → logs who ≡ left who
     all who = is.cut who ∙ ap (λ xs. xs ++ left who) (content-nil (begun who) (is.content who))
-goes-on changes effects messages (q ∷ told) w v logs begun left history m h is =
-    one-told w h.0 v q logs begun left told history (changes w h.0 q.0 q.1 h.1) (taken-source w q.0 q.1 (effects w h.0 q.0 q.1 h.1) (messages w h.0 q.0 q.1 h.1)) m is
-    (λ logs' begun' history' m' is'. goes-on changes effects messages told h.0 v logs' begun' left history' m' h.2 is') (begun (actor_of q.0)) refl
+goes-on (q ∷ told) w v logs begun left history m h is =
+    one-told w h.0 v q logs begun left told history h.1.change h.1.source m is
+    (λ logs' begun' history' m' is'. goes-on told h.0 v logs' begun' left history' m' h.2 is') (begun (actor_of q.0)) refl
     (is.content (actor_of q.0) ∙ ap (λ t. content_of (cond t (q ∷ own_events (actor_of q.0) told) (own_events (actor_of q.0) told))) (own-self q.0))
+
+pub long-go-on : (w v : ExactWorld) (logs begun left : Logs) (told history : List Pair) → IsMerge w logs history → IsLongHistory w told v →
+    ((who : Actor) → logs who ≡ begun who ++ left who) → ((who : Actor) → content_of (begun who) ≡ content_of (own_events who told)) → (rest : List Pair) × IsMerge v left rest
+long-go-on w v logs begun left told history m h cut content = goes-on told w v logs begun left history m h (record { cut = cut; content = content })
 
 pub merges-go-on : StepsChangeOnePart → EffectsAreOfTheirEvents → MessagesAreAsListed → (w v : ExactWorld) (logs begun left : Logs) (told history : List Pair) → IsMerge w logs history → IsHistory w told v →
     ((who : Actor) → logs who ≡ begun who ++ left who) → ((who : Actor) → content_of (begun who) ≡ content_of (own_events who told)) → (rest : List Pair) × IsMerge v left rest
-merges-go-on changes effects messages w v logs begun left told history m h cut content = goes-on changes effects messages told w v logs begun left history m h (record { cut = cut; content = content })
+merges-go-on changes effects messages w v logs begun left told history m h cut content = long-go-on w v logs begun left told history m (history-comes changes effects messages told w v h) cut content

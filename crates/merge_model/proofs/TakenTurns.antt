@@ -3,6 +3,7 @@ use Rattle.std.proofs.Common.{◌≡◌, ℕ, Bool, true, false, cond, List, [],
 use Rattle.std.proofs.lemmas.Bool.{eqb-true, eq-eqb}
 use Rattle.lock_messages.specs.declared.ids.Actor.{Actor}
 use Rattle.lock_messages.specs.declared.messages.Message.{Message}
+use Rattle.lock_model.specs.Ballots.{Ballot}
 use Rattle.lock_model.specs.Decisions.{Among}
 use Rattle.world_model.specs.declared.events.Effect.{Effect}
 use Rattle.world_model.specs.declared.events.Effect.TheVariants as effect
@@ -15,12 +16,13 @@ use Rattle.world_model.specs.declared.exact.ExactWorld.{ExactWorld}
 use Rattle.world_model.specs.Worlds.{Setting}
 use Rattle.world_model.specs.Turns.{Acts, Speaks, Reads, Turns}
 use Rattle.world_model.specs.ExactWorlds.{numbered, Deed, NodeDoes, ClientDoes, deed_of, actor_in, actor_of, Stepped, Steps, has_room, next_number, sending, with_node_at, with_client_at, read_in, finishes, by_actor, done_by, step}
-use Rattle.world_model.specs.Parts.{place, is_own, node_part, client_part, part, message_of, after_own}
+use Rattle.world_model.specs.Parts.{place, is_own, Part, node_part, client_part, part, message_of, after_own}
 use Rattle.world_model.specs.Laws.{Takes}
-use Rattle.world_model.specs.Locality.{IsHistory, own_events, IsEffectOf, EffectsAreOfTheirEvents, IsAsListed, MessagesAreAsListed, ChangesOne, StepsChangeOnePart}
+use Rattle.world_model.specs.Locality.{IsHistory, own_events, local_part, IsEffectOf, EffectsAreOfTheirEvents, IsAsListed, MessagesAreAsListed, ChangesOne, StepsChangeOnePart}
 use Rattle.world_model.proofs.ListFacts.{numbered-among}
 use Rattle.world_model.proofs.LocalityFacts.{places-apart}
 use Rattle.merge_model.specs.OwnRuns.{HasEffect, HasEffectIn, IsTurn, IsOwnRun}
+use Rattle.merge_model.specs.LongHistories.{Comes, IsLongHistory}
 use Rattle.merge_model.specs.Merging.{moved, says, HasSource, IsSourced, IsMerge}
 use Rattle.merge_model.proofs.OwnRunFacts.{Pair}
 use Rattle.merge_model.proofs.Greed.{sourced-same}
@@ -116,26 +118,65 @@ one-run w u q who own true change turn is rest =
     )
 one-run w u q who own false change turn is rest = subst (λ p. IsOwnRun w.ballots who p own) (parts-move w u q change who false is) (subst (λ b. IsOwnRun b who (part u who) own) (ballots-stay w u q change) rest)
 
-module _ (changes : StepsChangeOnePart) (effects : EffectsAreOfTheirEvents) (messages : MessagesAreAsListed) where
-  own-history : (history : List Pair) (w v : ExactWorld) → IsHistory w history v → (who : Actor) → IsOwnRun w.ballots who (part w who) (own_events who history)
-  own-history [] w v h who = tt
-  own-history (q ∷ history) w v h who =
-      one-run w h.0 q who (own_events who history) (is_own who q.0) (changes w h.0 q.0 q.1 h.1) (taken-turn w h.0 q.0 q.1 h.1) refl (own-history history h.0 v h.2 who)
+-- a history is a long one
 
-  sourced-history : (history : List Pair) (w v : ExactWorld) → IsHistory w history v → IsSourced w.ballots (part w) w.sent history
-  sourced-history [] w v h = tt
-  sourced-history (q ∷ history) w v h =
-      let change = changes w h.0 q.0 q.1 h.1 in (
-        taken-source w q.0 q.1 (effects w h.0 q.0 q.1 h.1) (messages w h.0 q.0 q.1 h.1),
-        sourced-same w.ballots history (part h.0) (moved w.ballots (part w) q) h.0.sent (w.sent ++ says w.ballots (part w) q)
-            (λ who. parts-move w h.0 q change who (is_own who q.0) refl)
-            (λ m a. subst (λ xs. Among m xs) change.sent a)
-            (subst (λ b. IsSourced b (part h.0) h.0.sent history) (ballots-stay w h.0 q change) (sourced-history history h.0 v h.2)),
-      )
+pub taken-comes : StepsChangeOnePart → EffectsAreOfTheirEvents → MessagesAreAsListed → (w v : ExactWorld) (q : Pair) → Takes w q.0 q.1 v → Comes w q v
+taken-comes changes effects messages w v q h = record {
+  turn = taken-turn w v q.0 q.1 h;
+  source = taken-source w q.0 q.1 (effects w v q.0 q.1 h) (messages w v q.0 q.1 h);
+  change = changes w v q.0 q.1 h;
+}
+
+pub history-comes : StepsChangeOnePart → EffectsAreOfTheirEvents → MessagesAreAsListed → (history : List Pair) (w v : ExactWorld) → IsHistory w history v → IsLongHistory w history v
+history-comes changes effects messages [] w v h = h
+history-comes changes effects messages (q ∷ history) w v h = (h.0, taken-comes changes effects messages w h.0 q h.1, history-comes changes effects messages history h.0 v h.2)
+
+-- and a long one is a merge
+
+own-history : (history : List Pair) (w v : ExactWorld) → IsLongHistory w history v → (who : Actor) → IsOwnRun w.ballots who (part w who) (own_events who history)
+own-history [] w v h who = tt
+own-history (q ∷ history) w v h who =
+    one-run w h.0 q who (own_events who history) (is_own who q.0) h.1.change h.1.turn refl (own-history history h.0 v h.2 who)
+
+sourced-history : (history : List Pair) (w v : ExactWorld) → IsLongHistory w history v → IsSourced w.ballots (part w) w.sent history
+sourced-history [] w v h = tt
+sourced-history (q ∷ history) w v h =
+    let change : ChangesOne w q.0 q.1 h.0 = h.1.change in (
+      h.1.source,
+      sourced-same w.ballots history (part h.0) (moved w.ballots (part w) q) h.0.sent (w.sent ++ says w.ballots (part w) q)
+          (λ who. parts-move w h.0 q change who (is_own who q.0) refl)
+          (λ m a. subst (λ xs. Among m xs) change.sent a)
+          (subst (λ b. IsSourced b (part h.0) h.0.sent history) (ballots-stay w h.0 q change) (sourced-history history h.0 v h.2)),
+    )
+
+pub long-merges : (w v : ExactWorld) (history : List Pair) → IsLongHistory w history v → IsMerge w (λ who. own_events who history) history
+long-merges w v history h = record {
+  own = own-history history w v h;
+  interleaved = λ who. refl;
+  sourced = sourced-history history w v h;
+}
 
 pub history-merges : StepsChangeOnePart → EffectsAreOfTheirEvents → MessagesAreAsListed → (w v : ExactWorld) (history : List Pair) → IsHistory w history v → IsMerge w (λ who. own_events who history) history
-history-merges changes effects messages w v history h = record {
-  own = own-history changes effects messages history w v h;
-  interleaved = λ who. refl;
-  sourced = sourced-history changes effects messages history w v h;
-}
+history-merges changes effects messages w v history h = long-merges w v history (history-comes changes effects messages history w v h)
+
+-- where a long history leads
+
+pub long-ballots : (w v : ExactWorld) (history : List Pair) → IsLongHistory w history v → v.ballots ≡ w.ballots
+long-ballots w v [] h = ap (λ (x : ExactWorld). x.ballots) h
+long-ballots w v (q ∷ history) h = long-ballots h.0 v history h.2 ∙ ballots-stay w h.0 q h.1.change
+
+moved-local : (b : List Ballot) (q : Pair) (p : Part) (own : List Pair) (t : Bool) → local_part b (cond t (after_own b q.0 q.1 p) p) own ≡ local_part b p (cond t (q ∷ own) own)
+moved-local b q p own true = refl
+moved-local b q p own false = refl
+
+pub long-parts : (w v : ExactWorld) (history : List Pair) (who : Actor) → IsLongHistory w history v → part v who ≡ local_part w.ballots (part w who) (own_events who history)
+long-parts w v [] who h = ap (λ (x : ExactWorld). part x who) h
+long-parts w v (q ∷ history) who h =
+    long-parts h.0 v history who h.2
+    ∙ ap (λ b. local_part b (part h.0 who) (own_events who history)) (ballots-stay w h.0 q h.1.change)
+    ∙ ap (λ p. local_part w.ballots p (own_events who history)) (parts-move w h.0 q h.1.change who (is_own who q.0) refl)
+    ∙ moved-local w.ballots q (part w who) (own_events who history) (is_own who q.0)
+
+pub long-joined : (w u v : ExactWorld) (begun rest : List Pair) → IsLongHistory w begun u → IsLongHistory u rest v → IsLongHistory w (begun ++ rest) v
+long-joined w u v [] rest h i = subst (λ x. IsLongHistory x rest v) h i
+long-joined w u v (q ∷ begun) rest h i = (h.0, h.1, long-joined h.0 u v begun rest h.2 i)

@@ -15,6 +15,7 @@ use Rattle.world_model.specs.ExactWorlds.{actor_of}
 use Rattle.world_model.specs.Parts.{Part, part, own_refusal}
 use Rattle.world_model.specs.Locality.{IsHistory, own_events, local_part}
 use Rattle.merge_model.specs.OwnRuns.{IsTurn, IsOwnRun}
+use Rattle.merge_model.specs.LongHistories.{IsLongHistory}
 use Rattle.merge_model.specs.Merging.{Logs, HasSource, IsSourced, all_said, Interleaves, IsMerge, IsLeft, content_of}
 use Rattle.merge_model.specs.Lives.{Life, kept_record, Restarts, TellsLives}
 
@@ -54,6 +55,13 @@ MergesAreHistories = (w : ExactWorld) (logs : Logs) (history : List (Event × Ef
 -- The other way round: a history is a merge of each actor's own events in it.
 abbrev pub HistoriesAreMerges : Type 0
 HistoriesAreMerges = (w v : ExactWorld) (history : List (Event × Effect)) → IsHistory w history v → IsMerge w (λ who. own_events who history) history
+
+-- So is a history of any length, with any number of messages. Each history is such a one.
+abbrev pub LongHistoriesAreMerges : Type 0
+LongHistoriesAreMerges = (w v : ExactWorld) (history : List (Event × Effect)) → IsLongHistory w history v → IsMerge w (λ who. own_events who history) history
+
+abbrev pub HistoriesAreLong : Type 0
+HistoriesAreLong = (w v : ExactWorld) (history : List (Event × Effect)) → IsHistory w history v → IsLongHistory w history v
 
 -- Only the set of the messages that were said counts, and more of them do no harm.
 abbrev pub SaidIsASet : Type 0

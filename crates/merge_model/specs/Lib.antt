@@ -1,4 +1,5 @@
 pub mod OwnRuns
 pub mod Merging
+pub mod LongHistories
 pub mod Lives
 pub mod Laws

@@ -1,6 +1,6 @@
 //! Laws of the definitions. Each function computes nothing: its contract is a theorem.
 
-ghost use Rattle.merge_model.specs.Laws.{TurnsAreAllowed, OwnRunsJoin, MergesAreRuns, MergesAreExclusive, BeginningsAreMerges, MergesAreHistories, HistoriesAreMerges, SaidIsASet, WhatMayComeNextMayComeFirst, MergesGoOn, StuckLogsHaveNoMerge, LivesAreOwnRuns, LivesBeginAsFound, LivesTellOneLog};
+ghost use Rattle.merge_model.specs.Laws.{TurnsAreAllowed, OwnRunsJoin, MergesAreRuns, MergesAreExclusive, BeginningsAreMerges, MergesAreHistories, HistoriesAreMerges, LongHistoriesAreMerges, HistoriesAreLong, SaidIsASet, WhatMayComeNextMayComeFirst, MergesGoOn, StuckLogsHaveNoMerge, LivesAreOwnRuns, LivesBeginAsFound, LivesTellOneLog};
 
 use world_model::laws::steps_change_one_part;
 
@@ -35,9 +35,12 @@ pub fn merges_are_histories()
     steps_change_one_part();
 }
 
-/// A history of the exact world is a merge of each actor's own events in it. So merging loses no history.
+/// A history of the exact world is a merge of each actor's own events in it. So merging loses no history. The same holds
+/// of a history of any length, whose messages are a set and no list. Each history of the exact world is such a one.
 pub fn histories_are_merges()
-    ensures { HistoriesAreMerges }
+    ensures exact { HistoriesAreMerges }
+    ensures long { LongHistoriesAreMerges }
+    ensures all { HistoriesAreLong }
 {
     steps_change_one_part();
 }
