@@ -12,6 +12,7 @@ use Rattle.world_model.specs.Kinds.{kind_of, is_reading}
 use Rattle.world_model.specs.Locality.{IsHistory, own_events, local_part}
 use Rattle.world_model.specs.Parts.{Part, part, is_own, message_of}
 use Rattle.merge_model.specs.OwnRuns.{IsTurn}
+use Rattle.merge_model.specs.LongHistories.{IsLongHistory}
 use Rattle.merge_model.specs.Merging.{Logs, HasSource, IsMerge}
 use Rattle.merge_model.specs.Lives.{Restarts}
 use Rattle.own_journals.specs.declared.lines.OwnLine.{OwnLine}
@@ -58,6 +59,12 @@ pub record IsCut (w : ExactWorld) (who : Actor) (lines left : List OwnLine) (own
 pub record IsMerging (w : ExactWorld) (journals left : Journals) (v : ExactWorld) : Type 0 where
   pub told : List (Event × Effect)
   pub history : IsHistory w told v
+  pub cut : (who : Actor) → IsCut w who (journals who) (left who) (own_events who told)
+
+-- Journals that are being judged: a history of any length leads from the world w to v, and these lines are left.
+pub record IsJudging (w : ExactWorld) (journals left : Journals) (v : ExactWorld) : Type 0 where
+  pub told : List (Event × Effect)
+  pub history : IsLongHistory w told v
   pub cut : (who : Actor) → IsCut w who (journals who) (left who) (own_events who told)
 
 -- The line says nothing that the actor could do in the world v.

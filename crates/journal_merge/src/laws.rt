@@ -1,6 +1,6 @@
 //! Laws of merging line by line. Each function computes nothing: its contract is a theorem.
 
-ghost use Rattle.journal_merge.specs.Laws.{TakingGoesOn, MergedHaveMerge, RefusedHaveNoMerge, WaitingHaveNoMerge};
+ghost use Rattle.journal_merge.specs.Laws.{TakingGoesOn, MergedHaveMerge, RefusedHaveNoMerge, WaitingHaveNoMerge, JudgingGoesOn, JudgedHaveMerge, RefusedAreJudged, WaitingAreJudged};
 
 use lock_messages::laws::one_spelling;
 use world_model::laws::steps_change_one_part;
@@ -15,5 +15,15 @@ pub fn merging_is_exact()
     ensures waiting { WaitingHaveNoMerge }
 {
     steps_change_one_part();
+    one_spelling();
+}
+
+/// Judging line by line is exact: the same holds, however many messages are said.
+pub fn judging_is_exact()
+    ensures taking { JudgingGoesOn }
+    ensures merged { JudgedHaveMerge }
+    ensures refused { RefusedAreJudged }
+    ensures waiting { WaitingAreJudged }
+{
     one_spelling();
 }

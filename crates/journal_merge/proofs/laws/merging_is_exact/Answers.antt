@@ -2,7 +2,7 @@ use Rattle.journal_merge.proofs.MergingFacts.{taking-goes-on, merged-have-merge,
 use Rattle.journal_merge.proofs.laws.merging_is_exact.Goals as goal
 
 pub returns-clause-taking : goal.returns-clause-taking
-returns-clause-taking c = taking-goes-on
+returns-clause-taking c = taking-goes-on c.steps_change_one_part.ensures.changes c.steps_change_one_part.ensures.effects c.steps_change_one_part.ensures.messages
 
 pub returns-clause-merged : goal.returns-clause-merged
 returns-clause-merged c = merged-have-merge c.steps_change_one_part.ensures.changes c.steps_change_one_part.ensures.effects c.steps_change_one_part.ensures.messages
