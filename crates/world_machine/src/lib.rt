@@ -8,10 +8,16 @@
 //! there alone; that what is asked of it (`inside`, `ticket_inside`, `waiting`, `holding`, `kept_bytes`,
 //! `sent`) is answered as the definitions have it; that nobody is locked out of it: `way_in` answers the
 //! events by which a client gets in, or why there are none, and leaves the world as it is; and that a
-//! `copy` is the same world. It stands on `world_model`, `world_actors`, `world_opening`,
+//! `copy` is the same world.
+//!
+//! `Actors` are the actors of a world, with a list of messages that can be forgotten. They take the same events, but nothing
+//! is promised of how they stand to each other.
+//!
+//! It stands on `world_model`, `world_actors`, `world_opening`,
 //! `stable_record`, `admission_policy`, `lock_messages`, `lock_model` and `vote_weights`.
 #![tactic(auto)]
 
+mod actors;
 mod advising;
 mod copying;
 mod doing;
@@ -23,6 +29,7 @@ mod turns;
 mod ways;
 mod world;
 
+pub use actors::Actors;
 pub use world::World;
 pub use world_model::{Age, Effect, Event, MAX_MESSAGES, StepFault, Want, laws};
 pub use world_opening::OpeningFault;
