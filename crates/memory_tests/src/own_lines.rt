@@ -27,3 +27,9 @@ fn a_frame_is_read(rt: HostRuntime) -> Outcome {
     let told = OwnLine::Reads(Actor::Client(client_id(1)), Bytes::from_static(&[1, 2, 3]));
     is_told(rt.alloc(), "hear c1 010203", &told)
 }
+
+#[test]
+fn a_life_is_read_after_what_was_cut_off(rt: HostRuntime) -> Outcome {
+    let told = OwnLine::Life(Actor::Client(client_id(7)), Bytes::from_static(&[255]));
+    is_told(rt.alloc(), "hear c7 01life c7 ff", &told)
+}

@@ -1,1 +1,2 @@
 pub mod OwnLineFacts
+pub mod LifeFacts

@@ -15,14 +15,14 @@ use Rattle.world_model.specs.declared.events.Event.TheVariants as event
 use Rattle.world_model.specs.Kinds.{kind_of, is_reading}
 use Rattle.event_lines.specs.declared.faults.LineFault.{LineFault}
 use Rattle.event_lines.specs.Lines.{is_space, words, IsActor}
-use Rattle.event_lines.specs.Events.{event_of, event_text, IsSpelling}
+use Rattle.event_lines.specs.Events.{event_of, event_text}
 use Rattle.event_lines.specs.Laws.{EventsAreSpelledOnce}
 use Rattle.event_lines.proofs.SplitFacts.{some_part}
 use Rattle.own_journals.specs.declared.faults.OwnLineFault.{OwnLineFault}
 use Rattle.own_journals.specs.declared.faults.OwnLineFault.TheVariants as fault
 use Rattle.own_journals.specs.declared.lines.OwnLine.{OwnLine}
 use Rattle.own_journals.specs.declared.lines.OwnLine.TheVariants as own
-use Rattle.own_journals.specs.OwnLines.{IsPlain, IsFramed, IsText, reading_word, three_of, fallen_in, named_in, NamesActor, SpellsBytes, Frames, is_frame_word, line_with, ReadsFrame, plain_in, framed_in, ReadsLine}
+use Rattle.own_journals.specs.OwnLines.{IsPlain, IsFramed, IsWhole, reading_word, three_of, fallen_in, named_in, NamesActor, SpellsBytes, Frames, is_frame_word, line_with, ReadsFrame, plain_in, framed_in, ReadsWhole}
 
 -- words
 
@@ -75,7 +75,7 @@ names-actor once word = go (event_of (codes "fall " ++ word)) refl
 
 -- three words
 
-abbrev Three : Type 0
+abbrev pub Three : Type 0
 Three = List ℕ × List ℕ × List ℕ
 
 three-are : (ws : List (List ℕ)) (t : Three) → three_of ws ≡ Some t → ws ≡ t.0 ∷ t.1 ∷ t.2 ∷ []
@@ -170,7 +170,7 @@ reading-word (actor.Client c) = refl
 
 -- three words that frame a line
 
-frames-text : (line w a d : List ℕ) (l : OwnLine) → words line ≡ w ∷ a ∷ d ∷ [] → Frames w a d l → IsText line l
+frames-text : (line w a d : List ℕ) (l : OwnLine) → words line ≡ w ∷ a ∷ d ∷ [] → Frames w a d l → IsWhole line l
 frames-text line w a d (own.Life who found) is h = record { digits = d; words = is ∙ ap (λ x. x ∷ a ∷ d ∷ []) h.0 ∙ ap (λ x. codes "life" ∷ x ∷ d ∷ []) h.1; spell = h.3; actor = h.2 }
 frames-text line w a d (own.Reads who frame) is h = record { digits = d; words = is ∙ ap (λ x. x ∷ a ∷ d ∷ []) h.0 ∙ ap (λ x. reading_word who ∷ x ∷ d ∷ []) h.1; spell = h.3; actor = h.2 }
 frames-text line w a d (own.Does e) is h = absurd h
@@ -183,18 +183,18 @@ framed-frames line w a d word who bytes is h =
     let third : d ≡ h.digits = cc in
     (first, second, h.actor, ap decode_of third ∙ h.spell)
 
-text-frames : (line w a d : List ℕ) (l : OwnLine) → words line ≡ w ∷ a ∷ d ∷ [] → is_frame_word w ≡ true → IsText line l → Frames w a d l
+text-frames : (line w a d : List ℕ) (l : OwnLine) → words line ≡ w ∷ a ∷ d ∷ [] → is_frame_word w ≡ true → IsWhole line l → Frames w a d l
 text-frames line w a d (own.Life who found) is framed h = framed-frames line w a d (codes "life") who found is h
 text-frames line w a d (own.Reads who frame) is framed h = framed-frames line w a d (reading_word who) who frame is h
 text-frames line w a d (own.Does e) is framed h = absurd (no-plain line w a d e is (frame-word w framed) h)
 
-pub framed-reads : (line : List ℕ) (t : Three) (r : Result OwnLine OwnLineFault) → framed_in (three_of (words line)) ≡ Some t → ReadsFrame t.0 t.1 t.2 r → ReadsLine line r
+pub framed-reads : (line : List ℕ) (t : Three) (r : Result OwnLine OwnLineFault) → framed_in (three_of (words line)) ≡ Some t → ReadsFrame t.0 t.1 t.2 r → ReadsWhole line r
 framed-reads line t r is h =
     let f = framed-at (three_of (words line)) t is in
     let three = three-are (words line) t f.0 in
     record { found = found r h.found three; only = λ l text. h.only l (text-frames line t.0 t.1 t.2 l three f.1 text) }
   where
-    found : (r : Result OwnLine OwnLineFault) → IfOk r (λ l. Frames t.0 t.1 t.2 l) → words line ≡ t.0 ∷ t.1 ∷ t.2 ∷ [] → IfOk r (IsText line)
+    found : (r : Result OwnLine OwnLineFault) → IfOk r (λ l. Frames t.0 t.1 t.2 l) → words line ≡ t.0 ∷ t.1 ∷ t.2 ∷ [] → IfOk r (IsWhole line)
     found (Ok l) h three = frames-text line t.0 t.1 t.2 l three h
     found (Err f) h three = tt
 
@@ -206,18 +206,18 @@ unframed line word who bytes none framed h =
     let z : ◌≡◌ {A = Option Three} None (Some (word, actor_text who, h.digits)) = sym none ∙ some in
     cc
 
-pub plain-reads : EventsAreSpelledOnce → (line : List ℕ) → framed_in (three_of (words line)) ≡ None → ReadsLine line (plain_in (event_of line))
+pub plain-reads : EventsAreSpelledOnce → (line : List ℕ) → framed_in (three_of (words line)) ≡ None → ReadsWhole line (plain_in (event_of line))
 plain-reads once line none = record { found = found (event_of line) refl; only = only }
   where
-    found-as : (e : Event) (b : Bool) → event_of line ≡ Ok e → is_reading (kind_of e) ≡ b → IfOk (cond b (Err fault.NoLine) (Ok (own.Does e))) (IsText line)
+    found-as : (e : Event) (b : Bool) → event_of line ≡ Ok e → is_reading (kind_of e) ≡ b → IfOk (cond b (Err fault.NoLine) (Ok (own.Does e))) (IsWhole line)
     found-as e true is reading = tt
     found-as e false is reading = ((once line e).0 is, reading)
 
-    found : (r : Result Event LineFault) → event_of line ≡ r → IfOk (plain_in r) (IsText line)
+    found : (r : Result Event LineFault) → event_of line ≡ r → IfOk (plain_in r) (IsWhole line)
     found (Ok e) is = found-as e (is_reading (kind_of e)) is refl
     found (Err f) is = tt
 
-    only : (l : OwnLine) → IsText line l → (plain_in (event_of line) ≡ Ok l) ⊎ (plain_in (event_of line) ≡ Err fault.Memory)
+    only : (l : OwnLine) → IsWhole line l → (plain_in (event_of line) ≡ Ok l) ⊎ (plain_in (event_of line) ≡ Err fault.Memory)
     only (own.Life who bytes) h = absurd (unframed line (codes "life") who bytes none refl h)
     only (own.Reads who frame) h = absurd (unframed line (reading_word who) who frame none (reading-word who) h)
     only (own.Does e) h = inl (ap plain_in ((once line e).1 h.0) ∙ ap (λ b. cond b (Err fault.NoLine) (Ok (own.Does e))) h.1)
@@ -251,7 +251,7 @@ same-value : {A : Type 0} (x y : A) → ◌≡◌ {A = Result A OwnLineFault} (O
 same-value x y (inl h) = cc
 same-value x y (inr h) = absurd cc
 
-life-is-no-reading : (who : Actor) → codes "life" ≡ reading_word who → ⊥
+pub life-is-no-reading : (who : Actor) → codes "life" ≡ reading_word who → ⊥
 life-is-no-reading (actor.Node n) h = let z : 108 ≡ 116 = differs 108 116 _ _ h in omega (arith, z)
 life-is-no-reading (actor.Client c) h = let z : 108 ≡ 104 = differs 108 104 _ _ h in omega (arith, z)
 

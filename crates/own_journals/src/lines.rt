@@ -2,11 +2,11 @@
 
 ghost use Rattle.std.specs.Prelude.{◌≡◌};
 ghost use Rattle.event_lines.specs.Lines.{words};
-ghost use Rattle.own_journals.specs.OwnLines.{reading_word, line_with, plain_in, three_of, seen, is_frame_word, framed_in, SpellsBytes, ReadsFrame, ReadsLine};
+ghost use Rattle.own_journals.specs.OwnLines.{reading_word, line_with, plain_in, three_of, seen, last_three, both, ends_in_life, life_in, is_frame_word, framed_in, SpellsBytes, ReadsFrame, ReadsWhole, ReadsLife, ReadsLine};
 ghost use Rattle.world_model.specs.Kinds.{kind_of, is_reading};
 
 use crate::OwnLineFault;
-use crate::words::{actor_in, three_words};
+use crate::words::{actor_in, last_words, three_words};
 use bytes::Bytes;
 use event_lines::laws::events_are_spelled_once;
 use event_lines::{LineFault, read_event};
@@ -124,10 +124,51 @@ fn framed_words(line: &[u8]) -> Option<(&[u8], &[u8], &[u8])>
     }
 }
 
+/// The line of which the bytes are the whole text.
+fn read_whole(alloc: Global, line: &[u8]) -> Result<OwnLine, OwnLineFault>
+    ensures { ReadsWhole line.now result }
+{
+    events_are_spelled_once();
+    match framed_words(line) {
+        Some((word, name, digits)) => read_framed(alloc, word, name, digits),
+        None => plain(read_event(line)),
+    }
+}
+
+/// Whether the word ends with `life`.
+fn ends_in_life(word: &[u8]) -> bool
+    ensures { result ≡ ends_in_life word.now }
+{
+    word.ends_with(b"life")
+}
+
+/// The name and the digits with which a line ends, if a word before them ends with `life`.
+fn life_words(line: &[u8]) -> Option<(&[u8], &[u8])>
+    ensures { both result ≡ life_in (last_three (words line.now)) }
+{
+    match last_words(line) {
+        Some((word, name, digits)) if ends_in_life(word) => Some((name, digits)),
+        _ => None,
+    }
+}
+
+/// The line by which a life begins, with which the bytes end.
+fn read_life(alloc: Global, line: &[u8]) -> Result<OwnLine, OwnLineFault>
+    ensures { ReadsLife line.now result }
+{
+    match life_words(line) {
+        Some((name, digits)) => read_framed(alloc, b"life", name, digits),
+        None => Err(OwnLineFault::NoLine),
+    }
+}
+
 /// Which line of an own journal the bytes spell, given without the line feed.
 ///
 /// The lines are `life WHO HEX`, `take nN HEX`, `hear cC HEX`, and each event that reads no message, as in any journal.
 /// HEX is an even number of hexadecimal digits in either case.
+///
+/// A process that dies while it writes leaves a line that is cut off, and the next life begins right after it. So bytes
+/// that spell no line, and end with `life WHO HEX`, spell that line. What is before it counts for nothing.
 ///
 /// # Errors
 ///
@@ -135,9 +176,9 @@ fn framed_words(line: &[u8]) -> Option<(&[u8], &[u8], &[u8])>
 pub fn read_own_line(alloc: Global, line: &[u8]) -> Result<OwnLine, OwnLineFault>
     ensures { ReadsLine line.now result }
 {
-    events_are_spelled_once();
-    match framed_words(line) {
-        Some((word, name, digits)) => read_framed(alloc, word, name, digits),
-        None => plain(read_event(line)),
+    match read_whole(alloc, line) {
+        Ok(read) => Ok(read),
+        Err(OwnLineFault::NoLine) => read_life(alloc, line),
+        Err(OwnLineFault::Memory) => Err(OwnLineFault::Memory),
     }
 }

@@ -1,10 +1,10 @@
 // The words of a line.
 
-ghost use Rattle.std.specs.Prelude.{◌≡◌, ◌∷◌, ◌++◌, IfOk, codes};
+ghost use Rattle.std.specs.Prelude.{◌≡◌, ◌∷◌, ◌++◌, ◌<◌, length, IfOk, IfSome, codes};
 ghost use Rattle.std.specs.List.{position};
 ghost use Rattle.event_lines.specs.Lines.{is_space, words};
 ghost use Rattle.event_lines.specs.Reading.{words_behind};
-ghost use Rattle.own_journals.specs.OwnLines.{three_of, seen, fallen_in, named_in, NamesActor};
+ghost use Rattle.own_journals.specs.OwnLines.{three_of, seen, last_from, last_three, fallen_in, named_in, NamesActor};
 
 use crate::OwnLineFault;
 use event_lines::laws::events_are_spelled_once;
@@ -22,7 +22,8 @@ fn space_in(text: &[u8]) -> Option<usize>
 
 /// The first word, and what is after the space behind it, if there is one.
 fn first_word(text: &[u8]) -> (&[u8], Option<&[u8]>)
-    ensures { words text.now ≡ result.0.now ∷ words_behind result.1 }
+    ensures words { words text.now ≡ result.0.now ∷ words_behind result.1 }
+    ensures shorter { IfSome result.1 (λ rest. length rest.now < length text.now) }
 {
     match space_in(text) {
         None => (text, None),
@@ -42,6 +43,39 @@ pub fn three_words(text: &[u8]) -> Option<(&[u8], &[u8], &[u8])>
         Some(_) => None,
         None => Some((first, second, third)),
     }
+}
+
+/// The last three of these words and those of the rest.
+fn last_of<'a>(
+    first: &'a [u8],
+    second: &'a [u8],
+    third: &'a [u8],
+    rest: Option<&'a [u8]>,
+) -> (&'a [u8], &'a [u8], &'a [u8])
+    ensures { (result.0.now, result.1.now, result.2.now) ≡ last_from first.now second.now third.now (words_behind rest.entry) }
+{
+    let mut first = first;
+    let mut second = second;
+    let mut third = third;
+    let mut left = rest;
+    while let Some(text) = left {
+        let (word, more) = first_word(text);
+        first = second;
+        second = third;
+        third = word;
+        left = more;
+    }
+    (first, second, third)
+}
+
+/// The last three words of a text that has so many.
+pub fn last_words(text: &[u8]) -> Option<(&[u8], &[u8], &[u8])>
+    ensures { seen result ≡ last_three (words text.now) }
+{
+    let (first, rest) = first_word(text);
+    let (second, rest) = first_word(rest?);
+    let (third, rest) = first_word(rest?);
+    Some(last_of(first, second, third, rest))
 }
 
 /// The text `fall` and the word.

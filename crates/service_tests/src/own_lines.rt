@@ -48,6 +48,29 @@ fn lives_and_frames(rt: HostRuntime) -> Outcome {
     )
 }
 
+/// What a process left of a line when it died, and the next life right after it.
+const CUT: [&str; 9] = [
+    "xlife n16 000aff",
+    "kept n16life n16 000aff",
+    "take n16 010life n16 000aff",
+    "life n16 0000life n16 000aff",
+    "lifelife n16 000aff",
+    "lifexlife n16 000aff",
+    " life n16 000aff",
+    "begin c1 read life n16 000aff",
+    "life n1 00 life n2 00life n16 000aff",
+];
+
+#[test]
+fn lives_after_what_was_cut_off(rt: HostRuntime) -> Outcome {
+    let found = Bytes::from_static(&[0, 10, 255]);
+    let told = OwnLine::Life(Actor::Node(node_id(16)), found);
+    for line in &CUT {
+        is_read(rt.alloc(), line, &told)?;
+    }
+    Ok(())
+}
+
 /// Lines of events that read no message.
 const EVENTS: [&str; 12] = [
     "begin c1 read a",
@@ -76,7 +99,7 @@ fn other_events(rt: HostRuntime) -> Outcome {
 }
 
 /// Lines of no own journal.
-const NO_LINES: [&str; 22] = [
+const NO_LINES: [&str; 29] = [
     "",
     "life",
     "life n1",
@@ -99,6 +122,13 @@ const NO_LINES: [&str; 22] = [
     "rise n1 00",
     "inside a",
     "say n1 00",
+    "kept n1life",
+    "kept n1life n1",
+    "kept n1life n1 0",
+    "kept n1life n17 00",
+    "kept n1life n1 00 ",
+    "kept n1lif n1 00",
+    "kept n1lifes n1 00",
 ];
 
 #[test]
