@@ -1,4 +1,4 @@
-//! What is no line of a frame for the actor under the secret is dropped, and counted.
+//! Lines that are not the line of a frame for the actor under the secret: they are dropped and counted.
 
 use crate::frames::{FRAME, secret};
 use frame_lines::{Inlet, Secret, write_frame};
@@ -18,7 +18,7 @@ fn line(alloc: Global, secret: &Secret, to: Actor) -> Result<Vec<u8>, Failure> {
     Ok(text)
 }
 
-/// Whether the inlet of n1 drops the line, as the only one, and then takes one of its own.
+/// Fails unless the inlet of n1 drops the line, counts it, and then accepts a line of its own.
 fn drops(alloc: Global, text: &[u8], row: usize) -> Outcome {
     let mut inlet = Inlet::of(alloc, secret(), own());
     check_row(inlet.accept(text)?.is_none() && inlet.dropped() == 1, row)?;
@@ -46,7 +46,7 @@ fn damaged(rt: HostRuntime) -> Outcome {
     Ok(())
 }
 
-/// The line is cut at each place, and either part comes alone; or the two come in the other order, or one twice.
+/// The line is cut at each place. Either part comes alone, the two come in the other order, or one comes twice.
 #[test]
 fn torn(rt: HostRuntime) -> Outcome {
     let alloc = rt.alloc();
@@ -75,7 +75,7 @@ fn for_others(rt: HostRuntime) -> Outcome {
     drops(alloc, text.as_slice(), 2)
 }
 
-/// The name of another actor is put in the place of one's own: the tag tells.
+/// The name of another actor is put in the place of one's own. The tag differs.
 #[test]
 fn sent_on(rt: HostRuntime) -> Outcome {
     let alloc = rt.alloc();
@@ -97,7 +97,7 @@ fn of_another_service(rt: HostRuntime) -> Outcome {
     Ok(())
 }
 
-/// Digits are small letters.
+/// Digits have to be small letters.
 #[test]
 fn in_capitals(rt: HostRuntime) -> Outcome {
     let alloc = rt.alloc();
@@ -105,7 +105,7 @@ fn in_capitals(rt: HostRuntime) -> Outcome {
     drops(alloc, text, 1)
 }
 
-/// Lines that are none.
+/// Lines that nobody writes.
 const NOISE: [&[u8]; 9] = [
     b"",
     b" ",

@@ -9,7 +9,7 @@ use Rattle.frame_lines.specs.Hmac.{masked}
 pub digest_length : (m : List ℕ) → length (sha256 m) ≡ 32
 digest_length m = length-sha256 m
 
--- bytes in front of zeros
+-- bytes before zeros
 pub in_front : (bytes new : List ℕ) → new ≡ bytes → new ++ drop (length bytes) (replicate 64 0) ≡ bytes ++ replicate (64 - length bytes) 0
 in_front bytes new is = ap (λ (l : List ℕ). l ++ drop (length bytes) (replicate 64 0)) is ∙ ap (λ (l : List ℕ). bytes ++ l) (drop-replicate (length bytes) 64 0)
 

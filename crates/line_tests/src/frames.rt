@@ -54,7 +54,7 @@ fn actor(number: u32, is_node: bool) -> Result<Actor, Failure> {
     Ok(Actor::Node(node))
 }
 
-/// Whether the frame's line for the actor is this one, and is read as the frame.
+/// Fails unless this is the frame's line for the actor, and the line is read as the frame.
 fn is_line(alloc: Global, to: Actor, frame: &[u8], expected: &str) -> Outcome {
     let line = write_frame(alloc, &secret(), to, frame)?;
     check_row(line.as_str().strip_suffix('\n') == Some(expected), 1)?;

@@ -2,13 +2,13 @@
 use Rattle.std.specs.Prelude.{ℕ, ◌-◌, nat_lt, if◌then◌else◌, List, ◌++◌, length, map, replicate, bit_xor}
 use Rattle.sha2.specs.Sha256.{sha256}
 
--- the key as one block of the hash, of 64 bytes: one that is longer is hashed first, and zeros fill the block
+-- the key as one block of the hash, of 64 bytes: a longer key is hashed first, and zeros fill the block
 abbrev pub block_of : List ℕ → List ℕ
 block_of key =
     let short = if nat_lt 64 (length key) then sha256 key else key in
     short ++ replicate (64 - length short) 0
 
--- each byte of a block, with the bits of the mask turned over
+-- the block, with the bits of the mask flipped in each byte
 abbrev pub masked : ℕ → List ℕ → List ℕ
 masked mask block = map (λ b. bit_xor b mask) block
 

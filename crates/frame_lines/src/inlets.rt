@@ -1,4 +1,4 @@
-// What comes for an actor over lines.
+// The frames that come for an actor over lines.
 
 ghost use Rattle.std.specs.Prelude.{◌≡◌, ℕ, List, Some, IfOk, IfSome};
 ghost use Rattle.hex.specs.Hex.{IsBytes};
@@ -11,9 +11,9 @@ use lock_messages::Actor;
 use std::alloc::{AllocError, Global};
 use std::marker::Model;
 
-/// What takes the frames for an actor out of lines, and counts the lines that it drops.
+/// Takes the frames for an actor out of lines, and counts the lines that it drops.
 ///
-/// Contracts see the secret, whose frames it takes, and how many lines it has dropped.
+/// Contracts see the secret, the actor whose frames it takes, and how many lines it has dropped.
 #[derive(Drop)]
 pub struct Inlet {
     alloc: Global,
@@ -31,7 +31,7 @@ impl Model for Inlet {
 }
 
 impl Inlet {
-    /// Takes frames for this actor under this secret; no line is dropped yet.
+    /// Takes frames for this actor under this secret. It has dropped no line yet.
     pub fn of(alloc: Global, secret: Secret, own: Actor) -> Inlet
         ensures { result ≡ record { block = secret; own = own; dropped = 0 } }
     {
@@ -50,10 +50,10 @@ impl Inlet {
         self.dropped
     }
 
-    /// The frame of a line, given without its line feed; `None` for a line that is dropped. It is accepted exactly if
-    /// it is the one line of a frame for this actor under this secret.
+    /// The frame of a line, which is given without its line feed, or `None` for a line that is dropped.
     ///
-    /// The only error is want of memory, and then the line is lost and not counted.
+    /// A line is accepted exactly if it is the one line of a frame for this actor under this secret. The only error is
+    /// running out of memory. Then the line is lost and not counted.
     pub fn accept(&mut self, line: &[u8]) -> Result<Option<Bytes>, AllocError>
         ensures accepted { IfOk result (λ o. IfSome o (λ frame. line.now ≡ frame_line self.old.block self.old.own frame)) }
         ensures only { (frame : List ℕ) → IsBytes frame → line.now ≡ frame_line self.old.block self.old.own frame → IsOkUnlessMemory result (Some frame) }

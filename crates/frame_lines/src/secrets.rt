@@ -12,7 +12,7 @@ const BLOCK_LEN: usize = 64;
 /// How many bytes a digest has.
 const DIGEST_LEN: usize = 32;
 
-/// The secret of a service: bytes that its own programs know and nobody else.
+/// The secret of a service: bytes that only its own programs know.
 ///
 /// Contracts see it as one block of the hash.
 #[derive(Drop)]
@@ -28,7 +28,7 @@ impl Model for Secret {
     ghost view = { λ s. s.block };
 }
 
-/// The block with the bits of the mask turned over in each byte.
+/// The block, with the bits of the mask flipped in each byte.
 fn masked(block: &[u8; BLOCK_LEN], mask: u8) -> [u8; BLOCK_LEN]
     ensures { result ≡ masked mask block.now }
 {
@@ -39,7 +39,7 @@ fn masked(block: &[u8; BLOCK_LEN], mask: u8) -> [u8; BLOCK_LEN]
     out
 }
 
-/// The bytes with zeros behind them, up to a block.
+/// The bytes, and zeros after them up to a block.
 fn filled(bytes: &[u8]) -> [u8; BLOCK_LEN]
     requires { length bytes.now ≤ BLOCK_LEN }
     ensures { result ≡ bytes.now ++ replicate (BLOCK_LEN - length bytes.now) 0 }

@@ -14,17 +14,17 @@ use std::alloc::{AllocError, Global};
 /// How many bytes of the digest are the tag.
 const TAG_BYTES: usize = 8;
 
-/// How many bytes of a line stand behind the frame's digits: a space and the tag.
+/// How many bytes of a line come after the frame's digits: a space and the tag.
 const TAIL_LEN: usize = 2 * TAG_BYTES + 1;
 
-/// The name of an actor and a space. The only error is want of memory.
+/// The name of an actor and a space. The only error is running out of memory.
 fn name_of(alloc: Global, actor: &Actor) -> Result<String, AllocError>
     ensures { IfOk result (λ name. string_bytes name ≡ actor_text actor.now ++ 32 ∷ []) }
 {
     format!(in alloc; "{actor} ")
 }
 
-/// The tag of a frame for an actor. The only error is want of memory.
+/// The tag of a frame for an actor. The only error is running out of memory.
 fn tag_of(alloc: Global, secret: &Secret, to: &Actor, frame: &[u8]) -> Result<String, AllocError>
     ensures { IfOk result (λ tag. string_bytes tag ≡ tag_of secret.now to.now frame.now) }
 {
@@ -33,7 +33,7 @@ fn tag_of(alloc: Global, secret: &Secret, to: &Actor, frame: &[u8]) -> Result<St
     hex::encode(alloc, &digest[..TAG_BYTES])
 }
 
-/// The line of a frame for an actor, without its line feed. The only error is want of memory.
+/// The line of a frame for an actor, without its line feed. The only error is running out of memory.
 fn frame_text(
     alloc: Global,
     secret: &Secret,
@@ -47,7 +47,7 @@ fn frame_text(
     format!(in alloc; "{to} {digits} {tag}")
 }
 
-/// The line of a frame for an actor, with its line feed. The only error is want of memory.
+/// The line of a frame for an actor, with its line feed. The only error is running out of memory.
 pub fn write_frame(
     alloc: Global,
     secret: &Secret,
@@ -61,7 +61,7 @@ pub fn write_frame(
     Ok(line)
 }
 
-/// The bytes that the digits spell, if they spell any. The only error is want of memory.
+/// The bytes that the digits spell, if they spell some. The only error is running out of memory.
 fn bytes_in(alloc: Global, digits: &[u8]) -> Result<Option<Bytes>, AllocError>
     ensures { (bytes : List ℕ) → decode_of digits.now ≡ Ok bytes → IsOkUnlessMemory result (Some bytes) }
 {
@@ -73,7 +73,7 @@ fn bytes_in(alloc: Global, digits: &[u8]) -> Result<Option<Bytes>, AllocError>
     Ok(Some(Bytes::from_vec(bytes)?))
 }
 
-/// What stands in a line between so many bytes and its tail, if the line is as long.
+/// The bytes of a line between its first `name_len` bytes and its tail, if the line is long enough.
 fn digits_in(line: &[u8], name_len: usize) -> Option<&[u8]>
     ensures { (name digits tail : List ℕ) → line.now ≡ name ++ (digits ++ tail) → length name ≡ name_len → length tail ≡ TAIL_LEN → IsSomeAnd result (λ d. d.now ≡ digits) }
 {
@@ -84,7 +84,7 @@ fn digits_in(line: &[u8], name_len: usize) -> Option<&[u8]>
     Some(&line[name_len..end])
 }
 
-/// The bytes whose digits stand where they do in a line for the actor, if some do. The only error is want of memory.
+/// The bytes whose digits are in the frame's place of a line for the actor, if they spell some. The only error is running out of memory.
 fn frame_in(alloc: Global, own: &Actor, line: &[u8]) -> Result<Option<Bytes>, AllocError>
     ensures { (frame tail : List ℕ) → IsBytes frame → length tail ≡ TAIL_LEN → line.now ≡ actor_text own.now ++ 32 ∷ (encode_lower frame ++ tail) → IsOkUnlessMemory result (Some frame) }
 {
@@ -95,7 +95,7 @@ fn frame_in(alloc: Global, own: &Actor, line: &[u8]) -> Result<Option<Bytes>, Al
     bytes_in(alloc, digits)
 }
 
-/// Whether the line is the one of this frame. The only error is want of memory.
+/// Whether the line is the one of this frame. The only error is running out of memory.
 fn is_line_of(
     alloc: Global,
     secret: &Secret,
@@ -109,8 +109,10 @@ fn is_line_of(
     Ok(text.as_bytes() == line)
 }
 
-/// The frame of a line for this actor, given without its line feed: exactly if the line is the one line of a frame for
-/// this actor under this secret. The only error is want of memory.
+/// The frame of a line, which is given without its line feed.
+///
+/// It returns a frame exactly if the line is the one line of that frame for this actor under this secret. The only
+/// error is running out of memory.
 pub fn read_frame(
     alloc: Global,
     secret: &Secret,

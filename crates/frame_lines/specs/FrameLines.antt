@@ -5,7 +5,8 @@ use Rattle.lock_messages.specs.declared.ids.Actor.{Actor}
 use Rattle.lock_messages.specs.Texts.{actor_text}
 use Rattle.frame_lines.specs.Hmac.{hmac_by}
 
--- What is tagged: whom the frame is for, and the frame. The name has no space, so no two pairs are tagged as one.
+-- The tagged bytes: the actor that the frame is for, and the frame. The name has no space, so two pairs never have the
+-- same tagged bytes.
 abbrev pub tagged : Actor → List ℕ → List ℕ
 tagged to frame = actor_text to ++ 32 ∷ frame
 
@@ -13,16 +14,16 @@ tagged to frame = actor_text to ++ 32 ∷ frame
 abbrev pub tag_of : List ℕ → Actor → List ℕ → List ℕ
 tag_of block to frame = encode_lower (take 8 (hmac_by block (tagged to frame)))
 
--- The line of a frame for an actor, under the secret of this block, without its line feed: whom it is for, the frame
--- in hexadecimal digits, and the tag, with a space between any two.
+-- The line of a frame for an actor, under the secret of this block, without its line feed. It has the actor's name, the
+-- frame in hexadecimal digits, and the tag, with a space between any two.
 abbrev pub frame_line : List ℕ → Actor → List ℕ → List ℕ
 frame_line block to frame = actor_text to ++ 32 ∷ (encode_lower frame ++ 32 ∷ tag_of block to frame)
 
--- this is the result, unless there is no memory
+-- this is the result, unless memory runs out
 abbrev pub IsOkUnlessMemory : {A E : Type 0} → Result A E → A → Type 0
 IsOkUnlessMemory {A} {E} found x = (found ≡ Ok x) ⊎ ((e : E) × (found ≡ Err e))
 
--- What takes frames for an actor: the block of the secret, the actor, and how many lines were dropped.
+-- An inlet of frames for an actor: the block of the secret, the actor, and how many lines were dropped.
 pub record Inflow : Type 0 where
   pub block : List ℕ
   pub own : Actor

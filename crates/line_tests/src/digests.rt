@@ -4,7 +4,7 @@ use frame_lines::Secret;
 use std::alloc::Global;
 use test_outcomes::{Failure, Outcome, check_row};
 
-/// A vector: the byte of the key and how often it stands there, the data, and the digits of the digest.
+/// A vector: the byte of the key, how often it is repeated, the data, and the digits of the digest.
 type Vector = (u8, usize, &'static [u8], &'static str);
 
 const LONGER: &[u8] =
@@ -48,7 +48,7 @@ const JEFE: &str = "5bdcc146bf60754e6a042426089575c75a003f089d2739839dec58b964ec
 
 const COUNTED: &str = "82558a389a443c0ea4cc819899f2083a85f0faa3e578f8077a2e3ff46729665b";
 
-/// Whether the digest under the key begins with these digits, wherever the data is cut in two.
+/// Fails unless the digest under the key begins with these digits, wherever the data is cut in two.
 fn begins(alloc: Global, key: &[u8], text: &[u8], digits: &str, row: usize) -> Outcome {
     let secret = Secret::of(key);
     for at in 0..text.len() {
@@ -81,7 +81,7 @@ fn other_keys(rt: HostRuntime) -> Outcome {
     begins(alloc, key.as_slice(), &[0xcd; 50], COUNTED, 2)
 }
 
-/// A key of a whole block is not hashed, and zeros behind a key make no difference.
+/// A key of a whole block is not hashed, and zeros after a key make no difference.
 #[test]
 fn keys_about_a_block(_rt: HostRuntime) -> Outcome {
     let (block, longer) = ([7; 64], [7; 65]);
