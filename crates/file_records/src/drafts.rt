@@ -183,7 +183,7 @@ impl<'p> Written<'p> {
     /// record is not stuck, so that what it keeps is synced. The only fault is 946.
     pub(crate) fn publish<R: Files<File = File>>(self, files: &R) -> Result<FileRecord, FileFault>
         requires { self.record.stuck ≡ false }
-        ensures same { IfOk result (λ r. r ≡ self.record) }
+        ensures same { IfOk result (λ r. r ≡ self.entry.record) }
         ensures faults { IfErr result (λ fault. fault ≡ FileFault.Unwritable) }
     {
         let Written {
