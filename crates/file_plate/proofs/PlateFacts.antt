@@ -1,5 +1,5 @@
 -- What the calls of a plate over a file make of it.
-use Rattle.std.proofs.Common.{◌≡◌, inl, inr, ℕ, ◌+◌, ◌≤◌, List, [], ◌∷◌, ◌++◌, length, take, drop, map, Result, Ok, Err, OnOk, Vec, refl, sym, ◌∙◌, ap, subst, arith}
+use Rattle.std.proofs.Common.{◌≡◌, inl, inr, ℕ, ◌+◌, ◌≤◌, List, ◌∷◌, length, drop, map, Result, Ok, Err, OnOk, Vec, sym, ap, subst, arith}
 use Rattle.std.specs.Global.{Global}
 use Rattle.std.proofs.lemmas.List.{take_at}
 use Rattle.std.specs.Vec.{with_items}
@@ -8,8 +8,8 @@ use Rattle.slot_record.specs.Plates.{NothingNew}
 use Rattle.slot_record.specs.MemoryPlates.{PlateCall, put, content, MayLeave, Memory}
 use Rattle.slot_record.specs.MemoryPlates as plates
 use Rattle.slot_record.specs.MemoryLaws.{length_of_put, length_of_content, seen_may_be_left}
-use Rattle.file_plate.specs.Media.{MediumCall, Took, WriteFailed, Synced, SyncFailed}
-use Rattle.file_plate.specs.FilePlates.{OnFile, plate_call, file_state, image_of, model_of, Asks}
+use Rattle.file_plate.specs.Media.{Took, WriteFailed, Synced, SyncFailed}
+use Rattle.file_plate.specs.FilePlates.{OnFile, plate_call, file_state, image_of, Asks}
 use Rattle.slot_record.specs.PutLaws.{put_writes}
 
 pub synced_leaves : {T E : Type 0} (p q : OnFile) (result : Result T E) → Asks Synced SyncFailed p result q → NothingNew (file_state p) (file_state q)

@@ -1,6 +1,6 @@
 -- The slots of a file as they are computed. What they mean is in `Texts`, by the definitions of the two formats, and
 -- lemmas show that both are the same.
-use Rattle.std.specs.Prelude.{ℕ, ◌+◌, ◌==◌, ◌&&◌, not, nat_le, Bool, List, slice_index, Option, Some, None, if◌then◌else◌}
+use Rattle.std.specs.Prelude.{ℕ, ◌+◌, ◌==◌, ◌&&◌, not, nat_le, Bool, slice_index, Option, Some, None, if◌then◌else◌}
 use Rattle.std.specs.Int.{w32, w64, from_be_bytes}
 use Rattle.stable_record.specs.declared.formats.TheConstants.{MAX_RECORD_LEN}
 use Rattle.slot_record.specs.declared.slots.TheConstants.{OPEN, MAX_SEQUENCE}

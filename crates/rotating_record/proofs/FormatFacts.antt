@@ -1,5 +1,5 @@
 -- What formatting makes of a plate.
-use Rattle.std.proofs.Common.{◌≡◌, ◌≢◌, inl, inr, ℕ, ◌+◌, ◌≤◌, List, [], ◌∷◌, length, refl, sym, ◌∙◌, ap, subst, arith}
+use Rattle.std.proofs.Common.{◌≡◌, ◌≢◌, inl, inr, ℕ, ◌≤◌, List, [], ◌∷◌, length, sym, ◌∙◌, ap, subst, arith}
 use Rattle.std.specs.Int.{w64, to_be_bytes}
 use Rattle.stable_record.specs.declared.formats.TheConstants.{MAX_RECORD_LEN}
 use Rattle.slot_record.specs.declared.slots.TheConstants.{OPEN}

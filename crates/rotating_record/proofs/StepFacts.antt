@@ -13,7 +13,7 @@ use Rattle.rotating_record.specs.declared.heads.Head.{Head}
 use Rattle.rotating_record.specs.Slots.{start_of, after, mark_on, head_on, body_of, counts, holder_on, found_on, numbers_of}
 use Rattle.rotating_record.specs.Records.{FindsAmong, IsSettled, bodies_on}
 use Rattle.rotating_record.specs.Keeping.{IsWaiting, Stays, next_of}
-use Rattle.rotating_record.proofs.SlotFacts.{SameSlot, Apart, mark_apart, gate_apart, sequence_apart, length_apart, body_apart, slot_apart, written_gate, written_sequence, written_length, written_body, counted, counts_open, holds, holder_there, found_there, holder_fits}
+use Rattle.rotating_record.proofs.SlotFacts.{SameSlot, Apart, mark_apart, gate_apart, sequence_apart, length_apart, body_apart, slot_apart, written_gate, written_sequence, written_length, written_body, counts_open, holds, holder_there, found_there, holder_fits}
 use Rattle.slot_record.specs.Moments.{rests, weakened, torn_on, went_on}
 
 -- the record's slot, the mark, and the gate that makes it the record's are the same

@@ -1,6 +1,6 @@
 -- What is put into an image, and the images that a crash may leave of a plate in memory.
 use Rattle.std.specs.Prelude.{None, IfOk, replicate}
-use Rattle.std.proofs.Common.{◌≡◌, inl, inr, ℕ, zero, suc, ◌+◌, ◌-◌, ◌≤◌, List, [], ◌∷◌, ◌++◌, length, take, drop, Result, Ok, Err, OnOk, refl, sym, ◌∙◌, ap, subst, arith}
+use Rattle.std.proofs.Common.{◌≡◌, inl, inr, ℕ, zero, suc, ◌+◌, ◌≤◌, List, [], ◌∷◌, length, take, drop, Result, Ok, Err, OnOk, refl, sym, ◌∙◌, ap, subst, arith}
 use Rattle.std.proofs.lemmas.List.{length-replicate}
 use Rattle.slot_record.specs.Images.{Image, DiffersWithin, IsWritten}
 use Rattle.slot_record.specs.Plates.{NothingNew}

@@ -5,8 +5,7 @@ use Rattle.slot_record.specs.declared.slots.Slot.{Slot}
 use Rattle.slot_record.specs.declared.slots.TheConstants.{OPEN, LEAST_PLATE_LEN, MAX_SEQUENCE}
 use Rattle.slot_record.specs.declared.standing.Standing.{Standing}
 use Rattle.slot_record.specs.declared.standing.Known.{Known}
-use Rattle.slot_record.specs.Images.{Image}
-use Rattle.slot_record.specs.Plates.{PlateState, Only, LeavesOnly}
+use Rattle.slot_record.specs.Plates.{PlateState, Only}
 use Rattle.slot_record.specs.Slots.{other_of, head_on, body_of, holder_on, record_on}
 use Rattle.slot_record.specs.Promises.{StaysBy}
 use Rattle.slot_record.specs.Records.{IsSettled, bodies_on}

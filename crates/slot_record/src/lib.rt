@@ -17,6 +17,9 @@
 //! didn't succeed, of one that somebody else writes, or of a real disk: what a disk does is stated
 //! once, as the clauses of `Plate`.
 //!
+//! A crate with another format promises the same by the definitions of `specs/Promises.antt`, and shares `Standing`,
+//! `store` and the laws of `specs/`.
+//!
 //! The crate stands on `stable_record`, `lock_model` and `thiserror`.
 #![tactic(auto)]
 

@@ -1,4 +1,4 @@
-use Rattle.std.proofs.Common.{ℕ, List, codes, string_bytes}
+use Rattle.std.proofs.Common.{codes, string_bytes}
 use Rattle.record_view.specs.Texts.{count_words}
 use Rattle.record_view.proofs.TextFacts.{three_joined}
 use Rattle.record_view.proofs.contents.push_head.Goals as goal

@@ -1,4 +1,4 @@
-use Rattle.std.proofs.Common.{◌≡◌, ◌∙◌, ℕ, List, ◌++◌, length, string_bytes, ap}
+use Rattle.std.proofs.Common.{◌∙◌, ℕ, List, ◌++◌, length, string_bytes, ap}
 use Rattle.std.specs.List.{flat_map}
 use Rattle.record_view.specs.Texts.{head_words, problem_text, entry_text}
 use Rattle.record_view.proofs.TextFacts.{joined}
