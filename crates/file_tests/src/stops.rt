@@ -158,7 +158,7 @@ fn keep_stops<H: Home>(
 }
 
 fn each_format_stops<H: Home>(rt: &HostRuntime, path: &str, (fault, wants): Row) -> Outcome {
-    let calls = (wants.len() as u32).saturating_sub(1);
+    let calls = u32::try_from(wants.len()).unwrap_or(0).saturating_sub(1);
     let mut failing = 0u32;
     for want in wants {
         failing = failing.saturating_add(1);
@@ -169,7 +169,7 @@ fn each_format_stops<H: Home>(rt: &HostRuntime, path: &str, (fault, wants): Row)
 }
 
 fn each_keep_stops<H: Home>(rt: &HostRuntime, path: &str, (fault, wants): Row) -> Outcome {
-    let calls = (wants.len() as u32).saturating_sub(1);
+    let calls = u32::try_from(wants.len()).unwrap_or(0).saturating_sub(1);
     let mut failing = 0u32;
     for want in wants {
         failing = failing.saturating_add(1);
