@@ -1,1 +1,2 @@
 pub mod NumberFacts
+pub mod SaidFacts

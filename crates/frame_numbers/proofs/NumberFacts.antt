@@ -1,5 +1,5 @@
 -- An index of messages by their frames.
-use Rattle.std.proofs.Common.{◌≡◌, ℕ, ◌+◌, ◌-◌, ◌<◌, ◌≤◌, ◌⊎◌, Bool, true, false, cond, List, [], ◌∷◌, ◌++◌, length, zero, suc, Option, Some, None, refl, sym, ◌∙◌, ap, subst, inl, inr, arith}
+use Rattle.std.proofs.Common.{◌≡◌, ℕ, ◌+◌, ◌-◌, ◌<◌, ◌≤◌, ◌⊎◌, Bool, true, false, cond, List, [], ◌∷◌, ◌++◌, length, zero, suc, Option, Some, None, refl, sym, ◌∙◌, ap, inl, inr, arith}
 use Rattle.std.specs.Str.{bytes_eq}
 use Rattle.std.proofs.lemmas.Slice.Eq.{bytes_eq-Decides}
 use Rattle.std.specs.Prelude.{slice_get}
@@ -7,10 +7,7 @@ use Rattle.std.proofs.lemmas.List.{length-append}
 use Rattle.std.proofs.lemmas.Bool.{cases_eq, cases_lt}
 use Rattle.lock_messages.specs.declared.messages.Message.{Message}
 use Rattle.lock_messages.specs.Frames.{frame_of}
-use Rattle.lock_model.specs.Decisions.{Among}
 use Rattle.world_model.specs.declared.TheConstants.{MAX_MESSAGES}
-use Rattle.world_model.specs.declared.exact.ExactWorld.{ExactWorld}
-use Rattle.world_model.specs.Forgetting.{IsSound}
 use Rattle.world_model.specs.ExactWorlds.{numbered}
 use Rattle.world_model.specs.Numbered.{past-zero, numbered-there, numbered-one}
 use Rattle.world_model.proofs.ListFacts.{among-got, got-numbered}
@@ -77,9 +74,6 @@ caught_up s t sent n count kept none index = whole-index t sent (kept index) (le
 
 pub full_up : (s t : Seen) (sent : List Message) (n : ℕ) → t.count ≡ n → (IsIndexOf s sent → IsIndexOf t sent) → length sent ≤ MAX_MESSAGES → MAX_MESSAGES ≤ n → IsIndexOf s sent → IsWhole t sent
 full_up s t sent n count kept room far index = whole-index t sent (kept index) (omega (arith, room, far, count))
-
-pub in_room : (w : ExactWorld) → IsSound w → length w.sent ≤ MAX_MESSAGES
-in_room w sound = sound.room
 
 -- more messages
 

@@ -1,1 +1,2 @@
 pub mod FrameNumbers
+pub mod SaidFrames

@@ -10,7 +10,7 @@ use indexmap::IndexMap;
 use lock_messages::{Message, encode};
 use std::alloc::{AllocError, Global};
 use std::marker::Model;
-use world_machine::World;
+use world_machine::Actors;
 use world_model::MAX_MESSAGES;
 
 /// The number of a message that was said, for each frame.
@@ -78,17 +78,17 @@ impl FrameNumbers {
         Ok(())
     }
 
-    /// Takes in all messages of the world that it doesn't have.
+    /// Takes in all messages of the actors' list that it doesn't have.
     ///
     /// The only error is that there is no memory. Then it has taken in some of them.
-    #[tactic(auto, using(crate::proofs::NumberFacts::noted_next, crate::proofs::NumberFacts::caught_up, crate::proofs::NumberFacts::full_up, crate::proofs::NumberFacts::in_room))]
-    pub fn catch_up(&mut self, world: &World) -> Result<(), AllocError>
-        ensures index { IsIndexOf self.old world.now.sent → IsIndexOf self.new world.now.sent }
-        ensures whole { OnOk result (IsIndexOf self.old world.now.sent → IsWhole self.new world.now.sent) }
+    #[tactic(auto, using(crate::proofs::NumberFacts::noted_next, crate::proofs::NumberFacts::caught_up, crate::proofs::NumberFacts::full_up))]
+    pub fn catch_up(&mut self, actors: &Actors) -> Result<(), AllocError>
+        ensures index { IsIndexOf self.old actors.now.sent → IsIndexOf self.new actors.now.sent }
+        ensures whole { OnOk result (IsIndexOf self.old actors.now.sent → IsWhole self.new actors.now.sent) }
     {
-        world.soundness();
+        actors.room();
         for number in self.seen..MAX_MESSAGES {
-            let Some(message) = world.sent(number + 1) else {
+            let Some(message) = actors.sent(number + 1) else {
                 return Ok(());
             };
             self.note(&message)?;

@@ -1,3 +1,4 @@
 pub mod OfferFacts
 pub mod LifeOffers
 pub mod LineFacts
+pub mod JudgeFacts

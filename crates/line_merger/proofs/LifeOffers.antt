@@ -1,5 +1,5 @@
 -- What comes of a line by which a life begins.
-use Rattle.std.proofs.Common.{◌≡◌, ◌≢◌, ◌==◌, ◌⊎◌, ℕ, ◌+◌, Bool, true, false, cond, List, [], ◌∷◌, ◌++◌, length, Option, Some, None, Result, Ok, Err, refl, sym, ◌∙◌, ap, subst, inl, inr, arith}
+use Rattle.std.proofs.Common.{◌≡◌, ◌≢◌, ◌⊎◌, ℕ, ◌≤◌, Bool, true, false, List, [], ◌∷◌, ◌++◌, length, Option, Some, None, Result, Ok, Err, refl, sym, ◌∙◌, ap, subst, inl, inr, arith}
 use Rattle.std.specs.Option.{option_map}
 use Rattle.std.specs.Str.{bytes_eq}
 use Rattle.std.proofs.lemmas.Slice.Eq.{bytes_eq-Decides}
@@ -27,25 +27,24 @@ use Rattle.world_model.specs.declared.exact.ExactClientPhase.TheVariants as clie
 use Rattle.world_model.specs.declared.exact.ExactStation.{ExactStation}
 use Rattle.world_model.specs.declared.exact.ExactWorld.{ExactWorld}
 use Rattle.world_model.specs.Worlds.{Setting}
-use Rattle.world_model.specs.Forgetting.{IsSound}
 use Rattle.world_model.specs.ExactNodes.{node_falls_in, node_rises_in, node_rises_with}
 use Rattle.world_model.specs.ExactClients.{client_falls_in, client_rises_in, client_rises_with}
 use Rattle.world_model.specs.ExactWorlds.{numbered, actor_of, deed_of, step as step_of, refusal, refusal_of, Steps, Stepped}
 use Rattle.world_model.specs.Laws.{Takes}
-use Rattle.world_model.specs.Locality.{IsHistory, local_part, StepsChangeOnePart, OwnRefusalsComeFirst, ListRefusalsComeSecond, EffectsAreOfTheirEvents}
-use Rattle.world_model.specs.Parts.{place, is_own, Part, NoPart, NodePart, ClientPart, node_part, client_part, part, own_refusal, IsListFault, after_turn, after_own, turn_says, said_by}
+use Rattle.world_model.specs.Locality.{StepsChangeOnePart, OwnRefusalsComeFirst, ListRefusalsComeSecond, EffectsAreOfTheirEvents}
+use Rattle.world_model.specs.Parts.{place, Part, NoPart, NodePart, ClientPart, node_part, client_part, part, own_refusal, IsListFault, after_turn, after_own, turn_says, said_by}
 use Rattle.world_model.specs.StepsOf.{Does}
 use Rattle.world_model.specs.StepsOf.{IsRefused as IsRefusedStep}
 use Rattle.world_machine.specs.Listing.{kept_bytes}
 use Rattle.merge_model.specs.OwnRuns.{HasEffect, IsTurn, IsOwnRun}
-use Rattle.merge_model.specs.Lives.{Life, kept_record, tried_record, IsDown, IsRise, rises_old, rises_new, Restarts, only_rises, falls_first}
+use Rattle.merge_model.specs.Lives.{kept_record, tried_record, IsDown, IsRise, rises_old, rises_new, Restarts, only_rises, falls_first}
 use Rattle.merge_model.proofs.OwnRunFacts.{Pair, turns-allowed}
 use Rattle.merge_model.proofs.Numbers.{deed-fits}
 use Rattle.merge_model.proofs.Histories.{deed-steps}
 use Rattle.merge_model.proofs.TakenTurns.{taken-turn}
 use Rattle.merge_model.proofs.LifeFacts.{lives-run}
 use Rattle.own_journals.specs.declared.lines.OwnLine.TheVariants as own
-use Rattle.journal_merge.specs.LineMerges.{TellsLine, IsRefused}
+use Rattle.journal_merge.specs.LineMerges.{IsRefused}
 use Rattle.line_merger.specs.declared.offers.Offer.TheVariants as offer
 use Rattle.line_merger.specs.Offers.{TakesLine, offered, refused}
 use Rattle.line_merger.specs.Lives.{Finds, Fell, fallen, Falls, age_if, restarted, settled}
@@ -336,15 +335,15 @@ rise-says b (actor.Client c) age (ClientPart k) = go k.phase
     go (client.Asking p) = refl
     go (client.Inside p) = refl
 
-step-rises : (w : ExactWorld) (who : Actor) (age : Age) → IsSound w → IsTurn w.ballots (part w who) (event.Rise who age) effect.Up → (s : Stepped) × (step_of w (event.Rise who age) ≡ Ok s)
+step-rises : (w : ExactWorld) (who : Actor) (age : Age) → length w.sent ≤ MAX_MESSAGES → IsTurn w.ballots (part w who) (event.Rise who age) effect.Up → (s : Stepped) × (step_of w (event.Rise who age) ≡ Ok s)
 unfolding step_of
-step-rises w (actor.Node n) age sound turn =
+step-rises w (actor.Node n) age room turn =
     let none = ap (λ (xs : List Message). length xs) (rise-says w.ballots (actor.Node n) age (part w (actor.Node n))) in
-    let d = deed-steps w (deed_of (event.Rise (actor.Node n) age)) effect.Up 0 (deed-fits (event.Rise (actor.Node n) age) 0) turn (λ m e. absurd (let z : ◌≡◌ {A = Option Message} None (Some m) = e in cc)) (omega (arith, none, sound.room)) in
+    let d = deed-steps w (deed_of (event.Rise (actor.Node n) age)) effect.Up 0 (deed-fits (event.Rise (actor.Node n) age) 0) turn (λ m e. absurd (let z : ◌≡◌ {A = Option Message} None (Some m) = e in cc)) (omega (arith, none, room)) in
     (_, d.steps)
-step-rises w (actor.Client c) age sound turn =
+step-rises w (actor.Client c) age room turn =
     let none = ap (λ (xs : List Message). length xs) (rise-says w.ballots (actor.Client c) age (part w (actor.Client c))) in
-    let d = deed-steps w (deed_of (event.Rise (actor.Client c) age)) effect.Up 0 (deed-fits (event.Rise (actor.Client c) age) 0) turn (λ m e. absurd (let z : ◌≡◌ {A = Option Message} None (Some m) = e in cc)) (omega (arith, none, sound.room)) in
+    let d = deed-steps w (deed_of (event.Rise (actor.Client c) age)) effect.Up 0 (deed-fits (event.Rise (actor.Client c) age) 0) turn (λ m e. absurd (let z : ◌≡◌ {A = Option Message} None (Some m) = e in cc)) (omega (arith, none, room)) in
     (_, d.steps)
 
 rise-turn : StepsChangeOnePart → EffectsAreOfTheirEvents → (w u : ExactWorld) (who : Actor) (found : List ℕ) (events : List Pair) (fell : Bool) → Fell w who fell u → Restarts who (part w who) found events → (e : Event) × IsRise who (part w who) found e × IsTurn u.ballots (part u who) e effect.Up
@@ -359,15 +358,15 @@ rise-turn changes effects w u who found _ true h (falls_first e up is) =
     (e, is, subst (λ b. IsTurn b (part u who) e effect.Up) (sym ballots) (subst (λ p. IsTurn w.ballots p e effect.Up) (sym (after-fall changes effects w u who h.0 h.1)) run.2.1))
 rise-turn changes effects w u who found _ false h (falls_first e up is) = absurd (up h.1)
 
-pub rise-refused : StepsChangeOnePart → EffectsAreOfTheirEvents → (w u : ExactWorld) (who : Actor) (found : List ℕ) (old : Bool) (f : StepFault) (fell : Bool) → IsSound u → Fell w who fell u → (old ≡ true → kept_record who (part w who) ≡ Some found) → (old ≡ false → kept_record who (part w who) ≢ Some found) →
+pub rise-refused : StepsChangeOnePart → EffectsAreOfTheirEvents → (w u : ExactWorld) (who : Actor) (found : List ℕ) (old : Bool) (f : StepFault) (fell : Bool) → length u.sent ≤ MAX_MESSAGES → Fell w who fell u → (old ≡ true → kept_record who (part w who) ≡ Some found) → (old ≡ false → kept_record who (part w who) ≢ Some found) →
     IsRefusedStep (event.Rise who (age_if old)) (step_of u (event.Rise who (age_if old))) f → f ≢ step.SentListFull → f ≢ step.Memory → IsRefused w who (own.Life who found)
-rise-refused changes effects w u who found old f fell sound down is apart h full memory events t =
+rise-refused changes effects w u who found old f fell room down is apart h full memory events t =
     let r = rise-turn changes effects w u who found events fell down t.1 in
     by old r.0 r.1 r.2 is apart h
   where
     taken : (age : Age) → IsTurn u.ballots (part u who) (event.Rise who age) effect.Up → IsRefusedStep (event.Rise who age) (step_of u (event.Rise who age)) f → ⊥
     taken age turn refused =
-        let s = step-rises u who age sound turn in
+        let s = step-rises u who age room turn in
         let z : ◌≡◌ {A = Steps} (Ok s.0) (Err f) = sym s.1 ∙ the-refusal (event.Rise who age) (step_of u (event.Rise who age)) f refused memory in
         cc
 
@@ -403,16 +402,16 @@ pub falls_offered : (w u v : ExactWorld) (who : Actor) (found : List ℕ) (f : S
 falls_offered w u v who found f (inl h) = of-refused w v who (own.Life who found) f (λ full memory. absurd (memory h))
 falls_offered w u v who found f (inr h) = of-refused w v who (own.Life who found) f (λ full memory. h found)
 
-pub old-offered : StepsChangeOnePart → EffectsAreOfTheirEvents → (w u v : ExactWorld) (who : Actor) (found : List ℕ) (r : Result Effect StepFault) (fell : Bool) → IsSound u → Does (event.Rise who Old) (step_of u (event.Rise who Old)) u r v → Fell w who fell u → kept_record who (part w who) ≡ Some found →
+pub old-offered : StepsChangeOnePart → EffectsAreOfTheirEvents → (w u v : ExactWorld) (who : Actor) (found : List ℕ) (r : Result Effect StepFault) (fell : Bool) → length u.sent ≤ MAX_MESSAGES → Does (event.Rise who Old) (step_of u (event.Rise who Old)) u r v → Fell w who fell u → kept_record who (part w who) ≡ Some found →
     TakesLine w who (own.Life who found) (offered (restarted who fell Old) r) v
-old-offered changes effects w u v who found (Ok done) fell sound h down kept = old-taken changes effects w u v who found done fell down h kept
-old-offered changes effects w u v who found (Err f) fell sound h down kept =
-    of-refused w v who (own.Life who found) f (rise-refused changes effects w u who found true f fell sound down (λ e. kept) (λ e. absurd (let z : true ≡ false = e in cc)) h.0)
+old-offered changes effects w u v who found (Ok done) fell room h down kept = old-taken changes effects w u v who found done fell down h kept
+old-offered changes effects w u v who found (Err f) fell room h down kept =
+    of-refused w v who (own.Life who found) f (rise-refused changes effects w u who found true f fell room down (λ e. kept) (λ e. absurd (let z : true ≡ false = e in cc)) h.0)
 
-pub new-offered : StepsChangeOnePart → EffectsAreOfTheirEvents → (w u v : ExactWorld) (who : Actor) (found : List ℕ) (f : StepFault) (fell : Bool) → IsSound u → IsRefusedStep (event.Rise who New) (step_of u (event.Rise who New)) f → Fell w who fell u → kept_record who (part w who) ≢ Some found →
+pub new-offered : StepsChangeOnePart → EffectsAreOfTheirEvents → (w u v : ExactWorld) (who : Actor) (found : List ℕ) (f : StepFault) (fell : Bool) → length u.sent ≤ MAX_MESSAGES → IsRefusedStep (event.Rise who New) (step_of u (event.Rise who New)) f → Fell w who fell u → kept_record who (part w who) ≢ Some found →
     TakesLine w who (own.Life who found) (refused f) v
-new-offered changes effects w u v who found f fell sound h down apart =
-    of-refused w v who (own.Life who found) f (rise-refused changes effects w u who found false f fell sound down (λ e. absurd (let z : false ≡ true = e in cc)) (λ e. apart) h)
+new-offered changes effects w u v who found f fell room h down apart =
+    of-refused w v who (own.Life who found) f (rise-refused changes effects w u who found false f fell room down (λ e. absurd (let z : false ≡ true = e in cc)) (λ e. apart) h)
 
 pub new-settled : StepsChangeOnePart → EffectsAreOfTheirEvents → (w u v : ExactWorld) (who : Actor) (found : List ℕ) (done : Effect) (r : Result Bool StepFault) (fell : Bool) → Takes u (event.Rise who New) done v → Finds v who found r → Fell w who fell u → kept_record who (part w who) ≢ Some found →
     TakesLine w who (own.Life who found) (settled (restarted who fell New) r) v

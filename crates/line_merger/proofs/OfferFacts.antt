@@ -1,5 +1,5 @@
 -- What comes of a line is right.
-use Rattle.std.proofs.Common.{◌≡◌, ◌≢◌, ◌==◌, ◌⊎◌, ℕ, ◌+◌, ◌≤◌, not, Bool, true, false, cond, List, [], ◌∷◌, ◌++◌, length, map, Option, Some, None, IfSome, Result, Ok, Err, refl, sym, ◌∙◌, ap, subst, inl, inr, arith}
+use Rattle.std.proofs.Common.{◌≡◌, ◌≢◌, ◌⊎◌, ℕ, ◌≤◌, not, Bool, true, false, cond, List, [], ◌∷◌, ◌++◌, length, map, Option, Some, None, IfSome, Result, Ok, Err, refl, sym, ◌∙◌, ap, subst, inl, inr, arith}
 use Rattle.std.proofs.lemmas.Bool.{eqb-true, eq-eqb}
 use Rattle.lock_messages.specs.declared.ids.Actor.{Actor}
 use Rattle.lock_messages.specs.declared.ids.Actor.TheVariants as actor
@@ -16,16 +16,13 @@ use Rattle.world_model.specs.declared.events.Event.TheVariants as event
 use Rattle.world_model.specs.declared.events.StepFault.{StepFault}
 use Rattle.world_model.specs.declared.events.StepFault.TheVariants as step
 use Rattle.world_model.specs.declared.exact.ExactWorld.{ExactWorld}
-use Rattle.world_model.specs.declared.exact.ExactNode.{ExactNode}
 use Rattle.world_model.specs.declared.exact.ExactNodePhase.{ExactNodePhase}
 use Rattle.world_model.specs.declared.exact.ExactNodePhase.TheVariants as node
-use Rattle.world_model.specs.declared.exact.ExactClient.{ExactClient}
-use Rattle.world_model.specs.Forgetting.{IsSound}
 use Rattle.world_model.specs.Kinds.{Kind, Beginning, Keeping, Speaking, Reading, Entering, Leaving, Softening, Falling, Rising, Switching, kind_of, is_reading}
 use Rattle.world_model.specs.Turns.{reads}
 use Rattle.world_model.specs.ExactNodes.{takes_in}
-use Rattle.world_model.specs.ExactClients.{hears, is_down, after_hearing, heard_in}
-use Rattle.world_model.specs.ExactWorlds.{numbered, actor_of, deed_of, done_by, step as step_of, refusal, refusal_of, Steps, Stepped}
+use Rattle.world_model.specs.ExactClients.{is_down, after_hearing, heard_in}
+use Rattle.world_model.specs.ExactWorlds.{numbered, actor_of, deed_of, step as step_of, refusal, refusal_of, Steps, Stepped}
 use Rattle.world_model.specs.Laws.{Takes}
 use Rattle.world_model.specs.Locality.{IsHistory, StepsChangeOnePart, ListRefusalsComeSecond, MessagesAreAsListed}
 use Rattle.world_model.specs.Parts.{place, is_own, Part, NoPart, NodePart, ClientPart, part, own_refusal, IsFaultOfKind, message_of, turn_says, said_by}
@@ -33,15 +30,15 @@ use Rattle.world_model.specs.StepsOf.{Does}
 use Rattle.world_model.specs.StepsOf.{IsRefused as IsRefusedStep}
 use Rattle.world_model.proofs.LocalityFacts.{places-apart}
 use Rattle.merge_model.specs.OwnRuns.{IsTurn}
-use Rattle.merge_model.specs.Merging.{HasSource, unnumbered}
+use Rattle.merge_model.specs.Merging.{unnumbered}
 use Rattle.merge_model.proofs.OwnRunFacts.{Pair, turns-allowed}
-use Rattle.merge_model.proofs.Numbers.{by_number, same-turn, deed-fits}
+use Rattle.merge_model.proofs.Numbers.{same-turn, deed-fits}
 use Rattle.merge_model.proofs.Histories.{deed-steps}
 use Rattle.merge_model.proofs.GoingOn.{by-zero}
 use Rattle.merge_model.proofs.TakenTurns.{taken-turn}
 use Rattle.own_journals.specs.declared.lines.OwnLine.{OwnLine}
 use Rattle.own_journals.specs.declared.lines.OwnLine.TheVariants as own
-use Rattle.journal_merge.specs.LineMerges.{ReadsFrame, TellsLine, IsRefused, IsWaiting}
+use Rattle.journal_merge.specs.LineMerges.{TellsLine, IsRefused, IsWaiting}
 use Rattle.journal_merge.proofs.ContentFacts.{reading_of, reading-content}
 use Rattle.frame_numbers.specs.FrameNumbers.{Seen, number_in, IsIndexOf, IsWhole, IndexesGrow}
 use Rattle.line_merger.specs.declared.offers.Offer.TheVariants as offer
@@ -189,27 +186,27 @@ turn-by b p who k q mine reading turn = numbered-so who (subst (λ e. IsTurn b p
     numbered-so (actor.Node n) h = (same-turn b p (event.Take n 0) k).turns q.1 h
     numbered-so (actor.Client c) h = (same-turn b p (event.Hear c 0) k).turns q.1 h
 
-step-taken : (w : ExactWorld) (who : Actor) (k : ℕ) (done : Effect) (m : Message) → IsSound w → IsTurn w.ballots (part w who) (reading_by who k) done → message_of done ≡ Some m → numbered w.sent k ≡ Some m → (s : Stepped) × (step_of w (reading_by who k) ≡ Ok s)
+step-taken : (w : ExactWorld) (who : Actor) (k : ℕ) (done : Effect) (m : Message) → length w.sent ≤ MAX_MESSAGES → IsTurn w.ballots (part w who) (reading_by who k) done → message_of done ≡ Some m → numbered w.sent k ≡ Some m → (s : Stepped) × (step_of w (reading_by who k) ≡ Ok s)
 unfolding step_of
-step-taken w (actor.Node n) k done m sound turn carried is =
-    let d = deed-steps w (deed_of (event.Take n k)) done k (deed-fits (event.Take n 0) k) turn (λ x e. is ∙ sym carried ∙ e) (let none = ap (λ (xs : List Message). length xs) (reading-says w.ballots (actor.Node n) k (part w (actor.Node n))) in omega (arith, none, sound.room)) in
+step-taken w (actor.Node n) k done m room turn carried is =
+    let d = deed-steps w (deed_of (event.Take n k)) done k (deed-fits (event.Take n 0) k) turn (λ x e. is ∙ sym carried ∙ e) (let none = ap (λ (xs : List Message). length xs) (reading-says w.ballots (actor.Node n) k (part w (actor.Node n))) in omega (arith, none, room)) in
     (_, d.steps)
-step-taken w (actor.Client c) k done m sound turn carried is =
-    let d = deed-steps w (deed_of (event.Hear c k)) done k (deed-fits (event.Hear c 0) k) turn (λ x e. is ∙ sym carried ∙ e) (let none = ap (λ (xs : List Message). length xs) (reading-says w.ballots (actor.Client c) k (part w (actor.Client c))) in omega (arith, none, sound.room)) in
+step-taken w (actor.Client c) k done m room turn carried is =
+    let d = deed-steps w (deed_of (event.Hear c k)) done k (deed-fits (event.Hear c 0) k) turn (λ x e. is ∙ sym carried ∙ e) (let none = ap (λ (xs : List Message). length xs) (reading-says w.ballots (actor.Client c) k (part w (actor.Client c))) in omega (arith, none, room)) in
     (_, d.steps)
 
-pub reads-refused : OneSpelling → (w : ExactWorld) (who : Actor) (frame : List ℕ) (k : ℕ) (m : Message) (f : StepFault) → IsSound w → numbered w.sent k ≡ Some m → frame_of m ≡ frame → IsMessage m → IsRefusedStep (reading_by who k) (step_of w (reading_by who k)) f → Refuses w who (own.Reads who frame) f
-reads-refused once w who frame k m f sound is spelled known h full memory events t =
+pub reads-refused : OneSpelling → (w : ExactWorld) (who : Actor) (frame : List ℕ) (k : ℕ) (m : Message) (f : StepFault) → length w.sent ≤ MAX_MESSAGES → numbered w.sent k ≡ Some m → frame_of m ≡ frame → IsMessage m → IsRefusedStep (reading_by who k) (step_of w (reading_by who k)) f → Refuses w who (own.Reads who frame) f
+reads-refused once w who frame k m f room is spelled known h full memory events t =
     let same : t.4.message ≡ m = (once t.4.message m [] [] t.4.is known (ap (λ xs. xs ++ []) (t.4.spelled ∙ sym spelled))).0 in
     let carried : message_of t.0.1 ≡ Some m = t.4.carried ∙ ap Some same in
-    let s = step-taken w who k t.0.1 m sound (turn-by w.ballots (part w who) who k t.0 t.2 t.4.reading t.3) carried is in
+    let s = step-taken w who k t.0.1 m room (turn-by w.ballots (part w who) who k t.0 t.2 t.4.reading t.3) carried is in
     let z : ◌≡◌ {A = Steps} (Ok s.0) (Err f) = sym s.1 ∙ the-refusal (reading_by who k) (step_of w (reading_by who k)) f h memory in
     cc
 
-pub reads-offered : MessagesAreAsListed → OneSpelling → (w v : ExactWorld) (who : Actor) (frame : List ℕ) (k : ℕ) (m : Message) (r : Result Effect StepFault) → IsSound w → numbered w.sent k ≡ Some m → frame_of m ≡ frame → IsMessage m → Does (reading_by who k) (step_of w (reading_by who k)) w r v →
+pub reads-offered : MessagesAreAsListed → OneSpelling → (w v : ExactWorld) (who : Actor) (frame : List ℕ) (k : ℕ) (m : Message) (r : Result Effect StepFault) → length w.sent ≤ MAX_MESSAGES → numbered w.sent k ≡ Some m → frame_of m ≡ frame → IsMessage m → Does (reading_by who k) (step_of w (reading_by who k)) w r v →
     TakesLine w who (own.Reads who frame) (offered (taken.One (reading_by who k)) r) v
-reads-offered listed once w v who frame k m (Ok done) sound is spelled known h = reads-taken listed w v who frame k m done is spelled known h
-reads-offered listed once w v who frame k m (Err f) sound is spelled known h = of-refused w v who (own.Reads who frame) f (reads-refused once w who frame k m f sound is spelled known h.0)
+reads-offered listed once w v who frame k m (Ok done) room is spelled known h = reads-taken listed w v who frame k m done is spelled known h
+reads-offered listed once w v who frame k m (Err f) room is spelled known h = of-refused w v who (own.Reads who frame) f (reads-refused once w who frame k m f room is spelled known h.0)
 
 pub index-after : StepsChangeOnePart → IndexesGrow → (w v : ExactWorld) (e : Event) (r : Result Effect StepFault) (s : Seen) → Does e (step_of w e) w r v → IsIndexOf s w.sent → IsIndexOf s v.sent
 index-after changes grow w v e (Ok done) s h index = subst (IsIndexOf s) (sym (changes w v e done h).sent) (grow s w.sent (said_by w.ballots e (part w (actor_of e))) index)
@@ -221,13 +218,13 @@ pub not-another : (b : Bool) → not b ≡ false → b ≡ true
 not-another true h = refl
 not-another false h = absurd (let z : true ≡ false = h in cc)
 
-pub frame-offered : MessagesAreAsListed → OneSpelling → (w v : ExactWorld) (who : Actor) (k : ℕ) (m : Message) (e : Event) (r : Result Effect StepFault) → IsSound w → numbered w.sent k ≡ Some m → IsMessage m → e ≡ reading_by who k → Does e (step_of w e) w r v →
+pub frame-offered : MessagesAreAsListed → OneSpelling → (w v : ExactWorld) (who : Actor) (k : ℕ) (m : Message) (e : Event) (r : Result Effect StepFault) → length w.sent ≤ MAX_MESSAGES → numbered w.sent k ≡ Some m → IsMessage m → e ≡ reading_by who k → Does e (step_of w e) w r v →
     (frame : List ℕ) → HasFrame w.sent k frame → TakesLine w who (own.Reads who frame) (offered (taken.One e) r) v
-frame-offered listed once w v who k m e r sound is known by h frame has =
+frame-offered listed once w v who k m e r room is known by h frame has =
     let both : ◌≡◌ {A = Option Message} (Some m) (Some has.0) = sym is ∙ has.1 in
     let same : m ≡ has.0 = cc in
     subst (λ x. TakesLine w who (own.Reads who frame) (offered (taken.One x) r) v) (sym by)
-    (reads-offered listed once w v who frame k m r sound is (ap frame_of same ∙ has.2) known (subst (λ x. Does x (step_of w x) w r v) by h))
+    (reads-offered listed once w v who frame k m r room is (ap frame_of same ∙ has.2) known (subst (λ x. Does x (step_of w x) w r v) by h))
 
 pub no-frame : (w : ExactWorld) (who : Actor) (k : ℕ) → numbered w.sent k ≡ None → (frame : List ℕ) → HasFrame w.sent k frame → TakesLine w who (own.Reads who frame) (Ok offer.Waits) w
 no-frame w who k none frame has = absurd (let z : ◌≡◌ {A = Option Message} None (Some has.0) = sym none ∙ has.1 in cc)

@@ -1,2 +1,3 @@
 pub mod Offers
 pub mod Lives
+pub mod Judging

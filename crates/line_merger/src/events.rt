@@ -9,7 +9,7 @@ ghost use Rattle.line_merger.specs.Offers.{TakesLine};
 use crate::offers::offered;
 use crate::{MergeFault, Offer, Refusal, Taken};
 use lock_messages::Actor;
-use world_machine::World;
+use world_machine::Actors;
 use world_model::Event;
 use world_model::laws::steps_change_one_part;
 
@@ -38,9 +38,9 @@ fn is_of_another(event: &Event, who: &Actor) -> bool
 }
 
 /// Takes a line of an event that reads no message.
-pub fn take_event(world: &mut World, who: &Actor, event: &Event) -> Result<Offer, MergeFault>
+pub fn take_event(actors: &mut Actors, who: &Actor, event: &Event) -> Result<Offer, MergeFault>
     requires { Unit {0} }
-    ensures { TakesLine world.old who.now (own.Does event.now) result world.new }
+    ensures { TakesLine actors.old who.now (own.Does event.now) result actors.new }
 {
     steps_change_one_part();
     if is_of_another(event, who) {
@@ -49,5 +49,5 @@ pub fn take_event(world: &mut World, who: &Actor, event: &Event) -> Result<Offer
     if reads(event) {
         return Ok(Offer::Refused(Refusal::OtherActor));
     }
-    offered(Taken::One(*event), world.step(event))
+    offered(Taken::One(*event), actors.step(event))
 }

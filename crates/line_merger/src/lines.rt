@@ -13,7 +13,7 @@ use frame_numbers::FrameNumbers;
 use frame_numbers::laws::indexes_grow;
 use lock_messages::Actor;
 use own_journals::OwnLine;
-use world_machine::World;
+use world_machine::Actors;
 use world_model::laws::steps_change_one_part;
 
 /// Whether the two are not the same actor.
@@ -24,41 +24,41 @@ fn is_another(one: &Actor, other: &Actor) -> bool
 }
 
 /// Takes a line by which a life begins, maybe of another actor than the journal's.
-fn take_life_of(
-    world: &mut World,
+pub(crate) fn take_life_of(
+    actors: &mut Actors,
     who: &Actor,
     whose: &Actor,
     found: &Bytes,
 ) -> Result<Offer, MergeFault>
-    ensures { TakesLine world.old who.now (own.Life whose.now found.now) result world.new }
+    ensures { TakesLine actors.old who.now (own.Life whose.now found.now) result actors.new }
 {
     if is_another(whose, who) {
         return Ok(Offer::Refused(Refusal::OtherActor));
     }
-    take_life(world, who, found)
+    take_life(actors, who, found)
 }
 
-/// Takes a line of the actor's journal. The numbers are those of the world's messages, and stay so if the line is
+/// Takes a line of the actor's journal. The numbers are those of the actors' messages, and stay so if the line is
 /// taken or waits.
 ///
 /// # Errors
 ///
 /// `Full` if the list of messages is full, `Memory` if there is no memory.
 pub fn take_line(
-    world: &mut World,
+    actors: &mut Actors,
     numbers: &mut FrameNumbers,
     who: &Actor,
     line: &OwnLine,
 ) -> Result<Offer, MergeFault>
-    requires { IsIndexOf numbers.old world.old.sent }
-    ensures takes { TakesLine world.old who.now line.now result world.new }
-    ensures index { IfOk result (λ o. GoesOn o → IsIndexOf numbers.new world.new.sent) }
+    requires { IsIndexOf numbers.old actors.old.sent }
+    ensures takes { TakesLine actors.old who.now line.now result actors.new }
+    ensures index { IfOk result (λ o. GoesOn o → IsIndexOf numbers.new actors.new.sent) }
 {
     steps_change_one_part();
     indexes_grow();
     match line {
-        OwnLine::Life(whose, found) => take_life_of(world, who, whose, found),
-        OwnLine::Reads(_, frame) => take_frame(world, numbers, who, frame),
-        OwnLine::Does(event) => take_event(world, who, event),
+        OwnLine::Life(whose, found) => take_life_of(actors, who, whose, found),
+        OwnLine::Reads(_, frame) => take_frame(actors, numbers, who, frame),
+        OwnLine::Does(event) => take_event(actors, who, event),
     }
 }

@@ -12,16 +12,16 @@ use crate::offers::{offered, refused};
 use crate::{MergeFault, Offer, Refusal, Taken};
 use bytes::Bytes;
 use lock_messages::Actor;
-use world_machine::World;
+use world_machine::Actors;
 use world_model::laws::steps_change_one_part;
 use world_model::{Age, Effect, Event, StepFault};
 
 /// Whether the actor has kept a record of these bytes.
 #[tactic(auto, using(crate::proofs::LifeOffers::finds_bytes, crate::proofs::LifeOffers::finds_fault))]
-fn finds(world: &World, who: &Actor, found: &Bytes) -> Result<bool, StepFault>
-    ensures { Finds world.now who.now found.now result }
+fn finds(actors: &Actors, who: &Actor, found: &Bytes) -> Result<bool, StepFault>
+    ensures { Finds actors.now who.now found.now result }
 {
-    match world.kept_bytes(*who) {
+    match actors.kept_bytes(*who) {
         Ok(kept) => Ok(kept.as_slice() == &**found),
         Err(fault) => Err(fault),
     }
@@ -39,11 +39,11 @@ fn fell(step: Result<Effect, StepFault>) -> Result<bool, StepFault>
 }
 
 /// The actor falls, unless it is down. Returns whether it fell.
-fn fall(world: &mut World, who: &Actor) -> Result<bool, StepFault>
-    ensures { Falls world.old who.now result world.new }
+fn fall(actors: &mut Actors, who: &Actor) -> Result<bool, StepFault>
+    ensures { Falls actors.old who.now result actors.new }
 {
     steps_change_one_part();
-    fell(world.step(&Event::Fall(*who)))
+    fell(actors.step(&Event::Fall(*who)))
 }
 
 /// The events by which an actor restarts.
@@ -58,13 +58,13 @@ fn restarted(who: &Actor, fell: bool, age: Age) -> Taken
 }
 
 /// The actor rises with what it has kept, which is what was found.
-fn rise_old(world: &mut World, who: &Actor, fell: bool) -> Result<Offer, MergeFault>
-    ensures { (w : ExactWorld) (found : List ℕ) → Fell w who.now fell world.old → kept_record who.now (part w who.now) ≡ Some found → TakesLine w who.now (own.Life who.now found) result world.new }
+fn rise_old(actors: &mut Actors, who: &Actor, fell: bool) -> Result<Offer, MergeFault>
+    ensures { (w : ExactWorld) (found : List ℕ) → Fell w who.now fell actors.old → kept_record who.now (part w who.now) ≡ Some found → TakesLine w who.now (own.Life who.now found) result actors.new }
 {
     steps_change_one_part();
-    world.soundness();
+    actors.room();
     let taken = restarted(who, fell, Age::Old);
-    offered(taken, world.step(&Event::Rise(*who, Age::Old)))
+    offered(taken, actors.step(&Event::Rise(*who, Age::Old)))
 }
 
 /// What comes of a rise with what was tried, by whether that is what was found.
@@ -79,53 +79,58 @@ fn settled(taken: Taken, finds: Result<bool, StepFault>) -> Result<Offer, MergeF
 }
 
 /// The actor rises with what it tried to keep, if that is what was found.
-fn rise_new(world: &mut World, who: &Actor, found: &Bytes, fell: bool) -> Result<Offer, MergeFault>
-    ensures { (w : ExactWorld) → Fell w who.now fell world.old → kept_record who.now (part w who.now) ≢ Some found.now → TakesLine w who.now (own.Life who.now found.now) result world.new }
+fn rise_new(
+    actors: &mut Actors,
+    who: &Actor,
+    found: &Bytes,
+    fell: bool,
+) -> Result<Offer, MergeFault>
+    ensures { (w : ExactWorld) → Fell w who.now fell actors.old → kept_record who.now (part w who.now) ≢ Some found.now → TakesLine w who.now (own.Life who.now found.now) result actors.new }
 {
     steps_change_one_part();
-    world.soundness();
-    match world.step(&Event::Rise(*who, Age::New)) {
-        Ok(_) => settled(restarted(who, fell, Age::New), finds(world, who, found)),
+    actors.room();
+    match actors.step(&Event::Rise(*who, Age::New)) {
+        Ok(_) => settled(restarted(who, fell, Age::New), finds(actors, who, found)),
         Err(fault) => refused(fault),
     }
 }
 
 /// The actor rises with what was found, by whether that is what it has kept.
 fn rise(
-    world: &mut World,
+    actors: &mut Actors,
     who: &Actor,
     found: &Bytes,
     fell: bool,
     old: bool,
 ) -> Result<Offer, MergeFault>
-    ensures { (w : ExactWorld) → Fell w who.now fell world.old → Finds w who.now found.now (Ok old) → TakesLine w who.now (own.Life who.now found.now) result world.new }
+    ensures { (w : ExactWorld) → Fell w who.now fell actors.old → Finds w who.now found.now (Ok old) → TakesLine w who.now (own.Life who.now found.now) result actors.new }
 {
     if old {
-        rise_old(world, who, fell)
+        rise_old(actors, who, fell)
     } else {
-        rise_new(world, who, found, fell)
+        rise_new(actors, who, found, fell)
     }
 }
 
 /// Takes a line by which a life of the actor begins: its process found these bytes in the record.
 ///
 /// The actor falls unless it is down. It rises old if it has kept these bytes, else new if it tried to keep them. If
-/// it did neither, the line is refused, and the world is as far as the attempt came.
+/// it did neither, the line is refused, and the actor is as far as the attempt came.
 ///
 /// # Errors
 ///
 /// `Memory` if there is no memory.
 #[tactic(auto, using(crate::proofs::LifeOffers::finds_offered, crate::proofs::LifeOffers::falls_offered))]
-pub fn take_life(world: &mut World, who: &Actor, found: &Bytes) -> Result<Offer, MergeFault>
+pub fn take_life(actors: &mut Actors, who: &Actor, found: &Bytes) -> Result<Offer, MergeFault>
     requires { Unit {0} }
-    ensures { TakesLine world.old who.now (own.Life who.now found.now) result world.new }
+    ensures { TakesLine actors.old who.now (own.Life who.now found.now) result actors.new }
 {
-    let old = match finds(world, who, found) {
+    let old = match finds(actors, who, found) {
         Ok(old) => old,
         Err(fault) => return refused(fault),
     };
-    match fall(world, who) {
-        Ok(fell) => rise(world, who, found, fell, old),
+    match fall(actors, who) {
+        Ok(fell) => rise(actors, who, found, fell, old),
         Err(fault) => refused(fault),
     }
 }

@@ -1,4 +1,4 @@
-use Rattle.std.proofs.Common.{◌∙◌, sym, ap, subst, not}
+use Rattle.std.proofs.Common.{◌∙◌, sym, subst}
 use Rattle.own_journals.specs.declared.lines.OwnLine.TheVariants as own
 use Rattle.line_merger.specs.Offers.{TakesLine}
 use Rattle.line_merger.proofs.OfferFacts.{plain-taken, not-another}
@@ -6,5 +6,5 @@ use Rattle.line_merger.proofs.events.take_event.Goals as goal
 
 pub returns : goal.returns
 returns g c =
-    subst (λ r. TakesLine c.args.world.now c.args.who.now (own.Does c.args.event.now) r c.step.new.self) (sym c.offered.ensures)
-    (plain-taken c.steps_change_one_part.ensures.list c.args.world.now c.step.new.self c.args.who.now c.args.event.now c.step.result (not-another _ (sym c.is_of_another.ensures ∙ c.if-is_of_another.false)) (sym c.reads.ensures ∙ c.if-reads.false) c.step.ensures.exact)
+    subst (λ r. TakesLine c.args.actors.now c.args.who.now (own.Does c.args.event.now) r c.step.new.self) (sym c.offered.ensures)
+    (plain-taken c.steps_change_one_part.ensures.list c.args.actors.now c.step.new.self c.args.who.now c.args.event.now c.step.result (not-another _ (sym c.is_of_another.ensures ∙ c.if-is_of_another.false)) (sym c.reads.ensures ∙ c.if-reads.false) c.step.ensures)
