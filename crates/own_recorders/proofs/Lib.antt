@@ -1,0 +1,4 @@
+mod LineFacts
+mod TurnFacts
+mod KeepFacts
+mod ToldFacts

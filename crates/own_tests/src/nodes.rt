@@ -1,0 +1,150 @@
+//! A node's loop over a recorder of its own: its journal, and its end if the journal can't be written.
+
+ghost use Rattle.std.specs.Prelude.{◌≡◌, []};
+ghost use Rattle.lock_messages.specs.declared.ids.Actor.TheVariants as actor;
+ghost use Rattle.world_model.specs.Openings.{down_node, empty_station};
+ghost use Rattle.world_model.specs.Parts.{NodePart};
+
+use crate::worlds::{ballots, pair, post_of, ticket};
+use crate::writers::{Room, without_memory};
+use event_recorders::{Recorder, RunFault};
+use lock_messages::Message;
+use lock_model::Problem;
+use lock_session::OpenGate;
+use lossy_link::{ListLink, Post};
+use node_loop::run_node;
+use own_recorders::{OwnActor, OwnNode, OwnRecorder};
+use stable_record::{MemoryRecord, StableRecord};
+use std::alloc::Global;
+use std::io::{Write, sink};
+use std::sync::Wait;
+use test_outcomes::{Failure, Outcome, check_row, node_id};
+use world_actors::WorldNode;
+
+/// The record of a node for problem 1 that has kept nothing.
+const NOTHING: [u8; 4] = [1, 1, 0, 0];
+
+/// The lines that the node writes when it takes c1's request to write `a` and grants it.
+pub(crate) const JOURNAL: &[u8] = b"\
+life n1 01010000
+take n1 010101000000010000000000000001010161
+try n1
+kept n1
+say n1
+";
+
+/// How a run ended, how many parcels and words were sent in it, and the journal.
+pub(crate) type Played<J> = (Result<(), RunFault>, usize, J);
+
+/// Runs n1, which has kept nothing, by this recorder.
+fn run<W: Wait, R: Recorder>(
+    rt: &W,
+    alloc: Global,
+    recorder: &mut R,
+    link: &mut ListLink,
+) -> Result<Result<(), RunFault>, Failure>
+    requires actor { (R.own_log recorder.old).actor ≡ actor.Node 1 }
+    requires opening { (R.own_log recorder.old).opening ≡ NodePart (down_node (empty_station Problem.First)) }
+    requires events { (R.own_log recorder.old).events ≡ [] }
+{
+    let Ok(record) = MemoryRecord::holding(alloc, &NOTHING) else {
+        return Err(Failure::Memory);
+    };
+    let stable: Box<dyn StableRecord + Send> = Box::new(alloc, record)?;
+    let policies = pair(alloc)?;
+    Ok(run_node(
+        rt,
+        alloc,
+        node_id(1),
+        stable,
+        policies,
+        recorder,
+        link,
+        &OpenGate,
+    ))
+}
+
+/// Runs the actor, which is n1, over this journal.
+fn play<W: Wait, K: OwnActor, J: Write + Drop>(
+    rt: &W,
+    alloc: Global,
+    actor: K,
+    journal: J,
+    posts: Vec<Post>,
+) -> Result<Played<J>, Failure>
+    requires actor { K.actor actor ≡ actor.Node 1 }
+    requires part { K.part actor ≡ NodePart (down_node (empty_station Problem.First)) }
+{
+    let mut recorder = OwnRecorder::over(alloc, actor, journal);
+    let mut link = ListLink::of(posts);
+    let ended = run(rt, alloc, &mut recorder, &mut link)?;
+    Ok((ended, link.sent().len(), recorder.into_journal()))
+}
+
+/// Runs n1, which has kept nothing and takes c1's request, over this journal.
+pub(crate) fn grants<W: Wait, J: Write + Drop>(
+    rt: &W,
+    alloc: Global,
+    journal: J,
+) -> Result<Played<J>, Failure> {
+    let node = node_id(1);
+    let mut posts = Vec::new(alloc);
+    posts.push(post_of(alloc, &Message::Request(node, ticket()?))?)?;
+    let actor = OwnNode {
+        node: WorldNode::empty(alloc, node, Problem::First, pair(alloc)?),
+        list: ballots()?,
+    };
+    play(rt, alloc, actor, journal, posts)
+}
+
+#[test]
+fn a_journal(rt: HostRuntime) -> Outcome {
+    let alloc = rt.alloc();
+    let (ended, sent, journal) = grants(&rt, alloc, Room::of(alloc, JOURNAL.len())?)?;
+    if ended == Err(RunFault::Memory) {
+        return Err(without_memory(journal.bytes.as_slice(), JOURNAL, 3));
+    }
+    check_row(ended == Ok(()) && sent == 1, 1)?;
+    check_row(journal.bytes.as_slice() == JOURNAL, 2)
+}
+
+#[test]
+fn no_journal(rt: HostRuntime) -> Outcome {
+    let alloc = rt.alloc();
+    let (ended, sent, _) = grants(&rt, alloc, sink())?;
+    if ended == Err(RunFault::Memory) {
+        return Err(Failure::Memory);
+    }
+    check_row(ended == Ok(()) && sent == 1, 1)
+}
+
+/// If the journal has room for so many bytes, less than all, the node ends by 915. Nothing is sent unless its line is
+/// whole, and the writer is asked nothing more after it has failed.
+fn is_cut<W: Wait>(rt: &W, alloc: Global, room: usize) -> Outcome {
+    let (ended, sent, journal) = grants(rt, alloc, Room::of(alloc, room)?)?;
+    if ended == Err(RunFault::Memory) {
+        return Err(Failure::Memory);
+    }
+    check_row(ended == Err(RunFault::Book), 1)?;
+    check_row(journal.bytes.as_slice() == &JOURNAL[..room], 2)?;
+    // The only thing sent is the word that the node is gone.
+    check_row(sent == 1, 3)?;
+    let lines = JOURNAL[..room]
+        .iter()
+        .filter(|byte| **byte == b'\n')
+        .count();
+    let torn = if JOURNAL[..room].last() == Some(&b'\n') || room == 0 {
+        0
+    } else {
+        1
+    };
+    check_row(journal.calls as usize == lines + torn + 1, 4)
+}
+
+#[test]
+fn each_cut(rt: HostRuntime) -> Outcome {
+    for room in 0..JOURNAL.len() {
+        is_cut(&rt, rt.alloc(), room)?;
+    }
+    Ok(())
+}
