@@ -32,7 +32,7 @@ pub(crate) struct Written<'p> {
     path: &'p str,
     name: String,
     file: File,
-    record: FileRecord,
+    made: FileRecord,
 }
 
 /// The folder that a file of this name is in.
@@ -152,9 +152,9 @@ impl<'p> Draft<'p> {
         bytes: &[u8],
     ) -> Result<Written<'p>, FileFault>
         requires { length bytes.now ≤ MAX_RECORD_LEN }
-        ensures made { IfOk result (λ w. (w.record.finds ≡ bytes.now ∷ []) × (w.record.sequence ≡ 1) × (w.record.stuck ≡ false)) }
-        ensures lasts { IfOk result (λ w. (c : List ℕ) → (file_state w.record.plate).may_leave c → record_on c ≡ Some (1, bytes.now)) }
-        ensures fine { IfOk result (λ w. (file_state w.record.plate).failures ≡ 0) }
+        ensures made { IfOk result (λ w. (w.made.finds ≡ bytes.now ∷ []) × (w.made.sequence ≡ 1) × (w.made.stuck ≡ false)) }
+        ensures lasts { IfOk result (λ w. (c : List ℕ) → (file_state w.made.plate).may_leave c → record_on c ≡ Some (1, bytes.now)) }
+        ensures fine { IfOk result (λ w. (file_state w.made.plate).failures ≡ 0) }
         ensures faults { IfErr result (λ fault. IsOverFault fault) }
     {
         let Draft { path, name, file } = self;
@@ -164,11 +164,11 @@ impl<'p> Draft<'p> {
             Err(_) => Err(FileFault::Unwritable),
         };
         match made {
-            Ok(record) => Ok(Written {
+            Ok(made) => Ok(Written {
                 path,
                 name,
                 file,
-                record,
+                made,
             }),
             Err(fault) => {
                 take_away(files, &file, name.as_str());
@@ -182,22 +182,22 @@ impl<'p> Written<'p> {
     /// Gives the file the record's own name, makes sure of the name, and returns the record. The caller owes that the
     /// record is not stuck, so that what it keeps is synced. The only fault is 946.
     pub(crate) fn publish<R: Files<File = File>>(self, files: &R) -> Result<FileRecord, FileFault>
-        requires { self.record.stuck ≡ false }
-        ensures same { IfOk result (λ r. r ≡ self.entry.record) }
+        requires { self.made.stuck ≡ false }
+        ensures same { IfOk result (λ r. r ≡ self.entry.made) }
         ensures faults { IfErr result (λ fault. fault ≡ FileFault.Unwritable) }
     {
         let Written {
             path,
             name,
             file,
-            record,
+            made,
         } = self;
         if fs::rename(files, name.as_str(), path).is_err() {
             take_away(files, &file, name.as_str());
             return Err(FileFault::Unwritable);
         }
         match File::open(files, folder_of(path)) {
-            Ok(folder) if folder.sync_all().is_ok() => Ok(record),
+            Ok(folder) if folder.sync_all().is_ok() => Ok(made),
             _ => Err(FileFault::Unwritable),
         }
     }
