@@ -36,9 +36,13 @@ bare_app = record {
 abbrev pub top_app : App
 top_app = with_rule bare_app explain_rule
 
+-- a command that takes one thing
+abbrev pub taking : List ℕ → Rule → Shape
+taking name rule = record (new_shape name) { rules = rule ∷ [] }
+
 -- a command that takes `--explain` and nothing else
 abbrev pub command_shape : List ℕ → Shape
-command_shape name = record (new_shape name) { rules = explain_rule ∷ [] }
+command_shape name = taking name explain_rule
 
 abbrev pub run_shape : Shape
 run_shape = record (new_shape (codes "run")) { rules = explain_rule ∷ flag_rule (codes "journal") ∷ [] }
@@ -49,10 +53,10 @@ word_rule name = record (new_rule name) { value_names = 1; required = true; acti
 
 -- the command that explains a number, and the one that prints what a file holds
 abbrev pub explain_shape : Shape
-explain_shape = record (new_shape (codes "explain")) { rules = word_rule (codes "number") ∷ [] }
+explain_shape = taking (codes "explain") (word_rule (codes "number"))
 
 abbrev pub record_shape : Shape
-record_shape = record (new_shape (codes "record")) { rules = word_rule (codes "file") ∷ [] }
+record_shape = taking (codes "record") (word_rule (codes "file"))
 
 -- the command that merges journals, which are its words
 abbrev pub journals_rule : Rule

@@ -4,7 +4,7 @@ ghost use Rattle.std.specs.Prelude.{◌≡◌, IfOk, SomeIff, false, map, string
 ghost use Rattle.clap.specs.Words.{app_of, shape_of, rule_of, rows_of, first_of, one_of, found_of, all_of, fault_of, subcommand_name_of, subcommand_rows_of};
 ghost use Rattle.clap.specs.Simple.{new_shape};
 ghost use Rattle.clap.specs.declared.builder.command.Command.TheViews.{out-Command};
-ghost use Rattle.command_words.specs.Words.{app, bare_app, top_app, explain_rule, flag_rule, word_rule, command_shape, run_shape, explain_shape, journals_rule, merge_shape, record_shape, with_command, found_in, IsName, IsRequest, IsCommand, AsksBehind, RequestsBehind, Requests, IsFlag, IsNumber, number_value, TellsNumber, AreNames, NamesFile, NamesOne, Parses, ReadsWords};
+ghost use Rattle.command_words.specs.Words.{app, bare_app, top_app, explain_rule, flag_rule, taking, word_rule, command_shape, run_shape, explain_shape, journals_rule, merge_shape, record_shape, with_command, found_in, IsName, IsRequest, IsCommand, AsksBehind, RequestsBehind, Requests, IsFlag, IsNumber, number_value, TellsNumber, AreNames, NamesFile, NamesOne, Parses, ReadsWords};
 
 use crate::help::{
     ABOUT, AUDIT_HELP, BALLOT_HELP, EXPLAIN_HELP, MERGE_HELP, RECORD_HELP, RUN_HELP, SCRIPT_HELP,
@@ -14,14 +14,31 @@ use operator_cli::Command;
 use program_ends::{Unserved, unserved_by};
 use std::alloc::{AllocError, Global};
 
-/// A command of the program.
-fn below<'a>(alloc: Global, name: &'a str, about: &'a str, help: &'a str) -> clap::Command<'a>
+/// A command of the program that takes nothing yet.
+fn bare_below<'a>(alloc: Global, name: &'a str, about: &'a str, help: &'a str) -> clap::Command<'a>
     ensures shape { shape_of result ≡ new_shape name.entry.now }
     ensures local { (out-Command result).has_globals ≡ false }
 {
     clap::Command::new(alloc, name)
         .about(about)
         .long_about(help)
+}
+
+/// A command of the program that takes this.
+fn below<'a>(
+    alloc: Global,
+    name: &'a str,
+    about: &'a str,
+    help: &'a str,
+    taken: Arg<'a>,
+) -> Result<clap::Command<'a>, AllocError>
+    requires { taken.global ≡ false }
+    ensures shape { IfOk result (λ c. shape_of c ≡ taking name.entry.now (rule_of taken.entry)) }
+    ensures local { IfOk result (λ c. (out-Command c).has_globals ≡ false) }
+{
+    let command = bare_below(alloc, name, about, help);
+    let with_taken = command.arg(taken)?;
+    Ok(with_taken)
 }
 
 /// The program without its commands and its flag.
@@ -76,9 +93,7 @@ fn explained_below<'a>(
     ensures shape { IfOk result (λ c. shape_of c ≡ command_shape name.entry.now) }
     ensures local { IfOk result (λ c. (out-Command c).has_globals ≡ false) }
 {
-    let command = below(alloc, name, about, help);
-    let with_flag = command.arg(explain_flag(alloc))?;
-    Ok(with_flag)
+    below(alloc, name, about, help, explain_flag(alloc))
 }
 
 /// The command that runs the service.
@@ -113,20 +128,14 @@ fn explain_below<'a>(alloc: Global) -> Result<clap::Command<'a>, AllocError>
     ensures shape { IfOk result (λ c. shape_of c ≡ explain_shape) }
     ensures local { IfOk result (λ c. (out-Command c).has_globals ≡ false) }
 {
-    let command = below(
-        alloc,
-        "explain",
-        "Explains the number of a fault",
-        EXPLAIN_HELP,
-    );
     let number = word_argument(
         alloc,
         "number",
         "N",
         "A number that a program printed, 101 to 959",
     );
-    let with_number = command.arg(number)?;
-    Ok(with_number)
+    let about = "Explains the number of a fault";
+    below(alloc, "explain", about, EXPLAIN_HELP, number)
 }
 
 /// The words of the command that merges journals: their names.
@@ -146,13 +155,13 @@ fn merge_below<'a>(alloc: Global) -> Result<clap::Command<'a>, AllocError>
     ensures shape { IfOk result (λ c. shape_of c ≡ merge_shape) }
     ensures local { IfOk result (λ c. (out-Command c).has_globals ≡ false) }
 {
-    let command = below(alloc, "merge", "Merges the journals of actors", MERGE_HELP);
     let judge = flag(
         alloc,
         "judge",
         "Prints no journal, but how many lines were merged",
     );
-    let with_flag = command.arg(judge)?;
+    let about = "Merges the journals of actors";
+    let with_flag = below(alloc, "merge", about, MERGE_HELP, judge)?;
     let with_journals = with_flag.arg(journals_argument(alloc))?;
     Ok(with_journals)
 }
@@ -162,15 +171,9 @@ fn record_below<'a>(alloc: Global) -> Result<clap::Command<'a>, AllocError>
     ensures shape { IfOk result (λ c. shape_of c ≡ record_shape) }
     ensures local { IfOk result (λ c. (out-Command c).has_globals ≡ false) }
 {
-    let command = below(
-        alloc,
-        "record",
-        "Prints what a record's file holds",
-        RECORD_HELP,
-    );
     let file = word_argument(alloc, "file", "FILE", "The file of a record");
-    let with_file = command.arg(file)?;
-    Ok(with_file)
+    let about = "Prints what a record's file holds";
+    below(alloc, "record", about, RECORD_HELP, file)
 }
 
 /// The program with one more command, which takes the flag that asks for words.

@@ -1,11 +1,12 @@
-use Rattle.std.proofs.Common.{◌∙◌, ap}
-use Rattle.clap.specs.Simple.{App, shape_of_fields}
-use Rattle.clap.specs.declared.builder.command.Command.{Command}
-use Rattle.clap.specs.declared.builder.command.Command.TheOpen.{Command-F}
+use Rattle.std.proofs.Common.{refl}
+use Rattle.clap.specs.Simple.{new_shape}
+use Rattle.clap.specs.Walk.{rule_of}
+use Rattle.command_words.proofs.NameFacts.{shape_with_flag, still_local}
 use Rattle.command_words.proofs.reading.below.Goals as goal
 
-pub returns-clause-shape : goal.returns-clause-shape
-returns-clause-shape c = ap shape_of_fields c.long_about.ensures ∙ ap shape_of_fields c.about.ensures ∙ ap (λ (a : App). a.top) c.new.ensures.app
-
-pub returns-clause-local : goal.returns-clause-local
-returns-clause-local c = ap (λ (f : Command-F Command). f.has_globals) c.long_about.ensures ∙ ap (λ (f : Command-F Command). f.has_globals) c.about.ensures ∙ c.new.ensures.local
+pub returns : goal.returns
+returns c =
+    record {
+      shape = shape_with_flag c.bare_below-command.result c.in_ok-with_taken.with_taken c.args.taken (new_shape c.args.name.now) (rule_of c.args.taken) c.in_ok-with_taken.ensures c.bare_below-command.ensures.shape refl c.requires;
+      local = still_local c.bare_below-command.result c.in_ok-with_taken.with_taken c.args.taken c.in_ok-with_taken.ensures c.bare_below-command.ensures.local c.requires;
+    }
