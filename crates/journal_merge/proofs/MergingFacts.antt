@@ -8,7 +8,9 @@ use Rattle.lock_model.specs.Ballots.{Ballot}
 use Rattle.world_model.specs.declared.exact.ExactWorld.{ExactWorld}
 use Rattle.world_model.specs.Locality.{IsHistory, own_events, local_part, EffectsAreOfTheirEvents, MessagesAreAsListed, StepsChangeOnePart}
 use Rattle.world_model.specs.Parts.{place, Part, part, is_own}
-use Rattle.world_model.proofs.LocalityFacts.{places-apart}
+use Rattle.world_model.specs.Worlds.{Setting}
+use Rattle.world_model.proofs.Deeds.{model-laws}
+use Rattle.world_model.proofs.LocalityFacts.{places-apart, history-setting, parts-local}
 use Rattle.merge_model.specs.LongHistories.{IsLongHistory}
 use Rattle.merge_model.specs.Merging.{Logs, HasSource, IsMerge, content_of}
 use Rattle.merge_model.proofs.OwnRunFacts.{Pair}
@@ -32,11 +34,11 @@ own-joined who (q ∷ begun) rest = own-joined-if q (own_events who (begun ++ re
 
 -- a line is taken
 
-cut-more : (w u : ExactWorld) (who : Actor) (lines left after : List OwnLine) (line : OwnLine) (told events : List Pair) → IsLongHistory w told u → IsCut w who lines left (own_events who told) → left ≡ line ∷ after → TellsLine u.ballots who (part u who) line events →
+cut-at : (w u : ExactWorld) (who : Actor) (lines left after : List OwnLine) (line : OwnLine) (told events : List Pair) → u.ballots ≡ w.ballots → part u who ≡ local_part w.ballots (part w who) (own_events who told) → IsCut w who lines left (own_events who told) → left ≡ line ∷ after → TellsLine u.ballots who (part u who) line events →
     IsCut w who lines after (own_events who (told ++ events))
-cut-more w u who lines left after line told events h is next tells =
+cut-at w u who lines left after line told events ballots now is next tells =
     let own : own_events who (told ++ events) ≡ own_events who told ++ events = own-joined who told events ∙ ap (λ xs. own_events who told ++ xs) (own-own who events (line-own u.ballots who (part u who) line events tells)) in
-    let here : TellsLine w.ballots who (local_part w.ballots (part w who) (own_events who told)) line events = subst (λ p. TellsLine w.ballots who p line events) (long-parts w u told who h) (subst (λ b. TellsLine b who (part u who) line events) (long-ballots w u told h) tells) in
+    let here : TellsLine w.ballots who (local_part w.ballots (part w who) (own_events who told)) line events = subst (λ p. TellsLine w.ballots who p line events) now (subst (λ b. TellsLine b who (part u who) line events) ballots tells) in
     record {
       taken = is.taken ++ line ∷ [];
       cut = is.cut ∙ ap (λ xs. is.taken ++ xs) next ∙ sym (append_assoc is.taken (line ∷ []) after);
@@ -44,7 +46,12 @@ cut-more w u who lines left after line told events h is next tells =
           (told-joined w.ballots who (part w who) is.taken (line ∷ []) (own_events who told) events is.told (events, [], here, refl, sym (append-nil events)));
     }
 
-cut-same : (w u : ExactWorld) (who other : Actor) (lines left after : List OwnLine) (line : OwnLine) (told events : List Pair) → (other ≡ who → ⊥) → IsCut w other lines left (own_events other told) → after ≡ left → TellsLine u.ballots who (part u who) line events →
+pub cut-more : (w u : ExactWorld) (who : Actor) (lines left after : List OwnLine) (line : OwnLine) (told events : List Pair) → IsHistory w told u → IsCut w who lines left (own_events who told) → left ≡ line ∷ after → TellsLine u.ballots who (part u who) line events →
+    IsCut w who lines after (own_events who (told ++ events))
+cut-more w u who lines left after line told events h is next tells =
+    cut-at w u who lines left after line told events (ap (λ (s : Setting). s.ballots) (history-setting model-laws told w u h)) (parts-local model-laws told w u h who) is next tells
+
+pub cut-same : (w u : ExactWorld) (who other : Actor) (lines left after : List OwnLine) (line : OwnLine) (told events : List Pair) → (other ≡ who → ⊥) → IsCut w other lines left (own_events other told) → after ≡ left → TellsLine u.ballots who (part u who) line events →
     IsCut w other lines after (own_events other (told ++ events))
 cut-same w u who other lines left after line told events apart is same tells =
     let own : own_events other (told ++ events) ≡ own_events other told = own-joined other told events ∙ ap (λ xs. own_events other told ++ xs) (own-none who other events apart (line-own u.ballots who (part u who) line events tells)) ∙ append-nil (own_events other told) in
@@ -64,7 +71,7 @@ cuts-go-on w u journals left after who line told events h cuts next others tells
     go : (t : Bool) → (place other == place who) ≡ t → IsCut w other (journals other) (after other) (own_events other (told ++ events))
     go true is =
         let same : other ≡ who = places-apart other who (eqb-true (place other) (place who) is) in
-        subst (λ x. IsCut w x (journals x) (after x) (own_events x (told ++ events))) (sym same) (cut-more w u who (journals who) (left who) (after who) line told events h (cuts who) next tells)
+        subst (λ x. IsCut w x (journals x) (after x) (own_events x (told ++ events))) (sym same) (cut-at w u who (journals who) (left who) (after who) line told events (long-ballots w u told h) (long-parts w u told who h) (cuts who) next tells)
     go false is =
         let apart : other ≡ who → ⊥ = λ e. let z : true ≡ false = sym (eq-eqb (place other) (place who) (ap place e)) ∙ is in cc in
         cut-same w u who other (journals other) (left other) (after other) line told events apart (cuts other) (others other apart) tells
@@ -144,7 +151,7 @@ waiting-are-judged once w v journals left someone line rest m next waits h =
 judging : StepsChangeOnePart → EffectsAreOfTheirEvents → MessagesAreAsListed → (w v : ExactWorld) (journals left : Journals) → IsMerging w journals left v → IsJudging w journals left v
 judging changes effects messages w v journals left m = record { told = m.told; history = history-comes changes effects messages m.told w v m.history; cut = m.cut }
 
-history-joined : (w u v : ExactWorld) (begun rest : List Pair) → IsHistory w begun u → IsHistory u rest v → IsHistory w (begun ++ rest) v
+pub history-joined : (w u v : ExactWorld) (begun rest : List Pair) → IsHistory w begun u → IsHistory u rest v → IsHistory w (begun ++ rest) v
 history-joined w u v [] rest h i = subst (λ x. IsHistory x rest v) h i
 history-joined w u v (q ∷ begun) rest h i = (h.0, h.1, history-joined h.0 u v begun rest h.2 i)
 

@@ -21,7 +21,7 @@ use Rattle.journal_merger.specs.declared.faults.JournalsFault.{JournalsFault}
 use Rattle.journal_merger.specs.declared.faults.JournalsFault.TheVariants as journals
 use Rattle.journal_merger.specs.declared.reading.TheConstants.{MAX_OWN_LINE_LEN}
 use Rattle.journal_merge.specs.LineMerges.{Journals}
-use Rattle.journal_merger.specs.Pendings.{whole_lines, AreTexts, HasLines, Pending, IsLeft, AreLeft, AreApart, IsOnlyText, journals_fault_of, ReadsNext, IsRead, Adds, owner, BeginsWithNoLine, IsNoText, IsReadFault, HasActor, IsAddFault}
+use Rattle.journal_merger.specs.Pendings.{whole_lines, AreTexts, HasLines, Pending, IsLeft, AreLeft, AreApart, IsOnlyText, journals_fault_of, ReadsNext, IsRead, one_more, Adds, owner, BeginsWithNoLine, IsNoText, IsReadFault, HasActor, IsAddFault}
 
 -- a line that was read
 
@@ -82,24 +82,25 @@ get-set-here xs i y within =
 
 -- a journal that was read on
 
-pub is-read : (i : ℕ) (old : List Pending) (p q : Pending) → slice_get old i ≡ Some p → q.who ≡ p.who → ReadsNext p.rest q.next q.rest → IsRead i old (slice_set old i q)
-is-read i old p q was who reads = record {
+pub is-read : (i : ℕ) (old : List Pending) (p q : Pending) → slice_get old i ≡ Some p → q.who ≡ p.who → q.number ≡ one_more p.number → ReadsNext p.rest q.next q.rest → IsRead i old (slice_set old i q)
+is-read i old p q was who number reads = record {
   before = p;
   after = q;
   was = was;
   now = get-set-here old i q (slice_get_within old i p was);
   others = λ j apart. get-set-there old i j q apart;
   who = who;
+  number = number;
   reads = reads;
 }
 
-pub read-on : (i : ℕ) (items old : List Pending) (p q : Pending) (r : Result (Unit {0}) JournalsFault) → items ≡ old → slice_get items i ≡ Some p → q.who ≡ p.who → OnOk r (ReadsNext p.rest q.next q.rest) → OnOk r (IsRead i old (slice_set items i q))
-read-on i items old p q (Ok tt) same was who reads = subst (λ ps. IsRead i ps (slice_set items i q)) same (is-read i items p q was who reads)
-read-on i items old p q (Err e) same was who reads = tt
+pub read-on : (i : ℕ) (items old : List Pending) (p q : Pending) (r : Result (Unit {0}) JournalsFault) → items ≡ old → slice_get items i ≡ Some p → q.who ≡ p.who → OnOk r (q.number ≡ one_more p.number) → OnOk r (ReadsNext p.rest q.next q.rest) → OnOk r (IsRead i old (slice_set items i q))
+read-on i items old p q (Ok tt) same was who number reads = subst (λ ps. IsRead i ps (slice_set items i q)) same (is-read i items p q was who number reads)
+read-on i items old p q (Err e) same was who number reads = tt
 
 -- what holds of one journal is apart from what holds of another
 
-by-place : {P : Type 0} (i j : ℕ) → (i ≡ j → P) → ((i ≡ j → ⊥) → P) → P
+pub by-place : {P : Type 0} (i j : ℕ) → (i ≡ j → P) → ((i ≡ j → ⊥) → P) → P
 by-place {P} i j same apart = go (i == j) refl
   where
     go : (t : Bool) → (i == j) ≡ t → P
@@ -163,9 +164,9 @@ apart-more old p apart new i j x y at there who = go (get-last old p i x at) (ge
 pub apart-pushed : (old shown new : List Pending) (p : Pending) → shown ≡ old → new ≡ old ++ p ∷ [] → AreApart old → ((i : ℕ) (q : Pending) → slice_get shown i ≡ Some q → (place q.who == place p.who) ≡ false) → AreApart new
 apart-pushed old shown new p same is apart none = subst AreApart (sym is) (apart-more old p apart (λ i q at. none i q (ap (λ (xs : List Pending). slice_get xs i) same ∙ at)))
 
-pub was-added : (old items new : List Pending) (text source rest : Option (List ℕ)) (p : Pending) (next : Option OwnLine) (l : OwnLine) → items ≡ old → new ≡ items ++ p ∷ [] → source ≡ text → ReadsNext source next rest → next ≡ Some l → rest ≡ p.rest → p.next ≡ Some l → p.who ≡ owner l → Adds old text new
-was-added old items new text source rest p next l same is from reads some left has who =
-    (p, is ∙ ap (λ (xs : List Pending). xs ++ p ∷ []) same, subst (λ t. ReadsNext t p.next p.rest) from (subst (λ n. ReadsNext source n p.rest) (some ∙ sym has) (subst (λ r. ReadsNext source next r) left reads)), (l, has, who))
+pub was-added : (old items new : List Pending) (text source rest : Option (List ℕ)) (p : Pending) (next : Option OwnLine) (l : OwnLine) → items ≡ old → new ≡ items ++ p ∷ [] → source ≡ text → ReadsNext source next rest → next ≡ Some l → rest ≡ p.rest → p.number ≡ 1 → p.next ≡ Some l → p.who ≡ owner l → Adds old text new
+was-added old items new text source rest p next l same is from reads some left number has who =
+    (p, is ∙ ap (λ (xs : List Pending). xs ++ p ∷ []) same, subst (λ t. ReadsNext t p.next p.rest) from (subst (λ n. ReadsNext source n p.rest) (some ∙ sym has) (subst (λ r. ReadsNext source next r) left reads)), number, (l, has, who))
 
 pub on-ok : {P : Type 0} (r : Result (Unit {0}) JournalsFault) (x : Unit {0}) → r ≡ Ok x → P → OnOk r P
 on-ok {P} r x is p = subst (λ (s : Result (Unit {0}) JournalsFault). OnOk s P) (sym is) p

@@ -1,3 +1,4 @@
 pub mod Pendings
 pub mod Merges
 pub mod Faults
+pub mod Judging

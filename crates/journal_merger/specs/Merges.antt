@@ -7,16 +7,17 @@ use Rattle.world_model.specs.declared.events.Event.{Event}
 use Rattle.world_model.specs.declared.exact.ExactWorld.{ExactWorld}
 use Rattle.world_model.specs.Locality.{IsHistory, own_events}
 use Rattle.world_model.specs.Parts.{part}
+use Rattle.line_streams.specs.Streams.{AppendsBeginning, Grows, with_gathered}
 use Rattle.own_journals.specs.declared.lines.OwnLine.{OwnLine}
 use Rattle.journal_text.specs.Journals.{history_text}
-use Rattle.journal_merge.specs.LineMerges.{TellsLine, TellsLines, Journals, HasMerge, IsRefused, IsWaiting}
+use Rattle.journal_merge.specs.LineMerges.{TellsLine, TellsLines, Journals, HasMerge, IsCut, IsRefused, IsWaiting}
 use Rattle.line_merger.specs.declared.offers.MergeFault.{MergeFault}
 use Rattle.line_merger.specs.declared.offers.MergeFault.TheVariants as full
 use Rattle.line_merger.specs.declared.offers.Offer.{Offer}
 use Rattle.line_merger.specs.declared.offers.Offer.TheVariants as offer
 use Rattle.line_merger.specs.declared.offers.Taken.{Taken}
 use Rattle.line_merger.specs.Offers.{events_of}
-use Rattle.journal_merger.specs.Pendings.{Pending, AreLeft}
+use Rattle.journal_merger.specs.Pendings.{Pending, AreLeft, lines_of}
 use Rattle.journal_merger.specs.declared.faults.Failure.{Failure}
 use Rattle.journal_merger.specs.declared.faults.JournalsFault.{JournalsFault}
 use Rattle.journal_merger.specs.declared.faults.JournalsFault.TheVariants as fault
@@ -33,13 +34,36 @@ pub record IsMerged (w : ExactWorld) (journals : Journals) (told : List (Event �
   pub history : IsHistory w told world
   pub own : (who : Actor) → TellsLines w.ballots who (part w who) (journals who) (own_events who told)
 
--- What is found of journals, and what is then written. Merged: the texts have lines, these have a merge, and the text of
--- a merge was written. Stuck: whatever lines the texts have, they have no merge.
+-- A history from the world that begins a merge: whatever lines the texts have, it tells first lines of each journal.
+pub record IsBegun (w : ExactWorld) (pending : List Pending) (told : List (Event × Effect)) : Type 0 where
+  pub world : ExactWorld
+  pub history : IsHistory w told world
+  pub own : (journals : Journals) → AreLeft ⊥ pending journals → (who : Actor) → (left : List OwnLine) × IsCut w who (journals who) left (own_events who told)
+
+-- A beginning of the text of such a history was written.
+abbrev pub WritesBeginning : ExactWorld → List Pending → Option (List ℕ) → Option (List ℕ) → Type 0
+WritesBeginning w pending old new = (told : List (Event × Effect)) × IsBegun w pending told × AppendsBeginning old new (history_text told)
+
+-- a fault that a merge may meet: no journal is added then
+abbrev pub IsMergeFault : JournalsFault → Type 0
+IsMergeFault fault.NoActor = ⊥
+IsMergeFault fault.SameActor = ⊥
+IsMergeFault fault.NoLine = Unit {0}
+IsMergeFault fault.OtherActor = Unit {0}
+IsMergeFault fault.Full = Unit {0}
+IsMergeFault fault.Read = Unit {0}
+IsMergeFault fault.Write = Unit {0}
+IsMergeFault fault.Memory = Unit {0}
+IsMergeFault fault.TooManyLines = Unit {0}
+
+-- What is found of journals, and what is then written. Merged: the texts have so many lines, these have a merge, and the
+-- text of a merge was written. Stuck: whatever lines the texts have, they have no merge. Then, and after a fault, a beginning was
+-- written.
 abbrev pub Finds : ExactWorld → List Pending → Option (List ℕ) → Option (List ℕ) → Result Outcome Failure → Type 0
 Finds w pending old new (Ok (outcome.Merged lines)) =
-    (journals : Journals) × (told : List (Event × Effect)) × AreLeft (Unit {0}) pending journals × IsMerged w journals told × HasMerge w journals × Appends old new (history_text told)
-Finds w pending old new (Ok (outcome.Stuck why)) = (journals : Journals) → AreLeft ⊥ pending journals → HasMerge w journals → ⊥
-Finds w pending old new (Err f) = Unit {0}
+    (journals : Journals) × (told : List (Event × Effect)) × AreLeft (Unit {0}) pending journals × IsMerged w journals told × HasMerge w journals × (lines ≡ lines_of pending journals) × Appends old new (history_text told)
+Finds w pending old new (Ok (outcome.Stuck why)) = ((journals : Journals) → AreLeft ⊥ pending journals → HasMerge w journals → ⊥) × WritesBeginning w pending old new
+Finds w pending old new (Err f) = IsMergeFault f.fault × WritesBeginning w pending old new
 
 -- The next line of the actor is taken, by these events.
 pub record IsTaken (w : ExactWorld) (who : Actor) (next : Option OwnLine) (t : Taken) (v : ExactWorld) : Type 0 where
@@ -102,3 +126,22 @@ Goes (found.Took i t) = Unit {0}
 Goes (found.Refused i why) = ⊥
 Goes found.Stuck = ⊥
 Goes found.Merged = ⊥
+
+-- What was found at one journal: none if its next line can't be taken now, and then nothing changed.
+abbrev pub IsFoundAt : ExactWorld → List Pending → Option Found → ExactWorld → Type 0
+IsFoundAt w pending None v = v ≡ w
+IsFoundAt w pending (Some f) v = IsFound w pending f v
+
+abbrev pub GoesAt : Option Found → Type 0
+GoesAt None = Unit {0}
+GoesAt (Some f) = Goes f
+
+-- the text was appended, or after a fault a beginning of it
+abbrev pub Begins : {U E : Type 0} → Option (List ℕ) → Option (List ℕ) → List ℕ → Result U E → Type 0
+Begins old new text (Ok u) = Appends old new text
+Begins old new text (Err e) = AppendsBeginning old new text
+
+-- A text was gathered, or after a fault a beginning of it, after what was gathered before. What is written stays written.
+pub record Gathers {U E : Type 0} (old new : Option (List ℕ)) (had has text : List ℕ) (r : Result U E) : Type 0 where
+  pub begins : Begins (with_gathered old had) (with_gathered new has) text r
+  pub grows : Grows old new

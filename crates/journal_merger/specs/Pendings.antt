@@ -1,5 +1,5 @@
 -- The journals of actors, read line by line, and what is left of them.
-use Rattle.std.specs.Prelude.{◌≡◌, ◌==◌, ◌⊎◌, ◌<◌, ℕ, length, not, Bool, true, false, List, [], ◌∷◌, ◌++◌, Option, Some, None, slice_get}
+use Rattle.std.specs.Prelude.{◌≡◌, ◌==◌, ◌⊎◌, ◌<◌, ℕ, ◌+◌, ◌-◌, ◌^◌, min, length, not, Bool, true, false, List, [], ◌∷◌, ◌++◌, Option, Some, None, slice_get}
 use Rattle.lock_messages.specs.declared.ids.Actor.{Actor}
 use Rattle.line_streams.specs.Streams.{pieces, KnownLeft}
 use Rattle.own_journals.specs.declared.faults.OwnLineFault.{OwnLineFault}
@@ -31,9 +31,10 @@ abbrev pub HasLines : Type 0 → Option (List ℕ) → List OwnLine → Type 0
 HasLines unknown None lines = unknown
 HasLines unknown (Some text) lines = AreTexts (whole_lines (pieces text)) lines
 
--- what is left of an actor's journal: the next line, if there is one, and the text after it
+-- what is left of an actor's journal: the next line, if there is one, how many lines were read with it, and the text after it
 pub record Pending : Type 0 where
   pub who : Actor
+  pub number : ℕ
   pub next : Option OwnLine
   pub rest : Option (List ℕ)
 
@@ -106,12 +107,16 @@ is_others (Some l) who = not (place (owner l) == place who)
 
 -- A journal was added: its first line was read.
 abbrev pub Adds : List Pending → Option (List ℕ) → List Pending → Type 0
-Adds old text new = (p : Pending) × (new ≡ old ++ p ∷ []) × ReadsNext text p.next p.rest × ((l : OwnLine) × (p.next ≡ Some l) × (p.who ≡ owner l))
+Adds old text new = (p : Pending) × (new ≡ old ++ p ∷ []) × ReadsNext text p.next p.rest × (p.number ≡ 1) × ((l : OwnLine) × (p.next ≡ Some l) × (p.who ≡ owner l))
 
 -- What is shown of the next line of the journal at an index, if it has one.
 abbrev pub IsNextLine : List Pending → ℕ → Option LineLeft → Type 0
 IsNextLine pending i None = (p : Pending) → slice_get pending i ≡ Some p → p.next ≡ None
-IsNextLine pending i (Some left) = (p : Pending) × (slice_get pending i ≡ Some p) × (left.who ≡ p.who) × (p.next ≡ Some left.line.now)
+IsNextLine pending i (Some left) = (p : Pending) × (slice_get pending i ≡ Some p) × (left.who ≡ p.who) × (left.number ≡ p.number) × (p.next ≡ Some left.line.now)
+
+-- one line more was read, unless the count is at its end
+abbrev pub one_more : ℕ → ℕ
+one_more number = min (number + 1) (2 ^ 64 - 1)
 
 -- The journal at an index was read on.
 pub record IsRead (i : ℕ) (old new : List Pending) : Type 0 where
@@ -121,4 +126,10 @@ pub record IsRead (i : ℕ) (old new : List Pending) : Type 0 where
   pub now : slice_get new i ≡ Some after
   pub others : (j : ℕ) → (j ≡ i → ⊥) → slice_get new j ≡ slice_get old j
   pub who : after.who ≡ before.who
+  pub number : after.number ≡ one_more before.number
   pub reads : ReadsNext before.rest after.next after.rest
+
+-- how many lines the journals of these actors have
+abbrev pub lines_of : List Pending → Journals → ℕ
+lines_of [] journals = 0
+lines_of (p ∷ ps) journals = length (journals p.who) + lines_of ps journals

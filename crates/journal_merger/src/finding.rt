@@ -1,8 +1,8 @@
 // Whose line can be taken.
 
-ghost use Rattle.std.specs.Prelude.{◌≡◌, IfOk};
+ghost use Rattle.std.specs.Prelude.{◌≡◌, IfErr, IfOk};
 ghost use Rattle.frame_numbers.specs.FrameNumbers.{IsIndexOf};
-ghost use Rattle.journal_merger.specs.Merges.{IsTurn, IsFound, IsGoing, Goes, turn_of};
+ghost use Rattle.journal_merger.specs.Merges.{IsTurn, IsFound, IsFoundAt, IsGoing, IsMergeFault, Goes, GoesAt, turn_of};
 
 use crate::reading::OwnJournal;
 use crate::{Failure, JournalsFault};
@@ -11,7 +11,7 @@ use line_merger::{MergeFault, Offer, Refusal, Taken, take_line};
 use lock_messages::Actor;
 use own_journals::OwnLine;
 use std::io::Read;
-use world_machine::World;
+use world_machine::Actors;
 
 /// What came of a journal's turn.
 #[derive(Clone, Copy, Debug, PartialEq, Eq)]
@@ -54,7 +54,7 @@ fn turn_of(offer: Result<Offer, MergeFault>) -> Result<Turn, JournalsFault>
 
 /// Offers this line of the actor, if there is one.
 pub(crate) fn offer_next(
-    world: &mut World,
+    world: &mut Actors,
     numbers: &mut FrameNumbers,
     who: &Actor,
     next: &Option<OwnLine>,
@@ -62,6 +62,7 @@ pub(crate) fn offer_next(
     requires { IsIndexOf numbers.old world.old.sent }
     ensures turn { IfOk result (λ t. IsTurn world.old who.now next.now t world.new) }
     ensures index { IfOk result (λ t. IsGoing t → IsIndexOf numbers.new world.new.sent) }
+    ensures fault { IfErr result (λ f. IsMergeFault f) }
 {
     match next {
         Some(line) => turn_of(take_line(world, numbers, who, line)),
@@ -69,15 +70,69 @@ pub(crate) fn offer_next(
     }
 }
 
+/// Takes the next line of the journal at this index if it can be taken, or stops if it is refused.
+fn find_at<R: Read>(
+    world: &mut Actors,
+    numbers: &mut FrameNumbers,
+    journals: &[OwnJournal<R>],
+    index: usize,
+) -> Result<Option<Found>, Failure>
+    requires { IsIndexOf numbers.old world.old.sent }
+    ensures found { IfOk result (λ f. IsFoundAt world.old journals.now f world.new) }
+    ensures index { IfOk result (λ f. GoesAt f → IsIndexOf numbers.new world.new.sent) }
+    ensures fault { IfErr result (λ e. IsMergeFault e.fault) }
+{
+    let Some(journal) = journals.get(index) else {
+        return Ok(None);
+    };
+    match offer_next(world, numbers, &journal.who, &journal.next) {
+        Ok(Turn::Ended) => Ok(None),
+        Ok(Turn::Waits) => Ok(None),
+        Ok(Turn::Took(taken)) => Ok(Some(Found::Took(index, taken))),
+        Ok(Turn::Refused(why)) => Ok(Some(Found::Refused(index, why))),
+        Err(fault) => Err(Failure {
+            journal: index,
+            fault,
+        }),
+    }
+}
+
+/// Looks for a journal whose next line can be taken, and takes it. It looks at these two first, since actors go on and
+/// answer each other. It stops at a line that is refused.
+pub fn find_near<R: Read>(
+    world: &mut Actors,
+    numbers: &mut FrameNumbers,
+    journals: &[OwnJournal<R>],
+    last: usize,
+    before: usize,
+) -> Result<Found, Failure>
+    requires { IsIndexOf numbers.old world.old.sent }
+    ensures found { IfOk result (λ f. IsFound world.old journals.now f world.new) }
+    ensures index { IfOk result (λ f. Goes f → IsIndexOf numbers.new world.new.sent) }
+    ensures fault { IfErr result (λ e. IsMergeFault e.fault) }
+{
+    match find_at(world, numbers, journals, last) {
+        Ok(None) => {}
+        Ok(Some(found)) => return Ok(found),
+        Err(failure) => return Err(failure),
+    }
+    match find_at(world, numbers, journals, before) {
+        Ok(None) => find(world, numbers, journals),
+        Ok(Some(found)) => Ok(found),
+        Err(failure) => Err(failure),
+    }
+}
+
 /// Looks for a journal whose next line can be taken, in order, and takes it. It stops at a line that is refused.
-pub fn find<R: Read>(
-    world: &mut World,
+fn find<R: Read>(
+    world: &mut Actors,
     numbers: &mut FrameNumbers,
     journals: &[OwnJournal<R>],
 ) -> Result<Found, Failure>
     requires { IsIndexOf numbers.old world.old.sent }
     ensures found { IfOk result (λ f. IsFound world.old journals.now f world.new) }
     ensures index { IfOk result (λ f. Goes f → IsIndexOf numbers.new world.new.sent) }
+    ensures fault { IfErr result (λ e. IsMergeFault e.fault) }
 {
     let mut waits = false;
     for (index, journal) in journals.iter().enumerate() {

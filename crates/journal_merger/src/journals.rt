@@ -1,12 +1,11 @@
 // The journals that are merged.
 
 ghost use Rattle.std.specs.Prelude.{◌≡◌, ◌==◌, ◌<◌, ℕ, true, false, [], length, slice_get, Some, IfErr, OnOk, OnErr};
-ghost use Rattle.std.specs.Io.KnownBytes.{Appends};
 ghost use Rattle.std.specs.List.{flat_map};
 ghost use Rattle.journal_text.specs.Journals.{event_line};
 ghost use Rattle.line_merger.specs.Offers.{events_of};
-ghost use Rattle.line_streams.specs.Streams.{with_gathered};
 ghost use Rattle.world_model.specs.Parts.{place};
+ghost use Rattle.journal_merger.specs.Merges.{Gathers, IsMergeFault};
 ghost use Rattle.journal_merger.specs.Pendings.{Pending, Adds, AreApart, HasActor, IsAddFault, IsNextLine, IsRead};
 
 use crate::JournalsFault;
@@ -25,7 +24,7 @@ use std::marker::Model;
 pub struct LineLeft<'a> {
     /// Whose journal it is.
     pub who: Actor,
-    /// Its number in the journal, from 1.
+    /// How many lines of the journal were read with it.
     pub number: u64,
     /// What it says.
     pub line: &'a OwnLine,
@@ -108,7 +107,8 @@ impl<R: Read> Journals<R> {
     ) -> Result<(), JournalsFault>
         requires { index < length self.old }
         ensures read { OnOk result (IsRead index self.old self.new) }
-        ensures text { OnOk result (Appends (with_gathered (W.contents writer.old) out.old) (with_gathered (W.contents writer.new) out.new) (flat_map event_line (events_of taken.now))) }
+        ensures text { Gathers (W.contents writer.old) (W.contents writer.new) out.old out.new (flat_map event_line (events_of taken.now)) result }
+        ensures fault { IfErr result (λ f. IsMergeFault f) }
     {
         match put_taken(self.alloc, taken, out, writer) {
             Ok(()) => {}

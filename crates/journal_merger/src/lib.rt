@@ -9,6 +9,9 @@
 //! why. After a fault it promises nothing. It holds the world, one line of each journal, and the frames of the messages
 //! that were said.
 //!
+//! `judge` writes no journal. It says `Merged` and `Stuck` in the same cases, however many messages are said: it holds the
+//! actors, one line of each journal, and the frames.
+//!
 //! It stands on `line_merger` for a line, `own_journals` for the text of a line, `line_streams` for reading and
 //! writing, `event_lines` for the lines that it writes, and `journal_text` for the words about them.
 #![tactic(auto)]
@@ -16,6 +19,7 @@
 mod faults;
 mod finding;
 mod journals;
+mod judging;
 mod merging;
 mod reading;
 mod settling;
@@ -23,5 +27,6 @@ mod writing;
 
 pub use faults::{Failure, JournalsFault};
 pub use journals::{Journals, LineLeft};
+pub use judging::judge;
 pub use merging::{Outcome, merge};
 pub use reading::MAX_OWN_LINE_LEN;

@@ -1,10 +1,9 @@
 // Merging, line by line.
 
 ghost use Rattle.std.specs.Prelude.{◌≡◌};
-ghost use Rattle.line_streams.specs.Streams.{with_gathered};
 ghost use Rattle.journal_merger.specs.Merges.{Finds};
 
-use crate::finding::{Found, find};
+use crate::finding::{Found, find_near};
 use crate::{Failure, Journals, JournalsFault};
 use frame_numbers::FrameNumbers;
 use journal_merge::laws::merging_is_exact;
@@ -12,7 +11,7 @@ use line_merger::Refusal;
 use line_streams::Gathered;
 use std::alloc::Global;
 use std::io::{Read, Write};
-use world_machine::World;
+use world_machine::{Actors, World};
 
 /// The most lines that are merged.
 pub(crate) const MAX_LINES: u64 = 1_000_000_000_000;
@@ -27,34 +26,46 @@ pub enum Outcome {
     Stuck(Option<(usize, Refusal)>),
 }
 
-/// Takes lines as long as one can be taken, and gathers their events.
+/// Takes lines as long as one can be taken, and writes their events.
 fn take_all<R: Read, W: Write>(
     alloc: Global,
-    world: &mut World,
+    world: &mut Actors,
     journals: &mut Journals<R>,
-    out: &mut Gathered,
     writer: &mut W,
 ) -> Result<Outcome, Failure>
-    ensures { Finds world.old journals.old (with_gathered (W.contents writer.old) out.old) (with_gathered (W.contents writer.new) out.new) result }
+    ensures { Finds world.old journals.old (W.contents writer.old) (W.contents writer.new) result }
 {
     merging_is_exact();
     let mut numbers = FrameNumbers::new(alloc);
+    let mut out = Gathered::new();
+    let mut last = 0;
+    let mut before = 0;
     for lines in 0..MAX_LINES {
         journals.tell_apart();
-        let found = match find(world, &mut numbers, journals.all()) {
+        let found = match find_near(world, &mut numbers, journals.all(), last, before) {
             Ok(found) => found,
             Err(failure) => return Err(failure),
         };
         match found {
             Found::Took(journal, taken) => {
-                match journals.go_on(journal, &taken, out, writer) {
+                match journals.go_on(journal, &taken, &mut out, writer) {
                     Ok(()) => {}
                     Err(fault) => return Err(Failure { journal, fault }),
+                }
+                if journal != last {
+                    before = last;
+                    last = journal;
                 }
             }
             Found::Refused(journal, why) => return Ok(Outcome::Stuck(Some((journal, why)))),
             Found::Stuck => return Ok(Outcome::Stuck(None)),
-            Found::Merged => return Ok(Outcome::Merged(lines)),
+            Found::Merged => match out.let_out(writer) {
+                Ok(()) => return Ok(Outcome::Merged(lines)),
+                Err(_) => return Err(Failure {
+                    journal: 0,
+                    fault: JournalsFault::Write,
+                }),
+            },
         }
     }
     Err(Failure {
@@ -66,8 +77,8 @@ fn take_all<R: Read, W: Write>(
 /// Merges the journals, and writes the events of the merge, each in a line, with numbers for messages.
 ///
 /// It takes any next line that can be taken, as long as there is one. If it says `Merged`, the text of a merge was
-/// written. If it says `Stuck` or fails, a beginning of a text may have been written. If it says `Stuck`, the lines that
-/// are left can't be taken, and `Journals::next_line` shows them.
+/// written. If it says `Stuck` or fails, a beginning of the text of a history was written, which first lines of the
+/// journals tell. If it says `Stuck`, the lines that are left can't be taken, and `Journals::next_line` shows them.
 ///
 /// # Errors
 ///
@@ -82,9 +93,8 @@ pub fn merge<R: Read, W: Write>(
     requires { Unit {0} }
     ensures { Finds world journals.old (W.contents writer.old) (W.contents writer.new) result }
 {
-    let mut world = world;
-    let mut out = Gathered::new();
-    let outcome = match take_all(alloc, &mut world, journals, &mut out, writer) {
+    let mut world = Actors::of(world);
+    let outcome = match take_all(alloc, &mut world, journals, writer) {
         Ok(outcome) => outcome,
         Err(failure) => return Err(failure),
     };
@@ -93,12 +103,6 @@ pub fn merge<R: Read, W: Write>(
             Ok(()) => Ok(Outcome::Stuck(why)),
             Err(failure) => Err(failure),
         },
-        Outcome::Merged(lines) => match out.let_out(writer) {
-            Ok(()) => Ok(Outcome::Merged(lines)),
-            Err(_) => Err(Failure {
-                journal: 0,
-                fault: JournalsFault::Write,
-            }),
-        },
+        Outcome::Merged(lines) => Ok(Outcome::Merged(lines)),
     }
 }

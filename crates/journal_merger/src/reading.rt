@@ -3,7 +3,9 @@
 ghost use Rattle.std.specs.Prelude.{◌≡◌, ◌==◌, ◌⊎◌, Some, IfOk, IfErr, OnOk};
 ghost use Rattle.own_journals.specs.declared.lines.OwnLine.{OwnLine as LineValue};
 ghost use Rattle.world_model.specs.Parts.{place};
-ghost use Rattle.journal_merger.specs.Pendings.{IsNoText, IsOnlyText, IsReadFault, ReadsNext, journals_fault_of, owner, is_others};
+ghost use Rattle.journal_merger.specs.Merges.{IsMergeFault};
+ghost use Rattle.journal_merger.specs.Judging.{IsJudgeFault};
+ghost use Rattle.journal_merger.specs.Pendings.{IsNoText, IsOnlyText, IsReadFault, ReadsNext, journals_fault_of, owner, is_others, one_more};
 
 use crate::JournalsFault;
 use line_merger::Refusal;
@@ -14,7 +16,8 @@ use std::alloc::Global;
 use std::io::Read;
 use std::marker::Model;
 
-/// The most bytes of a line: a record of 60,000 bytes in hexadecimal digits, and the words before it.
+/// The most bytes of a line: a record of 60,000 bytes in hexadecimal digits, and the words before it. What was cut off
+/// before a life counts with it.
 pub const MAX_OWN_LINE_LEN: usize = 120_064;
 
 /// The journal of one actor, of which one line is read ahead.
@@ -36,7 +39,7 @@ impl<R: Read> Model for OwnJournal<R> {
 
     ghost Value = { Pending };
 
-    ghost view = { λ j. record { who = j.who; next = j.next; rest = j.source } };
+    ghost view = { λ j. record { who = j.who; number = j.number; next = j.next; rest = j.source } };
 }
 
 /// Whose line it is.
@@ -133,6 +136,9 @@ impl<R: Read> OwnJournal<R> {
     pub(crate) fn advance(&mut self, alloc: Global) -> Result<(), JournalsFault>
         ensures who { self.new.who ≡ self.old.who }
         ensures next { OnOk result (ReadsNext self.old.rest self.new.next self.new.rest) }
+        ensures number { OnOk result (self.new.number ≡ one_more self.old.number) }
+        ensures fault { IfErr result (λ f. IsMergeFault f) }
+        ensures read { IfErr result (λ f. IsJudgeFault f) }
     {
         let next = match read_next(alloc, &mut self.source, &mut self.piece) {
             Ok(next) => next,

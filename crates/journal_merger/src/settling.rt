@@ -1,7 +1,8 @@
 // Lines that are taken after one was refused, to see which are left.
 
-ghost use Rattle.std.specs.Prelude.{◌≡◌, IfOk};
+ghost use Rattle.std.specs.Prelude.{◌≡◌, IfErr, IfOk};
 ghost use Rattle.frame_numbers.specs.FrameNumbers.{IsIndexOf};
+ghost use Rattle.journal_merger.specs.Merges.{IsMergeFault};
 
 use crate::finding::{Turn, offer_next};
 use crate::merging::MAX_LINES;
@@ -10,7 +11,7 @@ use crate::{Failure, Journals, JournalsFault};
 use frame_numbers::FrameNumbers;
 use std::alloc::Global;
 use std::io::Read;
-use world_machine::World;
+use world_machine::Actors;
 
 impl<R: Read> OwnJournal<R> {
     /// Takes the next line if it can be taken, and reads the one after it. Returns whether it was taken. A refusal is
@@ -18,12 +19,13 @@ impl<R: Read> OwnJournal<R> {
     fn go_on_alone(
         &mut self,
         alloc: Global,
-        world: &mut World,
+        world: &mut Actors,
         numbers: &mut FrameNumbers,
     ) -> Result<bool, JournalsFault>
         requires { IsIndexOf numbers.old world.old.sent }
         ensures who { self.new.who ≡ self.old.who }
         ensures index { IfOk result (λ _. IsIndexOf numbers.new world.new.sent) }
+        ensures fault { IfErr result (λ f. IsMergeFault f) }
     {
         if self.refusal.is_some() {
             return Ok(false);
@@ -55,11 +57,12 @@ impl<R: Read> Journals<R> {
         &mut self,
         index: usize,
         alloc: Global,
-        world: &mut World,
+        world: &mut Actors,
         numbers: &mut FrameNumbers,
     ) -> Result<bool, JournalsFault>
         requires { IsIndexOf numbers.old world.old.sent }
-        ensures { IfOk result (λ _. IsIndexOf numbers.new world.new.sent) }
+        ensures index { IfOk result (λ _. IsIndexOf numbers.new world.new.sent) }
+        ensures fault { IfErr result (λ f. IsMergeFault f) }
     {
         if index >= self.journals.len() {
             return Ok(false);
@@ -71,11 +74,12 @@ impl<R: Read> Journals<R> {
     fn go_round(
         &mut self,
         alloc: Global,
-        world: &mut World,
+        world: &mut Actors,
         numbers: &mut FrameNumbers,
     ) -> Result<bool, Failure>
         requires { IsIndexOf numbers.old world.old.sent }
-        ensures { IfOk result (λ _. IsIndexOf numbers.new world.new.sent) }
+        ensures index { IfOk result (λ _. IsIndexOf numbers.new world.new.sent) }
+        ensures fault { IfErr result (λ e. IsMergeFault e.fault) }
     {
         let mut took = false;
         for journal in 0..self.count() {
@@ -90,8 +94,9 @@ impl<R: Read> Journals<R> {
 
     /// Takes lines as long as one can be taken, though the journals have no merge. Then each line that is left was
     /// refused, or waits for a message that nobody said.
-    pub(crate) fn settle(&mut self, alloc: Global, world: &mut World) -> Result<(), Failure>
+    pub(crate) fn settle(&mut self, alloc: Global, world: &mut Actors) -> Result<(), Failure>
         requires { Unit {0} }
+        ensures { IfErr result (λ e. IsMergeFault e.fault) }
     {
         let mut numbers = FrameNumbers::new(alloc);
         for _ in 0..MAX_LINES {

@@ -1,11 +1,10 @@
 // The events of a line that was taken, as text.
 
-ghost use Rattle.std.specs.Prelude.{◌≡◌, ◌++◌, IfOk, OnOk, string_bytes};
-ghost use Rattle.std.specs.Io.KnownBytes.{Appends};
+ghost use Rattle.std.specs.Prelude.{◌≡◌, ◌++◌, IfErr, IfOk, string_bytes};
 ghost use Rattle.std.specs.List.{flat_map};
 ghost use Rattle.journal_text.specs.Journals.{event_line};
 ghost use Rattle.line_merger.specs.Offers.{events_of};
-ghost use Rattle.line_streams.specs.Streams.{with_gathered};
+ghost use Rattle.journal_merger.specs.Merges.{Gathers, IsMergeFault};
 
 use crate::JournalsFault;
 use event_lines::write_event;
@@ -17,7 +16,8 @@ use world_model::Event;
 
 /// The line of an event, with its line feed.
 fn line_of(alloc: Global, event: &Event) -> Result<String, JournalsFault>
-    ensures { IfOk result (λ line. string_bytes line ≡ event_line event.now) }
+    ensures text { IfOk result (λ line. string_bytes line ≡ event_line event.now) }
+    ensures fault { IfErr result (λ f. IsMergeFault f) }
 {
     let Ok(mut line) = write_event(alloc, event) else {
         return Err(JournalsFault::Memory);
@@ -35,7 +35,8 @@ fn put_event<W: Write>(
     out: &mut Gathered,
     writer: &mut W,
 ) -> Result<(), JournalsFault>
-    ensures { OnOk result (Appends (with_gathered (W.contents writer.old) out.old) (with_gathered (W.contents writer.new) out.new) (event_line event.now)) }
+    ensures text { Gathers (W.contents writer.old) (W.contents writer.new) out.old out.new (event_line event.now) result }
+    ensures fault { IfErr result (λ f. IsMergeFault f) }
 {
     let line = match line_of(alloc, event) {
         Ok(line) => line,
@@ -55,7 +56,8 @@ fn put_both<W: Write>(
     out: &mut Gathered,
     writer: &mut W,
 ) -> Result<(), JournalsFault>
-    ensures { OnOk result (Appends (with_gathered (W.contents writer.old) out.old) (with_gathered (W.contents writer.new) out.new) (event_line first.now ++ event_line second.now)) }
+    ensures text { Gathers (W.contents writer.old) (W.contents writer.new) out.old out.new (event_line first.now ++ event_line second.now) result }
+    ensures fault { IfErr result (λ f. IsMergeFault f) }
 {
     match put_event(alloc, first, out, writer) {
         Ok(()) => {}
@@ -71,7 +73,8 @@ pub fn put_taken<W: Write>(
     out: &mut Gathered,
     writer: &mut W,
 ) -> Result<(), JournalsFault>
-    ensures { OnOk result (Appends (with_gathered (W.contents writer.old) out.old) (with_gathered (W.contents writer.new) out.new) (flat_map event_line (events_of taken.now))) }
+    ensures text { Gathers (W.contents writer.old) (W.contents writer.new) out.old out.new (flat_map event_line (events_of taken.now)) result }
+    ensures fault { IfErr result (λ f. IsMergeFault f) }
 {
     match taken {
         Taken::One(event) => put_event(alloc, event, out, writer),

@@ -5,10 +5,13 @@ use Rattle.std.specs.Io.KnownBytes.{Appends}
 use Rattle.std.proofs.KnownBytes.{Appends-trans}
 use Rattle.world_model.specs.declared.exact.ExactWorld.{ExactWorld}
 use Rattle.journal_text.specs.Journals.{history_text}
-use Rattle.journal_merger.specs.Merges.{Finds}
+use Rattle.journal_merger.specs.Judging.{Judges}
+use Rattle.journal_merger.specs.Merges.{Finds, WritesBeginning}
+use Rattle.journal_merger.proofs.OutFacts.{begins-after}
 use Rattle.journal_merger.specs.Pendings.{Pending}
 use Rattle.journal_merger.specs.declared.merging.Outcome.TheVariants as outcome
-use Rattle.line_streams.specs.Streams.{pieces}
+use Rattle.line_streams.specs.Streams.{pieces, AppendsBeginning, Puts}
+use Rattle.line_streams.specs.declared.faults.StreamFault.{StreamFault}
 use Rattle.operator_cli.specs.declared.faults.ServeFault.{ServeFault}
 use Rattle.operator_cli.specs.declared.faults.SettingsFault.{SettingsFault}
 use Rattle.operator_cli.specs.declared.faults.SettingsFault.TheVariants as settings
@@ -22,7 +25,7 @@ use Rattle.operator_cli.specs.PartOutputs.{FindsHead, RefusesStart}
 use Rattle.merge_service.specs.declared.ends.MergeEnd.{MergeEnd}
 use Rattle.merge_service.specs.declared.ends.MergeEnd.TheVariants as end
 use Rattle.merge_service.specs.declared.ends.MergeFault.{MergeFault}
-use Rattle.merge_service.specs.Merging.{merged_text, refused_of, Merges, MergesBy, MergesHead, MergesBehind, RefusesSettings, ServesMerge}
+use Rattle.merge_service.specs.Merging.{merged_text, refused_of, WritesSome, Merges, MergesBy, MergesHead, MergesBehind, RefusesSettings, ServesMerge}
 
 abbrev Out : Type 0
 Out = Option (List ℕ)
@@ -32,15 +35,25 @@ Came = Result MergeEnd MergeFault
 
 -- a merge that was written
 
-pub judged_so : (head : List ℕ) (w : ExactWorld) (pending : List Pending) (a b old new : Out) (lines : ℕ) → Finds w pending a b (Ok (outcome.Merged lines)) → Appends old new (merged_text lines) → Merges true head w pending old new (Ok end.Merged)
-judged_so head w pending a b old new lines f put =
-    let (journals, told, left, merged, has, text) = f in
-    (journals, told, left, merged, has, (lines, put))
+pub judged_so : (head : List ℕ) (w : ExactWorld) (pending : List Pending) (old new : Out) (lines : ℕ) → Judges w pending (Ok (outcome.Merged lines)) → Appends old new (merged_text lines) → Merges true head w pending old new (Ok end.Merged)
+judged_so head w pending old new lines (journals, left, has, count) put = (journals, left, has, subst (λ n. Appends old new (merged_text n)) count put)
 
 pub written_so : (head : List ℕ) (w : ExactWorld) (pending : List Pending) (old mid new : Out) (lines : ℕ) → Appends old mid (head ++ codes "---\n") → Finds w pending mid new (Ok (outcome.Merged lines)) → Merges false head w pending old new (Ok end.Merged)
 written_so head w pending old mid new lines put f =
-    let (journals, told, left, merged, has, text) = f in
-    (journals, told, left, merged, has, Appends-trans old mid new (head ++ codes "---\n") (history_text told) put text)
+    let (journals, told, left, merged, has, count, text) = f in
+    (journals, left, has, (told, merged, Appends-trans old mid new (head ++ codes "---\n") (history_text told) put text))
+
+-- a beginning that was written
+
+pub behind_head : (head : List ℕ) (w : ExactWorld) (pending : List Pending) (old mid new : Out) → Appends old mid (head ++ codes "---\n") → WritesBeginning w pending mid new → WritesSome false head w pending old new
+behind_head head w pending old mid new put h =
+    let (told, begun, text) = h in
+    (told, begun, begins-after old mid new (head ++ codes "---\n") (history_text told) put text)
+
+pub begins_so : (old new : Out) (text : List ℕ) (r : Result (Unit {0}) StreamFault) (f : StreamFault) → r ≡ Err f → Puts old new text r → AppendsBeginning old new text
+begins_so old new text r f is h =
+    let (front, back, e, some, put) = subst (Puts old new text) is h in
+    (front, back, e, put)
 
 -- settings that were read, or are refused
 

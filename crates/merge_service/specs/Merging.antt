@@ -7,12 +7,13 @@ use Rattle.world_model.specs.declared.events.Event.{Event}
 use Rattle.world_model.specs.declared.exact.ExactWorld.{ExactWorld}
 use Rattle.journal_text.specs.Journals.{history_text}
 use Rattle.journal_merge.specs.LineMerges.{Journals, HasMerge}
-use Rattle.journal_merger.specs.Merges.{IsMerged}
-use Rattle.journal_merger.specs.Pendings.{Pending, AreLeft}
+use Rattle.journal_merger.specs.Judging.{IsJudgeFault}
+use Rattle.journal_merger.specs.Merges.{IsMerged, IsBegun, IsMergeFault}
+use Rattle.journal_merger.specs.Pendings.{Pending, AreLeft, lines_of}
 use Rattle.journal_merger.specs.declared.faults.Failure.{Failure}
 use Rattle.journal_merger.specs.declared.faults.JournalsFault.{JournalsFault}
 use Rattle.journal_merger.specs.declared.faults.JournalsFault.TheVariants as fault
-use Rattle.line_streams.specs.Streams.{pieces}
+use Rattle.line_streams.specs.Streams.{pieces, AppendsBeginning}
 use Rattle.operator_cli.specs.declared.faults.ServeFault.{ServeFault}
 use Rattle.operator_cli.specs.declared.faults.ServeFault.TheVariants as serving
 use Rattle.operator_cli.specs.declared.faults.SettingsFault.{SettingsFault}
@@ -36,19 +37,36 @@ merged_text lines = codes "merged " ++ decimal lines ++ codes "\n"
 abbrev pub journal_after : List ℕ → List (Event × Effect) → List ℕ
 journal_after head told = (head ++ codes "---\n") ++ history_text told
 
--- What is written of a merge: the number of lines if the journals are only judged, else the journal.
-abbrev pub WritesMerge : Bool → List ℕ → List (Event × Effect) → Option (List ℕ) → Option (List ℕ) → Type 0
-WritesMerge true head told old new = (lines : ℕ) × Appends old new (merged_text lines)
-WritesMerge false head told old new = Appends old new (journal_after head told)
+-- What is written of a merge of so many lines: their number if the journals are only judged, else a history that they tell.
+abbrev pub WritesMerge : Bool → List ℕ → ExactWorld → Journals → ℕ → Option (List ℕ) → Option (List ℕ) → Type 0
+WritesMerge true head w journals lines old new = Appends old new (merged_text lines)
+WritesMerge false head w journals lines old new = (told : List (Event × Effect)) × IsMerged w journals told × Appends old new (journal_after head told)
+
+-- What is written if there is no merge, or after a fault of a journal: nothing if the journals are only judged, else a
+-- beginning of the settings and the journal of a history that begins a merge.
+abbrev pub WritesSome : Bool → List ℕ → ExactWorld → List Pending → Option (List ℕ) → Option (List ℕ) → Type 0
+WritesSome true head w pending old new = new ≡ old
+WritesSome false head w pending old new = (told : List (Event × Effect)) × IsBegun w pending told × AppendsBeginning old new (journal_after head told)
+
+-- a fault that may be met: no list of messages is full, and no journal is written, if the journals are only judged
+abbrev pub MeetsFault : Bool → JournalsFault → Type 0
+MeetsFault true f = IsJudgeFault f
+MeetsFault false f = IsMergeFault f
+
+-- What is written if the settings, or the number of lines, can't be written: a beginning.
+abbrev pub WritesPart : Bool → List ℕ → Option (List ℕ) → Option (List ℕ) → Type 0
+WritesPart true head old new = (lines : ℕ) × AppendsBeginning old new (merged_text lines)
+WritesPart false head old new = AppendsBeginning old new (head ++ codes "---\n")
 
 -- What comes of journals that are merged from a world. Merged: the texts have lines, these have a merge, and it was
 -- written. Stuck: whatever lines the texts have, they have no merge.
 abbrev pub Merges : Bool → List ℕ → ExactWorld → List Pending → Option (List ℕ) → Option (List ℕ) → Result MergeEnd MergeFault → Type 0
 Merges judged head w pending old new (Ok end.Merged) =
-    (journals : Journals) × (told : List (Event × Effect)) × AreLeft (Unit {0}) pending journals × IsMerged w journals told × HasMerge w journals × WritesMerge judged head told old new
-Merges judged head w pending old new (Ok end.Stuck) = (journals : Journals) → AreLeft ⊥ pending journals → HasMerge w journals → ⊥
+    (journals : Journals) × AreLeft (Unit {0}) pending journals × HasMerge w journals × WritesMerge judged head w journals (lines_of pending journals) old new
+Merges judged head w pending old new (Ok end.Stuck) = ((journals : Journals) → AreLeft ⊥ pending journals → HasMerge w journals → ⊥) × WritesSome judged head w pending old new
 Merges judged head w pending old new (Ok end.Refused) = ⊥
-Merges judged head w pending old new (Err f) = Unit {0}
+Merges judged head w pending old new (Err (met.Journals f)) = MeetsFault judged f.fault × WritesSome judged head w pending old new
+Merges judged head w pending old new (Err (met.Serve f)) = ((f ≡ serving.Write) ⊎ (f ≡ serving.Memory)) × WritesPart judged head old new
 
 -- what comes of a merge whose settings are refused, by what came of writing that
 abbrev pub refused_of : Result ℕ ServeFault → Result MergeEnd MergeFault

@@ -1,9 +1,8 @@
 // A merge, from the bytes of its settings to what is written.
 
-ghost use Rattle.std.specs.Prelude.{◌≡◌, ◌++◌, true, false, length, codes, string_bytes, OnOk};
-ghost use Rattle.std.specs.Io.KnownBytes.{Appends};
+ghost use Rattle.std.specs.Prelude.{◌≡◌, ◌⊎◌, ◌++◌, true, false, length, codes, string_bytes, IfErr, OnOk};
 ghost use Rattle.lock_messages.specs.declared.ids.TheConstants.{MAX_NODES};
-ghost use Rattle.line_streams.specs.Streams.{Puts};
+ghost use Rattle.journal_merger.specs.Merges.{Begins};
 ghost use Rattle.merge_service.specs.Merging.{merged_text, Merges, MergesHead, ServesMerge};
 
 use crate::ends::refused;
@@ -15,13 +14,13 @@ use operator_cli::{
     refuse_start, world_down,
 };
 use std::alloc::{AllocError, Global};
-use std::io;
 use std::io::{Read, Write};
 use world_machine::World;
 
 /// Writes a text.
 fn put<W: Write>(text: &[u8], writer: &mut W) -> Result<(), MergeFault>
-    ensures { Puts (W.contents writer.old) (W.contents writer.new) text.now result }
+    ensures text { Begins (W.contents writer.old) (W.contents writer.new) text.now result }
+    ensures fault { IfErr result (λ f. f ≡ MergeFault.Serve ServeFault.Write) }
 {
     match write_text(writer, text) {
         Ok(()) => Ok(()),
@@ -31,7 +30,8 @@ fn put<W: Write>(text: &[u8], writer: &mut W) -> Result<(), MergeFault>
 
 /// Writes the settings and the line that ends them.
 fn put_head<W: Write>(head: &[u8], writer: &mut W) -> Result<(), MergeFault>
-    ensures { OnOk result (Appends (W.contents writer.old) (W.contents writer.new) (head.now ++ codes "---\n")) }
+    ensures text { Begins (W.contents writer.old) (W.contents writer.new) (head.now ++ codes "---\n") result }
+    ensures fault { IfErr result (λ f. f ≡ MergeFault.Serve ServeFault.Write) }
 {
     match put(head, writer) {
         Ok(()) => put(b"---\n", writer),
@@ -48,7 +48,8 @@ fn push_count(text: &mut String, lines: u64) -> Result<(), AllocError>
 
 /// Writes how many lines were merged.
 fn put_count<W: Write>(alloc: Global, lines: u64, writer: &mut W) -> Result<(), MergeFault>
-    ensures { OnOk result (Appends (W.contents writer.old) (W.contents writer.new) (merged_text lines)) }
+    ensures text { Begins (W.contents writer.old) (W.contents writer.new) (merged_text lines) result }
+    ensures fault { IfErr result (λ f. (f ≡ MergeFault.Serve ServeFault.Write) ⊎ (f ≡ MergeFault.Serve ServeFault.Memory)) }
 {
     let mut text = String::new(alloc);
     if push_count(&mut text, lines).is_err() {
@@ -68,7 +69,7 @@ fn judge<J: Read, W: Write>(
     requires { Unit {0} }
     ensures { Merges true head.now world journals.old (W.contents writer.old) (W.contents writer.new) result }
 {
-    match merge(alloc, world, journals, &mut io::sink()) {
+    match journal_merger::judge(alloc, world, journals) {
         Ok(Outcome::Merged(lines)) => match put_count(alloc, lines, writer) {
             Ok(()) => Ok(MergeEnd::Merged),
             Err(fault) => Err(fault),
@@ -169,14 +170,15 @@ fn merge_source<J: Read, R: Read, W: Write>(
 /// The bytes of the reader begin with settings, as for `operator_cli::serve`, which the line `---` ends. What follows is
 /// ignored. Refused settings print `settings fault N` and nothing else. Else all actors are down at first, and nothing
 /// is kept. The settings as they were read, `---` and the merged journal are written, or `merged N` if the journals are
-/// only judged: N is the number of their lines. If the journals have no merge, a beginning may have been written.
+/// only judged: N is the number of their lines. If the journals have no merge, a beginning of the settings, `---` and the
+/// journal of a history was written, or nothing if they are only judged.
 ///
 /// The caller owes sixteen pairs of policies.
 ///
 /// # Errors
 ///
 /// `Serve` if the reader fails (931), the settings or the count can't be written (932), or there is no memory (933), and
-/// `Journals` for a fault of `journal_merger::merge`. Then a beginning may have been written.
+/// `Journals` for a fault of `journal_merger::merge`. Then a beginning was written too.
 pub fn serve_merge<J: Read, R: Read, W: Write>(
     alloc: Global,
     judged: bool,

@@ -18,7 +18,7 @@ returns-clause-added g c =
       | in-Ok-push w ↦
           on-ok c.match-push.result _ w.result-is
           (was-added c.args.self.now c.self.inside.journals.items c.push.new.self.items (g.R.Read.remaining c.args.reader) c.new-source.result c.read_next.new.source _ c.in-Ok.next c.in-Some.line
-          c.self.view_is w.in-Ok-push.ensures.items c.new-source.ensures c.in-Ok.ensures.next c.in-Some.is (let v = c.source.view_is in cc) refl c.owner-who.ensures)
+          c.self.view_is w.in-Ok-push.ensures.items c.new-source.ensures c.in-Ok.ensures.next c.in-Some.is (let v = c.source.view_is in cc) refl refl c.owner-who.ensures)
       | in-Err-push w ↦ not-ok _ c.match-push.result _ w.result-is
     ]
 

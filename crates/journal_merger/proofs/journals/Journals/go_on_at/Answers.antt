@@ -1,6 +1,5 @@
-use Rattle.std.proofs.Common.{◌<◌, List, length, refl, sym, subst, arith}
+use Rattle.std.proofs.Common.{◌<◌, length, refl, arith}
 use Rattle.std.proofs.lemmas.Option.{slice_get_read}
-use Rattle.journal_merger.specs.Pendings.{Pending}
 use Rattle.journal_merger.proofs.PendingFacts.{apart-set}
 use Rattle.journal_merger.proofs.journals.Journals.go_on_at.Goals as goal
 
