@@ -2,8 +2,10 @@
 
 use std::time::Duration;
 
-/// How long a link sleeps while nothing comes, in microseconds: at first the least pause, each time twice as long, and
-/// never longer than the longest. After the patience it brings a nudge.
+/// How long a link sleeps while nothing comes, in microseconds.
+///
+/// It sleeps for the least pause first, each time twice as long, and never longer than the longest. After the patience it
+/// brings a nudge.
 #[derive(Clone, Copy, Debug, PartialEq, Eq)]
 pub struct Pauses {
     /// The first pause.
@@ -14,7 +16,7 @@ pub struct Pauses {
     pub patience: u32,
 }
 
-/// A wait, so far.
+/// A wait until now.
 #[derive(Clone, Copy, Debug, PartialEq, Eq)]
 pub(crate) struct Waiting {
     pause: u32,
@@ -29,7 +31,7 @@ impl Waiting {
         }
     }
 
-    /// How long the next sleep is; the one after it is longer.
+    /// How long the next sleep is. The one after it is longer.
     pub(crate) fn next_sleep(&mut self, pauses: &Pauses) -> Duration {
         let pause = self.pause.min(pauses.most);
         self.waited = self.waited.saturating_add(pause);
@@ -37,7 +39,7 @@ impl Waiting {
         Duration::from_micros(u64::from(pause))
     }
 
-    /// Whether the patience is at its end; then it begins anew.
+    /// Whether the patience is at its end. Then it begins anew.
     pub(crate) fn is_over(&mut self, pauses: &Pauses) -> bool {
         if self.waited < pauses.patience {
             return false;

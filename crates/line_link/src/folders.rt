@@ -18,10 +18,10 @@ const BLOCK_LEN: usize = 16_384;
 /// How many reads one line may need.
 const MAX_READS: u32 = 64;
 
-/// How many bytes without a line feed are held: a longer line is dropped.
+/// How many bytes without a line feed are held. A longer line is dropped.
 const MAX_HELD: usize = 65_536;
 
-/// The path of an actor's inbox in a directory. The only error is want of memory.
+/// The path of an actor's inbox in a directory. The only error is running out of memory.
 pub fn inbox_path(alloc: Global, folder: &str, actor: Actor) -> Result<String, AllocError> {
     format!(in alloc; "{folder}/{actor}.inbox")
 }
@@ -35,16 +35,16 @@ pub struct Folder<F: Files<File = File> + Drop> {
     inbox: File,
     // How many bytes of the inbox are read.
     offset: u64,
-    // What is read, and not yet a line.
+    // The bytes that were read after the last line.
     held: Vec<u8>,
 }
 
 impl<F: Files<File = File> + Drop> Folder<F> {
-    /// Opens the actor's inbox in a directory, and empties it: what came for an earlier process is lost.
+    /// Opens the actor's inbox in a directory, and empties it. Lines for an earlier process are lost.
     ///
     /// # Errors
     ///
-    /// The inbox is missing or cannot be opened for reading and writing, or there is no memory.
+    /// The inbox is missing, can't be opened for reading and writing, or memory runs out.
     pub fn open(files: F, alloc: Global, path: &str, own: Actor) -> io::Result<Folder<F>> {
         let name = inbox_path(alloc, path, own)?;
         let path = String::from_str(alloc, path)?;
