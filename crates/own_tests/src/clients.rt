@@ -1,7 +1,7 @@
 //! A client's session over a recorder of its own: its journal, and its end if the journal can't be written.
 
 ghost use Rattle.std.specs.Prelude.{◌≡◌, []};
-ghost use Rattle.lock_messages.specs.declared.ids.Actor.TheVariants as actor;
+ghost use Rattle.lock_messages.specs.declared.ids.Actor.TheVariants as who;
 ghost use Rattle.world_model.specs.Openings.{down_client};
 ghost use Rattle.world_model.specs.Parts.{ClientPart};
 
@@ -62,7 +62,7 @@ fn play<W: Wait, K: OwnActor, J: Write + Drop>(
     journal: J,
     posts: Vec<Post>,
 ) -> Result<(Result<(), RunFault>, J), Failure>
-    requires actor { K.actor actor ≡ actor.Client 1 }
+    requires actor { K.actor actor ≡ who.Client 1 }
     requires ballots { K.ballots actor ≡ list }
     requires part { K.part actor ≡ ClientPart (down_client 0) }
 {

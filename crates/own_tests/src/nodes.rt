@@ -1,7 +1,7 @@
 //! A node's loop over a recorder of its own: its journal, and its end if the journal can't be written.
 
 ghost use Rattle.std.specs.Prelude.{◌≡◌, []};
-ghost use Rattle.lock_messages.specs.declared.ids.Actor.TheVariants as actor;
+ghost use Rattle.lock_messages.specs.declared.ids.Actor.TheVariants as who;
 ghost use Rattle.world_model.specs.Openings.{down_node, empty_station};
 ghost use Rattle.world_model.specs.Parts.{NodePart};
 
@@ -43,7 +43,7 @@ fn run<W: Wait, R: Recorder>(
     recorder: &mut R,
     link: &mut ListLink,
 ) -> Result<Result<(), RunFault>, Failure>
-    requires actor { (R.own_log recorder.old).actor ≡ actor.Node 1 }
+    requires actor { (R.own_log recorder.old).actor ≡ who.Node 1 }
     requires opening { (R.own_log recorder.old).opening ≡ NodePart (down_node (empty_station Problem.First)) }
     requires events { (R.own_log recorder.old).events ≡ [] }
 {
@@ -72,7 +72,7 @@ fn play<W: Wait, K: OwnActor, J: Write + Drop>(
     journal: J,
     posts: Vec<Post>,
 ) -> Result<Played<J>, Failure>
-    requires actor { K.actor actor ≡ actor.Node 1 }
+    requires actor { K.actor actor ≡ who.Node 1 }
     requires part { K.part actor ≡ NodePart (down_node (empty_station Problem.First)) }
 {
     let mut recorder = OwnRecorder::over(alloc, actor, journal);
