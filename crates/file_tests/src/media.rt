@@ -4,7 +4,9 @@ ghost use Rattle.std.specs.Prelude.{◌≡◌, []};
 
 use crate::rooms::open_raw;
 use event_lists::CallList;
-use file_plate::{FileFault, FilePlate, Medium};
+use file_plate::{
+    FileFault, FilePlate, Medium, note_reading, note_settling, note_syncing, note_writing,
+};
 use std::alloc::Global;
 use std::fs::File;
 use std::io::{self, ErrorKind};
@@ -24,23 +26,6 @@ pub(crate) enum Fault {
     /// The call does nothing and returns success.
     Lies,
 }
-
-// The kinds of calls, as `file_plate` numbers them.
-const SETTLED: u64 = 0;
-
-const GAVE: u64 = 1;
-
-const TOOK: u64 = 2;
-
-const SYNCED: u64 = 3;
-
-const SETTLE_FAILED: u64 = 4;
-
-const READ_FAILED: u64 = 5;
-
-const WRITE_FAILED: u64 = 6;
-
-const SYNC_FAILED: u64 = 7;
 
 /// A file whose call of one number fails. The calls after it succeed, so a test sees a plate that goes on.
 #[derive(Drop)]
@@ -150,40 +135,28 @@ impl Medium for FaultyFile {
     fn settle(&mut self) -> io::Result<()> {
         let fault = self.next_fault();
         let answer = self.syncs(fault);
-        match answer {
-            Ok(()) => self.calls.note(&[SETTLED], &[]),
-            Err(_) => self.calls.note(&[SETTLE_FAILED], &[]),
-        }
+        note_settling(&mut self.calls, &answer);
         answer
     }
 
     fn read_at(&mut self, at: u32, buffer: &mut [u8]) -> io::Result<()> {
         let fault = self.next_fault();
         let answer = self.reads(fault, at, buffer);
-        match answer {
-            Ok(()) => self.calls.note(&[GAVE, u64::from(at)], buffer),
-            Err(_) => self.calls.note(&[READ_FAILED, u64::from(at)], buffer),
-        }
+        note_reading(&mut self.calls, at, buffer, &answer);
         answer
     }
 
     fn write_at(&mut self, at: u32, bytes: &[u8]) -> io::Result<()> {
         let fault = self.next_fault();
         let answer = self.writes(fault, at, bytes);
-        match answer {
-            Ok(()) => self.calls.note(&[TOOK, u64::from(at)], bytes),
-            Err(_) => self.calls.note(&[WRITE_FAILED, u64::from(at)], bytes),
-        }
+        note_writing(&mut self.calls, at, bytes, &answer);
         answer
     }
 
     fn sync(&mut self) -> io::Result<()> {
         let fault = self.next_fault();
         let answer = self.syncs(fault);
-        match answer {
-            Ok(()) => self.calls.note(&[SYNCED], &[]),
-            Err(_) => self.calls.note(&[SYNC_FAILED], &[]),
-        }
+        note_syncing(&mut self.calls, &answer);
         answer
     }
 }
