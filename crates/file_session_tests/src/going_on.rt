@@ -1,6 +1,8 @@
 // A service with its records on files, and the next one, which goes on from these files.
 
-ghost use Rattle.std.specs.Prelude.{◌≡◌, ◌∷◌, [], length, map};
+ghost use Rattle.std.specs.Prelude.{◌≡◌, ◌∷◌, [], length, map, IfOk};
+ghost use Rattle.world_machine.specs.Opened.{IsResumed};
+ghost use Rattle.file_session_tests.specs.Ballots.{one_node};
 
 use crate::opening::{Opened, Paths, make_all, open, open_all, paths_of, remove_all};
 use crate::records::SessionFile;
@@ -10,13 +12,14 @@ use lock_session::{OwnRecord, Session};
 use lossy_link::Link;
 use node_threads::laws::resumed_worlds_may_run;
 use node_threads::{ServiceEnd, Work, with_sessions};
-use stable_record::client_bytes;
+use stable_record::{StableRecord, client_bytes};
 use std::alloc::Global;
 use std::fs::{File, Files};
 use std::sync::Wait;
 use std::thread::Threads;
 use test_outcomes::{Failure, Outcome, check_row, node_id};
 use test_support::{ballots_of, plain_pairs, resource, weather};
+use vote_weights::BallotList;
 use world_machine::World;
 
 /// Each session writes once.
@@ -41,36 +44,51 @@ impl Work for WriteOnce {
     }
 }
 
-/// Runs the service over these records, in the world of what they hold.
-fn serve<R: Threads + Wait + Copy + Send + Sync, J: Work + Sync>(
-    rt: R,
+/// The world in which the actors have kept this.
+fn resumed(
     alloc: Global,
-    opened: Opened,
-    work: &J,
-) -> Result<ServiceEnd<SessionFile>, Failure>
-    requires nodes { map (λ r. finds r) opened.nodes.items ≡ map (λ b. b.items ∷ []) opened.of_nodes.items }
-    requires clients { map (λ r. r.record.finds) opened.clients.items ≡ map (λ b. b.items ∷ []) opened.of_clients.items }
-    requires one { length opened.of_nodes.items ≡ 1 }
-    requires two { length opened.of_clients.items ≡ 2 }
+    ballots: BallotList,
+    of_nodes: &[Vec<u8>],
+    of_clients: &[Vec<u8>],
+) -> Result<World, Failure>
+    requires ballots { ballots ≡ one_node }
+    requires node { length of_nodes.now ≡ 1 }
+    requires clients { length of_clients.now ≡ 2 }
+    ensures { IfOk result (IsResumed ballots (map (λ v. v.items) of_nodes.now) (map (λ v. v.items) of_clients.now)) }
 {
-    let ballots = ballots_of(&[1], 1, 1)?;
-    let Opened {
-        nodes,
-        clients,
-        of_nodes,
-        of_clients,
-    } = opened;
-    let Ok(world) = World::resume(
+    match World::resume(
         alloc,
         ballots,
         2,
         plain_pairs(alloc, 1)?,
-        &of_nodes,
-        &of_clients,
-    ) else {
-        return Err(Failure::Memory);
-    };
-    let (pairs, weather) = (plain_pairs(alloc, 1)?, weather((1, 0, 0, 0))?);
+        of_nodes,
+        of_clients,
+    ) {
+        Ok(world) => Ok(world),
+        Err(_) => Err(Failure::Memory),
+    }
+}
+
+/// Runs the service over these records, in the world of what they hold.
+fn serve<R: Threads + Wait + Copy + Send + Sync, J: Work + Sync>(
+    rt: R,
+    alloc: Global,
+    ballots: BallotList,
+    nodes: Vec<Box<dyn StableRecord + Send>>,
+    clients: Vec<SessionFile>,
+    of_nodes: &[Vec<u8>],
+    of_clients: &[Vec<u8>],
+    work: &J,
+) -> Result<ServiceEnd<SessionFile>, Failure>
+    requires ballots { ballots ≡ one_node }
+    requires node { length of_nodes.now ≡ 1 }
+    requires two { length of_clients.now ≡ 2 }
+    requires nodes { map (λ r. finds r) nodes.items ≡ map (λ b. b.items ∷ []) of_nodes.now }
+    requires clients { map (λ r. r.record.finds) clients.items ≡ map (λ b. b.items ∷ []) of_clients.now }
+{
+    let weather = weather((1, 0, 0, 0))?;
+    let pairs = plain_pairs(alloc, 1)?;
+    let world = resumed(alloc, ballots, of_nodes, of_clients)?;
     resumed_worlds_may_run();
     match with_sessions(
         rt, alloc, ballots, nodes, clients, world, pairs, weather, work,
@@ -101,7 +119,23 @@ fn serves<R: Files<File = File> + Threads + Wait + Copy + Send + Sync>(
     work: &WriteOnce,
     attempt: u8,
 ) -> Outcome {
-    let end = serve(rt, alloc, open_all(&rt, alloc, paths)?, work)?;
+    let Opened {
+        nodes,
+        clients,
+        of_nodes,
+        of_clients,
+    } = open_all(&rt, alloc, paths)?;
+    let ballots = ballots_of(&[1], 1, 1)?;
+    let end = serve(
+        rt,
+        alloc,
+        ballots,
+        nodes,
+        clients,
+        &of_nodes,
+        &of_clients,
+        work,
+    )?;
     // Nothing fails here unless memory runs out.
     if !end.faults.is_empty() {
         return Err(Failure::Memory);

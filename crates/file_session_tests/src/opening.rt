@@ -81,24 +81,12 @@ pub(crate) fn open<F: Files<File = File>>(
     }
 }
 
-/// Opens the node's record, in a box.
-fn open_node<F: Files<File = File>>(
-    files: &F,
-    alloc: Global,
-    path: &str,
-    nodes: &mut Vec<Box<dyn StableRecord + Send>>,
-    of_nodes: &mut Vec<Vec<u8>>,
-) -> Outcome
-    requires nodes { nodes.old.items ≡ [] }
-    requires kept { of_nodes.old.items ≡ [] }
-    ensures found { OnOk result (map (λ r. finds r) nodes.new.items ≡ map (λ b. b.items ∷ []) of_nodes.new.items) }
-    ensures one { OnOk result (length of_nodes.new.items ≡ 1) }
+/// A record in a box, as a node's thread owns it.
+fn boxed(alloc: Global, kept: FileRecord) -> Result<Box<dyn StableRecord + Send>, Failure>
+    ensures { IfOk result (λ r. finds r ≡ kept.finds) }
 {
-    let (record, bytes) = open(files, alloc, path)?;
-    let record: Box<dyn StableRecord + Send> = Box::new(alloc, record)?;
-    nodes.push(record)?;
-    of_nodes.push(bytes)?;
-    Ok(())
+    let kept: Box<dyn StableRecord + Send> = Box::new(alloc, kept)?;
+    Ok(kept)
 }
 
 /// Opens the records of both clients.
@@ -135,7 +123,9 @@ pub(crate) fn open_all<F: Files<File = File>>(
     ensures two { IfOk result (λ o. length o.of_clients.items ≡ 2) }
 {
     let (mut nodes, mut of_nodes) = (Vec::new(alloc), Vec::new(alloc));
-    open_node(files, alloc, paths.node.as_str(), &mut nodes, &mut of_nodes)?;
+    let (record, bytes) = open(files, alloc, paths.node.as_str())?;
+    nodes.push(boxed(alloc, record)?)?;
+    of_nodes.push(bytes)?;
     let (mut clients, mut of_clients) = (Vec::new(alloc), Vec::new(alloc));
     open_clients(files, alloc, paths, &mut clients, &mut of_clients)?;
     Ok(Opened {
