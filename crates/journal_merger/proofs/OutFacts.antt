@@ -32,7 +32,7 @@ none-begins o text = ([], text, refl, Appends-nil o)
 begins-before : (old new : Option (List ℕ)) (text rest : List ℕ) → AppendsBeginning old new text → AppendsBeginning old new (text ++ rest)
 begins-before old new text rest h = let (front, back, e, r) = h in (front, back ++ rest, ap (λ xs. xs ++ rest) e ∙ append_assoc front back rest, r)
 
-begins-after : (old mid new : Option (List ℕ)) (before text : List ℕ) → Appends old mid before → AppendsBeginning mid new text → AppendsBeginning old new (before ++ text)
+pub begins-after : (old mid new : Option (List ℕ)) (before text : List ℕ) → Appends old mid before → AppendsBeginning mid new text → AppendsBeginning old new (before ++ text)
 begins-after old mid new before text h i =
     let (front, back, e, r) = i in
     (before ++ front, back, ap (λ xs. before ++ xs) e ∙ sym (append_assoc before front back), Appends-trans old mid new before front h r)

@@ -1,17 +1,19 @@
 -- From what is found of journals to what is written.
-use Rattle.std.proofs.Common.{◌≡◌, inl, inr, ℕ, Bool, true, false, Vec, List, ◌++◌, Option, Some, None, Result, Ok, Err, codes, sym, subst}
+use Rattle.std.proofs.Common.{◌≡◌, inl, inr, ℕ, Bool, true, false, Vec, List, ◌++◌, Option, Some, None, Result, Ok, Err, codes, ap, sym, subst, ◌∙◌, append_assoc}
 use Rattle.std.specs.Global.{Global}
 use Rattle.std.specs.Io.KnownBytes.{Appends}
 use Rattle.std.proofs.KnownBytes.{Appends-trans}
 use Rattle.world_model.specs.declared.exact.ExactWorld.{ExactWorld}
 use Rattle.journal_text.specs.Journals.{history_text}
 use Rattle.journal_merger.specs.Judging.{Judges}
-use Rattle.journal_merger.specs.Merges.{Finds, WritesBeginning}
+use Rattle.journal_merger.specs.Merges.{Begins, Finds, WritesBeginning}
 use Rattle.journal_merger.proofs.OutFacts.{begins-after}
 use Rattle.journal_merger.specs.Pendings.{Pending}
+use Rattle.journal_merger.specs.declared.faults.Failure.{Failure}
+use Rattle.journal_merger.specs.declared.merging.Outcome.{Outcome}
 use Rattle.journal_merger.specs.declared.merging.Outcome.TheVariants as outcome
-use Rattle.line_streams.specs.Streams.{pieces, AppendsBeginning, Puts}
-use Rattle.line_streams.specs.declared.faults.StreamFault.{StreamFault}
+use Rattle.line_merger.specs.declared.offers.Refusal.{Refusal}
+use Rattle.line_streams.specs.Streams.{pieces, AppendsBeginning}
 use Rattle.operator_cli.specs.declared.faults.ServeFault.{ServeFault}
 use Rattle.operator_cli.specs.declared.faults.SettingsFault.{SettingsFault}
 use Rattle.operator_cli.specs.declared.faults.SettingsFault.TheVariants as settings
@@ -25,6 +27,7 @@ use Rattle.operator_cli.specs.PartOutputs.{FindsHead, RefusesStart}
 use Rattle.merge_service.specs.declared.ends.MergeEnd.{MergeEnd}
 use Rattle.merge_service.specs.declared.ends.MergeEnd.TheVariants as end
 use Rattle.merge_service.specs.declared.ends.MergeFault.{MergeFault}
+use Rattle.merge_service.specs.declared.ends.MergeFault.TheVariants as met
 use Rattle.merge_service.specs.Merging.{merged_text, refused_of, WritesSome, Merges, MergesBy, MergesHead, MergesBehind, RefusesSettings, ServesMerge}
 
 abbrev Out : Type 0
@@ -45,15 +48,25 @@ written_so head w pending old mid new lines put f =
 
 -- a beginning that was written
 
-pub behind_head : (head : List ℕ) (w : ExactWorld) (pending : List Pending) (old mid new : Out) → Appends old mid (head ++ codes "---\n") → WritesBeginning w pending mid new → WritesSome false head w pending old new
+pub begins_before : (old new : Out) (text rest : List ℕ) → AppendsBeginning old new text → AppendsBeginning old new (text ++ rest)
+begins_before old new text rest h = let (front, back, e, r) = h in (front, back ++ rest, ap (λ (xs : List ℕ). xs ++ rest) e ∙ append_assoc front back rest, r)
+
+pub begins_then : (old mid new : Out) (before text : List ℕ) (r : Result (Unit {0}) MergeFault) → Appends old mid before → Begins mid new text r → Begins old new (before ++ text) r
+begins_then old mid new before text (Ok u) h b = Appends-trans old mid new before text h b
+begins_then old mid new before text (Err f) h b = begins-after old mid new before text h b
+
+behind_head : (head : List ℕ) (w : ExactWorld) (pending : List Pending) (old mid new : Out) → Appends old mid (head ++ codes "---\n") → WritesBeginning w pending mid new → WritesSome false head w pending old new
 behind_head head w pending old mid new put h =
     let (told, begun, text) = h in
     (told, begun, begins-after old mid new (head ++ codes "---\n") (history_text told) put text)
 
-pub begins_so : (old new : Out) (text : List ℕ) (r : Result (Unit {0}) StreamFault) (f : StreamFault) → r ≡ Err f → Puts old new text r → AppendsBeginning old new text
-begins_so old new text r f is h =
-    let (front, back, e, some, put) = subst (Puts old new text) is h in
-    (front, back, e, put)
+pub stuck_so : (head : List ℕ) (w : ExactWorld) (pending : List Pending) (old mid new : Out) (o : Outcome) (why : Option (ℕ × Refusal)) → o ≡ outcome.Stuck why → Appends old mid (head ++ codes "---\n") → Finds w pending mid new (Ok o) → Merges false head w pending old new (Ok end.Stuck)
+stuck_so head w pending old mid new o why is put h =
+    let f : Finds w pending mid new (Ok (outcome.Stuck why)) = subst (λ (x : Outcome). Finds w pending mid new (Ok x)) is h in
+    (f.0, behind_head head w pending old mid new put f.1)
+
+pub failed_so : (head : List ℕ) (w : ExactWorld) (pending : List Pending) (old mid new : Out) (f : Failure) → Appends old mid (head ++ codes "---\n") → Finds w pending mid new (Err f) → Merges false head w pending old new (Err (met.Journals f))
+failed_so head w pending old mid new f put h = (h.0, behind_head head w pending old mid new put h.1)
 
 -- settings that were read, or are refused
 
