@@ -117,7 +117,8 @@ fn is_cut<W: Wait>(rt: &W, alloc: Global, room: usize) -> Outcome {
         return Err(Failure::Memory);
     }
     check_row(ended == Err(RunFault::Book), 1)?;
-    check_row(journal.bytes.as_slice() == &JOURNAL[..room], 2)
+    let written = JOURNAL.get(..room).unwrap_or(JOURNAL);
+    check_row(journal.bytes.as_slice() == written, 2)
 }
 
 #[test]

@@ -1,11 +1,13 @@
 //! A node's loop over a recorder of its own: its journal, and its end if the journal can't be written.
 
-ghost use Rattle.std.specs.Prelude.{◌≡◌, []};
+ghost use Rattle.std.specs.Prelude.{◌≡◌, ◌∷◌, [], IfOk, OnOk};
 ghost use Rattle.lock_messages.specs.declared.ids.Actor.TheVariants as who;
+ghost use Rattle.stable_record.specs.Records.{IsNodeRecord, node_record_of};
+ghost use Rattle.test_support.specs.Fresh.{empty_record};
 ghost use Rattle.world_model.specs.Openings.{down_node, empty_station};
 ghost use Rattle.world_model.specs.Parts.{NodePart};
 
-use crate::worlds::{ballots, pair, post_of, ticket};
+use crate::worlds::{ballots, post_of, ticket};
 use crate::writers::{Room, without_memory};
 use event_recorders::{Recorder, RunFault};
 use lock_messages::Message;
@@ -19,10 +21,8 @@ use std::alloc::Global;
 use std::io::{Write, sink};
 use std::sync::Wait;
 use test_outcomes::{Failure, Outcome, check_row, node_id};
+use test_support::{nothing_kept, plain_pair};
 use world_actors::WorldNode;
-
-/// The record of a node for problem 1 that has kept nothing.
-const NOTHING: [u8; 4] = [1, 1, 0, 0];
 
 /// The lines that the node writes when it takes c1's request to write `a` and grants it.
 pub(crate) const JOURNAL: &[u8] = b"\
@@ -36,7 +36,21 @@ say n1
 /// How a run ended, how many parcels and words were sent in it, and the journal.
 pub(crate) type Played<J> = (Result<(), RunFault>, usize, J);
 
+/// A record in which a node for problem 1 has kept nothing.
+fn new_record(alloc: Global) -> Result<Box<dyn StableRecord + Send>, Failure>
+    ensures finds { IfOk result (λ r. finds r ≡ node_record_of (empty_record Problem.First) ∷ []) }
+    ensures good { OnOk result (IsNodeRecord (empty_record Problem.First)) }
+{
+    let nothing = nothing_kept(alloc, Problem::First)?;
+    let Ok(record) = MemoryRecord::holding(alloc, nothing.as_slice()) else {
+        return Err(Failure::Memory);
+    };
+    let stable: Box<dyn StableRecord + Send> = Box::new(alloc, record)?;
+    Ok(stable)
+}
+
 /// Runs n1, which has kept nothing, by this recorder.
+#[tactic(auto, using(crate::proofs::Ready::node_ready))]
 fn run<W: Wait, R: Recorder>(
     rt: &W,
     alloc: Global,
@@ -47,17 +61,13 @@ fn run<W: Wait, R: Recorder>(
     requires opening { (R.own_log recorder.old).opening ≡ NodePart (down_node (empty_station Problem.First)) }
     requires events { (R.own_log recorder.old).events ≡ [] }
 {
-    let Ok(record) = MemoryRecord::holding(alloc, &NOTHING) else {
-        return Err(Failure::Memory);
-    };
-    let stable: Box<dyn StableRecord + Send> = Box::new(alloc, record)?;
-    let policies = pair(alloc)?;
+    let stable = new_record(alloc)?;
     Ok(run_node(
         rt,
         alloc,
         node_id(1),
         stable,
-        policies,
+        plain_pair(),
         recorder,
         link,
         &OpenGate,
@@ -91,7 +101,7 @@ pub(crate) fn grants<W: Wait, J: Write + Drop>(
     let mut posts = Vec::new(alloc);
     posts.push(post_of(alloc, &Message::Request(node, ticket()?))?)?;
     let actor = OwnNode {
-        node: WorldNode::empty(alloc, node, Problem::First, pair(alloc)?),
+        node: WorldNode::empty(alloc, node, Problem::First, plain_pair()),
         list: ballots()?,
     };
     play(rt, alloc, actor, journal, posts)
@@ -126,14 +136,12 @@ fn is_cut<W: Wait>(rt: &W, alloc: Global, room: usize) -> Outcome {
         return Err(Failure::Memory);
     }
     check_row(ended == Err(RunFault::Book), 1)?;
-    check_row(journal.bytes.as_slice() == &JOURNAL[..room], 2)?;
+    let written = JOURNAL.get(..room).unwrap_or(JOURNAL);
+    check_row(journal.bytes.as_slice() == written, 2)?;
     // The only thing sent is the word that the node is gone.
     check_row(sent == 1, 3)?;
-    let lines = JOURNAL[..room]
-        .iter()
-        .filter(|byte| **byte == b'\n')
-        .count();
-    let torn = if JOURNAL[..room].last() == Some(&b'\n') || room == 0 {
+    let lines = written.iter().filter(|byte| **byte == b'\n').count();
+    let torn = if written.last() == Some(&b'\n') || room == 0 {
         0
     } else {
         1

@@ -1,20 +1,10 @@
 // A service of one node, and a few values.
 
-ghost use Rattle.std.specs.Prelude.{◌≡◌, IfOk, ◌∷◌, []};
-
-use admission_policy::{Admission, FirstProblem, Pair, SecondProblem};
 use lock_messages::{Attempt, Message, Mode, ResourceName, Ticket, encode};
 use lossy_link::{Parcel, Post};
 use std::alloc::Global;
 use test_outcomes::{Failure, client_id};
 use vote_weights::{Ballot, BallotList};
-
-/// The plain policies of both problems.
-pub(crate) fn pair(alloc: Global) -> Result<Pair, Failure> {
-    let first: Box<dyn Admission + Send> = Box::new(alloc, FirstProblem)?;
-    let second: Box<dyn Admission + Send> = Box::new(alloc, SecondProblem)?;
-    Ok(Pair::of(first, second))
-}
 
 /// The list of one ballot: a node with a vote, which is enough to read and to write.
 pub(crate) fn ballots() -> Result<BallotList, Failure> {
