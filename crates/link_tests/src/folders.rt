@@ -8,14 +8,12 @@ use test_outcomes::{Failure, Outcome, check_row, node_id};
 
 /// How many lines can be taken now.
 fn count<C: Carrier>(carrier: &mut C, line: &mut Vec<u8>) -> u64 {
-    let mut count = 0;
-    for _ in 0..u32::MAX {
+    for count in 0..u32::MAX {
         if carrier.take(line) != Taken::Line {
-            break;
+            return u64::from(count);
         }
-        count += 1;
     }
-    count
+    u64::from(u32::MAX)
 }
 
 /// An inbox is emptied only when it is long and all of it is read; then the next line is read from its start.
@@ -25,7 +23,7 @@ fn is_emptied(rt: &HostRuntime, path: &str) -> Outcome {
     let mut line = Vec::new(alloc);
     let text = line_for_node(alloc, &secret(), &[1; 18])?;
     let size = text.as_bytes().len() as u64;
-    let most = MAX_INBOX_LEN / size;
+    let most = MAX_INBOX_LEN.checked_div(size).ok_or(Failure::Wrong(0))?;
     for _ in 0..most {
         folder.put(node(), text.as_bytes());
     }

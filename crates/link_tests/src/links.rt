@@ -3,8 +3,8 @@
 use crate::places::{after, append, client, line_for_node, made, no_file, node, secret};
 use bytes::Bytes;
 use frame_lines::Secret;
-use line_link::{Folder, LineLink, Pauses};
-use lock_messages::Actor;
+use line_link::{Carrier, Folder, LineLink, Pauses};
+use lock_messages::{Actor, NodeId};
 use lossy_link::{Link, Parcel, Post};
 use std::alloc::Global;
 use std::sync::Wait;
@@ -26,18 +26,22 @@ fn parcel(alloc: Global, frame: &[u8]) -> Result<Parcel, Failure> {
     })
 }
 
-/// The link of an actor over the directory.
-fn link<R: Wait + Clock + Copy>(
-    rt: R,
-    host: HostRuntime,
-    path: &str,
-    own: Actor,
-    nodes: u8,
-) -> Result<LineLink<R, Folder<HostRuntime>>, Failure> {
+/// The actor's inbox in the directory.
+fn inbox(host: HostRuntime, path: &str, own: Actor) -> Result<Folder<HostRuntime>, Failure> {
     let alloc = host.alloc();
-    let folder = no_file(Folder::open(host, alloc, path, own))?;
+    no_file(Folder::open(host, alloc, path, own))
+}
+
+/// The link of an actor over a carrier.
+fn link<R: Wait + Clock + Copy, C: Carrier + Drop>(
+    rt: R,
+    alloc: Global,
+    own: Actor,
+    carrier: C,
+    nodes: u8,
+) -> LineLink<R, C> {
     let secrets = (secret(), secret());
-    Ok(LineLink::over(rt, alloc, own, secrets, folder, SHORT, nodes))
+    LineLink::over(rt, alloc, own, secrets, carrier, SHORT, nodes)
 }
 
 /// Whether the next post is a parcel with this frame.
@@ -49,17 +53,15 @@ fn brings<L: Link>(link: &mut L, frame: &[u8], row: usize) -> Outcome {
 }
 
 /// Whether the next post is a nudge of this node.
-fn nudges<L: Link>(link: &mut L, node: u8, row: usize) -> Outcome {
-    match link.receive() {
-        Ok(Post::Nudge(found)) => check_row(found == node_id(node), row),
-        _ => Err(Failure::Wrong(row)),
-    }
+fn nudges<L: Link>(link: &mut L, node: NodeId, row: usize) -> Outcome {
+    let came = link.receive();
+    check_row(came == Ok(Post::Nudge(node)), row)
 }
 
 fn both_ways<W: Wait + Clock + Copy>(wait: W, rt: &HostRuntime, path: &str) -> Outcome {
     let alloc = rt.alloc();
-    let mut one = link(wait, *rt, path, client(), 2)?;
-    let mut other = link(wait, *rt, path, node(), 0)?;
+    let mut one = link(wait, alloc, client(), inbox(*rt, path, client())?, 2);
+    let mut other = link(wait, alloc, node(), inbox(*rt, path, node())?, 0);
     for round in 1..=3 {
         check_row(one.send(node(), parcel(alloc, &[round, 1])?).is_ok(), 1)?;
         check_row(one.send(node(), parcel(alloc, &[round, 2])?).is_ok(), 2)?;
@@ -69,9 +71,9 @@ fn both_ways<W: Wait + Clock + Copy>(wait: W, rt: &HostRuntime, path: &str) -> O
         brings(&mut one, &[], 6)?;
     }
     check_row(one.dropped() == 0 && other.dropped() == 0, 7)?;
-    nudges(&mut one, 1, 8)?;
-    nudges(&mut one, 2, 9)?;
-    nudges(&mut one, 1, 10)
+    nudges(&mut one, node_id(1), 8)?;
+    nudges(&mut one, node_id(2), 9)?;
+    nudges(&mut one, node_id(1), 10)
 }
 
 #[test]
@@ -83,12 +85,12 @@ fn frames_go_both_ways(rt: HostRuntime) -> Outcome {
 /// Noise, a line of another service and a torn line are dropped and counted, and what comes behind them is read.
 fn drops<W: Wait + Clock + Copy>(wait: W, rt: &HostRuntime, path: &str) -> Outcome {
     let alloc = rt.alloc();
-    let mut own = link(wait, *rt, path, node(), 0)?;
+    let mut own = link(wait, alloc, node(), inbox(*rt, path, node())?, 0);
     let foreign = line_for_node(alloc, &Secret::of(b"another"), b"x")?;
     let good = line_for_node(alloc, &secret(), b"good")?;
     append(rt, path, node(), b"noise\n\n")?;
     append(rt, path, node(), foreign.as_bytes())?;
-    append(rt, path, node(), &good.as_bytes()[..9])?;
+    append(rt, path, node(), good.as_bytes().get(..9).unwrap_or(b""))?;
     append(rt, path, node(), good.as_bytes())?;
     append(rt, path, node(), good.as_bytes())?;
     brings(&mut own, b"good", 1)?;
@@ -104,7 +106,7 @@ fn what_is_no_line_is_dropped(rt: HostRuntime) -> Outcome {
 /// A line without end is dropped, whatever its length, and what comes behind it is read.
 fn passes_megabytes<W: Wait + Clock + Copy>(wait: W, rt: &HostRuntime, path: &str) -> Outcome {
     let alloc = rt.alloc();
-    let mut own = link(wait, *rt, path, node(), 0)?;
+    let mut own = link(wait, alloc, node(), inbox(*rt, path, node())?, 0);
     let mut long = Vec::new(alloc);
     long.resize(500_000, b'n')?;
     for _ in 0..4 {
@@ -128,11 +130,12 @@ fn a_line_of_megabytes(rt: HostRuntime) -> Outcome {
 
 /// What is sent to an actor without an inbox is lost, and nothing more.
 fn sends_nowhere<W: Wait + Clock + Copy>(wait: W, rt: &HostRuntime, path: &str) -> Outcome {
-    let mut one = link(wait, *rt, path, client(), 1)?;
+    let alloc = rt.alloc();
+    let mut one = link(wait, alloc, client(), inbox(*rt, path, client())?, 1);
     let nobody = Actor::Node(node_id(9));
-    check_row(one.send(nobody, parcel(rt.alloc(), b"x")?).is_ok(), 1)?;
+    check_row(one.send(nobody, parcel(alloc, b"x")?).is_ok(), 1)?;
     check_row(one.tell_all(Post::Gone(node_id(1))).is_ok(), 2)?;
-    nudges(&mut one, 1, 3)
+    nudges(&mut one, node_id(1), 3)
 }
 
 #[test]
