@@ -37,7 +37,7 @@ fn main(rt: HostRuntime) -> ExitCode {
         alloc,
         env::args(&rt),
         policies,
-        rt.reader(),
+        rt.stdin(),
         &mut page,
         &mut rt.stderr(),
     );

@@ -86,7 +86,7 @@ fn main(rt: HostRuntime) -> ExitCode {
         env::args(&rt),
         world,
         supplies,
-        rt.reader(),
+        rt.stdin(),
         &mut io::writer(&rt),
         &mut rt.stderr(),
     );
