@@ -8,6 +8,7 @@ use crate::{clients, nodes};
 use journal_merger::{Failure as MergeFailure, Journals, JournalsFault, Outcome as Merge, merge};
 use lock_model::Problem;
 use std::alloc::Global;
+use std::sync::Wait;
 use test_outcomes::{Failure, Outcome, check_row};
 use test_support::new_world;
 
@@ -42,6 +43,24 @@ fn failure_of(fault: JournalsFault, row: usize) -> Failure {
     }
 }
 
+/// The journal of n1, which takes c1's request and grants it.
+fn of_node<W: Wait>(rt: &W, alloc: Global) -> Result<Room, Failure> {
+    let (ended, _, journal) = nodes::grants(rt, alloc, Room::of(alloc, nodes::JOURNAL.len())?)?;
+    match ended {
+        Ok(()) => Ok(journal),
+        Err(_) => Err(Failure::Memory),
+    }
+}
+
+/// The journal of c1, which is granted what it asks for.
+fn of_client<W: Wait>(rt: &W, alloc: Global) -> Result<Room, Failure> {
+    let (ended, journal) = clients::enters(rt, alloc, Room::of(alloc, clients::JOURNAL.len())?)?;
+    match ended {
+        Ok(()) => Ok(journal),
+        Err(_) => Err(Failure::Memory),
+    }
+}
+
 /// Merges two journals from the world in which n1 and c1 are down and have kept nothing.
 fn merged(alloc: Global, first: &[u8], second: &[u8]) -> Result<(Merge, Room), Failure> {
     let mut journals = Journals::new(alloc);
@@ -61,8 +80,8 @@ fn merged(alloc: Global, first: &[u8], second: &[u8]) -> Result<(Merge, Room), F
 #[test]
 fn a_node_and_a_client(rt: HostRuntime) -> Outcome {
     let alloc = rt.alloc();
-    let (_, _, node) = nodes::grants(&rt, alloc, Room::of(alloc, nodes::JOURNAL.len())?)?;
-    let (_, client) = clients::enters(&rt, alloc, Room::of(alloc, clients::JOURNAL.len())?)?;
+    let node = of_node(&rt, alloc)?;
+    let client = of_client(&rt, alloc)?;
     let (merge, out) = merged(alloc, node.bytes.as_slice(), client.bytes.as_slice())?;
     check_row(merge == Merge::Merged(LINES), 3)?;
     check_row(out.bytes.as_slice() == HISTORY, 4)
@@ -72,7 +91,7 @@ fn a_node_and_a_client(rt: HostRuntime) -> Outcome {
 #[test]
 fn a_node_alone(rt: HostRuntime) -> Outcome {
     let alloc = rt.alloc();
-    let (_, _, node) = nodes::grants(&rt, alloc, Room::of(alloc, nodes::JOURNAL.len())?)?;
+    let node = of_node(&rt, alloc)?;
     let (merge, _) = merged(
         alloc,
         node.bytes.as_slice(),
