@@ -18,12 +18,13 @@ pub begins_none : (u : Use) (a b : Visits) → b ≡ a → BeginsOnly u a b
 begins_none u a b same = record {
   whose = ap (λ (v : Visits). v.whose) same;
   ballots = ap (λ (v : Visits). v.ballots) same;
+  opening = ap (λ (v : Visits). v.opening) same;
   times = 0;
   only = ap (λ (v : Visits). v.begins) same ∙ sym (append-nil a.begins);
 }
 
 pub begins_one : (u : Use) (a b : Visits) → b ≡ visits_beginning u a → BeginsOnly u a b
-begins_one u a b more = record { whose = ap (λ (v : Visits). v.whose) more; ballots = ap (λ (v : Visits). v.ballots) more; times = 1; only = ap (λ (v : Visits). v.begins) more }
+begins_one u a b more = record { whose = ap (λ (v : Visits). v.whose) more; ballots = ap (λ (v : Visits). v.ballots) more; opening = ap (λ (v : Visits). v.opening) more; times = 1; only = ap (λ (v : Visits). v.begins) more }
 
 pub more_one : (u : Use) (a b : Visits) → b ≡ visits_beginning u a → BeginsMore a b
 more_one u a b more =
@@ -54,6 +55,7 @@ pub begins_on : (u : Use) (a b c : Visits) → BeginsOnly u a b → BeginsOnly u
 begins_on u a b c first second = record {
   whose = second.whose ∙ first.whose;
   ballots = second.ballots ∙ first.ballots;
+  opening = second.opening ∙ first.opening;
   times = first.times + second.times;
   only =
       second.only ∙ ap (λ (us : List Use). us ++ replicate second.times u) first.only ∙ append_assoc a.begins (replicate first.times u) (replicate second.times u)
@@ -65,13 +67,13 @@ pub begins_still : (u : Use) (a b c : Visits) → BeginsOnly u a b → c ≡ b �
 begins_still u a b c first same = begins_on u a b c first (begins_none u b c same)
 
 pub begins_no_more : (u : Use) (a b c : Visits) → BeginsOnly u a b → BeginsNothing b c → BeginsOnly u a c
-begins_no_more u a b c first then = record { whose = then.whose ∙ first.whose; ballots = then.ballots ∙ first.ballots; times = first.times; only = then.none ∙ first.only }
+begins_no_more u a b c first then = record { whose = then.whose ∙ first.whose; ballots = then.ballots ∙ first.ballots; opening = then.opening ∙ first.opening; times = first.times; only = then.none ∙ first.only }
 
 pub nothing_begun : (a b : Visits) → b ≡ a → BeginsNothing a b
-nothing_begun a b same = record { whose = ap (λ (v : Visits). v.whose) same; ballots = ap (λ (v : Visits). v.ballots) same; none = ap (λ (v : Visits). v.begins) same }
+nothing_begun a b same = record { whose = ap (λ (v : Visits). v.whose) same; ballots = ap (λ (v : Visits). v.ballots) same; opening = ap (λ (v : Visits). v.opening) same; none = ap (λ (v : Visits). v.begins) same }
 
 pub entering_begins : (a b : Visits) → b ≡ visits_entering a → BeginsNothing a b
-entering_begins a b more = record { whose = ap (λ (v : Visits). v.whose) more; ballots = ap (λ (v : Visits). v.ballots) more; none = ap (λ (v : Visits). v.begins) more }
+entering_begins a b more = record { whose = ap (λ (v : Visits). v.whose) more; ballots = ap (λ (v : Visits). v.ballots) more; opening = ap (λ (v : Visits). v.opening) more; none = ap (λ (v : Visits). v.begins) more }
 
 -- the ballots of a log stay
 ballots_after : (v : Visits) (e : Event) → (visits_after v e).ballots ≡ v.ballots
@@ -165,20 +167,47 @@ wish_begun who wishes i w other l l' few at only before = record {
 
 -- nothing, and then an Enter
 pub nothing_after : (a b c : Visits) → BeginsNothing b c → b ≡ a → BeginsNothing a c
-nothing_after a b c then same = record { whose = then.whose ∙ ap (λ (v : Visits). v.whose) same; ballots = then.ballots ∙ ap (λ (v : Visits). v.ballots) same; none = then.none ∙ ap (λ (v : Visits). v.begins) same }
+nothing_after a b c then same = record { whose = then.whose ∙ ap (λ (v : Visits). v.whose) same; ballots = then.ballots ∙ ap (λ (v : Visits). v.ballots) same; opening = then.opening ∙ ap (λ (v : Visits). v.opening) same; none = then.none ∙ ap (λ (v : Visits). v.begins) same }
+
+-- the part in which a log was opened
+opening_after : (v : Visits) (e : Event) → (visits_after v e).opening ≡ v.opening
+opening_after v (event.Begin c m x place) = refl
+opening_after v (event.Enter c) = refl
+opening_after v (event.Try who) = refl
+opening_after v (event.Kept who) = refl
+opening_after v (event.SayTo c n) = refl
+opening_after v (event.Say n) = refl
+opening_after v (event.Take n k) = refl
+opening_after v (event.Hear c k) = refl
+opening_after v (event.Leave c) = refl
+opening_after v (event.Soften c) = refl
+opening_after v (event.Fall who) = refl
+opening_after v (event.Rise who age) = refl
+opening_after v (event.Switch n p) = refl
+
+opening_from : (v : Visits) (events : List (Event × Effect)) → (visits_from v events).opening ≡ v.opening
+opening_from v [] = refl
+opening_from v (p ∷ events) = opening_from (visits_after v p.0) events ∙ opening_after v p.0
+
+opening_of : (l : OwnLog) → (visits_of l).opening ≡ l.opening
+opening_of l = opening_from _ l.events
 
 -- so the client is the same
-same_client : (l l' : OwnLog) → (visits_of l').whose ≡ (visits_of l).whose → (visits_of l').ballots ≡ (visits_of l).ballots → IsSameClient l l'
-same_client l l' whose ballots = record { actor = sym (whose_of l') ∙ whose ∙ whose_of l; ballots = same_ballots l l' ballots }
+same_client : (l l' : OwnLog) → (visits_of l').whose ≡ (visits_of l).whose → (visits_of l').ballots ≡ (visits_of l).ballots → (visits_of l').opening ≡ (visits_of l).opening → IsSameClient l l'
+same_client l l' whose ballots opening = record {
+  actor = sym (whose_of l') ∙ whose ∙ whose_of l;
+  ballots = same_ballots l l' ballots;
+  opening = sym (opening_of l') ∙ opening ∙ opening_of l;
+}
 
 pub beginning_client : (u : Use) (l l' : OwnLog) → BeginsOnly u (visits_of l) (visits_of l') → IsSameClient l l'
-beginning_client u l l' only = same_client l l' only.whose only.ballots
+beginning_client u l l' only = same_client l l' only.whose only.ballots only.opening
 
 pub still_client : (l l' : OwnLog) → visits_of l' ≡ visits_of l → IsSameClient l l'
-still_client l l' same = same_client l l' (ap (λ (v : Visits). v.whose) same) (ap (λ (v : Visits). v.ballots) same)
+still_client l l' same = same_client l l' (ap (λ (v : Visits). v.whose) same) (ap (λ (v : Visits). v.ballots) same) (ap (λ (v : Visits). v.opening) same)
 
 pub softening_client : (l l' : OwnLog) → visits_of l' ≡ visits_softening (visits_of l) → IsSameClient l l'
-softening_client l l' more = same_client l l' (ap (λ (v : Visits). v.whose) more) (ap (λ (v : Visits). v.ballots) more)
+softening_client l l' more = same_client l l' (ap (λ (v : Visits). v.whose) more) (ap (λ (v : Visits). v.ballots) more) (ap (λ (v : Visits). v.opening) more)
 
-pub risen_client : (l l' : OwnLog) → (visits_of l').whose ≡ l.actor → (visits_of l').ballots ≡ l.ballots → IsSameClient l l'
-risen_client l l' whose ballots = record { actor = sym (whose_of l') ∙ whose; ballots = sym (ballots_of l') ∙ ballots }
+pub risen_client : (l l' : OwnLog) → (visits_of l').whose ≡ l.actor → (visits_of l').ballots ≡ l.ballots → (visits_of l').opening ≡ l.opening → IsSameClient l l'
+risen_client l l' whose ballots opening = record { actor = sym (whose_of l') ∙ whose; ballots = sym (ballots_of l') ∙ ballots; opening = sym (opening_of l') ∙ opening }

@@ -122,8 +122,8 @@ pub unless_from : (f : RunFault) (l m l' : OwnLog) (given given' : Option (List 
 unless_from f l m l' given given' same later = unless_on f l m l' given given given' (follows_none l m given same) later
 
 -- where memory wasn't refused, nothing is left
-none-left : (f : RunFault) (l l' : OwnLog) (given given' : Option (List Sending)) → (f ≡ fault.Memory → ⊥) → SentUnlessMemory f l l' given given' → SentFollows l l' given given'
-none-left f l l' given given' other is = record {
+pub none_left : (f : RunFault) (l l' : OwnLog) (given given' : Option (List Sending)) → (f ≡ fault.Memory → ⊥) → SentUnlessMemory f l l' given given' → SentFollows l l' given given'
+none_left f l l' given given' other is = record {
   follows = λ before was. is.follows before was ∙ ap (all_more before) (sym (is.all ∙ ap (λ xs. is.sent ++ xs) (is.none other) ∙ append-nil is.sent));
 }
 
@@ -139,12 +139,12 @@ pub unless_both : (f later : RunFault) (l m l' : OwnLog) (given between given' :
     SentUnlessMemory f l m given between → SentUnlessMemory later m l' between given' → SentUnlessMemory later l l' given given'
 unless_both fault.Memory later l m l' given between given' memory first second = ended-there fault.Memory later l m l' given between given' refl (memory refl) first
 unless_both fault.NotReopened later l m l' given between given' memory first second =
-    unless_on later l m l' given between given' (none-left fault.NotReopened l m given between (λ is. absurd (cc is)) first) second
-unless_both fault.Book later l m l' given between given' memory first second = unless_on later l m l' given between given' (none-left fault.Book l m given between (λ is. absurd (cc is)) first) second
-unless_both fault.Spent later l m l' given between given' memory first second = unless_on later l m l' given between given' (none-left fault.Spent l m given between (λ is. absurd (cc is)) first) second
+    unless_on later l m l' given between given' (none_left fault.NotReopened l m given between (λ is. absurd (cc is)) first) second
+unless_both fault.Book later l m l' given between given' memory first second = unless_on later l m l' given between given' (none_left fault.Book l m given between (λ is. absurd (cc is)) first) second
+unless_both fault.Spent later l m l' given between given' memory first second = unless_on later l m l' given between given' (none_left fault.Spent l m given between (λ is. absurd (cc is)) first) second
 unless_both fault.TooFewNodes later l m l' given between given' memory first second =
-    unless_on later l m l' given between given' (none-left fault.TooFewNodes l m given between (λ is. absurd (cc is)) first) second
-unless_both fault.GaveUp later l m l' given between given' memory first second = unless_on later l m l' given between given' (none-left fault.GaveUp l m given between (λ is. absurd (cc is)) first) second
+    unless_on later l m l' given between given' (none_left fault.TooFewNodes l m given between (λ is. absurd (cc is)) first) second
+unless_both fault.GaveUp later l m l' given between given' memory first second = unless_on later l m l' given between given' (none_left fault.GaveUp l m given between (λ is. absurd (cc is)) first) second
 
 -- on top of what was there before a log that sends nothing
 

@@ -1,5 +1,5 @@
 -- What a client remembers from post to post, to those who hold it.
-use Rattle.std.specs.Prelude.{ℕ, ◌≤◌, Bool, List}
+use Rattle.std.specs.Prelude.{ℕ, ◌≤◌, Bool, List, []}
 use Rattle.client_core.specs.Clients.{Client}
 use Rattle.client_loop.specs.declared.progress.Progress.{Progress}
 use Rattle.client_loop.specs.Nodes.{IsReleased}
@@ -26,6 +26,10 @@ released_of p = p.released
 
 abbrev pub gone_of : Progress → List ℕ
 gone_of p = p.gone
+
+-- the same with no node gone
+abbrev pub expecting_all : Progress → Progress
+expecting_all p = record p { gone = [] }
 
 -- whether a node let the present wish wait
 abbrev pub busy_of : Progress → Bool

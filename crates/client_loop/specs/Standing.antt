@@ -24,10 +24,11 @@ pub record Stands (l : OwnLog) (finds : List (List ℕ)) (core : Client) : Type 
   pub part : part_now l ≡ ClientPart (part_of core)
   pub found : FindsPart (ClientPart (part_of core)) finds
 
--- the two logs are of one client, opened with the same ballots
+-- the two logs are of one client, opened with the same ballots and the same part
 pub record IsSameClient (l l' : OwnLog) : Type 0 where
   pub actor : l'.actor ≡ l.actor
   pub ballots : l'.ballots ≡ l.ballots
+  pub opening : l'.opening ≡ l.opening
 
 -- the two cores stand for one part of the world: they differ in what they skip alone
 pub record IsAlike (before after : Client) : Type 0 where

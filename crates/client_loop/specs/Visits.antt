@@ -10,6 +10,7 @@ use Rattle.lock_model.specs.ExactStations.{is_write}
 use Rattle.world_model.specs.declared.events.Effect.{Effect}
 use Rattle.world_model.specs.declared.events.Event.{Event}
 use Rattle.world_model.specs.declared.events.Event.TheVariants as event
+use Rattle.world_model.specs.Parts.{Part}
 use Rattle.event_lines.specs.declared.wishes.Wish.{Wish}
 use Rattle.event_recorders.specs.declared.faults.RunFault.{RunFault}
 use Rattle.event_recorders.specs.OwnLogs.{OwnLog}
@@ -25,12 +26,13 @@ pub record AsksFor (u : Use) (t : Ticket) : Type 0 where
   pub mode : t.mode ≡ u.mode
   pub resource : t.resource ≡ u.resource
 
--- whose events they are, and the ballots that there are; the use that was begun last, if one was; for each
--- Enter, in order, the use that was begun last before it, and for each Soften the same; and the use of each
--- Begin, in order
+-- whose events they are, the ballots that there are, and the part that the actor had before them; the use that was
+-- begun last, if one was; for each Enter, in order, the use that was begun last before it, and for each Soften the
+-- same; and the use of each Begin, in order
 pub record Visits : Type 0 where
   pub whose : Actor
   pub ballots : List Ballot
+  pub opening : Part
   pub begun : Option Use
   pub entered : List (Option Use)
   pub softened : List (Option Use)
@@ -74,7 +76,7 @@ visits_from v (p ∷ events) = visits_from (visits_after v p.0) events
 
 -- what the client's own events say
 abbrev pub visits_of : OwnLog → Visits
-visits_of l = visits_from (record { whose = l.actor; ballots = l.ballots; begun = None; entered = []; softened = []; begins = [] }) l.events
+visits_of l = visits_from (record { whose = l.actor; ballots = l.ballots; opening = l.opening; begun = None; entered = []; softened = []; begins = [] }) l.events
 
 -- the wish softens: so it says, and it enters as a writer
 abbrev pub softens : Wish → Bool
@@ -140,6 +142,7 @@ AreWished wished begins = All (λ u. Among u wished) begins
 pub record BeginsOnly (u : Use) (before after : Visits) : Type 0 where
   pub whose : after.whose ≡ before.whose
   pub ballots : after.ballots ≡ before.ballots
+  pub opening : after.opening ≡ before.opening
   pub times : ℕ
   pub only : after.begins ≡ before.begins ++ replicate times u
 
@@ -151,6 +154,7 @@ pub record BeginsMore (before after : Visits) : Type 0 where
 pub record BeginsNothing (before after : Visits) : Type 0 where
   pub whose : after.whose ≡ before.whose
   pub ballots : after.ballots ≡ before.ballots
+  pub opening : after.opening ≡ before.opening
   pub none : after.begins ≡ before.begins
 
 -- The log is the actor's, and each of its Begins has the mode, the resource and the place of a wish.

@@ -1,6 +1,6 @@
 // Asking nodes for their votes.
 
-ghost use Rattle.std.specs.Prelude.{◌≡◌, true, false, Ok, Err, OnOk, IfErr};
+ghost use Rattle.std.specs.Prelude.{◌≡◌, ◌≤◌, true, false, Ok, Err, OnOk, IfErr};
 ghost use Rattle.lock_model.specs.Ballots.{HasPlace};
 ghost use Rattle.client_core.specs.Calls.{MayEnter};
 ghost use Rattle.client_loop.specs.Sendings.{SentFollows, SentUnlessMemory};
@@ -18,15 +18,34 @@ use crate::progress::Progress;
 use crate::talking::tell;
 use event_lines::Wish;
 use event_recorders::{Recorder, RunFault};
+use lock_messages::{NodeId, ResourceName};
 use lossy_link::Link;
 use stable_record::StableRecord;
 use std::alloc::Global;
 use std::sync::Wait;
 
-/// Asks the node that is to be asked next, unless it was asked already.
+/// Whether the nodes that granted, and those that were asked and aren't gone, are enough for the wish.
+fn awaits_enough(wish: &Wish, progress: &Progress) -> bool {
+    let Some(ballot) = progress.core.ballots().ballot(wish.place) else {
+        return false;
+    };
+    let mut awaited = progress.granted;
+    for number in 1..=ballot.nodes() {
+        let Some(node) = NodeId::of(number) else {
+            return false;
+        };
+        if progress.asked.has(node) && !progress.gone.has(node) {
+            awaited = awaited.with(node);
+        }
+    }
+    ballot.enough(wish.mode, awaited)
+}
+
+/// Asks the node that is to be asked next, unless it was asked already, or those that were asked are enough.
 #[tactic(auto, using(actor_steps::proofs::SendingFacts::follows_none))]
 fn ask_on<R: Recorder, L: Link>(
     alloc: Global,
+    wish: &Wish,
     progress: &mut Progress,
     stable: &dyn StableRecord,
     recorder: &mut R,
@@ -43,6 +62,9 @@ fn ask_on<R: Recorder, L: Link>(
     ensures falls { falls_of (R.own_log recorder.new) ≡ falls_of (R.own_log recorder.old) }
     ensures faults { IfErr result IsBookFault }
 {
+    if awaits_enough(wish, progress) {
+        return Ok(());
+    }
     let Some(node) = progress.core.next_ask() else {
         return Ok(());
     };
@@ -54,8 +76,62 @@ fn ask_on<R: Recorder, L: Link>(
     Ok(())
 }
 
+/// The node with which asking for a resource begins, if several are asked at once: its name picks one of so many. So all
+/// nodes of a service have their share of the work.
+fn first_asked(resource: &ResourceName, nodes: u8) -> u8
+    requires { 1 ≤ nodes }
+    ensures node { 1 ≤ result }
+    ensures some_node { result ≤ nodes }
+{
+    let mut sum = 0_u32;
+    for byte in resource.bytes() {
+        sum = sum.wrapping_add(u32::from(*byte));
+    }
+    (sum % u32::from(nodes)) as u8 + 1
+}
+
+/// Asks at once as many nodes as the wish needs by its ballot, without those that are gone. It begins with the node that
+/// the resource's name picks, and goes on with the first node after the last.
+#[tactic(auto, using(actor_steps::proofs::SendingFacts::follows_none, actor_steps::proofs::SendingFacts::follows_on, crate::proofs::SentFacts::unless_on))]
+fn ask_together<R: Recorder, L: Link>(
+    alloc: Global,
+    wish: &Wish,
+    progress: &mut Progress,
+    stable: &dyn StableRecord,
+    recorder: &mut R,
+    link: &mut L,
+) -> Result<(), RunFault>
+    requires { Stands (R.own_log recorder.old) (finds stable.now) progress.old.core }
+    ensures sent { OnOk result (SentFollows (R.own_log recorder.old) (R.own_log recorder.new) (L.given link.old) (L.given link.new)) }
+    ensures faulted { IfErr result (λ f. SentUnlessMemory f (R.own_log recorder.old) (R.own_log recorder.new) (L.given link.old) (L.given link.new)) }
+    ensures stands { Stands (R.own_log recorder.new) (finds stable.now) progress.new.core }
+    ensures visits { visits_of (R.own_log recorder.new) ≡ visits_of (R.own_log recorder.old) }
+    ensures others { progress.new ≡ record progress.old { asked = progress.new.asked } }
+    ensures falls { falls_of (R.own_log recorder.new) ≡ falls_of (R.own_log recorder.old) }
+    ensures faults { IfErr result IsBookFault }
+{
+    let Some(ballot) = progress.core.ballots().ballot(wish.place) else {
+        return Ok(());
+    };
+    let first = first_asked(&wish.resource, ballot.nodes());
+    for number in (first..=ballot.nodes()).chain(1..first) {
+        let Some(node) = NodeId::of(number) else {
+            return Ok(());
+        };
+        if ballot.enough(wish.mode, progress.asked) {
+            return Ok(());
+        }
+        if !progress.gone.has(node) {
+            tell(alloc, &progress.core, node, stable, recorder, link)?;
+            progress.asked = progress.asked.with(node);
+        }
+    }
+    Ok(())
+}
+
 /// Asks one node after another until the votes are enough for the wish, or, where it isn't to wait, until a
-/// node lets it wait; whether they are enough. 912: the nodes that granted and those that aren't gone are not
+/// node lets it wait; whether they are enough. Where it isn't to wait it begins with as many at once as the wish
+/// needs: two clients that ask so never wait for each other. 912: the nodes that granted and those that aren't gone are not
 /// enough.
 #[tactic(auto, using(actor_steps::proofs::SendingFacts::follows_none, actor_steps::proofs::SendingFacts::follows_on, crate::proofs::SentFacts::unless_on, crate::proofs::SentFacts::unless_follows, crate::proofs::NudgeFacts::book_has_none))]
 pub(crate) fn ask<W: Wait, R: Recorder, L: Link>(
@@ -87,6 +163,9 @@ pub(crate) fn ask<W: Wait, R: Recorder, L: Link>(
     // 912: only where the nodes that granted and those that aren't gone are not enough.
     ensures too_few { result ≡ Err RunFault.TooFewNodes → CanSuffice progress.new.core.ballots wish.now.place wish.now.mode progress.new.granted progress.new.gone → ⊥ }
 {
+    if !waits {
+        ask_together(alloc, wish, progress, stable, recorder, link)?;
+    }
     for _ in rt.forever() {
         if progress.core.may_enter() {
             return Ok(true);
@@ -97,7 +176,7 @@ pub(crate) fn ask<W: Wait, R: Recorder, L: Link>(
         if !progress.can_suffice(wish.place, wish.mode) {
             return Err(RunFault::TooFewNodes);
         }
-        ask_on(alloc, progress, stable, recorder, link)?;
+        ask_on(alloc, wish, progress, stable, recorder, link)?;
         take_post(alloc, progress, stable, recorder, link)?;
     }
     unreachable!()

@@ -126,8 +126,8 @@ fn ask_and_enter<W: Wait, R: Recorder, L: Link>(
     }
 }
 
-/// Enters what is wished: makes an attempt, whose number it keeps before it is used, asks the nodes one after
-/// another for their votes, and logs the Enter once they are enough. Whether it did: `false` only where it
+/// Enters what is wished: makes an attempt, whose number it keeps before it is used, asks the nodes for their
+/// votes, one after another where it is to wait, and logs the Enter once they are enough. Whether it did: `false` only where it
 /// isn't to wait and a node let it, and then it has left, and each node that it asked has answered its release
 /// or is gone.
 ///

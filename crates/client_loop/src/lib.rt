@@ -37,5 +37,6 @@ pub use clients::{run_client, run_client_over};
 pub use entering::enter;
 pub use leaving::leave;
 pub use progress::{MAX_NUDGES, Patience, Progress};
+pub use releasing::release_at;
 pub use rising::rise;
 pub use softening::soften;

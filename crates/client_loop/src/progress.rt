@@ -6,7 +6,7 @@ ghost use Rattle.vote_weights.specs.Sets.{has_node, with_node};
 ghost use Rattle.client_core.specs.Calls.{MayEnter, MayLeave, entered, left, skipping};
 ghost use Rattle.client_loop.specs.Hearing.{granted_after, released_after, busy_after};
 ghost use Rattle.client_loop.specs.Standing.{IsAlike};
-ghost use Rattle.client_loop.specs.Remembering.{core_of, with_core};
+ghost use Rattle.client_loop.specs.Remembering.{core_of, with_core, asked_of, released_of, expecting_all};
 ghost use Rattle.client_loop.specs.Nodes.{CanSuffice, IsReleased, Owes, Skips, is_among, is_gone_among};
 
 use client_core::ClientCore;
@@ -34,7 +34,8 @@ pub struct Progress {
 pub struct Patience {
     /// It gives up at this nudge (913), and at the first where it is 0.
     pub nudges: u32,
-    /// Whether it waits where a node answers that others go before it; else it takes the wish back then.
+    /// Whether it waits where a node answers that others go before it; else it takes the wish back then. Where it
+    /// waits it asks one node after another, so that no two clients wait for each other; else several at once.
     pub waits: bool,
 }
 
@@ -63,6 +64,27 @@ impl Progress {
         ensures { result.now ≡ core_of self.now }
     {
         &self.core
+    }
+
+    /// The nodes to which something was sent in the present wish.
+    pub fn asked(&self) -> NodeSet
+        ensures { result ≡ asked_of self.now }
+    {
+        self.asked
+    }
+
+    /// The nodes that answered the release of the present wish.
+    pub fn released(&self) -> NodeSet
+        ensures { result ≡ released_of self.now }
+    {
+        self.released
+    }
+
+    /// Expects each node again: a node that was gone is asked again.
+    pub fn expect_all(&mut self)
+        ensures { self.new ≡ expecting_all self.old }
+    {
+        self.gone = NodeSet::empty();
     }
 
     /// The client is inside, as its own log has it already.

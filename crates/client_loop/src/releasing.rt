@@ -4,7 +4,9 @@ ghost use Rattle.std.specs.Prelude.{◌≡◌, true, OnOk, IfErr};
 ghost use Rattle.client_core.specs.Clients.{phase_of};
 ghost use Rattle.client_loop.specs.Sendings.{SentFollows, SentUnlessMemory};
 ghost use Rattle.client_loop.specs.Standing.{Stands};
-ghost use Rattle.client_loop.specs.Remembering.{HasHadLast};
+ghost use Rattle.client_core.specs.declared.phases.Phase.TheVariants as phase;
+ghost use Rattle.client_loop.specs.Remembering.{core_of, HasHadLast, HasReleased};
+ghost use Rattle.client_loop.specs.Releasing.{AsksAt, RestsStill, EndsWaiting};
 ghost use Rattle.client_loop.specs.Visits.{visits_of};
 ghost use Rattle.client_loop.specs.Endings.{IsPostFault};
 ghost use Rattle.client_loop.specs.Nodes.{IsReleased};
@@ -20,6 +22,7 @@ use lossy_link::Link;
 use stable_record::StableRecord;
 use std::alloc::Global;
 use std::sync::Wait;
+use vote_weights::NodeSet;
 
 /// Says the release to each node that was asked and isn't gone.
 #[tactic(auto, using(actor_steps::proofs::SendingFacts::follows_none, actor_steps::proofs::SendingFacts::follows_on, crate::proofs::SentFacts::unless_on))]
@@ -82,4 +85,45 @@ pub(crate) fn release<W: Wait, R: Recorder, L: Link>(
         take_post(alloc, progress, stable, recorder, link)?;
     }
     unreachable!()
+}
+
+/// Says the release of the client's last attempt to each of these nodes, until each has answered or is gone. If the
+/// client has made no attempt it says nothing.
+///
+/// A client that has restarted so releases the votes that it held before. It also says a release again that a node has
+/// not answered. The nodes that are gone are skipped.
+///
+/// The caller owes a client that rests, by its own log and its core, and that a restart finds in the record what the
+/// client keeps.
+///
+/// # Errors
+///
+/// The call had its last nudge (913); it ran out of memory (914), or the book is full or another's (915). The client
+/// rests in each case.
+#[tactic(auto, using(crate::proofs::BeginFacts::still_client))]
+pub fn release_at<W: Wait, R: Recorder, L: Link>(
+    rt: &W,
+    alloc: Global,
+    nodes: NodeSet,
+    nudges: u32,
+    progress: &mut Progress,
+    stable: &dyn StableRecord,
+    recorder: &mut R,
+    link: &mut L,
+) -> Result<(), RunFault>
+    requires stands { Stands (R.own_log recorder.old) (finds stable.now) (core_of progress.old) }
+    requires idle { phase_of (core_of progress.old) ≡ phase.Idle }
+    ensures sent { OnOk result (SentFollows (R.own_log recorder.old) (R.own_log recorder.new) (L.given link.old) (L.given link.new)) }
+    ensures faulted { IfErr result (λ f. SentUnlessMemory f (R.own_log recorder.old) (R.own_log recorder.new) (L.given link.old) (L.given link.new)) }
+    ensures rests { RestsStill (R.own_log recorder.old) (R.own_log recorder.new) (finds stable.now) (core_of progress.new) }
+    ensures asks { AsksAt (core_of progress.old).attempt nodes nudges progress.new }
+    ensures released { OnOk result (HasReleased progress.new) }
+    ensures ended { IfErr result (λ f. EndsWaiting f progress.new) }
+{
+    progress.begin_wish(nudges);
+    if progress.core.attempt() == 0 {
+        return Ok(());
+    }
+    progress.asked = nodes;
+    release(rt, alloc, progress, stable, recorder, link)
 }

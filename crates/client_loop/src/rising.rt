@@ -50,6 +50,7 @@ pub fn rise<R: Recorder>(
     ensures begins { (visits_of (R.own_log recorder.new)).begins ≡ [] }
     ensures whose { (visits_of (R.own_log recorder.new)).whose ≡ (R.own_log recorder.old).actor }
     ensures ballots { (visits_of (R.own_log recorder.new)).ballots ≡ (R.own_log recorder.old).ballots }
+    ensures opened { (visits_of (R.own_log recorder.new)).opening ≡ (R.own_log recorder.old).opening }
     ensures own { FindsItsOwn (part_now (R.own_log recorder.new)) (finds stable.new) }
     ensures ended { IfErr result (λ fault. ClientEndsFrom fault (falls_of (R.own_log recorder.old)) (R.own_log recorder.new) (stuck_of stable.new) (spent_of stable.new) (failures_of stable.old) (failures_of stable.new)) }
     ensures falls { FailuresFollow (falls_of (R.own_log recorder.old)) (falls_of (R.own_log recorder.new)) (failures_of stable.old) (failures_of stable.new) }

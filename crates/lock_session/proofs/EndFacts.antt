@@ -3,12 +3,14 @@ use Rattle.std.proofs.Common.{◌≡◌, ◌⊎◌, inl, inr, ℕ, Bool, true, f
 use Rattle.client_core.specs.declared.phases.Phase.TheVariants as phase
 use Rattle.client_core.specs.Clients.{Client, phase_of}
 use Rattle.event_recorders.specs.declared.faults.RunFault.{RunFault}
-use Rattle.event_recorders.specs.OwnLogs.{OwnLog}
+use Rattle.event_recorders.specs.OwnLogs.{OwnLog, part_now}
 use Rattle.actor_steps.specs.Endings.{falls_of}
-use Rattle.client_loop.specs.Endings.{ClientEndsFrom, EndsAsking, IsPostFault}
+use Rattle.client_loop.specs.Endings.{ClientEndsFrom, EndsAsking, IsOutside, IsPostFault}
+use Rattle.client_loop.specs.Releasing.{told_of}
+use Rattle.client_loop.specs.Standing.{Stands}
 use Rattle.client_loop.specs.Visits.{Visits, BeginsMore}
-use Rattle.client_loop.proofs.EndFacts.{asking_ends}
-use Rattle.lock_session.specs.Sessions.{SessionValue, UnlessOver, EndsLeaving, EndsBy, GivesUpAtLast, EndsSettling, EndsGuard, EndsSoftening, FailsToSoften, GoesOn, GoesOut}
+use Rattle.client_loop.proofs.EndFacts.{asking_ends, is_outside}
+use Rattle.lock_session.specs.Sessions.{SessionValue, UnlessOver, EndsLeaving, EndsBy, GivesUpAtLast, EndsSettling, EndsGuard, EndsSoftening, FailsToSoften, GoesOn, GoesOut, Settles, Releases, HasNothingLeft, HasReleased, HasReleasedAt, IsResting}
 
 pub over_before : (over : Option RunFault) (f : RunFault) (Still Ended : Type 0) → over ≡ Some f → Still → UnlessOver over f Still Ended
 over_before over f Still Ended is still = subst (λ (o : Option RunFault). UnlessOver o f Still Ended) (sym is) (refl, still)
@@ -78,3 +80,34 @@ nothing_left v m out settled had = not_inside had
 
 pub more_since : (a b c : Visits) → b ≡ a → BeginsMore b c → BeginsMore a c
 more_since a b c same more = subst (λ (v : Visits). BeginsMore v c) same more
+
+-- saying a release again ended by this fault, in a session that rested
+pub releasing_ends : (f : RunFault) (v v' : SessionValue) (core : Client) → v.over ≡ None → IsPostFault f → Stands v'.log v'.finds core → phase_of core ≡ phase.Idle → GivesUpAtLast f v' → v'.stuck ≡ false → EndsSettling f v v'
+releasing_ends f v v' core on is stands idle last free = leaving_ends f v v' on is (asks f is (is_outside _ _ _ stands idle)) last free
+  where
+    asks : (f : RunFault) → IsPostFault f → IsOutside (part_now v'.log) → EndsAsking f v'.log
+    asks f (inl gave) outside = inr (inr gave, outside)
+    asks f (inr book) outside = inl book
+
+-- saying it ended so after a settling that went well
+pub settling_then : (f : RunFault) (v m v' : SessionValue) → v.over ≡ None → m.over ≡ None → EndsSettling f m v' → EndsSettling f v v'
+settling_then f v m v' on still ends = not_over v.over f (v' ≡ v) (EndsLeaving f v') on (how_ended m.over f (v' ≡ m) (EndsLeaving f v') still ends)
+
+-- what a session released after it settled
+pub releases_then : (v m v' : SessionValue) → Settles v m → Releases m v' → Releases v v'
+releases_then v m v' first then = record {
+  same = record { client = then.same.client ∙ first.same.client; ballots = then.same.ballots ∙ first.same.ballots; opening = then.same.opening ∙ first.same.opening };
+  visits = then.visits ∙ first.visits;
+  falls = then.falls ∙ first.falls;
+  failures = then.failures ∙ first.failures;
+}
+
+-- what was asked behind a settling, of the attempt that the session had if it had nothing left to say
+pub asked_at : (Quiet : Type 0) (nodes : List ℕ) (v m v' : SessionValue) → (HasNothingLeft v → Quiet × (m ≡ v)) → v'.asked ≡ told_of m.core.attempt nodes → HasReleased v' → IsResting v' → HasReleasedAt nodes v v'
+asked_at Quiet nodes v m v' nothing asked released rests = record {
+  attempt = m.core.attempt;
+  asked = asked;
+  same = λ quiet. ap (λ (x : SessionValue). x.core.attempt) (nothing quiet).1;
+  released = released;
+  rests = rests;
+}

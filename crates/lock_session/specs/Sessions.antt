@@ -8,6 +8,7 @@ use Rattle.lossy_link.specs.declared.parcels.Sending.{Sending}
 use Rattle.client_core.specs.declared.phases.Phase.TheVariants as phase
 use Rattle.client_core.specs.Calls.{left as core_left}
 use Rattle.client_core.specs.Clients.{Client, phase_of, ticket_of, softened_ticket}
+use Rattle.world_model.specs.Parts.{Part}
 use Rattle.world_model.specs.Staying.{inside_ticket}
 use Rattle.event_recorders.specs.declared.faults.RunFault.{RunFault}
 use Rattle.event_recorders.specs.declared.faults.RunFault.TheVariants as fault
@@ -20,6 +21,7 @@ use Rattle.client_loop.specs.Sendings.{SentFollows, SentUnlessMemory, TellsSofte
 use Rattle.client_loop.specs.Standing.{Stands, HasLeft}
 use Rattle.client_loop.specs.Endings.{ClientEndsFrom, EndsAsking, IsPostFault, IsAtRest}
 use Rattle.client_loop.specs.Nodes.{IsReleased}
+use Rattle.client_loop.specs.Releasing.{told_of}
 use Rattle.client_loop.specs.Visits.{Use, AsksFor, BeginsOnly, BeginsMore, visits_of, visits_softening}
 use Rattle.lock_session.specs.declared.faults.TryFault.{TryFault}
 use Rattle.lock_session.specs.declared.faults.TryFault.TheVariants as trying
@@ -106,10 +108,15 @@ pub record IsSession (v : SessionValue) : Type 0 where
   pub own : FindsItsOwn (part_now v.log) v.finds
   pub goes_on : GoesOn v.over v.left v.log v.finds v.stuck v.core
 
--- of the same client, with the same ballots
-pub record IsSameSession (v v' : SessionValue) : Type 0 where
-  pub client : v'.client ≡ v.client
-  pub ballots : v'.ballots ≡ v.ballots
+-- of this client, with these ballots, and with a log that was opened in this part
+pub record IsSessionOf (c : ℕ) (b : List Ballot) (p : Part) (v : SessionValue) : Type 0 where
+  pub client : v.client ≡ c
+  pub ballots : v.ballots ≡ b
+  pub opening : v.log.opening ≡ p
+
+-- of the same client, with the same ballots, and opened in the same part
+abbrev pub IsSameSession : SessionValue → SessionValue → Type 0
+IsSameSession v v' = IsSessionOf v.client v.ballots v.log.opening v'
 
 -- The session goes on, and rests: its own log has the client outside, and says nothing more.
 pub record IsResting (v : SessionValue) : Type 0 where
@@ -177,6 +184,21 @@ pub record Enters (u : Use) (nudges : ℕ) (v v' : SessionValue) : Type 0 where
 abbrev pub HasReleased : SessionValue → Type 0
 HasReleased v = IsReleased v.core.ballots v.asked v.released v.gone
 
+-- neither is the session over, nor is it inside, nor has it anything left to say
+pub record HasNothingLeft (v : SessionValue) : Type 0 where
+  pub on : v.over ≡ None
+  pub settled : v.left ≡ false
+  pub outside : phase_of v.core ≡ phase.Inside → ⊥
+
+-- These nodes were asked, or none if no attempt was made, and each that was asked has answered the release or is gone.
+-- The attempt is this one, if the session had nothing left to say. The session rests.
+pub record HasReleasedAt (nodes : List ℕ) (v v' : SessionValue) : Type 0 where
+  pub attempt : ℕ
+  pub asked : v'.asked ≡ told_of attempt nodes
+  pub same : HasNothingLeft v → attempt ≡ v.core.attempt
+  pub released : HasReleased v'
+  pub rests : IsResting v'
+
 -- The session was not over. An attempt was made for this use, with so many nudges, a node let it wait, nothing was
 -- entered, each node that was asked has answered the release or is gone, and the session rests.
 pub record TakesBack (u : Use) (nudges : ℕ) (v v' : SessionValue) : Type 0 where
@@ -220,12 +242,6 @@ EndsSettling f v v' = UnlessOver v.over f (v' ≡ v) (EndsLeaving f v')
 abbrev pub EndsGuard : RunFault → SessionValue → SessionValue → Type 0
 EndsGuard f v v' = UnlessOver v.over f (GoesOut v v') (EndsLeaving f v')
 
--- neither is the session over, nor is it inside, nor has it anything left to say
-pub record HasNothingLeft (v : SessionValue) : Type 0 where
-  pub on : v.over ≡ None
-  pub settled : v.left ≡ false
-  pub outside : phase_of v.core ≡ phase.Inside → ⊥
-
 -- Its log has nothing new begun, entered or softened, and the client has not fallen, nor its device failed.
 pub record Settles (v v' : SessionValue) : Type 0 where
   pub same : IsSameSession v v'
@@ -233,6 +249,13 @@ pub record Settles (v v' : SessionValue) : Type 0 where
   pub falls : falls_of v'.log ≡ falls_of v.log
   pub failures : v'.failures ≡ v.failures
   pub most : v'.most ≡ v.most
+
+-- The same, with as many nudges as its caller says.
+pub record Releases (v v' : SessionValue) : Type 0 where
+  pub same : IsSameSession v v'
+  pub visits : visits_of v'.log ≡ visits_of v.log
+  pub falls : falls_of v'.log ≡ falls_of v.log
+  pub failures : v'.failures ≡ v.failures
 
 -- The session's own log has the client inside, with a ticket for this use.
 pub record IsInsideFor (u : Use) (v : SessionValue) : Type 0 where

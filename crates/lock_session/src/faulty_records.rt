@@ -1,7 +1,7 @@
 // A record whose device fails now and then, as a record that a session owns.
 
 use crate::OwnRecord;
-use client_loop::{Patience, Progress, enter, leave, rise, soften};
+use client_loop::{Patience, Progress, enter, leave, release_at, rise, soften};
 use event_lines::Wish;
 use event_recorders::{Gate, Recorder, RunFault};
 use lock_messages::ClientId;
@@ -9,7 +9,7 @@ use lossy_link::Link;
 use stable_record::FaultyRecord;
 use std::alloc::Global;
 use std::sync::Wait;
-use vote_weights::BallotList;
+use vote_weights::{BallotList, NodeSet};
 
 impl OwnRecord for FaultyRecord {
     fn rise<R: Recorder>(
@@ -56,5 +56,18 @@ impl OwnRecord for FaultyRecord {
         link: &mut L,
     ) -> Result<(), RunFault> {
         leave(rt, alloc, progress, self, recorder, link)
+    }
+
+    fn release_at<W: Wait, R: Recorder, L: Link>(
+        &self,
+        rt: &W,
+        alloc: Global,
+        nodes: NodeSet,
+        nudges: u32,
+        progress: &mut Progress,
+        recorder: &mut R,
+        link: &mut L,
+    ) -> Result<(), RunFault> {
+        release_at(rt, alloc, nodes, nudges, progress, self, recorder, link)
     }
 }

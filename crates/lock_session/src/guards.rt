@@ -88,7 +88,8 @@ impl<S: OwnRecord, R: Recorder, L: Link> Session<S, R, L> {
         Ok(self.guard())
     }
 
-    /// Enters as `enter` does, and takes back what it asked for where a node lets it wait.
+    /// Enters as `enter` does, but asks as many nodes at once as it needs, and takes back what it asked for where a node
+    /// lets it wait.
     ///
     /// The caller owes a place that the session's ballots have.
     ///

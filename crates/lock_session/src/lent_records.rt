@@ -11,7 +11,7 @@ use lossy_link::Link;
 use stable_record::{RecordFault, StableRecord};
 use std::alloc::Global;
 use std::sync::Wait;
-use vote_weights::BallotList;
+use vote_weights::{BallotList, NodeSet};
 
 /// A record that its owner lends to a session. Whatever becomes of the session, and of the service that it belongs
 /// to, the owner has the record back, as it was kept last.
@@ -99,5 +99,19 @@ impl<S: OwnRecord> OwnRecord for LentRecord<'_, S> {
         link: &mut L,
     ) -> Result<(), RunFault> {
         self.lent.leave(rt, alloc, progress, recorder, link)
+    }
+
+    fn release_at<W: Wait, R: Recorder, L: Link>(
+        &self,
+        rt: &W,
+        alloc: Global,
+        nodes: NodeSet,
+        nudges: u32,
+        progress: &mut Progress,
+        recorder: &mut R,
+        link: &mut L,
+    ) -> Result<(), RunFault> {
+        self.lent
+            .release_at(rt, alloc, nodes, nudges, progress, recorder, link)
     }
 }

@@ -11,10 +11,11 @@ ghost use Rattle.actor_steps.specs.Endings.{falls_of, FailuresFollow};
 ghost use Rattle.client_loop.specs.Sendings.{sent_of, SentFollows, SentUnlessMemory, TellsSoftened};
 ghost use Rattle.client_loop.specs.Standing.{Stands, HasLeft, KeepsAttempt, IsSameClient};
 ghost use Rattle.client_loop.specs.Remembering.{core_of, with_core, asked_of, granted_of, busy_of, most_of, HasHadLast, HasReleased};
+ghost use Rattle.client_loop.specs.Releasing.{AsksAt, RestsStill, EndsWaiting};
 ghost use Rattle.client_loop.specs.Endings.{ClientEndsFrom, EndsAsking, EndsOneAttempt, IsAtRest};
 ghost use Rattle.client_loop.specs.Visits.{visits_of, use_of, AsksFor, visits_softening, BeginsOnly, BeginsMore};
 
-use client_loop::{Patience, Progress, enter, leave, rise, soften};
+use client_loop::{Patience, Progress, enter, leave, release_at, rise, soften};
 use event_lines::Wish;
 use event_recorders::{Gate, Recorder, RunFault};
 use lock_messages::{Actor, ClientId};
@@ -22,7 +23,7 @@ use lossy_link::Link;
 use stable_record::{MemoryRecord, StableRecord};
 use std::alloc::Global;
 use std::sync::Wait;
-use vote_weights::BallotList;
+use vote_weights::{BallotList, NodeSet};
 
 /// A record that a session can own: it hands itself to the calls of a client's loop.
 ///
@@ -54,6 +55,7 @@ pub trait OwnRecord: StableRecord {
         ensures begins { (visits_of (R.own_log recorder.new)).begins ≡ [] }
         ensures whose { (visits_of (R.own_log recorder.new)).whose ≡ (R.own_log recorder.old).actor }
         ensures ballots { (visits_of (R.own_log recorder.new)).ballots ≡ (R.own_log recorder.old).ballots }
+        ensures opened { (visits_of (R.own_log recorder.new)).opening ≡ (R.own_log recorder.old).opening }
         ensures own { FindsItsOwn (part_now (R.own_log recorder.new)) (Self.finds self.new) }
         ensures ended { IfErr result (λ fault. ClientEndsFrom fault (falls_of (R.own_log recorder.old)) (R.own_log recorder.new) (Self.stuck_of self.new) (Self.spent_of self.new) (Self.failures_of self.old) (Self.failures_of self.new)) }
         ensures falls { FailuresFollow (falls_of (R.own_log recorder.old)) (falls_of (R.own_log recorder.new)) (Self.failures_of self.old) (Self.failures_of self.new) }
@@ -154,6 +156,26 @@ pub trait OwnRecord: StableRecord {
         ensures own { FindsItsOwn (part_now (R.own_log recorder.new)) (Self.finds self.now) }
         ensures faults { IfErr result (λ f. (f ≡ RunFault.GaveUp) ⊎ IsBookFault f) }
         ensures ended { IfErr result (λ f. EndsAsking f (R.own_log recorder.new)) };
+
+    /// `client_loop::release_at` over this record.
+    fn release_at<W: Wait, R: Recorder, L: Link>(
+        &self,
+        rt: &W,
+        alloc: Global,
+        nodes: NodeSet,
+        nudges: u32,
+        progress: &mut Progress,
+        recorder: &mut R,
+        link: &mut L,
+    ) -> Result<(), RunFault>
+        requires stands { Stands (R.own_log recorder.old) (Self.finds self.now) (core_of progress.old) }
+        requires idle { phase_of (core_of progress.old) ≡ phase.Idle }
+        ensures sent { OnOk result (SentFollows (R.own_log recorder.old) (R.own_log recorder.new) (L.given link.old) (L.given link.new)) }
+        ensures faulted { IfErr result (λ f. SentUnlessMemory f (R.own_log recorder.old) (R.own_log recorder.new) (L.given link.old) (L.given link.new)) }
+        ensures rests { RestsStill (R.own_log recorder.old) (R.own_log recorder.new) (Self.finds self.now) (core_of progress.new) }
+        ensures asks { AsksAt (core_of progress.old).attempt nodes nudges progress.new }
+        ensures released { OnOk result (HasReleased progress.new) }
+        ensures ended { IfErr result (λ f. EndsWaiting f progress.new) };
 }
 
 impl OwnRecord for MemoryRecord {
@@ -201,5 +223,18 @@ impl OwnRecord for MemoryRecord {
         link: &mut L,
     ) -> Result<(), RunFault> {
         leave(rt, alloc, progress, self, recorder, link)
+    }
+
+    fn release_at<W: Wait, R: Recorder, L: Link>(
+        &self,
+        rt: &W,
+        alloc: Global,
+        nodes: NodeSet,
+        nudges: u32,
+        progress: &mut Progress,
+        recorder: &mut R,
+        link: &mut L,
+    ) -> Result<(), RunFault> {
+        release_at(rt, alloc, nodes, nudges, progress, self, recorder, link)
     }
 }

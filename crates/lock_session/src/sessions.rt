@@ -12,8 +12,9 @@ ghost use Rattle.event_recorders.specs.Sharing.{HaveMet, HasSeenInside};
 ghost use Rattle.client_loop.specs.Sendings.{sent_of, SentFollows, SentUnlessMemory};
 ghost use Rattle.client_loop.specs.Standing.{KeepsAttempt};
 ghost use Rattle.client_loop.specs.Endings.{ClientEndsFrom};
+ghost use Rattle.client_loop.specs.Releasing.{told_of};
 ghost use Rattle.client_loop.specs.Visits.{visits_of};
-ghost use Rattle.lock_session.specs.Sessions.{IsResting, IsInside, IsInsideStill, IsInsideFor, Softens, EndsSoftening, GoesOut, Settles, StandsAfter, EndsSettling, HasNothingLeft, Enters, TakesBack, EndsEntering, HasReleased, use_by, over_by};
+ghost use Rattle.lock_session.specs.Sessions.{IsSessionOf, IsResting, IsInside, IsInsideStill, IsInsideFor, Softens, EndsSoftening, GoesOut, Settles, StandsAfter, EndsSettling, HasNothingLeft, Enters, TakesBack, EndsEntering, HasReleased, HasReleasedAt, Releases, use_by, over_by};
 
 use crate::OwnRecord;
 use crate::gates::OpenGate;
@@ -26,7 +27,7 @@ use lossy_link::Link;
 use std::alloc::Global;
 use std::marker::Model;
 use std::sync::Wait;
-use vote_weights::BallotList;
+use vote_weights::{BallotList, NodeSet};
 
 /// A client's session: its record, its recorder and its link, and what it remembers between two calls.
 ///
@@ -99,8 +100,7 @@ impl<S: OwnRecord, R: Recorder, L: Link> Session<S, R, L> {
         requires ballots { (R.own_log recorder).ballots ≡ ballots }
         requires found { FindsPart (R.own_log recorder).opening (S.StableRecord.finds stable) }
         requires kept { KeepsAttempt (R.own_log recorder).opening }
-        ensures client { IfOk result (λ s. s.client ≡ client) }
-        ensures ballots { IfOk result (λ s. s.ballots ≡ ballots) }
+        ensures whose { IfOk result (IsSessionOf client ballots (R.own_log recorder).opening) }
         ensures rests { IfOk result IsResting }
         ensures silent { IfOk result (λ s. (sent_of s.log ≡ []) × (s.given ≡ L.given link)) }
         ensures visits { IfOk result (λ s. ((visits_of s.log).begins ≡ []) × ((visits_of s.log).entered ≡ []) × ((visits_of s.log).softened ≡ [])) }
@@ -235,6 +235,89 @@ impl<S: OwnRecord, R: Recorder, L: Link> Session<S, R, L> {
         self.say_leave(rt, alloc)
     }
 
+    /// Says the release of the last attempt to each of these nodes, until each has answered or is gone.
+    #[tactic(auto, using(crate::proofs::EndFacts::releasing_ends))]
+    fn say_release<W: Wait>(
+        &mut self,
+        rt: &W,
+        alloc: Global,
+        nodes: NodeSet,
+        nudges: u32,
+    ) -> Result<(), RunFault>
+        requires rests { IsResting self.old }
+        ensures releases { Releases self.old self.new }
+        ensures rests { OnOk result (IsResting self.new) }
+        ensures released { OnOk result (HasReleased self.new × (self.new.asked ≡ told_of self.old.core.attempt nodes)) }
+        ensures sent { OnOk result (SentFollows self.old.log self.new.log self.old.given self.new.given) }
+        ensures faulted { IfErr result (λ f. SentUnlessMemory f self.old.log self.new.log self.old.given self.new.given) }
+        ensures after { IfErr result (λ f. StandsAfter f self.new) }
+        ensures ended { IfErr result (λ f. EndsSettling f self.old self.new) }
+    {
+        let told = self.stable.release_at(
+            rt,
+            alloc,
+            nodes,
+            nudges,
+            &mut self.progress,
+            &mut self.recorder,
+            &mut self.link,
+        );
+        if let Err(fault) = told {
+            self.ended = over_by(fault);
+        }
+        told
+    }
+
+    /// Says the release of the client's last attempt to each of these nodes, until each has answered or is gone. First it
+    /// says what a dropped guard has left to say, as `settle` does. If the client has made no attempt it says nothing.
+    ///
+    /// A client that has restarted so releases the votes that it held before. It may also say a release again that a
+    /// node has not answered.
+    ///
+    /// # Errors
+    ///
+    /// The call had its last nudge (913), and then the session rests. The session was over by this fault, and nothing is
+    /// done. It ran out of memory (914), or the book is full or another's (915), and then it is over.
+    #[tactic(auto, using(crate::proofs::EndFacts::asked_at, crate::proofs::EndFacts::settling_then, crate::proofs::EndFacts::releases_then, crate::proofs::EndFacts::over_before, client_loop::proofs::SentFacts::unless_follows, actor_steps::proofs::SendingFacts::follows_on))]
+    pub fn release_at<W: Wait>(
+        &mut self,
+        rt: &W,
+        alloc: Global,
+        nodes: NodeSet,
+        nudges: u32,
+    ) -> Result<(), RunFault>
+        ensures releases { Releases self.old self.new }
+        ensures released { OnOk result (HasReleasedAt nodes self.old self.new) }
+        ensures sent { OnOk result (SentFollows self.old.log self.new.log self.old.given self.new.given) }
+        ensures faulted { IfErr result (λ f. SentUnlessMemory f self.old.log self.new.log self.old.given self.new.given) }
+        ensures after { IfErr result (λ f. StandsAfter f self.new) }
+        ensures ended { IfErr result (λ f. EndsSettling f self.old self.new) }
+    {
+        self.settle(rt, alloc)?;
+        self.say_release(rt, alloc, nodes, nudges)
+    }
+
+    /// The nodes to which something was sent in the present attempt, or whose release was asked for last.
+    pub fn asked(&self) -> NodeSet
+        ensures { result ≡ self.now.asked }
+    {
+        self.progress.asked()
+    }
+
+    /// Those of the nodes `asked` that have answered the release.
+    pub fn released(&self) -> NodeSet
+        ensures { result ≡ self.now.released }
+    {
+        self.progress.released()
+    }
+
+    /// Expects each node again: a node that was gone is asked again by the next call.
+    pub fn expect_all(&mut self)
+        ensures { self.new ≡ record self.old { gone = [] } }
+    {
+        self.progress.expect_all();
+    }
+
     /// Asks for a use and is inside; whether it is.
     #[tactic(auto, using(crate::proofs::EndFacts::entering_ends))]
     fn ask<W: Wait>(
@@ -339,6 +422,7 @@ impl<S: OwnRecord, R: Recorder, L: Link> Session<S, R, L> {
     /// ended, a restart finds in the record nothing but what the client has kept and what it tries to keep.
     pub fn into_parts(self) -> (S, R, L)
         ensures log { R.own_log result.1 ≡ self.log }
+        ensures whose { ((R.own_log result.1).actor ≡ Actor.Client self.client) × ((R.own_log result.1).ballots ≡ self.ballots) }
         ensures finds { S.StableRecord.finds result.0 ≡ self.finds }
         ensures own { FindsItsOwn (part_now (R.own_log result.1)) (S.StableRecord.finds result.0) }
         ensures stuck { S.StableRecord.stuck_of result.0 ≡ self.stuck }

@@ -3,3 +3,4 @@ pub mod SentFacts
 pub mod SwitchFacts
 mod EndFacts
 pub mod UnsentFacts
+pub mod OpeningFacts

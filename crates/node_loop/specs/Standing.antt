@@ -19,6 +19,10 @@ use Rattle.actor_steps.specs.Steps.{IsRiseFault}
 use Rattle.actor_steps.specs.declared.keeping.Keeping.{Keeping}
 use Rattle.actor_steps.specs.declared.keeping.Keeping.TheVariants as keeping
 
+-- the log as it was opened, without its events
+abbrev pub as_opened : OwnLog → OwnLog
+as_opened l = record l { events = [] }
+
 -- The node is up, with this kept and nothing tried, and about what its core is about; and its record
 -- finds just what it has kept.
 pub record StandsBy (s : State) (l : OwnLog) (core : Voter) (kept : NodeRecord) (strings : List (List ℕ)) (stuck : Bool) : Type 0 where

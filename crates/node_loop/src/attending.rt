@@ -11,7 +11,7 @@ ghost use Rattle.lossy_link.specs.declared.parcels.Post.{Post as PostValue};
 ghost use Rattle.lossy_link.specs.declared.parcels.Sending.{Sending as SendingValue};
 ghost use Rattle.node_loop.specs.Replies.{sent_of, SentFollows, IsSentIn};
 ghost use Rattle.node_loop.specs.Unsent.{HasSent, IsWhole, SentAsFar};
-ghost use Rattle.node_loop.specs.Standing.{StandsBy, StandsIdle, HasTaken, HasSwitched, HasKept, FailsToKeep, IsNodeFault};
+ghost use Rattle.node_loop.specs.Standing.{as_opened, StandsBy, StandsIdle, HasTaken, HasSwitched, HasKept, FailsToKeep, IsNodeFault};
 ghost use Rattle.actor_steps.specs.Steps.{IsBookFault};
 ghost use Rattle.actor_steps.specs.Endings.{falls_of, FailuresFollow, EndsFrom};
 ghost use Rattle.event_recorders.specs.OwnLogs.{FindsItsOwn, part_now};
@@ -32,7 +32,7 @@ use world_model::Event;
 
 /// Takes the message that came under this number, as the log has it, and returns whether it changes the node's record.
 /// `None`: the log knows no message of the number to the node.
-#[tactic(auto, using(crate::proofs::SentFacts::read_sends_nothing, actor_steps::proofs::FindingFacts::part_own, actor_steps::proofs::ReadingFacts::read_took))]
+#[tactic(auto, using(crate::proofs::OpeningFacts::read_opening, crate::proofs::SentFacts::read_sends_nothing, actor_steps::proofs::FindingFacts::part_own, actor_steps::proofs::ReadingFacts::read_took))]
 fn take<R: Recorder>(
     number: u32,
     message: &Message,
@@ -46,6 +46,7 @@ fn take<R: Recorder>(
     ensures taken { IfOk result (λ o. IfSome o (λ changed. HasTaken changed (R.own_log recorder.new) core.new (record_of core.old) (finds stable.now) (stuck_of stable.now))) }
     ensures silent { sent_of (R.own_log recorder.new) ≡ sent_of (R.own_log recorder.old) }
     ensures own { FindsItsOwn (part_now (R.own_log recorder.new)) (finds stable.now) }
+    ensures opened { as_opened (R.own_log recorder.new) ≡ as_opened (R.own_log recorder.old) }
     ensures faults { IfErr result IsBookFault }
     ensures falls { falls_of (R.own_log recorder.new) ≡ falls_of (R.own_log recorder.old) }
 {
@@ -73,7 +74,7 @@ fn problem_numbered(number: u8) -> Option<Problem>
 }
 
 /// Takes this problem from now on, and answers whether it is another one, which changes the node's record.
-#[tactic(auto, using(crate::proofs::SentFacts::switch_sends_nothing, actor_steps::proofs::FindingFacts::part_own))]
+#[tactic(auto, using(crate::proofs::OpeningFacts::added_opening, crate::proofs::SentFacts::switch_sends_nothing, actor_steps::proofs::FindingFacts::part_own))]
 fn switch<R: Recorder>(
     problem: Problem,
     core: &mut NodeCore,
@@ -84,6 +85,7 @@ fn switch<R: Recorder>(
     ensures switched { IfOk result (λ changed. HasSwitched problem changed (R.own_log recorder.old) (R.own_log recorder.new) core.new (record_of core.old) (finds stable.now) (stuck_of stable.now)) }
     ensures silent { sent_of (R.own_log recorder.new) ≡ sent_of (R.own_log recorder.old) }
     ensures own { FindsItsOwn (part_now (R.own_log recorder.new)) (finds stable.now) }
+    ensures opened { as_opened (R.own_log recorder.new) ≡ as_opened (R.own_log recorder.old) }
     ensures faults { IfErr result IsBookFault }
     ensures falls { falls_of (R.own_log recorder.new) ≡ falls_of (R.own_log recorder.old) }
 {
@@ -98,7 +100,7 @@ fn switch<R: Recorder>(
 
 /// Keeps what the node decided. Where the record's device fails, the node falls and rises again with
 /// what is found.
-#[tactic(auto, using(actor_steps::proofs::SendingFacts::keeping_sends_nothing, actor_steps::proofs::SendingFacts::trying_sends_nothing, actor_steps::proofs::EndFacts::failures_stay, actor_steps::proofs::EndFacts::failures_rise, actor_steps::proofs::EndFacts::failures_on, crate::proofs::UnsentFacts::none_left, crate::proofs::UnsentFacts::trying_leaves, crate::proofs::UnsentFacts::sent_before, actor_steps::proofs::FindingFacts::part_own, crate::proofs::KeepFacts::stands_own, crate::proofs::UnsentFacts::memory_whole, crate::proofs::UnsentFacts::silent_whole, crate::proofs::UnsentFacts::trying_whole, crate::proofs::UnsentFacts::whole_from))]
+#[tactic(auto, using(crate::proofs::OpeningFacts::kept_opening, crate::proofs::OpeningFacts::perhaps_opening, actor_steps::proofs::SendingFacts::keeping_sends_nothing, actor_steps::proofs::SendingFacts::trying_sends_nothing, actor_steps::proofs::EndFacts::failures_stay, actor_steps::proofs::EndFacts::failures_rise, actor_steps::proofs::EndFacts::failures_on, crate::proofs::UnsentFacts::none_left, crate::proofs::UnsentFacts::trying_leaves, crate::proofs::UnsentFacts::sent_before, actor_steps::proofs::FindingFacts::part_own, crate::proofs::KeepFacts::stands_own, crate::proofs::UnsentFacts::memory_whole, crate::proofs::UnsentFacts::silent_whole, crate::proofs::UnsentFacts::trying_whole, crate::proofs::UnsentFacts::whole_from))]
 fn keep<R: Recorder, G: Gate>(
     alloc: Global,
     core: &mut NodeCore,
@@ -112,6 +114,7 @@ fn keep<R: Recorder, G: Gate>(
     ensures whole { IfErr result (λ f. IsWhole f (R.own_log recorder.new) (sent_of (R.own_log recorder.old))) }
     ensures kept { IfOk result (λ keeping. HasKept keeping (R.own_log recorder.new) core.new (finds stable.new) (stuck_of stable.new)) }
     ensures own { FindsItsOwn (part_now (R.own_log recorder.new)) (finds stable.new) }
+    ensures opened { as_opened (R.own_log recorder.new) ≡ as_opened (R.own_log recorder.old) }
     ensures faults { IfErr result IsNodeFault }
     ensures ended { IfErr result (λ fault. EndsFrom fault (falls_of (R.own_log recorder.old)) (R.own_log recorder.new) (stuck_of stable.new) (spent_of stable.new) (failures_of stable.old) (failures_of stable.new)) }
     ensures falls { FailuresFollow (falls_of (R.own_log recorder.old)) (falls_of (R.own_log recorder.new)) (failures_of stable.old) (failures_of stable.new) }
@@ -136,7 +139,7 @@ fn keep<R: Recorder, G: Gate>(
 }
 
 /// The node falls, and rises again with what its record is found to be.
-#[tactic(auto, using(crate::proofs::UnsentFacts::failing_leaves, crate::proofs::UnsentFacts::rising_leaves, actor_steps::proofs::FindingFacts::part_own, crate::proofs::UnsentFacts::memory_whole, crate::proofs::UnsentFacts::failing_whole))]
+#[tactic(auto, using(crate::proofs::OpeningFacts::risen_opening, crate::proofs::OpeningFacts::perhaps_opening, crate::proofs::UnsentFacts::failing_leaves, crate::proofs::UnsentFacts::rising_leaves, actor_steps::proofs::FindingFacts::part_own, crate::proofs::UnsentFacts::memory_whole, crate::proofs::UnsentFacts::failing_whole))]
 fn restart<R: Recorder>(
     tried: &[u8],
     core: &mut NodeCore,
@@ -149,6 +152,7 @@ fn restart<R: Recorder>(
     ensures unsent { HasSent (R.own_log recorder.new) (sent_of (R.own_log recorder.old)) }
     ensures whole { IfErr result (λ f. IsWhole f (R.own_log recorder.new) (sent_of (R.own_log recorder.old))) }
     ensures own { FindsItsOwn (part_now (R.own_log recorder.new)) (finds stable.new) }
+    ensures opened { as_opened (R.own_log recorder.new) ≡ as_opened (R.own_log recorder.old) }
     ensures faults { IfErr result IsNodeFault }
     ensures ended { IfErr result (λ fault. EndsFrom fault (falls_of (R.own_log recorder.old) + 1) (R.own_log recorder.new) (stuck_of stable.new) (spent_of stable.new) (failures_of stable.old) (failures_of stable.new)) }
     ensures falls { FailuresFollow (falls_of (R.own_log recorder.old) + 1) (falls_of (R.own_log recorder.new)) (failures_of stable.old) (failures_of stable.new) }
@@ -163,7 +167,7 @@ fn restart<R: Recorder>(
 }
 
 /// Says the node's replies, and sends them.
-#[tactic(auto, using(crate::proofs::SentFacts::say_is_told, crate::proofs::UnsentFacts::nothing_given, crate::proofs::UnsentFacts::none_left, actor_steps::proofs::FindingFacts::part_own, crate::proofs::UnsentFacts::silent_whole))]
+#[tactic(auto, using(crate::proofs::OpeningFacts::added_opening, crate::proofs::SentFacts::say_is_told, crate::proofs::UnsentFacts::nothing_given, crate::proofs::UnsentFacts::none_left, actor_steps::proofs::FindingFacts::part_own, crate::proofs::UnsentFacts::silent_whole))]
 fn say<R: Recorder, L: Link>(
     alloc: Global,
     core: &mut NodeCore,
@@ -176,6 +180,7 @@ fn say<R: Recorder, L: Link>(
     ensures sent { OnOk result (SentFollows (R.own_log recorder.old) (R.own_log recorder.new) (L.given link.old) (L.given link.new)) }
     ensures faulted { IfErr result (λ f. SentAsFar f (R.own_log recorder.old) (R.own_log recorder.new) (L.given link.old) (L.given link.new)) }
     ensures own { FindsItsOwn (part_now (R.own_log recorder.new)) (finds stable.now) }
+    ensures opened { as_opened (R.own_log recorder.new) ≡ as_opened (R.own_log recorder.old) }
     ensures faults { IfErr result IsBookFault }
     ensures falls { falls_of (R.own_log recorder.new) ≡ falls_of (R.own_log recorder.old) }
 {
@@ -212,6 +217,7 @@ fn finish<R: Recorder, L: Link, G: Gate>(
     ensures sent { OnOk result (SentFollows (R.own_log recorder.old) (R.own_log recorder.new) (L.given link.old) (L.given link.new)) }
     ensures faulted { IfErr result (λ f. SentAsFar f (R.own_log recorder.old) (R.own_log recorder.new) (L.given link.old) (L.given link.new)) }
     ensures own { FindsItsOwn (part_now (R.own_log recorder.new)) (finds stable.new) }
+    ensures opened { as_opened (R.own_log recorder.new) ≡ as_opened (R.own_log recorder.old) }
     ensures faults { IfErr result IsNodeFault }
     ensures ended { IfErr result (λ fault. EndsFrom fault (falls_of (R.own_log recorder.old)) (R.own_log recorder.new) (stuck_of stable.new) (spent_of stable.new) (failures_of stable.old) (failures_of stable.new)) }
     ensures falls { FailuresFollow (falls_of (R.own_log recorder.old)) (falls_of (R.own_log recorder.new)) (failures_of stable.old) (failures_of stable.new) }
@@ -243,6 +249,7 @@ fn take_turn<R: Recorder, L: Link, G: Gate>(
     ensures sent { OnOk result (SentFollows (R.own_log recorder.old) (R.own_log recorder.new) (L.given link.old) (L.given link.new)) }
     ensures faulted { IfErr result (λ f. SentAsFar f (R.own_log recorder.old) (R.own_log recorder.new) (L.given link.old) (L.given link.new)) }
     ensures own { FindsItsOwn (part_now (R.own_log recorder.new)) (finds stable.new) }
+    ensures opened { as_opened (R.own_log recorder.new) ≡ as_opened (R.own_log recorder.old) }
     ensures faults { IfErr result IsNodeFault }
     ensures ended { IfErr result (λ fault. EndsFrom fault (falls_of (R.own_log recorder.old)) (R.own_log recorder.new) (stuck_of stable.new) (spent_of stable.new) (failures_of stable.old) (failures_of stable.new)) }
     ensures falls { FailuresFollow (falls_of (R.own_log recorder.old)) (falls_of (R.own_log recorder.new)) (failures_of stable.old) (failures_of stable.new) }
@@ -271,6 +278,7 @@ fn switch_turn<R: Recorder, L: Link, G: Gate>(
     ensures sent { OnOk result (SentFollows (R.own_log recorder.old) (R.own_log recorder.new) (L.given link.old) (L.given link.new)) }
     ensures faulted { IfErr result (λ f. SentAsFar f (R.own_log recorder.old) (R.own_log recorder.new) (L.given link.old) (L.given link.new)) }
     ensures own { FindsItsOwn (part_now (R.own_log recorder.new)) (finds stable.new) }
+    ensures opened { as_opened (R.own_log recorder.new) ≡ as_opened (R.own_log recorder.old) }
     ensures faults { IfErr result IsNodeFault }
     ensures ended { IfErr result (λ fault. EndsFrom fault (falls_of (R.own_log recorder.old)) (R.own_log recorder.new) (stuck_of stable.new) (spent_of stable.new) (failures_of stable.old) (failures_of stable.new)) }
     ensures falls { FailuresFollow (falls_of (R.own_log recorder.old)) (falls_of (R.own_log recorder.new)) (failures_of stable.old) (failures_of stable.new) }
@@ -298,6 +306,7 @@ fn parcel_turn<R: Recorder, L: Link, G: Gate>(
     ensures sent { OnOk result (SentFollows (R.own_log recorder.old) (R.own_log recorder.new) (L.given link.old) (L.given link.new)) }
     ensures faulted { IfErr result (λ f. SentAsFar f (R.own_log recorder.old) (R.own_log recorder.new) (L.given link.old) (L.given link.new)) }
     ensures own { FindsItsOwn (part_now (R.own_log recorder.new)) (finds stable.new) }
+    ensures opened { as_opened (R.own_log recorder.new) ≡ as_opened (R.own_log recorder.old) }
     ensures faults { IfErr result IsNodeFault }
     ensures ended { IfErr result (λ fault. EndsFrom fault (falls_of (R.own_log recorder.old)) (R.own_log recorder.new) (stuck_of stable.new) (spent_of stable.new) (failures_of stable.old) (failures_of stable.new)) }
     ensures falls { FailuresFollow (falls_of (R.own_log recorder.old)) (falls_of (R.own_log recorder.new)) (failures_of stable.old) (failures_of stable.new) }
@@ -336,6 +345,7 @@ pub(crate) fn attend<R: Recorder, L: Link, G: Gate>(
     ensures sent { OnOk result (SentFollows (R.own_log recorder.old) (R.own_log recorder.new) (L.given link.old) (L.given link.new)) }
     ensures faulted { IfErr result (λ f. SentAsFar f (R.own_log recorder.old) (R.own_log recorder.new) (L.given link.old) (L.given link.new)) }
     ensures own { FindsItsOwn (part_now (R.own_log recorder.new)) (finds stable.new) }
+    ensures opened { as_opened (R.own_log recorder.new) ≡ as_opened (R.own_log recorder.old) }
     ensures faults { IfErr result IsNodeFault }
     ensures ended { IfErr result (λ fault. EndsFrom fault (falls_of (R.own_log recorder.old)) (R.own_log recorder.new) (stuck_of stable.new) (spent_of stable.new) (failures_of stable.old) (failures_of stable.new)) }
     ensures falls { FailuresFollow (falls_of (R.own_log recorder.old)) (falls_of (R.own_log recorder.new)) (failures_of stable.old) (failures_of stable.new) }

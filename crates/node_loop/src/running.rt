@@ -7,7 +7,7 @@ ghost use Rattle.lossy_link.specs.Links.{all_more};
 ghost use Rattle.node_loop.specs.Endings.{EndsSomehow};
 ghost use Rattle.node_loop.specs.Replies.{sent_of, SentFollows};
 ghost use Rattle.node_loop.specs.Unsent.{SentAsFar, ToldAsFar, TellsGone, HasGone};
-ghost use Rattle.node_loop.specs.Standing.{StandsIdle, IsReady, IsIdleNode, IsAtEnd, IsNodeFault};
+ghost use Rattle.node_loop.specs.Standing.{as_opened, StandsIdle, IsReady, IsIdleNode, IsAtEnd, IsNodeFault};
 ghost use Rattle.actor_steps.specs.Steps.{HasFailed};
 ghost use Rattle.actor_steps.specs.Endings.{falls_of, FailuresFollow, EndsFrom, EndsBy};
 
@@ -24,7 +24,7 @@ use std::sync::Wait;
 use voter_core::{NodeCore, VoterFault};
 
 /// The node rises with what its record is found to be.
-#[tactic(auto, using(actor_steps::proofs::SendingFacts::first_rise_sends_nothing, actor_steps::proofs::SendingFacts::unused_sends_nothing))]
+#[tactic(auto, using(crate::proofs::OpeningFacts::added_opening, actor_steps::proofs::SendingFacts::first_rise_sends_nothing, actor_steps::proofs::SendingFacts::unused_sends_nothing))]
 fn rise<R: Recorder>(
     alloc: Global,
     node: NodeId,
@@ -36,6 +36,7 @@ fn rise<R: Recorder>(
     ensures idle { IfOk result (λ core. StandsIdle (R.own_log recorder.new) core (finds stable.new) (stuck_of stable.new)) }
     ensures silent { sent_of (R.own_log recorder.new) ≡ [] }
     ensures own { FindsItsOwn (part_now (R.own_log recorder.new)) (finds stable.new) }
+    ensures opened { as_opened (R.own_log recorder.new) ≡ as_opened (R.own_log recorder.old) }
     ensures faults { IfErr result IsNodeFault }
     ensures ended { IfErr result (λ fault. EndsFrom fault (falls_of (R.own_log recorder.old)) (R.own_log recorder.new) (stuck_of stable.new) (spent_of stable.new) (failures_of stable.old) (failures_of stable.new)) }
     ensures falls { FailuresFollow (falls_of (R.own_log recorder.old)) (falls_of (R.own_log recorder.new)) (failures_of stable.old) (failures_of stable.new) }
@@ -66,6 +67,7 @@ fn serve<W: Wait, R: Recorder, L: Link, G: Gate>(
     ensures faulted { IfErr result (λ f. SentAsFar f (R.own_log recorder.old) (R.own_log recorder.new) (L.given link.old) (L.given link.new)) }
     ensures closed { OnOk result (IsAtEnd (L.coming link.new)) }
     ensures own { FindsItsOwn (part_now (R.own_log recorder.new)) (finds stable.new) }
+    ensures opened { as_opened (R.own_log recorder.new) ≡ as_opened (R.own_log recorder.old) }
     ensures faults { IfErr result IsNodeFault }
     ensures ended { IfErr result (λ fault. EndsFrom fault (falls_of (R.own_log recorder.old)) (R.own_log recorder.new) (stuck_of stable.new) (spent_of stable.new) (failures_of stable.old) (failures_of stable.new)) }
     ensures falls { FailuresFollow (falls_of (R.own_log recorder.old)) (falls_of (R.own_log recorder.new)) (failures_of stable.old) (failures_of stable.new) }
@@ -97,6 +99,7 @@ fn live<W: Wait, R: Recorder, L: Link, G: Gate>(
     ensures faulted { IfErr result (λ f. ToldAsFar f (R.own_log recorder.new) (L.given link.old) (L.given link.new)) }
     ensures closed { OnOk result (IsAtEnd (L.coming link.new)) }
     ensures own { FindsItsOwn (part_now (R.own_log recorder.new)) (finds stable.new) }
+    ensures opened { as_opened (R.own_log recorder.new) ≡ as_opened (R.own_log recorder.old) }
     ensures faults { IfErr result IsNodeFault }
     ensures ended { IfErr result (λ fault. EndsBy fault (R.own_log recorder.new) (stuck_of stable.new) (spent_of stable.new) (failures_of stable.old) (failures_of stable.new)) }
     ensures falls { HasFailed (falls_of (R.own_log recorder.new)) (failures_of stable.old) (failures_of stable.new) }
@@ -143,6 +146,7 @@ pub fn run_node_over<W: Wait, R: Recorder, L: Link, G: Gate>(
     ensures falls { HasFailed (falls_of (R.own_log recorder.new)) (failures_of stable.old) (failures_of stable.new) }
     // However it ends, a restart finds in its record nothing but what it has kept and what it tries to keep.
     ensures own { FindsItsOwn (part_now (R.own_log recorder.new)) (finds stable.new) }
+    ensures opened { as_opened (R.own_log recorder.new) ≡ as_opened (R.own_log recorder.old) }
     // 911, 914, 915 or 916,
     ensures faults { IfErr result IsNodeFault }
     // each only where its log and its record tell the cause.
