@@ -33,8 +33,8 @@ pub record Inflow : Type 0 where
 abbrev pub drops : Inflow → Inflow
 drops i = record { block = i.block; own = i.own; dropped = min (i.dropped + 1) (2 ^ 64 - 1) }
 
--- a line that brings no frame is dropped
-abbrev pub counted : {E : Type 0} → Inflow → Result (Option (List ℕ)) E → Inflow
+-- a line that brings nothing is dropped
+abbrev pub counted : {A E : Type 0} → Inflow → Result (Option A) E → Inflow
 counted i (Ok None) = drops i
-counted i (Ok (Some frame)) = i
+counted i (Ok (Some x)) = i
 counted i (Err e) = i

@@ -43,6 +43,20 @@ impl Inlet {
         }
     }
 
+    /// The secret under which it takes frames.
+    pub fn secret(&self) -> &Secret
+        ensures { result.now ≡ self.now.block }
+    {
+        &self.secret
+    }
+
+    /// The actor whose frames it takes.
+    pub fn own(&self) -> Actor
+        ensures { result ≡ self.now.own }
+    {
+        self.own
+    }
+
     /// How many lines were dropped, up to 2 ^ 64 - 1.
     pub fn dropped(&self) -> u64
         ensures { result ≡ self.now.dropped }

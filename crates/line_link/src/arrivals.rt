@@ -1,57 +1,165 @@
-// What comes for an actor over lines.
+// What comes for an actor over lines, and what its link does while nothing comes.
 
-use crate::pauses::{Pauses, Waiting};
-use frame_lines::Inlet;
-use lock_messages::NodeId;
-use lossy_link::{Parcel, Post};
-use std::sync::Wait;
+use crate::backlogs::Backlog;
+use crate::limits::Limit;
+use crate::pauses::Pauses;
+use crate::posts::post_in;
+use crate::timers::{Idle, Timers};
+use frame_lines::{Inlet, Secret};
+use lock_messages::{Actor, decode};
+use lossy_link::Post;
+use std::alloc::Global;
 use std::thread;
-use std::time::Clock;
+use std::time::{Clock, Duration};
 
-/// The lines that come for an actor, and the nudges that come while none does.
+/// The lines that come for an actor, and the times of its waits.
 #[derive(Drop)]
 pub(crate) struct Arrivals {
-    pub(crate) inlet: Inlet,
+    alloc: Global,
+    inlet: Inlet,
     pub(crate) line: Vec<u8>,
-    pub(crate) pauses: Pauses,
-    pub(crate) waiting: Waiting,
-    pub(crate) nodes: u8,
-    pub(crate) nudged: u8,
+    pauses: Pauses,
+    // The next sleep.
+    sleep: Duration,
+    // What waits for its turn. It is used for a node alone.
+    backlog: Backlog,
+    // None for a node.
+    timers: Option<Timers>,
+    limit: Option<Limit>,
 }
 
 impl Arrivals {
+    /// Nothing has come for this actor.
+    pub(crate) fn new(
+        alloc: Global,
+        own: Actor,
+        secret: Secret,
+        pauses: Pauses,
+        limit: Option<Limit>,
+    ) -> Arrivals {
+        Arrivals {
+            alloc,
+            inlet: Inlet::of(alloc, secret, own),
+            line: Vec::new(alloc),
+            pauses,
+            sleep: pauses.first(),
+            backlog: Backlog::new(alloc),
+            timers: match own {
+                Actor::Node(_) => None,
+                Actor::Client(_) => Some(Timers::new(pauses)),
+            },
+            limit,
+        }
+    }
+
+    /// How many lines were dropped.
+    pub(crate) fn dropped(&self) -> u64 {
+        self.inlet.dropped()
+    }
+
     /// A wait begins.
     pub(crate) fn begin(&mut self) {
-        self.waiting = Waiting::begun(&self.pauses);
+        self.sleep = self.pauses.first();
+        if let (Some(timers), Some(limit)) = (&mut self.timers, &self.limit) {
+            timers.begin(limit.times());
+        }
+    }
+
+    /// Something was sent to an actor.
+    pub(crate) fn sent<R: Clock>(&mut self, rt: &R, to: &Actor) {
+        if let Actor::Node(node) = *to
+            && let Some(timers) = &mut self.timers
+        {
+            timers.sent(rt, node);
+        }
     }
 
     /// The post of the line that came, if it is one for this actor. If memory runs out, the line is lost.
-    pub(crate) fn post(&mut self) -> Option<Post> {
-        match self.inlet.accept(self.line.as_slice()) {
-            Ok(Some(frame)) => Some(Post::Parcel(Parcel { number: 1, frame })),
-            Ok(None) | Err(_) => None,
+    fn post_of_line(&mut self) -> Option<Post> {
+        match post_in(self.alloc, &mut self.inlet, self.line.as_slice()) {
+            Ok(found) => found,
+            Err(_) => None,
         }
     }
 
-    /// The nudge of the next node in turn, if there is a node.
-    fn nudge(&mut self) -> Option<Post> {
-        self.nudged = if self.nudged < self.nodes {
-            self.nudged + 1
+    /// What the line that came brings now. A client takes its post at once. A node lets it wait for its turn, so that it also
+    /// sees what has come after it.
+    pub(crate) fn post<R: Clock>(&mut self, rt: &R) -> Option<Post> {
+        let found = self.post_of_line();
+        if self.timers.is_some() {
+            if let Some(post) = &found {
+                self.note(rt, post);
+            }
+            return found;
+        }
+        self.backlog.look();
+        if let Some(post) = found {
+            self.backlog.add(post);
+        }
+        if self.backlog.is_full() {
+            self.backlog.next()
         } else {
-            1
-        };
-        if self.nodes == 0 {
-            return None;
+            None
         }
-        Some(Post::Nudge(NodeId::of(self.nudged)?))
     }
 
-    /// Sleeps, and brings a nudge if it has waited long enough.
-    pub(crate) fn wait<R: Wait + Clock>(&mut self, rt: &R) -> Option<Post> {
-        thread::sleep(rt, self.waiting.next_sleep(&self.pauses));
-        if self.waiting.is_over(&self.pauses) {
-            return self.nudge();
+    /// The next post that waits for its turn, if one does.
+    pub(crate) fn waiting(&mut self) -> Option<Post> {
+        self.backlog.next()
+    }
+
+    /// Notes that a node has answered, if the post is a message.
+    fn note<R: Clock>(&mut self, rt: &R, post: &Post) {
+        if let Post::Parcel(parcel) = post
+            && let Some(timers) = &mut self.timers
+            && let Ok(message) = decode(parcel.frame.as_slice())
+        {
+            timers.heard(message.node());
+            if let Some(limit) = &self.limit {
+                limit.note_answer(rt, message.node());
+            }
         }
-        None
+    }
+
+    /// How long it is until something is to be done, if it is known.
+    fn left<R: Clock>(&self, rt: &R) -> Duration {
+        let left = match &self.timers {
+            Some(timers) => Duration::from_micros(timers.left()),
+            None => Duration::MAX,
+        };
+        match &self.limit {
+            Some(limit) => limit.left(rt).unwrap_or(Duration::MAX).min(left),
+            None => left,
+        }
+    }
+
+    /// Sleeps for longer than last time, but only until something is to be done.
+    pub(crate) fn pause<R: Clock>(&mut self, rt: &R) {
+        thread::sleep(rt, self.left(rt).min(self.sleep));
+        self.sleep = self.pauses.after(self.sleep);
+    }
+
+    /// Whether the client is to stop waiting.
+    fn is_over<R: Clock>(&self, rt: &R) -> bool {
+        match &self.limit {
+            Some(limit) => limit.is_over(rt),
+            None => false,
+        }
+    }
+
+    /// What to do while nothing comes. At the limit it sleeps shortly, and brings a nudge.
+    pub(crate) fn idle<R: Clock>(&mut self, rt: &R) -> Idle {
+        let is_over = self.is_over(rt);
+        let Some(timers) = &mut self.timers else {
+            return Idle::Sleep;
+        };
+        if !is_over {
+            return timers.due(rt);
+        }
+        thread::sleep(rt, self.pauses.first());
+        match timers.next_nudged() {
+            Some(node) => Idle::Bring(Post::Nudge(node)),
+            None => Idle::Sleep,
+        }
     }
 }

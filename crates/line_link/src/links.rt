@@ -1,15 +1,18 @@
 // A link over lines.
 
-ghost use Rattle.std.specs.Prelude.{◌≡◌, Some, None, [], false, OnOk, OnErr, IsOkUnless};
+ghost use Rattle.std.specs.Prelude.{◌≡◌, Some, None, [], false, IfOk, OnErr, IsOkUnless};
 ghost use Rattle.lossy_link.specs.Links.{one_more};
-ghost use Rattle.line_link.specs.Carried.{IsCarried, line_for};
+ghost use Rattle.line_link.specs.Carried.{IsCarried, Repeats, line_for};
 
 use crate::arrivals::Arrivals;
 use crate::carriers::{Carrier, Taken};
-use crate::pauses::{Pauses, Waiting};
+use crate::letters::{Letter, Letters};
+use crate::limits::Limit;
+use crate::pauses::Pauses;
+use crate::timers::Idle;
 use event_lists::EventList;
-use frame_lines::{Inlet, Secret, write_frame};
-use lock_messages::Actor;
+use frame_lines::{Secret, write_frame};
+use lock_messages::{Actor, NodeId};
 use lossy_link::{Link, LinkFault, Parcel, Post, Sending};
 use std::alloc::Global;
 use std::marker::Model;
@@ -26,6 +29,7 @@ pub struct LineLink<R: Wait + Clock + Copy, C: Carrier + Drop> {
     alloc: Global,
     carrier: C,
     secret: Secret,
+    letters: Letters,
     arrivals: Arrivals,
     own: Actor,
     opened: EventList<C, Actor>,
@@ -34,24 +38,26 @@ pub struct LineLink<R: Wait + Clock + Copy, C: Carrier + Drop> {
 }
 
 impl<R: Wait + Clock + Copy, C: Carrier + Drop> Model for LineLink<R, C> {
-    ghost use Rattle.line_link.specs.Carried.{IsCarried, LinedLink, lined_of};
+    ghost use Rattle.line_link.specs.Carried.{IsCarried, LinedLink, AreAmong, lined_of, lines_given, sendings};
 
     ghost Value = { LinedLink };
 
     ghost view = { λ l. lined_of C.given l.carrier l.secret l.opened.items l.made.items l.is_refused };
 
-    ghost invariant = { λ l. IsCarried (lined_of C.given l.carrier l.secret l.opened.items l.made.items l.is_refused) };
+    ghost invariant = { λ l. IsCarried (lined_of C.given l.carrier l.secret l.opened.items l.made.items l.is_refused) × AreAmong l.letters (lines_given l.secret (sendings l.made.items)) };
 }
 
-/// Gives the carrier the line of a frame. The only fault is running out of memory (903). Then nothing is given.
+/// Gives the carrier the line of a frame, and returns it. The only fault is running out of memory (903). Then nothing is
+/// given.
 fn put_frame<C: Carrier>(
     alloc: Global,
     carrier: &mut C,
     secret: &Secret,
     to: &Actor,
     frame: &[u8],
-) -> Result<(), LinkFault>
-    ensures given { OnOk result (C.given carrier.new ≡ one_more (C.given carrier.old) (line_for secret.now to.now frame.now)) }
+) -> Result<Letter, LinkFault>
+    ensures given { IfOk result (λ letter. C.given carrier.new ≡ one_more (C.given carrier.old) letter) }
+    ensures line { IfOk result (λ letter. letter ≡ line_for secret.now to.now frame.now) }
     ensures none { OnErr result (C.given carrier.new ≡ C.given carrier.old) }
     ensures memory { IsOkUnless result LinkFault.Memory }
 {
@@ -59,24 +65,62 @@ fn put_frame<C: Carrier>(
         return Err(LinkFault::Memory);
     };
     carrier.put(*to, line.as_bytes());
-    Ok(())
+    Ok(Letter { to: *to, line })
 }
 
-/// Waits for a line of a frame for the actor, or for a nudge.
+/// Puts the line to a node again that was put to it last, if it is kept.
+fn put_again<C: Carrier>(carrier: &mut C, letters: &Letters, node: NodeId)
+    ensures { Repeats letters.now (C.given carrier.old) (C.given carrier.new) }
+{
+    let Some(letter) = letters.to(node) else {
+        return;
+    };
+    carrier.put(letter.to, letter.line.as_bytes());
+}
+
+/// Does what is to be done while nothing comes: it brings a post that waits for its turn, or one of its own, puts a line
+/// again, or sleeps.
+fn idle<R: Wait + Clock, C: Carrier>(
+    rt: &R,
+    carrier: &mut C,
+    letters: &Letters,
+    arrivals: &mut Arrivals,
+) -> Option<Post>
+    ensures { Repeats letters.now (C.given carrier.old) (C.given carrier.new) }
+{
+    if let Some(post) = arrivals.waiting() {
+        return Some(post);
+    }
+    match arrivals.idle(rt) {
+        Idle::Bring(post) => Some(post),
+        Idle::Again(node) => {
+            put_again(carrier, letters, node);
+            None
+        }
+        Idle::Sleep => {
+            arrivals.pause(rt);
+            None
+        }
+    }
+}
+
+/// Waits for a line of a frame for the actor, or for what the link brings by itself.
+#[tactic(auto, using(crate::proofs::CarriedFacts::repeats_on, crate::specs::Carried::none))]
 fn next_post<R: Wait + Clock, C: Carrier>(
     rt: &R,
     carrier: &mut C,
+    letters: &Letters,
     arrivals: &mut Arrivals,
 ) -> Result<Post, LinkFault>
-    ensures given { C.given carrier.new ≡ C.given carrier.old }
+    ensures given { Repeats letters.now (C.given carrier.old) (C.given carrier.new) }
     ensures closed { IsOkUnless result LinkFault.Closed }
 {
     arrivals.begin();
     for _ in rt.forever() {
         let found = match carrier.take(&mut arrivals.line) {
-            Taken::Closed => return Err(LinkFault::Closed),
-            Taken::Line => arrivals.post(),
-            Taken::Nothing => arrivals.wait(rt),
+            Taken::Closed => return arrivals.waiting().ok_or(LinkFault::Closed),
+            Taken::Line => arrivals.post(rt),
+            Taken::Nothing => idle(rt, carrier, letters, arrivals),
         };
         if let Some(post) = found {
             return Ok(post);
@@ -86,8 +130,10 @@ fn next_post<R: Wait + Clock, C: Carrier>(
 }
 
 impl<R: Wait + Clock + Copy, C: Carrier + Drop> LineLink<R, C> {
-    /// The link of this actor under a secret, which is given twice: for what is sent and for what comes. It brings
-    /// nudges of so many nodes in turn. A node's own link has none.
+    /// The link of this actor under a secret, which is given twice: for what is sent and for what comes.
+    ///
+    /// The link of a client puts lines again that are not answered, and brings that a node is silent. When the limit is
+    /// over it brings nudges. A node's link does none of this, and needs no limit.
     pub fn over(
         rt: R,
         alloc: Global,
@@ -95,26 +141,19 @@ impl<R: Wait + Clock + Copy, C: Carrier + Drop> LineLink<R, C> {
         secrets: (Secret, Secret),
         carrier: C,
         pauses: Pauses,
-        nodes: u8,
+        limit: Option<Limit>,
     ) -> LineLink<R, C>
         ensures { result ≡ record { block = secrets.0; before = C.given carrier; now = C.given carrier; given = []; refused = false } }
     {
         let (secret, incoming) = secrets;
         let opened = EventList::new().and(&carrier, &own);
-        let arrivals = Arrivals {
-            inlet: Inlet::of(alloc, incoming, own),
-            line: Vec::new(alloc),
-            pauses,
-            waiting: Waiting::begun(&pauses),
-            nodes,
-            nudged: 0,
-        };
         LineLink {
             rt,
             alloc,
             carrier,
             secret,
-            arrivals,
+            letters: Letters::new(alloc),
+            arrivals: Arrivals::new(alloc, own, incoming, pauses, limit),
             own,
             opened,
             made: EventList::new(),
@@ -124,10 +163,11 @@ impl<R: Wait + Clock + Copy, C: Carrier + Drop> LineLink<R, C> {
 
     /// How many lines that came were dropped.
     pub fn dropped(&self) -> u64 {
-        self.arrivals.inlet.dropped()
+        self.arrivals.dropped()
     }
 
-    /// Shows that the carrier was given the lines of what was given to the link, and no others. It computes nothing.
+    /// Shows that the carrier was given the lines of what was given to the link, in order, and otherwise only lines that
+    /// it was already given. It computes nothing.
     pub fn tell(&self)
         ensures { IsCarried self.now }
     {
@@ -151,14 +191,17 @@ impl<R: Wait + Clock + Copy, C: Carrier + Drop> Link for LineLink<R, C> {
             &to,
             parcel.frame.as_slice(),
         ) {
-            Ok(()) => {}
+            Ok(letter) => {
+                let sending = Sending::Sent(to, parcel);
+                self.made = self.made.and(&sending, &self.own);
+                self.letters.keep(letter);
+            }
             Err(_) => {
                 self.is_refused = true;
                 return Err(LinkFault::Memory);
             }
         }
-        let sending = Sending::Sent(to, parcel);
-        self.made = self.made.and(&sending, &self.own);
+        self.arrivals.sent(&self.rt, &to);
         Ok(())
     }
 
@@ -172,6 +215,6 @@ impl<R: Wait + Clock + Copy, C: Carrier + Drop> Link for LineLink<R, C> {
     /// Waits for a line of a frame for this actor. The number of its parcel means nothing.
     fn receive(&mut self) -> Result<Post, LinkFault> {
         let rt = self.rt;
-        next_post(&rt, &mut self.carrier, &mut self.arrivals)
+        next_post(&rt, &mut self.carrier, &self.letters, &mut self.arrivals)
     }
 }

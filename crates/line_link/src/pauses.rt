@@ -2,49 +2,64 @@
 
 use std::time::Duration;
 
-/// How long a link sleeps while nothing comes, in microseconds.
+/// How long a link waits for what, in microseconds.
 ///
-/// It sleeps for the least pause first, each time twice as long, and never longer than the longest. After the patience it
-/// brings a nudge.
+/// While nothing comes it sleeps for the least pause first, and each time longer by a 32nd. So a sleep is about a 32nd of
+/// the time since something came, but no longer than the longest. The other times are for a client's link alone.
 #[derive(Clone, Copy, Debug, PartialEq, Eq)]
 pub struct Pauses {
-    /// The first pause.
+    /// The first sleep.
     pub least: u32,
-    /// The longest pause.
+    /// The longest sleep.
     pub most: u32,
-    /// How long it waits before it brings a nudge.
-    pub patience: u32,
+    /// How long it waits before it puts a line again that was not answered. It waits twice as long each time, and at most
+    /// as long as `repeat`.
+    pub again: u32,
+    /// How long a node may be silent before it counts as gone.
+    pub silence: u32,
+    /// How long it waits before it puts a line again if every node has answered.
+    pub repeat: u32,
 }
 
-/// A wait until now.
-#[derive(Clone, Copy, Debug, PartialEq, Eq)]
-pub(crate) struct Waiting {
-    pause: u32,
-    waited: u32,
-}
-
-impl Waiting {
-    pub(crate) fn begun(pauses: &Pauses) -> Waiting {
-        Waiting {
-            pause: pauses.least,
-            waited: 0,
+impl Pauses {
+    /// The pauses of a client, which waits for answers.
+    pub fn of_client() -> Pauses {
+        Pauses {
+            least: 50,
+            most: 10_000,
+            again: 20_000,
+            silence: 500_000,
+            repeat: 1_000_000,
         }
     }
 
-    /// How long the next sleep is. The one after it is longer.
-    pub(crate) fn next_sleep(&mut self, pauses: &Pauses) -> Duration {
-        let pause = self.pause.min(pauses.most);
-        self.waited = self.waited.saturating_add(pause);
-        self.pause = pause.saturating_mul(2);
-        Duration::from_micros(u64::from(pause))
+    /// The pauses of a node, which rests.
+    pub fn of_node() -> Pauses {
+        Pauses {
+            least: 50,
+            most: 20_000,
+            again: 20_000,
+            silence: 500_000,
+            repeat: 1_000_000,
+        }
     }
 
-    /// Whether the patience is at its end. Then it begins anew.
-    pub(crate) fn is_over(&mut self, pauses: &Pauses) -> bool {
-        if self.waited < pauses.patience {
-            return false;
-        }
-        self.waited = 0;
-        true
+    /// The same, but a node may be silent for so many times as long.
+    pub(crate) fn patient(&self, times: u32) -> Pauses {
+        let mut pauses = *self;
+        pauses.silence = self.silence.saturating_mul(times);
+        pauses
+    }
+
+    /// The first sleep.
+    pub(crate) fn first(&self) -> Duration {
+        Duration::from_micros(u64::from(self.least))
+    }
+
+    /// The sleep after this one.
+    pub(crate) fn after(&self, sleep: Duration) -> Duration {
+        sleep
+            .saturating_add(sleep / 32)
+            .min(Duration::from_micros(u64::from(self.most)))
     }
 }

@@ -1,4 +1,4 @@
-//! Tests of the lines by which frames travel, by their public calls alone.
+//! Tests of the lines by which frames and switches travel, by their public calls alone.
 //!
 //! They compare digests and lines with those that other programs compute. They show that lines are dropped that are
 //! torn, damaged, for another actor, of another service or forged. Each file is named for what it shows.
@@ -10,3 +10,5 @@ mod digests;
 mod dropped_lines;
 #[cfg(test)]
 mod frames;
+#[cfg(test)]
+mod switches;

@@ -1,51 +1,59 @@
 //! Links of a node and a client over one directory.
 
+use crate::desks::parcel;
 use crate::places::{after, append, client, line_for_node, made, no_file, node, secret};
-use bytes::Bytes;
+use crate::repeats::loses;
 use frame_lines::Secret;
-use line_link::{Carrier, Folder, LineLink, Pauses};
+use line_link::{Carrier, Folder, Limit, LineLink, Pauses};
 use lock_messages::{Actor, NodeId};
-use lossy_link::{Link, Parcel, Post};
+use lossy_link::{Link, Post};
 use std::alloc::Global;
 use std::sync::Wait;
 use std::time::Clock;
 use test_outcomes::{Failure, Outcome, check_row, node_id};
 
-/// Short pauses, for tests.
-const SHORT: Pauses = Pauses {
+/// Short sleeps, and no line is put again while a test runs.
+const PATIENT: Pauses = Pauses {
     least: 10,
     most: 100,
-    patience: 300,
+    again: 600_000_000,
+    silence: 600_000_000,
+    repeat: 600_000_000,
 };
 
-/// A parcel with this frame.
-fn parcel(alloc: Global, frame: &[u8]) -> Result<Parcel, Failure> {
-    Ok(Parcel {
-        number: 7,
-        frame: Bytes::copy_from_slice(alloc, frame)?,
-    })
-}
+/// Little patience.
+const HASTY: Pauses = Pauses {
+    least: 10,
+    most: 100,
+    again: 300,
+    silence: 1_000,
+    repeat: 1_000,
+};
 
 /// The actor's inbox in the directory.
-fn inbox(host: HostRuntime, path: &str, own: Actor) -> Result<Folder<HostRuntime>, Failure> {
+pub(crate) fn inbox(
+    host: HostRuntime,
+    path: &str,
+    own: Actor,
+) -> Result<Folder<HostRuntime>, Failure> {
     let alloc = host.alloc();
     no_file(Folder::open(host, alloc, path, own))
 }
 
-/// The link of an actor over a carrier.
-fn link<R: Wait + Clock + Copy, C: Carrier + Drop>(
+/// The link of an actor over a carrier, which puts no line again.
+pub(crate) fn link<R: Wait + Clock + Copy, C: Carrier + Drop>(
     rt: R,
     alloc: Global,
     own: Actor,
     carrier: C,
-    nodes: u8,
+    limit: Option<Limit>,
 ) -> LineLink<R, C> {
     let secrets = (secret(), secret());
-    LineLink::over(rt, alloc, own, secrets, carrier, SHORT, nodes)
+    LineLink::over(rt, alloc, own, secrets, carrier, PATIENT, limit)
 }
 
 /// Whether the next post is a parcel with this frame.
-fn brings<L: Link>(link: &mut L, frame: &[u8], row: usize) -> Outcome {
+pub(crate) fn brings<L: Link>(link: &mut L, frame: &[u8], row: usize) -> Outcome {
     match link.receive() {
         Ok(Post::Parcel(parcel)) => check_row(parcel.frame.as_slice() == frame, row),
         _ => Err(Failure::Wrong(row)),
@@ -53,15 +61,17 @@ fn brings<L: Link>(link: &mut L, frame: &[u8], row: usize) -> Outcome {
 }
 
 /// Whether the next post is a nudge of this node.
-fn nudges<L: Link>(link: &mut L, node: NodeId, row: usize) -> Outcome {
+pub(crate) fn nudges<L: Link>(link: &mut L, node: NodeId, row: usize) -> Outcome {
     let came = link.receive();
     check_row(came == Ok(Post::Nudge(node)), row)
 }
 
 fn both_ways<W: Wait + Clock + Copy>(wait: W, rt: &HostRuntime, path: &str) -> Outcome {
     let alloc = rt.alloc();
-    let mut one = link(wait, alloc, client(), inbox(*rt, path, client())?, 2);
-    let mut other = link(wait, alloc, node(), inbox(*rt, path, node())?, 0);
+    let limit = Limit::new(alloc)?;
+    let from = inbox(*rt, path, client())?;
+    let mut one = link(wait, alloc, client(), from, Some(limit.share()?));
+    let mut other = link(wait, alloc, node(), inbox(*rt, path, node())?, None);
     for round in 1..=3 {
         check_row(one.send(node(), parcel(alloc, &[round, 1])?).is_ok(), 1)?;
         check_row(one.send(node(), parcel(alloc, &[round, 2])?).is_ok(), 2)?;
@@ -71,9 +81,8 @@ fn both_ways<W: Wait + Clock + Copy>(wait: W, rt: &HostRuntime, path: &str) -> O
         brings(&mut one, &[], 6)?;
     }
     check_row(one.dropped() == 0 && other.dropped() == 0, 7)?;
-    nudges(&mut one, node_id(1), 8)?;
-    nudges(&mut one, node_id(2), 9)?;
-    nudges(&mut one, node_id(1), 10)
+    limit.stop();
+    nudges(&mut one, node_id(1), 8)
 }
 
 #[test]
@@ -85,7 +94,7 @@ fn frames_go_both_ways(rt: HostRuntime) -> Outcome {
 /// Noise, a line of another service and a torn line are dropped and counted, and what comes behind them is read.
 fn drops<W: Wait + Clock + Copy>(wait: W, rt: &HostRuntime, path: &str) -> Outcome {
     let alloc = rt.alloc();
-    let mut own = link(wait, alloc, node(), inbox(*rt, path, node())?, 0);
+    let mut own = link(wait, alloc, node(), inbox(*rt, path, node())?, None);
     let foreign = line_for_node(alloc, &Secret::of(b"another"), b"x")?;
     let good = line_for_node(alloc, &secret(), b"good")?;
     append(rt, path, node(), b"noise\n\n")?;
@@ -106,10 +115,10 @@ fn what_is_no_line_is_dropped(rt: HostRuntime) -> Outcome {
 /// A line without end is dropped, whatever its length, and what comes behind it is read.
 fn passes_megabytes<W: Wait + Clock + Copy>(wait: W, rt: &HostRuntime, path: &str) -> Outcome {
     let alloc = rt.alloc();
-    let mut own = link(wait, alloc, node(), inbox(*rt, path, node())?, 0);
+    let mut own = link(wait, alloc, node(), inbox(*rt, path, node())?, None);
     let mut long = Vec::new(alloc);
     long.resize(500_000, b'n')?;
-    for _ in 0..4 {
+    for _ in 0..20 {
         append(rt, path, node(), long.as_slice())?;
     }
     append(rt, path, node(), b"\n")?;
@@ -119,7 +128,8 @@ fn passes_megabytes<W: Wait + Clock + Copy>(wait: W, rt: &HostRuntime, path: &st
         node(),
         line_for_node(alloc, &secret(), b"good")?.as_bytes(),
     )?;
-    brings(&mut own, b"good", 1)
+    brings(&mut own, b"good", 1)?;
+    check_row(own.dropped() == 1, 2)
 }
 
 #[test]
@@ -128,14 +138,35 @@ fn a_line_of_megabytes(rt: HostRuntime) -> Outcome {
     after(&rt, path.as_str(), passes_megabytes(rt, &rt, path.as_str()))
 }
 
-/// What is sent to an actor without an inbox is lost, and nothing more.
+/// Many lines of garbage are dropped and counted, and what comes behind them is read.
+fn passes_garbage<W: Wait + Clock + Copy>(wait: W, rt: &HostRuntime, path: &str) -> Outcome {
+    let alloc = rt.alloc();
+    let mut own = link(wait, alloc, node(), inbox(*rt, path, node())?, None);
+    let mut garbage = Vec::new(alloc);
+    garbage.resize(200_000, b'\n')?;
+    append(rt, path, node(), garbage.as_slice())?;
+    let good = line_for_node(alloc, &secret(), b"good")?;
+    append(rt, path, node(), good.as_bytes())?;
+    brings(&mut own, b"good", 1)?;
+    check_row(own.dropped() == 200_000, 2)
+}
+
+#[test]
+fn an_inbox_of_garbage(rt: HostRuntime) -> Outcome {
+    let path = made(&rt, "garbage")?;
+    after(&rt, path.as_str(), passes_garbage(rt, &rt, path.as_str()))
+}
+
+/// What is sent to an actor without an inbox is lost. A client finds that the node is gone.
 fn sends_nowhere<W: Wait + Clock + Copy>(wait: W, rt: &HostRuntime, path: &str) -> Outcome {
     let alloc = rt.alloc();
-    let mut one = link(wait, alloc, client(), inbox(*rt, path, client())?, 1);
+    let secrets = (secret(), secret());
+    let own = inbox(*rt, path, client())?;
+    let mut one = LineLink::over(wait, alloc, client(), secrets, own, HASTY, None);
     let nobody = Actor::Node(node_id(9));
     check_row(one.send(nobody, parcel(alloc, b"x")?).is_ok(), 1)?;
     check_row(one.tell_all(Post::Gone(node_id(1))).is_ok(), 2)?;
-    nudges(&mut one, node_id(1), 3)
+    loses(&mut one, node_id(9), 3)
 }
 
 #[test]

@@ -1,6 +1,6 @@
-use Rattle.std.proofs.Common.{◌≡◌}
+use Rattle.line_link.specs.Carried.{Repeats}
 use Rattle.line_link.proofs.links.next_post.Given as goal
 
--- between two lines the carrier was given nothing more
+-- between two lines the carrier was given some of the kept lines again
 abbrev pub invariant-loop : goal.invariant-loop
-invariant-loop g l = g.C.Carrier.given l.carrier ≡ g.C.Carrier.given l.fn.carrier
+invariant-loop g l = Repeats l.fn.letters (g.C.Carrier.given l.fn.carrier) (g.C.Carrier.given l.carrier)

@@ -1,14 +1,17 @@
-use Rattle.std.proofs.Common.{◌≡◌, Some, ap, subst, ◌∙◌}
+use Rattle.std.proofs.Common.{◌≡◌, Some, ap, subst, sym, ◌∙◌}
 use Rattle.lossy_link.specs.declared.parcels.Sending.TheVariants.{Told}
 use Rattle.lossy_link.specs.Links.{one_more}
-use Rattle.line_link.specs.Carried.{LinedLink, given_before, sendings}
-use Rattle.line_link.proofs.CarriedFacts.{carried_told, sendings_on}
+use Rattle.line_link.specs.Carried.{Given, GivesLines, LinedLink, AreAmong, given_before, sendings}
+use Rattle.line_link.proofs.CarriedFacts.{lines_after_told, sendings_on}
 use Rattle.line_link.proofs.links.LineLinkLink.tell_all.Goals as goal
 
 pub invariant_of-self : goal.invariant_of-self
 invariant_of-self g c =
     let k = c.self.inside in
-    carried_told k.secret (given_before g.C.Carrier.given k.opened.items) (g.C.Carrier.given k.carrier) k.made.items c.and-self-inside.result.items k.own c.args.post c.self.invariant c.and-self-inside.ensures
+    let same = sym (lines_after_told k.secret k.made.items c.and-self-inside.result.items k.own c.args.post c.and-self-inside.ensures) in (
+      subst (λ (ls : Given). GivesLines (given_before g.C.Carrier.given k.opened.items) ls (g.C.Carrier.given k.carrier)) same c.self.invariant.0,
+      subst (λ (ls : Given). AreAmong k.letters ls) same c.self.invariant.1,
+    )
 
 pub returns-clause-told : goal.returns-clause-told
 returns-clause-told g c =

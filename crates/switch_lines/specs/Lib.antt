@@ -1,0 +1,2 @@
+pub mod SwitchLines
+pub mod Laws
