@@ -19,6 +19,10 @@ number_in entries frame = lookup (bytes_eq frame) entries
 abbrev pub Puts : List (List ℕ × ℕ) → List ℕ → ℕ → List (List ℕ × ℕ) → Type 0
 Puts before frame number after = (other : List ℕ) → number_in after other ≡ (if bytes_eq frame other then Some number else number_in before other)
 
+-- the message of this number has this frame
+abbrev pub HasFrame : List Message → ℕ → List ℕ → Type 0
+HasFrame sent number frame = (m : Message) × (numbered sent number ≡ Some m) × (frame_of m ≡ frame)
+
 -- Each number that is found is that of a message with the frame, and each of the messages that were taken in has one.
 pub record IsIndexOf (s : Seen) (sent : List Message) : Type 0 where
   pub within : s.count ≤ length sent

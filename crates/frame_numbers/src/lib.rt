@@ -10,6 +10,7 @@
 //! It stands on `world_machine` and `world_model`, on `lock_messages` for frames, and on `indexmap` and `bytes`.
 #![tactic(auto)]
 
+mod lately;
 pub mod laws;
 mod messages;
 mod numbers;

@@ -1,5 +1,6 @@
 // What the types of messages say.
 
+ghost use Rattle.std.specs.Prelude.{◌≡◌, true};
 ghost use Rattle.lock_messages.specs.Messages.{IsMessage, IsTicket};
 
 use lock_messages::{Message, Ticket};
@@ -35,4 +36,11 @@ pub fn is_message(message: &Message)
             attempt.get();
         }
     }
+}
+
+/// Whether the two are one message.
+pub(crate) fn is_same(one: &Message, other: &Message) -> bool
+    ensures { result ≡ true → one.now ≡ other.now }
+{
+    one == other
 }

@@ -1,24 +1,29 @@
 // The numbers of messages, by their frames.
 
-ghost use Rattle.std.specs.Prelude.{◌≡◌, ◌+◌, ◌<◌, List, OnOk, OnErr};
+ghost use Rattle.std.specs.Prelude.{◌≡◌, ◌+◌, ◌<◌, true, List, IfOk, IfSome, OnOk, OnErr};
 ghost use Rattle.lock_messages.specs.declared.messages.Message.{Message as MessageValue};
 ghost use Rattle.lock_messages.specs.Frames.{frame_of};
-ghost use Rattle.frame_numbers.specs.FrameNumbers.{IsIndexOf, IsWhole, number_in, Puts};
+ghost use Rattle.frame_numbers.specs.FrameNumbers.{HasFrame, IsIndexOf, IsWhole, number_in, Puts};
 
+use crate::lately::Lately;
+use crate::messages::is_same;
 use bytes::Bytes;
 use indexmap::IndexMap;
-use lock_messages::{Message, encode};
+use lock_messages::{Message, decode, encode};
 use std::alloc::{AllocError, Global};
 use std::marker::Model;
 use world_machine::Actors;
 use world_model::MAX_MESSAGES;
 
 /// The number of a message that was said, for each frame.
+///
+/// A number that was said lately is found at once. The others are taken in only if one of them is looked for.
 #[derive(Drop)]
 pub struct FrameNumbers {
     alloc: Global,
     numbers: IndexMap<Bytes, u32>,
     seen: u32,
+    lately: Lately,
 }
 
 impl Model for FrameNumbers {
@@ -44,6 +49,19 @@ fn put_number(
     }
 }
 
+/// Whether the message of this number has the frame. It may miss one that has.
+fn has_frame(actors: &Actors, number: u32, frame: &Bytes) -> bool
+    ensures { result ≡ true → HasFrame actors.now.sent number frame.now }
+{
+    let Some(said) = actors.sent(number) else {
+        return false;
+    };
+    match decode(frame) {
+        Ok(message) => is_same(&message, &said),
+        Err(_) => false,
+    }
+}
+
 impl FrameNumbers {
     /// No numbers. It takes no memory.
     pub fn new(alloc: Global) -> FrameNumbers
@@ -53,6 +71,30 @@ impl FrameNumbers {
             alloc,
             numbers: IndexMap::new(alloc),
             seen: 0,
+            lately: Lately::new(alloc),
+        }
+    }
+
+    /// The number of a message with this frame, if it is one that was said lately. It takes in no message, and `None`
+    /// says nothing. One look at a table, and at the message.
+    ///
+    /// The only error is that there is no memory.
+    pub fn number_lately(
+        &mut self,
+        actors: &Actors,
+        frame: &Bytes,
+    ) -> Result<Option<u32>, AllocError>
+        ensures same { self.new ≡ self.old }
+        ensures found { IfOk result (λ found. IfSome found (λ k. HasFrame actors.now.sent k frame.now)) }
+    {
+        self.lately.catch_up(actors)?;
+        let Some(number) = self.lately.number_near(frame) else {
+            return Ok(None);
+        };
+        if has_frame(actors, number, frame) {
+            Ok(Some(number))
+        } else {
+            Ok(None)
         }
     }
 

@@ -1,6 +1,6 @@
 -- The text that is written.
 use Rattle.std.proofs.Common.{◌≡◌, ℕ, List, [], ◌∷◌, ◌++◌, map, Option, Some, None, refl, sym, ◌∙◌, ap, subst, append_assoc}
-use Rattle.std.specs.Prelude.{Result, Ok, Err}
+use Rattle.std.specs.Prelude.{Result, Ok, Err, slice_get}
 use Rattle.std.specs.Io.KnownBytes.{Appends}
 use Rattle.std.specs.List.{flat_map}
 use Rattle.std.proofs.lemmas.List.{append-nil, append_cancel_left}
@@ -13,8 +13,7 @@ use Rattle.line_streams.specs.Streams.{AppendsBeginning, AppendsPart, Grows, Let
 use Rattle.journal_text.specs.Journals.{event_line, history_text}
 use Rattle.journal_text.proofs.TextFacts.{all_out, nothing_left}
 use Rattle.line_merger.specs.declared.offers.Taken.{Taken}
-use Rattle.line_merger.specs.Offers.{events_of}
-use Rattle.journal_merger.specs.Pendings.{Pending}
+use Rattle.journal_merger.specs.Pendings.{Pending, told_by, told_of}
 use Rattle.journal_merger.specs.Merges.{IsFound, WritesBeginning, Begins, Gathers}
 use Rattle.journal_merger.specs.declared.faults.JournalsFault.{JournalsFault}
 use Rattle.journal_merger.specs.declared.finding.Found.{Found}
@@ -79,11 +78,20 @@ gathers-both old mid new had then has text more q r u is h i = record { begins =
     go (Ok v) b = Appends-trans (with_gathered old had) (with_gathered mid then) (with_gathered new has) text more all b
     go (Err f) b = begins-after (with_gathered old had) (with_gathered mid then) (with_gathered new has) text more all b
 
+pub gathers-nothing : (o : Option (List ℕ)) (g : List ℕ) (u : Unit {0}) → Gathers {E = JournalsFault} o o g g [] (Ok u)
+gathers-nothing o g u = record { begins = Appends-nil (with_gathered o g); grows = grows-none o }
+
 pub gathers-one : (old new : Option (List ℕ)) (had has : List ℕ) (e : Event) (r : Came) → Gathers old new had has (event_line e) r → Gathers old new had has (flat_map event_line (e ∷ [])) r
 gathers-one old new had has e r h = subst (λ (t : List ℕ). Gathers old new had has t r) (sym (append-nil (event_line e))) h
 
 pub gathers-two : (old new : Option (List ℕ)) (had has : List ℕ) (e f : Event) (r : Came) → Gathers old new had has (event_line e ++ event_line f) r → Gathers old new had has (flat_map event_line (e ∷ f ∷ [])) r
 gathers-two old new had has e f r h = subst (λ (t : List ℕ). Gathers old new had has (event_line e ++ t) r) (sym (append-nil (event_line f))) h
+
+-- the text of the journal at an index
+pub gathers-at : (old new : Option (List ℕ)) (had has : List ℕ) (items pending : List Pending) (i : ℕ) (p : Pending) (t : Taken) (r : Came) → items ≡ pending → slice_get items i ≡ Some p → Gathers old new had has (flat_map event_line (told_by p t)) r →
+    Gathers old new had has (flat_map event_line (told_of (slice_get pending i) t)) r
+gathers-at old new had has items pending i p t r same at h =
+    subst (λ (es : List Event). Gathers old new had has (flat_map event_line es) r) (sym (ap (λ o. told_of o t) (ap (λ (ps : List Pending). slice_get ps i) (sym same) ∙ at))) h
 
 -- the text was gathered, and then there was a fault
 gathers-then : (old new : Option (List ℕ)) (had has text : List ℕ) (q : Came) (u : Unit {0}) (f : JournalsFault) → q ≡ Ok u → Gathers old new had has text q → Gathers {U = Unit {0}} old new had has text (Err f)
@@ -101,15 +109,15 @@ events-text (q ∷ events) = ap (λ t. event_line q.0 ++ t) (events-text events)
 
 -- the text of what happened, and of what happens then
 
-pub text-on : (a b c : Option (List ℕ)) (told events : List Pair) (t : Taken) → map (λ (q : Pair). q.0) events ≡ events_of t → Appends a b (history_text told) → Appends b c (flat_map event_line (events_of t)) → Appends a c (history_text (told ++ events))
-text-on a b c told events t are h i =
+pub text-on : (a b c : Option (List ℕ)) (told events : List Pair) (es : List Event) → map (λ (q : Pair). q.0) events ≡ es → Appends a b (history_text told) → Appends b c (flat_map event_line es) → Appends a c (history_text (told ++ events))
+text-on a b c told events es are h i =
     subst (Appends a c) (ap (λ x. history_text told ++ x) (ap (flat_map event_line) (sym are) ∙ events-text events) ∙ sym (flat_map-append (λ (q : Pair). event_line q.0) told events))
-    (Appends-trans a b c (history_text told) (flat_map event_line (events_of t)) h i)
+    (Appends-trans a b c (history_text told) (flat_map event_line es) h i)
 
-pub begin-on : (a b c : Option (List ℕ)) (told events : List Pair) (t : Taken) → map (λ (q : Pair). q.0) events ≡ events_of t → Appends a b (history_text told) → AppendsBeginning b c (flat_map event_line (events_of t)) → AppendsBeginning a c (history_text (told ++ events))
-begin-on a b c told events t are h i =
+pub begin-on : (a b c : Option (List ℕ)) (told events : List Pair) (es : List Event) → map (λ (q : Pair). q.0) events ≡ es → Appends a b (history_text told) → AppendsBeginning b c (flat_map event_line es) → AppendsBeginning a c (history_text (told ++ events))
+begin-on a b c told events es are h i =
     subst (AppendsBeginning a c) (ap (λ x. history_text told ++ x) (ap (flat_map event_line) (sym are) ∙ events-text events) ∙ sym (flat_map-append (λ (q : Pair). event_line q.0) told events))
-    (begins-after a b c (history_text told) (flat_map event_line (events_of t)) h i)
+    (begins-after a b c (history_text told) (flat_map event_line es) h i)
 
 -- what was written so far, and is gathered
 
@@ -124,9 +132,9 @@ written-none o gathered empty = record { text = go o; grows = grows-none o }
     go None = tt
     go (Some xs) = ap (λ (l : List ℕ). xs ++ l) empty
 
-pub written-on : (old mid new : Option (List ℕ)) (had has : List ℕ) (told events : List Pair) (t : Taken) (r : Came) (u : Unit {0}) → map (λ (q : Pair). q.0) events ≡ events_of t → r ≡ Ok u → Written old mid had told → Gathers mid new had has (flat_map event_line (events_of t)) r → Written old new has (told ++ events)
-written-on old mid new had has told events t r u are is w g = record {
-  text = text-on old (with_gathered mid had) (with_gathered new has) told events t are w.text (subst (Begins (with_gathered mid had) (with_gathered new has) (flat_map event_line (events_of t))) is g.begins);
+pub written-on : (old mid new : Option (List ℕ)) (had has : List ℕ) (told events : List Pair) (es : List Event) (r : Came) (u : Unit {0}) → map (λ (q : Pair). q.0) events ≡ es → r ≡ Ok u → Written old mid had told → Gathers mid new had has (flat_map event_line es) r → Written old new has (told ++ events)
+written-on old mid new had has told events es r u are is w g = record {
+  text = text-on old (with_gathered mid had) (with_gathered new has) told events es are w.text (subst (Begins (with_gathered mid had) (with_gathered new has) (flat_map event_line es)) is g.begins);
   grows = grows-more old mid new w.grows g.grows;
 }
 
@@ -144,9 +152,9 @@ written-begins w first pending u old new gathered told s k = (told, stands-begun
 
 -- a line was taken, and not all of its events were written
 pub written-part : (w u v : ExactWorld) (first pending : List Pending) (i : ℕ) (old mid new : Option (List ℕ)) (had has : List ℕ) (told : List Pair) (t : Taken) (f : Found) (r : Came) (e : JournalsFault) → Stands w first pending u told → f ≡ found.Took i t → IsFound u pending f v →
-    Written old mid had told → r ≡ Err e → Gathers mid new had has (flat_map event_line (events_of t)) r → WritesBeginning w first old new
+    Written old mid had told → r ≡ Err e → Gathers mid new had has (flat_map event_line (told_of (slice_get pending i) t)) r → WritesBeginning w first old new
 written-part w u v first pending i old mid new had has told t f r e s is h k failed g =
     let (events, begun, are) = took-begun w u v first pending i told t f s is h in
-    let part : AppendsBeginning (with_gathered mid had) (with_gathered new has) (flat_map event_line (events_of t)) = subst (Begins (with_gathered mid had) (with_gathered new has) (flat_map event_line (events_of t))) failed g.begins in
-    let all : AppendsBeginning old (with_gathered new has) (history_text (told ++ events)) = begin-on old (with_gathered mid had) (with_gathered new has) told events t are k.text part in
+    let part : AppendsBeginning (with_gathered mid had) (with_gathered new has) (flat_map event_line (told_of (slice_get pending i) t)) = subst (Begins (with_gathered mid had) (with_gathered new has) (flat_map event_line (told_of (slice_get pending i) t))) failed g.begins in
+    let all : AppendsBeginning old (with_gathered new has) (history_text (told ++ events)) = begin-on old (with_gathered mid had) (with_gathered new has) told events (told_of (slice_get pending i) t) are k.text part in
     (told ++ events, begun, begun-out old new has (history_text (told ++ events)) all (grows-more old mid new k.grows g.grows))

@@ -12,6 +12,8 @@ use Rattle.line_streams.specs.Streams.{is_line_feed, pieces, ReadsPiece}
 use Rattle.line_streams.proofs.StreamFacts.{some_part}
 use Rattle.world_model.specs.Parts.{place}
 use Rattle.own_journals.specs.declared.lines.OwnLine.{OwnLine}
+use Rattle.own_journals.specs.declared.lines.OwnLine.TheVariants as own
+use Rattle.event_lines.specs.Events.{event_text}
 use Rattle.own_journals.specs.OwnLines.{IsText, ReadsLine}
 use Rattle.own_journals.specs.declared.faults.OwnLineFault.{OwnLineFault}
 use Rattle.own_journals.specs.declared.faults.OwnLineFault.TheVariants as fault
@@ -21,7 +23,7 @@ use Rattle.journal_merger.specs.declared.faults.JournalsFault.{JournalsFault}
 use Rattle.journal_merger.specs.declared.faults.JournalsFault.TheVariants as journals
 use Rattle.journal_merger.specs.declared.reading.TheConstants.{MAX_OWN_LINE_LEN}
 use Rattle.journal_merge.specs.LineMerges.{Journals}
-use Rattle.journal_merger.specs.Pendings.{whole_lines, AreTexts, HasLines, Pending, IsLeft, AreLeft, AreApart, IsOnlyText, journals_fault_of, ReadsNext, IsRead, one_more, Adds, owner, BeginsWithNoLine, IsNoText, IsReadFault, HasActor, IsAddFault}
+use Rattle.journal_merger.specs.Pendings.{whole_lines, AreTexts, HasLines, Pending, IsLeft, AreLeft, AreApart, IsOnlyText, journals_fault_of, ReadsNext, IsRead, one_more, Adds, owner, BeginsWithNoLine, IsNoText, IsReadFault, IsSpelledBy, HasActor, IsAddFault}
 
 -- a line that was read
 
@@ -276,3 +278,18 @@ fault-ok Q r x is = subst (λ (s : Result (Unit {0}) JournalsFault). IfErr s Q) 
 
 pub fault-err : (Q : JournalsFault → Type 0) (r : Result (Unit {0}) JournalsFault) (e : JournalsFault) → r ≡ Err e → Q e → IfErr r Q
 fault-err Q r e is q = subst (λ (s : Result (Unit {0}) JournalsFault). IfErr s Q) (sym is) q
+
+-- the text of a line that says an event is the event's
+
+pub spelled_by : (bytes : List ℕ) (l : OwnLine) → IsText bytes l → IsSpelledBy bytes (Some l)
+spelled_by bytes l text e is = go (subst (IsText bytes) same text)
+  where
+    same : l ≡ own.Does e
+    same = let z : Some l ≡ Some (own.Does e) = is in cc
+
+    go : IsText bytes (own.Does e) → bytes ≡ event_text e
+    go (inl plain) = plain.0.0
+    go (inr cut) = absurd cut.1
+
+pub spells_none : (bytes : List ℕ) → IsSpelledBy bytes None
+spells_none bytes e is = absurd (let z : ◌≡◌ {A = Option OwnLine} None (Some (own.Does e)) = is in cc)

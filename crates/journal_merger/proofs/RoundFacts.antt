@@ -1,5 +1,5 @@
 -- A round over all journals.
-use Rattle.std.proofs.Common.{◌≡◌, ◌==◌, ◌⊎◌, ℕ, ◌+◌, ◌<◌, ◌≤◌, Bool, true, false, List, length, Some, None, Result, Ok, Err, IfOk, refl, sym, ◌∙◌, ap, subst, inl, inr, arith}
+use Rattle.std.proofs.Common.{◌≡◌, ◌==◌, ◌⊎◌, ℕ, ◌+◌, ◌<◌, ◌≤◌, Bool, true, false, List, length, Option, Some, None, Result, Ok, Err, IfOk, refl, sym, ◌∙◌, ap, subst, inl, inr, arith}
 use Rattle.std.specs.Prelude.{slice_get}
 use Rattle.std.proofs.lemmas.Bool.{eqb-true, eq-eqb}
 use Rattle.lock_messages.specs.declared.ids.Actor.{Actor}
@@ -10,14 +10,14 @@ use Rattle.line_merger.specs.declared.offers.MergeFault.{MergeFault}
 use Rattle.line_merger.specs.declared.offers.MergeFault.TheVariants as full
 use Rattle.line_merger.specs.declared.offers.Offer.{Offer}
 use Rattle.line_merger.specs.declared.offers.Offer.TheVariants as offer
-use Rattle.line_merger.specs.Offers.{TakesLine, GoesOn}
+use Rattle.line_merger.specs.Offers.{TakesLine, TriesLine, GoesOn, TryGoesOn}
 use Rattle.journal_merger.specs.declared.finding.Turn.{Turn}
 use Rattle.journal_merger.specs.declared.finding.Turn.TheVariants as turn
 use Rattle.journal_merger.specs.Pendings.{Pending}
 use Rattle.journal_merger.specs.declared.finding.Found.TheVariants as found
 use Rattle.line_merger.specs.declared.offers.Refusal.{Refusal}
 use Rattle.line_merger.specs.declared.offers.Taken.{Taken}
-use Rattle.journal_merger.specs.Merges.{IsTurn, IsGoing, turn_of, IsIdle, AreIdle, OneWaits, IsFound}
+use Rattle.journal_merger.specs.Merges.{IsTurn, IsTriedTurn, IsGoing, IsTryGoing, turn_of, turn_tried, IsIdle, AreIdle, OneWaits, IsFound}
 
 -- what comes of an offer
 
@@ -34,6 +34,24 @@ turn-index s v (Ok offer.Waits) h = h
 turn-index s v (Ok (offer.Refused why)) h = λ on. absurd on
 turn-index s v (Err full.Full) h = tt
 turn-index s v (Err full.Memory) h = tt
+
+-- and of one that was only tried
+
+pub tried-turn : (w v : ExactWorld) (who : Actor) (line : OwnLine) (r : Result (Option Offer) MergeFault) → TriesLine w who line r v → IfOk (turn_tried r) (λ t. IsTriedTurn w who (Some line) t v)
+tried-turn w v who line (Ok None) h = h
+tried-turn w v who line (Ok (Some (offer.Took t))) h = turn-is w v who line (Ok (offer.Took t)) h
+tried-turn w v who line (Ok (Some offer.Waits)) h = turn-is w v who line (Ok offer.Waits) h
+tried-turn w v who line (Ok (Some (offer.Refused why))) h = turn-is w v who line (Ok (offer.Refused why)) h
+tried-turn w v who line (Err full.Full) h = tt
+tried-turn w v who line (Err full.Memory) h = tt
+
+pub tried-going : (s : Seen) (v : ExactWorld) (r : Result (Option Offer) MergeFault) → IfOk r (λ o. TryGoesOn o → IsIndexOf s v.sent) → IfOk (turn_tried r) (λ t. IsTryGoing t → IsIndexOf s v.sent)
+tried-going s v (Ok None) h = h
+tried-going s v (Ok (Some (offer.Took t))) h = h
+tried-going s v (Ok (Some offer.Waits)) h = h
+tried-going s v (Ok (Some (offer.Refused why))) h = λ on. absurd on
+tried-going s v (Err full.Full) h = tt
+tried-going s v (Err full.Memory) h = tt
 
 -- a journal more
 

@@ -14,11 +14,12 @@ use Rattle.own_journals.specs.declared.lines.OwnLine.{OwnLine}
 use Rattle.journal_merge.specs.LineMerges.{TellsLine, TellsLines, Journals, HasMerge, IsCut, IsRefused, IsWaiting}
 use Rattle.journal_merge.specs.Laws.{MergedHaveMerge, RefusedHaveNoMerge, WaitingHaveNoMerge}
 use Rattle.journal_merge.proofs.MergingFacts.{history-joined, cut-more, cut-same}
-use Rattle.journal_merger.specs.Pendings.{Pending, IsLeft, AreLeft, AreApart, IsRead, lines_of}
+use Rattle.journal_merger.specs.Pendings.{Pending, IsLeft, AreLeft, AreApart, IsRead, lines_of, said_next, told_by, told_of}
 use Rattle.std.specs.Io.KnownBytes.{Appends}
 use Rattle.journal_text.specs.Journals.{history_text}
 use Rattle.line_merger.specs.declared.offers.Refusal.{Refusal}
 use Rattle.line_merger.specs.declared.offers.Taken.{Taken}
+use Rattle.line_merger.specs.declared.offers.Taken.TheVariants as taken
 use Rattle.line_merger.specs.Offers.{events_of}
 use Rattle.journal_merger.specs.declared.finding.Found.{Found}
 use Rattle.journal_merger.specs.declared.finding.Found.TheVariants as found
@@ -240,15 +241,21 @@ stands-stuck law w u first pending told s idle one journals all has =
 
 -- what is found in a round
 
+told-is : (p : Pending) (line : OwnLine) (t : Taken) → p.next ≡ Some line → events_of p.who line t ≡ told_by p t
+told-is p line taken.Said is = ap said_next (sym is)
+told-is p line (taken.Read k) is = refl
+told-is p line (taken.Rose true age) is = refl
+told-is p line (taken.Rose false age) is = refl
+
 pub took-on : (w u v : ExactWorld) (first old new : List Pending) (i : ℕ) (told : List Pair) (t : Taken) (f : Found) (s : Stands w first old u told) → AreApart old → f ≡ found.Took i t → IsFound u old f v → (r : IsRead i old new) →
-    (events : List Pair) × (n : Stands w first new v (told ++ events)) × (map (λ (q : Pair). q.0) events ≡ events_of t) × (n.count ≡ s.count + 1)
+    (events : List Pair) × (n : Stands w first new v (told ++ events)) × (map (λ (q : Pair). q.0) events ≡ told_of (slice_get old i) t) × (n.count ≡ s.count + 1)
 unfolding stands-on
 took-on w u v first old new i told t f s apart is h r =
     let (p, at, taken) = subst (λ x. IsFound u old x v) is h in
     let z : Some p ≡ Some r.before = sym at ∙ r.was in
     let same : p ≡ r.before = cc in
     let k : IsTaken u r.before.who r.before.next t v = subst (λ (x : Pending). IsTaken u x.who x.next t v) same taken in
-    (k.events, stands-on w u v first old new i told k.events k.line s apart r k.next_is k.tells k.history, k.are, refl)
+    (k.events, stands-on w u v first old new i told k.events k.line s apart r k.next_is k.tells k.history, k.are ∙ told-is r.before k.line t k.next_is ∙ sym (ap (λ o. told_of o t) r.was), refl)
 
 -- the lines that were taken begin a merge
 
@@ -261,7 +268,7 @@ stands-begun w u first pending told s = record {
 
 -- and with a line more that was taken, whatever is read then
 pub took-begun : (w u v : ExactWorld) (first old : List Pending) (i : ℕ) (told : List Pair) (t : Taken) (f : Found) → Stands w first old u told → f ≡ found.Took i t → IsFound u old f v →
-    (events : List Pair) × IsBegun w first (told ++ events) × (map (λ (q : Pair). q.0) events ≡ events_of t)
+    (events : List Pair) × IsBegun w first (told ++ events) × (map (λ (q : Pair). q.0) events ≡ told_of (slice_get old i) t)
 took-begun w u v first old i told t f s is h =
     let (p, at, k) = subst (λ x. IsFound u old x v) is h in (
       k.events,
@@ -275,7 +282,7 @@ took-begun w u v first old i told t f s is h =
             let next : o.0 p.who ≡ k.line ∷ after p.who = here.1 ∙ ap (λ xs. k.line ∷ xs) (sym (with-here (o.0) p.who here.0)) in
             (after who, cuts-go-on w u journals (o.0) after p.who k.line told k.events s.history o.2 next (λ other e. with-there (o.0) p.who other here.0 e) k.tells who);
       },
-      k.are,
+      k.are ∙ told-is p k.line t k.next_is ∙ sym (ap (λ o. told_of o t) at),
     )
 
 pub index-within : (u v : ExactWorld) (old : List Pending) (i : ℕ) (t : Taken) (f : Found) → f ≡ found.Took i t → IsFound u old f v → i < length old

@@ -50,7 +50,7 @@ pub record IsTaken (w : ExactWorld) (who : Actor) (next : Option OwnLine) (t : T
   pub events : List (Event × Effect)
   pub tells : TellsLine w.ballots who (part w who) line events
   pub history : IsLongHistory w events v
-  pub are : map (λ q. q.0) events ≡ events_of t
+  pub are : map (λ q. q.0) events ≡ events_of who line t
 
 -- What came of an actor's turn. Only a line that is taken or refused may change the world.
 abbrev pub IsTurn : ExactWorld → Actor → Option OwnLine → Turn → ExactWorld → Type 0

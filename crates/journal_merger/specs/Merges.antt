@@ -72,7 +72,7 @@ pub record IsTaken (w : ExactWorld) (who : Actor) (next : Option OwnLine) (t : T
   pub events : List (Event × Effect)
   pub tells : TellsLine w.ballots who (part w who) line events
   pub history : IsHistory w events v
-  pub are : map (λ q. q.0) events ≡ events_of t
+  pub are : map (λ q. q.0) events ≡ events_of who line t
 
 -- The next line of the actor waits, or is refused.
 abbrev pub Waits : ExactWorld → Actor → Option OwnLine → Type 0
@@ -101,6 +101,24 @@ turn_of (Ok offer.Waits) = Ok turn.Waits
 turn_of (Ok (offer.Refused why)) = Ok (turn.Refused why)
 turn_of (Err full.Full) = Err fault.Full
 turn_of (Err full.Memory) = Err fault.Memory
+
+-- what comes of a line that was only tried
+abbrev pub turn_tried : Result (Option Offer) MergeFault → Result (Option Turn) JournalsFault
+turn_tried (Ok None) = Ok None
+turn_tried (Ok (Some offer.Waits)) = Ok (Some turn.Waits)
+turn_tried (Ok (Some (offer.Took t))) = Ok (Some (turn.Took t))
+turn_tried (Ok (Some (offer.Refused why))) = Ok (Some (turn.Refused why))
+turn_tried (Err full.Full) = Err fault.Full
+turn_tried (Err full.Memory) = Err fault.Memory
+
+-- What came of an actor's turn that was only tried: nothing is said and nothing changed, or it is as if it took its turn.
+abbrev pub IsTriedTurn : ExactWorld → Actor → Option OwnLine → Option Turn → ExactWorld → Type 0
+IsTriedTurn w who next None v = v ≡ w
+IsTriedTurn w who next (Some t) v = IsTurn w who next t v
+
+abbrev pub IsTryGoing : Option Turn → Type 0
+IsTryGoing None = Unit {0}
+IsTryGoing (Some t) = IsGoing t
 
 -- No line of the journal can be taken: it has none, or it waits.
 abbrev pub IsIdle : ExactWorld → Pending → Type 0

@@ -9,7 +9,13 @@ use Rattle.own_journals.specs.declared.lines.OwnLine.TheVariants as own
 use Rattle.own_journals.specs.OwnLines.{IsText}
 use Rattle.world_model.specs.ExactWorlds.{actor_of}
 use Rattle.world_model.specs.Parts.{place}
+use Rattle.world_model.specs.declared.events.Event.{Event}
+use Rattle.world_model.specs.declared.events.Event.TheVariants as event
+use Rattle.event_lines.specs.Events.{event_text}
 use Rattle.journal_merge.specs.LineMerges.{Journals}
+use Rattle.line_merger.specs.declared.offers.Taken.{Taken}
+use Rattle.line_merger.specs.declared.offers.Taken.TheVariants as taken
+use Rattle.line_merger.specs.Offers.{reading_by, said_in}
 use Rattle.journal_merger.specs.declared.faults.JournalsFault.{JournalsFault}
 use Rattle.journal_merger.specs.declared.faults.JournalsFault.TheVariants as fault
 use Rattle.journal_merger.specs.declared.journals.LineLeft.{LineLeft}
@@ -128,6 +134,30 @@ pub record IsRead (i : ℕ) (old new : List Pending) : Type 0 where
   pub who : after.who ≡ before.who
   pub number : after.number ≡ one_more before.number
   pub reads : ReadsNext before.rest after.next after.rest
+
+-- These bytes are the text of the event that the next line says. They may be anything if it says none.
+abbrev pub IsSpelledBy : List ℕ → Option OwnLine → Type 0
+IsSpelledBy bytes next = (e : Event) → next ≡ Some (own.Does e) → bytes ≡ event_text e
+
+-- the bytes are known to be the text, or not
+abbrev pub MaySpell : Bool → List ℕ → Option OwnLine → Type 0
+MaySpell known bytes next = known ≡ true → IsSpelledBy bytes next
+
+-- the event that the next line says, if it says one
+abbrev pub said_next : Option OwnLine → List Event
+said_next None = []
+said_next (Some l) = said_in l
+
+-- the events by which the next line of a journal was taken
+abbrev pub told_by : Pending → Taken → List Event
+told_by p taken.Said = said_next p.next
+told_by p (taken.Read number) = reading_by p.who number ∷ []
+told_by p (taken.Rose true age) = event.Fall p.who ∷ event.Rise p.who age ∷ []
+told_by p (taken.Rose false age) = event.Rise p.who age ∷ []
+
+abbrev pub told_of : Option Pending → Taken → List Event
+told_of None t = []
+told_of (Some p) t = told_by p t
 
 -- how many lines the journals of these actors have
 abbrev pub lines_of : List Pending → Journals → ℕ

@@ -2,12 +2,12 @@
 
 ghost use Rattle.std.specs.Prelude.{◌≡◌, IfErr, IfOk};
 ghost use Rattle.frame_numbers.specs.FrameNumbers.{IsIndexOf};
-ghost use Rattle.journal_merger.specs.Merges.{IsTurn, IsFound, IsFoundAt, IsGoing, IsMergeFault, Goes, GoesAt, turn_of};
+ghost use Rattle.journal_merger.specs.Merges.{IsTurn, IsTriedTurn, IsFound, IsFoundAt, IsGoing, IsTryGoing, IsMergeFault, Goes, GoesAt, turn_of, turn_tried};
 
 use crate::reading::OwnJournal;
 use crate::{Failure, JournalsFault};
 use frame_numbers::FrameNumbers;
-use line_merger::{MergeFault, Offer, Refusal, Taken, take_line};
+use line_merger::{MergeFault, Offer, Refusal, Taken, take_line, try_line};
 use lock_messages::Actor;
 use own_journals::OwnLine;
 use std::io::Read;
@@ -70,7 +70,40 @@ pub(crate) fn offer_next(
     }
 }
 
-/// Takes the next line of the journal at this index if it can be taken, or stops if it is refused.
+/// What comes of a line that was only tried.
+fn turn_tried(offer: Result<Option<Offer>, MergeFault>) -> Result<Option<Turn>, JournalsFault>
+    ensures { result ≡ turn_tried offer }
+{
+    match offer {
+        Ok(None) => Ok(None),
+        Ok(Some(Offer::Waits)) => Ok(Some(Turn::Waits)),
+        Ok(Some(Offer::Took(taken))) => Ok(Some(Turn::Took(taken))),
+        Ok(Some(Offer::Refused(why))) => Ok(Some(Turn::Refused(why))),
+        Err(MergeFault::Full) => Err(JournalsFault::Full),
+        Err(MergeFault::Memory) => Err(JournalsFault::Memory),
+    }
+}
+
+/// Offers this line of the actor, if there is one, and it reads no message or one that was said lately.
+fn try_next(
+    world: &mut Actors,
+    numbers: &mut FrameNumbers,
+    who: &Actor,
+    next: &Option<OwnLine>,
+) -> Result<Option<Turn>, JournalsFault>
+    requires { IsIndexOf numbers.old world.old.sent }
+    ensures turn { IfOk result (λ t. IsTriedTurn world.old who.now next.now t world.new) }
+    ensures index { IfOk result (λ t. IsTryGoing t → IsIndexOf numbers.new world.new.sent) }
+    ensures fault { IfErr result (λ f. IsMergeFault f) }
+{
+    match next {
+        Some(line) => turn_tried(try_line(world, numbers, who, line)),
+        None => Ok(None),
+    }
+}
+
+/// Takes the next line of the journal at this index if it reads no message, or one that was said lately, and can be taken.
+/// It stops if the line is refused.
 fn find_at<R: Read>(
     world: &mut Actors,
     numbers: &mut FrameNumbers,
@@ -85,11 +118,12 @@ fn find_at<R: Read>(
     let Some(journal) = journals.get(index) else {
         return Ok(None);
     };
-    match offer_next(world, numbers, &journal.who, &journal.next) {
-        Ok(Turn::Ended) => Ok(None),
-        Ok(Turn::Waits) => Ok(None),
-        Ok(Turn::Took(taken)) => Ok(Some(Found::Took(index, taken))),
-        Ok(Turn::Refused(why)) => Ok(Some(Found::Refused(index, why))),
+    match try_next(world, numbers, &journal.who, &journal.next) {
+        Ok(None) => Ok(None),
+        Ok(Some(Turn::Ended)) => Ok(None),
+        Ok(Some(Turn::Waits)) => Ok(None),
+        Ok(Some(Turn::Took(taken))) => Ok(Some(Found::Took(index, taken))),
+        Ok(Some(Turn::Refused(why))) => Ok(Some(Found::Refused(index, why))),
         Err(fault) => Err(Failure {
             journal: index,
             fault,
@@ -97,8 +131,31 @@ fn find_at<R: Read>(
     }
 }
 
+/// Looks for a journal whose next line reads no message, or one that was said lately, and can be taken, and takes it. It
+/// stops at a line that is refused.
+fn find_lately<R: Read>(
+    world: &mut Actors,
+    numbers: &mut FrameNumbers,
+    journals: &[OwnJournal<R>],
+) -> Result<Option<Found>, Failure>
+    requires { IsIndexOf numbers.old world.old.sent }
+    ensures found { IfOk result (λ f. IsFoundAt world.old journals.now f world.new) }
+    ensures index { IfOk result (λ f. GoesAt f → IsIndexOf numbers.new world.new.sent) }
+    ensures fault { IfErr result (λ e. IsMergeFault e.fault) }
+{
+    for index in 0..journals.len() {
+        match find_at(world, numbers, journals, index) {
+            Ok(None) => {}
+            Ok(Some(found)) => return Ok(Some(found)),
+            Err(failure) => return Err(failure),
+        }
+    }
+    Ok(None)
+}
+
 /// Looks for a journal whose next line can be taken, and takes it. It looks at these two first, since actors go on and
-/// answer each other. It stops at a line that is refused.
+/// answer each other. Then it looks for lines that read what was said lately: only if there is none, each message that was
+/// said is taken in. It stops at a line that is refused.
 pub fn find_near<R: Read>(
     world: &mut Actors,
     numbers: &mut FrameNumbers,
@@ -117,6 +174,11 @@ pub fn find_near<R: Read>(
         Err(failure) => return Err(failure),
     }
     match find_at(world, numbers, journals, before) {
+        Ok(None) => {}
+        Ok(Some(found)) => return Ok(found),
+        Err(failure) => return Err(failure),
+    }
+    match find_lately(world, numbers, journals) {
         Ok(None) => find(world, numbers, journals),
         Ok(Some(found)) => Ok(found),
         Err(failure) => Err(failure),

@@ -3,14 +3,12 @@
 ghost use Rattle.std.specs.Prelude.{◌≡◌, ◌==◌, ◌<◌, ℕ, true, false, [], length, slice_get, Some, IfErr, OnOk, OnErr};
 ghost use Rattle.std.specs.List.{flat_map};
 ghost use Rattle.journal_text.specs.Journals.{event_line};
-ghost use Rattle.line_merger.specs.Offers.{events_of};
 ghost use Rattle.world_model.specs.Parts.{place};
 ghost use Rattle.journal_merger.specs.Merges.{Gathers, IsMergeFault};
-ghost use Rattle.journal_merger.specs.Pendings.{Pending, Adds, AreApart, HasActor, IsAddFault, IsNextLine, IsRead};
+ghost use Rattle.journal_merger.specs.Pendings.{Pending, Adds, AreApart, HasActor, IsAddFault, IsNextLine, IsRead, told_of};
 
 use crate::JournalsFault;
 use crate::reading::{OwnJournal, is_same, owner, read_next};
-use crate::writing::put_taken;
 use line_merger::{Refusal, Taken};
 use line_streams::{Gathered, LineReader, MAX_READS};
 use lock_messages::Actor;
@@ -107,10 +105,10 @@ impl<R: Read> Journals<R> {
     ) -> Result<(), JournalsFault>
         requires { index < length self.old }
         ensures read { OnOk result (IsRead index self.old self.new) }
-        ensures text { Gathers (W.contents writer.old) (W.contents writer.new) out.old out.new (flat_map event_line (events_of taken.now)) result }
+        ensures text { Gathers (W.contents writer.old) (W.contents writer.new) out.old out.new (flat_map event_line (told_of (slice_get self.old index) taken.now)) result }
         ensures fault { IfErr result (λ f. IsMergeFault f) }
     {
-        match put_taken(self.alloc, taken, out, writer) {
+        match self.journals[index].put_taken(self.alloc, taken, out, writer) {
             Ok(()) => {}
             Err(fault) => return Err(fault),
         }
@@ -164,6 +162,7 @@ impl<R: Read + Drop> Journals<R> {
             next: Some(line),
             number: 1,
             piece,
+            spelled: true,
             refusal: None,
         };
         match self.journals.push(journal) {

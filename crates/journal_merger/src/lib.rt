@@ -6,8 +6,9 @@
 //!
 //! The crate promises, in the words of `journal_merge`: if it says `Merged`, the journals have a merge, and the text of
 //! one was written. If it says `Stuck`, they have none: then `next_line` shows which line of each journal is left, and
-//! why. After a fault it promises nothing. It holds the world, one line of each journal, and the frames of the messages
-//! that were said.
+//! why. Then, and after a fault, a beginning of the text of a history was written. It holds the world and one line of
+//! each journal. The frames of the messages that were said are taken in only if a line reads one that was said long
+//! before.
 //!
 //! `judge` writes no journal. It says `Merged` and `Stuck` in the same cases, however many messages are said: it holds the
 //! actors, one line of each journal, and the frames.

@@ -5,7 +5,7 @@ ghost use Rattle.own_journals.specs.declared.lines.OwnLine.{OwnLine as LineValue
 ghost use Rattle.world_model.specs.Parts.{place};
 ghost use Rattle.journal_merger.specs.Merges.{IsMergeFault};
 ghost use Rattle.journal_merger.specs.Judging.{IsJudgeFault};
-ghost use Rattle.journal_merger.specs.Pendings.{IsNoText, IsOnlyText, IsReadFault, ReadsNext, journals_fault_of, owner, is_others, one_more};
+ghost use Rattle.journal_merger.specs.Pendings.{IsNoText, IsOnlyText, IsReadFault, IsSpelledBy, ReadsNext, journals_fault_of, owner, is_others, one_more};
 
 use crate::JournalsFault;
 use line_merger::Refusal;
@@ -28,18 +28,22 @@ pub struct OwnJournal<R: Read> {
     pub(crate) next: Option<OwnLine>,
     // How many lines were read.
     pub(crate) number: u64,
-    // Room for the text of a line.
+    // The text of a line.
     pub(crate) piece: Vec<u8>,
+    // Whether that is the text of the next line. If the line says an event, it is the event's text.
+    pub(crate) spelled: bool,
     // Why the actor refuses the next line, if that was found.
     pub(crate) refusal: Option<Refusal>,
 }
 
 impl<R: Read> Model for OwnJournal<R> {
-    ghost use Rattle.journal_merger.specs.Pendings.{Pending};
+    ghost use Rattle.journal_merger.specs.Pendings.{Pending, MaySpell};
 
     ghost Value = { Pending };
 
     ghost view = { λ j. record { who = j.who; number = j.number; next = j.next; rest = j.source } };
+
+    ghost invariant = { λ j. MaySpell j.spelled j.piece.items j.next };
 }
 
 /// Whose line it is.
@@ -83,6 +87,7 @@ fn no_text(fault: OwnLineFault) -> JournalsFault
 /// The line that the bytes spell.
 fn whole_line(alloc: Global, bytes: &[u8]) -> Result<Option<OwnLine>, JournalsFault>
     ensures line { IfOk result (λ next. (l : LineValue) × (next ≡ Some l) × IsOnlyText bytes.now l) }
+    ensures spelled { IfOk result (λ next. IsSpelledBy bytes.now next) }
     ensures fault { IfErr result (λ f. IsNoText bytes.now f) }
 {
     match read_own_line(alloc, bytes) {
@@ -101,13 +106,14 @@ fn no_line(fault: StreamFault) -> JournalsFault
     }
 }
 
-/// Reads the next line of a text, and leaves its bytes in `piece`.
+/// Reads the next line of a text, and leaves its bytes in `piece`: if it says an event, the event's text.
 pub fn read_next<R: Read>(
     alloc: Global,
     source: &mut LineReader<R>,
     piece: &mut Vec<u8>,
 ) -> Result<Option<OwnLine>, JournalsFault>
     ensures next { IfOk result (λ next. ReadsNext source.old next source.new) }
+    ensures spelled { IfOk result (λ next. IsSpelledBy piece.new.items next) }
     ensures fault { IfErr result (λ f. IsReadFault source.old f) }
 {
     let end = match source.read_line(piece, MAX_OWN_LINE_LEN) {
@@ -140,6 +146,7 @@ impl<R: Read> OwnJournal<R> {
         ensures fault { IfErr result (λ f. IsMergeFault f) }
         ensures read { IfErr result (λ f. IsJudgeFault f) }
     {
+        self.spelled = false;
         let next = match read_next(alloc, &mut self.source, &mut self.piece) {
             Ok(next) => next,
             Err(fault) => return Err(fault),
@@ -148,6 +155,7 @@ impl<R: Read> OwnJournal<R> {
             return Err(JournalsFault::OtherActor);
         }
         self.next = next;
+        self.spelled = true;
         self.number = self.number.saturating_add(1);
         Ok(())
     }

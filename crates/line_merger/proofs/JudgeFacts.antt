@@ -25,11 +25,12 @@ use Rattle.own_journals.specs.declared.lines.OwnLine.{OwnLine}
 use Rattle.own_journals.specs.declared.lines.OwnLine.TheVariants as own
 use Rattle.journal_merge.specs.LineMerges.{TellsLine}
 use Rattle.journal_merge.proofs.ContentFacts.{own-kind, no-message}
+use Rattle.frame_numbers.specs.FrameNumbers.{HasFrame}
 use Rattle.frame_numbers.specs.SaidFrames.{has_frame, IsFrameOfOne, AddsFrames, AreFramesOf}
 use Rattle.line_merger.specs.declared.offers.MergeFault.{MergeFault}
 use Rattle.line_merger.specs.declared.offers.Offer.{Offer}
 use Rattle.line_merger.specs.declared.offers.Offer.TheVariants as offer
-use Rattle.line_merger.specs.Offers.{GoesOn, HasFrame, TakesLine}
+use Rattle.line_merger.specs.Offers.{GoesOn, TakesLine}
 use Rattle.line_merger.specs.Judging.{Judged, IsOf, JudgesLine, TakesRecalled}
 
 -- the messages of a world are no part of its actors

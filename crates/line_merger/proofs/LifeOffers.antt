@@ -47,7 +47,8 @@ use Rattle.own_journals.specs.declared.lines.OwnLine.TheVariants as own
 use Rattle.journal_merge.specs.LineMerges.{IsRefused}
 use Rattle.line_merger.specs.declared.offers.Offer.TheVariants as offer
 use Rattle.line_merger.specs.Offers.{TakesLine, offered, refused}
-use Rattle.line_merger.specs.Lives.{Finds, Fell, fallen, Falls, age_if, restarted, settled}
+use Rattle.line_merger.specs.declared.offers.Taken.TheVariants as taken
+use Rattle.line_merger.specs.Lives.{Finds, Fell, fallen, Falls, age_if, settled}
 use Rattle.line_merger.proofs.OfferFacts.{of-refused}
 
 -- the record of the world is that of the part
@@ -150,7 +151,7 @@ fell-tried changes effects w u who false h = ap (λ (x : ExactWorld). tried_reco
 -- a life that begins: the line was taken
 
 taken-as : StepsChangeOnePart → EffectsAreOfTheirEvents → (w u v : ExactWorld) (who : Actor) (found : List ℕ) (age : Age) (done : Effect) (fell : Bool) → Fell w who fell u → Takes u (event.Rise who age) done v → IsRise who (part w who) found (event.Rise who age) →
-    TakesLine w who (own.Life who found) (Ok (offer.Took (restarted who fell age))) v
+    TakesLine w who (own.Life who found) (Ok (offer.Took (taken.Rose fell age))) v
 taken-as changes effects w u v who found age done true h rise is =
     let fell : h.0 ≡ effect.Down = effects w u (event.Fall who) h.0 h.1 in
     let rose : done ≡ effect.Up = effects u v (event.Rise who age) done rise in (
@@ -168,7 +169,7 @@ taken-as changes effects w u v who found age done false h rise is =
     )
 
 pub old-taken : StepsChangeOnePart → EffectsAreOfTheirEvents → (w u v : ExactWorld) (who : Actor) (found : List ℕ) (done : Effect) (fell : Bool) → Fell w who fell u → Takes u (event.Rise who Old) done v → kept_record who (part w who) ≡ Some found →
-    TakesLine w who (own.Life who found) (Ok (offer.Took (restarted who fell Old))) v
+    TakesLine w who (own.Life who found) (Ok (offer.Took (taken.Rose fell Old))) v
 old-taken changes effects w u v who found done fell down rise kept = taken-as changes effects w u v who found Old done fell down rise (rises_old kept)
 
 new-tried : StepsChangeOnePart → EffectsAreOfTheirEvents → (w u v : ExactWorld) (who : Actor) (done : Effect) (fell : Bool) → Fell w who fell u → Takes u (event.Rise who New) done v → kept_record who (part v who) ≡ tried_record who (part w who)
@@ -178,7 +179,7 @@ new-tried changes effects w u v who done fell down rise =
     ap (kept_record who) after ∙ new-keeps u.ballots who (part u who) done turn ∙ fell-tried changes effects w u who fell down
 
 pub new-taken : StepsChangeOnePart → EffectsAreOfTheirEvents → (w u v : ExactWorld) (who : Actor) (found : List ℕ) (done : Effect) (fell : Bool) → Fell w who fell u → Takes u (event.Rise who New) done v → kept_record who (part w who) ≢ Some found → kept_record who (part v who) ≡ Some found →
-    TakesLine w who (own.Life who found) (Ok (offer.Took (restarted who fell New))) v
+    TakesLine w who (own.Life who found) (Ok (offer.Took (taken.Rose fell New))) v
 new-taken changes effects w u v who found done fell down rise apart kept =
     taken-as changes effects w u v who found New done fell down rise (rises_new apart (sym (new-tried changes effects w u v who done fell down rise) ∙ kept))
 
@@ -403,7 +404,7 @@ falls_offered w u v who found f (inl h) = of-refused w v who (own.Life who found
 falls_offered w u v who found f (inr h) = of-refused w v who (own.Life who found) f (λ full memory. h found)
 
 pub old-offered : StepsChangeOnePart → EffectsAreOfTheirEvents → (w u v : ExactWorld) (who : Actor) (found : List ℕ) (r : Result Effect StepFault) (fell : Bool) → length u.sent ≤ MAX_MESSAGES → Does (event.Rise who Old) (step_of u (event.Rise who Old)) u r v → Fell w who fell u → kept_record who (part w who) ≡ Some found →
-    TakesLine w who (own.Life who found) (offered (restarted who fell Old) r) v
+    TakesLine w who (own.Life who found) (offered (taken.Rose fell Old) r) v
 old-offered changes effects w u v who found (Ok done) fell room h down kept = old-taken changes effects w u v who found done fell down h kept
 old-offered changes effects w u v who found (Err f) fell room h down kept =
     of-refused w v who (own.Life who found) f (rise-refused changes effects w u who found true f fell room down (λ e. kept) (λ e. absurd (let z : true ≡ false = e in cc)) h.0)
@@ -414,7 +415,7 @@ new-offered changes effects w u v who found f fell room h down apart =
     of-refused w v who (own.Life who found) f (rise-refused changes effects w u who found false f fell room down (λ e. absurd (let z : false ≡ true = e in cc)) (λ e. apart) h)
 
 pub new-settled : StepsChangeOnePart → EffectsAreOfTheirEvents → (w u v : ExactWorld) (who : Actor) (found : List ℕ) (done : Effect) (r : Result Bool StepFault) (fell : Bool) → Takes u (event.Rise who New) done v → Finds v who found r → Fell w who fell u → kept_record who (part w who) ≢ Some found →
-    TakesLine w who (own.Life who found) (settled (restarted who fell New) r) v
+    TakesLine w who (own.Life who found) (settled (taken.Rose fell New) r) v
 new-settled changes effects w u v who found done (Ok true) fell h finds down apart = new-taken changes effects w u v who found done fell down h apart (finds.0 refl)
 new-settled changes effects w u v who found done (Ok false) fell h finds down apart = new-other changes effects w u v who found done fell down h apart (finds.1 refl)
 new-settled changes effects w u v who found done (Err f) fell h finds down apart = tt

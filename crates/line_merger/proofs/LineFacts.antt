@@ -1,5 +1,5 @@
 -- A line of any kind.
-use Rattle.std.proofs.Common.{◌≡◌, ◌==◌, ℕ, Bool, true, false, not, List, [], ◌∷◌, Result, Ok, Err, IfOk, refl, sym, ◌∙◌, ap, subst}
+use Rattle.std.proofs.Common.{◌≡◌, ◌==◌, ℕ, Bool, true, false, not, List, [], ◌∷◌, Option, Some, None, Result, Ok, Err, IfOk, refl, sym, ◌∙◌, ap, subst}
 use Rattle.std.proofs.lemmas.Bool.{eqb-true, eq-eqb}
 use Rattle.lock_messages.specs.declared.ids.Actor.{Actor}
 use Rattle.world_model.specs.declared.exact.ExactWorld.{ExactWorld}
@@ -15,7 +15,8 @@ use Rattle.frame_numbers.specs.FrameNumbers.{Seen, IsIndexOf, IndexesGrow}
 use Rattle.line_merger.specs.declared.offers.MergeFault.{MergeFault}
 use Rattle.line_merger.specs.declared.offers.Offer.{Offer}
 use Rattle.line_merger.specs.declared.offers.Offer.TheVariants as offer
-use Rattle.line_merger.specs.Offers.{GoesOn, TakesLine}
+use Rattle.line_merger.specs.declared.offers.Taken.TheVariants as taken
+use Rattle.line_merger.specs.Offers.{GoesOn, TakesLine, TriesLine, TryGoesOn, tried}
 
 -- an index stays one through a history
 
@@ -45,7 +46,10 @@ is-apart false h = refl
 -- a line that reads says nothing by the actor that it names
 
 pub reads-anyone : (w v : ExactWorld) (who whose : Actor) (frame : List ℕ) (r : Result Offer MergeFault) → TakesLine w who (own.Reads who frame) r v → TakesLine w who (own.Reads whose frame) r v
-reads-anyone w v who whose frame (Ok (offer.Took t)) h = h
+reads-anyone w v who whose frame (Ok (offer.Took taken.Said)) h = h
+reads-anyone w v who whose frame (Ok (offer.Took (taken.Read k))) h = h
+reads-anyone w v who whose frame (Ok (offer.Took (taken.Rose true age))) h = h
+reads-anyone w v who whose frame (Ok (offer.Took (taken.Rose false age))) h = h
 reads-anyone w v who whose frame (Ok offer.Waits) h = h
 reads-anyone w v who whose frame (Ok (offer.Refused why)) h = h
 reads-anyone w v who whose frame (Err f) h = tt
@@ -56,3 +60,22 @@ reads-as w v who whose line frame r is h = subst (λ l. TakesLine w who l r v) (
 pub index-still : (v : ExactWorld) (r : Result Offer MergeFault) (s : Seen) → IsIndexOf s v.sent → IfOk r (λ o. GoesOn o → IsIndexOf s v.sent)
 index-still v (Ok o) s index = λ on. index
 index-still v (Err f) s index = tt
+
+-- a line that is only tried
+
+pub tried-is : (w v : ExactWorld) (who : Actor) (line : OwnLine) (r : Result Offer MergeFault) → TakesLine w who line r v → TriesLine w who line (tried r) v
+tried-is w v who line (Ok o) h = h
+tried-is w v who line (Err f) h = tt
+
+pub tried-index : (v : ExactWorld) (r : Result Offer MergeFault) (s : Seen) → IfOk r (λ o. GoesOn o → IsIndexOf s v.sent) → IfOk (tried r) (λ o. TryGoesOn o → IsIndexOf s v.sent)
+tried-index v (Ok o) s h = h
+tried-index v (Err f) s h = tt
+
+pub tries-anyone : (w v : ExactWorld) (who whose : Actor) (line : OwnLine) (frame : List ℕ) (r : Result (Option Offer) MergeFault) → line ≡ own.Reads whose frame → TriesLine w who (own.Reads who frame) r v → TriesLine w who line r v
+tries-anyone w v who whose line frame (Ok None) is h = h
+tries-anyone w v who whose line frame (Ok (Some o)) is h = reads-as w v who whose line frame (Ok o) is h
+tries-anyone w v who whose line frame (Err f) is h = tt
+
+pub tried-still : (v : ExactWorld) (r : Result (Option Offer) MergeFault) (s : Seen) → IsIndexOf s v.sent → IfOk r (λ o. TryGoesOn o → IsIndexOf s v.sent)
+tried-still v (Ok o) s index = λ on. index
+tried-still v (Err f) s index = tt

@@ -40,10 +40,10 @@ use Rattle.own_journals.specs.declared.lines.OwnLine.{OwnLine}
 use Rattle.own_journals.specs.declared.lines.OwnLine.TheVariants as own
 use Rattle.journal_merge.specs.LineMerges.{TellsLine, IsRefused, IsWaiting}
 use Rattle.journal_merge.proofs.ContentFacts.{reading_of, reading-content}
-use Rattle.frame_numbers.specs.FrameNumbers.{Seen, number_in, IsIndexOf, IsWhole, IndexesGrow}
+use Rattle.frame_numbers.specs.FrameNumbers.{HasFrame, Seen, number_in, IsIndexOf, IsWhole, IndexesGrow}
 use Rattle.line_merger.specs.declared.offers.Offer.TheVariants as offer
 use Rattle.line_merger.specs.declared.offers.Taken.TheVariants as taken
-use Rattle.line_merger.specs.Offers.{HasFrame, TakesLine, offered, refused, reading_by}
+use Rattle.line_merger.specs.Offers.{TakesLine, offered, refused, reading_by}
 
 -- a line that was refused, by what its step was refused with
 
@@ -105,7 +105,7 @@ plain-refused second w who e f h full memory events t = go (second w e allowed)
         let same : some.0 ≡ f = cc in
         full (sym same ∙ plain-fault (kind_of e) some.0 t.4 some.2)
 
-pub plain-taken : ListRefusalsComeSecond → (w v : ExactWorld) (who : Actor) (e : Event) (r : Result Effect StepFault) → is_own who e ≡ true → is_reading (kind_of e) ≡ false → Does e (step_of w e) w r v → TakesLine w who (own.Does e) (offered (taken.One e) r) v
+pub plain-taken : ListRefusalsComeSecond → (w v : ExactWorld) (who : Actor) (e : Event) (r : Result Effect StepFault) → is_own who e ≡ true → is_reading (kind_of e) ≡ false → Does e (step_of w e) w r v → TakesLine w who (own.Does e) (offered taken.Said r) v
 plain-taken second w v who e (Ok done) mine plain h =
     ((e, done) ∷ [], (done, refl, mine, subst (λ a. IsTurn w.ballots (part w a) e done) (its-actor who e mine) (taken-turn w v e done h), plain), (v, h, refl), refl)
 plain-taken second w v who e (Err f) mine plain h = of-refused w v who (own.Does e) f (plain-refused second w who e f h.0)
@@ -204,7 +204,7 @@ reads-refused once w who frame k m f room is spelled known h full memory events 
     cc
 
 pub reads-offered : MessagesAreAsListed → OneSpelling → (w v : ExactWorld) (who : Actor) (frame : List ℕ) (k : ℕ) (m : Message) (r : Result Effect StepFault) → length w.sent ≤ MAX_MESSAGES → numbered w.sent k ≡ Some m → frame_of m ≡ frame → IsMessage m → Does (reading_by who k) (step_of w (reading_by who k)) w r v →
-    TakesLine w who (own.Reads who frame) (offered (taken.One (reading_by who k)) r) v
+    TakesLine w who (own.Reads who frame) (offered (taken.Read k) r) v
 reads-offered listed once w v who frame k m (Ok done) room is spelled known h = reads-taken listed w v who frame k m done is spelled known h
 reads-offered listed once w v who frame k m (Err f) room is spelled known h = of-refused w v who (own.Reads who frame) f (reads-refused once w who frame k m f room is spelled known h.0)
 
@@ -219,12 +219,11 @@ not-another true h = refl
 not-another false h = absurd (let z : true ≡ false = h in cc)
 
 pub frame-offered : MessagesAreAsListed → OneSpelling → (w v : ExactWorld) (who : Actor) (k : ℕ) (m : Message) (e : Event) (r : Result Effect StepFault) → length w.sent ≤ MAX_MESSAGES → numbered w.sent k ≡ Some m → IsMessage m → e ≡ reading_by who k → Does e (step_of w e) w r v →
-    (frame : List ℕ) → HasFrame w.sent k frame → TakesLine w who (own.Reads who frame) (offered (taken.One e) r) v
+    (frame : List ℕ) → HasFrame w.sent k frame → TakesLine w who (own.Reads who frame) (offered (taken.Read k) r) v
 frame-offered listed once w v who k m e r room is known by h frame has =
     let both : ◌≡◌ {A = Option Message} (Some m) (Some has.0) = sym is ∙ has.1 in
     let same : m ≡ has.0 = cc in
-    subst (λ x. TakesLine w who (own.Reads who frame) (offered (taken.One x) r) v) (sym by)
-    (reads-offered listed once w v who frame k m r room is (ap frame_of same ∙ has.2) known (subst (λ x. Does x (step_of w x) w r v) by h))
+    reads-offered listed once w v who frame k m r room is (ap frame_of same ∙ has.2) known (subst (λ x. Does x (step_of w x) w r v) by h)
 
 pub no-frame : (w : ExactWorld) (who : Actor) (k : ℕ) → numbered w.sent k ≡ None → (frame : List ℕ) → HasFrame w.sent k frame → TakesLine w who (own.Reads who frame) (Ok offer.Waits) w
 no-frame w who k none frame has = absurd (let z : ◌≡◌ {A = Option Message} None (Some has.0) = sym none ∙ has.1 in cc)

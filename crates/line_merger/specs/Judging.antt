@@ -32,7 +32,7 @@ pub record IsOf (j : Judged) (w : ExactWorld) : Type 0 where
 -- nobody said yet what it reads and nothing changed, or it says nothing that the actor could do.
 abbrev pub JudgesLine : {F : Type 0} → ExactWorld → Actor → OwnLine → Result Offer F → ExactWorld → Type 0
 JudgesLine w who line (Ok (offer.Took taken)) v =
-    (events : List (Event × Effect)) × TellsLine w.ballots who (part w who) line events × IsLongHistory w events v × (map (λ q. q.0) events ≡ events_of taken)
+    (events : List (Event × Effect)) × TellsLine w.ballots who (part w who) line events × IsLongHistory w events v × (map (λ q. q.0) events ≡ events_of who line taken)
 JudgesLine w who line (Ok offer.Waits) v = (v ≡ w) × IsWaiting w who line
 JudgesLine w who line (Ok (offer.Refused why)) v = IsRefused w who line
 JudgesLine w who line (Err f) v = Unit {0}

@@ -19,7 +19,6 @@ use Rattle.line_merger.specs.declared.offers.Offer.{Offer}
 use Rattle.line_merger.specs.declared.offers.Offer.TheVariants as offer
 use Rattle.line_merger.specs.declared.offers.Refusal.TheVariants as refusal
 use Rattle.line_merger.specs.declared.offers.Taken.{Taken}
-use Rattle.line_merger.specs.declared.offers.Taken.TheVariants as taken
 
 -- the actor has kept a record of these bytes, or not; there is no fault but want of memory, unless no life begins
 abbrev pub Finds : ExactWorld → Actor → List ℕ → Result Bool StepFault → Type 0
@@ -55,11 +54,6 @@ Falls w who (Err f) u = (f ≡ step.Memory) ⊎ ((found : List ℕ) → IsRefuse
 
 abbrev pub age_if : Bool → Age
 age_if old = if old then Old else New
-
--- the events of a restart
-abbrev pub restarted : Actor → Bool → Age → Taken
-restarted who true age = taken.Two (event.Fall who) (event.Rise who age)
-restarted who false age = taken.One (event.Rise who age)
 
 -- what comes of a rise with what was tried, by whether it is what was found
 abbrev pub settled : Taken → Result Bool StepFault → Result Offer MergeFault

@@ -49,5 +49,5 @@ pub fn take_event(actors: &mut Actors, who: &Actor, event: &Event) -> Result<Off
     if reads(event) {
         return Ok(Offer::Refused(Refusal::OtherActor));
     }
-    offered(Taken::One(*event), actors.step(event))
+    offered(Taken::Said, actors.step(event))
 }

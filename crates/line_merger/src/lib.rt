@@ -23,7 +23,7 @@ mod readings;
 
 pub use events::take_event;
 pub use judging::Judge;
-pub use lines::take_line;
+pub use lines::{take_line, try_line};
 pub use lives::take_life;
 pub use offers::{MergeFault, Offer, Refusal, Taken};
-pub use readings::take_frame;
+pub use readings::{reading_by, take_frame};

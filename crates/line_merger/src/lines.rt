@@ -4,9 +4,11 @@ ghost use Rattle.std.specs.Prelude.{◌≡◌, ◌==◌, not, IfOk};
 ghost use Rattle.world_model.specs.Parts.{place};
 ghost use Rattle.own_journals.specs.declared.lines.OwnLine.TheVariants as own;
 ghost use Rattle.frame_numbers.specs.FrameNumbers.{IsIndexOf};
-ghost use Rattle.line_merger.specs.Offers.{GoesOn, TakesLine};
+ghost use Rattle.line_merger.specs.Offers.{GoesOn, TakesLine, TriesLine, TryGoesOn};
 
 use crate::events::place;
+use crate::offers::tried;
+use crate::readings::take_lately;
 use crate::{MergeFault, Offer, Refusal, take_event, take_frame, take_life};
 use bytes::Bytes;
 use frame_numbers::FrameNumbers;
@@ -60,5 +62,32 @@ pub fn take_line(
         OwnLine::Life(whose, found) => take_life_of(actors, who, whose, found),
         OwnLine::Reads(_, frame) => take_frame(actors, numbers, who, frame),
         OwnLine::Does(event) => take_event(actors, who, event),
+    }
+}
+
+/// Takes a line of the actor's journal, if it reads no message, or one that was said lately. `None` says nothing of the
+/// line. The numbers are those of the actors' messages, and stay so unless the line is refused.
+///
+/// It is cheaper than `take_line`, which takes each message in that was said.
+///
+/// # Errors
+///
+/// `Full` if the list of messages is full, `Memory` if there is no memory.
+pub fn try_line(
+    actors: &mut Actors,
+    numbers: &mut FrameNumbers,
+    who: &Actor,
+    line: &OwnLine,
+) -> Result<Option<Offer>, MergeFault>
+    requires { IsIndexOf numbers.old actors.old.sent }
+    ensures takes { TriesLine actors.old who.now line.now result actors.new }
+    ensures index { IfOk result (λ o. TryGoesOn o → IsIndexOf numbers.new actors.new.sent) }
+{
+    steps_change_one_part();
+    indexes_grow();
+    match line {
+        OwnLine::Life(whose, found) => tried(take_life_of(actors, who, whose, found)),
+        OwnLine::Reads(_, frame) => take_lately(actors, numbers, who, frame),
+        OwnLine::Does(event) => tried(take_event(actors, who, event)),
     }
 }

@@ -6,7 +6,7 @@ ghost use Rattle.world_model.specs.Parts.{part};
 ghost use Rattle.merge_model.specs.Lives.{kept_record};
 ghost use Rattle.own_journals.specs.declared.lines.OwnLine.TheVariants as own;
 ghost use Rattle.line_merger.specs.Offers.{TakesLine};
-ghost use Rattle.line_merger.specs.Lives.{Finds, Fell, fallen, Falls, restarted, settled};
+ghost use Rattle.line_merger.specs.Lives.{Finds, Fell, fallen, Falls, settled};
 
 use crate::offers::{offered, refused};
 use crate::{MergeFault, Offer, Refusal, Taken};
@@ -46,24 +46,13 @@ fn fall(actors: &mut Actors, who: &Actor) -> Result<bool, StepFault>
     fell(actors.step(&Event::Fall(*who)))
 }
 
-/// The events by which an actor restarts.
-fn restarted(who: &Actor, fell: bool, age: Age) -> Taken
-    ensures { result ≡ restarted who.now fell age }
-{
-    if fell {
-        Taken::Two(Event::Fall(*who), Event::Rise(*who, age))
-    } else {
-        Taken::One(Event::Rise(*who, age))
-    }
-}
-
 /// The actor rises with what it has kept, which is what was found.
 fn rise_old(actors: &mut Actors, who: &Actor, fell: bool) -> Result<Offer, MergeFault>
     ensures { (w : ExactWorld) (found : List ℕ) → Fell w who.now fell actors.old → kept_record who.now (part w who.now) ≡ Some found → TakesLine w who.now (own.Life who.now found) result actors.new }
 {
     steps_change_one_part();
     actors.room();
-    let taken = restarted(who, fell, Age::Old);
+    let taken = Taken::Rose(fell, Age::Old);
     offered(taken, actors.step(&Event::Rise(*who, Age::Old)))
 }
 
@@ -90,7 +79,7 @@ fn rise_new(
     steps_change_one_part();
     actors.room();
     match actors.step(&Event::Rise(*who, Age::New)) {
-        Ok(_) => settled(restarted(who, fell, Age::New), finds(actors, who, found)),
+        Ok(_) => settled(Taken::Rose(fell, Age::New), finds(actors, who, found)),
         Err(fault) => refused(fault),
     }
 }

@@ -1,10 +1,10 @@
 // What came of a line.
 
 ghost use Rattle.std.specs.Prelude.{◌≡◌};
-ghost use Rattle.line_merger.specs.Offers.{offered, refused};
+ghost use Rattle.line_merger.specs.Offers.{offered, refused, tried};
 
 use thiserror::Error;
-use world_model::{Effect, Event, StepFault};
+use world_model::{Age, Effect, StepFault};
 
 /// Why the actor can't do what a line says.
 #[derive(Clone, Copy, Debug, PartialEq, Eq)]
@@ -17,19 +17,21 @@ pub enum Refusal {
     Step(StepFault),
 }
 
-/// The events that a line came to.
+/// By which events a line of an actor was taken. It is small, since each line has one.
 #[derive(Clone, Copy, Debug, PartialEq, Eq)]
 pub enum Taken {
-    /// One event.
-    One(Event),
-    /// Two events, in this order: a fall and a rise.
-    Two(Event, Event),
+    /// By the event that it says.
+    Said,
+    /// By an event that reads the message of this number.
+    Read(u32),
+    /// By a rise of the actor, after a fall if this says so.
+    Rose(bool, Age),
 }
 
 /// What came of a line.
 #[derive(Clone, Copy, Debug, PartialEq, Eq)]
 pub enum Offer {
-    /// It was taken: these events happened.
+    /// It was taken, by these events.
     Took(Taken),
     /// It waits: nobody said yet what it reads.
     Waits,
@@ -59,12 +61,22 @@ pub fn refused(fault: StepFault) -> Result<Offer, MergeFault>
     }
 }
 
-/// What came of a line whose last event was stepped, if it came to these events.
+/// What came of a line whose last event was stepped, if it is taken by these events.
 pub fn offered(taken: Taken, step: Result<Effect, StepFault>) -> Result<Offer, MergeFault>
     ensures { result ≡ offered taken step }
 {
     match step {
         Ok(_) => Ok(Offer::Took(taken)),
         Err(fault) => refused(fault),
+    }
+}
+
+/// What comes of a line that is only tried, if this came of taking it.
+pub(crate) fn tried(offer: Result<Offer, MergeFault>) -> Result<Option<Offer>, MergeFault>
+    ensures { result ≡ tried offer }
+{
+    match offer {
+        Ok(offer) => Ok(Some(offer)),
+        Err(fault) => Err(fault),
     }
 }

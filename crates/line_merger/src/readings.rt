@@ -2,10 +2,10 @@
 
 ghost use Rattle.std.specs.Prelude.{◌≡◌, ℕ, List};
 ghost use Rattle.own_journals.specs.declared.lines.OwnLine.TheVariants as own;
-ghost use Rattle.frame_numbers.specs.FrameNumbers.{IsIndexOf, Seen};
-ghost use Rattle.line_merger.specs.Offers.{HasFrame, TakesLine, reading_by};
+ghost use Rattle.frame_numbers.specs.FrameNumbers.{HasFrame, IsIndexOf, Seen};
+ghost use Rattle.line_merger.specs.Offers.{TakesLine, TriesLine, reading_by};
 
-use crate::offers::offered;
+use crate::offers::{offered, tried};
 use crate::{MergeFault, Offer, Taken};
 use bytes::Bytes;
 use frame_numbers::laws::indexes_grow;
@@ -17,7 +17,7 @@ use world_model::Event;
 use world_model::laws::steps_change_one_part;
 
 /// The event by which the actor reads the message of this number.
-fn reading_by(who: &Actor, number: u32) -> Event
+pub fn reading_by(who: &Actor, number: u32) -> Event
     ensures { result ≡ reading_by who.now number }
 {
     match *who {
@@ -44,7 +44,7 @@ pub(crate) fn take_numbered(
     };
     is_message(&message);
     let event = reading_by(who, number);
-    offered(Taken::One(event), actors.step(&event))
+    offered(Taken::Read(number), actors.step(&event))
 }
 
 /// Takes a line that reads the message of this frame. The numbers are those of the actors' messages.
@@ -68,5 +68,30 @@ pub fn take_frame(
     match numbers.number_of(frame) {
         Some(number) => take_numbered(actors, who, number),
         None => Ok(Offer::Waits),
+    }
+}
+
+/// Takes a line that reads the message of this frame, if that is one that was said lately. `None` says nothing: the message
+/// may have been said before, or not at all. The numbers are those of the actors' messages.
+///
+/// # Errors
+///
+/// `Full` if the list of messages is full, `Memory` if there is no memory.
+pub(crate) fn take_lately(
+    actors: &mut Actors,
+    numbers: &mut FrameNumbers,
+    who: &Actor,
+    frame: &Bytes,
+) -> Result<Option<Offer>, MergeFault>
+    requires { IsIndexOf numbers.old actors.old.sent }
+    ensures takes { TriesLine actors.old who.now (own.Reads who.now frame.now) result actors.new }
+    ensures index { IsIndexOf numbers.new actors.new.sent }
+{
+    let Ok(found) = numbers.number_lately(actors, frame) else {
+        return Err(MergeFault::Memory);
+    };
+    match found {
+        Some(number) => tried(take_numbered(actors, who, number)),
+        None => Ok(None),
     }
 }

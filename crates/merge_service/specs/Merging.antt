@@ -4,6 +4,8 @@ use Rattle.std.specs.Fmt.{decimal}
 use Rattle.std.specs.Io.KnownBytes.{Keeps, Appends}
 use Rattle.world_model.specs.declared.events.Effect.{Effect}
 use Rattle.world_model.specs.declared.events.Event.{Event}
+use Rattle.world_model.specs.declared.events.StepFault.{StepFault}
+use Rattle.world_model.specs.declared.events.StepFault.TheVariants as step
 use Rattle.world_model.specs.declared.exact.ExactWorld.{ExactWorld}
 use Rattle.journal_text.specs.Journals.{history_text}
 use Rattle.journal_merge.specs.LineMerges.{Journals, HasMerge}
@@ -13,7 +15,11 @@ use Rattle.journal_merger.specs.Pendings.{Pending, AreLeft, lines_of}
 use Rattle.journal_merger.specs.declared.faults.Failure.{Failure}
 use Rattle.journal_merger.specs.declared.faults.JournalsFault.{JournalsFault}
 use Rattle.journal_merger.specs.declared.faults.JournalsFault.TheVariants as fault
+use Rattle.line_merger.specs.declared.offers.Refusal.{Refusal}
+use Rattle.line_merger.specs.declared.offers.Refusal.TheVariants as refusal
 use Rattle.line_streams.specs.Streams.{pieces, AppendsBeginning}
+use Rattle.own_journals.specs.declared.lines.OwnLine.{OwnLine}
+use Rattle.own_journals.specs.declared.lines.OwnLine.TheVariants as own
 use Rattle.operator_cli.specs.declared.faults.ServeFault.{ServeFault}
 use Rattle.operator_cli.specs.declared.faults.ServeFault.TheVariants as serving
 use Rattle.operator_cli.specs.declared.faults.SettingsFault.{SettingsFault}
@@ -28,6 +34,8 @@ use Rattle.merge_service.specs.declared.ends.MergeEnd.{MergeEnd}
 use Rattle.merge_service.specs.declared.ends.MergeEnd.TheVariants as end
 use Rattle.merge_service.specs.declared.ends.MergeFault.{MergeFault}
 use Rattle.merge_service.specs.declared.ends.MergeFault.TheVariants as met
+use Rattle.merge_service.specs.declared.telling.Sort.{Sort}
+use Rattle.merge_service.specs.declared.telling.Sort.TheVariants as sort
 
 -- how many lines were merged
 abbrev pub merged_text : ℕ → List ℕ
@@ -130,3 +138,34 @@ LacksFile w e = (f : Failure) × Keeps w.old w.new × (e.status ≡ failure_stat
 
 abbrev pub RunsMerge : Bool → ℕ → Option (List ℕ) → Writers → Ended → Type 0
 RunsMerge judged count input w e = MergesFiles judged count input w e ⊎ LacksFile w e
+
+-- the same of a line whose step is refused, but not because the settings have no such actor
+abbrev pub sort_of_line : OwnLine → Sort
+sort_of_line (own.Life who found) = sort.Record
+sort_of_line (own.Reads who frame) = sort.Event
+sort_of_line (own.Does e) = sort.Event
+
+-- the same of a line whose step is refused so
+abbrev pub sort_of_step : StepFault → OwnLine → Sort
+sort_of_step step.UnknownActor l = sort.Actor
+sort_of_step step.Down l = sort_of_line l
+sort_of_step step.Up l = sort_of_line l
+sort_of_step step.WrongPhase l = sort_of_line l
+sort_of_step step.NotStored l = sort_of_line l
+sort_of_step step.NothingToSay l = sort_of_line l
+sort_of_step step.NoSuchMessage l = sort_of_line l
+sort_of_step step.NotAddressed l = sort_of_line l
+sort_of_step step.NoQuorum l = sort_of_line l
+sort_of_step step.AttemptsSpent l = sort_of_line l
+sort_of_step step.SentListFull l = sort_of_line l
+sort_of_step step.Memory l = sort_of_line l
+sort_of_step step.NoSuchPlace l = sort_of_line l
+sort_of_step step.NothingTried l = sort_of_line l
+
+-- Why a line is left, by why its actor refuses it and by what it says. If it is not refused, nobody said what it reads. A life
+-- that is refused has another record, unless the settings have no such actor.
+abbrev pub sort_of : Option Refusal → OwnLine → Sort
+sort_of None l = sort.Unsaid
+sort_of (Some refusal.OtherRecord) l = sort.Record
+sort_of (Some refusal.OtherActor) l = sort.Event
+sort_of (Some (refusal.Step f)) l = sort_of_step f l

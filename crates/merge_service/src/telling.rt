@@ -1,7 +1,7 @@
 // What is said of a merge on the second writer.
 
 ghost use Rattle.std.specs.Prelude.{◌≡◌};
-ghost use Rattle.merge_service.specs.Merging.{failure_status, merge_status};
+ghost use Rattle.merge_service.specs.Merging.{failure_status, merge_status, sort_of};
 
 use crate::ends::{failure_status, merge_status};
 use crate::{MergeEnd, MergeFault};
@@ -13,10 +13,13 @@ use own_journals::OwnLine;
 use program_ends::{Ended, tell_fault};
 use std::alloc::Global;
 use std::io::{Read, Write};
+use world_model::StepFault;
 
 /// Why a line is left, the most telling reason first.
 #[derive(Clone, Copy, PartialEq, Eq)]
 enum Sort {
+    /// The settings have no such actor.
+    Actor,
     /// Nobody said what it reads.
     Unsaid,
     /// Its actor refuses the event.
@@ -25,11 +28,14 @@ enum Sort {
     Record,
 }
 
-/// Why this line is left. If nothing was tried, 611 says that a life did not find the kept record.
-fn sort_of(left: &LineLeft<'_>) -> Sort {
+/// Why this line is left. A life that is refused has another record, unless the settings have no such actor.
+fn sort_of(left: &LineLeft<'_>) -> Sort
+    ensures { result ≡ sort_of left.now.refusal left.now.line.now }
+{
     match (left.refusal, left.line) {
         (None, _) => Sort::Unsaid,
         (Some(Refusal::OtherRecord), _) => Sort::Record,
+        (Some(Refusal::Step(StepFault::UnknownActor)), _) => Sort::Actor,
         (Some(Refusal::Step(_)), OwnLine::Life(_, _)) => Sort::Record,
         (Some(Refusal::Step(_)), _) => Sort::Event,
         (Some(Refusal::OtherActor), _) => Sort::Event,
@@ -50,6 +56,13 @@ fn say_refusal<E: Write>(left: &LineLeft<'_>, errors: &mut E) -> bool {
 /// Says a reason.
 fn say_why<E: Write>(left: &LineLeft<'_>, errors: &mut E) -> bool {
     match sort_of(left) {
+        Sort::Actor => {
+            writeln!(
+                errors,
+                "refused 601: the settings have no such node or client"
+            )
+            .is_ok()
+        }
         Sort::Unsaid => writeln!(errors, "nobody said this message").is_ok(),
         Sort::Record => writeln!(errors, "neither the kept record nor the tried one").is_ok(),
         Sort::Event => say_refusal(left, errors),
@@ -115,10 +128,11 @@ fn say_stuck<J: Read, E: Write>(
     journals: &Journals<J>,
     errors: &mut E,
 ) -> bool {
+    let actor = say_sort(alloc, names, journals, Sort::Actor, errors);
     let unsaid = say_sort(alloc, names, journals, Sort::Unsaid, errors);
     let event = say_sort(alloc, names, journals, Sort::Event, errors);
     let record = say_sort(alloc, names, journals, Sort::Record, errors);
-    unsaid && event && record
+    actor && unsaid && event && record
 }
 
 /// Says a fault of a journal, or of a line of it.

@@ -22,55 +22,64 @@ use Rattle.own_journals.specs.declared.faults.OwnLineFault.{OwnLineFault}
 use Rattle.own_journals.specs.declared.faults.OwnLineFault.TheVariants as fault
 use Rattle.own_journals.specs.declared.lines.OwnLine.{OwnLine}
 use Rattle.own_journals.specs.declared.lines.OwnLine.TheVariants as own
-use Rattle.own_journals.specs.OwnLines.{IsPlain, IsFramed, IsWhole, reading_word, three_of, fallen_in, named_in, NamesActor, SpellsBytes, Frames, is_frame_word, line_with, ReadsFrame, plain_in, framed_in, ReadsWhole}
+use Rattle.own_journals.specs.OwnLines.{IsPlain, IsFramed, IsWhole, reading_word, three_of, trying_in, named_in, NamesActor, SpellsBytes, Frames, is_frame_word, line_with, ReadsFrame, plain_in, framed_in, ReadsWhole}
 
 -- words
 
 pub four_words : (a b c rest : List ℕ) → three_of (a ∷ b ∷ c ∷ words rest) ≡ None
 four_words a b c rest = let s = some_part is_space rest in ap (λ ws. three_of (a ∷ b ∷ c ∷ ws)) s.2
 
+pub no_frame_word : (a : List ℕ) (ws : List (List ℕ)) → is_frame_word a ≡ false → framed_in (three_of (a ∷ ws)) ≡ None
+no_frame_word a [] h = refl
+no_frame_word a (b ∷ []) h = refl
+no_frame_word a (b ∷ c ∷ []) h = ap (λ t. cond t (Some (a, b, c)) None) h
+no_frame_word a (b ∷ c ∷ d ∷ ws) h = refl
+
+pub three_framed : (a b c : List ℕ) → is_frame_word a ≡ true → framed_in (three_of (a ∷ b ∷ c ∷ [])) ≡ Some (a, b, c)
+three_framed a b c h = ap (λ t. cond t (Some (a, b, c)) None) h
+
 -- actors
 
-names-fall : EventsAreSpelledOnce → (word : List ℕ) (who : Actor) → event_of (codes "fall " ++ word) ≡ Ok (event.Fall who) → (word ≡ actor_text who) × IsActor who
-names-fall once word who h =
-    let s = (once (codes "fall " ++ word) (event.Fall who)).0 h in
-    let z : 102 ∷ 97 ∷ 108 ∷ 108 ∷ 32 ∷ word ≡ 102 ∷ 97 ∷ 108 ∷ 108 ∷ 32 ∷ actor_text who = s.0 in
+names-try : EventsAreSpelledOnce → (word : List ℕ) (who : Actor) → event_of (codes "try " ++ word) ≡ Ok (event.Try who) → (word ≡ actor_text who) × IsActor who
+names-try once word who h =
+    let s = (once (codes "try " ++ word) (event.Try who)).0 h in
+    let z : 116 ∷ 114 ∷ 121 ∷ 32 ∷ word ≡ 116 ∷ 114 ∷ 121 ∷ 32 ∷ actor_text who = s.0 in
     let same : word ≡ actor_text who = cc in
     (same, s.1.0)
 
-fall-names : EventsAreSpelledOnce → (word : List ℕ) (who : Actor) → word ≡ actor_text who → IsActor who → event_of (codes "fall " ++ word) ≡ Ok (event.Fall who)
-fall-names once word who same is = (once (codes "fall " ++ word) (event.Fall who)).1 (ap (λ w. codes "fall " ++ w) same, (is, tt))
+try-names : EventsAreSpelledOnce → (word : List ℕ) (who : Actor) → word ≡ actor_text who → IsActor who → event_of (codes "try " ++ word) ≡ Ok (event.Try who)
+try-names once word who same is = (once (codes "try " ++ word) (event.Try who)).1 (ap (λ w. codes "try " ++ w) same, (is, tt))
 
-fallen-is : (e : Event) (who : Actor) → fallen_in e ≡ Some who → e ≡ event.Fall who
-fallen-is (event.Fall who) other h = let z : Some who ≡ Some other = h in let same : who ≡ other = cc in ap event.Fall same
-fallen-is (event.Take n k) who h = absurd (let z : None ≡ Some who = h in cc)
-fallen-is (event.Hear c k) who h = absurd (let z : None ≡ Some who = h in cc)
-fallen-is (event.Begin c m x place) who h = absurd (let z : None ≡ Some who = h in cc)
-fallen-is (event.Try it) who h = absurd (let z : None ≡ Some who = h in cc)
-fallen-is (event.Kept it) who h = absurd (let z : None ≡ Some who = h in cc)
-fallen-is (event.SayTo c n) who h = absurd (let z : None ≡ Some who = h in cc)
-fallen-is (event.Say n) who h = absurd (let z : None ≡ Some who = h in cc)
-fallen-is (event.Enter c) who h = absurd (let z : None ≡ Some who = h in cc)
-fallen-is (event.Leave c) who h = absurd (let z : None ≡ Some who = h in cc)
-fallen-is (event.Soften c) who h = absurd (let z : None ≡ Some who = h in cc)
-fallen-is (event.Rise it age) who h = absurd (let z : None ≡ Some who = h in cc)
-fallen-is (event.Switch n p) who h = absurd (let z : None ≡ Some who = h in cc)
+trying-is : (e : Event) (who : Actor) → trying_in e ≡ Some who → e ≡ event.Try who
+trying-is (event.Try who) other h = let z : Some who ≡ Some other = h in let same : who ≡ other = cc in ap event.Try same
+trying-is (event.Take n k) who h = absurd (let z : None ≡ Some who = h in cc)
+trying-is (event.Hear c k) who h = absurd (let z : None ≡ Some who = h in cc)
+trying-is (event.Begin c m x place) who h = absurd (let z : None ≡ Some who = h in cc)
+trying-is (event.Fall it) who h = absurd (let z : None ≡ Some who = h in cc)
+trying-is (event.Kept it) who h = absurd (let z : None ≡ Some who = h in cc)
+trying-is (event.SayTo c n) who h = absurd (let z : None ≡ Some who = h in cc)
+trying-is (event.Say n) who h = absurd (let z : None ≡ Some who = h in cc)
+trying-is (event.Enter c) who h = absurd (let z : None ≡ Some who = h in cc)
+trying-is (event.Leave c) who h = absurd (let z : None ≡ Some who = h in cc)
+trying-is (event.Soften c) who h = absurd (let z : None ≡ Some who = h in cc)
+trying-is (event.Rise it age) who h = absurd (let z : None ≡ Some who = h in cc)
+trying-is (event.Switch n p) who h = absurd (let z : None ≡ Some who = h in cc)
 
-pub names-actor : EventsAreSpelledOnce → (word : List ℕ) → NamesActor word (named_in (event_of (codes "fall " ++ word)))
-names-actor once word = go (event_of (codes "fall " ++ word)) refl
+pub names-actor : EventsAreSpelledOnce → (word : List ℕ) → NamesActor word (named_in (event_of (codes "try " ++ word)))
+names-actor once word = go (event_of (codes "try " ++ word)) refl
   where
-    only : (r : Result Event LineFault) → event_of (codes "fall " ++ word) ≡ r → (who : Actor) → word ≡ actor_text who → IsActor who → (named_in r ≡ Ok who) ⊎ (named_in r ≡ Err fault.Memory)
-    only r is who same known = inl (ap named_in (sym is ∙ fall-names once word who same known))
+    only : (r : Result Event LineFault) → event_of (codes "try " ++ word) ≡ r → (who : Actor) → word ≡ actor_text who → IsActor who → (named_in r ≡ Ok who) ⊎ (named_in r ≡ Err fault.Memory)
+    only r is who same known = inl (ap named_in (sym is ∙ try-names once word who same known))
 
-    found : (e : Event) (o : Option Actor) → event_of (codes "fall " ++ word) ≡ Ok e → fallen_in e ≡ o → NamesActor word (named_in (Ok e))
+    found : (e : Event) (o : Option Actor) → event_of (codes "try " ++ word) ≡ Ok e → trying_in e ≡ o → NamesActor word (named_in (Ok e))
     found e None is none = record { is = subst (λ o. IfOk (ok_or o fault.NoLine) (λ who. (word ≡ actor_text who) × IsActor who)) (sym none) tt; only = only (Ok e) is }
     found e (Some who) is some = record {
-      is = subst (λ o. IfOk (ok_or o fault.NoLine) (λ x. (word ≡ actor_text x) × IsActor x)) (sym some) (names-fall once word who (is ∙ ap Ok (fallen-is e who some)));
+      is = subst (λ o. IfOk (ok_or o fault.NoLine) (λ x. (word ≡ actor_text x) × IsActor x)) (sym some) (names-try once word who (is ∙ ap Ok (trying-is e who some)));
       only = only (Ok e) is;
     }
 
-    go : (r : Result Event LineFault) → event_of (codes "fall " ++ word) ≡ r → NamesActor word (named_in r)
-    go (Ok e) is = found e (fallen_in e) is refl
+    go : (r : Result Event LineFault) → event_of (codes "try " ++ word) ≡ r → NamesActor word (named_in r)
+    go (Ok e) is = found e (trying_in e) is refl
     go (Err f) is = record { is = tt; only = only (Err f) is }
 
 -- three words

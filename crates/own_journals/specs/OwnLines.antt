@@ -108,13 +108,13 @@ pub record NamesActor (word : List ℕ) (found : Result Actor OwnLineFault) : Ty
   pub is : IfOk found (λ who. (word ≡ actor_text who) × IsActor who)
   pub only : (who : Actor) → word ≡ actor_text who → IsActor who → (found ≡ Ok who) ⊎ (found ≡ Err fault.Memory)
 
--- the actor that falls, in an event and in what was read
-abbrev pub fallen_in : Event → Option Actor
-fallen_in (event.Fall who) = Some who
-fallen_in _ = None
+-- the actor that tries to keep, in an event and in what was read
+abbrev pub trying_in : Event → Option Actor
+trying_in (event.Try who) = Some who
+trying_in _ = None
 
 abbrev pub named_in : Result Event LineFault → Result Actor OwnLineFault
-named_in (Ok e) = ok_or (fallen_in e) fault.NoLine
+named_in (Ok e) = ok_or (trying_in e) fault.NoLine
 named_in (Err f) = Err fault.NoLine
 
 -- the bytes that digits spell, unless there is no memory: none exactly if they spell none

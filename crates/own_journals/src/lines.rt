@@ -6,7 +6,7 @@ ghost use Rattle.own_journals.specs.OwnLines.{reading_word, line_with, plain_in,
 ghost use Rattle.world_model.specs.Kinds.{kind_of, is_reading};
 
 use crate::OwnLineFault;
-use crate::words::{actor_in, last_words, three_words};
+use crate::words::{actor_in, first_word, last_words};
 use bytes::Bytes;
 use event_lines::laws::events_are_spelled_once;
 use event_lines::{LineFault, read_event};
@@ -115,12 +115,19 @@ fn is_framed(word: &[u8]) -> bool
 }
 
 /// The three words of a line that has a frame or a record.
+#[tactic(auto, using(crate::proofs::OwnLineFacts::four_words, crate::proofs::OwnLineFacts::no_frame_word, crate::proofs::OwnLineFacts::three_framed))]
 fn framed_words(line: &[u8]) -> Option<(&[u8], &[u8], &[u8])>
     ensures { seen result ≡ framed_in (three_of (words line.now)) }
 {
-    match three_words(line) {
-        Some((word, name, digits)) if is_framed(word) => Some((word, name, digits)),
-        _ => None,
+    let (word, rest) = first_word(line);
+    if !is_framed(word) {
+        return None;
+    }
+    let (name, rest) = first_word(rest?);
+    let (digits, rest) = first_word(rest?);
+    match rest {
+        Some(_) => None,
+        None => Some((word, name, digits)),
     }
 }
 

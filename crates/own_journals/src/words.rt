@@ -1,12 +1,13 @@
 // The words of a line.
 
-ghost use Rattle.std.specs.Prelude.{◌≡◌, ◌∷◌, ◌++◌, ◌<◌, length, IfOk, IfSome, codes};
+ghost use Rattle.std.specs.Prelude.{◌≡◌, ℕ, List, ◌∷◌, ◌++◌, ◌<◌, length, IfOk, IfSome, codes};
 ghost use Rattle.std.specs.List.{position};
 ghost use Rattle.event_lines.specs.Lines.{is_space, words};
 ghost use Rattle.event_lines.specs.Reading.{words_behind};
-ghost use Rattle.own_journals.specs.OwnLines.{three_of, seen, last_from, last_three, fallen_in, named_in, NamesActor};
+ghost use Rattle.own_journals.specs.OwnLines.{seen, last_from, last_three, trying_in, named_in, NamesActor};
 
 use crate::OwnLineFault;
+use arrayvec::ArrayVec;
 use event_lines::laws::events_are_spelled_once;
 use event_lines::{LineFault, read_event};
 use lock_messages::Actor;
@@ -21,27 +22,13 @@ fn space_in(text: &[u8]) -> Option<usize>
 }
 
 /// The first word, and what is after the space behind it, if there is one.
-fn first_word(text: &[u8]) -> (&[u8], Option<&[u8]>)
+pub(crate) fn first_word(text: &[u8]) -> (&[u8], Option<&[u8]>)
     ensures words { words text.now ≡ result.0.now ∷ words_behind result.1 }
     ensures shorter { IfSome result.1 (λ rest. length rest.now < length text.now) }
 {
     match space_in(text) {
         None => (text, None),
         Some(at) => (&text[..at], Some(&text[at + 1..])),
-    }
-}
-
-/// The three words of a text that has three.
-#[tactic(auto, using(crate::proofs::OwnLineFacts::four_words))]
-pub fn three_words(text: &[u8]) -> Option<(&[u8], &[u8], &[u8])>
-    ensures { seen result ≡ three_of (words text.now) }
-{
-    let (first, rest) = first_word(text);
-    let (second, rest) = first_word(rest?);
-    let (third, rest) = first_word(rest?);
-    match rest {
-        Some(_) => None,
-        None => Some((first, second, third)),
     }
 }
 
@@ -78,37 +65,62 @@ pub fn last_words(text: &[u8]) -> Option<(&[u8], &[u8], &[u8])>
     Some(last_of(first, second, third, rest))
 }
 
-/// The text `fall` and the word.
-fn fall_of(alloc: Global, word: &[u8]) -> Result<Vec<u8>, AllocError>
-    ensures { IfOk result (λ text. text.items ≡ codes "fall " ++ word.now) }
+/// The most bytes of a text that takes no memory: those of `try` and a word that is no longer than an actor's name.
+const SHORT: usize = 16;
+
+/// The text `try` and the word, if it is short.
+fn short_try(word: &[u8]) -> Option<ArrayVec<u8, SHORT>>
+    ensures { IfSome result (λ text. text.items ≡ codes "try " ++ word.now) }
+{
+    let mut text = ArrayVec::new();
+    if text.try_extend_from_slice(b"try ").is_err() {
+        return None;
+    }
+    if text.try_extend_from_slice(word).is_err() {
+        return None;
+    }
+    Some(text)
+}
+
+/// The text `try` and the word.
+fn long_try(alloc: Global, word: &[u8]) -> Result<Vec<u8>, AllocError>
+    ensures { IfOk result (λ text. text.items ≡ codes "try " ++ word.now) }
 {
     let mut text = Vec::new(alloc);
-    text.extend_from_slice(b"fall ")?;
+    text.extend_from_slice(b"try ")?;
     text.extend_from_slice(word)?;
     Ok(text)
 }
 
-/// The actor that falls, if this is a fall.
-fn fallen(event: Event) -> Option<Actor>
-    ensures { result ≡ fallen_in event }
+/// The actor that tries to keep, if this is a try.
+fn trying(event: Event) -> Option<Actor>
+    ensures { result ≡ trying_in event }
 {
     match event {
-        Event::Fall(actor) => Some(actor),
+        Event::Try(actor) => Some(actor),
         _ => None,
     }
 }
 
-/// The actor that falls in what was read.
+/// The actor that tries to keep in what was read.
 fn named(read: Result<Event, LineFault>) -> Result<Actor, OwnLineFault>
     ensures { result ≡ named_in read }
 {
     match read {
-        Ok(event) => fallen(event).ok_or(OwnLineFault::NoLine),
+        Ok(event) => trying(event).ok_or(OwnLineFault::NoLine),
         Err(_) => Err(OwnLineFault::NoLine),
     }
 }
 
-/// The actor that the word names.
+/// The actor that tries to keep, by a text that begins with `try`.
+fn trying_by(text: &[u8]) -> Result<Actor, OwnLineFault>
+    ensures { (word : List ℕ) → text.now ≡ codes "try " ++ word → NamesActor word result }
+{
+    events_are_spelled_once();
+    named(read_event(text))
+}
+
+/// The actor that the word names. It takes memory only if the word is longer than a name.
 ///
 /// # Errors
 ///
@@ -116,9 +128,11 @@ fn named(read: Result<Event, LineFault>) -> Result<Actor, OwnLineFault>
 pub fn actor_in(alloc: Global, word: &[u8]) -> Result<Actor, OwnLineFault>
     ensures { NamesActor word.now result }
 {
-    events_are_spelled_once();
-    match fall_of(alloc, word) {
-        Ok(text) => named(read_event(text.as_slice())),
+    if let Some(text) = short_try(word) {
+        return trying_by(text.as_slice());
+    }
+    match long_try(alloc, word) {
+        Ok(text) => trying_by(text.as_slice()),
         Err(_) => Err(OwnLineFault::Memory),
     }
 }

@@ -1,5 +1,6 @@
 use Rattle.std.proofs.Common.{◌++◌, ◌+◌, ◌∙◌, List, [], sym, ap, subst}
-use Rattle.journal_merger.specs.Pendings.{Pending}
+use Rattle.std.specs.Prelude.{slice_get}
+use Rattle.journal_merger.specs.Pendings.{Pending, told_of}
 use Rattle.journal_merger.specs.Merges.{IsFound, Goes}
 use Rattle.journal_merger.proofs.StandFacts.{stands-first, counts-first, took-on, index-within, found-refused, found-stuck, found-merged}
 use Rattle.journal_merger.proofs.OutFacts.{written-none, written-on, written-out, written-all, written-begins, written-part}
@@ -19,7 +20,7 @@ loop-lines-preserved g c =
       on.1,
       ap (λ n. n + 1) count ∙ sym on.3,
       c.in-Ok.ensures.index (subst Goes (sym c.in-Took.is) tt),
-      written-on (g.W.Write.contents c.args.writer.now) (g.W.Write.contents c.loop-lines.writer) (g.W.Write.contents c.go_on.new.writer) c.loop-lines.out c.go_on.new.out told on.0 c.in-Took.taken c.go_on.result _ on.2 c.in-Ok-go_on.is text c.go_on.ensures.text,
+      written-on (g.W.Write.contents c.args.writer.now) (g.W.Write.contents c.loop-lines.writer) (g.W.Write.contents c.go_on.new.writer) c.loop-lines.out c.go_on.new.out told on.0 (told_of (slice_get c.loop-lines.journals c.in-Took.journal) c.in-Took.taken) c.go_on.result _ on.2 c.in-Ok-go_on.is text c.go_on.ensures.text,
     )
 
 pub returns-in-Err : goal.returns-in-Err

@@ -2,7 +2,7 @@ use Rattle.std.proofs.Common.{◌<◌, List, length, refl, sym, subst}
 use Rattle.std.proofs.lemmas.Option.{slice_get_read}
 use Rattle.journal_merger.specs.Pendings.{Pending}
 use Rattle.journal_merger.proofs.PendingFacts.{read-on, apart-set}
-use Rattle.journal_merger.proofs.OutFacts.{gathers-all}
+use Rattle.journal_merger.proofs.OutFacts.{gathers-all, gathers-at}
 use Rattle.journal_merger.proofs.journals.Journals.go_on.Goals as goal
 
 pub invariant_of-self : goal.invariant_of-self
@@ -20,4 +20,7 @@ returns-clause-read g c =
 pub returns-clause-text : goal.returns-clause-text
 returns-clause-text g c =
     let out = g.W.Write.contents in
-    gathers-all (out c.args.writer.now) (out c.put_taken.new.writer) c.args.out.now c.put_taken.new.out _ c.put_taken.result _ c.advance.result c.in-Ok.is c.put_taken.ensures.text
+    let within : c.args.index < length c.self.inside.journals.items = subst (λ (ps : List Pending). c.args.index < length ps) (sym c.self.view_is) c.requires in
+    let at = slice_get_read c.self.inside.journals.items (length c.self.inside.journals.items) c.args.index c.index.result.now refl within c.index.ensures in
+    gathers-all (out c.args.writer.now) (out c.put_taken.new.writer) c.args.out.now c.put_taken.new.out _ c.put_taken.result _ c.advance.result c.in-Ok.is
+    (gathers-at (out c.args.writer.now) (out c.put_taken.new.writer) c.args.out.now c.put_taken.new.out c.self.inside.journals.items c.args.self.now c.args.index c.index.result.now c.args.taken.now c.put_taken.result c.self.view_is at c.put_taken.ensures.text)
