@@ -1,2 +1,3 @@
 pub mod WordFacts
 pub mod RecordFacts
+pub mod MergeFacts

@@ -21,6 +21,8 @@ use Rattle.program_ends.specs.declared.ending.Ended.{Ended}
 use Rattle.program_ends.specs.Endings.{Writers, Shows, LacksMemory, EndsSaying, TellsFault, EndsUnserved}
 use Rattle.command_words.specs.declared.reading.Request.{Request}
 use Rattle.command_words.specs.declared.reading.Request.TheVariants as request
+use Rattle.service_words.specs.Misuses.{misuse_text}
+use Rattle.service_requests.specs.Requests.{RunsService}
 use Rattle.fault_numbers.specs.Numbers.{words_of, explained_text}
 use Rattle.fault_numbers.specs.Tables.{Words}
 use Rattle.command_words.specs.Words.{app, FoundWords, found_in, Names}
@@ -61,7 +63,7 @@ words_for (Some number) = words_of number
 
 -- what is said if no fault has the number
 abbrev pub unknown_text : List ℕ
-unknown_text = codes "error: no fault has this number: docs/REFERENCE.md lists all numbers, from 101 to 959\n\nFor more information, try '--help'.\n"
+unknown_text = codes "error: no fault has this number: docs/REFERENCE.md lists all numbers, from 101 to 970\n\nFor more information, try '--help'.\n"
 
 -- The words of a number are shown, with status 0, unless there was no memory for them. If no fault has the number,
 -- that is said, with status 2.
@@ -102,12 +104,22 @@ RefusesFile w e = (f : FileFault) × Keeps w.old w.new × EndsSaying 2 (look_tex
 abbrev pub LooksAtFile : Writers → Ended → Type 0
 LooksAtFile w e = ((r : Report) × IsReport r × ShowsWith (status_for r.verdict) (string_bytes r.text) w e) ⊎ (RefusesFile w e ⊎ LacksMemory w e)
 
+-- Journals are merged, some number of them: those that are named and those in the directories among the names. The settings
+-- are those of the input. Or they are those of the first name, if it is a directory. No contract can say which names are
+-- directories, nor what is in them.
+abbrev pub MergesNamed : Bool → Option (List ℕ) → Writers → Ended → Type 0
+MergesNamed judged input w e =
+    ((count : ℕ) × RunsMerge judged count input w e)
+    ⊎ (((count : ℕ) × (settings : Option (List ℕ)) × RunsMerge judged count settings w e) ⊎ LacksMemory w e)
+
 -- a command is explained if `--explain` is anywhere
 abbrev pub RunsRequest : Request → Option (List ℕ) → Writers → Ended → Type 0
 RunsRequest (request.Serve a) input w e = RunsAsked (a.front || a.behind) a.command input w e
 RunsRequest (request.Explain number) input w e = ExplainsNumber (words_for number) w e
 RunsRequest (request.Record file) input w e = LooksAtFile w e
-RunsRequest (request.Merge m) input w e = RunsMerge m.judged (length m.names.items) input w e
+RunsRequest (request.Merge m) input w e = MergesNamed m.judged input w e
+RunsRequest (request.Service s) input w e = RunsService s input w e
+RunsRequest (request.Misused m) input w e = Keeps w.old w.new × EndsSaying 2 (misuse_text m) w.errors_old w.errors_new e
 
 -- what is asked for is what the words name
 abbrev pub RunsNamed : FoundWords → Option (List ℕ) → Writers → Ended → Type 0

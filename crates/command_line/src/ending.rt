@@ -11,13 +11,15 @@ ghost use Rattle.program_ends.specs.Endings.{EndsUnread};
 ghost use Rattle.command_line.specs.CommandLine.{EndsServed, ServesFor, RunsCommand, RunsAsked, RunsRequest, Runs};
 
 use crate::explaining::explain_command;
+use crate::merging::run_merging;
 use crate::numbers::explain_number;
 use crate::records::show_record;
+use crate::versions::with_origin;
 use command_words::{Request, read_words};
-use merge_service::run_merge;
 use operator_cli::{Command, Order, Policies, ServeFault, serve};
 use program_ends::{Ended, collected, end_unserved, tell_fault, tell_unread};
 use run_service::{Supplies, serve_run};
+use service_requests::{refuse_words, run_service_request};
 use std::alloc::Global;
 use std::env::Args;
 use std::fs::{File, Files};
@@ -25,6 +27,7 @@ use std::io;
 use std::io::{ErrorKind, Read, Write};
 use std::sync::Wait;
 use std::thread::Threads;
+use std::time::Clock;
 
 /// Ends a run that was served.
 fn end_served<E: Write>(came: Result<u8, ServeFault>, errors: &mut E) -> Ended
@@ -113,24 +116,27 @@ where
 }
 
 /// Does what is asked for.
-fn run_request<T: Threads + Wait + Files<File = File> + Copy + Send, R: Read, W: Write, E: Write>(
+fn run_request<
+    T: Threads + Wait + Clock + Files<File = File> + Copy + Send + Drop + 'static,
+    R: Read + Send + Drop + 'static,
+    W: Write,
+    E: Write,
+>(
     rt: T,
     alloc: Global,
-    request: Request<'_>,
+    request: &Request<'_>,
     policies: Policies,
     supplies: Supplies,
     reader: R,
     output: &mut W,
     errors: &mut E,
 ) -> Ended
-where
-    R: Drop,
     requires policies { length policies.pairs.items ≡ MAX_NODES }
     requires threads { length supplies.policies.pairs.items ≡ MAX_NODES }
     requires records_first { map (λ r. finds (r.vtable, r.value)) supplies.records.first.items ≡ replicate MAX_NODES (empty_node First) }
     requires records_second { map (λ r. finds (r.vtable, r.value)) supplies.records.second.items ≡ replicate MAX_NODES (empty_node Second) }
     requires records_clients { map (λ r. finds (r.vtable, r.value)) supplies.records.clients.items ≡ replicate MAX_CLIENTS empty_client }
-    ensures { RunsRequest request.entry (R.remaining reader) (record { old = W.contents output.old; new = W.contents output.new; errors_old = E.contents errors.old; errors_new = E.contents errors.new }) result }
+    ensures { RunsRequest request.now (R.remaining reader) (record { old = W.contents output.old; new = W.contents output.new; errors_old = E.contents errors.old; errors_new = E.contents errors.new }) result }
 {
     match request {
         Request::Serve(asked) => {
@@ -139,9 +145,13 @@ where
             let order = Order { command, policies };
             run_asked(rt, alloc, explain, order, supplies, reader, output, errors)
         }
-        Request::Explain(number) => explain_number(alloc, number, output, errors),
-        Request::Record(path) => show_record(&rt, alloc, path, output, errors),
-        Request::Merge(merging) => run_merge(
+        Request::Explain(number) => explain_number(alloc, *number, output, errors),
+        Request::Record(path) => show_record(&rt, alloc, *path, output, errors),
+        Request::Service(service) => {
+            run_service_request(rt, alloc, service, reader, output, errors)
+        }
+        Request::Misused(misuse) => refuse_words(*misuse, errors),
+        Request::Merge(merging) => run_merging(
             &rt,
             alloc,
             merging.judged,
@@ -156,7 +166,12 @@ where
 
 /// Does what the words say.
 #[tactic(auto, using(crate::proofs::WordFacts::runs_request, crate::proofs::WordFacts::runs_unserved))]
-fn run_words<T: Threads + Wait + Files<File = File> + Copy + Send, R: Read, W: Write, E: Write>(
+fn run_words<
+    T: Threads + Wait + Clock + Files<File = File> + Copy + Send + Drop + 'static,
+    R: Read + Send + Drop + 'static,
+    W: Write,
+    E: Write,
+>(
     rt: T,
     alloc: Global,
     words: &[String],
@@ -166,8 +181,6 @@ fn run_words<T: Threads + Wait + Files<File = File> + Copy + Send, R: Read, W: W
     output: &mut W,
     errors: &mut E,
 ) -> Ended
-where
-    R: Drop,
     requires policies { length policies.pairs.items ≡ MAX_NODES }
     requires threads { length supplies.policies.pairs.items ≡ MAX_NODES }
     requires records_first { map (λ r. finds (r.vtable, r.value)) supplies.records.first.items ≡ replicate MAX_NODES (empty_node First) }
@@ -177,15 +190,20 @@ where
 {
     match read_words(alloc, words) {
         Ok(request) => run_request(
-            rt, alloc, request, policies, supplies, reader, output, errors,
+            rt, alloc, &request, policies, supplies, reader, output, errors,
         ),
-        Err(why) => end_unserved(why, output, errors),
+        Err(why) => end_unserved(with_origin(&rt, alloc, why), output, errors),
     }
 }
 
 /// Does what the words say that the program was given.
 #[tactic(auto, using(crate::proofs::WordFacts::runs_lacking))]
-fn run_given<T: Threads + Wait + Files<File = File> + Copy + Send, R: Read, W: Write, E: Write>(
+fn run_given<
+    T: Threads + Wait + Clock + Files<File = File> + Copy + Send + Drop + 'static,
+    R: Read + Send + Drop + 'static,
+    W: Write,
+    E: Write,
+>(
     rt: T,
     alloc: Global,
     given: Args,
@@ -195,8 +213,6 @@ fn run_given<T: Threads + Wait + Files<File = File> + Copy + Send, R: Read, W: W
     output: &mut W,
     errors: &mut E,
 ) -> Ended
-where
-    R: Drop,
     requires policies { length policies.pairs.items ≡ MAX_NODES }
     requires threads { length supplies.policies.pairs.items ≡ MAX_NODES }
     requires records_first { map (λ r. finds (r.vtable, r.value)) supplies.records.first.items ≡ replicate MAX_NODES (empty_node First) }
@@ -232,18 +248,26 @@ where
 /// the number, `errors` says so, and the status is 2.
 /// `record FILE` writes what the file of a record holds to `output`. The status is 0 if it would open as a record,
 /// and 1 if not. If the file can't be read, `errors` says so with its number (942, 945), and the status is 2.
+/// `init`, `node`, `client`, `reap`, `status` and `switch` make a service, run its programs or show it, as
+/// `service_requests::run_service_request` does. If their words are wrong, `errors` says so, and the status is 2.
 /// `merge` and the names of files merge the journals in them, as `merge_service::run_merge` does, and with `--judge` only
-/// judge them.
+/// judge them. The name of a service's directory stands for the journals in it. If it is the first name, its settings are
+/// read in place of the input.
 /// `--help`, `help` and `--version`, also `script --help`, `help script` and the like, go to `output`, with status 0 (`fault 932`
-/// and 1 where that fails). Other words are wrong, and so is one that is not UTF-8: a text on `errors`
+/// and 1 where that fails). The version of an installed program has the kit and the commit after it. Other words are wrong, and so is one that is not UTF-8: a text on `errors`
 /// says so, and the status is 2. Where memory is refused while words are read, `fault 933` is told, with
 /// status 1.
 ///
 /// Contracts speak of what the reader has left and of what the writers hold, where these are known. No contract says
-/// which bytes a file has.
+/// which bytes a file has, nor what a program of a node or a client writes.
 /// The caller owes sixteen pairs of policies, as for `serve`, and for the threads of a run as many again;
 /// and the empty records that `serve_run` asks for. A run may wait without end.
-pub fn run<T: Threads + Wait + Files<File = File> + Copy + Send, R: Read, W: Write, E: Write>(
+pub fn run<
+    T: Threads + Wait + Clock + Files<File = File> + Copy + Send + Drop + 'static,
+    R: Read + Send + Drop + 'static,
+    W: Write,
+    E: Write,
+>(
     rt: T,
     alloc: Global,
     words: io::Result<Args>,
@@ -253,8 +277,6 @@ pub fn run<T: Threads + Wait + Files<File = File> + Copy + Send, R: Read, W: Wri
     output: &mut W,
     errors: &mut E,
 ) -> Ended
-where
-    R: Drop,
     requires policies { length policies.pairs.items ≡ MAX_NODES }
     requires threads { length supplies.policies.pairs.items ≡ MAX_NODES }
     requires records_first { map (λ r. finds (r.vtable, r.value)) supplies.records.first.items ≡ replicate MAX_NODES (empty_node First) }

@@ -19,8 +19,10 @@
 mod ending;
 mod explaining;
 mod following;
+mod merging;
 mod numbers;
 mod records;
+mod versions;
 
 pub use ending::run;
 pub use program_ends::{Ended, end_without_memory};

@@ -12,7 +12,7 @@ use std::io::Write;
 
 /// What is said if no fault has the number.
 const UNKNOWN: &str = "\
-error: no fault has this number: docs/REFERENCE.md lists all numbers, from 101 to 959
+error: no fault has this number: docs/REFERENCE.md lists all numbers, from 101 to 970
 
 For more information, try '--help'.
 ";

@@ -1,27 +1,25 @@
 -- The command that words name is one of the program's.
-use Rattle.std.proofs.Common.{◌≡◌, ◌⊎◌, inl, inr, ◌&&◌, ◌||◌, not, Bool, true, false, cond, ℕ, List, [], ◌∷◌, ◌++◌, map, codes, Option, Some, None, Result, Ok, Err, option_map, find, is_some, refl, sym, ap, subst, ◌∙◌, Box}
+use Rattle.std.proofs.Common.{◌≡◌, ◌⊎◌, inl, inr, ◌&&◌, ◌||◌, not, Bool, true, false, cond, ℕ, List, [], ◌∷◌, map, codes, Option, Some, None, Result, Ok, Err, option_map, find, is_some, refl, sym, ap, subst, ◌∙◌, Box}
 use Rattle.std.specs.Prelude.{IfOk}
 use Rattle.std.specs.Box.{box_value}
 use Rattle.std.proofs.lemmas.Option.{same_Some}
 use Rattle.clap.proofs.CallerLemmas.{subcommand_required}
 use Rattle.clap.proofs.OnLiterals.{clap_on_literals}
-use Rattle.clap.proofs.WalkLemmas.{one_text-rows}
-use Rattle.clap.specs.Built.{IsParsedFrom, AddsArg, AddsSubcommand}
-use Rattle.clap.specs.Matches.{found_of, subcommand_name_of, one_text}
-use Rattle.clap.specs.Simple.{App, Shape, app_of, shape_of, with_rule, with_subcommand, matches_of, built, entered, rows_at, names_of, label_of, argument_words, is_simple, subcommand_of, subcommand_rows, subcommand_rows_of, HasMatchesOf}
+use Rattle.clap.specs.Built.{IsParsedFrom}
+use Rattle.clap.specs.Matches.{found_of, subcommand_name_of}
+use Rattle.clap.specs.Simple.{App, Shape, app_of, matches_of, built, entered, rows_at, names_of, label_of, argument_words, is_simple, subcommand_of, subcommand_rows, subcommand_rows_of, HasMatchesOf}
 use Rattle.clap.specs.Kinds.{Kinds, or_else}
 use Rattle.clap.specs.Faults.{fault_of, walk_fault}
-use Rattle.clap.specs.Walk.{Names, Row, Rule, Text, answers_to, stop_after, one_of, rows_of, rule_of, walk_from, nothing_held}
+use Rattle.clap.specs.Walk.{Names, Row, Text, answers_to, stop_after, one_of, rows_of, walk_from, nothing_held}
 use Rattle.std.specs.Str.{bytes_eq}
 use Rattle.std.proofs.lemmas.Slice.Eq.{bytes_eq-Decides}
-use Rattle.clap.specs.declared.builder.arg.Arg.{Arg}
-use Rattle.clap.specs.declared.parser.matches.Found.{Found}
 use Rattle.clap.specs.declared.builder.command.Command.TheViews.{out-Command}
 use Rattle.clap.specs.declared.builder.command.Command as clap
 use Rattle.clap.specs.declared.parser.matches.ArgMatches.{ArgMatches}
 use Rattle.clap.specs.declared.parser.matches.ArgMatches.TheViews.{out-ArgMatches, out-SubCommand}
 use Rattle.clap.specs.declared.parser.matches.SubCommand.{SubCommand}
-use Rattle.command_words.specs.Words.{app, found_in, IsRequest, NamesOne, IsFlag, RequestsBehind, RequestsNamed, Requests}
+use Rattle.command_words.specs.Words.{app, found_in, IsRequest, NamesOne, RequestsBehind, RequestsNamed, Requests}
+use Rattle.clap_arguments.specs.Arguments.{IsFlag}
 use Rattle.command_words.specs.declared.reading.Request.{Request}
 use Rattle.command_words.proofs.HelpFacts.{NotHelp, walk_keeps}
 
@@ -55,7 +53,7 @@ abbrev pub label : Text → Text × List Text
 label name = (name, [])
 
 abbrev pub all_labels : Names
-all_labels = label (codes "script") ∷ label (codes "audit") ∷ label (codes "ballot") ∷ label (codes "run") ∷ label (codes "explain") ∷ label (codes "merge") ∷ label (codes "record") ∷ label (codes "help") ∷ []
+all_labels = label (codes "script") ∷ label (codes "audit") ∷ label (codes "ballot") ∷ label (codes "run") ∷ label (codes "explain") ∷ label (codes "merge") ∷ label (codes "record") ∷ label (codes "init") ∷ label (codes "node") ∷ label (codes "client") ∷ label (codes "reap") ∷ label (codes "status") ∷ label (codes "switch") ∷ label (codes "help") ∷ []
 
 -- the program's commands have these names, and `clap` adds the last
 labels_are : labels (built app).subs ≡ all_labels
@@ -76,9 +74,15 @@ is_name word n (inr (inr (inl e))) other = inl (inr (inr (inl e.0)))
 is_name word n (inr (inr (inr (inl e)))) other = inl (inr (inr (inr e.0)))
 is_name word n (inr (inr (inr (inr (inl e))))) other = inr (inl e.0)
 is_name word n (inr (inr (inr (inr (inr (inl e)))))) other = inr (inr (inl e.0))
-is_name word n (inr (inr (inr (inr (inr (inr (inl e))))))) other = inr (inr (inr e.0))
-is_name word n (inr (inr (inr (inr (inr (inr (inr (inl e)))))))) other = absurd (other (sym (answers_by_name word (codes "help") e.1)))
-is_name word n (inr (inr (inr (inr (inr (inr (inr (inr e)))))))) other = absurd e
+is_name word n (inr (inr (inr (inr (inr (inr (inl e))))))) other = inr (inr (inr (inl e.0)))
+is_name word n (inr (inr (inr (inr (inr (inr (inr (inl e)))))))) other = inr (inr (inr (inr (inl e.0))))
+is_name word n (inr (inr (inr (inr (inr (inr (inr (inr (inl e))))))))) other = inr (inr (inr (inr (inr (inl e.0)))))
+is_name word n (inr (inr (inr (inr (inr (inr (inr (inr (inr (inl e)))))))))) other = inr (inr (inr (inr (inr (inr (inl e.0))))))
+is_name word n (inr (inr (inr (inr (inr (inr (inr (inr (inr (inr (inl e))))))))))) other = inr (inr (inr (inr (inr (inr (inr (inl e.0)))))))
+is_name word n (inr (inr (inr (inr (inr (inr (inr (inr (inr (inr (inr (inl e)))))))))))) other = inr (inr (inr (inr (inr (inr (inr (inr (inl e.0))))))))
+is_name word n (inr (inr (inr (inr (inr (inr (inr (inr (inr (inr (inr (inr (inl e))))))))))))) other = inr (inr (inr (inr (inr (inr (inr (inr (inr e.0))))))))
+is_name word n (inr (inr (inr (inr (inr (inr (inr (inr (inr (inr (inr (inr (inr (inl e)))))))))))))) other = absurd (other (sym (answers_by_name word (codes "help") e.1)))
+is_name word n (inr (inr (inr (inr (inr (inr (inr (inr (inr (inr (inr (inr (inr (inr e)))))))))))))) other = absurd e
 
 some_command : (word : Text) (subs : List Shape) (found : Option (Text × List Row)) (n : Text) → labels subs ≡ all_labels → (word ≡ codes "help" → ⊥) → FoundOne (answers_to word) subs found
     → option_map (λ p. p.0) found ≡ Some n → IsRequest n
@@ -149,15 +153,6 @@ met_one c words m e none p h =
     let met = subcommand_required c m p locals (ap (λ (a : App). a.top.subcommand_required) e) in
     names_one (subcommand_name_of m) (some_mapped _ (out-ArgMatches m).subcommand ∙ met) (λ n k. named_is_request words n none (sym (met_name c words m e h) ∙ k))
 
--- what a flag is, by what its getter answers
-pub is_flag : (f : Found) (id : List ℕ) (set : Bool) → (one_text f id ≡ None → set ≡ false) → (one_text f id ≡ Some (codes "true") → set ≡ true) → (one_text f id ≡ Some (codes "false") → set ≡ false)
-    → IsFlag (one_of id (rows_of f)) set
-is_flag f id set none given absent = record {
-  missing = λ h. none (one_text-rows f id ∙ h);
-  given = λ h. given (one_text-rows f id ∙ h);
-  absent = λ h. absent (one_text-rows f id ∙ h);
-}
-
 -- what was found is what the words ask for
 pub names_found : (front : Bool) (o : Option (Text × List Row)) (name : Text) (rows : List Row) (r : Request) → Some name ≡ option_map (λ p. p.0) o → Some rows ≡ option_map (λ p. p.1) o → RequestsBehind front name rows r
     → RequestsNamed front o r
@@ -174,19 +169,3 @@ request_found {E} rows front o name behind (Err x) flag e k h = tt
 
 pub found_name : (m : ArgMatches) → subcommand_name_of m ≡ option_map (λ p. p.0) (subcommand_rows_of m)
 found_name m = name_of_rows (out-ArgMatches m).subcommand
-
--- a command with one more flag
-pub with_flag : (old new : clap.Command) (a : Arg) (b : App) (r : Rule) → AddsArg old a new → app_of old ≡ b → rule_of a ≡ r → a.global ≡ false → app_of new ≡ with_rule b r
-with_flag old new a b r adds before rule local = adds.shape local ∙ ap (λ (x : App). with_rule x (rule_of a)) before ∙ ap (λ (x : Rule). with_rule b x) rule
-
-pub shape_with_flag : (old new : clap.Command) (a : Arg) (s : Shape) (r : Rule) → AddsArg old a new → shape_of old ≡ s → rule_of a ≡ r → a.global ≡ false
-    → shape_of new ≡ record s { rules = s.rules ++ r ∷ [] }
-shape_with_flag old new a s r adds shape rule local =
-    ap (λ (w : App). w.top) (adds.shape local) ∙ ap (λ (x : Shape). record x { rules = x.rules ++ rule_of a ∷ [] }) shape ∙ ap (λ (x : Rule). record s { rules = s.rules ++ x ∷ [] }) rule
-
--- a command with one more below it
-pub with_sub : (old sub new : clap.Command) (b : App) (s : Shape) → AddsSubcommand old sub new → app_of old ≡ b → shape_of sub ≡ s → (out-Command sub).has_globals ≡ false → app_of new ≡ with_subcommand b s
-with_sub old sub new b s adds before shape local = adds.shape local ∙ ap (λ (x : App). with_subcommand x (shape_of sub)) before ∙ ap (λ (x : Shape). with_subcommand b x) shape
-
-pub still_local : (old new : clap.Command) (a : Arg) → AddsArg old a new → (out-Command old).has_globals ≡ false → a.global ≡ false → (out-Command new).has_globals ≡ false
-still_local old new a adds e k = adds.globals ∙ ap (λ (b : Bool). b || a.global) e ∙ k

@@ -1,10 +1,13 @@
 -- The words that the program takes, and what is read of them.
-use Rattle.std.specs.Prelude.{◌≡◌, ◌⊎◌, ℕ, ◌<◌, ◌^◌, Bool, true, false, List, [], ◌∷◌, Option, Some, None, SomeIff, Result, Ok, Err, codes, map, string_bytes}
-use Rattle.std.specs.Str.Parse.{IsNumeral, digits_value, without_leading_plus}
-use Rattle.clap.specs.Words.{App, Shape, Rule, Row, new_rule, all_of, one_of, first_of, with_rule, with_subcommand, subcommand_of, matches_of, HasKind, Kinds}
+use Rattle.std.specs.Prelude.{◌≡◌, ◌⊎◌, ℕ, ◌<◌, ◌^◌, Bool, true, List, [], ◌∷◌, Option, Some, None, SomeIff, Result, Ok, Err, codes, map, string_bytes}
+use Rattle.std.specs.Str.Parse.{IsNumeral, without_leading_plus}
+use Rattle.clap.specs.Words.{App, Shape, Rule, Row, all_of, one_of, first_of, with_rule, with_subcommand, subcommand_of, matches_of, HasKind, Kinds}
 use Rattle.clap.specs.Simple.{new_shape}
-use Rattle.clap.specs.declared.builder.action.ArgAction.TheVariants.{Append, Set, SetTrue}
 use Rattle.clap.specs.declared.error.Error.{Error}
+use Rattle.clap_arguments.specs.Arguments.{IsFlag, IsWord, AreWords, flag_rule, word_rule, words_rule, taking}
+use Rattle.service_words.specs.Numbers.{number_value}
+use Rattle.service_words.specs.Readings.{IsServiceName, ServiceBehind, MisusedBehind}
+use Rattle.service_words.specs.Shapes.{with_services}
 use Rattle.operator_cli.specs.declared.orders.Command.{Command}
 use Rattle.operator_cli.specs.declared.orders.Command.TheVariants as command
 use Rattle.program_ends.specs.declared.wording.Unserved.{Unserved}
@@ -15,12 +18,8 @@ use Rattle.command_words.specs.declared.reading.Request.TheVariants as request
 
 -- The words that the program takes: one of `script`, `audit`, `ballot` and `run`, with `--explain` before it or
 -- after it, or at both places, and after `run` also `--journal`; or `explain` or `record` and one word; or `merge`, words,
--- and `--judge` among them; or `help`. On either level help may be asked for by a flag, and on the upper one also the
+-- and `--judge` among them; or a command of a service and its words; or `help`. On either level help may be asked for by a flag, and on the upper one also the
 -- version.
-
--- the flag of this name
-abbrev pub flag_rule : List ℕ → Rule
-flag_rule name = record (new_rule name) { long = Some name; action = Some SetTrue }
 
 abbrev pub explain_rule : Rule
 explain_rule = flag_rule (codes "explain")
@@ -36,20 +35,12 @@ bare_app = record {
 abbrev pub top_app : App
 top_app = with_rule bare_app explain_rule
 
--- a command that takes one thing
-abbrev pub taking : List ℕ → Rule → Shape
-taking name rule = record (new_shape name) { rules = rule ∷ [] }
-
 -- a command that takes `--explain` and nothing else
 abbrev pub command_shape : List ℕ → Shape
 command_shape name = taking name explain_rule
 
 abbrev pub run_shape : Shape
 run_shape = record (new_shape (codes "run")) { rules = explain_rule ∷ flag_rule (codes "journal") ∷ [] }
-
--- the one word of a command
-abbrev pub word_rule : List ℕ → Rule
-word_rule name = record (new_rule name) { value_names = 1; required = true; action = Some Set }
 
 -- the command that explains a number, and the one that prints what a file holds
 abbrev pub explain_shape : Shape
@@ -59,11 +50,8 @@ abbrev pub record_shape : Shape
 record_shape = taking (codes "record") (word_rule (codes "file"))
 
 -- the command that merges journals, which are its words
-abbrev pub journals_rule : Rule
-journals_rule = record (new_rule (codes "journal")) { value_names = 1; required = true; action = Some Append }
-
 abbrev pub merge_shape : Shape
-merge_shape = record (new_shape (codes "merge")) { rules = flag_rule (codes "judge") ∷ journals_rule ∷ [] }
+merge_shape = record (new_shape (codes "merge")) { rules = flag_rule (codes "judge") ∷ words_rule (codes "journal") ∷ [] }
 
 abbrev pub with_command : App → List ℕ → App
 with_command a name = with_subcommand a (command_shape name)
@@ -72,27 +60,24 @@ with_command a name = with_subcommand a (command_shape name)
 abbrev pub served_app : App
 served_app = with_subcommand (with_command (with_command (with_command top_app (codes "script")) (codes "audit")) (codes "ballot")) run_shape
 
+-- with the commands that explain a number, merge journals, and print what a file holds
+abbrev pub plain_app : App
+plain_app = with_subcommand (with_subcommand (with_subcommand served_app explain_shape) merge_shape) record_shape
+
 abbrev pub app : App
-app = with_subcommand (with_subcommand (with_subcommand served_app explain_shape) merge_shape) record_shape
+app = with_services plain_app
 
 -- the name of a command that is served
 abbrev pub IsName : List ℕ → Type 0
 IsName name = (name ≡ codes "script") ⊎ ((name ≡ codes "audit") ⊎ ((name ≡ codes "ballot") ⊎ (name ≡ codes "run")))
 
--- the same, or the one that explains a number, merges journals, or prints what a file holds
+-- the same, or the one that explains a number, merges journals, or prints what a file holds, or one of a service
 abbrev pub IsRequest : List ℕ → Type 0
-IsRequest name = IsName name ⊎ ((name ≡ codes "explain") ⊎ ((name ≡ codes "merge") ⊎ (name ≡ codes "record")))
+IsRequest name = IsName name ⊎ ((name ≡ codes "explain") ⊎ ((name ≡ codes "merge") ⊎ ((name ≡ codes "record") ⊎ IsServiceName name)))
 
 abbrev pub NamesOne : Option (List ℕ) → Type 0
 NamesOne None = ⊥
 NamesOne (Some name) = IsRequest name
-
--- What `clap` finds of a flag: the text `true` where it stands among the words, else `false` or nothing.
--- That clap finds no other text is said by clap's own contract.
-pub record IsFlag (found : Option (List ℕ)) (set : Bool) : Type 0 where
-  pub missing : found ≡ None → set ≡ false
-  pub given : found ≡ Some (codes "true") → set ≡ true
-  pub absent : found ≡ Some (codes "false") → set ≡ false
 
 -- the command of a name, with what was found behind it
 abbrev pub IsCommand : List ℕ → List Row → Command → Type 0
@@ -115,9 +100,6 @@ abbrev pub AsksBehind : List ℕ → List Row → Asked → Type 0
 AsksBehind name rows a = IsCommand name rows a.command × IsFlag (one_of (codes "explain") rows) a.behind
 
 -- A word that is a number: decimal digits, and below 2 ^ 16.
-abbrev pub number_value : List ℕ → ℕ
-number_value text = digits_value 10 (without_leading_plus text)
-
 pub record IsNumber (text : List ℕ) : Type 0 where
   pub digits : IsNumeral 10 (without_leading_plus text)
   pub few : number_value text < 2 ^ 16
@@ -127,23 +109,15 @@ abbrev pub TellsNumber : Option (List ℕ) → Option ℕ → Type 0
 TellsNumber None r = r ≡ None
 TellsNumber (Some text) r = SomeIff r (IsNumber text) (number_value text)
 
--- The name of a file is the word. There is always one, since `clap` refuses the command without it.
-abbrev pub NamesFile : Option (List ℕ) → List ℕ → Type 0
-NamesFile None name = name ≡ codes ""
-NamesFile (Some text) name = name ≡ text
-
--- the words that are journals, if there are some
-abbrev pub AreNames : Option (List (List ℕ)) → List (List ℕ) → Type 0
-AreNames None names = names ≡ []
-AreNames (Some words) names = names ≡ words
-
 -- what is asked for by a name, what was found after it, and whether `--explain` is before it
 abbrev pub RequestsBehind : Bool → List ℕ → List Row → Request → Type 0
 RequestsBehind front name rows (request.Serve a) = AsksBehind name rows a × (a.front ≡ front)
 RequestsBehind front name rows (request.Explain number) = (name ≡ codes "explain") × TellsNumber (first_of (codes "number") rows) number
 RequestsBehind front name rows (request.Merge m) =
-    (name ≡ codes "merge") × IsFlag (one_of (codes "judge") rows) m.judged × AreNames (all_of (codes "journal") rows) (map string_bytes m.names.items)
-RequestsBehind front name rows (request.Record file) = (name ≡ codes "record") × NamesFile (first_of (codes "file") rows) file.now
+    (name ≡ codes "merge") × IsFlag (one_of (codes "judge") rows) m.judged × AreWords (all_of (codes "journal") rows) (map string_bytes m.names.items)
+RequestsBehind front name rows (request.Record file) = (name ≡ codes "record") × IsWord (first_of (codes "file") rows) file.now
+RequestsBehind front name rows (request.Service s) = ServiceBehind name rows s
+RequestsBehind front name rows (request.Misused m) = MisusedBehind name rows m
 
 -- the same of what was found
 abbrev pub RequestsNamed : Bool → Option (List ℕ × List Row) → Request → Type 0

@@ -1,8 +1,10 @@
 // The help of the program and of each command.
 
 pub(crate) const ABOUT: &str = "\
-A lock service for readers and writers, decided by the votes of nodes. It runs in one process,
-without a network. A script or a list of wishes says what its clients do.
+A lock service for readers and writers, decided by the votes of nodes.
+
+`rwvote init` makes a service in a directory, and `rwvote node` and `rwvote client` run its actors.
+`rwvote script` and `rwvote run` run a service in one process, by a script or a list of wishes.
 
 `rwvote help COMMAND` shows the lines and settings of a command, with an example to paste.
 `rwvote explain N` says what a printed number N means.
@@ -215,12 +217,14 @@ pub(crate) const MERGE_HELP: &str = "\
 Merges the journals that nodes and clients wrote alone into one journal of all.
 
 USAGE
+  rwvote merge DIR                        Merges the journals in a service's directory.
   rwvote merge JOURNAL.. < FILE           Prints the settings in FILE and the merged journal.
   rwvote merge --judge JOURNAL.. < FILE   Prints how many lines were merged.
-  rwvote merge JOURNAL.. < FILE | rwvote audit
+  rwvote merge DIR | rwvote audit
 
-Each JOURNAL is the file of one actor, with all its lives in order. Standard input has settings in
-TOML and a line ---. Paste this to try it:
+Each JOURNAL is the file of one actor, with all its lives in order, or a service's directory, which
+stands for the journals in it. If the first is a directory, its settings are read. Else standard
+input has settings in TOML and a line ---. Paste this to try it:
 
 cat >n1.journal <<'END'
 life n1 01010000

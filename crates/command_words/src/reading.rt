@@ -1,45 +1,25 @@
 // The words that the program takes, and their help.
 
-ghost use Rattle.std.specs.Prelude.{◌≡◌, IfOk, SomeIff, false, map, string_bytes, codes};
+ghost use Rattle.std.specs.Prelude.{◌≡◌, IfOk, SomeIff, Bool, false, map, string_bytes, codes};
 ghost use Rattle.clap.specs.Words.{app_of, shape_of, rule_of, rows_of, first_of, one_of, found_of, all_of, fault_of, subcommand_name_of, subcommand_rows_of};
-ghost use Rattle.clap.specs.Simple.{new_shape};
 ghost use Rattle.clap.specs.declared.builder.command.Command.TheViews.{out-Command};
-ghost use Rattle.command_words.specs.Words.{app, bare_app, top_app, explain_rule, flag_rule, taking, word_rule, command_shape, run_shape, explain_shape, journals_rule, merge_shape, record_shape, with_command, found_in, IsName, IsRequest, IsCommand, AsksBehind, RequestsBehind, Requests, IsFlag, IsNumber, number_value, TellsNumber, AreNames, NamesFile, NamesOne, Parses, ReadsWords};
+ghost use Rattle.clap_arguments.specs.Arguments.{IsFlag, AreWords};
+ghost use Rattle.service_words.specs.Numbers.{number_value};
+ghost use Rattle.service_words.specs.Readings.{IsServiceName};
+ghost use Rattle.command_words.specs.Words.{app, bare_app, top_app, explain_rule, command_shape, run_shape, explain_shape, merge_shape, record_shape, with_command, found_in, IsName, IsRequest, IsCommand, AsksBehind, RequestsBehind, Requests, IsNumber, TellsNumber, NamesOne, Parses, ReadsWords};
 
 use crate::help::{
     ABOUT, AUDIT_HELP, BALLOT_HELP, EXPLAIN_HELP, MERGE_HELP, RECORD_HELP, RUN_HELP, SCRIPT_HELP,
 };
-use clap::{Arg, ArgAction, ArgMatches};
+use clap::{Arg, ArgMatches};
+use clap_arguments::{
+    below, flag, has_flag, option_at, with_argument, word_argument, word_at, words_argument,
+    words_at,
+};
 use operator_cli::Command;
 use program_ends::{Unserved, unserved_by};
+use service_words::{Misuse, ServiceRequest, is_service_name, service_of, with_services};
 use std::alloc::{AllocError, Global};
-
-/// A command of the program that takes nothing yet.
-fn bare_below<'a>(alloc: Global, name: &'a str, about: &'a str, help: &'a str) -> clap::Command<'a>
-    ensures shape { shape_of result ≡ new_shape name.entry.now }
-    ensures local { (out-Command result).has_globals ≡ false }
-{
-    clap::Command::new(alloc, name)
-        .about(about)
-        .long_about(help)
-}
-
-/// A command of the program that takes this.
-fn below<'a>(
-    alloc: Global,
-    name: &'a str,
-    about: &'a str,
-    help: &'a str,
-    taken: Arg<'a>,
-) -> Result<clap::Command<'a>, AllocError>
-    requires { taken.global ≡ false }
-    ensures shape { IfOk result (λ c. shape_of c ≡ taking name.entry.now (rule_of taken.entry)) }
-    ensures local { IfOk result (λ c. (out-Command c).has_globals ≡ false) }
-{
-    let command = bare_below(alloc, name, about, help);
-    let with_taken = command.arg(taken)?;
-    Ok(with_taken)
-}
 
 /// The program without its commands and its flag.
 fn bare_top<'a>(alloc: Global) -> clap::Command<'a>
@@ -50,17 +30,6 @@ fn bare_top<'a>(alloc: Global) -> clap::Command<'a>
         .version("0.1.0")
         .about(ABOUT)
         .subcommand_required(true)
-}
-
-/// The flag of this name.
-fn flag<'a>(alloc: Global, name: &'a str, help: &'a str) -> Arg<'a>
-    ensures rule { rule_of result ≡ flag_rule name.entry.now }
-    ensures local { result.global ≡ false }
-{
-    Arg::new(alloc, name)
-        .long(name)
-        .action(ArgAction::SetTrue)
-        .help(help)
 }
 
 /// The flag that asks for words.
@@ -107,20 +76,7 @@ fn run_below<'a>(alloc: Global) -> Result<clap::Command<'a>, AllocError>
         "journal",
         "Prints the settings and the journal instead, for `rwvote audit`",
     );
-    let with_flags = run.arg(journal)?;
-    Ok(with_flags)
-}
-
-/// The one word that a command takes.
-fn word_argument<'a>(alloc: Global, name: &'a str, value: &'a str, help: &'a str) -> Arg<'a>
-    ensures rule { rule_of result ≡ word_rule name.entry.now }
-    ensures local { result.global ≡ false }
-{
-    Arg::new(alloc, name)
-        .value_name(value)
-        .required(true)
-        .action(ArgAction::Set)
-        .help(help)
+    with_argument(run, journal)
 }
 
 /// The command that explains a number.
@@ -132,22 +88,10 @@ fn explain_below<'a>(alloc: Global) -> Result<clap::Command<'a>, AllocError>
         alloc,
         "number",
         "N",
-        "A number that a program printed, 101 to 959",
+        "A number that a program printed, 101 to 970",
     );
     let about = "Explains the number of a fault";
     below(alloc, "explain", about, EXPLAIN_HELP, number)
-}
-
-/// The words of the command that merges journals: their names.
-fn journals_argument<'a>(alloc: Global) -> Arg<'a>
-    ensures rule { rule_of result ≡ journals_rule }
-    ensures local { result.global ≡ false }
-{
-    Arg::new(alloc, "journal")
-        .value_name("JOURNAL")
-        .required(true)
-        .action(ArgAction::Append)
-        .help("The journal of an actor")
 }
 
 /// The command that merges journals.
@@ -162,8 +106,8 @@ fn merge_below<'a>(alloc: Global) -> Result<clap::Command<'a>, AllocError>
     );
     let about = "Merges the journals of actors";
     let with_flag = below(alloc, "merge", about, MERGE_HELP, judge)?;
-    let with_journals = with_flag.arg(journals_argument(alloc))?;
-    Ok(with_journals)
+    let journals = words_argument(alloc, "journal", "JOURNAL", "The journal of an actor");
+    with_argument(with_flag, journals)
 }
 
 /// The command that prints what a record's file holds.
@@ -206,7 +150,8 @@ fn words_taken<'a>(alloc: Global) -> Result<clap::Command<'a>, AllocError>
     let merge = merge_below(alloc)?;
     let with_merge = with_explain.subcommand(merge)?;
     let viewer = record_below(alloc)?;
-    let with_all = with_merge.subcommand(viewer)?;
+    let with_viewer = with_merge.subcommand(viewer)?;
+    let with_all = with_services(alloc, with_viewer)?;
     Ok(with_all)
 }
 
@@ -240,14 +185,10 @@ pub enum Request<'a> {
     Merge(Merging),
     /// To print what the record's file of this name holds.
     Record(&'a str),
-}
-
-/// Whether the flag of this name was found.
-#[tactic(auto, using(crate::proofs::NameFacts::is_flag))]
-fn has_flag(found: &ArgMatches, name: &str) -> bool
-    ensures { IsFlag (one_of name.now (rows_of (found_of found.now))) result }
-{
-    found.get_flag(name)
+    /// To make a service, to run one of its actors, or to look at it.
+    Service(ServiceRequest<'a>),
+    /// Nothing: the words of a command of a service are wrong.
+    Misused(Misuse),
 }
 
 /// The command of this name, and whether a run is asked for its journal.
@@ -293,52 +234,31 @@ fn number_in(text: &str) -> Option<u16>
 fn number_at(found: &ArgMatches) -> Option<u16>
     ensures { TellsNumber (first_of (codes "number") (rows_of (found_of found.now))) result }
 {
-    match found.get_str("number") {
+    match option_at(found, "number") {
         Some(text) => number_in(text),
         None => None,
-    }
-}
-
-/// The name of the file that is to be printed.
-fn file_at<'a>(found: &ArgMatches<'a>) -> &'a str
-    ensures { NamesFile (first_of (codes "file") (rows_of (found_of found.now))) result.now }
-{
-    match found.get_str("file") {
-        Some(text) => text,
-        None => "",
-    }
-}
-
-/// Copies texts.
-fn copied(alloc: Global, texts: &[&str]) -> Result<Vec<String>, AllocError>
-    ensures { IfOk result (λ names. map string_bytes names.items ≡ map (λ t. t.now) texts.now) }
-{
-    let mut names = Vec::new(alloc);
-    for text in texts {
-        let name = String::from_str(alloc, *text)?;
-        names.push(name)?;
-    }
-    Ok(names)
-}
-
-/// The names of the journals that are to be merged.
-fn names_at(alloc: Global, found: &ArgMatches) -> Result<Vec<String>, AllocError>
-    ensures { IfOk result (λ names. AreNames (all_of (codes "journal") (rows_of (found_of found.now))) (map string_bytes names.items)) }
-{
-    match found.get_strs("journal") {
-        Some(texts) => copied(alloc, texts),
-        None => Ok(Vec::new(alloc)),
     }
 }
 
 /// The journals that are to be merged.
 fn merging_of(alloc: Global, found: &ArgMatches) -> Result<Merging, AllocError>
     ensures judged { IfOk result (λ m. IsFlag (one_of (codes "judge") (rows_of (found_of found.now))) m.judged) }
-    ensures names { IfOk result (λ m. AreNames (all_of (codes "journal") (rows_of (found_of found.now))) (map string_bytes m.names.items)) }
+    ensures names { IfOk result (λ m. AreWords (all_of (codes "journal") (rows_of (found_of found.now))) (map string_bytes m.names.items)) }
 {
     let judged = has_flag(found, "judge");
-    let names = names_at(alloc, found)?;
+    let names = words_at(alloc, found, "journal")?;
     Ok(Merging { judged, names })
+}
+
+/// What is asked for by the command of a service.
+fn service_request<'a>(name: &str, found: &ArgMatches<'a>) -> Request<'a>
+    requires { IsServiceName name.now }
+    ensures { (front : Bool) → RequestsBehind front name.now (rows_of (found_of found.now)) result }
+{
+    match service_of(name, found) {
+        Ok(service) => Request::Service(service),
+        Err(misuse) => Request::Misused(misuse),
+    }
 }
 
 /// What is asked for by this name and what was found behind it.
@@ -359,7 +279,10 @@ fn request_of<'a>(
         return Ok(Request::Merge(merging));
     }
     if name == "record" {
-        return Ok(Request::Record(file_at(found)));
+        return Ok(Request::Record(word_at(found, "file")));
+    }
+    if is_service_name(name) {
+        return Ok(service_request(name, found));
     }
     Ok(Request::Serve(asked_of(front, name, found)))
 }

@@ -1,13 +1,13 @@
 -- Which words belong to which number, and how they are printed.
-use Rattle.std.specs.Prelude.{ℕ, ◌==◌, ◌/◌, List, [], ◌++◌, Option, find, codes}
+use Rattle.std.specs.Prelude.{ℕ, ◌==◌, List, [], ◌++◌, Option, find, codes}
 use Rattle.std.specs.Option.{option_map_or}
 use Rattle.std.specs.Fmt.{decimal}
-use Rattle.fault_numbers.specs.Tables.{Words, table}
+use Rattle.fault_numbers.specs.Tables.{Words, table_for}
 use Rattle.fault_numbers.specs.declared.searching.FaultText.{FaultText}
 
 -- the words of a number, if a fault has it
 unfoldable pub words_of : ℕ → Option Words
-words_of number = find (λ w. w.number == number) (table (number / 100))
+words_of number = find (λ w. w.number == number) (table_for number)
 
 -- what it means; nothing if no fault has the number
 abbrev pub meaning_of : ℕ → List ℕ

@@ -1,5 +1,5 @@
 -- The words of each number, by hundreds.
-use Rattle.std.specs.Prelude.{ℕ, ◌==◌, if◌then◌else◌, List, [], ◌∷◌, codes}
+use Rattle.std.specs.Prelude.{ℕ, ◌==◌, ◌/◌, ◌&&◌, nat_le, nat_lt, if◌then◌else◌, List, [], ◌∷◌, codes}
 
 -- The words of a number: what it means, why it comes, and what to do.
 pub record Words : Type 0 where
@@ -288,7 +288,7 @@ lines =
     (codes "Audit a shorter journal.")
     ∷ []
 
--- 901 to 999: links, actors that ended early, settings, the program, and files of records
+-- 901 to 939: links, actors that ended early, settings, and the program
 abbrev pub runs : List Words
 runs =
     words 901 (codes "lose, twice and late are more than 1000 together")
@@ -302,10 +302,10 @@ runs =
     (codes "Give the program more memory.")
     ∷ words 911 (codes "the record failed to reopen three times in a row")
     (codes "The device of the actor's record keeps failing.")
-    (codes "Check the device. The service goes on without the actor while enough nodes are left.")
+    (codes "Check the device, then start the actor again from the same record. The service goes on without it while enough nodes are left.")
     ∷ words 912 (codes "cannot get enough votes")
-    (codes "The nodes that are left do not have enough votes, or every thread of the run waits and no message is in flight.")
-    (codes "Check which nodes ended with 911, 914 or 915. In a run, see whether another client keeps the votes.")
+    (codes "The nodes that are left or that answer do not have enough votes, or every thread of a run waits and no message is in flight.")
+    (codes "Check which nodes ended with 911, 914 or 915, and which can be reached. In a run, see whether another client keeps the votes.")
     ∷ words 913 (codes "gave up after its last retry")
     (codes "The client was told to send again as often as it may be, in a run 1000 times in a wish.")
     (codes "Lower lose and late, or begin the attempt again.")
@@ -313,11 +313,11 @@ runs =
     (codes "The program ran out of memory, or could not start a thread.")
     (codes "Give the program more memory or threads, or use fewer clients.")
     ∷ words 915 (codes "the log or the list of messages is full")
-    (codes "The log takes at most 4,194,304 events and 1,048,576 messages, or its writer failed.")
-    (codes "Start a new service from the records of this one.")
+    (codes "The log of one process takes at most 4,194,304 events and 1,048,576 messages. The journal of a node or client by itself cannot be written.")
+    (codes "In one process, start a new service from the records of this one. For a node or client by itself, make room for its journal and start it again.")
     ∷ words 916 (codes "the record's changes or the client's attempts are used up")
     (codes "A record can be changed, and a client can try, 1,000,000,000,000 times.")
-    (codes "Use a new record or another client.")
+    (codes "Use another client. If the record of a node is used up, make a new service, and never a new record for this node.")
     ∷ words 921 (codes "not a TOML document")
     (codes "The text above the line --- does not follow the rules of TOML, or a number needs more than 64 bits.")
     (codes "Mend the line that --explain names. Texts need quotes, and lists need brackets.")
@@ -342,18 +342,23 @@ runs =
     ∷ words 933 (codes "out of memory")
     (codes "The program ran out of memory, or could not start a thread.")
     (codes "Give the program more memory, or use fewer clients.")
-    ∷ words 941 (codes "another process holds the file")
+    ∷ []
+
+-- 940 to 999: files of records, merging journals, and services in a directory
+abbrev pub files : List Words
+files =
+    words 941 (codes "another process holds the file")
     (codes "Another process has the file open as a record.")
     (codes "End that process, or use another file.")
     ∷ words 942 (codes "no such file")
     (codes "There is no file of this name.")
-    (codes "Check the name, or make the file first.")
+    (codes "Check the name, or make the file first. The record of a node or client is never made anew, since an actor without its record breaks the premise of the exclusion theorem. Restore the file itself, never an older copy.")
     ∷ words 943 (codes "the file has the wrong size for a record")
     (codes "The file of a record has one fixed size.")
     (codes "Check that the file was made for a record, and was copied whole.")
     ∷ words 944 (codes "the file holds no record")
     (codes "No slot of the file is valid.")
-    (codes "Restore the file from a copy, or make a new one under another name.")
+    (codes "Restore the file itself, never an older copy of a node's or client's record, or make a new one under another name.")
     ∷ words 945 (codes "the file cannot be opened, locked or read")
     (codes "The program may not read the file, it is not a regular file, or its device failed.")
     (codes "Check the file, its permissions and its device.")
@@ -370,14 +375,14 @@ runs =
     (codes "Two files begin with the same actor.")
     (codes "Name each journal once. Put all lives of an actor into one file, in order.")
     ∷ words 953 (codes "not a line of an actor's own journal")
-    (codes "The line is not an event, a life, or a take or hear with hexadecimal digits, or it has more than 120064 bytes.")
-    (codes "Mend the line. If a process was killed while it wrote the line, delete what is before the word life.")
+    (codes "The line is not an event, a life, or a take or hear with hexadecimal digits, and it does not end with a life. Or it has more than 120064 bytes.")
+    (codes "Mend the line. A life right after a line that was cut off is read, and needs no mending.")
     ∷ words 954 (codes "a line of another actor")
     (codes "A file is the journal of one actor, which its first line names.")
     (codes "Put the line into the journal of its actor.")
     ∷ words 955 (codes "the journals say too many messages")
-    (codes "A merge takes at most 1,048,576 messages.")
-    (codes "Merge beginnings of the journals that say fewer messages.")
+    (codes "A merged journal has numbers for 1,048,576 messages. With --judge there is no limit.")
+    (codes "Use --judge, or merge beginnings of the journals that say fewer messages.")
     ∷ words 956 (codes "the journal cannot be read")
     (codes "There is no such file, it is a folder, or the program may not read it.")
     (codes "Check the name, the permissions and the device.")
@@ -390,9 +395,39 @@ runs =
     ∷ words 959 (codes "the journals have too many lines")
     (codes "A merge takes at most 1,000,000,000,000 lines.")
     (codes "Merge beginnings of the journals.")
+    ∷ words 961 (codes "the service's directory is not empty")
+    (codes "rwvote init makes a service only in a directory that is new or empty.")
+    (codes "Name another directory. Delete no record of a service that is in use.")
+    ∷ words 962 (codes "the service's directory cannot be written")
+    (codes "The directory or a file in it cannot be made, written or synced.")
+    (codes "Check permissions, and that the device is not full. Then empty the directory, and make the service again.")
+    ∷ words 963 (codes "not a service's directory: it has no settings")
+    (codes "There is no such directory, or it has no file settings.toml that can be read.")
+    (codes "Check the name, or make the directory by rwvote init.")
+    ∷ words 964 (codes "the service's secret is missing, unreadable or too short")
+    (codes "The secret cannot be read, or it has fewer than 32 bytes.")
+    (codes "Check the file and its permissions. All machines of a service have the same secret.")
+    ∷ words 965 (codes "the service has no such actor")
+    (codes "The settings have no node or client of this number.")
+    (codes "Use a node of `votes` and a client up to `clients`.")
+    ∷ words 966 (codes "each client is in use by a process")
+    (codes "A process holds the record of each client in the directory.")
+    (codes "End one of these processes, or make a service with more clients.")
+    ∷ words 967 (codes "the actor's inbox is missing or cannot be opened")
+    (codes "The file of the inbox is missing, or the program may not read or write it.")
+    (codes "Check the permissions. If the file is missing, make an empty one. Lines that were in it count as lost messages.")
+    ∷ words 968 (codes "the actor's journal cannot be opened")
+    (codes "The file of the journal cannot be made or written.")
+    (codes "Check permissions, and that the device is not full, or run the actor with --no-journal.")
+    ∷ words 969 (codes "the file of commands or answers cannot be opened")
+    (codes "There is no such file, it is a folder, or the program may not open it.")
+    (codes "Check the names after --commands and --answers, and the permissions.")
+    ∷ words 970 (codes "the node runs, and did not take the problem in time")
+    (codes "The node is stopped or ended just now, or it runs with --pipes and reads no inbox, or its record cannot be written.")
+    (codes "Look at the node by rwvote status, and switch again. If it runs with --pipes, carry the line of rwvote switch --pipes to it. The node may still take the problem late.")
     ∷ []
 
--- the numbers that begin with this digit
+-- the numbers that begin with this digit, below 940
 abbrev pub table : ℕ → List Words
 table digit =
     if digit == 1 then frames else
@@ -405,3 +440,7 @@ table digit =
     (if digit == 8 then lines else
     (if digit == 9 then runs else
     []))))))))
+
+-- the same, where the numbers that begin with 9 have two tables
+abbrev pub table_for : ℕ → List Words
+table_for number = if nat_le 940 number && nat_lt number 1000 then files else table (number / 100)

@@ -2,15 +2,17 @@
 
 ghost use Rattle.std.specs.Prelude.{◌≡◌, ◌==◌, ◌++◌, map, find, option_map, OnOk, string_bytes};
 ghost use Rattle.fault_numbers.specs.Numbers.{words_in, words_of, meaning_of, explained_text};
-ghost use Rattle.fault_numbers.specs.Tables.{table};
+ghost use Rattle.fault_numbers.specs.Tables.{table, files, table_for};
 
-use crate::tables::{ATTEMPTS, BALLOTS, DISKS, EVENTS, FRAMES, LINES, RECORDS, RESTARTS, RUNS};
+use crate::tables::{
+    ATTEMPTS, BALLOTS, DISKS, EVENTS, FILES, FRAMES, LINES, RECORDS, RESTARTS, RUNS,
+};
 use std::alloc::AllocError;
 
 /// The words of a number by which programs report a fault.
 #[derive(Clone, Copy, Debug, PartialEq, Eq)]
 pub struct FaultText {
-    /// The number: 101 to 959, with gaps.
+    /// The number: 101 to 970, with gaps.
     pub number: u16,
     /// What it means, without a full stop.
     pub meaning: &'static str,
@@ -32,7 +34,7 @@ fn found_in(texts: &[FaultText], number: u16) -> Option<FaultText>
     None
 }
 
-/// The words of the numbers that begin with this digit.
+/// The words of the numbers that begin with this digit, below 940.
 fn texts_at(digit: u16) -> &'static [FaultText]
     ensures { map words_in result.now ≡ table digit }
 {
@@ -50,12 +52,29 @@ fn texts_at(digit: u16) -> &'static [FaultText]
     }
 }
 
+/// The words of the numbers 940 to 999.
+fn file_texts() -> &'static [FaultText]
+    ensures { map words_in result.now ≡ files }
+{
+    &FILES
+}
+
+/// The words among which those of a number are.
+fn texts_for(number: u16) -> &'static [FaultText]
+    ensures { map words_in result.now ≡ table_for number }
+{
+    if 940 <= number && number < 1000 {
+        return file_texts();
+    }
+    texts_at(number / 100)
+}
+
 /// The words of a number, or nothing if no fault has it.
 #[tactic(auto, unfolding(crate::specs::Numbers::words_of))]
 pub fn text_of(number: u16) -> Option<FaultText>
     ensures { option_map words_in result ≡ words_of number }
 {
-    found_in(texts_at(number / 100), number)
+    found_in(texts_for(number), number)
 }
 
 /// What a number means; an empty text if no fault has it.

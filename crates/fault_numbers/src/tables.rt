@@ -508,8 +508,8 @@ pub(crate) const LINES: [FaultText; 14] = [
     },
 ];
 
-/// 901 to 999: links, actors that ended early, settings, the program, and files of records.
-pub(crate) const RUNS: [FaultText; 33] = [
+/// 901 to 939: links, actors that ended early, settings, and the program.
+pub(crate) const RUNS: [FaultText; 17] = [
     FaultText {
         number: 901,
         meaning: "lose, twice and late are more than 1000 together",
@@ -532,13 +532,13 @@ pub(crate) const RUNS: [FaultText; 33] = [
         number: 911,
         meaning: "the record failed to reopen three times in a row",
         cause: "The device of the actor's record keeps failing.",
-        remedy: "Check the device. The service goes on without the actor while enough nodes are left.",
+        remedy: "Check the device, then start the actor again from the same record. The service goes on without it while enough nodes are left.",
     },
     FaultText {
         number: 912,
         meaning: "cannot get enough votes",
-        cause: "The nodes that are left do not have enough votes, or every thread of the run waits and no message is in flight.",
-        remedy: "Check which nodes ended with 911, 914 or 915. In a run, see whether another client keeps the votes.",
+        cause: "The nodes that are left or that answer do not have enough votes, or every thread of a run waits and no message is in flight.",
+        remedy: "Check which nodes ended with 911, 914 or 915, and which can be reached. In a run, see whether another client keeps the votes.",
     },
     FaultText {
         number: 913,
@@ -555,14 +555,14 @@ pub(crate) const RUNS: [FaultText; 33] = [
     FaultText {
         number: 915,
         meaning: "the log or the list of messages is full",
-        cause: "The log takes at most 4,194,304 events and 1,048,576 messages, or its writer failed.",
-        remedy: "Start a new service from the records of this one.",
+        cause: "The log of one process takes at most 4,194,304 events and 1,048,576 messages. The journal of a node or client by itself cannot be written.",
+        remedy: "In one process, start a new service from the records of this one. For a node or client by itself, make room for its journal and start it again.",
     },
     FaultText {
         number: 916,
         meaning: "the record's changes or the client's attempts are used up",
         cause: "A record can be changed, and a client can try, 1,000,000,000,000 times.",
-        remedy: "Use a new record or another client.",
+        remedy: "Use another client. If the record of a node is used up, make a new service, and never a new record for this node.",
     },
     FaultText {
         number: 921,
@@ -612,6 +612,10 @@ pub(crate) const RUNS: [FaultText; 33] = [
         cause: "The program ran out of memory, or could not start a thread.",
         remedy: "Give the program more memory, or use fewer clients.",
     },
+];
+
+/// 940 to 999: files of records, merging journals, and services in a directory.
+pub(crate) const FILES: [FaultText; 26] = [
     FaultText {
         number: 941,
         meaning: "another process holds the file",
@@ -622,7 +626,7 @@ pub(crate) const RUNS: [FaultText; 33] = [
         number: 942,
         meaning: "no such file",
         cause: "There is no file of this name.",
-        remedy: "Check the name, or make the file first.",
+        remedy: "Check the name, or make the file first. The record of a node or client is never made anew, since an actor without its record breaks the premise of the exclusion theorem. Restore the file itself, never an older copy.",
     },
     FaultText {
         number: 943,
@@ -634,7 +638,7 @@ pub(crate) const RUNS: [FaultText; 33] = [
         number: 944,
         meaning: "the file holds no record",
         cause: "No slot of the file is valid.",
-        remedy: "Restore the file from a copy, or make a new one under another name.",
+        remedy: "Restore the file itself, never an older copy of a node's or client's record, or make a new one under another name.",
     },
     FaultText {
         number: 945,
@@ -669,8 +673,8 @@ pub(crate) const RUNS: [FaultText; 33] = [
     FaultText {
         number: 953,
         meaning: "not a line of an actor's own journal",
-        cause: "The line is not an event, a life, or a take or hear with hexadecimal digits, or it has more than 120064 bytes.",
-        remedy: "Mend the line. If a process was killed while it wrote the line, delete what is before the word life.",
+        cause: "The line is not an event, a life, or a take or hear with hexadecimal digits, and it does not end with a life. Or it has more than 120064 bytes.",
+        remedy: "Mend the line. A life right after a line that was cut off is read, and needs no mending.",
     },
     FaultText {
         number: 954,
@@ -681,8 +685,8 @@ pub(crate) const RUNS: [FaultText; 33] = [
     FaultText {
         number: 955,
         meaning: "the journals say too many messages",
-        cause: "A merge takes at most 1,048,576 messages.",
-        remedy: "Merge beginnings of the journals that say fewer messages.",
+        cause: "A merged journal has numbers for 1,048,576 messages. With --judge there is no limit.",
+        remedy: "Use --judge, or merge beginnings of the journals that say fewer messages.",
     },
     FaultText {
         number: 956,
@@ -707,5 +711,65 @@ pub(crate) const RUNS: [FaultText; 33] = [
         meaning: "the journals have too many lines",
         cause: "A merge takes at most 1,000,000,000,000 lines.",
         remedy: "Merge beginnings of the journals.",
+    },
+    FaultText {
+        number: 961,
+        meaning: "the service's directory is not empty",
+        cause: "rwvote init makes a service only in a directory that is new or empty.",
+        remedy: "Name another directory. Delete no record of a service that is in use.",
+    },
+    FaultText {
+        number: 962,
+        meaning: "the service's directory cannot be written",
+        cause: "The directory or a file in it cannot be made, written or synced.",
+        remedy: "Check permissions, and that the device is not full. Then empty the directory, and make the service again.",
+    },
+    FaultText {
+        number: 963,
+        meaning: "not a service's directory: it has no settings",
+        cause: "There is no such directory, or it has no file settings.toml that can be read.",
+        remedy: "Check the name, or make the directory by rwvote init.",
+    },
+    FaultText {
+        number: 964,
+        meaning: "the service's secret is missing, unreadable or too short",
+        cause: "The secret cannot be read, or it has fewer than 32 bytes.",
+        remedy: "Check the file and its permissions. All machines of a service have the same secret.",
+    },
+    FaultText {
+        number: 965,
+        meaning: "the service has no such actor",
+        cause: "The settings have no node or client of this number.",
+        remedy: "Use a node of `votes` and a client up to `clients`.",
+    },
+    FaultText {
+        number: 966,
+        meaning: "each client is in use by a process",
+        cause: "A process holds the record of each client in the directory.",
+        remedy: "End one of these processes, or make a service with more clients.",
+    },
+    FaultText {
+        number: 967,
+        meaning: "the actor's inbox is missing or cannot be opened",
+        cause: "The file of the inbox is missing, or the program may not read or write it.",
+        remedy: "Check the permissions. If the file is missing, make an empty one. Lines that were in it count as lost messages.",
+    },
+    FaultText {
+        number: 968,
+        meaning: "the actor's journal cannot be opened",
+        cause: "The file of the journal cannot be made or written.",
+        remedy: "Check permissions, and that the device is not full, or run the actor with --no-journal.",
+    },
+    FaultText {
+        number: 969,
+        meaning: "the file of commands or answers cannot be opened",
+        cause: "There is no such file, it is a folder, or the program may not open it.",
+        remedy: "Check the names after --commands and --answers, and the permissions.",
+    },
+    FaultText {
+        number: 970,
+        meaning: "the node runs, and did not take the problem in time",
+        cause: "The node is stopped or ended just now, or it runs with --pipes and reads no inbox, or its record cannot be written.",
+        remedy: "Look at the node by rwvote status, and switch again. If it runs with --pipes, carry the line of rwvote switch --pipes to it. The node may still take the problem late.",
     },
 ];

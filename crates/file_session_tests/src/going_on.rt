@@ -5,13 +5,13 @@ ghost use Rattle.world_machine.specs.Opened.{IsResumed};
 ghost use Rattle.file_session_tests.specs.Ballots.{one_node};
 
 use crate::opening::{Opened, Paths, make_all, open, open_all, paths_of, remove_all};
-use crate::records::SessionFile;
 use event_recorders::SharedRecorder;
 use lock_messages::{Actor, Mode, ResourceName};
 use lock_session::{OwnRecord, Session};
 use lossy_link::Link;
 use node_threads::laws::resumed_worlds_may_run;
 use node_threads::{ServiceEnd, Work, with_sessions};
+use session_files::SessionFile;
 use stable_record::{StableRecord, client_bytes};
 use std::alloc::Global;
 use std::fs::{File, Files};

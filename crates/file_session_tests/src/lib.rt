@@ -8,5 +8,3 @@
 mod going_on;
 #[cfg(test)]
 mod opening;
-#[cfg(test)]
-mod records;

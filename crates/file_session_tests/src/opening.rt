@@ -2,9 +2,9 @@
 
 ghost use Rattle.std.specs.Prelude.{◌≡◌, ◌∷◌, [], length, map, IfOk, OnOk};
 
-use crate::records::SessionFile;
 use file_plate::FileFault;
 use file_records::{FileRecord, create_record, open_record};
+use session_files::SessionFile;
 use stable_record::{StableRecord, client_bytes};
 use std::alloc::Global;
 use std::fs::{self, File, Files};

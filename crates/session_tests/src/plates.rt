@@ -2,7 +2,7 @@
 
 ghost use Rattle.std.specs.Prelude.{◌≡◌, ◌∷◌, [], IfOk};
 
-use client_loop::{Patience, Progress, enter, leave, rise, soften};
+use client_loop::{Patience, Progress, enter, leave, release_at, rise, soften};
 use event_lines::Wish;
 use event_recorders::{Gate, Recorder, RunFault};
 use lock_messages::ClientId;
@@ -13,7 +13,7 @@ use stable_record::{RecordFault, StableRecord};
 use std::alloc::Global;
 use std::sync::Wait;
 use test_outcomes::Failure;
-use vote_weights::BallotList;
+use vote_weights::{BallotList, NodeSet};
 
 /// A record on a plate in memory. No session can own a `SlotRecord` of any plate, so this one's type has a name
 /// of its own, and hands each call on.
@@ -105,5 +105,18 @@ impl OwnRecord for PlateRecord {
         link: &mut L,
     ) -> Result<(), RunFault> {
         leave(rt, alloc, progress, self, recorder, link)
+    }
+
+    fn release_at<W: Wait, R: Recorder, L: Link>(
+        &self,
+        rt: &W,
+        alloc: Global,
+        nodes: NodeSet,
+        nudges: u32,
+        progress: &mut Progress,
+        recorder: &mut R,
+        link: &mut L,
+    ) -> Result<(), RunFault> {
+        release_at(rt, alloc, nodes, nudges, progress, self, recorder, link)
     }
 }

@@ -14,4 +14,4 @@ returns-in-Err g c =
       errors_old = g.E.Write.contents c.args.errors.now;
       errors_new = g.E.Write.contents c.end_unserved.new.errors;
     } in
-    runs_unserved (g.R.Read.remaining c.args.reader) (fault_of app words) (found_in words) w c.end_unserved.result c.in-Err.why c.in-Err.ensures c.end_unserved.ensures.kinds
+    runs_unserved (g.R.Read.remaining c.args.reader) (fault_of app words) (found_in words) w c.end_unserved.result c.with_origin.result (c.with_origin.ensures _ c.in-Err.ensures) c.end_unserved.ensures.kinds

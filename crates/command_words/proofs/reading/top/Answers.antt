@@ -1,5 +1,5 @@
 use Rattle.command_words.specs.Words.{bare_app, explain_rule}
-use Rattle.command_words.proofs.NameFacts.{with_flag}
+use Rattle.clap_arguments.proofs.ShapeFacts.{with_flag}
 use Rattle.command_words.proofs.reading.top.Goals as goal
 
 pub returns : goal.returns

@@ -1,7 +1,8 @@
 use Rattle.std.proofs.Common.{codes, ap, ◌∙◌}
 use Rattle.clap.specs.Words.{App, with_subcommand}
 use Rattle.command_words.specs.Words.{top_app, served_app, with_command, run_shape, explain_shape, merge_shape, record_shape}
-use Rattle.command_words.proofs.NameFacts.{with_sub}
+use Rattle.clap_arguments.proofs.ShapeFacts.{with_sub}
+use Rattle.service_words.specs.Shapes.{with_services}
 use Rattle.command_words.proofs.reading.words_taken.Goals as goal
 
 abbrev third : App
@@ -15,4 +16,5 @@ returns c =
     let four = with_sub c.in_ok-with_ballot.with_ballot c.in_ok-run.run' c.in_ok-with_run.with_run third run_shape c.in_ok-with_run.ensures three c.in_ok-run.ensures.shape c.in_ok-run.ensures.local in
     let five = with_sub c.in_ok-with_run.with_run c.in_ok-explain.explain c.in_ok-with_explain.with_explain served_app explain_shape c.in_ok-with_explain.ensures four c.in_ok-explain.ensures.shape c.in_ok-explain.ensures.local in
     let six = with_sub c.in_ok-with_explain.with_explain c.in_ok-merge.merge c.in_ok-with_merge.with_merge (with_subcommand served_app explain_shape) merge_shape c.in_ok-with_merge.ensures five c.in_ok-merge.ensures.shape c.in_ok-merge.ensures.local in
-    with_sub c.in_ok-with_merge.with_merge c.in_ok-viewer.viewer c.in_ok-with_all.with_all (with_subcommand (with_subcommand served_app explain_shape) merge_shape) record_shape c.in_ok-with_all.ensures six c.in_ok-viewer.ensures.shape c.in_ok-viewer.ensures.local
+    let seven = with_sub c.in_ok-with_merge.with_merge c.in_ok-viewer.viewer c.in_ok-with_viewer.with_viewer (with_subcommand (with_subcommand served_app explain_shape) merge_shape) record_shape c.in_ok-with_viewer.ensures six c.in_ok-viewer.ensures.shape c.in_ok-viewer.ensures.local in
+    c.in_ok-with_all.ensures ∙ ap with_services seven

@@ -1,0 +1,2 @@
+pub mod LifeFacts
+pub mod ServingFacts

@@ -1,0 +1,4 @@
+pub mod NumberFacts
+pub mod SplitFacts
+pub mod PartFacts
+pub mod SettingsFacts

@@ -1,0 +1,5 @@
+pub mod Cuts
+pub mod Faults
+pub mod Folders
+pub mod Makings
+pub mod Parts

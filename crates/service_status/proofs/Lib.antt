@@ -1,0 +1,5 @@
+mod ListFacts
+mod Membership
+mod TextFacts
+mod ShowingFacts
+mod StateFacts

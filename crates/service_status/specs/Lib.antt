@@ -1,0 +1,4 @@
+pub mod Claims
+pub mod Texts
+pub mod Sights
+pub mod Showing

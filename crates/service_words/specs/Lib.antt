@@ -1,0 +1,4 @@
+pub mod Numbers
+pub mod Misuses
+pub mod Readings
+pub mod Shapes
