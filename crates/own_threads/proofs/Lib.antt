@@ -1,0 +1,7 @@
+mod Lists
+mod NewFacts
+mod Places
+mod Promises
+mod RecorderFacts
+mod Resting
+mod Taking
