@@ -57,12 +57,12 @@ impl Arrivals {
         self.inlet.dropped()
     }
 
-    /// A wait begins.
+    /// A wait begins, as patient as the limit says by now.
     pub(crate) fn begin(&mut self) {
-        self.sleep = self.pauses.first();
         if let (Some(timers), Some(limit)) = (&mut self.timers, &self.limit) {
-            timers.begin(limit.times());
+            self.pauses = timers.begin(limit.times());
         }
+        self.sleep = self.pauses.first();
     }
 
     /// Something was sent to an actor.

@@ -16,7 +16,7 @@ struct Shared {
     deadline: AtomicU64,
     is_stopped: AtomicBool,
     is_stop_ignored: AtomicBool,
-    // How many times as long a node may be silent.
+    // How many times as long a node may be silent, and each sleep is.
     times: AtomicU32,
     // For each node when it last answered, in microseconds of the clock, or `NEVER`.
     answers: Vec<AtomicU64>,
@@ -81,12 +81,13 @@ impl Limit {
         self.shared.deadline.store(NEVER, Ordering::SeqCst);
     }
 
-    /// Lets each node be silent for so many times as long before it counts as gone, from the next wait on.
+    /// Lets each node be silent for so many times as long before it counts as gone, and each sleep be so many times as
+    /// long, from the next wait on.
     pub fn set_times(&self, times: u32) {
         self.shared.times.store(times, Ordering::SeqCst);
     }
 
-    /// How many times as long a node may be silent.
+    /// How many times as long each wait is.
     pub(crate) fn times(&self) -> u32 {
         self.shared.times.load(Ordering::SeqCst)
     }

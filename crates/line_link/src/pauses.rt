@@ -44,9 +44,11 @@ impl Pauses {
         }
     }
 
-    /// The same, but a node may be silent for so many times as long.
+    /// The same, but a node may be silent for so many times as long, and each sleep is so many times as long.
     pub(crate) fn patient(&self, times: u32) -> Pauses {
         let mut pauses = *self;
+        pauses.least = self.least.saturating_mul(times);
+        pauses.most = self.most.saturating_mul(times);
         pauses.silence = self.silence.saturating_mul(times);
         pauses
     }

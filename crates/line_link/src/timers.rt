@@ -119,9 +119,10 @@ impl Timers {
         }
     }
 
-    /// A wait begins, in which a node may be silent for so many times as long as usual.
-    pub(crate) fn begin(&mut self, times: u32) {
+    /// A wait begins, in which each time is so many times as long as usual. Returns these times.
+    pub(crate) fn begin(&mut self, times: u32) -> Pauses {
         self.pauses = self.plain.patient(times);
+        self.pauses
     }
 
     fn timer(&mut self, node: NodeId) -> &mut Timer {
