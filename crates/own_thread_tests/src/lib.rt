@@ -10,6 +10,8 @@ mod dropped;
 #[cfg(test)]
 mod programs;
 #[cfg(test)]
+mod quiet;
+#[cfg(test)]
 mod readers;
 #[cfg(test)]
 mod storms;

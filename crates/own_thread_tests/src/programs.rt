@@ -3,6 +3,7 @@
 ghost use Rattle.std.specs.Prelude.{◌≤◌};
 ghost use Rattle.lock_messages.specs.declared.ids.TheConstants.{MAX_CLIENTS};
 
+use event_recorders::RunFault;
 use lock_model::Problem;
 use own_threads::{OwnWork, run_own_in_memory};
 use std::alloc::Global;
@@ -30,6 +31,17 @@ pub(crate) fn run<R: Threads + Wait + Copy + Send, J: OwnWork + Sync>(
     else {
         return Err(Failure::Memory);
     };
+    let had_memory = end
+        .nodes
+        .iter()
+        .all(|fault| *fault != Some(RunFault::Memory))
+        && end
+            .clients
+            .iter()
+            .all(|client| client.fault != Some(RunFault::Memory));
+    if !had_memory {
+        return Err(Failure::Memory);
+    }
     check_row(end.nodes.len() == 3, 101)?;
     check_row(end.clients.len() == usize::from(clients), 102)?;
     check_row(end.nodes.iter().all(|fault| fault.is_none()), 103)?;

@@ -1,6 +1,8 @@
 // `rwvote reap`.
 
-use crate::client_programs::{LifeFault, held, live};
+ghost use Rattle.std.specs.Prelude.{◌≡◌, ◌∷◌, []};
+
+use crate::client_programs::{LifeFault, OwnClientRecord, held, live};
 use crate::journals::{Journal, Journaling, is_journaled};
 use crate::starting::{folder_link, open_own};
 use actor_lives::{Asked, Desk, Refusal};
@@ -158,6 +160,41 @@ fn passed_over(fault: ServiceFault) -> Result<Reaped, ServiceFault> {
     }
 }
 
+/// What came of a client whose life only released.
+fn reaped_by(life: Result<bool, LifeFault>) -> Reaped {
+    match life {
+        Ok(true) => Reaped::Released,
+        Ok(false) => Reaped::Unanswered,
+        Err(LifeFault::Unreadable(number)) => Reaped::Fault(number),
+        Err(LifeFault::Run(fault)) => Reaped::Fault(fault.number()),
+    }
+}
+
+/// Runs a life of the client that only releases.
+fn release_held<R: Wait + Clock + Files<File = File> + Copy + Drop>(
+    rt: R,
+    alloc: Global,
+    service: &Service,
+    client: OwnClientRecord,
+) -> Result<Reaped, ServiceFault>
+    requires { client.stable.record.finds ≡ client.found.items ∷ [] }
+{
+    let own = client.actor();
+    let how = journaling_of(&rt, alloc, service.path(), client.client);
+    let journal = Journal::open(&rt, alloc, service.path(), own, how)?;
+    let Ok((limit, of_link)) = limits(alloc) else {
+        return Err(ServiceFault::Memory);
+    };
+    let link = folder_link(rt, alloc, service, &own, Pauses::of_client(), Some(of_link))?;
+    let mut desk = NoDesk {
+        rt,
+        limit,
+        milliseconds: LONGEST_RELEASE,
+    };
+    let life = live(&rt, alloc, service, client, journal, link, &mut desk);
+    Ok(reaped_by(life))
+}
+
 /// Releases what the client holds, if no process runs it.
 fn reap_one<R: Wait + Clock + Files<File = File> + Copy + Drop>(
     rt: R,
@@ -173,37 +210,9 @@ fn reap_one<R: Wait + Clock + Files<File = File> + Copy + Drop>(
     if read_client(&opened.1) == Ok(0) {
         return Ok(Reaped::Nothing);
     }
-    let how = journaling_of(&rt, alloc, service.path(), client);
-    let own = Actor::Client(client);
-    let journal = match Journal::open(&rt, alloc, service.path(), own, how) {
-        Ok(journal) => journal,
-        Err(fault) => return passed_over(fault),
-    };
-    let Ok((limit, of_link)) = limits(alloc) else {
-        return Err(ServiceFault::Memory);
-    };
-    let link = match folder_link(rt, alloc, service, &own, Pauses::of_client(), Some(of_link)) {
-        Ok(link) => link,
-        Err(fault) => return passed_over(fault),
-    };
-    let mut desk = NoDesk {
-        rt,
-        limit,
-        milliseconds: LONGEST_RELEASE,
-    };
-    match live(
-        &rt,
-        alloc,
-        service,
-        held(client, opened),
-        journal,
-        link,
-        &mut desk,
-    ) {
-        Ok(true) => Ok(Reaped::Released),
-        Ok(false) => Ok(Reaped::Unanswered),
-        Err(LifeFault::Unreadable(number)) => Ok(Reaped::Fault(number)),
-        Err(LifeFault::Run(fault)) => Ok(Reaped::Fault(fault.number())),
+    match release_held(rt, alloc, service, held(client, opened)) {
+        Ok(reaped) => Ok(reaped),
+        Err(fault) => passed_over(fault),
     }
 }
 
