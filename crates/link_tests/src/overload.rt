@@ -122,7 +122,8 @@ const PUTS: [u64; 13] = [
     0, 20, 60, 140, 300, 620, 1_260, 2_260, 3_260, 4_260, 5_260, 6_260, 7_260,
 ];
 
-/// A client that is 16 times as patient takes the node for gone after 8 seconds.
+/// A client that is 16 times as patient takes the node for gone after 8 seconds. Its first sleep is 0.8 ms, each later one is
+/// longer by a 32nd up to 160 ms, and it also wakes for each line that it puts. So it looks for lines 207 times.
 fn is_patient<W: Wait + Copy>(wait: W, alloc: Global) -> Outcome {
     let notes = Notes::new();
     let rt = Timed {
@@ -135,7 +136,8 @@ fn is_patient<W: Wait + Copy>(wait: W, alloc: Global) -> Outcome {
     let mut link = link_at(rt, alloc, client(), desk, Some(limit));
     check_row(link.send(node(), parcel(alloc, b"ask")?).is_ok(), 1)?;
     loses(&mut link, node_id(1), 2)?;
-    check_row(notes.millis() == 8_000 && notes.has_puts_at(&PUTS), 3)
+    check_row(notes.millis() == 8_000 && notes.has_puts_at(&PUTS), 3)?;
+    check_row(notes.takes() == 207, 4)
 }
 
 #[test]
@@ -143,7 +145,7 @@ fn a_patient_client(rt: HostRuntime) -> Outcome {
     is_patient(rt, rt.alloc())
 }
 
-/// Once it is as patient as at first, the node is gone after half a second.
+/// Once it is as patient as at first, the node is gone after half a second. Its first sleep is 0.05 ms, and its longest 10 ms.
 fn is_hasty<W: Wait + Copy>(wait: W, alloc: Global) -> Outcome {
     let notes = Notes::new();
     let rt = Timed {
@@ -157,7 +159,8 @@ fn is_hasty<W: Wait + Copy>(wait: W, alloc: Global) -> Outcome {
     let mut link = link_at(rt, alloc, client(), desk, Some(limit));
     check_row(link.send(node(), parcel(alloc, b"ask")?).is_ok(), 1)?;
     loses(&mut link, node_id(1), 2)?;
-    check_row(notes.millis() == 500, 3)
+    check_row(notes.millis() == 500, 3)?;
+    check_row(notes.takes() == 197, 4)
 }
 
 #[test]
