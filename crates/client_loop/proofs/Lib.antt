@@ -1,6 +1,7 @@
 pub mod Logs
 pub mod Attempts
 pub mod EnterFacts
+pub mod OutcomeFacts
 pub mod FindingFacts
 pub mod SoftFacts
 pub mod NodeFacts

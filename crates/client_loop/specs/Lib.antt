@@ -6,3 +6,4 @@ pub mod Remembering
 pub mod Releasing
 pub mod Sendings
 pub mod Endings
+pub mod Outcomes

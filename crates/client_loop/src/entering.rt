@@ -8,7 +8,8 @@ ghost use Rattle.client_core.specs.Calls.{MayEnter, entered as inside_of};
 ghost use Rattle.client_loop.specs.Sendings.{sent_of, SentFollows, SentUnlessMemory};
 ghost use Rattle.client_loop.specs.Standing.{Stands, IsSameClient};
 ghost use Rattle.client_loop.specs.Remembering.{core_of, busy_of, most_of, HasHadLast, HasReleased};
-ghost use Rattle.client_loop.specs.Endings.{ClientEndsFrom, EndsAsking, EndsOneAttempt, IsAtRest};
+ghost use Rattle.client_loop.specs.Endings.{EndsAsking, EndsOneAttempt};
+ghost use Rattle.client_loop.specs.Outcomes.{moment, answers, Entering};
 ghost use Rattle.actor_steps.specs.Steps.{IsBookFault};
 ghost use Rattle.actor_steps.specs.Endings.{falls_of, FailuresFollow};
 ghost use Rattle.client_loop.specs.Visits.{visits_of, use_of, AsksFor, visits_entering, BeginsNothing, BeginsOnly, BeginsMore};
@@ -161,34 +162,9 @@ pub fn enter<W: Wait, R: Recorder, L: Link, G: Gate>(
     requires free { stuck_of stable.old ≡ false }
     requires idle { phase_of (core_of progress.old) ≡ phase.Idle }
     requires placed { HasPlace (R.own_log recorder.old).ballots wish.now.place }
-    ensures sent { OnOk result (SentFollows (R.own_log recorder.old) (R.own_log recorder.new) (L.given link.old) (L.given link.new)) }
-    ensures faulted { IfErr result (λ f. SentUnlessMemory f (R.own_log recorder.old) (R.own_log recorder.new) (L.given link.old) (L.given link.new)) }
-    ensures client { IsSameClient (R.own_log recorder.old) (R.own_log recorder.new) }
-    // The own log has the client inside, with a ticket for what is wished.
-    ensures may_enter { result ≡ Ok true → MayEnter (core_of progress.new) }
-    ensures asked { result ≡ Ok true → IfSome (ticket_of (core_of progress.new)) (AsksFor (use_of wish.now)) }
-    ensures inside { result ≡ Ok true → Stands (R.own_log recorder.new) (finds stable.new) (inside_of (core_of progress.new)) }
-    ensures entered { result ≡ Ok true → (visits_of (R.own_log recorder.new)).entered ≡ (visits_of (R.own_log recorder.old)).entered ++ Some (use_of wish.now) ∷ [] }
-    // It made an attempt for that, whether or not it entered.
-    ensures begun { OnOk result ((visits_of (R.own_log recorder.new)).begun ≡ Some (use_of wish.now)) }
-    ensures more { OnOk result (BeginsMore (visits_of (R.own_log recorder.old)) (visits_of (R.own_log recorder.new))) }
-    ensures outside { (result ≡ Ok true → ⊥) → (visits_of (R.own_log recorder.new)).entered ≡ (visits_of (R.own_log recorder.old)).entered }
-    ensures softened { (visits_of (R.own_log recorder.new)).softened ≡ (visits_of (R.own_log recorder.old)).softened }
-    ensures free { OnOk result (stuck_of stable.new ≡ false) }
-    // It takes a wish back only where it isn't to wait and a node let it; then each node that it asked has answered its
-    // release, or is gone, and it rests, as where it gave up.
-    ensures waits { result ≡ Ok false → (patience.waits ≡ false) × (busy_of progress.new ≡ true) }
-    // It has as many nudges as its caller says, and gives up only where it had the last.
-    ensures most { most_of progress.new ≡ patience.nudges }
-    ensures last { IfErr result (λ f. f ≡ RunFault.GaveUp → HasHadLast progress.new) }
-    ensures back { result ≡ Ok false → IsAtRest (R.own_log recorder.new) (finds stable.new) (stuck_of stable.new) (core_of progress.new) }
-    ensures released { result ≡ Ok false → HasReleased progress.new }
-    ensures again { IfErr result (λ f. EndsOneAttempt f → IsAtRest (R.own_log recorder.new) (finds stable.new) (stuck_of stable.new) (core_of progress.new)) }
-    // However it ends, a restart finds in its record nothing but what it has kept and what it tries to keep.
-    ensures own { FindsItsOwn (part_now (R.own_log recorder.new)) (finds stable.new) }
-    ensures ended { IfErr result (λ fault. ClientEndsFrom fault (falls_of (R.own_log recorder.old)) (R.own_log recorder.new) (stuck_of stable.new) (spent_of stable.new) (failures_of stable.old) (failures_of stable.new)) }
-    ensures falls { FailuresFollow (falls_of (R.own_log recorder.old)) (falls_of (R.own_log recorder.new)) (failures_of stable.old) (failures_of stable.new) }
-    ensures begins { BeginsOnly (use_of wish.now) (visits_of (R.own_log recorder.old)) (visits_of (R.own_log recorder.new)) }
+    ensures { let before = moment progress.old (R.own_log recorder.old) (answers (finds stable.old) (stuck_of stable.old) (spent_of stable.old) (failures_of stable.old)) (L.given link.old) in
+        let after = moment progress.new (R.own_log recorder.new) (answers (finds stable.new) (stuck_of stable.new) (spent_of stable.new) (failures_of stable.new)) (L.given link.new) in
+        Entering (use_of wish.now) patience.nudges patience.waits result before after }
 {
     progress.begin_wish(patience.nudges);
     attempt(rt, wish, progress, stable, recorder, gate)?;

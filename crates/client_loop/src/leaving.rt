@@ -7,6 +7,7 @@ ghost use Rattle.client_loop.specs.Sendings.{sent_of, SentFollows, SentUnlessMem
 ghost use Rattle.client_loop.specs.Standing.{Stands, HasLeft, IsSameClient};
 ghost use Rattle.client_loop.specs.Remembering.{core_of, asked_of, busy_of, most_of, HasHadLast, HasReleased};
 ghost use Rattle.client_loop.specs.Endings.{EndsAsking, IsAskFault};
+ghost use Rattle.client_loop.specs.Outcomes.{moment, answers, Leaving};
 ghost use Rattle.client_loop.specs.Visits.{visits_of};
 ghost use Rattle.actor_steps.specs.Steps.{IsBookFault};
 ghost use Rattle.actor_steps.specs.Endings.{falls_of};
@@ -63,25 +64,10 @@ pub fn leave<W: Wait, R: Recorder, L: Link>(
     link: &mut L,
 ) -> Result<(), RunFault>
     requires { HasLeft (R.own_log recorder.old) (finds stable.now) (core_of progress.old) }
-    ensures sent { OnOk result (SentFollows (R.own_log recorder.old) (R.own_log recorder.new) (L.given link.old) (L.given link.new)) }
-    ensures faulted { IfErr result (λ f. SentUnlessMemory f (R.own_log recorder.old) (R.own_log recorder.new) (L.given link.old) (L.given link.new)) }
-    ensures client { IsSameClient (R.own_log recorder.old) (R.own_log recorder.new) }
-    // It rests by its own log, and each node that it asked has answered, or is gone.
-    ensures stands { OnOk result (Stands (R.own_log recorder.new) (finds stable.now) (core_of progress.new)) }
-    ensures idle { phase_of (core_of progress.new) ≡ phase.Idle }
-    ensures released { OnOk result (HasReleased progress.new) }
-    ensures asked { OnOk result (asked_of progress.new ≡ asked_of progress.old) }
-    // That a node let it wait is remembered.
-    ensures busy { OnOk result (busy_of progress.old ≡ true → busy_of progress.new ≡ true) }
-    // 913: only where the wish had its last nudge; how many it may have stays.
-    ensures most { most_of progress.new ≡ most_of progress.old }
-    ensures last { IfErr result (λ f. f ≡ RunFault.GaveUp → HasHadLast progress.new) }
-    ensures again { IfErr result (λ f. f ≡ RunFault.GaveUp → Stands (R.own_log recorder.new) (finds stable.now) (core_of progress.new) × (phase_of (core_of progress.new) ≡ phase.Idle)) }
-    ensures visits { visits_of (R.own_log recorder.new) ≡ visits_of (R.own_log recorder.old) }
-    ensures falls { falls_of (R.own_log recorder.new) ≡ falls_of (R.own_log recorder.old) }
-    ensures own { FindsItsOwn (part_now (R.own_log recorder.new)) (finds stable.now) }
-    ensures faults { IfErr result (λ f. (f ≡ RunFault.GaveUp) ⊎ IsBookFault f) }
-    ensures ended { IfErr result (λ f. EndsAsking f (R.own_log recorder.new)) }
+    ensures { let kept = answers (finds stable.now) (stuck_of stable.now) (spent_of stable.now) (failures_of stable.now) in
+        let before = moment progress.old (R.own_log recorder.old) kept (L.given link.old) in
+        let after = moment progress.new (R.own_log recorder.new) kept (L.given link.new) in
+        Leaving result before after }
 {
     log_leave(&progress.core, stable, recorder)?;
     match release(rt, alloc, progress, stable, recorder, link) {

@@ -6,6 +6,7 @@ ghost use Rattle.client_core.specs.declared.phases.Phase.TheVariants as phase;
 ghost use Rattle.event_recorders.specs.OwnLogs.{IsUnused, FindsPart, FindsItsOwn, part_now};
 ghost use Rattle.client_loop.specs.Sendings.{sent_of};
 ghost use Rattle.client_loop.specs.Standing.{Stands, KeepsAttempt, IsSameClient};
+ghost use Rattle.client_loop.specs.Outcomes.{answers, Rising};
 ghost use Rattle.client_loop.specs.Remembering.{core_of};
 ghost use Rattle.actor_steps.specs.Endings.{falls_of, FailuresFollow};
 ghost use Rattle.client_loop.specs.Endings.{ClientEndsFrom};
@@ -40,21 +41,9 @@ pub fn rise<R: Recorder>(
     requires ballots { (R.own_log recorder.old).ballots ≡ ballots }
     requires found { FindsPart (R.own_log recorder.old).opening (finds stable.old) }
     requires kept { KeepsAttempt (R.own_log recorder.old).opening }
-    ensures stands { IfOk result (λ p. Stands (R.own_log recorder.new) (finds stable.new) (core_of p)) }
-    ensures free { OnOk result (stuck_of stable.new ≡ false) }
-    ensures idle { IfOk result (λ p. phase_of (core_of p) ≡ phase.Idle) }
-    ensures client { IsSameClient (R.own_log recorder.old) (R.own_log recorder.new) }
-    ensures silent { sent_of (R.own_log recorder.new) ≡ [] }
-    ensures visits { (visits_of (R.own_log recorder.new)).entered ≡ [] }
-    ensures softened { (visits_of (R.own_log recorder.new)).softened ≡ [] }
-    ensures begins { (visits_of (R.own_log recorder.new)).begins ≡ [] }
-    ensures whose { (visits_of (R.own_log recorder.new)).whose ≡ (R.own_log recorder.old).actor }
-    ensures ballots { (visits_of (R.own_log recorder.new)).ballots ≡ (R.own_log recorder.old).ballots }
-    ensures opened { (visits_of (R.own_log recorder.new)).opening ≡ (R.own_log recorder.old).opening }
-    ensures own { FindsItsOwn (part_now (R.own_log recorder.new)) (finds stable.new) }
-    ensures ended { IfErr result (λ fault. ClientEndsFrom fault (falls_of (R.own_log recorder.old)) (R.own_log recorder.new) (stuck_of stable.new) (spent_of stable.new) (failures_of stable.old) (failures_of stable.new)) }
-    ensures falls { FailuresFollow (falls_of (R.own_log recorder.old)) (falls_of (R.own_log recorder.new)) (failures_of stable.old) (failures_of stable.new) }
-    ensures unlogged { IfErr result (λ _. R.own_log recorder.new ≡ R.own_log recorder.old) }
+    ensures { let before = answers (finds stable.old) (stuck_of stable.old) (spent_of stable.old) (failures_of stable.old) in
+        let after = answers (finds stable.new) (stuck_of stable.new) (spent_of stable.new) (failures_of stable.new) in
+        Rising result (R.own_log recorder.old) (R.own_log recorder.new) before after }
 {
     let bytes = rise_first(Actor::Client(client), stable, recorder)?;
     let Ok(attempt) = read_client(bytes.as_slice()) else {

@@ -9,6 +9,7 @@ ghost use Rattle.entry_guard.specs.Doors.{is_client_inside};
 ghost use Rattle.entry_guard.specs.Guards.{door_of, lender_of, guard_ticket, IsHeld};
 ghost use Rattle.client_loop.specs.Sendings.{sent_of, SentFollows, SentUnlessMemory, Tells, TellsSoftened};
 ghost use Rattle.client_loop.specs.Standing.{Stands, IsSameClient};
+ghost use Rattle.client_loop.specs.Outcomes.{moment, answers, Softening};
 ghost use Rattle.client_loop.specs.Remembering.{core_of, with_core, granted_of};
 ghost use Rattle.actor_steps.specs.Steps.{IsBookFault};
 ghost use Rattle.actor_steps.specs.Endings.{falls_of};
@@ -123,17 +124,10 @@ pub fn soften<R: Recorder, L: Link>(
 ) -> Result<(), RunFault>
     requires may { MaySoften (core_of progress.old) }
     requires stands { Stands (R.own_log recorder.old) (finds stable.now) (core_of progress.old) }
-    ensures client { IsSameClient (R.own_log recorder.old) (R.own_log recorder.new) }
-    ensures told { OnOk result (TellsSoftened (core_of progress.old) (granted_of progress.old) (R.own_log recorder.old) (R.own_log recorder.new)) }
-    ensures core { OnOk result (progress.new ≡ with_core progress.old (softened (core_of progress.old))) }
-    ensures kept { OnErr result ((progress.new ≡ progress.old) ⊎ (progress.new ≡ with_core progress.old (softened (core_of progress.old)))) }
-    ensures stands { Stands (R.own_log recorder.new) (finds stable.now) (core_of progress.new) }
-    ensures sent { OnOk result (SentFollows (R.own_log recorder.old) (R.own_log recorder.new) (L.given link.old) (L.given link.new)) }
-    ensures faulted { IfErr result (λ f. SentUnlessMemory f (R.own_log recorder.old) (R.own_log recorder.new) (L.given link.old) (L.given link.new)) }
-    ensures visits { OnOk result (visits_of (R.own_log recorder.new) ≡ visits_softening (visits_of (R.own_log recorder.old))) }
-    ensures fewer { OnErr result ((visits_of (R.own_log recorder.new) ≡ visits_of (R.own_log recorder.old)) ⊎ (visits_of (R.own_log recorder.new) ≡ visits_softening (visits_of (R.own_log recorder.old)))) }
-    ensures falls { falls_of (R.own_log recorder.new) ≡ falls_of (R.own_log recorder.old) }
-    ensures faults { IfErr result IsBookFault }
+    ensures { let kept = answers (finds stable.now) (stuck_of stable.now) (spent_of stable.now) (failures_of stable.now) in
+        let before = moment progress.old (R.own_log recorder.old) kept (L.given link.old) in
+        let after = moment progress.new (R.own_log recorder.new) kept (L.given link.new) in
+        Softening result before after }
 {
     log_soften(&progress.core, stable, recorder)?;
     progress.core.soften();

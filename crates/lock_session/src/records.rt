@@ -1,19 +1,17 @@
 // A record that a session owns.
 
-ghost use Rattle.std.specs.Prelude.{◌≡◌, ◌⊎◌, ◌++◌, ◌∷◌, [], true, false, Ok, Some, OnOk, OnErr, IfOk, IfErr, IfSome};
+ghost use Rattle.std.specs.Prelude.{◌≡◌, false, OnOk, IfErr};
 ghost use Rattle.lock_model.specs.Ballots.{HasPlace};
-ghost use Rattle.client_core.specs.Clients.{phase_of, ticket_of};
+ghost use Rattle.client_core.specs.Clients.{phase_of};
 ghost use Rattle.client_core.specs.declared.phases.Phase.TheVariants as phase;
-ghost use Rattle.client_core.specs.Calls.{MayEnter, MaySoften, softened, entered as inside_of};
-ghost use Rattle.event_recorders.specs.OwnLogs.{IsUnused, FindsPart, FindsItsOwn, part_now};
-ghost use Rattle.actor_steps.specs.Steps.{IsBookFault};
-ghost use Rattle.actor_steps.specs.Endings.{falls_of, FailuresFollow};
-ghost use Rattle.client_loop.specs.Sendings.{sent_of, SentFollows, SentUnlessMemory, TellsSoftened};
-ghost use Rattle.client_loop.specs.Standing.{Stands, HasLeft, KeepsAttempt, IsSameClient};
-ghost use Rattle.client_loop.specs.Remembering.{core_of, with_core, asked_of, granted_of, busy_of, most_of, HasHadLast, HasReleased};
+ghost use Rattle.client_core.specs.Calls.{MaySoften};
+ghost use Rattle.event_recorders.specs.OwnLogs.{IsUnused, FindsPart};
+ghost use Rattle.client_loop.specs.Sendings.{SentFollows, SentUnlessMemory};
+ghost use Rattle.client_loop.specs.Standing.{Stands, HasLeft, KeepsAttempt};
+ghost use Rattle.client_loop.specs.Remembering.{core_of, HasReleased};
 ghost use Rattle.client_loop.specs.Releasing.{AsksAt, RestsStill, EndsWaiting};
-ghost use Rattle.client_loop.specs.Endings.{ClientEndsFrom, EndsAsking, EndsOneAttempt, IsAtRest};
-ghost use Rattle.client_loop.specs.Visits.{visits_of, use_of, AsksFor, visits_softening, BeginsOnly, BeginsMore};
+ghost use Rattle.client_loop.specs.Outcomes.{answers, moment, Rising, Entering, Softening, Leaving};
+ghost use Rattle.client_loop.specs.Visits.{use_of};
 
 use client_loop::{Patience, Progress, enter, leave, release_at, rise, soften};
 use event_lines::Wish;
@@ -45,21 +43,9 @@ pub trait OwnRecord: StableRecord {
         requires ballots { (R.own_log recorder.old).ballots ≡ ballots }
         requires found { FindsPart (R.own_log recorder.old).opening (Self.finds self.old) }
         requires kept { KeepsAttempt (R.own_log recorder.old).opening }
-        ensures stands { IfOk result (λ p. Stands (R.own_log recorder.new) (Self.finds self.new) (core_of p)) }
-        ensures free { OnOk result (Self.stuck_of self.new ≡ false) }
-        ensures idle { IfOk result (λ p. phase_of (core_of p) ≡ phase.Idle) }
-        ensures client { IsSameClient (R.own_log recorder.old) (R.own_log recorder.new) }
-        ensures silent { sent_of (R.own_log recorder.new) ≡ [] }
-        ensures visits { (visits_of (R.own_log recorder.new)).entered ≡ [] }
-        ensures softened { (visits_of (R.own_log recorder.new)).softened ≡ [] }
-        ensures begins { (visits_of (R.own_log recorder.new)).begins ≡ [] }
-        ensures whose { (visits_of (R.own_log recorder.new)).whose ≡ (R.own_log recorder.old).actor }
-        ensures ballots { (visits_of (R.own_log recorder.new)).ballots ≡ (R.own_log recorder.old).ballots }
-        ensures opened { (visits_of (R.own_log recorder.new)).opening ≡ (R.own_log recorder.old).opening }
-        ensures own { FindsItsOwn (part_now (R.own_log recorder.new)) (Self.finds self.new) }
-        ensures ended { IfErr result (λ fault. ClientEndsFrom fault (falls_of (R.own_log recorder.old)) (R.own_log recorder.new) (Self.stuck_of self.new) (Self.spent_of self.new) (Self.failures_of self.old) (Self.failures_of self.new)) }
-        ensures falls { FailuresFollow (falls_of (R.own_log recorder.old)) (falls_of (R.own_log recorder.new)) (Self.failures_of self.old) (Self.failures_of self.new) }
-        ensures unlogged { IfErr result (λ _. R.own_log recorder.new ≡ R.own_log recorder.old) };
+        ensures { let before = answers (Self.finds self.old) (Self.stuck_of self.old) (Self.spent_of self.old) (Self.failures_of self.old) in
+            let after = answers (Self.finds self.new) (Self.stuck_of self.new) (Self.spent_of self.new) (Self.failures_of self.new) in
+            Rising result (R.own_log recorder.old) (R.own_log recorder.new) before after };
 
     /// `client_loop::enter` over this record.
     fn enter<W: Wait, R: Recorder, L: Link, G: Gate>(
@@ -77,33 +63,9 @@ pub trait OwnRecord: StableRecord {
         requires free { Self.stuck_of self.old ≡ false }
         requires idle { phase_of (core_of progress.old) ≡ phase.Idle }
         requires placed { HasPlace (R.own_log recorder.old).ballots wish.now.place }
-        ensures sent { OnOk result (SentFollows (R.own_log recorder.old) (R.own_log recorder.new) (L.given link.old) (L.given link.new)) }
-        ensures faulted { IfErr result (λ f. SentUnlessMemory f (R.own_log recorder.old) (R.own_log recorder.new) (L.given link.old) (L.given link.new)) }
-        ensures client { IsSameClient (R.own_log recorder.old) (R.own_log recorder.new) }
-        // The own log has the client inside, with a ticket for what is wished.
-        ensures may_enter { result ≡ Ok true → MayEnter (core_of progress.new) }
-        ensures asked { result ≡ Ok true → IfSome (ticket_of (core_of progress.new)) (AsksFor (use_of wish.now)) }
-        ensures inside { result ≡ Ok true → Stands (R.own_log recorder.new) (Self.finds self.new) (inside_of (core_of progress.new)) }
-        ensures entered { result ≡ Ok true → (visits_of (R.own_log recorder.new)).entered ≡ (visits_of (R.own_log recorder.old)).entered ++ Some (use_of wish.now) ∷ [] }
-        // It made an attempt for that, whether or not it entered.
-        ensures begun { OnOk result ((visits_of (R.own_log recorder.new)).begun ≡ Some (use_of wish.now)) }
-        ensures more { OnOk result (BeginsMore (visits_of (R.own_log recorder.old)) (visits_of (R.own_log recorder.new))) }
-        ensures outside { (result ≡ Ok true → ⊥) → (visits_of (R.own_log recorder.new)).entered ≡ (visits_of (R.own_log recorder.old)).entered }
-        ensures softened { (visits_of (R.own_log recorder.new)).softened ≡ (visits_of (R.own_log recorder.old)).softened }
-        ensures free { OnOk result (Self.stuck_of self.new ≡ false) }
-        // It takes a wish back only where it isn't to wait and a node let it, and rests then, as where it gave up.
-        ensures waits { result ≡ Ok false → (patience.waits ≡ false) × (busy_of progress.new ≡ true) }
-        // It has as many nudges as its caller says, and gives up only where it had the last.
-        ensures most { most_of progress.new ≡ patience.nudges }
-        ensures last { IfErr result (λ f. f ≡ RunFault.GaveUp → HasHadLast progress.new) }
-        ensures back { result ≡ Ok false → IsAtRest (R.own_log recorder.new) (Self.finds self.new) (Self.stuck_of self.new) (core_of progress.new) }
-        ensures released { result ≡ Ok false → HasReleased progress.new }
-        ensures again { IfErr result (λ f. EndsOneAttempt f → IsAtRest (R.own_log recorder.new) (Self.finds self.new) (Self.stuck_of self.new) (core_of progress.new)) }
-        // However it ends, a restart finds in its record nothing but what it has kept and what it tries to keep.
-        ensures own { FindsItsOwn (part_now (R.own_log recorder.new)) (Self.finds self.new) }
-        ensures ended { IfErr result (λ fault. ClientEndsFrom fault (falls_of (R.own_log recorder.old)) (R.own_log recorder.new) (Self.stuck_of self.new) (Self.spent_of self.new) (Self.failures_of self.old) (Self.failures_of self.new)) }
-        ensures falls { FailuresFollow (falls_of (R.own_log recorder.old)) (falls_of (R.own_log recorder.new)) (Self.failures_of self.old) (Self.failures_of self.new) }
-        ensures begins { BeginsOnly (use_of wish.now) (visits_of (R.own_log recorder.old)) (visits_of (R.own_log recorder.new)) };
+        ensures { let before = moment progress.old (R.own_log recorder.old) (answers (Self.finds self.old) (Self.stuck_of self.old) (Self.spent_of self.old) (Self.failures_of self.old)) (L.given link.old) in
+            let after = moment progress.new (R.own_log recorder.new) (answers (Self.finds self.new) (Self.stuck_of self.new) (Self.spent_of self.new) (Self.failures_of self.new)) (L.given link.new) in
+            Entering (use_of wish.now) patience.nudges patience.waits result before after };
 
     /// `client_loop::soften` over this record.
     fn soften<R: Recorder, L: Link>(
@@ -115,17 +77,10 @@ pub trait OwnRecord: StableRecord {
     ) -> Result<(), RunFault>
         requires may { MaySoften (core_of progress.old) }
         requires stands { Stands (R.own_log recorder.old) (Self.finds self.now) (core_of progress.old) }
-        ensures client { IsSameClient (R.own_log recorder.old) (R.own_log recorder.new) }
-        ensures told { OnOk result (TellsSoftened (core_of progress.old) (granted_of progress.old) (R.own_log recorder.old) (R.own_log recorder.new)) }
-        ensures core { OnOk result (progress.new ≡ with_core progress.old (softened (core_of progress.old))) }
-        ensures kept { OnErr result ((progress.new ≡ progress.old) ⊎ (progress.new ≡ with_core progress.old (softened (core_of progress.old)))) }
-        ensures stands { Stands (R.own_log recorder.new) (Self.finds self.now) (core_of progress.new) }
-        ensures sent { OnOk result (SentFollows (R.own_log recorder.old) (R.own_log recorder.new) (L.given link.old) (L.given link.new)) }
-        ensures faulted { IfErr result (λ f. SentUnlessMemory f (R.own_log recorder.old) (R.own_log recorder.new) (L.given link.old) (L.given link.new)) }
-        ensures visits { OnOk result (visits_of (R.own_log recorder.new) ≡ visits_softening (visits_of (R.own_log recorder.old))) }
-        ensures fewer { OnErr result ((visits_of (R.own_log recorder.new) ≡ visits_of (R.own_log recorder.old)) ⊎ (visits_of (R.own_log recorder.new) ≡ visits_softening (visits_of (R.own_log recorder.old)))) }
-        ensures falls { falls_of (R.own_log recorder.new) ≡ falls_of (R.own_log recorder.old) }
-        ensures faults { IfErr result IsBookFault };
+        ensures { let kept = answers (Self.finds self.now) (Self.stuck_of self.now) (Self.spent_of self.now) (Self.failures_of self.now) in
+            let before = moment progress.old (R.own_log recorder.old) kept (L.given link.old) in
+            let after = moment progress.new (R.own_log recorder.new) kept (L.given link.new) in
+            Softening result before after };
 
     /// `client_loop::leave` over this record.
     fn leave<W: Wait, R: Recorder, L: Link>(
@@ -137,25 +92,10 @@ pub trait OwnRecord: StableRecord {
         link: &mut L,
     ) -> Result<(), RunFault>
         requires { HasLeft (R.own_log recorder.old) (Self.finds self.now) (core_of progress.old) }
-        ensures sent { OnOk result (SentFollows (R.own_log recorder.old) (R.own_log recorder.new) (L.given link.old) (L.given link.new)) }
-        ensures faulted { IfErr result (λ f. SentUnlessMemory f (R.own_log recorder.old) (R.own_log recorder.new) (L.given link.old) (L.given link.new)) }
-        ensures client { IsSameClient (R.own_log recorder.old) (R.own_log recorder.new) }
-        // It rests by its own log, and each node that it asked has answered, or is gone.
-        ensures stands { OnOk result (Stands (R.own_log recorder.new) (Self.finds self.now) (core_of progress.new)) }
-        ensures idle { phase_of (core_of progress.new) ≡ phase.Idle }
-        ensures released { OnOk result (HasReleased progress.new) }
-        ensures asked { OnOk result (asked_of progress.new ≡ asked_of progress.old) }
-        // That a node let it wait is remembered.
-        ensures busy { OnOk result (busy_of progress.old ≡ true → busy_of progress.new ≡ true) }
-        // 913: only where the wish had its last nudge; how many it may have stays.
-        ensures most { most_of progress.new ≡ most_of progress.old }
-        ensures last { IfErr result (λ f. f ≡ RunFault.GaveUp → HasHadLast progress.new) }
-        ensures again { IfErr result (λ f. f ≡ RunFault.GaveUp → Stands (R.own_log recorder.new) (Self.finds self.now) (core_of progress.new) × (phase_of (core_of progress.new) ≡ phase.Idle)) }
-        ensures visits { visits_of (R.own_log recorder.new) ≡ visits_of (R.own_log recorder.old) }
-        ensures falls { falls_of (R.own_log recorder.new) ≡ falls_of (R.own_log recorder.old) }
-        ensures own { FindsItsOwn (part_now (R.own_log recorder.new)) (Self.finds self.now) }
-        ensures faults { IfErr result (λ f. (f ≡ RunFault.GaveUp) ⊎ IsBookFault f) }
-        ensures ended { IfErr result (λ f. EndsAsking f (R.own_log recorder.new)) };
+        ensures { let kept = answers (Self.finds self.now) (Self.stuck_of self.now) (Self.spent_of self.now) (Self.failures_of self.now) in
+            let before = moment progress.old (R.own_log recorder.old) kept (L.given link.old) in
+            let after = moment progress.new (R.own_log recorder.new) kept (L.given link.new) in
+            Leaving result before after };
 
     /// `client_loop::release_at` over this record.
     fn release_at<W: Wait, R: Recorder, L: Link>(

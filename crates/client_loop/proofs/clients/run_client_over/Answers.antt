@@ -6,25 +6,25 @@ use Rattle.client_loop.proofs.clients.run_client_over.Goals as goal
 
 pub returns-in-Err-clause-falls : goal.returns-in-Err-clause-falls
 returns-in-Err-clause-falls g c =
-    failed_since (g.R.Recorder.own_log c.args.recorder.now) (g.R.Recorder.own_log c.rise.new.recorder) _ _ _ c.requires.unused c.rise.ensures.falls
+    failed_since (g.R.Recorder.own_log c.args.recorder.now) (g.R.Recorder.own_log c.rise.new.recorder) _ _ _ c.requires.unused c.rise.ensures.begins.falls
 
 pub returns-clause-falls : goal.returns-clause-falls
 returns-clause-falls g c =
     failed_since (g.R.Recorder.own_log c.args.recorder.now) (g.R.Recorder.own_log c.fulfil_all.new.recorder) _ _ _ c.requires.unused
-    (failures_on _ _ _ _ _ _ c.rise.ensures.falls c.fulfil_all.ensures.falls)
+    (failures_on _ _ _ _ _ _ c.rise.ensures.begins.falls c.fulfil_all.ensures.falls)
 
 pub returns-clause-ended : goal.returns-clause-ended
 returns-clause-ended g c =
     IfErr-weaker c.fulfil_all.result _ _
-    (λ p ends. client_ended_since p.1 (g.R.Recorder.own_log c.args.recorder.now) _ _ _ _ _ _ c.requires.unused (client_ends_on p.1 _ _ _ _ _ _ _ _ c.rise.ensures.falls ends))
+    (λ p ends. client_ended_since p.1 (g.R.Recorder.own_log c.args.recorder.now) _ _ _ _ _ _ c.requires.unused (client_ends_on p.1 _ _ _ _ _ _ _ _ c.rise.ensures.begins.falls ends))
     c.fulfil_all.ensures.ended
 
 pub returns-in-Err-clause-begun : goal.returns-in-Err-clause-begun
-returns-in-Err-clause-begun g c = none_begun _ _ (g.R.Recorder.own_log c.rise.new.recorder) c.rise.ensures.whose c.rise.ensures.begins
+returns-in-Err-clause-begun g c = none_begun _ _ (g.R.Recorder.own_log c.rise.new.recorder) c.rise.ensures.begins.whose c.rise.ensures.begins.begins
 
 pub returns-clause-begun : goal.returns-clause-begun
-returns-clause-begun g c = begun_since _ _ (g.R.Recorder.own_log c.rise.new.recorder) _ c.rise.ensures.whose c.fulfil_all.ensures.begun
+returns-clause-begun g c = begun_since _ _ (g.R.Recorder.own_log c.rise.new.recorder) _ c.rise.ensures.begins.whose c.fulfil_all.ensures.begun
 
 pub fulfil_all-requires-clause-placed : goal.fulfil_all-requires-clause-placed
 fulfil_all-requires-clause-placed g c =
-    placed_since c.args.ballots (g.R.Recorder.own_log c.args.recorder.now) (g.R.Recorder.own_log c.rise.new.recorder) c.args.wishes.now c.rise.ensures.ballots c.requires.ballots c.requires.placed
+    placed_since c.args.ballots (g.R.Recorder.own_log c.args.recorder.now) (g.R.Recorder.own_log c.rise.new.recorder) c.args.wishes.now c.rise.ensures.begins.ballots c.requires.ballots c.requires.placed

@@ -1,43 +1,20 @@
-use Rattle.std.proofs.Common.{ℕ, [], ◌∷◌, ◌≡◌, refl, sym, subst, ◌∙◌, false, IfOk, OnOk, IfErr}
+use Rattle.std.proofs.Common.{[], ◌∷◌, refl, sym, subst, ◌∙◌, false}
 use borrow.Pointer.Hide.{carried_sameᵐ}
 use borrow.Rule.Reborrow.{re_n}
 use mir.Syntax.{Dict}
-use Rattle.event_recorders.specs.OwnLogs.{FindsItsOwn, part_now}
 use Rattle.stable_record.specs.contracts.faulty_records.FaultyRecord.{the_row}
 use Rattle.stable_record.specs.Faulty.{Faulty}
-use Rattle.actor_steps.specs.Endings.{falls_of, FailuresFollow}
-use Rattle.client_loop.specs.Endings.{ClientEndsFrom}
-use Rattle.client_loop.specs.Standing.{Stands}
-use Rattle.client_loop.specs.Remembering.{core_of}
+use Rattle.client_loop.specs.Outcomes.{Answers, answers, Rising}
 use Rattle.lock_session.proofs.faulty_records.FaultyRecordOwnRecord.rise.Object-1.{Members}
 use Rattle.lock_session.proofs.faulty_records.FaultyRecordOwnRecord.rise.OwnLists.{same-1-1}
 use Rattle.lock_session.proofs.faulty_records.FaultyRecordOwnRecord.rise.Goals as goal
 
-pub returns-clause-stands : goal.returns-clause-stands
-returns-clause-stands g c =
-    subst (λ (m : Faulty). IfOk c.rise.result (λ p. Stands (g.R.Recorder.own_log c.rise.new.recorder) (m.bytes ∷ []) (core_of p)))
-    (the_row.coded.inj _ _ c.self-1.given.2.codes ∙ sym (c.self-2-1.given.1 refl)) c.rise.ensures.stands
+abbrev said : Faulty → Answers
+said r = answers (r.bytes ∷ []) r.stuck false r.failures
 
-pub returns-clause-free : goal.returns-clause-free
-returns-clause-free g c =
-    subst (λ (m : Faulty). OnOk c.rise.result (m.stuck ≡ false))
-    (the_row.coded.inj _ _ c.self-1.given.2.codes ∙ sym (c.self-2-1.given.1 refl)) c.rise.ensures.free
-
-pub returns-clause-ended : goal.returns-clause-ended
-returns-clause-ended g c =
-    subst (λ (m : Faulty). IfErr c.rise.result (λ fault. ClientEndsFrom fault (falls_of (g.R.Recorder.own_log c.args.recorder.now)) (g.R.Recorder.own_log c.rise.new.recorder) m.stuck false (c.args.self.now.failures) m.failures))
+pub returns : goal.returns
+returns g c =
+    subst (λ (r : Faulty). Rising c.rise.result (g.R.Recorder.own_log c.args.recorder.now) (g.R.Recorder.own_log c.rise.new.recorder) (said c.args.self.now) (said r))
     (the_row.coded.inj _ _ c.self-1.given.2.codes ∙ sym (c.self-2-1.given.1 refl))
-    (subst (λ (n : ℕ). IfErr c.rise.result (λ fault. ClientEndsFrom fault (falls_of (g.R.Recorder.own_log c.args.recorder.now)) (g.R.Recorder.own_log c.rise.new.recorder) c.rise.new.stable.stuck false (n) c.rise.new.stable.failures))
-    (carried_sameᵐ Members Dict _ _ same-1-1 ℕ (λ j b. j.1.failures_of b.now) (re_n c.rise-arg-1.given c.args.self)) c.rise.ensures.ended)
-
-pub returns-clause-falls : goal.returns-clause-falls
-returns-clause-falls g c =
-    subst (λ (m : Faulty). FailuresFollow (falls_of (g.R.Recorder.own_log c.args.recorder.now)) (falls_of (g.R.Recorder.own_log c.rise.new.recorder)) (c.args.self.now.failures) m.failures)
-    (the_row.coded.inj _ _ c.self-1.given.2.codes ∙ sym (c.self-2-1.given.1 refl))
-    (subst (λ (n : ℕ). FailuresFollow (falls_of (g.R.Recorder.own_log c.args.recorder.now)) (falls_of (g.R.Recorder.own_log c.rise.new.recorder)) (n) c.rise.new.stable.failures)
-    (carried_sameᵐ Members Dict _ _ same-1-1 ℕ (λ j b. j.1.failures_of b.now) (re_n c.rise-arg-1.given c.args.self)) c.rise.ensures.falls)
-
-pub returns-clause-own : goal.returns-clause-own
-returns-clause-own g c =
-    subst (λ (m : Faulty). FindsItsOwn (part_now (g.R.Recorder.own_log c.rise.new.recorder)) (m.bytes ∷ []))
-    (the_row.coded.inj _ _ c.self-1.given.2.codes ∙ sym (c.self-2-1.given.1 refl)) c.rise.ensures.own
+    (subst (λ (a : Answers). Rising c.rise.result (g.R.Recorder.own_log c.args.recorder.now) (g.R.Recorder.own_log c.rise.new.recorder) a (said c.rise.new.stable))
+    (carried_sameᵐ Members Dict _ _ same-1-1 Answers (λ j b. answers (j.1.finds b.now) (j.1.stuck_of b.now) (j.1.spent_of b.now) (j.1.failures_of b.now)) (re_n c.rise-arg-1.given c.args.self)) c.rise.ensures)

@@ -1,16 +1,19 @@
-use Rattle.std.proofs.Common.{ℕ, List, [], ◌∷◌, refl, sym, subst, ◌∙◌, IfOk}
-use Rattle.event_recorders.specs.OwnLogs.{FindsItsOwn, part_now}
+use Rattle.std.proofs.Common.{ℕ, List, [], ◌∷◌, refl, sym, subst, ◌∙◌, false}
+use borrow.Pointer.Hide.{carried_sameᵐ}
+use borrow.Rule.Reborrow.{re_n}
+use mir.Syntax.{Dict}
 use Rattle.stable_record.specs.contracts.memory_records.MemoryRecord.{the_row}
-use Rattle.client_loop.specs.Standing.{Stands}
-use Rattle.client_loop.specs.Remembering.{core_of}
+use Rattle.client_loop.specs.Outcomes.{Answers, answers, Rising}
+use Rattle.lock_session.proofs.records.MemoryRecordOwnRecord.rise.Object-1.{Members}
+use Rattle.lock_session.proofs.records.MemoryRecordOwnRecord.rise.OwnLists.{same-1-1}
 use Rattle.lock_session.proofs.records.MemoryRecordOwnRecord.rise.Goals as goal
 
-pub returns-clause-stands : goal.returns-clause-stands
-returns-clause-stands g c =
-    subst (λ (m : List ℕ). IfOk c.rise.result (λ p. Stands (g.R.Recorder.own_log c.rise.new.recorder) (m ∷ []) (core_of p)))
-    (the_row.coded.inj _ _ c.self-1.given.2.codes ∙ sym (c.self-2-1.given.1 refl)) c.rise.ensures.stands
+abbrev said : List ℕ → Answers
+said r = answers (r ∷ []) false false 0
 
-pub returns-clause-own : goal.returns-clause-own
-returns-clause-own g c =
-    subst (λ (m : List ℕ). FindsItsOwn (part_now (g.R.Recorder.own_log c.rise.new.recorder)) (m ∷ []))
-    (the_row.coded.inj _ _ c.self-1.given.2.codes ∙ sym (c.self-2-1.given.1 refl)) c.rise.ensures.own
+pub returns : goal.returns
+returns g c =
+    subst (λ (r : List ℕ). Rising c.rise.result (g.R.Recorder.own_log c.args.recorder.now) (g.R.Recorder.own_log c.rise.new.recorder) (said c.args.self.now) (said r))
+    (the_row.coded.inj _ _ c.self-1.given.2.codes ∙ sym (c.self-2-1.given.1 refl))
+    (subst (λ (a : Answers). Rising c.rise.result (g.R.Recorder.own_log c.args.recorder.now) (g.R.Recorder.own_log c.rise.new.recorder) a (said c.rise.new.stable))
+    (carried_sameᵐ Members Dict _ _ same-1-1 Answers (λ j b. answers (j.1.finds b.now) (j.1.stuck_of b.now) (j.1.spent_of b.now) (j.1.failures_of b.now)) (re_n c.rise-arg-1.given c.args.self)) c.rise.ensures)

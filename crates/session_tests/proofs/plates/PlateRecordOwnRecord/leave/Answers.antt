@@ -1,12 +1,12 @@
-use Rattle.std.proofs.Common.{ℕ, List, subst}
+use Rattle.std.proofs.Common.{subst}
 use borrow.Pointer.Hide.{carried_same}
 use mir.Syntax.{Dict}
-use Rattle.event_recorders.specs.OwnLogs.{FindsItsOwn, part_now}
+use Rattle.client_loop.specs.Outcomes.{Answers, answers, moment, Leaving}
 use Rattle.session_tests.proofs.plates.PlateRecordOwnRecord.leave.Object-1.{Members}
 use Rattle.session_tests.proofs.plates.PlateRecordOwnRecord.leave.OwnLists.{same-1-1}
 use Rattle.session_tests.proofs.plates.PlateRecordOwnRecord.leave.Goals as goal
 
-pub returns-clause-own : goal.returns-clause-own
-returns-clause-own g c =
-    subst (λ strings. FindsItsOwn (part_now (g.R.Recorder.own_log c.leave.new.recorder)) strings)
-    (carried_same Members Dict _ _ same-1-1 (List (List ℕ)) (λ j b. j.1.finds b.now) c.args.self) c.leave.ensures.own
+pub returns : goal.returns
+returns g c =
+    subst (λ (a : Answers). Leaving c.leave.result (moment c.args.progress.now (g.R.Recorder.own_log c.args.recorder.now) a (g.L.Link.given c.args.link.now)) (moment c.leave.new.progress (g.R.Recorder.own_log c.leave.new.recorder) a (g.L.Link.given c.leave.new.link)))
+    (carried_same Members Dict _ _ same-1-1 Answers (λ j b. answers (j.1.finds b.now) (j.1.stuck_of b.now) (j.1.spent_of b.now) (j.1.failures_of b.now)) c.args.self) c.leave.ensures
