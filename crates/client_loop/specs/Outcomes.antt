@@ -14,7 +14,7 @@ use Rattle.client_loop.specs.Sendings.{sent_of, SentFollows, SentUnlessMemory, T
 use Rattle.client_loop.specs.Standing.{Stands, IsSameClient}
 use Rattle.client_loop.specs.Remembering.{core_of, with_core, asked_of, granted_of, busy_of, most_of, HasHadLast, HasReleased}
 use Rattle.client_loop.specs.Endings.{ClientEndsFrom, EndsAsking, EndsOneAttempt, IsPostFault, IsAtRest}
-use Rattle.client_loop.specs.Visits.{Use, AsksFor, visits_of, visits_softening, BeginsOnly, BeginsMore}
+use Rattle.client_loop.specs.Visits.{Use, AsksFor, visits_of, visits_softening, BeginsOnly, BeginsMore, GoesOnQuietly}
 
 -- What a record answers: what a restart finds in it, whether it is stuck and spent, and how often its device has failed.
 pub record Answers : Type 0 where
@@ -110,14 +110,13 @@ pub record Entering (u : Use) (nudges : ℕ) (waits : Bool) (r : Result Bool Run
   pub taken_back : r ≡ Ok false → (waits ≡ false) × TakesBack v v'
   pub ended : IfErr r (λ f. EndsAttempts f v v')
 
--- However it ended, the client may have as many nudges as before, its core is idle, and its log has nothing entered, softened or
--- begun since.
+-- However it ended, the client may have as many nudges as before, its core is idle, and its log has nothing begun, entered,
+-- softened or fallen since.
 pub record Leaves (v v' : Moment) : Type 0 where
   pub client : IsSameClient v.log v'.log
   pub idle : phase_of (core_of v'.progress) ≡ phase.Idle
   pub most : most_of v'.progress ≡ most_of v.progress
-  pub visits : VisitsNothing v v'
-  pub falls : falls_of v'.log ≡ falls_of v.log
+  pub quiet : GoesOnQuietly v.log v'.log
   pub own : KeepsItsOwn v'
 
 -- It rests by its own log: each node that it asked has answered its release or is gone. If a node let it wait, it remembers that.

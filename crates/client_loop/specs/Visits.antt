@@ -14,6 +14,7 @@ use Rattle.world_model.specs.Parts.{Part}
 use Rattle.event_lines.specs.declared.wishes.Wish.{Wish}
 use Rattle.event_recorders.specs.declared.faults.RunFault.{RunFault}
 use Rattle.event_recorders.specs.OwnLogs.{OwnLog}
+use Rattle.actor_steps.specs.Endings.{falls_of}
 
 -- a use of a resource, by the ballot at a place
 pub record Use : Type 0 where
@@ -165,3 +166,8 @@ pub record HasBegun (who : Actor) (wishes : List Wish) (l : OwnLog) : Type 0 whe
 -- each wish has a place that the ballots have
 abbrev pub ArePlaced : List Ballot → List Wish → Type 0
 ArePlaced ballots wishes = All (λ w. HasPlace ballots w.place) wishes
+
+-- Nothing was begun, entered or softened since, and the client has not fallen.
+pub record GoesOnQuietly (l l' : OwnLog) : Type 0 where
+  pub visits : visits_of l' ≡ visits_of l
+  pub falls : falls_of l' ≡ falls_of l

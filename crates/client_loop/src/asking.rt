@@ -6,7 +6,7 @@ ghost use Rattle.client_core.specs.Calls.{MayEnter};
 ghost use Rattle.client_loop.specs.Sendings.{SentFollows, SentUnlessMemory};
 ghost use Rattle.client_loop.specs.Standing.{Stands};
 ghost use Rattle.client_loop.specs.Remembering.{HasHadLast};
-ghost use Rattle.client_loop.specs.Visits.{visits_of};
+ghost use Rattle.client_loop.specs.Visits.{GoesOnQuietly, visits_of};
 ghost use Rattle.client_core.specs.Clients.{phase_of, ticket_of};
 ghost use Rattle.client_loop.specs.Endings.{IsAskFault};
 ghost use Rattle.client_loop.specs.Nodes.{CanSuffice};
@@ -55,11 +55,10 @@ fn ask_on<R: Recorder, L: Link>(
     ensures sent { OnOk result (SentFollows (R.own_log recorder.old) (R.own_log recorder.new) (L.given link.old) (L.given link.new)) }
     ensures faulted { IfErr result (λ f. SentUnlessMemory f (R.own_log recorder.old) (R.own_log recorder.new) (L.given link.old) (L.given link.new)) }
     ensures stands { Stands (R.own_log recorder.new) (finds stable.now) progress.new.core }
-    ensures visits { visits_of (R.own_log recorder.new) ≡ visits_of (R.own_log recorder.old) }
     ensures phase { phase_of progress.new.core ≡ phase_of progress.old.core }
     ensures ticket { ticket_of progress.new.core ≡ ticket_of progress.old.core }
     ensures most { progress.new.most_nudges ≡ progress.old.most_nudges }
-    ensures falls { falls_of (R.own_log recorder.new) ≡ falls_of (R.own_log recorder.old) }
+    ensures quiet { GoesOnQuietly (R.own_log recorder.old) (R.own_log recorder.new) }
     ensures faults { IfErr result IsBookFault }
 {
     if awaits_enough(wish, progress) {
@@ -105,9 +104,8 @@ fn ask_together<R: Recorder, L: Link>(
     ensures sent { OnOk result (SentFollows (R.own_log recorder.old) (R.own_log recorder.new) (L.given link.old) (L.given link.new)) }
     ensures faulted { IfErr result (λ f. SentUnlessMemory f (R.own_log recorder.old) (R.own_log recorder.new) (L.given link.old) (L.given link.new)) }
     ensures stands { Stands (R.own_log recorder.new) (finds stable.now) progress.new.core }
-    ensures visits { visits_of (R.own_log recorder.new) ≡ visits_of (R.own_log recorder.old) }
     ensures others { progress.new ≡ record progress.old { asked = progress.new.asked } }
-    ensures falls { falls_of (R.own_log recorder.new) ≡ falls_of (R.own_log recorder.old) }
+    ensures quiet { GoesOnQuietly (R.own_log recorder.old) (R.own_log recorder.new) }
     ensures faults { IfErr result IsBookFault }
 {
     let Some(ballot) = progress.core.ballots().ballot(wish.place) else {
@@ -152,10 +150,9 @@ pub(crate) fn ask<W: Wait, R: Recorder, L: Link>(
     ensures sent { OnOk result (SentFollows (R.own_log recorder.old) (R.own_log recorder.new) (L.given link.old) (L.given link.new)) }
     ensures faulted { IfErr result (λ f. SentUnlessMemory f (R.own_log recorder.old) (R.own_log recorder.new) (L.given link.old) (L.given link.new)) }
     ensures stands { Stands (R.own_log recorder.new) (finds stable.now) progress.new.core }
-    ensures visits { visits_of (R.own_log recorder.new) ≡ visits_of (R.own_log recorder.old) }
     ensures phase { phase_of progress.new.core ≡ phase_of progress.old.core }
     ensures ticket { ticket_of progress.new.core ≡ ticket_of progress.old.core }
-    ensures falls { falls_of (R.own_log recorder.new) ≡ falls_of (R.own_log recorder.old) }
+    ensures quiet { GoesOnQuietly (R.own_log recorder.old) (R.own_log recorder.new) }
     ensures most { progress.new.most_nudges ≡ progress.old.most_nudges }
     ensures faults { IfErr result IsAskFault }
     // 913: only where the wish had its last nudge.

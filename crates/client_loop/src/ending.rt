@@ -3,7 +3,7 @@
 ghost use Rattle.std.specs.Prelude.{◌≡◌, ◌⊎◌, OnOk, IfErr};
 ghost use Rattle.client_loop.specs.Sendings.{SentFollows, SentUnlessMemory, EndsHere};
 ghost use Rattle.client_loop.specs.Standing.{Stands};
-ghost use Rattle.client_loop.specs.Visits.{visits_of};
+ghost use Rattle.client_loop.specs.Visits.{GoesOnQuietly, visits_of};
 ghost use Rattle.client_core.specs.Clients.{phase_of};
 ghost use Rattle.client_core.specs.declared.phases.Phase.TheVariants as phase;
 ghost use Rattle.event_recorders.specs.OwnLogs.{part_now, FindsItsOwn};
@@ -33,8 +33,7 @@ fn give_up<R: Recorder, L: Link>(
     requires phase { (phase_of progress.old.core ≡ phase.Asking) ⊎ (phase_of progress.old.core ≡ phase.Idle) }
     ensures sent { OnOk result (SentFollows (R.own_log recorder.old) (R.own_log recorder.new) (L.given link.old) (L.given link.new)) }
     ensures faulted { IfErr result (λ f. SentUnlessMemory f (R.own_log recorder.old) (R.own_log recorder.new) (L.given link.old) (L.given link.new)) }
-    ensures visits { visits_of (R.own_log recorder.new) ≡ visits_of (R.own_log recorder.old) }
-    ensures falls { falls_of (R.own_log recorder.new) ≡ falls_of (R.own_log recorder.old) }
+    ensures quiet { GoesOnQuietly (R.own_log recorder.old) (R.own_log recorder.new) }
     ensures own { FindsItsOwn (part_now (R.own_log recorder.new)) (finds stable.now) }
     ensures faults { IfErr result IsBookFault }
     ensures outside { OnOk result (IsOutside (part_now (R.own_log recorder.new))) }
@@ -66,8 +65,7 @@ pub(crate) fn end<R: Recorder, L: Link>(
     requires fault { IsAskFault fault }
     ensures faulted { SentUnlessMemory result (R.own_log recorder.old) (R.own_log recorder.new) (L.given link.old) (L.given link.new) }
     ensures memory { fault ≡ RunFault.Memory → EndsHere result (R.own_log recorder.old) (R.own_log recorder.new) (L.given link.old) (L.given link.new) }
-    ensures visits { visits_of (R.own_log recorder.new) ≡ visits_of (R.own_log recorder.old) }
-    ensures falls { falls_of (R.own_log recorder.new) ≡ falls_of (R.own_log recorder.old) }
+    ensures quiet { GoesOnQuietly (R.own_log recorder.old) (R.own_log recorder.new) }
     ensures own { FindsItsOwn (part_now (R.own_log recorder.new)) (finds stable.now) }
     ensures ended { EndsAsking result (R.own_log recorder.new) }
     ensures told { (result ≡ fault) ⊎ IsBookFault result }

@@ -9,7 +9,7 @@ ghost use Rattle.client_loop.specs.Sendings.{sent_of, SentFollows, SentUnlessMem
 ghost use Rattle.client_loop.specs.Standing.{Stands, IsSameClient};
 ghost use Rattle.client_loop.specs.Remembering.{core_of, busy_of, most_of, HasHadLast, HasReleased};
 ghost use Rattle.client_loop.specs.Endings.{EndsAsking, EndsOneAttempt};
-ghost use Rattle.client_loop.specs.Outcomes.{moment, answers, Entering};
+ghost use Rattle.client_loop.specs.Outcomes.{moment, answers, Leaving, Entering};
 ghost use Rattle.actor_steps.specs.Steps.{IsBookFault};
 ghost use Rattle.actor_steps.specs.Endings.{falls_of, FailuresFollow};
 ghost use Rattle.client_loop.specs.Visits.{visits_of, use_of, AsksFor, visits_entering, BeginsNothing, BeginsOnly, BeginsMore};
@@ -63,19 +63,11 @@ fn take_back<W: Wait, R: Recorder, L: Link>(
 ) -> Result<(), RunFault>
     requires stands { Stands (R.own_log recorder.old) (finds stable.now) progress.old.core }
     requires asking { phase_of progress.old.core ≡ phase.Asking }
-    ensures sent { OnOk result (SentFollows (R.own_log recorder.old) (R.own_log recorder.new) (L.given link.old) (L.given link.new)) }
-    ensures faulted { IfErr result (λ f. SentUnlessMemory f (R.own_log recorder.old) (R.own_log recorder.new) (L.given link.old) (L.given link.new)) }
-    ensures stands { OnOk result (Stands (R.own_log recorder.new) (finds stable.now) progress.new.core) }
-    ensures idle { phase_of progress.new.core ≡ phase.Idle }
-    ensures released { OnOk result (HasReleased progress.new) }
-    ensures busy { OnOk result (progress.old.busy ≡ true → progress.new.busy ≡ true) }
-    ensures most { progress.new.most_nudges ≡ progress.old.most_nudges }
-    ensures last { IfErr result (λ f. f ≡ RunFault.GaveUp → HasHadLast progress.new) }
-    ensures again { IfErr result (λ f. EndsOneAttempt f → Stands (R.own_log recorder.new) (finds stable.now) progress.new.core × (phase_of progress.new.core ≡ phase.Idle)) }
-    ensures visits { visits_of (R.own_log recorder.new) ≡ visits_of (R.own_log recorder.old) }
-    ensures falls { falls_of (R.own_log recorder.new) ≡ falls_of (R.own_log recorder.old) }
-    ensures own { FindsItsOwn (part_now (R.own_log recorder.new)) (finds stable.now) }
-    ensures ended { IfErr result (λ f. EndsAsking f (R.own_log recorder.new)) }
+    ensures {
+        let kept = answers (finds stable.now) (stuck_of stable.now) (spent_of stable.now) (failures_of stable.now) in
+        let before = moment progress.old (R.own_log recorder.old) kept (L.given link.old) in
+        let after = moment progress.new (R.own_log recorder.new) kept (L.given link.new) in
+        Leaving result before after }
 {
     progress.core.leave();
     leave(rt, alloc, progress, stable, recorder, link)

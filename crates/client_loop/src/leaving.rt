@@ -8,7 +8,7 @@ ghost use Rattle.client_loop.specs.Standing.{Stands, HasLeft, IsSameClient};
 ghost use Rattle.client_loop.specs.Remembering.{core_of, asked_of, busy_of, most_of, HasHadLast, HasReleased};
 ghost use Rattle.client_loop.specs.Endings.{EndsAsking, IsAskFault};
 ghost use Rattle.client_loop.specs.Outcomes.{moment, answers, Leaving};
-ghost use Rattle.client_loop.specs.Visits.{visits_of};
+ghost use Rattle.client_loop.specs.Visits.{GoesOnQuietly, visits_of};
 ghost use Rattle.actor_steps.specs.Steps.{IsBookFault};
 ghost use Rattle.actor_steps.specs.Endings.{falls_of};
 ghost use Rattle.event_recorders.specs.OwnLogs.{FindsItsOwn, part_now};
@@ -35,8 +35,7 @@ pub(crate) fn log_leave<R: Recorder>(
     requires { HasLeft (R.own_log recorder.old) (finds stable.now) core.now }
     ensures outside { OnOk result (Stands (R.own_log recorder.new) (finds stable.now) core.now) }
     ensures silent { sent_of (R.own_log recorder.new) ≡ sent_of (R.own_log recorder.old) }
-    ensures visits { visits_of (R.own_log recorder.new) ≡ visits_of (R.own_log recorder.old) }
-    ensures falls { falls_of (R.own_log recorder.new) ≡ falls_of (R.own_log recorder.old) }
+    ensures quiet { GoesOnQuietly (R.own_log recorder.old) (R.own_log recorder.new) }
     ensures refused { OnErr result (R.own_log recorder.new ≡ R.own_log recorder.old) }
     ensures faults { IfErr result IsBookFault }
 {

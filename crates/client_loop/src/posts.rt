@@ -6,7 +6,7 @@ ghost use Rattle.client_loop.specs.Hearing.{IsFrameFor, TakesParcel};
 ghost use Rattle.client_loop.specs.Sendings.{sent_of, SentFollows, SentUnlessMemory};
 ghost use Rattle.client_loop.specs.Standing.{Stands};
 ghost use Rattle.client_loop.specs.Remembering.{HasHadLast};
-ghost use Rattle.client_loop.specs.Visits.{visits_of};
+ghost use Rattle.client_loop.specs.Visits.{GoesOnQuietly, visits_of};
 ghost use Rattle.client_loop.specs.Endings.{IsPostFault};
 ghost use Rattle.vote_weights.specs.Sets.{has_node};
 ghost use Rattle.actor_steps.specs.Steps.{IsBookFault};
@@ -39,8 +39,7 @@ fn take_parcel<R: Recorder>(
     ensures busy { progress.old.busy ≡ true → progress.new.busy ≡ true }
     ensures asked { progress.new.asked ≡ progress.old.asked }
     ensures most { progress.new.most_nudges ≡ progress.old.most_nudges }
-    ensures visits { visits_of (R.own_log recorder.new) ≡ visits_of (R.own_log recorder.old) }
-    ensures falls { falls_of (R.own_log recorder.new) ≡ falls_of (R.own_log recorder.old) }
+    ensures quiet { GoesOnQuietly (R.own_log recorder.old) (R.own_log recorder.new) }
     ensures faults { IfErr result IsBookFault }
 {
     let Some((node, heard)) = hear(&mut progress.core, parcel, stable, recorder)? else {
@@ -71,8 +70,7 @@ fn take_nudge<R: Recorder, L: Link>(
     ensures busy { progress.old.busy ≡ true → progress.new.busy ≡ true }
     ensures most { progress.new.most_nudges ≡ progress.old.most_nudges }
     ensures last { IfErr result (λ f. f ≡ RunFault.GaveUp → HasHadLast progress.new) }
-    ensures visits { visits_of (R.own_log recorder.new) ≡ visits_of (R.own_log recorder.old) }
-    ensures falls { falls_of (R.own_log recorder.new) ≡ falls_of (R.own_log recorder.old) }
+    ensures quiet { GoesOnQuietly (R.own_log recorder.old) (R.own_log recorder.new) }
     ensures faults { IfErr result IsPostFault }
     // A nudge of a node to which it has sent something is counted, and nothing else changes.
     ensures counted { progress.new ≡ (if has_node progress.old.asked node then record progress.old { nudges = min (progress.old.nudges + 1) (2 ^ 32 - 1) } else progress.old) }
@@ -111,8 +109,7 @@ pub(crate) fn take_post<R: Recorder, L: Link>(
     ensures asked { progress.new.asked ≡ progress.old.asked }
     ensures most { progress.new.most_nudges ≡ progress.old.most_nudges }
     ensures last { IfErr result (λ f. f ≡ RunFault.GaveUp → HasHadLast progress.new) }
-    ensures visits { visits_of (R.own_log recorder.new) ≡ visits_of (R.own_log recorder.old) }
-    ensures falls { falls_of (R.own_log recorder.new) ≡ falls_of (R.own_log recorder.old) }
+    ensures quiet { GoesOnQuietly (R.own_log recorder.old) (R.own_log recorder.new) }
     ensures faults { IfErr result IsPostFault }
 {
     let Ok(post) = link.receive() else {

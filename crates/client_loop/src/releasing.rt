@@ -7,7 +7,7 @@ ghost use Rattle.client_loop.specs.Standing.{Stands};
 ghost use Rattle.client_core.specs.declared.phases.Phase.TheVariants as phase;
 ghost use Rattle.client_loop.specs.Remembering.{core_of, HasHadLast, HasReleased};
 ghost use Rattle.client_loop.specs.Releasing.{AsksAt, RestsStill, EndsWaiting};
-ghost use Rattle.client_loop.specs.Visits.{visits_of};
+ghost use Rattle.client_loop.specs.Visits.{GoesOnQuietly, visits_of};
 ghost use Rattle.client_loop.specs.Endings.{IsPostFault};
 ghost use Rattle.client_loop.specs.Nodes.{IsReleased};
 ghost use Rattle.actor_steps.specs.Steps.{IsBookFault};
@@ -37,8 +37,7 @@ pub(crate) fn tell_releases<R: Recorder, L: Link>(
     ensures sent { OnOk result (SentFollows (R.own_log recorder.old) (R.own_log recorder.new) (L.given link.old) (L.given link.new)) }
     ensures faulted { IfErr result (λ f. SentUnlessMemory f (R.own_log recorder.old) (R.own_log recorder.new) (L.given link.old) (L.given link.new)) }
     ensures stands { Stands (R.own_log recorder.new) (finds stable.now) progress.now.core }
-    ensures visits { visits_of (R.own_log recorder.new) ≡ visits_of (R.own_log recorder.old) }
-    ensures falls { falls_of (R.own_log recorder.new) ≡ falls_of (R.own_log recorder.old) }
+    ensures quiet { GoesOnQuietly (R.own_log recorder.old) (R.own_log recorder.new) }
     ensures faults { IfErr result IsBookFault }
 {
     for number in 1..=progress.core.ballots().nodes() {
@@ -71,8 +70,7 @@ pub(crate) fn release<W: Wait, R: Recorder, L: Link>(
     ensures asked { progress.new.asked ≡ progress.old.asked }
     ensures most { progress.new.most_nudges ≡ progress.old.most_nudges }
     ensures last { IfErr result (λ f. f ≡ RunFault.GaveUp → HasHadLast progress.new) }
-    ensures visits { visits_of (R.own_log recorder.new) ≡ visits_of (R.own_log recorder.old) }
-    ensures falls { falls_of (R.own_log recorder.new) ≡ falls_of (R.own_log recorder.old) }
+    ensures quiet { GoesOnQuietly (R.own_log recorder.old) (R.own_log recorder.new) }
     ensures faults { IfErr result IsPostFault }
     // Each node of the ballots that was asked has answered, or is gone.
     ensures released { OnOk result (IsReleased progress.new.core.ballots progress.new.asked progress.new.released progress.new.gone) }

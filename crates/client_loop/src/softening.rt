@@ -13,7 +13,7 @@ ghost use Rattle.client_loop.specs.Outcomes.{moment, answers, Softening};
 ghost use Rattle.client_loop.specs.Remembering.{core_of, with_core, granted_of};
 ghost use Rattle.actor_steps.specs.Steps.{IsBookFault};
 ghost use Rattle.actor_steps.specs.Endings.{falls_of};
-ghost use Rattle.client_loop.specs.Visits.{visits_of, visits_softening};
+ghost use Rattle.client_loop.specs.Visits.{GoesOnQuietly, visits_of, visits_softening};
 ghost use Rattle.event_recorders.specs.OwnLogs.{FindsItsOwn, part_now};
 
 use crate::progress::Progress;
@@ -45,8 +45,7 @@ fn tell_if_granted<R: Recorder, L: Link>(
     ensures sent { OnOk result (SentFollows (R.own_log recorder.old) (R.own_log recorder.new) (L.given link.old) (L.given link.new)) }
     ensures faulted { IfErr result (λ f. SentUnlessMemory f (R.own_log recorder.old) (R.own_log recorder.new) (L.given link.old) (L.given link.new)) }
     ensures stands { Stands (R.own_log recorder.new) (finds stable.now) core.now }
-    ensures visits { visits_of (R.own_log recorder.new) ≡ visits_of (R.own_log recorder.old) }
-    ensures falls { falls_of (R.own_log recorder.new) ≡ falls_of (R.own_log recorder.old) }
+    ensures quiet { GoesOnQuietly (R.own_log recorder.old) (R.own_log recorder.new) }
     ensures faults { IfErr result IsBookFault }
 {
     if !granted.has(node) {
@@ -71,8 +70,7 @@ fn tell_granted<R: Recorder, L: Link>(
     ensures sent { OnOk result (SentFollows (R.own_log recorder.old) (R.own_log recorder.new) (L.given link.old) (L.given link.new)) }
     ensures faulted { IfErr result (λ f. SentUnlessMemory f (R.own_log recorder.old) (R.own_log recorder.new) (L.given link.old) (L.given link.new)) }
     ensures stands { Stands (R.own_log recorder.new) (finds stable.now) core.now }
-    ensures visits { visits_of (R.own_log recorder.new) ≡ visits_of (R.own_log recorder.old) }
-    ensures falls { falls_of (R.own_log recorder.new) ≡ falls_of (R.own_log recorder.old) }
+    ensures quiet { GoesOnQuietly (R.own_log recorder.old) (R.own_log recorder.new) }
     ensures faults { IfErr result IsBookFault }
 {
     for number in 1..core.ballots().nodes() + 1 {

@@ -8,7 +8,7 @@ ghost use Rattle.client_core.specs.Calls.{message_for};
 ghost use Rattle.client_loop.specs.Sendings.{sent_of, sending_to, SentFollows, SentUnlessMemory, Tells};
 ghost use Rattle.client_loop.specs.Hearing.{IsFrameFor, Hears, HearsOf, HearsNothing};
 ghost use Rattle.client_loop.specs.Standing.{Stands};
-ghost use Rattle.client_loop.specs.Visits.{visits_of};
+ghost use Rattle.client_loop.specs.Visits.{GoesOnQuietly, visits_of};
 ghost use Rattle.actor_steps.specs.Steps.{IsBookFault};
 ghost use Rattle.actor_steps.specs.Endings.{falls_of};
 
@@ -38,8 +38,7 @@ fn said<R: Recorder>(
     ensures message { IfOk result (λ o. option_map (λ p. p.1) o ≡ message_for core.now node) }
     ensures refused { OnErr result (R.own_log recorder.new ≡ R.own_log recorder.old) }
     ensures stands { Stands (R.own_log recorder.new) (finds stable.now) core.now }
-    ensures visits { visits_of (R.own_log recorder.new) ≡ visits_of (R.own_log recorder.old) }
-    ensures falls { falls_of (R.own_log recorder.new) ≡ falls_of (R.own_log recorder.old) }
+    ensures quiet { GoesOnQuietly (R.own_log recorder.old) (R.own_log recorder.new) }
     ensures faults { IfErr result IsBookFault }
 {
     let Some(message) = core.message_for(node) else {
@@ -64,8 +63,7 @@ pub(crate) fn tell<R: Recorder, L: Link>(
     ensures sent { OnOk result (SentFollows (R.own_log recorder.old) (R.own_log recorder.new) (L.given link.old) (L.given link.new)) }
     ensures faulted { IfErr result (λ f. SentUnlessMemory f (R.own_log recorder.old) (R.own_log recorder.new) (L.given link.old) (L.given link.new)) }
     ensures stands { Stands (R.own_log recorder.new) (finds stable.now) core.now }
-    ensures visits { visits_of (R.own_log recorder.new) ≡ visits_of (R.own_log recorder.old) }
-    ensures falls { falls_of (R.own_log recorder.new) ≡ falls_of (R.own_log recorder.old) }
+    ensures quiet { GoesOnQuietly (R.own_log recorder.old) (R.own_log recorder.new) }
     ensures faults { IfErr result IsBookFault }
 {
     let Some((number, message)) = said(core, node, stable, recorder)? else {
@@ -113,8 +111,7 @@ fn heard<R: Recorder>(
     ensures stands { Stands (R.own_log recorder.new) (finds stable.now) core.new }
     ensures phase { phase_of core.new ≡ phase_of core.old }
     ensures ticket { ticket_of core.new ≡ ticket_of core.old }
-    ensures visits { visits_of (R.own_log recorder.new) ≡ visits_of (R.own_log recorder.old) }
-    ensures falls { falls_of (R.own_log recorder.new) ≡ falls_of (R.own_log recorder.old) }
+    ensures quiet { GoesOnQuietly (R.own_log recorder.old) (R.own_log recorder.new) }
     ensures faults { IfErr result IsBookFault }
 {
     let event = Event::Hear(core.client(), number);
@@ -142,8 +139,7 @@ pub(crate) fn hear<R: Recorder>(
     ensures stands { Stands (R.own_log recorder.new) (finds stable.now) core.new }
     ensures phase { phase_of core.new ≡ phase_of core.old }
     ensures ticket { ticket_of core.new ≡ ticket_of core.old }
-    ensures visits { visits_of (R.own_log recorder.new) ≡ visits_of (R.own_log recorder.old) }
-    ensures falls { falls_of (R.own_log recorder.new) ≡ falls_of (R.own_log recorder.old) }
+    ensures quiet { GoesOnQuietly (R.own_log recorder.old) (R.own_log recorder.new) }
     ensures faults { IfErr result IsBookFault }
 {
     let Some(message) = message_to(&parcel.frame, core.client()) else {

@@ -11,8 +11,7 @@ returns-in-Err g c = record {
     client = search (rules, still_client);
     idle = search rules;
     most = search rules;
-    visits = search rules;
-    falls = search rules;
+    quiet = search rules;
     own = search (rules, stands_own);
   };
   left = search rules;

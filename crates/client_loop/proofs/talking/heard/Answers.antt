@@ -1,10 +1,11 @@
+use Rattle.std.proofs.Common.{rules}
 use Rattle.actor_steps.proofs.ReadingFacts.{read_heard}
 use Rattle.client_loop.proofs.Logs.{visits-adds}
 use Rattle.client_loop.proofs.HearFacts.{hear_stands}
 use Rattle.client_loop.proofs.talking.heard.Goals as goal
 
-pub returns-clause-visits : goal.returns-clause-visits
-returns-clause-visits g c = let read = rw c.in-Some.is at c.in_ok-message.ensures.read in visits-adds _ _ _ _ read.added
+pub returns-clause-quiet : goal.returns-clause-quiet
+returns-clause-quiet g c = let read = rw c.in-Some.is at c.in_ok-message.ensures.read in record { visits = visits-adds _ _ _ _ read.added; falls = search rules }
 
 pub returns-clause-stands : goal.returns-clause-stands
 returns-clause-stands g c =

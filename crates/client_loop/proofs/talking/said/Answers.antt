@@ -1,10 +1,10 @@
-use Rattle.std.proofs.Common.{sym}
+use Rattle.std.proofs.Common.{rules, sym}
 use Rattle.client_loop.proofs.Logs.{visits-adds}
 use Rattle.client_loop.proofs.SentFacts.{sayto_sends}
 use Rattle.client_loop.proofs.talking.said.Goals as goal
 
-pub returns-clause-visits : goal.returns-clause-visits
-returns-clause-visits g c = visits-adds _ _ _ _ c.in_ok-said.ensures.logged
+pub returns-clause-quiet : goal.returns-clause-quiet
+returns-clause-quiet g c = record { visits = visits-adds _ _ _ _ c.in_ok-said.ensures.logged; falls = search rules }
 
 pub returns-clause-said : goal.returns-clause-said
 returns-clause-said g c =
