@@ -1,5 +1,5 @@
 -- What a client sends.
-use Rattle.std.specs.Prelude.{◌≡◌, ℕ, ◌≤◌, length, Bool, true, false, List, [], ◌∷◌, ◌++◌, filter, Option, None, Some}
+use Rattle.std.specs.Prelude.{◌≡◌, ℕ, ◌≤◌, length, Bool, true, false, List, [], ◌∷◌, ◌++◌, filter, Option, None, Some, Result, OnOk, IfErr}
 use Rattle.std.specs.List.{range_with_len}
 use Rattle.lock_messages.specs.declared.messages.Message.{Message}
 use Rattle.lock_messages.specs.declared.messages.Message.TheVariants as message
@@ -22,6 +22,11 @@ pub record SentUnlessMemory (f : RunFault) (l l' : OwnLog) (given given' : Optio
   pub last : length left ≤ 1
   pub none : (f ≡ fault.Memory → ⊥) → left ≡ []
   pub follows : (before : Option (List Sending)) → given ≡ all_more before (sent_of l) → given' ≡ all_more before sent
+
+-- What was sent is what the other log tells beyond the one. If it ended by a fault, the last message may be missing if memory ran out.
+pub record SendsBy {A : Type 0} (r : Result A RunFault) (l l' : OwnLog) (given given' : Option (List Sending)) : Type 0 where
+  pub all : OnOk r (SentFollows l l' given given')
+  pub faulted : IfErr r (λ f. SentUnlessMemory f l l' given given')
 
 -- it ends here, by want of memory: nothing more is logged, and nothing more is given
 pub record EndsHere (f : RunFault) (l l' : OwnLog) (given given' : Option (List Sending)) : Type 0 where

@@ -3,7 +3,7 @@
 ghost use Rattle.std.specs.Prelude.{◌≡◌, ◌≤◌, true, false, Ok, Err, OnOk, IfErr};
 ghost use Rattle.lock_model.specs.Ballots.{HasPlace};
 ghost use Rattle.client_core.specs.Calls.{MayEnter};
-ghost use Rattle.client_loop.specs.Sendings.{SentFollows, SentUnlessMemory};
+ghost use Rattle.client_loop.specs.Sendings.{SendsBy, SentFollows, SentUnlessMemory};
 ghost use Rattle.client_loop.specs.Standing.{Stands};
 ghost use Rattle.client_loop.specs.Remembering.{HasHadLast};
 ghost use Rattle.client_loop.specs.Visits.{GoesOnQuietly, visits_of};
@@ -52,8 +52,7 @@ fn ask_on<R: Recorder, L: Link>(
     link: &mut L,
 ) -> Result<(), RunFault>
     requires { Stands (R.own_log recorder.old) (finds stable.now) progress.old.core }
-    ensures sent { OnOk result (SentFollows (R.own_log recorder.old) (R.own_log recorder.new) (L.given link.old) (L.given link.new)) }
-    ensures faulted { IfErr result (λ f. SentUnlessMemory f (R.own_log recorder.old) (R.own_log recorder.new) (L.given link.old) (L.given link.new)) }
+    ensures sent { SendsBy result (R.own_log recorder.old) (R.own_log recorder.new) (L.given link.old) (L.given link.new) }
     ensures stands { Stands (R.own_log recorder.new) (finds stable.now) progress.new.core }
     ensures phase { phase_of progress.new.core ≡ phase_of progress.old.core }
     ensures ticket { ticket_of progress.new.core ≡ ticket_of progress.old.core }
@@ -101,8 +100,7 @@ fn ask_together<R: Recorder, L: Link>(
     link: &mut L,
 ) -> Result<(), RunFault>
     requires { Stands (R.own_log recorder.old) (finds stable.now) progress.old.core }
-    ensures sent { OnOk result (SentFollows (R.own_log recorder.old) (R.own_log recorder.new) (L.given link.old) (L.given link.new)) }
-    ensures faulted { IfErr result (λ f. SentUnlessMemory f (R.own_log recorder.old) (R.own_log recorder.new) (L.given link.old) (L.given link.new)) }
+    ensures sent { SendsBy result (R.own_log recorder.old) (R.own_log recorder.new) (L.given link.old) (L.given link.new) }
     ensures stands { Stands (R.own_log recorder.new) (finds stable.now) progress.new.core }
     ensures others { progress.new ≡ record progress.old { asked = progress.new.asked } }
     ensures quiet { GoesOnQuietly (R.own_log recorder.old) (R.own_log recorder.new) }
@@ -147,8 +145,7 @@ pub(crate) fn ask<W: Wait, R: Recorder, L: Link>(
     ensures may_enter { result ≡ Ok true → MayEnter progress.new.core }
     // A wish is taken back only where it isn't to wait, and a node let it.
     ensures busy { result ≡ Ok false → (waits ≡ false) × (progress.new.busy ≡ true) }
-    ensures sent { OnOk result (SentFollows (R.own_log recorder.old) (R.own_log recorder.new) (L.given link.old) (L.given link.new)) }
-    ensures faulted { IfErr result (λ f. SentUnlessMemory f (R.own_log recorder.old) (R.own_log recorder.new) (L.given link.old) (L.given link.new)) }
+    ensures sent { SendsBy result (R.own_log recorder.old) (R.own_log recorder.new) (L.given link.old) (L.given link.new) }
     ensures stands { Stands (R.own_log recorder.new) (finds stable.now) progress.new.core }
     ensures phase { phase_of progress.new.core ≡ phase_of progress.old.core }
     ensures ticket { ticket_of progress.new.core ≡ ticket_of progress.old.core }

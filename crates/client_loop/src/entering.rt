@@ -5,7 +5,7 @@ ghost use Rattle.lock_model.specs.Ballots.{HasPlace};
 ghost use Rattle.client_core.specs.Clients.{phase_of, ticket_of};
 ghost use Rattle.client_core.specs.declared.phases.Phase.TheVariants as phase;
 ghost use Rattle.client_core.specs.Calls.{MayEnter, entered as inside_of};
-ghost use Rattle.client_loop.specs.Sendings.{sent_of, SentFollows, SentUnlessMemory};
+ghost use Rattle.client_loop.specs.Sendings.{SendsBy, sent_of, SentFollows, SentUnlessMemory};
 ghost use Rattle.client_loop.specs.Standing.{Stands, IsSameClient};
 ghost use Rattle.client_loop.specs.Remembering.{core_of, busy_of, most_of, HasHadLast, HasReleased};
 ghost use Rattle.client_loop.specs.Endings.{EndsAsking, EndsOneAttempt};
@@ -63,8 +63,7 @@ fn take_back<W: Wait, R: Recorder, L: Link>(
 ) -> Result<(), RunFault>
     requires stands { Stands (R.own_log recorder.old) (finds stable.now) progress.old.core }
     requires asking { phase_of progress.old.core ≡ phase.Asking }
-    ensures {
-        let kept = answers (finds stable.now) (stuck_of stable.now) (spent_of stable.now) (failures_of stable.now) in
+    ensures { let kept = answers (finds stable.now) (stuck_of stable.now) (spent_of stable.now) (failures_of stable.now) in
         let before = moment progress.old (R.own_log recorder.old) kept (L.given link.old) in
         let after = moment progress.new (R.own_log recorder.new) kept (L.given link.new) in
         Leaving result before after }
@@ -88,8 +87,7 @@ fn ask_and_enter<W: Wait, R: Recorder, L: Link>(
     requires stands { Stands (R.own_log recorder.old) (finds stable.now) progress.old.core }
     requires asking { phase_of progress.old.core ≡ phase.Asking }
     requires placed { HasPlace (R.own_log recorder.old).ballots wish.now.place }
-    ensures sent { OnOk result (SentFollows (R.own_log recorder.old) (R.own_log recorder.new) (L.given link.old) (L.given link.new)) }
-    ensures faulted { IfErr result (λ f. SentUnlessMemory f (R.own_log recorder.old) (R.own_log recorder.new) (L.given link.old) (L.given link.new)) }
+    ensures sent { SendsBy result (R.own_log recorder.old) (R.own_log recorder.new) (L.given link.old) (L.given link.new) }
     ensures may_enter { result ≡ Ok true → MayEnter progress.new.core }
     ensures ticket { result ≡ Ok true → ticket_of progress.new.core ≡ ticket_of progress.old.core }
     ensures inside { result ≡ Ok true → Stands (R.own_log recorder.new) (finds stable.now) (inside_of progress.new.core) }

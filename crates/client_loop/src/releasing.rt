@@ -2,7 +2,7 @@
 
 ghost use Rattle.std.specs.Prelude.{◌≡◌, true, OnOk, IfErr};
 ghost use Rattle.client_core.specs.Clients.{phase_of};
-ghost use Rattle.client_loop.specs.Sendings.{SentFollows, SentUnlessMemory};
+ghost use Rattle.client_loop.specs.Sendings.{SendsBy, SentFollows, SentUnlessMemory};
 ghost use Rattle.client_loop.specs.Standing.{Stands};
 ghost use Rattle.client_core.specs.declared.phases.Phase.TheVariants as phase;
 ghost use Rattle.client_loop.specs.Remembering.{core_of, HasHadLast, HasReleased};
@@ -34,8 +34,7 @@ pub(crate) fn tell_releases<R: Recorder, L: Link>(
     link: &mut L,
 ) -> Result<(), RunFault>
     requires { Stands (R.own_log recorder.old) (finds stable.now) progress.now.core }
-    ensures sent { OnOk result (SentFollows (R.own_log recorder.old) (R.own_log recorder.new) (L.given link.old) (L.given link.new)) }
-    ensures faulted { IfErr result (λ f. SentUnlessMemory f (R.own_log recorder.old) (R.own_log recorder.new) (L.given link.old) (L.given link.new)) }
+    ensures sent { SendsBy result (R.own_log recorder.old) (R.own_log recorder.new) (L.given link.old) (L.given link.new) }
     ensures stands { Stands (R.own_log recorder.new) (finds stable.now) progress.now.core }
     ensures quiet { GoesOnQuietly (R.own_log recorder.old) (R.own_log recorder.new) }
     ensures faults { IfErr result IsBookFault }
@@ -62,8 +61,7 @@ pub(crate) fn release<W: Wait, R: Recorder, L: Link>(
     link: &mut L,
 ) -> Result<(), RunFault>
     requires { Stands (R.own_log recorder.old) (finds stable.now) progress.old.core }
-    ensures sent { OnOk result (SentFollows (R.own_log recorder.old) (R.own_log recorder.new) (L.given link.old) (L.given link.new)) }
-    ensures faulted { IfErr result (λ f. SentUnlessMemory f (R.own_log recorder.old) (R.own_log recorder.new) (L.given link.old) (L.given link.new)) }
+    ensures sent { SendsBy result (R.own_log recorder.old) (R.own_log recorder.new) (L.given link.old) (L.given link.new) }
     ensures stands { Stands (R.own_log recorder.new) (finds stable.now) progress.new.core }
     ensures phase { phase_of progress.new.core ≡ phase_of progress.old.core }
     ensures busy { progress.old.busy ≡ true → progress.new.busy ≡ true }
@@ -111,8 +109,7 @@ pub fn release_at<W: Wait, R: Recorder, L: Link>(
 ) -> Result<(), RunFault>
     requires stands { Stands (R.own_log recorder.old) (finds stable.now) (core_of progress.old) }
     requires idle { phase_of (core_of progress.old) ≡ phase.Idle }
-    ensures sent { OnOk result (SentFollows (R.own_log recorder.old) (R.own_log recorder.new) (L.given link.old) (L.given link.new)) }
-    ensures faulted { IfErr result (λ f. SentUnlessMemory f (R.own_log recorder.old) (R.own_log recorder.new) (L.given link.old) (L.given link.new)) }
+    ensures sent { SendsBy result (R.own_log recorder.old) (R.own_log recorder.new) (L.given link.old) (L.given link.new) }
     ensures rests { RestsStill (R.own_log recorder.old) (R.own_log recorder.new) (finds stable.now) (core_of progress.new) }
     ensures asks { AsksAt (core_of progress.old).attempt nodes nudges progress.new }
     ensures released { OnOk result (HasReleased progress.new) }

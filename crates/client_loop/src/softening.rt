@@ -7,7 +7,7 @@ ghost use Rattle.client_core.specs.Clients.{ticket_of, softened_ticket};
 ghost use Rattle.client_core.specs.Calls.{MaySoften, softened, SoftensAll, message_for};
 ghost use Rattle.entry_guard.specs.Doors.{is_client_inside};
 ghost use Rattle.entry_guard.specs.Guards.{door_of, lender_of, guard_ticket, IsHeld};
-ghost use Rattle.client_loop.specs.Sendings.{sent_of, SentFollows, SentUnlessMemory, Tells, TellsSoftened};
+ghost use Rattle.client_loop.specs.Sendings.{SendsBy, sent_of, SentFollows, SentUnlessMemory, Tells, TellsSoftened};
 ghost use Rattle.client_loop.specs.Standing.{Stands, IsSameClient};
 ghost use Rattle.client_loop.specs.Outcomes.{moment, answers, Softening};
 ghost use Rattle.client_loop.specs.Remembering.{core_of, with_core, granted_of};
@@ -42,8 +42,7 @@ fn tell_if_granted<R: Recorder, L: Link>(
 ) -> Result<(), RunFault>
     requires { Stands (R.own_log recorder.old) (finds stable.now) core.now }
     ensures told { OnOk result (Tells (if has_node granted node then message_for core.now node else None) node (R.own_log recorder.old) (R.own_log recorder.new)) }
-    ensures sent { OnOk result (SentFollows (R.own_log recorder.old) (R.own_log recorder.new) (L.given link.old) (L.given link.new)) }
-    ensures faulted { IfErr result (λ f. SentUnlessMemory f (R.own_log recorder.old) (R.own_log recorder.new) (L.given link.old) (L.given link.new)) }
+    ensures sent { SendsBy result (R.own_log recorder.old) (R.own_log recorder.new) (L.given link.old) (L.given link.new) }
     ensures stands { Stands (R.own_log recorder.new) (finds stable.now) core.now }
     ensures quiet { GoesOnQuietly (R.own_log recorder.old) (R.own_log recorder.new) }
     ensures faults { IfErr result IsBookFault }
@@ -67,8 +66,7 @@ fn tell_granted<R: Recorder, L: Link>(
     requires stands { Stands (R.own_log recorder.old) (finds stable.now) core.now }
     requires softened { SoftensAll core.now core.now.attempt }
     ensures told { OnOk result (TellsSoftened core.now granted (R.own_log recorder.old) (R.own_log recorder.new)) }
-    ensures sent { OnOk result (SentFollows (R.own_log recorder.old) (R.own_log recorder.new) (L.given link.old) (L.given link.new)) }
-    ensures faulted { IfErr result (λ f. SentUnlessMemory f (R.own_log recorder.old) (R.own_log recorder.new) (L.given link.old) (L.given link.new)) }
+    ensures sent { SendsBy result (R.own_log recorder.old) (R.own_log recorder.new) (L.given link.old) (L.given link.new) }
     ensures stands { Stands (R.own_log recorder.new) (finds stable.now) core.now }
     ensures quiet { GoesOnQuietly (R.own_log recorder.old) (R.own_log recorder.new) }
     ensures faults { IfErr result IsBookFault }
@@ -152,8 +150,7 @@ pub(crate) fn soften_guard<R: Recorder, L: Link>(
     ensures ticket { OnOk result (guard_ticket guard.new ≡ softened_ticket (guard_ticket guard.old)) }
     ensures still { OnErr result ((guard_ticket guard.new ≡ guard_ticket guard.old) ⊎ (guard_ticket guard.new ≡ softened_ticket (guard_ticket guard.old))) }
     ensures stands { OnOk result (Stands (R.own_log recorder.new) (finds stable.now) (door_of guard.new)) }
-    ensures sent { OnOk result (SentFollows (R.own_log recorder.old) (R.own_log recorder.new) (L.given link.old) (L.given link.new)) }
-    ensures faulted { IfErr result (λ f. SentUnlessMemory f (R.own_log recorder.old) (R.own_log recorder.new) (L.given link.old) (L.given link.new)) }
+    ensures sent { SendsBy result (R.own_log recorder.old) (R.own_log recorder.new) (L.given link.old) (L.given link.new) }
     ensures visits { OnOk result (visits_of (R.own_log recorder.new) ≡ visits_softening (visits_of (R.own_log recorder.old))) }
     ensures fewer { OnErr result ((visits_of (R.own_log recorder.new) ≡ visits_of (R.own_log recorder.old)) ⊎ (visits_of (R.own_log recorder.new) ≡ visits_softening (visits_of (R.own_log recorder.old)))) }
     ensures falls { falls_of (R.own_log recorder.new) ≡ falls_of (R.own_log recorder.old) }

@@ -3,7 +3,7 @@
 ghost use Rattle.std.specs.Prelude.{◌≡◌, ◌⊎◌, OnOk, OnErr, IfErr, IfSome};
 ghost use Rattle.client_core.specs.Clients.{ticket_of};
 ghost use Rattle.client_core.specs.Calls.{MayEnter, entered as inside_of};
-ghost use Rattle.client_loop.specs.Sendings.{SentFollows, SentUnlessMemory, TellsSoftenedIf};
+ghost use Rattle.client_loop.specs.Sendings.{SendsBy, SentFollows, SentUnlessMemory, TellsSoftenedIf};
 ghost use Rattle.client_loop.specs.Standing.{Stands, HasLeft};
 ghost use Rattle.actor_steps.specs.Steps.{IsBookFault};
 ghost use Rattle.actor_steps.specs.Endings.{falls_of};
@@ -50,8 +50,7 @@ pub(crate) fn stay<R: Recorder, L: Link, G: Gate>(
     requires stands { Stands (R.own_log recorder.old) (finds stable.now) (inside_of core.old) }
     ensures told { OnOk result (TellsSoftenedIf (softens wish.now) core.old granted (R.own_log recorder.old) (R.own_log recorder.new)) }
     ensures left { OnOk result (HasLeft (R.own_log recorder.new) (finds stable.now) core.new) }
-    ensures sent { OnOk result (SentFollows (R.own_log recorder.old) (R.own_log recorder.new) (L.given link.old) (L.given link.new)) }
-    ensures faulted { IfErr result (λ f. SentUnlessMemory f (R.own_log recorder.old) (R.own_log recorder.new) (L.given link.old) (L.given link.new)) }
+    ensures sent { SendsBy result (R.own_log recorder.old) (R.own_log recorder.new) (L.given link.old) (L.given link.new) }
     ensures visits { OnOk result (visits_of (R.own_log recorder.new) ≡ visits_softening_if (softens wish.now) (visits_of (R.own_log recorder.old))) }
     ensures fewer { OnErr result ((visits_of (R.own_log recorder.new) ≡ visits_of (R.own_log recorder.old)) ⊎ (visits_of (R.own_log recorder.new) ≡ visits_softening_if (softens wish.now) (visits_of (R.own_log recorder.old)))) }
     ensures falls { falls_of (R.own_log recorder.new) ≡ falls_of (R.own_log recorder.old) }

@@ -5,7 +5,7 @@ ghost use Rattle.std.specs.Option.{option_map};
 ghost use Rattle.lock_messages.specs.Messages.{is_for_client};
 ghost use Rattle.client_core.specs.Clients.{phase_of, ticket_of};
 ghost use Rattle.client_core.specs.Calls.{message_for};
-ghost use Rattle.client_loop.specs.Sendings.{sent_of, sending_to, SentFollows, SentUnlessMemory, Tells};
+ghost use Rattle.client_loop.specs.Sendings.{SendsBy, sent_of, sending_to, SentFollows, SentUnlessMemory, Tells};
 ghost use Rattle.client_loop.specs.Hearing.{IsFrameFor, Hears, HearsOf, HearsNothing};
 ghost use Rattle.client_loop.specs.Standing.{Stands};
 ghost use Rattle.client_loop.specs.Visits.{GoesOnQuietly, visits_of};
@@ -60,8 +60,7 @@ pub(crate) fn tell<R: Recorder, L: Link>(
 ) -> Result<(), RunFault>
     requires { Stands (R.own_log recorder.old) (finds stable.now) core.now }
     ensures told { OnOk result (Tells (message_for core.now node) node (R.own_log recorder.old) (R.own_log recorder.new)) }
-    ensures sent { OnOk result (SentFollows (R.own_log recorder.old) (R.own_log recorder.new) (L.given link.old) (L.given link.new)) }
-    ensures faulted { IfErr result (λ f. SentUnlessMemory f (R.own_log recorder.old) (R.own_log recorder.new) (L.given link.old) (L.given link.new)) }
+    ensures sent { SendsBy result (R.own_log recorder.old) (R.own_log recorder.new) (L.given link.old) (L.given link.new) }
     ensures stands { Stands (R.own_log recorder.new) (finds stable.now) core.now }
     ensures quiet { GoesOnQuietly (R.own_log recorder.old) (R.own_log recorder.new) }
     ensures faults { IfErr result IsBookFault }

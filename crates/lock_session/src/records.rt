@@ -6,7 +6,7 @@ ghost use Rattle.client_core.specs.Clients.{phase_of};
 ghost use Rattle.client_core.specs.declared.phases.Phase.TheVariants as phase;
 ghost use Rattle.client_core.specs.Calls.{MaySoften};
 ghost use Rattle.event_recorders.specs.OwnLogs.{IsUnused, FindsPart};
-ghost use Rattle.client_loop.specs.Sendings.{SentFollows, SentUnlessMemory};
+ghost use Rattle.client_loop.specs.Sendings.{SendsBy, SentFollows, SentUnlessMemory};
 ghost use Rattle.client_loop.specs.Standing.{Stands, HasLeft, KeepsAttempt};
 ghost use Rattle.client_loop.specs.Remembering.{core_of, HasReleased};
 ghost use Rattle.client_loop.specs.Releasing.{AsksAt, RestsStill, EndsWaiting};
@@ -110,9 +110,8 @@ pub trait OwnRecord: StableRecord {
     ) -> Result<(), RunFault>
         requires stands { Stands (R.own_log recorder.old) (Self.finds self.now) (core_of progress.old) }
         requires idle { phase_of (core_of progress.old) ≡ phase.Idle }
-        ensures sent { OnOk result (SentFollows (R.own_log recorder.old) (R.own_log recorder.new) (L.given link.old) (L.given link.new)) }
-        ensures faulted { IfErr result (λ f. SentUnlessMemory f (R.own_log recorder.old) (R.own_log recorder.new) (L.given link.old) (L.given link.new)) }
-        ensures rests { RestsStill (R.own_log recorder.old) (R.own_log recorder.new) (Self.finds self.now) (core_of progress.new) }
+        ensures sent { SendsBy result (R.own_log recorder.old) (R.own_log recorder.new) (L.given link.old) (L.given link.new) }
+            ensures rests { RestsStill (R.own_log recorder.old) (R.own_log recorder.new) (Self.finds self.now) (core_of progress.new) }
         ensures asks { AsksAt (core_of progress.old).attempt nodes nudges progress.new }
         ensures released { OnOk result (HasReleased progress.new) }
         ensures ended { IfErr result (λ f. EndsWaiting f progress.new) };

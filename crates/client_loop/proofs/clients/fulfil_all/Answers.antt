@@ -14,7 +14,7 @@ loop-wish-preserved g c = record {
   entered = let added = c.in_default.ensures.entered in let before = c.loop-wish.invariant.entered in let count = c.loop-wish.invariant.count in let at = c.wish-item.is in grind (arith, common_steps);
   softened = wish_softened _ _ _ _ c.wish-item.result _ (g.R.Recorder.own_log c.loop-wish.recorder) (g.R.Recorder.own_log c.fulfil-fulfilled.new.recorder) c.loop-wish-test.true c.wish-item.is c.loop-wish.invariant.count c.in_default.ensures.entered c.loop-wish.invariant.softened;
   count = search rules;
-  sent = follows_on _ _ _ _ _ _ c.loop-wish.invariant.sent c.in_default.ensures.sent;
+  sent = follows_on _ _ _ _ _ _ c.loop-wish.invariant.sent c.in_default.ensures.sent.all;
   falls = failures_on _ _ _ _ _ _ c.loop-wish.invariant.falls c.fulfil-fulfilled.ensures.falls;
   ballots = same_ballots (g.R.Recorder.own_log c.loop-wish.recorder) (g.R.Recorder.own_log c.fulfil-fulfilled.new.recorder) c.fulfil-fulfilled.ensures.begins.ballots ∙ c.loop-wish.invariant.ballots;
   begun = wish_begun _ _ _ c.wish-item.result _ _ _ c.loop-wish-test.true c.wish-item.is c.fulfil-fulfilled.ensures.begins c.loop-wish.invariant.begun;

@@ -56,7 +56,7 @@ returns g c =
         more = more_then_none _ _ _ c.in_ok-attempt.ensures.more c.ask_and_enter.ensures.begins;
         free = free;
         sent = follows_from _ _ _ _ _ c.attempt.ensures.silent sent;
-      }) c.ask_and_enter.ensures.sent;
+      }) c.ask_and_enter.ensures.sent.all;
       entered = λ is. record {
         entered = enters_use (use_of c.args.wish.now) (visits_of (g.R.Recorder.own_log c.args.recorder.now)) (visits_of (g.R.Recorder.own_log c.attempt.new.recorder)) (visits_of (g.R.Recorder.own_log c.ask_and_enter.new.recorder)) (c.ask_and_enter.ensures.entered is) c.in_ok-attempt.ensures.begun c.attempt.ensures.entered;
         may = c.ask_and_enter.ensures.may_enter is;
@@ -74,7 +74,7 @@ returns g c =
       );
       ended = ends_attempts c.ask_and_enter.result _ _
           (λ no. ap (λ (v : Visits). v.entered) (c.ask_and_enter.ensures.outside no) ∙ c.attempt.ensures.entered)
-          (IfErr-weaker c.ask_and_enter.result _ _ (λ f sent. unless_from f _ _ _ _ _ c.attempt.ensures.silent sent) c.ask_and_enter.ensures.faulted)
+          (IfErr-weaker c.ask_and_enter.result _ _ (λ f sent. unless_from f _ _ _ _ _ c.attempt.ensures.silent sent) c.ask_and_enter.ensures.sent.faulted)
           (IfErr-weaker c.ask_and_enter.result _ _ (λ f ends. asking_ends f _ _ _ _ _ _ ends free) c.ask_and_enter.ensures.ended)
           c.ask_and_enter.ensures.last
           (IfErr-weaker c.ask_and_enter.result _ _ (λ f again one. record { stands = (again one).0; idle = (again one).1; free = free }) c.ask_and_enter.ensures.again);
