@@ -1,6 +1,6 @@
 -- What a client remembers from post to post, to those who hold it.
-use Rattle.std.specs.Prelude.{ℕ, ◌≤◌, Bool, List, []}
-use Rattle.client_core.specs.Clients.{Client}
+use Rattle.std.specs.Prelude.{◌≡◌, ℕ, ◌≤◌, Bool, true, List, []}
+use Rattle.client_core.specs.Clients.{Client, phase_of, ticket_of}
 use Rattle.client_loop.specs.declared.progress.Progress.{Progress}
 use Rattle.client_loop.specs.Nodes.{IsReleased}
 
@@ -53,3 +53,10 @@ HasHadLast p = IsLast p.most_nudges p.nudges
 -- each node to which something was sent in the present wish has answered the release, or is gone
 abbrev pub HasReleased : Progress → Type 0
 HasReleased p = IsReleased p.core.ballots p.asked p.released p.gone
+
+-- The client is in the same phase, with the same ticket, and may have as many nudges. If a node let it wait, it remembers that.
+pub record KeepsAsking (p p' : Progress) : Type 0 where
+  pub phase : phase_of p'.core ≡ phase_of p.core
+  pub ticket : ticket_of p'.core ≡ ticket_of p.core
+  pub most : p'.most_nudges ≡ p.most_nudges
+  pub busy : p.busy ≡ true → p'.busy ≡ true

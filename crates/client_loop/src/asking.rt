@@ -5,7 +5,7 @@ ghost use Rattle.lock_model.specs.Ballots.{HasPlace};
 ghost use Rattle.client_core.specs.Calls.{MayEnter};
 ghost use Rattle.client_loop.specs.Sendings.{SendsBy, SentFollows, SentUnlessMemory};
 ghost use Rattle.client_loop.specs.Standing.{Stands};
-ghost use Rattle.client_loop.specs.Remembering.{HasHadLast};
+ghost use Rattle.client_loop.specs.Remembering.{KeepsAsking, HasHadLast};
 ghost use Rattle.client_loop.specs.Visits.{GoesOnQuietly, visits_of};
 ghost use Rattle.client_core.specs.Clients.{phase_of, ticket_of};
 ghost use Rattle.client_loop.specs.Endings.{IsAskFault};
@@ -54,9 +54,7 @@ fn ask_on<R: Recorder, L: Link>(
     requires { Stands (R.own_log recorder.old) (finds stable.now) progress.old.core }
     ensures sent { SendsBy result (R.own_log recorder.old) (R.own_log recorder.new) (L.given link.old) (L.given link.new) }
     ensures stands { Stands (R.own_log recorder.new) (finds stable.now) progress.new.core }
-    ensures phase { phase_of progress.new.core ≡ phase_of progress.old.core }
-    ensures ticket { ticket_of progress.new.core ≡ ticket_of progress.old.core }
-    ensures most { progress.new.most_nudges ≡ progress.old.most_nudges }
+    ensures keeps { KeepsAsking progress.old progress.new }
     ensures quiet { GoesOnQuietly (R.own_log recorder.old) (R.own_log recorder.new) }
     ensures faults { IfErr result IsBookFault }
 {
@@ -147,10 +145,8 @@ pub(crate) fn ask<W: Wait, R: Recorder, L: Link>(
     ensures busy { result ≡ Ok false → (waits ≡ false) × (progress.new.busy ≡ true) }
     ensures sent { SendsBy result (R.own_log recorder.old) (R.own_log recorder.new) (L.given link.old) (L.given link.new) }
     ensures stands { Stands (R.own_log recorder.new) (finds stable.now) progress.new.core }
-    ensures phase { phase_of progress.new.core ≡ phase_of progress.old.core }
-    ensures ticket { ticket_of progress.new.core ≡ ticket_of progress.old.core }
+    ensures keeps { KeepsAsking progress.old progress.new }
     ensures quiet { GoesOnQuietly (R.own_log recorder.old) (R.own_log recorder.new) }
-    ensures most { progress.new.most_nudges ≡ progress.old.most_nudges }
     ensures faults { IfErr result IsAskFault }
     // 913: only where the wish had its last nudge.
     ensures last { IfErr result (λ f. f ≡ RunFault.GaveUp → HasHadLast progress.new) }

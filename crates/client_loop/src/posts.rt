@@ -5,7 +5,7 @@ ghost use Rattle.client_core.specs.Clients.{phase_of, ticket_of};
 ghost use Rattle.client_loop.specs.Hearing.{IsFrameFor, TakesParcel};
 ghost use Rattle.client_loop.specs.Sendings.{SendsBy, sent_of, SentFollows, SentUnlessMemory};
 ghost use Rattle.client_loop.specs.Standing.{Stands};
-ghost use Rattle.client_loop.specs.Remembering.{HasHadLast};
+ghost use Rattle.client_loop.specs.Remembering.{KeepsAsking, HasHadLast};
 ghost use Rattle.client_loop.specs.Visits.{GoesOnQuietly, visits_of};
 ghost use Rattle.client_loop.specs.Endings.{IsPostFault};
 ghost use Rattle.vote_weights.specs.Sets.{has_node};
@@ -34,11 +34,8 @@ fn take_parcel<R: Recorder>(
     ensures refused { OnErr result ((progress.new ≡ progress.old) × (R.own_log recorder.new ≡ R.own_log recorder.old)) }
     ensures silent { sent_of (R.own_log recorder.new) ≡ sent_of (R.own_log recorder.old) }
     ensures stands { Stands (R.own_log recorder.new) (finds stable.now) progress.new.core }
-    ensures phase { phase_of progress.new.core ≡ phase_of progress.old.core }
-    ensures ticket { ticket_of progress.new.core ≡ ticket_of progress.old.core }
-    ensures busy { progress.old.busy ≡ true → progress.new.busy ≡ true }
+    ensures keeps { KeepsAsking progress.old progress.new }
     ensures asked { progress.new.asked ≡ progress.old.asked }
-    ensures most { progress.new.most_nudges ≡ progress.old.most_nudges }
     ensures quiet { GoesOnQuietly (R.own_log recorder.old) (R.own_log recorder.new) }
     ensures faults { IfErr result IsBookFault }
 {
@@ -64,10 +61,7 @@ fn take_nudge<R: Recorder, L: Link>(
     requires { Stands (R.own_log recorder.old) (finds stable.now) progress.old.core }
     ensures sent { SendsBy result (R.own_log recorder.old) (R.own_log recorder.new) (L.given link.old) (L.given link.new) }
     ensures stands { Stands (R.own_log recorder.new) (finds stable.now) progress.new.core }
-    ensures phase { phase_of progress.new.core ≡ phase_of progress.old.core }
-    ensures ticket { ticket_of progress.new.core ≡ ticket_of progress.old.core }
-    ensures busy { progress.old.busy ≡ true → progress.new.busy ≡ true }
-    ensures most { progress.new.most_nudges ≡ progress.old.most_nudges }
+    ensures keeps { KeepsAsking progress.old progress.new }
     ensures last { IfErr result (λ f. f ≡ RunFault.GaveUp → HasHadLast progress.new) }
     ensures quiet { GoesOnQuietly (R.own_log recorder.old) (R.own_log recorder.new) }
     ensures faults { IfErr result IsPostFault }
@@ -101,11 +95,8 @@ pub(crate) fn take_post<R: Recorder, L: Link>(
     requires { Stands (R.own_log recorder.old) (finds stable.now) progress.old.core }
     ensures sent { SendsBy result (R.own_log recorder.old) (R.own_log recorder.new) (L.given link.old) (L.given link.new) }
     ensures stands { Stands (R.own_log recorder.new) (finds stable.now) progress.new.core }
-    ensures phase { phase_of progress.new.core ≡ phase_of progress.old.core }
-    ensures ticket { ticket_of progress.new.core ≡ ticket_of progress.old.core }
-    ensures busy { progress.old.busy ≡ true → progress.new.busy ≡ true }
+    ensures keeps { KeepsAsking progress.old progress.new }
     ensures asked { progress.new.asked ≡ progress.old.asked }
-    ensures most { progress.new.most_nudges ≡ progress.old.most_nudges }
     ensures last { IfErr result (λ f. f ≡ RunFault.GaveUp → HasHadLast progress.new) }
     ensures quiet { GoesOnQuietly (R.own_log recorder.old) (R.own_log recorder.new) }
     ensures faults { IfErr result IsPostFault }

@@ -5,7 +5,7 @@ ghost use Rattle.client_core.specs.Clients.{phase_of};
 ghost use Rattle.client_loop.specs.Sendings.{SendsBy, SentFollows, SentUnlessMemory};
 ghost use Rattle.client_loop.specs.Standing.{Stands};
 ghost use Rattle.client_core.specs.declared.phases.Phase.TheVariants as phase;
-ghost use Rattle.client_loop.specs.Remembering.{core_of, HasHadLast, HasReleased};
+ghost use Rattle.client_loop.specs.Remembering.{KeepsAsking, core_of, HasHadLast, HasReleased};
 ghost use Rattle.client_loop.specs.Releasing.{AsksAt, RestsStill, EndsWaiting};
 ghost use Rattle.client_loop.specs.Visits.{GoesOnQuietly, visits_of};
 ghost use Rattle.client_loop.specs.Endings.{IsPostFault};
@@ -63,10 +63,8 @@ pub(crate) fn release<W: Wait, R: Recorder, L: Link>(
     requires { Stands (R.own_log recorder.old) (finds stable.now) progress.old.core }
     ensures sent { SendsBy result (R.own_log recorder.old) (R.own_log recorder.new) (L.given link.old) (L.given link.new) }
     ensures stands { Stands (R.own_log recorder.new) (finds stable.now) progress.new.core }
-    ensures phase { phase_of progress.new.core ≡ phase_of progress.old.core }
-    ensures busy { progress.old.busy ≡ true → progress.new.busy ≡ true }
+    ensures keeps { KeepsAsking progress.old progress.new }
     ensures asked { progress.new.asked ≡ progress.old.asked }
-    ensures most { progress.new.most_nudges ≡ progress.old.most_nudges }
     ensures last { IfErr result (λ f. f ≡ RunFault.GaveUp → HasHadLast progress.new) }
     ensures quiet { GoesOnQuietly (R.own_log recorder.old) (R.own_log recorder.new) }
     ensures faults { IfErr result IsPostFault }

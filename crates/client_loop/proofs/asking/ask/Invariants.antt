@@ -1,7 +1,7 @@
 use Rattle.std.proofs.Common.{◌≡◌}
-use Rattle.client_core.specs.Clients.{phase_of, ticket_of}
 use Rattle.actor_steps.specs.Endings.{falls_of}
 use Rattle.client_loop.specs.Sendings.{SentFollows}
+use Rattle.client_loop.specs.Remembering.{KeepsAsking}
 use Rattle.client_loop.specs.Standing.{Stands}
 use Rattle.client_loop.specs.Visits.{visits_of}
 use Rattle.client_loop.proofs.asking.ask.Given as goal
@@ -13,8 +13,6 @@ invariant-loop g l = record {
   stands : Stands (g.R.Recorder.own_log l.recorder) ((goal.StableRecord-dyn g l.stable.now).finds l.stable.now.1) l.progress.core;
   visits : visits_of (g.R.Recorder.own_log l.recorder) ≡ visits_of (g.R.Recorder.own_log l.fn.recorder);
   sent : SentFollows (g.R.Recorder.own_log l.fn.recorder) (g.R.Recorder.own_log l.recorder) (g.L.Link.given l.fn.link) (g.L.Link.given l.link);
-  phase : phase_of l.progress.core ≡ phase_of l.fn.progress.core;
-  ticket : ticket_of l.progress.core ≡ ticket_of l.fn.progress.core;
-  most : l.progress.most_nudges ≡ l.fn.progress.most_nudges;
+  keeps : KeepsAsking l.fn.progress l.progress;
   falls : falls_of (g.R.Recorder.own_log l.recorder) ≡ falls_of (g.R.Recorder.own_log l.fn.recorder);
 }

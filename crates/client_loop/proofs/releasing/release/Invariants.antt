@@ -1,7 +1,7 @@
-use Rattle.std.proofs.Common.{◌≡◌, true}
-use Rattle.client_core.specs.Clients.{phase_of}
+use Rattle.std.proofs.Common.{◌≡◌}
 use Rattle.actor_steps.specs.Endings.{falls_of}
 use Rattle.client_loop.specs.Sendings.{SentFollows}
+use Rattle.client_loop.specs.Remembering.{KeepsAsking}
 use Rattle.client_loop.specs.Standing.{Stands}
 use Rattle.client_loop.specs.Visits.{visits_of}
 use Rattle.client_loop.proofs.releasing.release.Given as goal
@@ -10,10 +10,8 @@ abbrev pub invariant-loop : goal.invariant-loop
 invariant-loop g l = record {
   sent : SentFollows (g.R.Recorder.own_log l.fn.recorder) (g.R.Recorder.own_log l.recorder) (g.L.Link.given l.fn.link) (g.L.Link.given l.link);
   stands : Stands (g.R.Recorder.own_log l.recorder) ((goal.StableRecord-dyn g l.stable.now).finds l.stable.now.1) l.progress.core;
-  phase : phase_of l.progress.core ≡ phase_of l.fn.progress.core;
-  busy : l.fn.progress.busy ≡ true → l.progress.busy ≡ true;
+  keeps : KeepsAsking l.fn.progress l.progress;
   asked : l.progress.asked ≡ l.fn.progress.asked;
-  most : l.progress.most_nudges ≡ l.fn.progress.most_nudges;
   visits : visits_of (g.R.Recorder.own_log l.recorder) ≡ visits_of (g.R.Recorder.own_log l.fn.recorder);
   falls : falls_of (g.R.Recorder.own_log l.recorder) ≡ falls_of (g.R.Recorder.own_log l.fn.recorder);
 }
