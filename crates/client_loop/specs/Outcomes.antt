@@ -1,6 +1,9 @@
 -- What the calls of a client come to, from the moment before to the moment after.
-use Rattle.std.specs.Prelude.{◌≡◌, ◌⊎◌, ◌++◌, ◌∷◌, [], ℕ, Bool, true, false, List, Option, Some, Result, Ok, OnOk, IfOk, IfErr, IfSome}
+use Rattle.std.specs.Prelude.{◌≡◌, ◌⊎◌, ◌++◌, ◌∷◌, [], ℕ, Bool, true, false, List, length, Option, Some, Result, Ok, OnOk, IfOk, IfErr, IfSome}
+use Rattle.lock_messages.specs.declared.ids.Actor.{Actor}
+use Rattle.event_lines.specs.declared.wishes.Wish.{Wish}
 use Rattle.lossy_link.specs.declared.parcels.Sending.{Sending}
+use Rattle.lossy_link.specs.Links.{all_more}
 use Rattle.client_core.specs.declared.phases.Phase.TheVariants as phase
 use Rattle.client_core.specs.Clients.{phase_of, ticket_of}
 use Rattle.client_core.specs.Calls.{MayEnter, softened, entered as inside_of}
@@ -10,11 +13,11 @@ use Rattle.event_recorders.specs.OwnLogs.{OwnLog, FindsItsOwn, part_now}
 use Rattle.actor_steps.specs.Steps.{IsBookFault}
 use Rattle.actor_steps.specs.Endings.{falls_of, FailuresFollow}
 use Rattle.client_loop.specs.declared.progress.Progress.{Progress}
-use Rattle.client_loop.specs.Sendings.{sent_of, SentFollows, SentUnlessMemory, TellsSoftened}
+use Rattle.client_loop.specs.Sendings.{sent_of, SentFollows, SentUnlessMemory, ToldUnlessMemory, TellsSoftened}
 use Rattle.client_loop.specs.Standing.{Stands, IsSameClient}
 use Rattle.client_loop.specs.Remembering.{core_of, with_core, asked_of, granted_of, busy_of, most_of, HasHadLast, HasReleased}
-use Rattle.client_loop.specs.Endings.{ClientEndsFrom, EndsAsking, EndsOneAttempt, IsPostFault, IsAtRest}
-use Rattle.client_loop.specs.Visits.{Use, AsksFor, visits_of, visits_softening, BeginsOnly, BeginsMore, GoesOnQuietly}
+use Rattle.client_loop.specs.Endings.{IsOutside, ClientEndsFrom, EndsAsking, EndsOneAttempt, IsPostFault, IsAtRest}
+use Rattle.client_loop.specs.Visits.{Use, AsksFor, visits_of, visits_softening, BeginsOnly, BeginsMore, GoesOnQuietly, HasEntered, HasBegun, SoftensAsWished, entries_of}
 
 -- What a record answers: what a restart finds in it, whether it is stuck and spent, and how often its device has failed.
 pub record Answers : Type 0 where
@@ -194,3 +197,19 @@ pub record Rising (r : Result Progress RunFault) (l l' : OwnLog) (a a' : Answers
   pub begins : BeginsToLog l l' a a'
   pub rests : IfOk r (λ p. IsAtRest l' a'.finds a'.stuck (core_of p))
   pub ended : IfErr r (λ f. EndsRising f l l' a a')
+
+-- The client entered the first of these wishes, each once and in order, softened as they say, and began nothing else.
+pub record FulfilsInOrder (who : Actor) (wishes : List Wish) (r : Result ℕ (ℕ × RunFault)) (l : OwnLog) : Type 0 where
+  pub entered : HasEntered wishes (entries_of r) l
+  pub softened : SoftensAsWished wishes r l
+  pub begun : HasBegun who wishes l
+
+-- So many are all of these wishes, and the client is outside.
+pub record FulfilsAll (wishes : List Wish) (l : OwnLog) (n : ℕ) : Type 0 where
+  pub all : n ≡ length wishes
+  pub outside : IsOutside (part_now l)
+
+-- What was sent is what the log tells. If it ended by a fault, the last message may be missing if memory ran out.
+pub record TellsBy (r : Result ℕ (ℕ × RunFault)) (l : OwnLog) (given given' : Option (List Sending)) : Type 0 where
+  pub all : OnOk r (given' ≡ all_more given (sent_of l))
+  pub faulted : IfErr r (λ p. ToldUnlessMemory p.1 l given given')

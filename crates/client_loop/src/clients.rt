@@ -4,13 +4,13 @@ ghost use Rattle.std.specs.Prelude.{◌≡◌, ◌≤◌, [], OnOk, IfOk, All, f
 ghost use Rattle.client_core.specs.Clients.{phase_of};
 ghost use Rattle.client_core.specs.declared.phases.Phase.TheVariants as phase;
 ghost use Rattle.event_recorders.specs.OwnLogs.{IsUnused, FindsPart, part_now, FindsItsOwn};
-ghost use Rattle.lossy_link.specs.Links.{all_more};
-ghost use Rattle.client_loop.specs.Sendings.{sent_of, SentFollows, SentUnlessMemory, ToldUnlessMemory};
+ghost use Rattle.client_loop.specs.Sendings.{SentFollows, SentUnlessMemory};
 ghost use Rattle.client_loop.specs.Standing.{Stands, KeepsAttempt};
 ghost use Rattle.actor_steps.specs.Steps.{HasFailed};
 ghost use Rattle.actor_steps.specs.Endings.{falls_of, FailuresFollow};
-ghost use Rattle.client_loop.specs.Endings.{ClientEndsFrom, ClientEndsBy, ClientEndsSomehow, IsOutside};
-ghost use Rattle.client_loop.specs.Visits.{visits_of, HasEntered, HasBegun, SoftensAsWished, ArePlaced, entries_of};
+ghost use Rattle.client_loop.specs.Endings.{ClientEndsFrom, ClientEndsBy, ClientEndsSomehow};
+ghost use Rattle.client_loop.specs.Outcomes.{FulfilsInOrder, FulfilsAll, TellsBy};
+ghost use Rattle.client_loop.specs.Visits.{visits_of, HasBegun, ArePlaced};
 
 use crate::progress::Progress;
 use crate::rising::rise;
@@ -46,14 +46,11 @@ fn fulfil_all<W: Wait, R: Recorder, L: Link, G: Gate>(
     requires first { HasBegun (R.own_log recorder.old).actor wishes.now (R.own_log recorder.old) }
     ensures sent { OnOk result (SentFollows (R.own_log recorder.old) (R.own_log recorder.new) (L.given link.old) (L.given link.new)) }
     ensures faulted { IfErr result (λ p. SentUnlessMemory p.1 (R.own_log recorder.old) (R.own_log recorder.new) (L.given link.old) (L.given link.new)) }
-    ensures entered { HasEntered wishes.now (entries_of result) (R.own_log recorder.new) }
-    ensures softened { SoftensAsWished wishes.now result (R.own_log recorder.new) }
-    ensures all { IfOk result (λ n. n ≡ length wishes.now) }
-    ensures outside { OnOk result (IsOutside (part_now (R.own_log recorder.new))) }
+    ensures fulfils { FulfilsInOrder (R.own_log recorder.old).actor wishes.now result (R.own_log recorder.new) }
+    ensures all { IfOk result (FulfilsAll wishes.now (R.own_log recorder.new)) }
     ensures own { FindsItsOwn (part_now (R.own_log recorder.new)) (finds stable.new) }
     ensures ended { IfErr result (λ p. ClientEndsFrom p.1 (falls_of (R.own_log recorder.old)) (R.own_log recorder.new) (stuck_of stable.new) (spent_of stable.new) (failures_of stable.old) (failures_of stable.new)) }
     ensures falls { FailuresFollow (falls_of (R.own_log recorder.old)) (falls_of (R.own_log recorder.new)) (failures_of stable.old) (failures_of stable.new) }
-    ensures begun { HasBegun (R.own_log recorder.old).actor wishes.now (R.own_log recorder.new) }
 {
     let mut progress = progress;
     let mut entered = 0;
@@ -99,17 +96,13 @@ pub fn run_client_over<W: Wait, R: Recorder, L: Link, G: Gate>(
     requires own { All (λ wish. wish.client ≡ client) wishes.now }
     requires few { length wishes.now ≤ MAX_WISHES }
     requires placed { ArePlaced ballots wishes.now }
-    ensures sent { OnOk result (L.given link.new ≡ all_more (L.given link.old) (sent_of (R.own_log recorder.new))) }
-    ensures faulted { IfErr result (λ p. ToldUnlessMemory p.1 (R.own_log recorder.new) (L.given link.old) (L.given link.new)) }
-    ensures entered { HasEntered wishes.now (entries_of result) (R.own_log recorder.new) }
-    ensures softened { SoftensAsWished wishes.now result (R.own_log recorder.new) }
-    ensures all { IfOk result (λ n. n ≡ length wishes.now) }
-    ensures outside { OnOk result (IsOutside (part_now (R.own_log recorder.new))) }
+    ensures sent { TellsBy result (R.own_log recorder.new) (L.given link.old) (L.given link.new) }
+    ensures fulfils { FulfilsInOrder (R.own_log recorder.old).actor wishes.now result (R.own_log recorder.new) }
+    ensures all { IfOk result (FulfilsAll wishes.now (R.own_log recorder.new)) }
     // However it ends, a restart finds in its record nothing but what it has kept and what it tries to keep.
     ensures own { FindsItsOwn (part_now (R.own_log recorder.new)) (finds stable.new) }
     ensures ended { IfErr result (λ p. ClientEndsBy p.1 (R.own_log recorder.new) (stuck_of stable.new) (spent_of stable.new) (failures_of stable.old) (failures_of stable.new)) }
     ensures falls { HasFailed (falls_of (R.own_log recorder.new)) (failures_of stable.old) (failures_of stable.new) }
-    ensures begun { HasBegun (R.own_log recorder.old).actor wishes.now (R.own_log recorder.new) }
 {
     let progress = match rise(client, ballots, stable, recorder) {
         Ok(progress) => progress,
@@ -166,14 +159,10 @@ pub fn run_client<W: Wait, R: Recorder, L: Link, G: Gate>(
     requires own { All (λ wish. wish.client ≡ client) wishes.now }
     requires few { length wishes.now ≤ MAX_WISHES }
     requires placed { ArePlaced ballots wishes.now }
-    ensures sent { OnOk result (L.given link.new ≡ all_more (L.given link.old) (sent_of (R.own_log recorder.new))) }
-    ensures faulted { IfErr result (λ p. ToldUnlessMemory p.1 (R.own_log recorder.new) (L.given link.old) (L.given link.new)) }
-    ensures entered { HasEntered wishes.now (entries_of result) (R.own_log recorder.new) }
-    ensures softened { SoftensAsWished wishes.now result (R.own_log recorder.new) }
-    ensures all { IfOk result (λ n. n ≡ length wishes.now) }
-    ensures outside { OnOk result (IsOutside (part_now (R.own_log recorder.new))) }
+    ensures sent { TellsBy result (R.own_log recorder.new) (L.given link.old) (L.given link.new) }
+    ensures fulfils { FulfilsInOrder (R.own_log recorder.old).actor wishes.now result (R.own_log recorder.new) }
+    ensures all { IfOk result (FulfilsAll wishes.now (R.own_log recorder.new)) }
     ensures ended { IfErr result (λ p. ClientEndsSomehow p.1 (R.own_log recorder.new)) }
-    ensures begun { HasBegun (R.own_log recorder.old).actor wishes.now (R.own_log recorder.new) }
 {
     let mut stable = stable;
     run_client_over(

@@ -111,7 +111,7 @@ pub trait OwnRecord: StableRecord {
         requires stands { Stands (R.own_log recorder.old) (Self.finds self.now) (core_of progress.old) }
         requires idle { phase_of (core_of progress.old) ≡ phase.Idle }
         ensures sent { SendsBy result (R.own_log recorder.old) (R.own_log recorder.new) (L.given link.old) (L.given link.new) }
-            ensures rests { RestsStill (R.own_log recorder.old) (R.own_log recorder.new) (Self.finds self.now) (core_of progress.new) }
+        ensures rests { RestsStill (R.own_log recorder.old) (R.own_log recorder.new) (Self.finds self.now) (core_of progress.new) }
         ensures asks { AsksAt (core_of progress.old).attempt nodes nudges progress.new }
         ensures released { OnOk result (HasReleased progress.new) }
         ensures ended { IfErr result (λ f. EndsWaiting f progress.new) };

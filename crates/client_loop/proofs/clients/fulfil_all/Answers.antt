@@ -20,12 +20,12 @@ loop-wish-preserved g c = record {
   begun = wish_begun _ _ _ c.wish-item.result _ _ _ c.loop-wish-test.true c.wish-item.is c.fulfil-fulfilled.ensures.begins c.loop-wish.invariant.begun;
 }
 
-pub returns-in-Err-clause-begun : goal.returns-in-Err-clause-begun
-returns-in-Err-clause-begun g c = wish_begun _ _ _ c.wish-item.result _ _ _ c.loop-wish-test.true c.wish-item.is c.fulfil-fulfilled.ensures.begins c.loop-wish.invariant.begun
-
-pub returns-in-Err-clause-softened : goal.returns-in-Err-clause-softened
-returns-in-Err-clause-softened g c =
-    wish_half_softened _ _ _ _ c.wish-item.result _ (g.R.Recorder.own_log c.loop-wish.recorder) (g.R.Recorder.own_log c.fulfil-fulfilled.new.recorder) c.loop-wish-test.true c.wish-item.is c.loop-wish.invariant.count c.fulfil-fulfilled.ensures.counted c.loop-wish.invariant.softened
+pub returns-in-Err-clause-fulfils : goal.returns-in-Err-clause-fulfils
+returns-in-Err-clause-fulfils g c = record {
+  entered = let counted = c.fulfil-fulfilled.ensures.counted in let before = c.loop-wish.invariant.entered in let count = c.loop-wish.invariant.count in let at = c.wish-item.is in grind (arith, common_steps);
+  softened = wish_half_softened _ _ _ _ c.wish-item.result _ (g.R.Recorder.own_log c.loop-wish.recorder) (g.R.Recorder.own_log c.fulfil-fulfilled.new.recorder) c.loop-wish-test.true c.wish-item.is c.loop-wish.invariant.count c.fulfil-fulfilled.ensures.counted c.loop-wish.invariant.softened;
+  begun = wish_begun _ _ _ c.wish-item.result _ _ _ c.loop-wish-test.true c.wish-item.is c.fulfil-fulfilled.ensures.begins c.loop-wish.invariant.begun;
+}
 
 pub fulfil-fulfilled-requires-clause-placed : goal.fulfil-fulfilled-requires-clause-placed
 fulfil-fulfilled-requires-clause-placed g c =

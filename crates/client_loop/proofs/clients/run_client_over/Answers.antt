@@ -1,3 +1,4 @@
+use Rattle.std.proofs.Common.{rules}
 use Rattle.std.proofs.lemmas.Result.{IfErr-weaker}
 use Rattle.actor_steps.proofs.EndFacts.{failures_on, failed_since}
 use Rattle.client_loop.proofs.BeginFacts.{none_begun, begun_since, placed_since}
@@ -19,11 +20,11 @@ returns-clause-ended g c =
     (λ p ends. client_ended_since p.1 (g.R.Recorder.own_log c.args.recorder.now) _ _ _ _ _ _ c.requires.unused (client_ends_on p.1 _ _ _ _ _ _ _ _ c.rise.ensures.begins.falls ends))
     c.fulfil_all.ensures.ended
 
-pub returns-in-Err-clause-begun : goal.returns-in-Err-clause-begun
-returns-in-Err-clause-begun g c = none_begun _ _ (g.R.Recorder.own_log c.rise.new.recorder) c.rise.ensures.begins.whose c.rise.ensures.begins.begins
+pub returns-in-Err-clause-fulfils : goal.returns-in-Err-clause-fulfils
+returns-in-Err-clause-fulfils g c = record { entered = search rules; softened = search rules; begun = none_begun _ _ (g.R.Recorder.own_log c.rise.new.recorder) c.rise.ensures.begins.whose c.rise.ensures.begins.begins }
 
-pub returns-clause-begun : goal.returns-clause-begun
-returns-clause-begun g c = begun_since _ _ (g.R.Recorder.own_log c.rise.new.recorder) _ c.rise.ensures.begins.whose c.fulfil_all.ensures.begun
+pub returns-clause-fulfils : goal.returns-clause-fulfils
+returns-clause-fulfils g c = record { entered = search rules; softened = search rules; begun = begun_since _ _ (g.R.Recorder.own_log c.rise.new.recorder) _ c.rise.ensures.begins.whose c.fulfil_all.ensures.fulfils.begun }
 
 pub fulfil_all-requires-clause-placed : goal.fulfil_all-requires-clause-placed
 fulfil_all-requires-clause-placed g c =
