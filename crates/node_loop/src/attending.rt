@@ -11,6 +11,7 @@ ghost use Rattle.lossy_link.specs.declared.parcels.Post.{Post as PostValue};
 ghost use Rattle.lossy_link.specs.declared.parcels.Sending.{Sending as SendingValue};
 ghost use Rattle.node_loop.specs.Replies.{sent_of, SentFollows, IsSentIn};
 ghost use Rattle.node_loop.specs.Unsent.{HasSent, IsWhole, SentAsFar};
+ghost use Rattle.node_loop.specs.Turns.{moment, Turns};
 ghost use Rattle.node_loop.specs.Standing.{as_opened, StandsBy, StandsIdle, HasTaken, HasSwitched, HasKept, FailsToKeep, IsNodeFault};
 ghost use Rattle.actor_steps.specs.Steps.{IsBookFault};
 ghost use Rattle.actor_steps.specs.Endings.{falls_of, FailuresFollow, EndsFrom};
@@ -213,14 +214,9 @@ fn finish<R: Recorder, L: Link, G: Gate>(
     gate: &G,
 ) -> Result<(), RunFault>
     requires { (before : NodeRecord) × HasTaken changed (R.own_log recorder.old) core.old before (finds stable.old) (stuck_of stable.old) }
-    ensures idle { OnOk result (StandsIdle (R.own_log recorder.new) core.new (finds stable.new) (stuck_of stable.new)) }
-    ensures sent { OnOk result (SentFollows (R.own_log recorder.old) (R.own_log recorder.new) (L.given link.old) (L.given link.new)) }
-    ensures faulted { IfErr result (λ f. SentAsFar f (R.own_log recorder.old) (R.own_log recorder.new) (L.given link.old) (L.given link.new)) }
-    ensures own { FindsItsOwn (part_now (R.own_log recorder.new)) (finds stable.new) }
-    ensures opened { as_opened (R.own_log recorder.new) ≡ as_opened (R.own_log recorder.old) }
-    ensures faults { IfErr result IsNodeFault }
-    ensures ended { IfErr result (λ fault. EndsFrom fault (falls_of (R.own_log recorder.old)) (R.own_log recorder.new) (stuck_of stable.new) (spent_of stable.new) (failures_of stable.old) (failures_of stable.new)) }
-    ensures falls { FailuresFollow (falls_of (R.own_log recorder.old)) (falls_of (R.own_log recorder.new)) (failures_of stable.old) (failures_of stable.new) }
+    ensures turns { let before = moment core.old (R.own_log recorder.old) (finds stable.old) (stuck_of stable.old) (spent_of stable.old) (failures_of stable.old) (L.given link.old) in
+        let after = moment core.new (R.own_log recorder.new) (finds stable.new) (stuck_of stable.new) (spent_of stable.new) (failures_of stable.new) (L.given link.new) in
+        Turns result before after }
 {
     if changed {
         match keep(alloc, core, stable, recorder, gate)? {
@@ -245,14 +241,9 @@ fn take_turn<R: Recorder, L: Link, G: Gate>(
 ) -> Result<(), RunFault>
     requires stands { StandsIdle (R.own_log recorder.old) core.old (finds stable.old) (stuck_of stable.old) }
     requires addressed { is_for_node message.now core.old.node ≡ true }
-    ensures idle { OnOk result (StandsIdle (R.own_log recorder.new) core.new (finds stable.new) (stuck_of stable.new)) }
-    ensures sent { OnOk result (SentFollows (R.own_log recorder.old) (R.own_log recorder.new) (L.given link.old) (L.given link.new)) }
-    ensures faulted { IfErr result (λ f. SentAsFar f (R.own_log recorder.old) (R.own_log recorder.new) (L.given link.old) (L.given link.new)) }
-    ensures own { FindsItsOwn (part_now (R.own_log recorder.new)) (finds stable.new) }
-    ensures opened { as_opened (R.own_log recorder.new) ≡ as_opened (R.own_log recorder.old) }
-    ensures faults { IfErr result IsNodeFault }
-    ensures ended { IfErr result (λ fault. EndsFrom fault (falls_of (R.own_log recorder.old)) (R.own_log recorder.new) (stuck_of stable.new) (spent_of stable.new) (failures_of stable.old) (failures_of stable.new)) }
-    ensures falls { FailuresFollow (falls_of (R.own_log recorder.old)) (falls_of (R.own_log recorder.new)) (failures_of stable.old) (failures_of stable.new) }
+    ensures turns { let before = moment core.old (R.own_log recorder.old) (finds stable.old) (stuck_of stable.old) (spent_of stable.old) (failures_of stable.old) (L.given link.old) in
+        let after = moment core.new (R.own_log recorder.new) (finds stable.new) (stuck_of stable.new) (spent_of stable.new) (failures_of stable.new) (L.given link.new) in
+        Turns result before after }
 {
     let Some(changed) = take(number, message, core, &*stable, recorder)? else {
         return Ok(());
@@ -273,15 +264,10 @@ fn switch_turn<R: Recorder, L: Link, G: Gate>(
     gate: &G,
 ) -> Result<(), RunFault>
     requires { StandsIdle (R.own_log recorder.old) core.old (finds stable.old) (stuck_of stable.old) }
-    ensures idle { OnOk result (StandsIdle (R.own_log recorder.new) core.new (finds stable.new) (stuck_of stable.new)) }
+    ensures turns { let before = moment core.old (R.own_log recorder.old) (finds stable.old) (stuck_of stable.old) (spent_of stable.old) (failures_of stable.old) (L.given link.old) in
+        let after = moment core.new (R.own_log recorder.new) (finds stable.new) (stuck_of stable.new) (spent_of stable.new) (failures_of stable.new) (L.given link.new) in
+        Turns result before after }
     ensures dropped { ((problem : ProblemValue) → problem_number problem ≢ number) → IsOk result × (core.new ≡ core.old) × (R.own_log recorder.new ≡ R.own_log recorder.old) × (L.given link.new ≡ L.given link.old) }
-    ensures sent { OnOk result (SentFollows (R.own_log recorder.old) (R.own_log recorder.new) (L.given link.old) (L.given link.new)) }
-    ensures faulted { IfErr result (λ f. SentAsFar f (R.own_log recorder.old) (R.own_log recorder.new) (L.given link.old) (L.given link.new)) }
-    ensures own { FindsItsOwn (part_now (R.own_log recorder.new)) (finds stable.new) }
-    ensures opened { as_opened (R.own_log recorder.new) ≡ as_opened (R.own_log recorder.old) }
-    ensures faults { IfErr result IsNodeFault }
-    ensures ended { IfErr result (λ fault. EndsFrom fault (falls_of (R.own_log recorder.old)) (R.own_log recorder.new) (stuck_of stable.new) (spent_of stable.new) (failures_of stable.old) (failures_of stable.new)) }
-    ensures falls { FailuresFollow (falls_of (R.own_log recorder.old)) (falls_of (R.own_log recorder.new)) (failures_of stable.old) (failures_of stable.new) }
 {
     let Some(problem) = problem_numbered(number) else {
         return Ok(());
@@ -302,14 +288,9 @@ fn parcel_turn<R: Recorder, L: Link, G: Gate>(
     gate: &G,
 ) -> Result<(), RunFault>
     requires { StandsIdle (R.own_log recorder.old) core.old (finds stable.old) (stuck_of stable.old) }
-    ensures idle { OnOk result (StandsIdle (R.own_log recorder.new) core.new (finds stable.new) (stuck_of stable.new)) }
-    ensures sent { OnOk result (SentFollows (R.own_log recorder.old) (R.own_log recorder.new) (L.given link.old) (L.given link.new)) }
-    ensures faulted { IfErr result (λ f. SentAsFar f (R.own_log recorder.old) (R.own_log recorder.new) (L.given link.old) (L.given link.new)) }
-    ensures own { FindsItsOwn (part_now (R.own_log recorder.new)) (finds stable.new) }
-    ensures opened { as_opened (R.own_log recorder.new) ≡ as_opened (R.own_log recorder.old) }
-    ensures faults { IfErr result IsNodeFault }
-    ensures ended { IfErr result (λ fault. EndsFrom fault (falls_of (R.own_log recorder.old)) (R.own_log recorder.new) (stuck_of stable.new) (spent_of stable.new) (failures_of stable.old) (failures_of stable.new)) }
-    ensures falls { FailuresFollow (falls_of (R.own_log recorder.old)) (falls_of (R.own_log recorder.new)) (failures_of stable.old) (failures_of stable.new) }
+    ensures turns { let before = moment core.old (R.own_log recorder.old) (finds stable.old) (stuck_of stable.old) (spent_of stable.old) (failures_of stable.old) (L.given link.old) in
+        let after = moment core.new (R.own_log recorder.new) (finds stable.new) (stuck_of stable.new) (spent_of stable.new) (failures_of stable.new) (L.given link.new) in
+        Turns result before after }
 {
     let Ok(message) = decode(&parcel.frame) else {
         return Ok(());
@@ -341,14 +322,9 @@ pub(crate) fn attend<R: Recorder, L: Link, G: Gate>(
     gate: &G,
 ) -> Result<(), RunFault>
     requires { StandsIdle (R.own_log recorder.old) core.old (finds stable.old) (stuck_of stable.old) }
-    ensures idle { OnOk result (StandsIdle (R.own_log recorder.new) core.new (finds stable.new) (stuck_of stable.new)) }
-    ensures sent { OnOk result (SentFollows (R.own_log recorder.old) (R.own_log recorder.new) (L.given link.old) (L.given link.new)) }
-    ensures faulted { IfErr result (λ f. SentAsFar f (R.own_log recorder.old) (R.own_log recorder.new) (L.given link.old) (L.given link.new)) }
-    ensures own { FindsItsOwn (part_now (R.own_log recorder.new)) (finds stable.new) }
-    ensures opened { as_opened (R.own_log recorder.new) ≡ as_opened (R.own_log recorder.old) }
-    ensures faults { IfErr result IsNodeFault }
-    ensures ended { IfErr result (λ fault. EndsFrom fault (falls_of (R.own_log recorder.old)) (R.own_log recorder.new) (stuck_of stable.new) (spent_of stable.new) (failures_of stable.old) (failures_of stable.new)) }
-    ensures falls { FailuresFollow (falls_of (R.own_log recorder.old)) (falls_of (R.own_log recorder.new)) (failures_of stable.old) (failures_of stable.new) }
+    ensures turns { let before = moment core.old (R.own_log recorder.old) (finds stable.old) (stuck_of stable.old) (spent_of stable.old) (failures_of stable.old) (L.given link.old) in
+        let after = moment core.new (R.own_log recorder.new) (finds stable.new) (stuck_of stable.new) (spent_of stable.new) (failures_of stable.new) (L.given link.new) in
+        Turns result before after }
 {
     match post {
         Post::Parcel(parcel) => parcel_turn(alloc, &parcel, core, stable, recorder, link, gate),

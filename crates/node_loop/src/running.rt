@@ -7,6 +7,7 @@ ghost use Rattle.lossy_link.specs.Links.{all_more};
 ghost use Rattle.node_loop.specs.Endings.{EndsSomehow};
 ghost use Rattle.node_loop.specs.Replies.{sent_of, SentFollows};
 ghost use Rattle.node_loop.specs.Unsent.{SentAsFar, ToldAsFar, TellsGone, HasGone};
+ghost use Rattle.node_loop.specs.Turns.{moment, Turns};
 ghost use Rattle.node_loop.specs.Standing.{as_opened, StandsIdle, IsReady, IsIdleNode, IsAtEnd, IsNodeFault};
 ghost use Rattle.actor_steps.specs.Steps.{HasFailed};
 ghost use Rattle.actor_steps.specs.Endings.{falls_of, FailuresFollow, EndsFrom, EndsBy};
@@ -62,15 +63,10 @@ fn serve<W: Wait, R: Recorder, L: Link, G: Gate>(
     gate: &G,
 ) -> Result<(), RunFault>
     requires { StandsIdle (R.own_log recorder.old) core.old (finds stable.old) (stuck_of stable.old) }
-    ensures idle { OnOk result (StandsIdle (R.own_log recorder.new) core.new (finds stable.new) (stuck_of stable.new)) }
-    ensures sent { OnOk result (SentFollows (R.own_log recorder.old) (R.own_log recorder.new) (L.given link.old) (L.given link.new)) }
-    ensures faulted { IfErr result (λ f. SentAsFar f (R.own_log recorder.old) (R.own_log recorder.new) (L.given link.old) (L.given link.new)) }
+    ensures turns { let before = moment core.old (R.own_log recorder.old) (finds stable.old) (stuck_of stable.old) (spent_of stable.old) (failures_of stable.old) (L.given link.old) in
+        let after = moment core.new (R.own_log recorder.new) (finds stable.new) (stuck_of stable.new) (spent_of stable.new) (failures_of stable.new) (L.given link.new) in
+        Turns result before after }
     ensures closed { OnOk result (IsAtEnd (L.coming link.new)) }
-    ensures own { FindsItsOwn (part_now (R.own_log recorder.new)) (finds stable.new) }
-    ensures opened { as_opened (R.own_log recorder.new) ≡ as_opened (R.own_log recorder.old) }
-    ensures faults { IfErr result IsNodeFault }
-    ensures ended { IfErr result (λ fault. EndsFrom fault (falls_of (R.own_log recorder.old)) (R.own_log recorder.new) (stuck_of stable.new) (spent_of stable.new) (failures_of stable.old) (failures_of stable.new)) }
-    ensures falls { FailuresFollow (falls_of (R.own_log recorder.old)) (falls_of (R.own_log recorder.new)) (failures_of stable.old) (failures_of stable.new) }
 {
     for _ in rt.forever() {
         let Ok(post) = link.receive() else {

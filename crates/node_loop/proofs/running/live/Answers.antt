@@ -4,7 +4,7 @@ use Rattle.node_loop.proofs.UnsentFacts.{told_far}
 use Rattle.node_loop.proofs.running.live.Goals as goal
 
 pub returns-clause-faulted : goal.returns-clause-faulted
-returns-clause-faulted g c = IfErr-weaker c.serve.result _ _ (λ f far. told_far f _ _ _ _ c.rise.ensures.silent far) c.serve.ensures.faulted
+returns-clause-faulted g c = IfErr-weaker c.serve.result _ _ (λ f ends. told_far f _ _ _ _ c.rise.ensures.silent ends.sent) c.serve.ensures.turns.ended
 
 pub returns-in_err-core-clause-falls : goal.returns-in_err-core-clause-falls
 returns-in_err-core-clause-falls g c =
@@ -13,10 +13,10 @@ returns-in_err-core-clause-falls g c =
 pub returns-clause-falls : goal.returns-clause-falls
 returns-clause-falls g c =
     failed_since (g.R.Recorder.own_log c.args.recorder.now) (g.R.Recorder.own_log c.serve.new.recorder) _ _ _ c.requires.1.unused
-    (failures_on _ _ _ _ _ _ c.rise.ensures.falls c.serve.ensures.falls)
+    (failures_on _ _ _ _ _ _ c.rise.ensures.falls c.serve.ensures.turns.falls)
 
 pub returns-clause-ended : goal.returns-clause-ended
 returns-clause-ended g c =
     IfErr-weaker c.serve.result _ _
-    (λ f ends. ended_since f (g.R.Recorder.own_log c.args.recorder.now) _ _ _ _ _ _ c.requires.1.unused (ends_on f _ _ _ _ _ _ _ _ c.rise.ensures.falls ends))
-    c.serve.ensures.ended
+    (λ f ends. ended_since f (g.R.Recorder.own_log c.args.recorder.now) _ _ _ _ _ _ c.requires.1.unused (ends_on f _ _ _ _ _ _ _ _ c.rise.ensures.falls ends.cause))
+    c.serve.ensures.turns.ended
