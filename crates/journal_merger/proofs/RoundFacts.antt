@@ -24,7 +24,7 @@ use Rattle.journal_merger.specs.Merges.{IsTurn, IsTriedTurn, IsGoing, IsTryGoing
 pub turn-is : (w v : ExactWorld) (who : Actor) (line : OwnLine) (r : Result Offer MergeFault) → TakesLine w who line r v → IfOk (turn_of r) (λ t. IsTurn w who (Some line) t v)
 turn-is w v who line (Ok (offer.Took t)) h = record { line = line; next_is = refl; events = h.0; tells = h.1; history = h.2; are = h.3 }
 turn-is w v who line (Ok offer.Waits) h = (h.0, (line, refl, h.1))
-turn-is w v who line (Ok (offer.Refused why)) h = (line, refl, h)
+turn-is w v who line (Ok (offer.Refused why)) h = (line, refl, h.0)
 turn-is w v who line (Err full.Full) h = tt
 turn-is w v who line (Err full.Memory) h = tt
 

@@ -15,7 +15,8 @@ use Rattle.event_lines.specs.Events.{event_text}
 use Rattle.journal_merge.specs.LineMerges.{Journals}
 use Rattle.line_merger.specs.declared.offers.Taken.{Taken}
 use Rattle.line_merger.specs.declared.offers.Taken.TheVariants as taken
-use Rattle.line_merger.specs.Offers.{reading_by, said_in}
+use Rattle.line_merger.specs.Offers.{said_in}
+use Rattle.line_merger.specs.Reasons.{reading_by}
 use Rattle.journal_merger.specs.declared.faults.JournalsFault.{JournalsFault}
 use Rattle.journal_merger.specs.declared.faults.JournalsFault.TheVariants as fault
 use Rattle.journal_merger.specs.declared.journals.LineLeft.{LineLeft}

@@ -162,7 +162,7 @@ judged F changes effects messages w a who line before after now (offer.Took take
         said = frames-after before after w.sent l.world.sent a.sent are adds l.kept l.back l.over;
       },
     )
-judged F changes effects messages w a who line before after now offer.Waits are (b, recalls, (same, waits)) adds is = (
+judged F changes effects messages w a who line before after now offer.Waits are (b, recalls, (same, waits, unsaid)) adds is = (
   w,
   (refl, λ q more tells source. waits q more (tells-back w b who line (q ∷ more) recalls.same tells) (recalls.enough q more tells source)),
   λ on. record {
@@ -172,7 +172,7 @@ judged F changes effects messages w a who line before after now offer.Waits are 
 )
 judged F changes effects messages w a who line before after now (offer.Refused why) are (b, recalls, refused) adds is = (
   w,
-  λ events tells. refused events (tells-back w b who line events recalls.same tells),
+  λ events tells. refused.0 events (tells-back w b who line events recalls.same tells),
   λ on. absurd on,
 )
 
@@ -259,7 +259,11 @@ unsaid-waits j w who frame is not_had = (
     said = λ m at. absurd (subst (λ (x : ExactWorld). Among m x.sent) is.actors at);
     enough = λ q more tells source. absurd (unsaid q more tells source);
   },
-  (refl, λ q more tells source. none q (subst (λ (x : ExactWorld). HasSource x.sent q.1) is.actors source) (carries j.actors who frame q more tells)),
+  (
+    refl,
+    λ q more tells source. none q (subst (λ (x : ExactWorld). HasSource x.sent q.1) is.actors source) (carries j.actors who frame q more tells),
+    λ m at spelled. subst (λ (x : ExactWorld). Among m x.sent) is.actors at,
+  ),
 )
   where
     unsaid : (q : Pair) (more : List Pair) → TellsLine w.ballots who (part w who) (own.Reads who frame) (q ∷ more) → HasSource w.sent q.1 → ⊥

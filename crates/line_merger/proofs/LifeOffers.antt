@@ -49,7 +49,8 @@ use Rattle.line_merger.specs.declared.offers.Offer.TheVariants as offer
 use Rattle.line_merger.specs.Offers.{TakesLine, offered, refused}
 use Rattle.line_merger.specs.declared.offers.Taken.TheVariants as taken
 use Rattle.line_merger.specs.Lives.{Finds, Fell, fallen, Falls, age_if, settled}
-use Rattle.line_merger.proofs.OfferFacts.{of-refused}
+use Rattle.line_merger.specs.Reasons.{RefusesLife, IsAttempted}
+use Rattle.line_merger.proofs.OfferFacts.{of-refused, own-or-listed, nothing-tried}
 
 -- the record of the world is that of the part
 
@@ -87,6 +88,71 @@ fall-keeps b (actor.Client c) (ClientPart k) done = go k.phase
     go (client.Chosen t place) = refl
     go (client.Asking p) = refl
     go (client.Inside p) = refl
+
+fall-keeps-kept : (b : List Ballot) (who : Actor) (p : Part) (done : Effect) → kept_record who (after_own b (event.Fall who) done p) ≡ kept_record who p
+fall-keeps-kept b (actor.Node n) NoPart done = refl
+fall-keeps-kept b (actor.Node n) (NodePart v) done = go v.phase
+  where
+    go : (phase : ExactNodePhase) → kept_record (actor.Node n) (NodePart (after_turn v (node_falls_in v phase) done)) ≡ kept_record (actor.Node n) (NodePart v)
+    go node.Down = refl
+    go node.Idle = refl
+    go (node.Decided s replies) = refl
+    go (node.Stored replies) = refl
+fall-keeps-kept b (actor.Node n) (ClientPart k) done = refl
+fall-keeps-kept b (actor.Client c) NoPart done = refl
+fall-keeps-kept b (actor.Client c) (NodePart v) done = refl
+fall-keeps-kept b (actor.Client c) (ClientPart k) done = go k.phase
+  where
+    go : (phase : ExactClientPhase) → kept_record (actor.Client c) (ClientPart (after_turn k (client_falls_in k phase) done)) ≡ kept_record (actor.Client c) (ClientPart k)
+    go client.Down = refl
+    go client.Idle = refl
+    go (client.Chosen t place) = refl
+    go (client.Asking p) = refl
+    go (client.Inside p) = refl
+
+fall-says : (b : List Ballot) (who : Actor) (p : Part) → said_by b (event.Fall who) p ≡ []
+fall-says b (actor.Node n) NoPart = refl
+fall-says b (actor.Node n) (NodePart v) = go v.phase
+  where
+    go : (phase : ExactNodePhase) → turn_says (node_falls_in v phase) ≡ []
+    go node.Down = refl
+    go node.Idle = refl
+    go (node.Decided s replies) = refl
+    go (node.Stored replies) = refl
+fall-says b (actor.Node n) (ClientPart k) = refl
+fall-says b (actor.Client c) NoPart = refl
+fall-says b (actor.Client c) (NodePart v) = refl
+fall-says b (actor.Client c) (ClientPart k) = go k.phase
+  where
+    go : (phase : ExactClientPhase) → turn_says (client_falls_in k phase) ≡ []
+    go client.Down = refl
+    go client.Idle = refl
+    go (client.Chosen t place) = refl
+    go (client.Asking p) = refl
+    go (client.Inside p) = refl
+
+-- who fell is down
+
+fall-downs : (b : List Ballot) (who : Actor) (p : Part) (done : Effect) → IsTurn b p (event.Fall who) done → IsDown (after_own b (event.Fall who) done p)
+fall-downs b (actor.Node n) NoPart done turn = absurd turn
+fall-downs b (actor.Node n) (NodePart v) done turn = go v.phase turn
+  where
+    go : (phase : ExactNodePhase) → HasEffect (node_falls_in v phase) done → IsDown (NodePart (after_turn v (node_falls_in v phase) done))
+    go node.Down h = absurd h
+    go node.Idle h = refl
+    go (node.Decided s replies) h = refl
+    go (node.Stored replies) h = refl
+fall-downs b (actor.Node n) (ClientPart k) done turn = absurd turn
+fall-downs b (actor.Client c) NoPart done turn = absurd turn
+fall-downs b (actor.Client c) (NodePart v) done turn = absurd turn
+fall-downs b (actor.Client c) (ClientPart k) done turn = go k.phase turn
+  where
+    go : (phase : ExactClientPhase) → HasEffect (client_falls_in k phase) done → IsDown (ClientPart (after_turn k (client_falls_in k phase) done))
+    go client.Down h = absurd h
+    go client.Idle h = refl
+    go (client.Chosen t place) h = refl
+    go (client.Asking p) h = refl
+    go (client.Inside p) h = refl
 
 up-falls : (b : List Ballot) (who : Actor) (p : Part) (done : Effect) → IsTurn b p (event.Fall who) done → IsDown p → ⊥
 up-falls b (actor.Node n) NoPart done turn down = down
@@ -147,6 +213,46 @@ after-fall changes effects w u who done h =
 fell-tried : StepsChangeOnePart → EffectsAreOfTheirEvents → (w u : ExactWorld) (who : Actor) (fell : Bool) → Fell w who fell u → tried_record who (part u who) ≡ tried_record who (part w who)
 fell-tried changes effects w u who true h = ap (tried_record who) (after-fall changes effects w u who h.0 h.1) ∙ fall-keeps w.ballots who (part w who) effect.Down
 fell-tried changes effects w u who false h = ap (λ (x : ExactWorld). tried_record who (part x who)) h.0
+
+fell-kept : StepsChangeOnePart → EffectsAreOfTheirEvents → (w u : ExactWorld) (who : Actor) (fell : Bool) → Fell w who fell u → kept_record who (part u who) ≡ kept_record who (part w who)
+fell-kept changes effects w u who true h = ap (kept_record who) (after-fall changes effects w u who h.0 h.1) ∙ fall-keeps-kept w.ballots who (part w who) effect.Down
+fell-kept changes effects w u who false h = ap (λ (x : ExactWorld). kept_record who (part x who)) h.0
+
+fell-down : StepsChangeOnePart → EffectsAreOfTheirEvents → (w u : ExactWorld) (who : Actor) (fell : Bool) → Fell w who fell u → IsDown (part u who)
+fell-down changes effects w u who true h =
+    let done : h.0 ≡ effect.Down = effects w u (event.Fall who) h.0 h.1 in
+    subst IsDown (sym (after-fall changes effects w u who h.0 h.1))
+    (fall-downs w.ballots who (part w who) effect.Down (subst (λ d. IsTurn w.ballots (part w who) (event.Fall who) d) done (subst (λ a. IsTurn w.ballots (part w a) (event.Fall who) h.0) (fall-of who) (taken-turn w u (event.Fall who) h.0 h.1))))
+fell-down changes effects w u who false h = subst (λ (x : ExactWorld). IsDown (part x who)) (sym h.0) h.1
+
+down-kept : (u : ExactWorld) (who : Actor) → IsDown (part u who) → kept_record who (part u who) ≡ None → ⊥
+down-kept u (actor.Node n) = go (numbered u.nodes n)
+  where
+    go : (o : Option ExactNode) → IsDown (node_part o) → kept_record (actor.Node n) (node_part o) ≡ None → ⊥
+    go None down none = down
+    go (Some v) down none = let z : ◌≡◌ {A = Option (List ℕ)} (Some (record_bytes v.kept.problem v.kept.entries)) None = none in cc
+down-kept u (actor.Client c) = go (numbered u.clients c)
+  where
+    go : (o : Option ExactClient) → IsDown (client_part o) → kept_record (actor.Client c) (client_part o) ≡ None → ⊥
+    go None down none = down
+    go (Some k) down none = let z : ◌≡◌ {A = Option (List ℕ)} (Some (client_record_of k.kept)) None = none in cc
+
+fell-there : StepsChangeOnePart → EffectsAreOfTheirEvents → (w u : ExactWorld) (who : Actor) (fell : Bool) → Fell w who fell u → kept_record who (part w who) ≢ None
+fell-there changes effects w u who fell h none = down-kept u who (fell-down changes effects w u who fell h) (fell-kept changes effects w u who fell h ∙ none)
+
+-- what was attempted
+
+fell-sent : StepsChangeOnePart → (w u : ExactWorld) (who : Actor) (done : Effect) → Takes w (event.Fall who) done u → u.sent ≡ w.sent
+fell-sent changes w u who done h = (changes w u (event.Fall who) done h).sent ∙ ap (λ xs. w.sent ++ xs) (fall-says w.ballots who (part w (actor_of (event.Fall who)))) ∙ append-nil w.sent
+
+fell-attempt : StepsChangeOnePart → (w u : ExactWorld) (who : Actor) (fell : Bool) → Fell w who fell u → IsAttempted who w u
+fell-attempt changes w u who true h = record {
+  events = (event.Fall who, h.0) ∷ [];
+  attempt = (inl refl, tt);
+  history = (u, h.1, refl);
+  sent = fell-sent changes w u who h.0 h.1;
+}
+fell-attempt changes w u who false h = nothing-tried w u who h.0
 
 -- a life that begins: the line was taken
 
@@ -270,6 +376,31 @@ the-refusal : (e : Event) (s : Steps) (f : StepFault) → IsRefusedStep e s f �
 the-refusal e s f (inl h) apart = h
 the-refusal e s f (inr h) apart = absurd (apart h.0)
 
+fall-unknown : (w : ExactWorld) (who : Actor) (f : StepFault) → own_refusal w.ballots (event.Fall who) (part w who) ≡ Some f → f ≢ step.Down → (f ≡ step.UnknownActor) × (kept_record who (part w who) ≡ None)
+fall-unknown w (actor.Node n) f = go (numbered w.nodes n)
+  where
+    phased : (v : ExactNode) (phase : ExactNodePhase) → refusal_of (node_falls_in v phase) ≡ Some f → f ≢ step.Down → ⊥
+    phased v node.Down h apart = let z : ◌≡◌ {A = Option StepFault} (Some step.Down) (Some f) = h in apart cc
+    phased v node.Idle h apart = let z : ◌≡◌ {A = Option StepFault} None (Some f) = h in cc
+    phased v (node.Decided s replies) h apart = let z : ◌≡◌ {A = Option StepFault} None (Some f) = h in cc
+    phased v (node.Stored replies) h apart = let z : ◌≡◌ {A = Option StepFault} None (Some f) = h in cc
+
+    go : (o : Option ExactNode) → own_refusal w.ballots (event.Fall (actor.Node n)) (node_part o) ≡ Some f → f ≢ step.Down → (f ≡ step.UnknownActor) × (kept_record (actor.Node n) (node_part o) ≡ None)
+    go None h apart = let z : ◌≡◌ {A = Option StepFault} (Some step.UnknownActor) (Some f) = h in (cc, refl)
+    go (Some v) h apart = absurd (phased v v.phase h apart)
+fall-unknown w (actor.Client c) f = go (numbered w.clients c)
+  where
+    phased : (k : ExactClient) (phase : ExactClientPhase) → refusal_of (client_falls_in k phase) ≡ Some f → f ≢ step.Down → ⊥
+    phased k client.Down h apart = let z : ◌≡◌ {A = Option StepFault} (Some step.Down) (Some f) = h in apart cc
+    phased k client.Idle h apart = let z : ◌≡◌ {A = Option StepFault} None (Some f) = h in cc
+    phased k (client.Chosen t place) h apart = let z : ◌≡◌ {A = Option StepFault} None (Some f) = h in cc
+    phased k (client.Asking p) h apart = let z : ◌≡◌ {A = Option StepFault} None (Some f) = h in cc
+    phased k (client.Inside p) h apart = let z : ◌≡◌ {A = Option StepFault} None (Some f) = h in cc
+
+    go : (o : Option ExactClient) → own_refusal w.ballots (event.Fall (actor.Client c)) (client_part o) ≡ Some f → f ≢ step.Down → (f ≡ step.UnknownActor) × (kept_record (actor.Client c) (client_part o) ≡ None)
+    go None h apart = let z : ◌≡◌ {A = Option StepFault} (Some step.UnknownActor) (Some f) = h in (cc, refl)
+    go (Some k) h apart = absurd (phased k k.phase h apart)
+
 fall-refused : OwnRefusalsComeFirst → ListRefusalsComeSecond → (w : ExactWorld) (who : Actor) (f : StepFault) → f ≢ step.Down → f ≢ step.Memory → IsRefusedStep (event.Fall who) (step_of w (event.Fall who)) f → (found : List ℕ) → IsRefused w who (own.Life who found)
 fall-refused first second w who f apart memory h found events t = go events t.1
   where
@@ -285,23 +416,30 @@ fall-refused first second w who f apart memory h found events t = go events t.1
         let z : ◌≡◌ {A = Option StepFault} None (Some f) = sym (turns-allowed w.ballots (part w who) (event.Fall who) effect.Down run.1) ∙ own in
         cc
 
+-- a fall that is refused, but not since the actor is down
+fall-fails : OwnRefusalsComeFirst → ListRefusalsComeSecond → (w u : ExactWorld) (who : Actor) (f : StepFault) → f ≢ step.Down → f ≢ step.Memory → IsRefusedStep (event.Fall who) (step_of w (event.Fall who)) f × (u ≡ w) → Falls w who (Err f) u
+fall-fails first second w u who f apart memory h =
+    let own : own_refusal w.ballots (event.Fall who) (part w who) ≡ Some f = own-fall-refusal first second w who f (ap refusal_of (the-refusal (event.Fall who) (step_of w (event.Fall who)) f h.0 memory)) in
+    let unknown = fall-unknown w who f own apart in
+    inr (fall-refused first second w who f apart memory h.0, unknown.0, unknown.1, h.1)
+
 pub falls-as : OwnRefusalsComeFirst → ListRefusalsComeSecond → (w u : ExactWorld) (who : Actor) (r : Result Effect StepFault) → Does (event.Fall who) (step_of w (event.Fall who)) w r u → Falls w who (fallen r) u
 falls-as first second w u who (Ok done) h = (done, h)
 falls-as first second w u who (Err step.Down) h =
     (h.1, down-of w.ballots who (part w who) (own-fall-refusal first second w who step.Down (ap refusal_of (the-refusal (event.Fall who) (step_of w (event.Fall who)) step.Down h.0 (λ e. cc)))))
 falls-as first second w u who (Err step.Memory) h = inl refl
-falls-as first second w u who (Err step.UnknownActor) h = inr (fall-refused first second w who step.UnknownActor (λ e. cc) (λ e. cc) h.0)
-falls-as first second w u who (Err step.Up) h = inr (fall-refused first second w who step.Up (λ e. cc) (λ e. cc) h.0)
-falls-as first second w u who (Err step.WrongPhase) h = inr (fall-refused first second w who step.WrongPhase (λ e. cc) (λ e. cc) h.0)
-falls-as first second w u who (Err step.NotStored) h = inr (fall-refused first second w who step.NotStored (λ e. cc) (λ e. cc) h.0)
-falls-as first second w u who (Err step.NothingToSay) h = inr (fall-refused first second w who step.NothingToSay (λ e. cc) (λ e. cc) h.0)
-falls-as first second w u who (Err step.NoSuchMessage) h = inr (fall-refused first second w who step.NoSuchMessage (λ e. cc) (λ e. cc) h.0)
-falls-as first second w u who (Err step.NotAddressed) h = inr (fall-refused first second w who step.NotAddressed (λ e. cc) (λ e. cc) h.0)
-falls-as first second w u who (Err step.NoQuorum) h = inr (fall-refused first second w who step.NoQuorum (λ e. cc) (λ e. cc) h.0)
-falls-as first second w u who (Err step.AttemptsSpent) h = inr (fall-refused first second w who step.AttemptsSpent (λ e. cc) (λ e. cc) h.0)
-falls-as first second w u who (Err step.NothingTried) h = inr (fall-refused first second w who step.NothingTried (λ e. cc) (λ e. cc) h.0)
-falls-as first second w u who (Err step.SentListFull) h = inr (fall-refused first second w who step.SentListFull (λ e. cc) (λ e. cc) h.0)
-falls-as first second w u who (Err step.NoSuchPlace) h = inr (fall-refused first second w who step.NoSuchPlace (λ e. cc) (λ e. cc) h.0)
+falls-as first second w u who (Err step.UnknownActor) h = fall-fails first second w u who step.UnknownActor (λ e. cc) (λ e. cc) h
+falls-as first second w u who (Err step.Up) h = fall-fails first second w u who step.Up (λ e. cc) (λ e. cc) h
+falls-as first second w u who (Err step.WrongPhase) h = fall-fails first second w u who step.WrongPhase (λ e. cc) (λ e. cc) h
+falls-as first second w u who (Err step.NotStored) h = fall-fails first second w u who step.NotStored (λ e. cc) (λ e. cc) h
+falls-as first second w u who (Err step.NothingToSay) h = fall-fails first second w u who step.NothingToSay (λ e. cc) (λ e. cc) h
+falls-as first second w u who (Err step.NoSuchMessage) h = fall-fails first second w u who step.NoSuchMessage (λ e. cc) (λ e. cc) h
+falls-as first second w u who (Err step.NotAddressed) h = fall-fails first second w u who step.NotAddressed (λ e. cc) (λ e. cc) h
+falls-as first second w u who (Err step.NoQuorum) h = fall-fails first second w u who step.NoQuorum (λ e. cc) (λ e. cc) h
+falls-as first second w u who (Err step.AttemptsSpent) h = fall-fails first second w u who step.AttemptsSpent (λ e. cc) (λ e. cc) h
+falls-as first second w u who (Err step.NothingTried) h = fall-fails first second w u who step.NothingTried (λ e. cc) (λ e. cc) h
+falls-as first second w u who (Err step.SentListFull) h = fall-fails first second w u who step.SentListFull (λ e. cc) (λ e. cc) h
+falls-as first second w u who (Err step.NoSuchPlace) h = fall-fails first second w u who step.NoSuchPlace (λ e. cc) (λ e. cc) h
 
 -- the refusal of a rise
 
@@ -346,6 +484,73 @@ step-rises w (actor.Client c) age room turn =
     let none = ap (λ (xs : List Message). length xs) (rise-says w.ballots (actor.Client c) age (part w (actor.Client c))) in
     let d = deed-steps w (deed_of (event.Rise (actor.Client c) age)) effect.Up 0 (deed-fits (event.Rise (actor.Client c) age) 0) turn (λ m e. absurd (let z : ◌≡◌ {A = Option Message} None (Some m) = e in cc)) (omega (arith, none, room)) in
     (_, d.steps)
+
+-- the refusal of a rise is the actor's own
+
+own-rise-refusal : OwnRefusalsComeFirst → ListRefusalsComeSecond → (w : ExactWorld) (who : Actor) (age : Age) (f : StepFault) → refusal w (event.Rise who age) ≡ Some f → own_refusal w.ballots (event.Rise who age) (part w who) ≡ Some f
+own-rise-refusal first second w who age f h = subst (λ a. own_refusal w.ballots (event.Rise who age) (part w a) ≡ Some f) (rise-of who age) (go (own-or-listed first second w (event.Rise who age) f h))
+  where
+    go : (own_refusal w.ballots (event.Rise who age) (part w (actor_of (event.Rise who age))) ≡ Some f) ⊎ ((own_refusal w.ballots (event.Rise who age) (part w (actor_of (event.Rise who age))) ≡ None) × ⊥) → own_refusal w.ballots (event.Rise who age) (part w (actor_of (event.Rise who age))) ≡ Some f
+    go (inl is) = is
+    go (inr listed) = absurd listed.1
+
+old-goes : (u : ExactWorld) (who : Actor) (f : StepFault) → IsDown (part u who) → own_refusal u.ballots (event.Rise who Old) (part u who) ≡ Some f → ⊥
+old-goes u (actor.Node n) f = go (numbered u.nodes n)
+  where
+    phased : (v : ExactNode) (phase : ExactNodePhase) → phase ≡ node.Down → refusal_of (node_rises_in Old v phase) ≡ Some f → ⊥
+    phased v node.Down down h = let z : ◌≡◌ {A = Option StepFault} None (Some f) = h in cc
+    phased v node.Idle down h = let z : node.Idle ≡ node.Down = down in cc
+    phased v (node.Decided s replies) down h = let z : node.Decided s replies ≡ node.Down = down in cc
+    phased v (node.Stored replies) down h = let z : node.Stored replies ≡ node.Down = down in cc
+
+    go : (o : Option ExactNode) → IsDown (node_part o) → own_refusal u.ballots (event.Rise (actor.Node n) Old) (node_part o) ≡ Some f → ⊥
+    go None down h = down
+    go (Some v) down h = phased v v.phase down h
+old-goes u (actor.Client c) f = go (numbered u.clients c)
+  where
+    phased : (k : ExactClient) (phase : ExactClientPhase) → phase ≡ client.Down → refusal_of (client_rises_in Old k phase) ≡ Some f → ⊥
+    phased k client.Down down h = let z : ◌≡◌ {A = Option StepFault} None (Some f) = h in cc
+    phased k client.Idle down h = let z : client.Idle ≡ client.Down = down in cc
+    phased k (client.Chosen t place) down h = let z : client.Chosen t place ≡ client.Down = down in cc
+    phased k (client.Asking p) down h = let z : client.Asking p ≡ client.Down = down in cc
+    phased k (client.Inside p) down h = let z : client.Inside p ≡ client.Down = down in cc
+
+    go : (o : Option ExactClient) → IsDown (client_part o) → own_refusal u.ballots (event.Rise (actor.Client c) Old) (client_part o) ≡ Some f → ⊥
+    go None down h = down
+    go (Some k) down h = phased k k.phase down h
+
+new-untried : (u : ExactWorld) (who : Actor) (f : StepFault) → IsDown (part u who) → own_refusal u.ballots (event.Rise who New) (part u who) ≡ Some f → (f ≡ step.NothingTried) × (tried_record who (part u who) ≡ None)
+new-untried u (actor.Node n) f = go (numbered u.nodes n)
+  where
+    tried : (kept : ExactStation) (o : Option ExactStation) → refusal_of (node_rises_with New kept o) ≡ Some f → (f ≡ step.NothingTried) × (option_map (λ (s : ExactStation). record_bytes s.problem s.entries) o ≡ None)
+    tried kept None h = let z : ◌≡◌ {A = Option StepFault} (Some step.NothingTried) (Some f) = h in (cc, refl)
+    tried kept (Some s) h = absurd (let z : ◌≡◌ {A = Option StepFault} None (Some f) = h in cc)
+
+    phased : (v : ExactNode) (phase : ExactNodePhase) → phase ≡ node.Down → refusal_of (node_rises_in New v phase) ≡ Some f → (f ≡ step.NothingTried) × (tried_record (actor.Node n) (NodePart v) ≡ None)
+    phased v node.Down down h = tried v.kept v.tried h
+    phased v node.Idle down h = absurd (let z : node.Idle ≡ node.Down = down in cc)
+    phased v (node.Decided s replies) down h = absurd (let z : node.Decided s replies ≡ node.Down = down in cc)
+    phased v (node.Stored replies) down h = absurd (let z : node.Stored replies ≡ node.Down = down in cc)
+
+    go : (o : Option ExactNode) → IsDown (node_part o) → own_refusal u.ballots (event.Rise (actor.Node n) New) (node_part o) ≡ Some f → (f ≡ step.NothingTried) × (tried_record (actor.Node n) (node_part o) ≡ None)
+    go None down h = absurd down
+    go (Some v) down h = phased v v.phase down h
+new-untried u (actor.Client c) f = go (numbered u.clients c)
+  where
+    tried : (kept : ℕ) (o : Option ℕ) → refusal_of (client_rises_with New kept o) ≡ Some f → (f ≡ step.NothingTried) × (option_map client_record_of o ≡ None)
+    tried kept None h = let z : ◌≡◌ {A = Option StepFault} (Some step.NothingTried) (Some f) = h in (cc, refl)
+    tried kept (Some a) h = absurd (let z : ◌≡◌ {A = Option StepFault} None (Some f) = h in cc)
+
+    phased : (k : ExactClient) (phase : ExactClientPhase) → phase ≡ client.Down → refusal_of (client_rises_in New k phase) ≡ Some f → (f ≡ step.NothingTried) × (tried_record (actor.Client c) (ClientPart k) ≡ None)
+    phased k client.Down down h = tried k.kept k.tried h
+    phased k client.Idle down h = absurd (let z : client.Idle ≡ client.Down = down in cc)
+    phased k (client.Chosen t place) down h = absurd (let z : client.Chosen t place ≡ client.Down = down in cc)
+    phased k (client.Asking p) down h = absurd (let z : client.Asking p ≡ client.Down = down in cc)
+    phased k (client.Inside p) down h = absurd (let z : client.Inside p ≡ client.Down = down in cc)
+
+    go : (o : Option ExactClient) → IsDown (client_part o) → own_refusal u.ballots (event.Rise (actor.Client c) New) (client_part o) ≡ Some f → (f ≡ step.NothingTried) × (tried_record (actor.Client c) (client_part o) ≡ None)
+    go None down h = absurd down
+    go (Some k) down h = phased k k.phase down h
 
 rise-turn : StepsChangeOnePart → EffectsAreOfTheirEvents → (w u : ExactWorld) (who : Actor) (found : List ℕ) (events : List Pair) (fell : Bool) → Fell w who fell u → Restarts who (part w who) found events → (e : Event) × IsRise who (part w who) found e × IsTurn u.ballots (part u who) e effect.Up
 rise-turn changes effects w u who found _ true h (only_rises e down is) =
@@ -392,30 +597,75 @@ finds_bytes w who found kept h = (
         cc
 
 pub finds_fault : (w : ExactWorld) (who : Actor) (found : List ℕ) (f : StepFault) → ((f ≡ step.UnknownActor) × (kept_bytes who w ≡ None)) ⊎ ((f ≡ step.Memory) × (kept_bytes who w ≢ None)) → Finds w who found (Err f)
-finds_fault w who found f (inl h) = inr (no-record w who found h.1)
+finds_fault w who found f (inl h) = inr (no-record w who found h.1, h.0, sym (kept-at who w) ∙ h.1)
 finds_fault w who found f (inr h) = inl h.0
 
-pub finds_offered : (w v : ExactWorld) (who : Actor) (found : List ℕ) (f : StepFault) → Finds w who found (Err f) → TakesLine w who (own.Life who found) (refused f) v
-finds_offered w v who found f (inl h) = of-refused w v who (own.Life who found) f (λ full memory. absurd (memory h))
-finds_offered w v who found f (inr h) = of-refused w v who (own.Life who found) f (λ full memory. h)
+pub finds_offered : (w : ExactWorld) (who : Actor) (found : List ℕ) (f : StepFault) → Finds w who found (Err f) → TakesLine w who (own.Life who found) (refused f) w
+finds_offered w who found f (inl h) = of-refused w w who (own.Life who found) f (λ full memory. absurd (memory h))
+finds_offered w who found f (inr h) = of-refused w w who (own.Life who found) f (λ full memory. (h.0, inl (h.1, h.2), nothing-tried w w who refl))
 
-pub falls_offered : (w u v : ExactWorld) (who : Actor) (found : List ℕ) (f : StepFault) → Falls w who (Err f) u → TakesLine w who (own.Life who found) (refused f) v
-falls_offered w u v who found f (inl h) = of-refused w v who (own.Life who found) f (λ full memory. absurd (memory h))
-falls_offered w u v who found f (inr h) = of-refused w v who (own.Life who found) f (λ full memory. h found)
+pub falls_offered : (w u : ExactWorld) (who : Actor) (found : List ℕ) (f : StepFault) → Falls w who (Err f) u → TakesLine w who (own.Life who found) (refused f) u
+falls_offered w u who found f (inl h) = of-refused w u who (own.Life who found) f (λ full memory. absurd (memory h))
+falls_offered w u who found f (inr h) = of-refused w u who (own.Life who found) f (λ full memory. (h.0 found, inl (h.1, h.2), nothing-tried w u who h.3))
 
-pub old-offered : StepsChangeOnePart → EffectsAreOfTheirEvents → (w u v : ExactWorld) (who : Actor) (found : List ℕ) (r : Result Effect StepFault) (fell : Bool) → length u.sent ≤ MAX_MESSAGES → Does (event.Rise who Old) (step_of u (event.Rise who Old)) u r v → Fell w who fell u → kept_record who (part w who) ≡ Some found →
+old-rises : OwnRefusalsComeFirst → ListRefusalsComeSecond → StepsChangeOnePart → EffectsAreOfTheirEvents → (w u : ExactWorld) (who : Actor) (f : StepFault) (fell : Bool) → IsRefusedStep (event.Rise who Old) (step_of u (event.Rise who Old)) f → Fell w who fell u → f ≢ step.Memory → ⊥
+old-rises first second changes effects w u who f fell h down memory =
+    old-goes u who f (fell-down changes effects w u who fell down) (own-rise-refusal first second u who Old f (ap refusal_of (the-refusal (event.Rise who Old) (step_of u (event.Rise who Old)) f h memory)))
+
+pub old-offered : OwnRefusalsComeFirst → ListRefusalsComeSecond → StepsChangeOnePart → EffectsAreOfTheirEvents → (w u v : ExactWorld) (who : Actor) (found : List ℕ) (r : Result Effect StepFault) (fell : Bool) → Does (event.Rise who Old) (step_of u (event.Rise who Old)) u r v → Fell w who fell u → kept_record who (part w who) ≡ Some found →
     TakesLine w who (own.Life who found) (offered (taken.Rose fell Old) r) v
-old-offered changes effects w u v who found (Ok done) fell room h down kept = old-taken changes effects w u v who found done fell down h kept
-old-offered changes effects w u v who found (Err f) fell room h down kept =
-    of-refused w v who (own.Life who found) f (rise-refused changes effects w u who found true f fell room down (λ e. kept) (λ e. absurd (let z : true ≡ false = e in cc)) h.0)
+old-offered first second changes effects w u v who found (Ok done) fell h down kept = old-taken changes effects w u v who found done fell down h kept
+old-offered first second changes effects w u v who found (Err f) fell h down kept =
+    of-refused w v who (own.Life who found) f (λ full memory. absurd (old-rises first second changes effects w u who f fell h.0 down memory))
 
-pub new-offered : StepsChangeOnePart → EffectsAreOfTheirEvents → (w u v : ExactWorld) (who : Actor) (found : List ℕ) (f : StepFault) (fell : Bool) → length u.sent ≤ MAX_MESSAGES → IsRefusedStep (event.Rise who New) (step_of u (event.Rise who New)) f → Fell w who fell u → kept_record who (part w who) ≢ Some found →
+new-reason : OwnRefusalsComeFirst → ListRefusalsComeSecond → StepsChangeOnePart → EffectsAreOfTheirEvents → (w u : ExactWorld) (who : Actor) (found : List ℕ) (f : StepFault) (fell : Bool) → IsRefusedStep (event.Rise who New) (step_of u (event.Rise who New)) f → Fell w who fell u → kept_record who (part w who) ≢ Some found → f ≢ step.Memory → RefusesLife who (part w who) found f
+new-reason first second changes effects w u who found f fell h down apart memory =
+    let untried = new-untried u who f (fell-down changes effects w u who fell down) (own-rise-refusal first second u who New f (ap refusal_of (the-refusal (event.Rise who New) (step_of u (event.Rise who New)) f h memory))) in
+    inr (
+      untried.0,
+      record {
+        there = fell-there changes effects w u who fell down;
+        kept = apart;
+        tried = λ is. let z : ◌≡◌ {A = Option (List ℕ)} None (Some found) = sym untried.1 ∙ fell-tried changes effects w u who fell down ∙ is in cc;
+      },
+    )
+
+pub new-offered : OwnRefusalsComeFirst → ListRefusalsComeSecond → StepsChangeOnePart → EffectsAreOfTheirEvents → (w u v : ExactWorld) (who : Actor) (found : List ℕ) (f : StepFault) (fell : Bool) → length u.sent ≤ MAX_MESSAGES → IsRefusedStep (event.Rise who New) (step_of u (event.Rise who New)) f × (v ≡ u) → Fell w who fell u → kept_record who (part w who) ≢ Some found →
     TakesLine w who (own.Life who found) (refused f) v
-new-offered changes effects w u v who found f fell room h down apart =
-    of-refused w v who (own.Life who found) f (rise-refused changes effects w u who found false f fell room down (λ e. absurd (let z : false ≡ true = e in cc)) (λ e. apart) h)
+new-offered first second changes effects w u v who found f fell room h down apart =
+    of-refused w v who (own.Life who found) f (λ full memory. (
+      rise-refused changes effects w u who found false f fell room down (λ e. absurd (let z : false ≡ true = e in cc)) (λ e. apart) h.0 full memory,
+      new-reason first second changes effects w u who found f fell h.0 down apart memory,
+      subst (IsAttempted who w) (sym h.1) (fell-attempt changes w u who fell down),
+    ))
+
+rose-sent : StepsChangeOnePart → (u v : ExactWorld) (who : Actor) (done : Effect) → Takes u (event.Rise who New) done v → v.sent ≡ u.sent
+rose-sent changes u v who done h = (changes u v (event.Rise who New) done h).sent ∙ ap (λ xs. u.sent ++ xs) (rise-says u.ballots who New (part u (actor_of (event.Rise who New)))) ∙ append-nil u.sent
+
+rose-attempt : StepsChangeOnePart → (w u v : ExactWorld) (who : Actor) (done : Effect) (fell : Bool) → Takes u (event.Rise who New) done v → Fell w who fell u → IsAttempted who w v
+rose-attempt changes w u v who done true rise h = record {
+  events = (event.Fall who, h.0) ∷ (event.Rise who New, done) ∷ [];
+  attempt = (inl refl, (inr refl, tt));
+  history = (u, h.1, (v, rise, refl));
+  sent = rose-sent changes u v who done rise ∙ fell-sent changes w u who h.0 h.1;
+}
+rose-attempt changes w u v who done false rise h = record {
+  events = (event.Rise who New, done) ∷ [];
+  attempt = (inr refl, tt);
+  history = (v, subst (λ (x : ExactWorld). Takes x (event.Rise who New) done v) h.0 rise, refl);
+  sent = rose-sent changes u v who done rise ∙ ap (λ (x : ExactWorld). x.sent) h.0;
+}
 
 pub new-settled : StepsChangeOnePart → EffectsAreOfTheirEvents → (w u v : ExactWorld) (who : Actor) (found : List ℕ) (done : Effect) (r : Result Bool StepFault) (fell : Bool) → Takes u (event.Rise who New) done v → Finds v who found r → Fell w who fell u → kept_record who (part w who) ≢ Some found →
     TakesLine w who (own.Life who found) (settled (taken.Rose fell New) r) v
 new-settled changes effects w u v who found done (Ok true) fell h finds down apart = new-taken changes effects w u v who found done fell down h apart (finds.0 refl)
-new-settled changes effects w u v who found done (Ok false) fell h finds down apart = new-other changes effects w u v who found done fell down h apart (finds.1 refl)
+new-settled changes effects w u v who found done (Ok false) fell h finds down apart = (
+  new-other changes effects w u v who found done fell down h apart (finds.1 refl),
+  record {
+    there = fell-there changes effects w u who fell down;
+    kept = apart;
+    tried = λ is. finds.1 refl (new-tried changes effects w u v who done fell down h ∙ is);
+  },
+  rose-attempt changes w u v who done fell h down,
+)
 new-settled changes effects w u v who found done (Err f) fell h finds down apart = tt

@@ -10,13 +10,16 @@ use Rattle.world_model.proofs.LocalityFacts.{places-apart}
 use Rattle.merge_model.proofs.OwnRunFacts.{Pair}
 use Rattle.own_journals.specs.declared.lines.OwnLine.{OwnLine}
 use Rattle.own_journals.specs.declared.lines.OwnLine.TheVariants as own
-use Rattle.journal_merge.specs.LineMerges.{IsRefused}
 use Rattle.frame_numbers.specs.FrameNumbers.{Seen, IsIndexOf, IndexesGrow}
 use Rattle.line_merger.specs.declared.offers.MergeFault.{MergeFault}
 use Rattle.line_merger.specs.declared.offers.Offer.{Offer}
 use Rattle.line_merger.specs.declared.offers.Offer.TheVariants as offer
 use Rattle.line_merger.specs.declared.offers.Taken.TheVariants as taken
+use Rattle.line_merger.specs.declared.offers.Refusal.{Refusal}
+use Rattle.line_merger.specs.declared.offers.Refusal.TheVariants as refusal
+use Rattle.line_merger.specs.Reasons.{IsReason}
 use Rattle.line_merger.specs.Offers.{GoesOn, TakesLine, TriesLine, TryGoesOn, tried}
+use Rattle.line_merger.proofs.OfferFacts.{nothing-tried}
 
 -- an index stays one through a history
 
@@ -33,8 +36,11 @@ index-on changes grow w v who line (Err f) s h index = tt
 
 -- a life of another actor, and of this one
 
-pub other-refused : (w : ExactWorld) (who whose : Actor) (found : List ℕ) → (place whose == place who) ≡ false → IsRefused w who (own.Life whose found)
-other-refused w who whose found apart events t = let z : true ≡ false = sym (eq-eqb (place whose) (place who) (ap place t.0)) ∙ apart in cc
+pub other-refused : (w : ExactWorld) (who whose : Actor) (found : List ℕ) → (place whose == place who) ≡ false → TakesLine w who (own.Life whose found) (Ok (offer.Refused refusal.OtherActor)) w
+other-refused w who whose found apart = (λ events t. others t.0, λ same. others same, nothing-tried w w who refl)
+  where
+    others : whose ≡ who → ⊥
+    others same = let z : true ≡ false = sym (eq-eqb (place whose) (place who) (ap place same)) ∙ apart in cc
 
 pub same-life : (w v : ExactWorld) (who whose : Actor) (found : List ℕ) (r : Result Offer MergeFault) → (place whose == place who) ≡ true → TakesLine w who (own.Life who found) r v → TakesLine w who (own.Life whose found) r v
 same-life w v who whose found r same h = subst (λ a. TakesLine w who (own.Life a found) r v) (sym (places-apart whose who (eqb-true (place whose) (place who) same))) h
@@ -45,13 +51,18 @@ is-apart false h = refl
 
 -- a line that reads says nothing by the actor that it names
 
+why-anyone : (w : ExactWorld) (who whose : Actor) (frame : List ℕ) (why : Refusal) → IsReason w.ballots who (part w who) (own.Reads who frame) why → IsReason w.ballots who (part w who) (own.Reads whose frame) why
+why-anyone w who whose frame (refusal.Step f) h = h
+why-anyone w who whose frame refusal.OtherActor h = h
+why-anyone w who whose frame refusal.OtherRecord h = h
+
 pub reads-anyone : (w v : ExactWorld) (who whose : Actor) (frame : List ℕ) (r : Result Offer MergeFault) → TakesLine w who (own.Reads who frame) r v → TakesLine w who (own.Reads whose frame) r v
 reads-anyone w v who whose frame (Ok (offer.Took taken.Said)) h = h
 reads-anyone w v who whose frame (Ok (offer.Took (taken.Read k))) h = h
 reads-anyone w v who whose frame (Ok (offer.Took (taken.Rose true age))) h = h
 reads-anyone w v who whose frame (Ok (offer.Took (taken.Rose false age))) h = h
 reads-anyone w v who whose frame (Ok offer.Waits) h = h
-reads-anyone w v who whose frame (Ok (offer.Refused why)) h = h
+reads-anyone w v who whose frame (Ok (offer.Refused why)) h = (h.0, why-anyone w who whose frame why h.1, h.2)
 reads-anyone w v who whose frame (Err f) h = tt
 
 pub reads-as : (w v : ExactWorld) (who whose : Actor) (line : OwnLine) (frame : List ℕ) (r : Result Offer MergeFault) → line ≡ own.Reads whose frame → TakesLine w who (own.Reads who frame) r v → TakesLine w who line r v

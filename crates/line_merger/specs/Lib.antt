@@ -1,3 +1,4 @@
+pub mod Reasons
 pub mod Offers
 pub mod Lives
 pub mod Judging

@@ -1,5 +1,5 @@
 -- What comes of a line by which a life begins, step by step.
-use Rattle.std.specs.Prelude.{◌≡◌, ◌≢◌, ◌⊎◌, ℕ, Bool, true, false, List, Some, Result, Ok, Err, if◌then◌else◌}
+use Rattle.std.specs.Prelude.{◌≡◌, ◌≢◌, ◌⊎◌, ℕ, Bool, true, false, List, Some, None, Result, Ok, Err, if◌then◌else◌}
 use Rattle.lock_messages.specs.declared.ids.Actor.{Actor}
 use Rattle.world_model.specs.declared.events.Age.{Age}
 use Rattle.world_model.specs.declared.events.Age.TheVariants.{Old, New}
@@ -20,10 +20,10 @@ use Rattle.line_merger.specs.declared.offers.Offer.TheVariants as offer
 use Rattle.line_merger.specs.declared.offers.Refusal.TheVariants as refusal
 use Rattle.line_merger.specs.declared.offers.Taken.{Taken}
 
--- the actor has kept a record of these bytes, or not; there is no fault but want of memory, unless no life begins
+-- the actor has kept a record of these bytes, or not; there is no fault but want of memory, unless there is no such actor
 abbrev pub Finds : ExactWorld → Actor → List ℕ → Result Bool StepFault → Type 0
 Finds w who found (Ok old) = (old ≡ true → kept_record who (part w who) ≡ Some found) × (old ≡ false → kept_record who (part w who) ≢ Some found)
-Finds w who found (Err f) = (f ≡ step.Memory) ⊎ IsRefused w who (own.Life who found)
+Finds w who found (Err f) = (f ≡ step.Memory) ⊎ (IsRefused w who (own.Life who found) × (f ≡ step.UnknownActor) × (kept_record who (part w who) ≡ None))
 
 -- the actor fell, or it was down and nothing changed
 abbrev pub Fell : ExactWorld → Actor → Bool → ExactWorld → Type 0
@@ -50,7 +50,7 @@ fallen (Err step.NoSuchPlace) = Err step.NoSuchPlace
 
 abbrev pub Falls : ExactWorld → Actor → Result Bool StepFault → ExactWorld → Type 0
 Falls w who (Ok fell) u = Fell w who fell u
-Falls w who (Err f) u = (f ≡ step.Memory) ⊎ ((found : List ℕ) → IsRefused w who (own.Life who found))
+Falls w who (Err f) u = (f ≡ step.Memory) ⊎ (((found : List ℕ) → IsRefused w who (own.Life who found)) × (f ≡ step.UnknownActor) × (kept_record who (part w who) ≡ None) × (u ≡ w))
 
 abbrev pub age_if : Bool → Age
 age_if old = if old then Old else New

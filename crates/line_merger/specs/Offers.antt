@@ -1,7 +1,6 @@
 -- What comes of a line of an actor's own journal.
-use Rattle.std.specs.Prelude.{◌≡◌, ℕ, true, false, List, [], ◌∷◌, map, Option, Some, None, Result, Ok, Err}
+use Rattle.std.specs.Prelude.{◌≡◌, true, false, List, [], ◌∷◌, map, Option, Some, None, Result, Ok, Err}
 use Rattle.lock_messages.specs.declared.ids.Actor.{Actor}
-use Rattle.lock_messages.specs.declared.ids.Actor.TheVariants as actor
 use Rattle.world_model.specs.declared.events.Effect.{Effect}
 use Rattle.world_model.specs.declared.events.Event.{Event}
 use Rattle.world_model.specs.declared.events.Event.TheVariants as event
@@ -20,11 +19,7 @@ use Rattle.line_merger.specs.declared.offers.Offer.TheVariants as offer
 use Rattle.line_merger.specs.declared.offers.Refusal.TheVariants as refusal
 use Rattle.line_merger.specs.declared.offers.Taken.{Taken}
 use Rattle.line_merger.specs.declared.offers.Taken.TheVariants as taken
-
--- the event by which an actor reads the message of a number
-abbrev pub reading_by : Actor → ℕ → Event
-reading_by (actor.Node n) k = event.Take n k
-reading_by (actor.Client c) k = event.Hear c k
+use Rattle.line_merger.specs.Reasons.{reading_by, IsReason, IsUnsaid, IsAttempted}
 
 -- the event that a line says: a line that reads a message or begins a life says none
 abbrev pub said_in : OwnLine → List Event
@@ -40,12 +35,12 @@ events_of who line (taken.Rose true age) = event.Fall who ∷ event.Rise who age
 events_of who line (taken.Rose false age) = event.Rise who age ∷ []
 
 -- What came of a line of the actor is right: what it says happened, by these events, or nobody said yet what it reads and nothing
--- changed, or it says nothing that the actor could do.
+-- changed, or it says nothing that the actor could do, for this reason, and the actor changed by an attempt at most.
 abbrev pub TakesLine : ExactWorld → Actor → OwnLine → Result Offer MergeFault → ExactWorld → Type 0
 TakesLine w who line (Ok (offer.Took taken)) v =
     (events : List (Event × Effect)) × TellsLine w.ballots who (part w who) line events × IsHistory w events v × (map (λ q. q.0) events ≡ events_of who line taken)
-TakesLine w who line (Ok offer.Waits) v = (v ≡ w) × IsWaiting w who line
-TakesLine w who line (Ok (offer.Refused why)) v = IsRefused w who line
+TakesLine w who line (Ok offer.Waits) v = (v ≡ w) × IsWaiting w who line × IsUnsaid w.sent line
+TakesLine w who line (Ok (offer.Refused why)) v = IsRefused w who line × IsReason w.ballots who (part w who) line why × IsAttempted who w v
 TakesLine w who line (Err f) v = Unit {0}
 
 -- the line was not refused

@@ -3,7 +3,8 @@
 ghost use Rattle.std.specs.Prelude.{◌≡◌, ℕ, List};
 ghost use Rattle.own_journals.specs.declared.lines.OwnLine.TheVariants as own;
 ghost use Rattle.frame_numbers.specs.FrameNumbers.{HasFrame, IsIndexOf, Seen};
-ghost use Rattle.line_merger.specs.Offers.{TakesLine, TriesLine, reading_by};
+ghost use Rattle.line_merger.specs.Offers.{TakesLine, TriesLine};
+ghost use Rattle.line_merger.specs.Reasons.{reading_by};
 
 use crate::offers::{offered, tried};
 use crate::{MergeFault, Offer, Taken};

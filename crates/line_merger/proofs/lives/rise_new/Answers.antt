@@ -13,4 +13,4 @@ pub returns-in-Err : goal.returns-in-Err
 returns-in-Err g c = λ w fell apart.
     let refused = rw c.in-Err.is at c.step.ensures in
     subst (λ r. TakesLine w c.args.who.now (own.Life c.args.who.now c.args.found.now) r c.step.new.self) (sym c.refused.ensures)
-    (new-offered c.steps_change_one_part.ensures.changes c.steps_change_one_part.ensures.effects w c.args.actors.now c.step.new.self c.args.who.now c.args.found.now c.in-Err.fault c.args.fell c.room.ensures refused.0 fell apart)
+    (new-offered c.steps_change_one_part.ensures.own c.steps_change_one_part.ensures.list c.steps_change_one_part.ensures.changes c.steps_change_one_part.ensures.effects w c.args.actors.now c.step.new.self c.args.who.now c.args.found.now c.in-Err.fault c.args.fell c.room.ensures refused fell apart)
