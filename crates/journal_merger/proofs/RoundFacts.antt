@@ -23,8 +23,8 @@ use Rattle.journal_merger.specs.Merges.{IsTurn, IsTriedTurn, IsGoing, IsTryGoing
 
 pub turn-is : (w v : ExactWorld) (who : Actor) (line : OwnLine) (r : Result Offer MergeFault) → TakesLine w who line r v → IfOk (turn_of r) (λ t. IsTurn w who (Some line) t v)
 turn-is w v who line (Ok (offer.Took t)) h = record { line = line; next_is = refl; events = h.0; tells = h.1; history = h.2; are = h.3 }
-turn-is w v who line (Ok offer.Waits) h = (h.0, (line, refl, h.1))
-turn-is w v who line (Ok (offer.Refused why)) h = (line, refl, h.0)
+turn-is w v who line (Ok offer.Waits) h = (h.0, (line, refl, h.1), (line, refl, h.2))
+turn-is w v who line (Ok (offer.Refused why)) h = record { refuses = (line, refl, h.0); reason = (line, refl, h.1); attempted = h.2 }
 turn-is w v who line (Err full.Full) h = tt
 turn-is w v who line (Err full.Memory) h = tt
 
@@ -95,7 +95,7 @@ index-at q r s v is on h = h (subst IsGoing (sym is) on)
 
 pub more-waits : (w u v : ExactWorld) (pending : List Pending) (n : ℕ) (p : Pending) (q : Turn) (some : Bool) (s t : Seen) → SoFar w u pending n some s → slice_get pending n ≡ Some p → q ≡ turn.Waits → IsTurn u p.who p.next q v → (IsGoing q → IsIndexOf t v.sent) → SoFar w v pending (n + 1) true t
 more-waits w u v pending n p q some s t so at is h index =
-    let (same, waits) = turn-at w u v p q turn.Waits so.same is h in
+    let (same, waits, lacks) = turn-at w u v p q turn.Waits so.same is h in
     record { same = same; index = index-at q turn.Waits t v is tt index; idle = idle-more w pending n p at (inr waits) so.idle; waits = (n, p, at, waits) }
 
 pub more-ended : (w u v : ExactWorld) (pending : List Pending) (n : ℕ) (p : Pending) (q : Turn) (some : Bool) (s t : Seen) → SoFar w u pending n some s → slice_get pending n ≡ Some p → q ≡ turn.Ended → IsTurn u p.who p.next q v → (IsGoing q → IsIndexOf t v.sent) → SoFar w v pending (n + 1) some t

@@ -293,8 +293,8 @@ index-within u v old i t f is h =
 pub found-refused : RefusedHaveNoMerge → (w u v : ExactWorld) (first pending : List Pending) (told : List Pair) (i : ℕ) (why : Refusal) (f : Found) → Stands w first pending u told → f ≡ found.Refused i why → IsFound u pending f v →
     (journals : Journals) → AreLeft ⊥ first journals → HasMerge w journals → ⊥
 found-refused law w u v first pending told i why f s is h =
-    let (p, at, refuses) = subst (λ x. IsFound u pending x v) is h in
-    stands-refused law w u first pending told i p refuses.0 s at refuses.1 refuses.2
+    let (p, at, so) = subst (λ x. IsFound u pending x v) is h in
+    stands-refused law w u first pending told i p so.refuses.0 s at so.refuses.1 so.refuses.2
 
 pub found-stuck : WaitingHaveNoMerge → (w u v : ExactWorld) (first pending : List Pending) (told : List Pair) (f : Found) → Stands w first pending u told → f ≡ found.Stuck → IsFound u pending f v →
     (journals : Journals) → AreLeft ⊥ first journals → HasMerge w journals → ⊥

@@ -17,7 +17,9 @@ use Rattle.line_merger.specs.declared.offers.Offer.{Offer}
 use Rattle.line_merger.specs.declared.offers.Offer.TheVariants as offer
 use Rattle.line_merger.specs.declared.offers.Taken.{Taken}
 use Rattle.line_merger.specs.Offers.{events_of}
-use Rattle.journal_merger.specs.Pendings.{Pending, AreLeft, lines_of}
+use Rattle.line_merger.specs.Reasons.{IsReason, IsUnsaid, IsAttempted}
+use Rattle.line_merger.specs.declared.offers.Refusal.{Refusal}
+use Rattle.journal_merger.specs.Pendings.{Pending, AreLeft, ReadsNext, lines_of}
 use Rattle.journal_merger.specs.declared.faults.Failure.{Failure}
 use Rattle.journal_merger.specs.declared.faults.JournalsFault.{JournalsFault}
 use Rattle.journal_merger.specs.declared.faults.JournalsFault.TheVariants as fault
@@ -81,12 +83,26 @@ Waits w who next = (line : OwnLine) × (next ≡ Some line) × IsWaiting w who l
 abbrev pub Refuses : ExactWorld → Actor → Option OwnLine → Type 0
 Refuses w who next = (line : OwnLine) × (next ≡ Some line) × IsRefused w who line
 
+-- The next line reads a message, and nobody said it.
+abbrev pub Lacks : ExactWorld → Option OwnLine → Type 0
+Lacks w next = (line : OwnLine) × (next ≡ Some line) × IsUnsaid w.sent line
+
+-- This is why the next line of the actor is refused in this world.
+abbrev pub HasReason : ExactWorld → Actor → Option OwnLine → Refusal → Type 0
+HasReason w who next why = (line : OwnLine) × (next ≡ Some line) × IsReason w.ballots who (part w who) line why
+
+-- The next line of the actor is refused, for this reason, and the actor changed by an attempt at most.
+pub record RefusesFor (w : ExactWorld) (who : Actor) (next : Option OwnLine) (why : Refusal) (v : ExactWorld) : Type 0 where
+  pub refuses : Refuses w who next
+  pub reason : HasReason w who next why
+  pub attempted : IsAttempted who w v
+
 -- What came of an actor's turn. Only a line that is taken or refused may change the world.
 abbrev pub IsTurn : ExactWorld → Actor → Option OwnLine → Turn → ExactWorld → Type 0
 IsTurn w who next turn.Ended v = (v ≡ w) × (next ≡ None)
-IsTurn w who next turn.Waits v = (v ≡ w) × Waits w who next
+IsTurn w who next turn.Waits v = (v ≡ w) × Waits w who next × Lacks w next
 IsTurn w who next (turn.Took t) v = IsTaken w who next t v
-IsTurn w who next (turn.Refused why) v = Refuses w who next
+IsTurn w who next (turn.Refused why) v = RefusesFor w who next why v
 
 abbrev pub IsGoing : Turn → Type 0
 IsGoing turn.Ended = Unit {0}
@@ -135,7 +151,7 @@ OneWaits w pending count false = (i : ℕ) (p : Pending) → i < count → slice
 -- What was found in a round over all journals.
 abbrev pub IsFound : ExactWorld → List Pending → Found → ExactWorld → Type 0
 IsFound w pending (found.Took i t) v = (p : Pending) × (slice_get pending i ≡ Some p) × IsTaken w p.who p.next t v
-IsFound w pending (found.Refused i why) v = (p : Pending) × (slice_get pending i ≡ Some p) × Refuses w p.who p.next
+IsFound w pending (found.Refused i why) v = (p : Pending) × (slice_get pending i ≡ Some p) × RefusesFor w p.who p.next why v
 IsFound w pending found.Stuck v = AreIdle w pending (length pending) × OneWaits w pending (length pending) true
 IsFound w pending found.Merged v = (v ≡ w) × OneWaits w pending (length pending) false
 
@@ -163,3 +179,18 @@ Begins old new text (Err e) = AppendsBeginning old new text
 pub record Gathers {U E : Type 0} (old new : Option (List ℕ)) (had has text : List ℕ) (r : Result U E) : Type 0 where
   pub begins : Begins (with_gathered old had) (with_gathered new has) text r
   pub grows : Grows old new
+
+-- Why the next line of a journal is left, in the world in which it was offered: the refusal that is kept with it is why its actor
+-- refuses it there. If none is kept, there is no line, or nobody said what it reads.
+abbrev pub IsLeftFor : ExactWorld → Actor → Option OwnLine → Option Refusal → Type 0
+IsLeftFor w who next None = (next ≡ None) ⊎ (Waits w who next × Lacks w next)
+IsLeftFor w who next (Some why) = Refuses w who next × HasReason w who next why
+
+-- What comes of a journal whose next line is offered: it is taken, and the next one is read, or it is left.
+abbrev pub GoesAlone : ExactWorld → Pending → Bool → Pending → ExactWorld → Type 0
+GoesAlone w p true q v = (t : Taken) × IsTaken w p.who p.next t v × ReadsNext p.rest q.next q.rest × (q.refusal ≡ None)
+GoesAlone w p false q v = (q.next ≡ p.next) × (q.rest ≡ p.rest) × IsLeftFor w p.who q.next q.refusal × IsAttempted p.who w v
+
+-- A refusal that was kept stays, and its line is not taken.
+abbrev pub IsKept : Pending → Bool → Pending → Type 0
+IsKept p took q = (why : Refusal) → p.refusal ≡ Some why → (took ≡ false) × (q ≡ p)

@@ -13,6 +13,7 @@ use Rattle.world_model.specs.declared.events.Event.{Event}
 use Rattle.world_model.specs.declared.events.Event.TheVariants as event
 use Rattle.event_lines.specs.Events.{event_text}
 use Rattle.journal_merge.specs.LineMerges.{Journals}
+use Rattle.line_merger.specs.declared.offers.Refusal.{Refusal}
 use Rattle.line_merger.specs.declared.offers.Taken.{Taken}
 use Rattle.line_merger.specs.declared.offers.Taken.TheVariants as taken
 use Rattle.line_merger.specs.Offers.{said_in}
@@ -38,12 +39,14 @@ abbrev pub HasLines : Type 0 → Option (List ℕ) → List OwnLine → Type 0
 HasLines unknown None lines = unknown
 HasLines unknown (Some text) lines = AreTexts (whole_lines (pieces text)) lines
 
--- what is left of an actor's journal: the next line, if there is one, how many lines were read with it, and the text after it
+-- what is left of an actor's journal: the next line, if there is one, how many lines were read with it, the text after it, and
+-- why its actor refuses the next line, if that was found
 pub record Pending : Type 0 where
   pub who : Actor
   pub number : ℕ
   pub next : Option OwnLine
   pub rest : Option (List ℕ)
+  pub refusal : Option Refusal
 
 abbrev pub IsLeft : Type 0 → Option OwnLine → Option (List ℕ) → List OwnLine → Type 0
 IsLeft unknown None rest lines = lines ≡ []
@@ -116,10 +119,10 @@ is_others (Some l) who = not (place (owner l) == place who)
 abbrev pub Adds : List Pending → Option (List ℕ) → List Pending → Type 0
 Adds old text new = (p : Pending) × (new ≡ old ++ p ∷ []) × ReadsNext text p.next p.rest × (p.number ≡ 1) × ((l : OwnLine) × (p.next ≡ Some l) × (p.who ≡ owner l))
 
--- What is shown of the next line of the journal at an index, if it has one.
+-- What is shown of the next line of the journal at an index, if it has one: also why it is refused, if that was found.
 abbrev pub IsNextLine : List Pending → ℕ → Option LineLeft → Type 0
 IsNextLine pending i None = (p : Pending) → slice_get pending i ≡ Some p → p.next ≡ None
-IsNextLine pending i (Some left) = (p : Pending) × (slice_get pending i ≡ Some p) × (left.who ≡ p.who) × (left.number ≡ p.number) × (p.next ≡ Some left.line.now)
+IsNextLine pending i (Some left) = (p : Pending) × (slice_get pending i ≡ Some p) × (left.who ≡ p.who) × (left.number ≡ p.number) × (p.next ≡ Some left.line.now) × (left.refusal ≡ p.refusal)
 
 -- one line more was read, unless the count is at its end
 abbrev pub one_more : ℕ → ℕ

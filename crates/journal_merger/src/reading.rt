@@ -41,7 +41,7 @@ impl<R: Read> Model for OwnJournal<R> {
 
     ghost Value = { Pending };
 
-    ghost view = { λ j. record { who = j.who; number = j.number; next = j.next; rest = j.source } };
+    ghost view = { λ j. record { who = j.who; number = j.number; next = j.next; rest = j.source; refusal = j.refusal } };
 
     ghost invariant = { λ j. MaySpell j.spelled j.piece.items j.next };
 }
@@ -141,6 +141,7 @@ impl<R: Read> OwnJournal<R> {
     /// Reads the next line, in place of the one that was read before.
     pub(crate) fn advance(&mut self, alloc: Global) -> Result<(), JournalsFault>
         ensures who { self.new.who ≡ self.old.who }
+        ensures refusal { self.new.refusal ≡ self.old.refusal }
         ensures next { OnOk result (ReadsNext self.old.rest self.new.next self.new.rest) }
         ensures number { OnOk result (self.new.number ≡ one_more self.old.number) }
         ensures fault { IfErr result (λ f. IsMergeFault f) }

@@ -2,7 +2,7 @@
 
 ghost use Rattle.std.specs.Prelude.{◌≡◌, IfErr, IfOk};
 ghost use Rattle.frame_numbers.specs.FrameNumbers.{IsIndexOf};
-ghost use Rattle.journal_merger.specs.Merges.{IsMergeFault};
+ghost use Rattle.journal_merger.specs.Merges.{GoesAlone, IsKept, IsMergeFault};
 
 use crate::finding::{Turn, offer_next};
 use crate::merging::MAX_LINES;
@@ -14,8 +14,8 @@ use std::io::Read;
 use world_machine::Actors;
 
 impl<R: Read> OwnJournal<R> {
-    /// Takes the next line if it can be taken, and reads the one after it. Returns whether it was taken. A refusal is
-    /// noted, and the line is not offered again.
+    /// Takes the next line if it can be taken, and reads the one after it. Returns whether it was taken. Why it is refused
+    /// is kept, and the line is not offered again.
     fn go_on_alone(
         &mut self,
         alloc: Global,
@@ -24,6 +24,8 @@ impl<R: Read> OwnJournal<R> {
     ) -> Result<bool, JournalsFault>
         requires { IsIndexOf numbers.old world.old.sent }
         ensures who { self.new.who ≡ self.old.who }
+        ensures left { IfOk result (λ took. self.old.refusal ≡ None → GoesAlone world.old self.old took self.new world.new) }
+        ensures kept { IfOk result (λ took. IsKept self.old took self.new) }
         ensures index { IfOk result (λ _. IsIndexOf numbers.new world.new.sent) }
         ensures fault { IfErr result (λ f. IsMergeFault f) }
     {
