@@ -42,7 +42,7 @@ impl Arrivals {
             inlet: Inlet::of(alloc, secret, own),
             line: Vec::new(alloc),
             pauses,
-            sleep: pauses.first(),
+            sleep: pauses.first_after(Duration::ZERO),
             backlog: Backlog::new(alloc),
             timers: match own {
                 Actor::Node(_) => None,
@@ -62,7 +62,8 @@ impl Arrivals {
         if let (Some(timers), Some(limit)) = (&mut self.timers, &self.limit) {
             self.pauses = timers.begin(limit.times());
         }
-        self.sleep = self.pauses.first();
+        let waited = self.waited();
+        self.sleep = self.pauses.first_after(waited);
     }
 
     /// Something was sent to an actor.
@@ -114,7 +115,7 @@ impl Arrivals {
             && let Some(timers) = &mut self.timers
             && let Ok(message) = decode(parcel.frame.as_slice())
         {
-            timers.heard(message.node());
+            timers.heard(rt, message.node());
             if let Some(limit) = &self.limit {
                 limit.note_answer(rt, message.node());
             }
@@ -133,10 +134,27 @@ impl Arrivals {
         }
     }
 
-    /// Sleeps for longer than last time, but only until something is to be done.
+    /// For how long an awaited node has been awaited, if one is.
+    fn waited(&self) -> Duration {
+        match &self.timers {
+            Some(timers) => Duration::from_micros(timers.waited()),
+            None => Duration::ZERO,
+        }
+    }
+
+    /// How long it is until an awaited node may answer soon, if one is awaited.
+    fn early(&self) -> Duration {
+        match &self.timers {
+            Some(timers) => Duration::from_micros(timers.early()),
+            None => Duration::ZERO,
+        }
+    }
+
+    /// Sleeps for longer than last time, and until an awaited node may answer soon, but only until something is to be done.
     pub(crate) fn pause<R: Clock>(&mut self, rt: &R) {
-        thread::sleep(rt, self.left(rt).min(self.sleep));
-        self.sleep = self.pauses.after(self.sleep);
+        let early = self.early();
+        thread::sleep(rt, self.left(rt).min(self.sleep.max(early)));
+        self.sleep = self.pauses.after(self.sleep.max(self.pauses.first_after(early)));
     }
 
     /// Whether the client is to stop waiting.
@@ -156,7 +174,7 @@ impl Arrivals {
         if !is_over {
             return timers.due(rt);
         }
-        thread::sleep(rt, self.pauses.first());
+        thread::sleep(rt, self.pauses.first_after(Duration::ZERO));
         match timers.next_nudged() {
             Some(node) => Idle::Bring(Post::Nudge(node)),
             None => Idle::Sleep,

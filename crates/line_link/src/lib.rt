@@ -11,6 +11,7 @@
 //!   patient it is.
 //! - If every node has answered, it asks the one that was sent to last again after a longer while.
 //! - When its `Limit` is over it brings nudges, so that the client gives up. Without a limit it brings none.
+//! - It learns how long each node takes to answer, and sleeps for most of that time before it looks for an answer.
 //!
 //! A node's link only brings what comes. Before it brings a message it reads all that has come, and drops the messages of
 //! an attempt if the client has begun a later one. So a node that gets more than it can keep does no work for attempts that

@@ -6,6 +6,9 @@ use std::time::Duration;
 ///
 /// While nothing comes it sleeps for the least pause first, and each time longer by a 32nd. So a sleep is about a 32nd of
 /// the time since something came, but no longer than the longest. The other times are for a client's link alone.
+///
+/// A client's link learns how long each node takes to answer. It first sleeps for three quarters of that time, and then for
+/// about a 16th of the time that it has waited. So it looks a few times for an answer, however long the node takes.
 #[derive(Clone, Copy, Debug, PartialEq, Eq)]
 pub struct Pauses {
     /// The first sleep.
@@ -53,9 +56,11 @@ impl Pauses {
         pauses
     }
 
-    /// The first sleep.
-    pub(crate) fn first(&self) -> Duration {
-        Duration::from_micros(u64::from(self.least))
+    /// The first sleep if the link has waited for so long already.
+    pub(crate) fn first_after(&self, waited: Duration) -> Duration {
+        (waited / 16)
+            .max(Duration::from_micros(u64::from(self.least)))
+            .min(Duration::from_micros(u64::from(self.most)))
     }
 
     /// The sleep after this one.

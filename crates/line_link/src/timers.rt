@@ -30,6 +30,14 @@ enum Standing {
     Silent,
 }
 
+/// The earlier of two times, if the first is known.
+fn earlier(first: Option<u64>, second: u64) -> Option<u64> {
+    match first {
+        Some(first) => Some(first.min(second)),
+        None => Some(second),
+    }
+}
+
 /// What a link knows of its wait for a node, in microseconds of the clock.
 #[derive(Clone, Copy, Debug, PartialEq, Eq)]
 struct Timer {
@@ -39,17 +47,33 @@ struct Timer {
     last: u64,
     // How long after that it is put again.
     gap: u64,
+    // How long the node takes to answer: the least time of late, as far as that is known.
+    usual: u64,
 }
 
 impl Timer {
     /// A line is put for the first time.
     fn begin(&mut self, now: u64, pauses: &Pauses) {
-        *self = Timer {
-            standing: Standing::Awaited,
-            first: now,
-            last: now,
-            gap: u64::from(pauses.again),
-        };
+        self.standing = Standing::Awaited;
+        self.first = now;
+        self.last = now;
+        self.gap = u64::from(pauses.again);
+    }
+
+    /// A frame of the node has come. Only if its line was put once this tells how long the node takes.
+    fn end(&mut self, now: u64) {
+        if self.standing == Standing::Awaited && self.last == self.first {
+            let took = now.saturating_sub(self.first);
+            let longer = took.saturating_sub(self.usual) / 8;
+            self.usual = self.usual.saturating_add(longer).min(took);
+        }
+        self.standing = Standing::Heard;
+    }
+
+    /// How long it is until the node may answer soon: until three quarters of its usual time are over.
+    fn early(&self, now: u64) -> u64 {
+        let soon = (self.usual / 4).saturating_mul(3);
+        self.first.saturating_add(soon).saturating_sub(now)
     }
 
     /// How long ago the line was put last.
@@ -109,6 +133,7 @@ impl Timers {
             first: 0,
             last: 0,
             gap: 0,
+            usual: 0,
         };
         Timers {
             plain: pauses,
@@ -144,8 +169,33 @@ impl Timers {
     }
 
     /// A frame of a node has come.
-    pub(crate) fn heard(&mut self, node: NodeId) {
-        self.timer(node).standing = Standing::Heard;
+    pub(crate) fn heard<R: Clock>(&mut self, rt: &R, node: NodeId) {
+        self.read_clock(rt);
+        let now = self.now;
+        self.timer(node).end(now);
+    }
+
+    /// How long it is until one of the awaited nodes may answer soon, in microseconds, as the clock was read last. It is 0
+    /// if no node is awaited.
+    pub(crate) fn early(&self) -> u64 {
+        let mut early = None;
+        for timer in &self.timers {
+            if timer.standing == Standing::Awaited {
+                early = earlier(early, timer.early(self.now));
+            }
+        }
+        early.unwrap_or(0)
+    }
+
+    /// For how long one of the awaited nodes has been awaited, the last one, by the same. It is 0 if no node is awaited.
+    pub(crate) fn waited(&self) -> u64 {
+        let mut waited = None;
+        for timer in &self.timers {
+            if timer.standing == Standing::Awaited {
+                waited = earlier(waited, self.now.saturating_sub(timer.first));
+            }
+        }
+        waited.unwrap_or(0)
     }
 
     /// What is to be done now.

@@ -9,6 +9,8 @@ mod desks;
 #[cfg(test)]
 mod folders;
 #[cfg(test)]
+mod habits;
+#[cfg(test)]
 mod limits;
 #[cfg(test)]
 mod links;

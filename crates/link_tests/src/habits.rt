@@ -1,0 +1,58 @@
+//! A client's link learns how long a node takes to answer, and looks for the answer when it may come.
+
+use crate::desks::{Coming, Desk, Notes, Timed, coming_answer, parcel};
+use crate::places::{client, node};
+use crate::repeats::link_at;
+use lossy_link::{Link, Post};
+use std::alloc::Global;
+use std::sync::Wait;
+use test_outcomes::{Failure, Outcome, check_row, node_id};
+
+/// The node answers each 10 ms, for so many times.
+const ANSWERS: u64 = 40;
+
+const EACH: u64 = 10;
+
+/// The answers of the node, and another one a millisecond after the last.
+fn answers(alloc: Global) -> Result<Vec<Coming>, Failure> {
+    let mut coming = Vec::new(alloc);
+    for number in 1..=ANSWERS {
+        coming.push(coming_answer(alloc, number * EACH, node_id(1))?)?;
+    }
+    coming.push(coming_answer(alloc, ANSWERS * EACH + 1, node_id(1))?)?;
+    Ok(coming)
+}
+
+/// Sends something to the node and waits for its answer. Returns how often the link looked for it.
+fn looks<L: Link>(link: &mut L, alloc: Global, notes: &Notes) -> Result<u64, Failure> {
+    let before = notes.takes();
+    check_row(link.send(node(), parcel(alloc, b"ask")?).is_ok(), 1)?;
+    check_row(matches!(link.receive(), Ok(Post::Parcel(_))), 2)?;
+    Ok(notes.takes() - before)
+}
+
+/// At first the link sleeps for 0.05 ms, and each time longer by a 32nd: it looks more than 60 times until 10 ms are over.
+/// Once it has learned that the node takes 10 ms, it sleeps for some 7 ms, and then looks each half of a millisecond.
+fn learns<W: Wait + Copy>(wait: W, alloc: Global) -> Outcome {
+    let notes = Notes::new();
+    let rt = Timed {
+        wait,
+        notes: &notes,
+    };
+    let desk = Desk::of(alloc, &notes, answers(alloc)?, 1_000);
+    let mut link = link_at(rt, alloc, client(), desk, None);
+    check_row(looks(&mut link, alloc, &notes)? > 60, 3)?;
+    for _ in 2..ANSWERS {
+        looks(&mut link, alloc, &notes)?;
+    }
+    check_row(looks(&mut link, alloc, &notes)? < 10, 4)?;
+    check_row(notes.millis() == ANSWERS * EACH, 5)?;
+    // An answer that comes earlier than usual waits until the link looks for the first time.
+    check_row(looks(&mut link, alloc, &notes)? < 4, 6)?;
+    check_row(notes.millis() <= ANSWERS * EACH + 8, 7)
+}
+
+#[test]
+fn a_node_that_takes_as_long_each_time(rt: HostRuntime) -> Outcome {
+    learns(rt, rt.alloc())
+}
