@@ -154,7 +154,9 @@ impl Arrivals {
     pub(crate) fn pause<R: Clock>(&mut self, rt: &R) {
         let early = self.early();
         thread::sleep(rt, self.left(rt).min(self.sleep.max(early)));
-        self.sleep = self.pauses.after(self.sleep.max(self.pauses.first_after(early)));
+        self.sleep = self
+            .pauses
+            .after(self.sleep.max(self.pauses.first_after(early)));
     }
 
     /// Whether the client is to stop waiting.
