@@ -1,5 +1,6 @@
 -- What keeping and rising make of a node's part of the world.
-use Rattle.std.proofs.Common.{◌≡◌, ℕ, Bool, List, [], ◌∷◌, ◌++◌, None, refl, sym, ap, ◌∙◌, subst}
+use Rattle.std.proofs.Common.{◌≡◌, ◌+◌, ℕ, Bool, List, [], ◌∷◌, ◌++◌, None, refl, sym, ap, ◌∙◌, subst}
+use Rattle.lock_messages.specs.declared.ids.Actor.{Actor}
 use Rattle.lock_messages.specs.declared.ids.Actor.TheVariants as actor
 use Rattle.stable_record.specs.declared.node_records.NodeRecord.{NodeRecord}
 use Rattle.stable_record.specs.Records.{IsNodeRecord, node_record_of}
@@ -16,9 +17,14 @@ use Rattle.world_model.specs.Locality.{local_part}
 use Rattle.world_model.specs.Parts.{Part, NodePart, after_own}
 use Rattle.world_actors.specs.Nodes.{station_in}
 use Rattle.event_recorders.specs.OwnLogs.{OwnLog, part_now, FindsPart, IsAdded, kept_in, FindsItsOwn}
-use Rattle.node_loop.specs.Standing.{StandsBy, StandsIdle, FailsToKeep, IsReady}
-use Rattle.actor_steps.specs.Steps.{HasFound, IsRisenAgain}
+use Rattle.node_loop.specs.Standing.{as_opened, StandsBy, StandsIdle, FailsToKeep, IsReady, GoesOn}
+use Rattle.actor_steps.specs.Steps.{HasFailed, HasFound, IsRisenAgain}
+use Rattle.actor_steps.specs.Endings.{falls_of}
+use Rattle.actor_steps.proofs.EndFacts.{failures_stay, failures_rise, failures_on}
+use Rattle.actor_steps.proofs.SendingFacts.{keeping_sends_nothing, trying_sends_nothing, tried_sends_nothing}
 use Rattle.actor_steps.proofs.FindingFacts.{part_own}
+use Rattle.node_loop.proofs.OpeningFacts.{kept_opening, perhaps_opening, risen_opening}
+use Rattle.node_loop.proofs.UnsentFacts.{none_left, sent_before, rising_leaves, failing_leaves, memory_whole, silent_whole, failing_whole, whole_from}
 
 -- a restart of a node that is up finds just what it has kept
 pub stands_own : (s : State) (l : OwnLog) (v : Voter) (kept : NodeRecord) (strings : List (List ℕ)) (stuck : Bool) → StandsBy s l v kept strings stuck → FindsItsOwn (part_now l) strings
@@ -105,3 +111,17 @@ pub rises : (l l' : OwnLog) (n : ℕ) (kept r : NodeRecord) (found bytes : List 
 rises l l' n kept r found bytes strings strings' stuck v law ready added here read is core =
     let own : l'.actor ≡ actor.Node n = ap (λ (x : OwnLog). x.actor) added.log ∙ ready.unused.actor in
     stands_risen l' n found kept r v strings' stuck law own (first_up l l' n kept strings ready added) here (subst (λ (b : List ℕ). IsRecordOf b r) read is) core
+
+-- a keep that failed, and then the node fell
+pub fails_and_goes : (l m l' : OwnLog) (who : Actor) (strings : List (List ℕ)) (a b c : ℕ) → IsAdded l (event.Try who) effect.Tried m → falls_of m ≡ falls_of l → HasFailed 1 a b → GoesOn (falls_of m + 1) m l' strings b c → GoesOn (falls_of l) l l' strings a c
+fails_and_goes l m l' who strings a b c tried same failed goes = record {
+  opened = goes.opened ∙ ap as_opened tried.log;
+  falls = failures_on _ _ _ _ _ _ (failures_rise _ _ _ _ same failed) goes.falls;
+  own = goes.own;
+}
+
+-- what a keep comes to, tried, made or failed
+pub ruleset keeping = (kept_opening, perhaps_opening, keeping_sends_nothing, trying_sends_nothing, tried_sends_nothing, failures_stay, failures_rise, failures_on, none_left, sent_before, memory_whole, silent_whole, whole_from, part_own, stands_own)
+
+-- what a fall comes to, and the rising after it
+pub ruleset restarting = (risen_opening, perhaps_opening, failures_stay, rising_leaves, failing_leaves, memory_whole, failing_whole, part_own)

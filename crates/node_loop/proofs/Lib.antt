@@ -4,3 +4,4 @@ pub mod SwitchFacts
 mod EndFacts
 pub mod UnsentFacts
 pub mod OpeningFacts
+pub mod TurnFacts

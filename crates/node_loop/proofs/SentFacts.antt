@@ -19,6 +19,7 @@ use Rattle.event_recorders.specs.OwnLogs.{OwnLog, part_now, adds, IsAdded}
 use Rattle.actor_steps.specs.Steps.{HasRead, IsRisenAgain}
 use Rattle.node_loop.specs.Standing.{StandsBy}
 use Rattle.actor_steps.specs.Sendings.{sendings, sent_for, sent_of, SentFollows}
+use Rattle.node_loop.specs.Replies.{SendsNudge}
 use Rattle.actor_steps.proofs.SendingFacts.{sent_more, silent}
 
 pub read_sends_nothing : (l l' : OwnLog) (n k : ℕ) (m : Message) → HasRead l (event.Take n k) m l' → sent_of l' ≡ sent_of l
@@ -28,7 +29,7 @@ pub switch_sends_nothing : (l l' : OwnLog) (n : ℕ) (p : Problem) (done : Effec
 switch_sends_nothing l l' n p done added = silent l l' (event.Switch n p) done added refl
 
 -- a node that falls and rises has its nudge told
-pub rising_tells : (l l' : OwnLog) (n m : ℕ) (age : Age) → n ≡ m → IsRisenAgain l (actor.Node n) age l' → sent_of l' ≡ sent_of l ++ sending.Told (post.Nudge m) ∷ []
+pub rising_tells : (l l' : OwnLog) (n m : ℕ) (age : Age) → n ≡ m → IsRisenAgain l (actor.Node n) age l' → SendsNudge m l l'
 rising_tells l l' n m age same again =
     let fallen = adds l (event.Fall (actor.Node n)) effect.Down in
     silent fallen l' (event.Rise (actor.Node n) age) effect.Up again.risen refl
@@ -43,28 +44,27 @@ said_is_sent l v n first done strings stuck replies s same kind all =
     ap (λ k. sendings k (said_by l.ballots (event.Say n) (part_now l))) (sym kind)
     ∙ ap (sendings first) (ap (said_by l.ballots (event.Say n)) s.part ∙ sym all)
 
--- what was sent is what is said
-pub say_is_told : (l l' : OwnLog) (v : Voter) (n first : ℕ) (done : Effect) (strings : List (List ℕ)) (stuck : Bool) (replies : List Message) (given given' : Option (List Sending)) →
-    StandsBy (Stored (replies_in v.state)) l v (record_of v) strings stuck → n ≡ v.node → first ≡ number_of done → IsAdded l (event.Say n) done l' → replies ≡ replies_in v.state →
-    given' ≡ all_more given (sendings first replies) → SentFollows l l' given given'
-say_is_told l l' v n first done strings stuck replies given given' s same kind added all sent =
-    let so : sent_of l' ≡ sent_of l ++ sendings first replies =
-    sent_more l l' (event.Say n) done added ∙ ap (λ xs. sent_of l ++ xs) (said_is_sent l v n first done strings stuck replies s same kind all) in
-    record {
-      follows = λ before was. sent ∙ ap (λ g. all_more g (sendings first replies)) was ∙ more_and_more before (sent_of l) (sendings first replies) ∙ ap (all_more before) (sym so);
-    }
+-- all of it was given
+pub say_is_told : (l l' : OwnLog) (e : Event) (done : Effect) (all : List Sending) (given given' : Option (List Sending)) → IsAdded l e done l' → sent_for l.ballots e done (part_now l) ≡ all →
+    given' ≡ all_more given all → SentFollows l l' given given'
+say_is_told l l' e done all given given' added is sent = record {
+  follows = λ before was.
+      sent
+      ∙ ap (λ g. all_more g all) was
+      ∙ more_and_more before (sent_of l) all
+      ∙ ap (all_more before) (sym (sent_more l l' e done added ∙ ap (λ xs. sent_of l ++ xs) is));
+}
 
 -- a nudge that was told after a fall
-pub nudge_is_told : (l l' : OwnLog) (n : ℕ) (given given' : Option (List Sending)) → sent_of l' ≡ sent_of l ++ sending.Told (post.Nudge n) ∷ [] →
-    given' ≡ one_more given (sending.Told (post.Nudge n)) → SentFollows l l' given given'
-nudge_is_told l l' n given given' so told =
+pub nudge_follows : (l l' : OwnLog) (n k : ℕ) (given given' : Option (List Sending)) → SendsNudge n l l' → k ≡ n → given' ≡ one_more given (sending.Told (post.Nudge k)) → SentFollows l l' given given'
+nudge_follows l l' n k given given' so number told =
     let x = sending.Told (post.Nudge n) in
     record {
-      follows = λ before was. told ∙ one_is_more given x ∙ ap (λ g. all_more g (x ∷ [])) was ∙ more_and_more before (sent_of l) (x ∷ []) ∙ ap (all_more before) (sym so);
+      follows = λ before was.
+          told
+          ∙ ap (λ i. one_more given (sending.Told (post.Nudge i))) number
+          ∙ one_is_more given x
+          ∙ ap (λ g. all_more g (x ∷ [])) was
+          ∙ more_and_more before (sent_of l) (x ∷ [])
+          ∙ ap (all_more before) (sym so);
     }
-
--- a nudge that was told after a fall, behind what sent nothing
-pub nudge_follows : (l m l' : OwnLog) (n k : ℕ) (given given' : Option (List Sending)) → sent_of m ≡ sent_of l → sent_of l' ≡ sent_of m ++ sending.Told (post.Nudge n) ∷ [] → k ≡ n →
-    given' ≡ one_more given (sending.Told (post.Nudge k)) → SentFollows l l' given given'
-nudge_follows l m l' n k given given' same so number told =
-    nudge_is_told l l' n given given' (so ∙ ap (λ xs. xs ++ sending.Told (post.Nudge n) ∷ []) same) (told ∙ ap (λ x. one_more given (sending.Told (post.Nudge x))) number)

@@ -13,25 +13,24 @@ use Rattle.lossy_link.specs.declared.parcels.Sending.TheVariants as sending
 use Rattle.lossy_link.specs.Links.{one_more, all_more, refused_after, IsRefused}
 use Rattle.lossy_link.proofs.GivenFacts.{more_and_more, one_is_more, none_more}
 use Rattle.stable_record.specs.declared.node_records.NodeRecord.{NodeRecord}
-use Rattle.voter_core.specs.Voters.{Voter, Stored, record_of, replies_in}
+use Rattle.voter_core.specs.Voters.{Voter}
 use Rattle.world_model.specs.declared.events.Age.{Age}
 use Rattle.world_model.specs.declared.events.Effect.{Effect}
 use Rattle.world_model.specs.declared.events.Effect.TheVariants as effect
 use Rattle.world_model.specs.declared.events.Event.{Event}
 use Rattle.world_model.specs.declared.events.Event.TheVariants as event
 use Rattle.world_model.specs.Locality.{local_part}
-use Rattle.world_model.specs.Parts.{Part, after_own, number_of}
+use Rattle.world_model.specs.Parts.{Part, after_own}
 use Rattle.event_recorders.specs.declared.faults.RunFault.{RunFault}
 use Rattle.event_recorders.specs.declared.faults.RunFault.TheVariants as fault
 use Rattle.event_recorders.specs.OwnLogs.{OwnLog, part_now, adds, IsAdded}
 use Rattle.actor_steps.specs.Endings.{IsDown}
 use Rattle.actor_steps.specs.Steps.{IsRisenAgain}
-use Rattle.node_loop.specs.Standing.{StandsBy, FailsToKeep}
+use Rattle.node_loop.specs.Standing.{FailsToKeep}
 use Rattle.lock_messages.specs.Messages.{addressee}
 use Rattle.actor_steps.specs.Sendings.{sendings, sent_for, sent_of, SentFollows}
 use Rattle.node_loop.specs.Unsent.{latest, last_by, last_sent, HasGiven, GivesSome, HasSent, IsWhole, SentAsFar, ToldAsFar, TellsGone, HasGone}
-use Rattle.node_loop.proofs.SentFacts.{said_is_sent}
-use Rattle.actor_steps.proofs.SendingFacts.{sent_more, trying_sends_nothing}
+use Rattle.actor_steps.proofs.SendingFacts.{sent_more}
 
 latest_of_none : {X : Type 0} (xs : List X) → latest [] xs ≡ xs
 latest_of_none [] = refl
@@ -60,7 +59,7 @@ none_left l l' same = record { begun = last_sent l'; left = []; all = same ∙ s
 
 -- where the log before tells nothing more than another one, what was sent by that was sent by this
 pub sent_before : (l m l' : OwnLog) → sent_of m ≡ sent_of l → HasSent l' (sent_of m) → HasSent l' (sent_of l)
-sent_before l m l' same far = record { begun = far.begun; left = far.left; all = far.all ∙ ap (λ xs. xs ++ far.left) same; last = far.last }
+sent_before l m l' same far = subst (HasSent l') same far
 
 -- an event that sends nothing leaves as much unsent
 silent_stays : (l l' : OwnLog) (e : Event) (done : Effect) (sent : List Sending) → IsAdded l e done l' → sent_for l.ballots e done (part_now l) ≡ [] → HasSent l sent → HasSent l' sent
@@ -70,11 +69,6 @@ silent_stays l l' e done sent added nothing far = record {
   all = sent_more l l' e done added ∙ ap (λ xs. sent_of l ++ xs) nothing ∙ append-nil (sent_of l) ∙ far.all;
   last = last_more l l' e done added ∙ ap (latest (last_sent l)) nothing ∙ far.last;
 }
-
--- a keep that is refused leaves nothing unsent, whether it was tried or not
-pub trying_leaves : (l l' : OwnLog) (who : Actor) → (l' ≡ l) ⊎ IsAdded l (event.Try who) effect.Tried l' → HasSent l' (sent_of l)
-trying_leaves l l' who (inl same) = none_left l l' (ap sent_of same)
-trying_leaves l l' who (inr added) = none_left l l' (trying_sends_nothing l l' who added)
 
 -- a node that has fallen has not told its nudge yet
 pub falling_leaves : (l l' : OwnLog) (n : ℕ) → IsAdded l (event.Fall (actor.Node n)) effect.Down l' → HasSent l' (sent_of l)
@@ -105,11 +99,6 @@ memory_whole l sent = λ other up. absurd (other refl)
 pub silent_whole : (f : RunFault) (l l' : OwnLog) → sent_of l' ≡ sent_of l → IsWhole f l' (sent_of l)
 silent_whole f l l' same = λ other up. same
 
--- a keep that is refused, whether it was tried or not
-pub trying_whole : (f : RunFault) (l l' : OwnLog) (who : Actor) → (l' ≡ l) ⊎ IsAdded l (event.Try who) effect.Tried l' → IsWhole f l' (sent_of l)
-trying_whole f l l' who (inl same) = silent_whole f l l' (ap sent_of same)
-trying_whole f l l' who (inr added) = silent_whole f l l' (trying_sends_nothing l l' who added)
-
 -- a node that could not rise, or not even fall
 pub failing_whole : (f : RunFault) (l l' : OwnLog) (n : ℕ) (v : Voter) (before : NodeRecord) (tried : List ℕ) (strings : List (List ℕ)) → FailsToKeep l v before tried strings →
     (l' ≡ l) ⊎ IsAdded l (event.Fall (actor.Node n)) effect.Down l' → IsWhole f l' (sent_of l)
@@ -120,25 +109,22 @@ failing_whole f l l' n v before tried strings is (inr added) =
 pub whole_from : (f : RunFault) (l m l' : OwnLog) → sent_of m ≡ sent_of l → IsWhole f l' (sent_of m) → IsWhole f l' (sent_of l)
 whole_from f l m l' same whole = subst (IsWhole f l') same whole
 
--- what was sent of what the node says
-pub said_as_far : (l l' : OwnLog) (v : Voter) (n first : ℕ) (done : Effect) (strings : List (List ℕ)) (stuck : Bool) (replies : List Message) (given given' : Option (List Sending)) →
-    StandsBy (Stored (replies_in v.state)) l v (record_of v) strings stuck → n ≡ v.node → first ≡ number_of done → IsAdded l (event.Say n) done l' → replies ≡ replies_in v.state →
-    GivesSome (sendings first replies) given given' → SentAsFar fault.Memory l l' given given'
-said_as_far l l' v n first done strings stuck replies given given' s same kind added all some =
-    let xs = sendings first replies in
-    let left = some.0 in
-    let is = said_is_sent l v n first done strings stuck replies s same kind all in
-    let last = ends_last (last_sent l) xs some.1.begun left some.1.whole in
+-- what was sent of what an event sends
+pub said_as_far : (l l' : OwnLog) (e : Event) (done : Effect) (all : List Sending) (given given' : Option (List Sending)) → IsAdded l e done l' → sent_for l.ballots e done (part_now l) ≡ all →
+    GivesSome all given given' → SentAsFar fault.Memory l l' given given'
+said_as_far l l' e done all given given' added is some =
+    let begun = some.1.begun in
+    let last = ends_last (last_sent l) all begun some.0 some.1.whole in
     record {
-      sent = sent_of l ++ some.1.begun;
+      sent = sent_of l ++ begun;
       far = record {
         begun = last.0;
-        left = left;
-        all = sent_more l l' (event.Say n) done added ∙ ap (λ ys. sent_of l ++ ys) (is ∙ some.1.whole) ∙ sym (append_assoc (sent_of l) some.1.begun left);
-        last = last_more l l' (event.Say n) done added ∙ ap (latest (last_sent l)) is ∙ last.1;
+        left = some.0;
+        all = sent_more l l' e done added ∙ ap (λ xs. sent_of l ++ xs) (is ∙ some.1.whole) ∙ sym (append_assoc (sent_of l) begun some.0);
+        last = last_more l l' e done added ∙ ap (latest (last_sent l)) is ∙ last.1;
       };
-      whole = memory_whole l' (sent_of l ++ some.1.begun);
-      follows = λ before was. some.1.now ∙ ap (λ g. all_more g some.1.begun) was ∙ more_and_more before (sent_of l) some.1.begun;
+      whole = memory_whole l' (sent_of l ++ begun);
+      follows = λ before was. some.1.now ∙ ap (λ g. all_more g begun) was ∙ more_and_more before (sent_of l) begun;
     }
 
 -- where an answer fails, it is for want of memory
@@ -150,15 +136,14 @@ fails_for_memory (Err f) Given P memory given then = subst P (sym memory) (then 
 pub nothing_given : (f : RunFault) (l l' : OwnLog) (given given' : Option (List Sending)) → given' ≡ given → HasSent l' (sent_of l) → IsWhole f l' (sent_of l) → SentAsFar f l l' given given'
 nothing_given f l l' given given' same far whole = record { sent = sent_of l; far = far; whole = whole; follows = λ before was. same ∙ was }
 
+-- nor told
+pub silent_far : (f : RunFault) (l l' : OwnLog) (given given' : Option (List Sending)) → given' ≡ given → sent_of l' ≡ sent_of l → SentAsFar f l l' given given'
+silent_far f l l' given given' same silent = nothing_given f l l' given given' same (none_left l l' silent) (silent_whole f l l' silent)
+
 -- one after the other
 pub far_on : (f : RunFault) (l m l' : OwnLog) (given between given' : Option (List Sending)) → SentFollows l m given between → SentAsFar f m l' between given' → SentAsFar f l l' given given'
 far_on f l m l' given between given' first second =
     record { sent = second.sent; far = second.far; whole = second.whole; follows = λ before was. second.follows before (first.follows before was) }
-
--- behind a log that tells nothing more
-pub far_from : (f : RunFault) (l m l' : OwnLog) (given given' : Option (List Sending)) → sent_of m ≡ sent_of l → SentAsFar f m l' given given' → SentAsFar f l l' given given'
-far_from f l m l' given given' same later =
-    record { sent = later.sent; far = later.far; whole = later.whole; follows = λ before was. later.follows before (was ∙ ap (all_more before) (sym same)) }
 
 -- on top of what was there before a log that tells nothing
 pub told_far : (f : RunFault) (l l' : OwnLog) (given given' : Option (List Sending)) → sent_of l ≡ [] → SentAsFar f l l' given given' → ToldAsFar f l' given given'
@@ -167,8 +152,7 @@ told_far f l l' given given' nothing later =
 
 -- a log that tells nothing
 pub none_told : (f : RunFault) (l : OwnLog) (given : Option (List Sending)) → sent_of l ≡ [] → ToldAsFar f l given given
-none_told f l given nothing =
-    record { sent = []; far = record { begun = last_sent l; left = []; all = nothing; last = sym (append-nil (last_sent l)) }; whole = λ other up. nothing; now = sym (none_more given) }
+none_told f l given nothing = told_far f l l given given nothing (silent_far f l l given given refl refl)
 
 -- nothing was begun yet
 pub none_given : (all : List Sending) (given : Option (List Sending)) → HasGiven all all given given

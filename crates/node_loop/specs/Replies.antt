@@ -7,7 +7,15 @@ use Rattle.actor_steps.specs.declared.keeping.Keeping.{Keeping}
 use Rattle.actor_steps.specs.declared.keeping.Keeping.TheVariants as keeping
 pub use Rattle.actor_steps.specs.Sendings.{sendings, sent_for, sent_of, SentFollows}
 
+-- what the log tells since sends nothing
+abbrev pub SendsNothing : OwnLog → OwnLog → Type 0
+SendsNothing l l' = sent_of l' ≡ sent_of l
+
+-- It sends the nudge of the node, to every client, and nothing else.
+abbrev pub SendsNudge : ℕ → OwnLog → OwnLog → Type 0
+SendsNudge n l l' = sent_of l' ≡ sent_of l ++ sending.Told (post.Nudge n) ∷ []
+
 -- what the node's log tells of a keep: nothing is sent; or, where it failed, the nudge of the node
 abbrev pub IsSentIn : Keeping → ℕ → OwnLog → OwnLog → Type 0
-IsSentIn keeping.Kept n l l' = sent_of l' ≡ sent_of l
-IsSentIn keeping.Failed n l l' = sent_of l' ≡ sent_of l ++ sending.Told (post.Nudge n) ∷ []
+IsSentIn keeping.Kept n l l' = SendsNothing l l'
+IsSentIn keeping.Failed n l l' = SendsNudge n l l'

@@ -1,7 +1,8 @@
 -- A node's core beside the node's own log and its record.
-use Rattle.std.specs.Prelude.{◌≡◌, ℕ, ◌⊎◌, Bool, true, false, List, [], ◌∷◌, Option, Some, None}
+use Rattle.std.specs.Prelude.{◌≡◌, ◌≢◌, ℕ, ◌⊎◌, Bool, true, false, List, [], ◌∷◌, Option, Some, None}
 use Rattle.lock_messages.specs.declared.ids.Actor.TheVariants as actor
 use Rattle.lock_model.specs.declared.problems.Problem.{Problem}
+use Rattle.admission_policy.specs.Policies.{problem_number}
 use Rattle.stable_record.specs.declared.node_records.NodeRecord.{NodeRecord}
 use Rattle.stable_record.specs.Records.{IsNodeRecord, node_record_of}
 use Rattle.voter_core.specs.Voters.{Voter, State, Idle, Decided, Stored, record_of, replies_in}
@@ -11,11 +12,12 @@ use Rattle.world_model.specs.declared.exact.ExactNodePhase.TheVariants as node
 use Rattle.world_model.specs.Openings.{down_node}
 use Rattle.world_model.specs.Parts.{Part, NoPart, NodePart, ClientPart}
 use Rattle.world_actors.specs.Nodes.{station_in, phase_of}
-use Rattle.event_recorders.specs.OwnLogs.{OwnLog, part_now, FindsPart, IsAdded, IsUnused}
+use Rattle.event_recorders.specs.OwnLogs.{OwnLog, part_now, FindsPart, FindsItsOwn, IsAdded, IsUnused}
 use Rattle.lossy_link.specs.declared.parcels.Post.{Post}
 use Rattle.event_recorders.specs.declared.faults.RunFault.{RunFault}
 use Rattle.event_recorders.specs.declared.faults.RunFault.TheVariants as run
 use Rattle.actor_steps.specs.Steps.{IsRiseFault}
+use Rattle.actor_steps.specs.Endings.{falls_of, FailuresFollow, EndsFrom}
 use Rattle.actor_steps.specs.declared.keeping.Keeping.{Keeping}
 use Rattle.actor_steps.specs.declared.keeping.Keeping.TheVariants as keeping
 
@@ -42,6 +44,10 @@ StandsIdle l core strings stuck = StandsBy Idle l core (record_of core) strings 
 abbrev pub HasTaken : Bool → OwnLog → Voter → NodeRecord → List (List ℕ) → Bool → Type 0
 HasTaken true l core before strings stuck = StandsBy (Decided (replies_in core.state)) l core before strings stuck
 HasTaken false l core before strings stuck = StandsBy (Stored (replies_in core.state)) l core (record_of core) strings stuck
+
+-- no problem has this number
+abbrev pub IsNoProblem : ℕ → Type 0
+IsNoProblem number = (p : Problem) → problem_number p ≢ number
 
 -- The node has logged that it takes this problem, as one event of this kind, and has taken it.
 pub record HasSwitched (p : Problem) (changed : Bool) (l l' : OwnLog) (core : Voter) (before : NodeRecord) (strings : List (List ℕ)) (stuck : Bool) : Type 0 where
@@ -70,6 +76,25 @@ pub record IsReady (l : OwnLog) (n : ℕ) (kept : NodeRecord) (strings : List (L
   pub good : IsNodeRecord kept
   pub finds : strings ≡ node_record_of kept ∷ []
 
+-- The node's core and its log are as before.
+pub record IsUnchanged (v v' : Voter) (l l' : OwnLog) : Type 0 where
+  pub core : v' ≡ v
+  pub log : l' ≡ l
+
+-- The node stays up: its log goes on from the same opening and tells no fall, and a restart finds in the record nothing but what the
+-- node has kept and what it tries to keep.
+pub record StaysUp (l l' : OwnLog) (strings : List (List ℕ)) : Type 0 where
+  pub opened : as_opened l' ≡ as_opened l
+  pub falls : falls_of l' ≡ falls_of l
+  pub own : FindsItsOwn (part_now l') strings
+
+-- The node goes on: its log goes on from the same opening, and a restart finds in the record nothing but what the node has kept and
+-- what it tries to keep. If its device had failed this often before, since whatever moment, it has failed for each fall since then.
+pub record GoesOn (failed : ℕ) (l l' : OwnLog) (strings : List (List ℕ)) (before now : ℕ) : Type 0 where
+  pub opened : as_opened l' ≡ as_opened l
+  pub falls : FailuresFollow failed (falls_of l') before now
+  pub own : FindsItsOwn (part_now l') strings
+
 -- The node is up and about nothing, with nothing tried: all that it took since it last rose it has answered.
 abbrev pub IsIdleNode : Part → Type 0
 IsIdleNode NoPart = ⊥
@@ -79,6 +104,11 @@ IsIdleNode (ClientPart k) = ⊥
 -- the faults by which a node ends: 911, 914, 915 and 916
 abbrev pub IsNodeFault : RunFault → Type 0
 IsNodeFault f = (f ≡ run.Spent) ⊎ IsRiseFault f
+
+-- It ends by one of these faults, and its log and its record tell the cause.
+pub record EndsWithCause (f : RunFault) (failed : ℕ) (l : OwnLog) (stuck spent : Bool) (before now : ℕ) : Type 0 where
+  pub which : IsNodeFault f
+  pub cause : EndsFrom f failed l stuck spent before now
 
 -- where it is known what a link brings, it brings nothing more
 abbrev pub IsAtEnd : Option (List Post) → Type 0

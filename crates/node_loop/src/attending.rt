@@ -1,21 +1,19 @@
 // A node's turn: from a post to the replies.
 
-ghost use Rattle.std.specs.Prelude.{◌≡◌, ◌≢◌, true, [], ◌∷◌, ◌++◌, ◌+◌, IfOk, IfErr, IfSome, IfNone, IsOk, OnOk, OnErr, IsOkUnless};
+ghost use Rattle.std.specs.Prelude.{◌≡◌, ◌+◌, true, IfOk, IfErr, IfSome, IfNone, OnOk, OnErr, IsOkUnless};
 ghost use Rattle.lock_messages.specs.Messages.{is_for_node};
-ghost use Rattle.lock_model.specs.declared.problems.Problem.{Problem as ProblemValue};
 ghost use Rattle.admission_policy.specs.Policies.{problem_number};
 ghost use Rattle.stable_record.specs.declared.node_records.NodeRecord.{NodeRecord};
-ghost use Rattle.voter_core.specs.Voters.{Idle, Decided, Stored, record_of, replies_in};
+ghost use Rattle.voter_core.specs.Voters.{Decided, Stored, record_of, replies_in};
 ghost use Rattle.lossy_link.specs.Links.{one_more};
 ghost use Rattle.lossy_link.specs.declared.parcels.Post.{Post as PostValue};
 ghost use Rattle.lossy_link.specs.declared.parcels.Sending.{Sending as SendingValue};
-ghost use Rattle.node_loop.specs.Replies.{sent_of, SentFollows, IsSentIn};
-ghost use Rattle.node_loop.specs.Unsent.{HasSent, IsWhole, SentAsFar};
-ghost use Rattle.node_loop.specs.Turns.{moment, Turns};
-ghost use Rattle.node_loop.specs.Standing.{as_opened, StandsBy, StandsIdle, HasTaken, HasSwitched, HasKept, FailsToKeep, IsNodeFault};
+ghost use Rattle.node_loop.specs.Replies.{sent_of, SendsNothing, SendsNudge, IsSentIn};
+ghost use Rattle.node_loop.specs.Unsent.{HasSent, IsWhole};
+ghost use Rattle.node_loop.specs.Turns.{moment, Turns, Drops};
+ghost use Rattle.node_loop.specs.Standing.{IsUnchanged, StandsBy, StandsIdle, StaysUp, GoesOn, HasTaken, HasSwitched, HasKept, FailsToKeep, IsNoProblem, EndsWithCause};
 ghost use Rattle.actor_steps.specs.Steps.{IsBookFault};
-ghost use Rattle.actor_steps.specs.Endings.{falls_of, FailuresFollow, EndsFrom};
-ghost use Rattle.event_recorders.specs.OwnLogs.{FindsItsOwn, part_now};
+ghost use Rattle.actor_steps.specs.Endings.{falls_of};
 
 use crate::replies::send_all;
 use actor_steps::{Keeping, keep_next, log_plain, log_reading, log_switch, rise_again};
@@ -33,7 +31,7 @@ use world_model::Event;
 
 /// Takes the message that came under this number, as the log has it, and returns whether it changes the node's record.
 /// `None`: the log knows no message of the number to the node.
-#[tactic(auto, using(crate::proofs::OpeningFacts::read_opening, crate::proofs::SentFacts::read_sends_nothing, actor_steps::proofs::FindingFacts::part_own, actor_steps::proofs::ReadingFacts::read_took))]
+#[tactic(auto, using(crate::proofs::OpeningFacts::staying_up, crate::proofs::SentFacts::read_sends_nothing, actor_steps::proofs::ReadingFacts::read_took))]
 fn take<R: Recorder>(
     number: u32,
     message: &Message,
@@ -43,13 +41,11 @@ fn take<R: Recorder>(
 ) -> Result<Option<bool>, RunFault>
     requires stands { StandsIdle (R.own_log recorder.old) core.old (finds stable.now) (stuck_of stable.now) }
     requires addressed { is_for_node message.now core.old.node ≡ true }
-    ensures dropped { IfOk result (λ o. IfNone o ((core.new ≡ core.old) × (R.own_log recorder.new ≡ R.own_log recorder.old))) }
+    ensures dropped { IfOk result (λ o. IfNone o (IsUnchanged core.old core.new (R.own_log recorder.old) (R.own_log recorder.new))) }
     ensures taken { IfOk result (λ o. IfSome o (λ changed. HasTaken changed (R.own_log recorder.new) core.new (record_of core.old) (finds stable.now) (stuck_of stable.now))) }
-    ensures silent { sent_of (R.own_log recorder.new) ≡ sent_of (R.own_log recorder.old) }
-    ensures own { FindsItsOwn (part_now (R.own_log recorder.new)) (finds stable.now) }
-    ensures opened { as_opened (R.own_log recorder.new) ≡ as_opened (R.own_log recorder.old) }
+    ensures silent { SendsNothing (R.own_log recorder.old) (R.own_log recorder.new) }
+    ensures up { StaysUp (R.own_log recorder.old) (R.own_log recorder.new) (finds stable.now) }
     ensures faults { IfErr result IsBookFault }
-    ensures falls { falls_of (R.own_log recorder.new) ≡ falls_of (R.own_log recorder.old) }
 {
     let event = Event::Take(core.node(), number);
     let Some(message) = log_reading(recorder, event, message, stable)? else {
@@ -65,7 +61,7 @@ fn take<R: Recorder>(
 /// The problem with this number, 1 or 2; `None` exactly where no problem has it.
 fn problem_numbered(number: u8) -> Option<Problem>
     ensures numbered { IfSome result (λ problem. problem_number problem ≡ number) }
-    ensures none { IfNone result ((problem : ProblemValue) → problem_number problem ≢ number) }
+    ensures none { IfNone result (IsNoProblem number) }
 {
     match number {
         1 => Some(Problem::First),
@@ -75,7 +71,7 @@ fn problem_numbered(number: u8) -> Option<Problem>
 }
 
 /// Takes this problem from now on, and answers whether it is another one, which changes the node's record.
-#[tactic(auto, using(crate::proofs::OpeningFacts::added_opening, crate::proofs::SentFacts::switch_sends_nothing, actor_steps::proofs::FindingFacts::part_own))]
+#[tactic(auto, using(crate::proofs::OpeningFacts::staying_up, crate::proofs::SentFacts::switch_sends_nothing))]
 fn switch<R: Recorder>(
     problem: Problem,
     core: &mut NodeCore,
@@ -84,11 +80,9 @@ fn switch<R: Recorder>(
 ) -> Result<bool, RunFault>
     requires { StandsIdle (R.own_log recorder.old) core.old (finds stable.now) (stuck_of stable.now) }
     ensures switched { IfOk result (λ changed. HasSwitched problem changed (R.own_log recorder.old) (R.own_log recorder.new) core.new (record_of core.old) (finds stable.now) (stuck_of stable.now)) }
-    ensures silent { sent_of (R.own_log recorder.new) ≡ sent_of (R.own_log recorder.old) }
-    ensures own { FindsItsOwn (part_now (R.own_log recorder.new)) (finds stable.now) }
-    ensures opened { as_opened (R.own_log recorder.new) ≡ as_opened (R.own_log recorder.old) }
+    ensures silent { SendsNothing (R.own_log recorder.old) (R.own_log recorder.new) }
+    ensures up { StaysUp (R.own_log recorder.old) (R.own_log recorder.new) (finds stable.now) }
     ensures faults { IfErr result IsBookFault }
-    ensures falls { falls_of (R.own_log recorder.new) ≡ falls_of (R.own_log recorder.old) }
 {
     log_switch(recorder, core.node(), problem, stable)?;
     switch_is_allowed();
@@ -101,7 +95,7 @@ fn switch<R: Recorder>(
 
 /// Keeps what the node decided. Where the record's device fails, the node falls and rises again with
 /// what is found.
-#[tactic(auto, using(crate::proofs::OpeningFacts::kept_opening, crate::proofs::OpeningFacts::perhaps_opening, actor_steps::proofs::SendingFacts::keeping_sends_nothing, actor_steps::proofs::SendingFacts::trying_sends_nothing, actor_steps::proofs::EndFacts::failures_stay, actor_steps::proofs::EndFacts::failures_rise, actor_steps::proofs::EndFacts::failures_on, crate::proofs::UnsentFacts::none_left, crate::proofs::UnsentFacts::trying_leaves, crate::proofs::UnsentFacts::sent_before, actor_steps::proofs::FindingFacts::part_own, crate::proofs::KeepFacts::stands_own, crate::proofs::UnsentFacts::memory_whole, crate::proofs::UnsentFacts::silent_whole, crate::proofs::UnsentFacts::trying_whole, crate::proofs::UnsentFacts::whole_from))]
+#[tactic(auto, using(crate::proofs::KeepFacts::keeping))]
 fn keep<R: Recorder, G: Gate>(
     alloc: Global,
     core: &mut NodeCore,
@@ -114,11 +108,8 @@ fn keep<R: Recorder, G: Gate>(
     ensures unsent { HasSent (R.own_log recorder.new) (sent_of (R.own_log recorder.old)) }
     ensures whole { IfErr result (λ f. IsWhole f (R.own_log recorder.new) (sent_of (R.own_log recorder.old))) }
     ensures kept { IfOk result (λ keeping. HasKept keeping (R.own_log recorder.new) core.new (finds stable.new) (stuck_of stable.new)) }
-    ensures own { FindsItsOwn (part_now (R.own_log recorder.new)) (finds stable.new) }
-    ensures opened { as_opened (R.own_log recorder.new) ≡ as_opened (R.own_log recorder.old) }
-    ensures faults { IfErr result IsNodeFault }
-    ensures ended { IfErr result (λ fault. EndsFrom fault (falls_of (R.own_log recorder.old)) (R.own_log recorder.new) (stuck_of stable.new) (spent_of stable.new) (failures_of stable.old) (failures_of stable.new)) }
-    ensures falls { FailuresFollow (falls_of (R.own_log recorder.old)) (falls_of (R.own_log recorder.new)) (failures_of stable.old) (failures_of stable.new) }
+    ensures goes { GoesOn (falls_of (R.own_log recorder.old)) (R.own_log recorder.old) (R.own_log recorder.new) (finds stable.new) (failures_of stable.old) (failures_of stable.new) }
+    ensures ended { IfErr result (λ f. EndsWithCause f (falls_of (R.own_log recorder.old)) (R.own_log recorder.new) (stuck_of stable.new) (spent_of stable.new) (failures_of stable.old) (failures_of stable.new)) }
 {
     let Ok(bytes) = core.next_bytes(alloc) else {
         return Err(RunFault::Memory);
@@ -140,7 +131,7 @@ fn keep<R: Recorder, G: Gate>(
 }
 
 /// The node falls, and rises again with what its record is found to be.
-#[tactic(auto, using(crate::proofs::OpeningFacts::risen_opening, crate::proofs::OpeningFacts::perhaps_opening, crate::proofs::UnsentFacts::failing_leaves, crate::proofs::UnsentFacts::rising_leaves, actor_steps::proofs::FindingFacts::part_own, crate::proofs::UnsentFacts::memory_whole, crate::proofs::UnsentFacts::failing_whole))]
+#[tactic(auto, using(crate::proofs::KeepFacts::restarting))]
 fn restart<R: Recorder>(
     tried: &[u8],
     core: &mut NodeCore,
@@ -149,14 +140,11 @@ fn restart<R: Recorder>(
 ) -> Result<(), RunFault>
     requires { (before : NodeRecord) × FailsToKeep (R.own_log recorder.old) core.old before tried.now (finds stable.old) }
     ensures idle { OnOk result (StandsIdle (R.own_log recorder.new) core.new (finds stable.new) (stuck_of stable.new)) }
-    ensures sent { OnOk result (sent_of (R.own_log recorder.new) ≡ sent_of (R.own_log recorder.old) ++ SendingValue.Told (PostValue.Nudge core.new.node) ∷ []) }
+    ensures sent { OnOk result (SendsNudge core.new.node (R.own_log recorder.old) (R.own_log recorder.new)) }
     ensures unsent { HasSent (R.own_log recorder.new) (sent_of (R.own_log recorder.old)) }
     ensures whole { IfErr result (λ f. IsWhole f (R.own_log recorder.new) (sent_of (R.own_log recorder.old))) }
-    ensures own { FindsItsOwn (part_now (R.own_log recorder.new)) (finds stable.new) }
-    ensures opened { as_opened (R.own_log recorder.new) ≡ as_opened (R.own_log recorder.old) }
-    ensures faults { IfErr result IsNodeFault }
-    ensures ended { IfErr result (λ fault. EndsFrom fault (falls_of (R.own_log recorder.old) + 1) (R.own_log recorder.new) (stuck_of stable.new) (spent_of stable.new) (failures_of stable.old) (failures_of stable.new)) }
-    ensures falls { FailuresFollow (falls_of (R.own_log recorder.old) + 1) (falls_of (R.own_log recorder.new)) (failures_of stable.old) (failures_of stable.new) }
+    ensures goes { GoesOn (falls_of (R.own_log recorder.old) + 1) (R.own_log recorder.old) (R.own_log recorder.new) (finds stable.new) (failures_of stable.old) (failures_of stable.new) }
+    ensures ended { IfErr result (λ f. EndsWithCause f (falls_of (R.own_log recorder.old) + 1) (R.own_log recorder.new) (stuck_of stable.new) (spent_of stable.new) (failures_of stable.old) (failures_of stable.new)) }
 {
     one_spelling();
     let found = rise_again(Actor::Node(core.node()), tried, stable, recorder)?;
@@ -168,7 +156,7 @@ fn restart<R: Recorder>(
 }
 
 /// Says the node's replies, and sends them.
-#[tactic(auto, using(crate::proofs::OpeningFacts::added_opening, crate::proofs::SentFacts::say_is_told, crate::proofs::UnsentFacts::nothing_given, crate::proofs::UnsentFacts::none_left, actor_steps::proofs::FindingFacts::part_own, crate::proofs::UnsentFacts::silent_whole))]
+#[tactic(auto, using(crate::proofs::OpeningFacts::staying_up, crate::proofs::UnsentFacts::silent_far, actor_steps::proofs::EndFacts::failures_stay))]
 fn say<R: Recorder, L: Link>(
     alloc: Global,
     core: &mut NodeCore,
@@ -177,13 +165,11 @@ fn say<R: Recorder, L: Link>(
     link: &mut L,
 ) -> Result<(), RunFault>
     requires { StandsBy (Stored (replies_in core.old.state)) (R.own_log recorder.old) core.old (record_of core.old) (finds stable.now) (stuck_of stable.now) }
-    ensures idle { OnOk result (StandsIdle (R.own_log recorder.new) core.new (finds stable.now) (stuck_of stable.now)) }
-    ensures sent { OnOk result (SentFollows (R.own_log recorder.old) (R.own_log recorder.new) (L.given link.old) (L.given link.new)) }
-    ensures faulted { IfErr result (λ f. SentAsFar f (R.own_log recorder.old) (R.own_log recorder.new) (L.given link.old) (L.given link.new)) }
-    ensures own { FindsItsOwn (part_now (R.own_log recorder.new)) (finds stable.now) }
-    ensures opened { as_opened (R.own_log recorder.new) ≡ as_opened (R.own_log recorder.old) }
+    ensures turns { let before = moment core.old (R.own_log recorder.old) (finds stable.now) (stuck_of stable.now) (spent_of stable.now) (failures_of stable.now) (L.given link.old) in
+        let after = moment core.new (R.own_log recorder.new) (finds stable.now) (stuck_of stable.now) (spent_of stable.now) (failures_of stable.now) (L.given link.new) in
+        Turns result before after }
+    ensures up { StaysUp (R.own_log recorder.old) (R.own_log recorder.new) (finds stable.now) }
     ensures faults { IfErr result IsBookFault }
-    ensures falls { falls_of (R.own_log recorder.new) ≡ falls_of (R.own_log recorder.old) }
 {
     let said = log_plain(recorder, Event::Say(core.node()), stable)?;
     let replies = core.speak();
@@ -203,7 +189,7 @@ fn tell_lost<L: Link>(node: NodeId, link: &mut L) -> Result<(), RunFault>
 }
 
 /// Keeps what the node took, where it changed the record, and sends the replies.
-#[tactic(auto, using(actor_steps::proofs::SendingFacts::follows_none, actor_steps::proofs::SendingFacts::follows_from, crate::proofs::SentFacts::nudge_follows, actor_steps::proofs::EndFacts::failures_stay, actor_steps::proofs::EndFacts::failures_on, crate::proofs::UnsentFacts::nothing_given, crate::proofs::UnsentFacts::far_from, crate::proofs::UnsentFacts::memory_whole))]
+#[tactic(auto, using(crate::proofs::TurnFacts::turns_after, crate::proofs::UnsentFacts::nothing_given, actor_steps::proofs::SendingFacts::follows_none))]
 fn finish<R: Recorder, L: Link, G: Gate>(
     alloc: Global,
     changed: bool,
@@ -228,7 +214,7 @@ fn finish<R: Recorder, L: Link, G: Gate>(
 }
 
 /// A turn: takes the message that came under the number, keeps what it changes, and sends the replies.
-#[tactic(auto, using(actor_steps::proofs::SendingFacts::follows_none, actor_steps::proofs::SendingFacts::follows_from, actor_steps::proofs::EndFacts::failures_stay, actor_steps::proofs::EndFacts::failures_on, crate::proofs::UnsentFacts::nothing_given, crate::proofs::UnsentFacts::none_left, crate::proofs::UnsentFacts::far_from, crate::proofs::KeepFacts::stands_own, crate::proofs::UnsentFacts::silent_whole))]
+#[tactic(auto, using(crate::proofs::TurnFacts::up_goes, crate::proofs::UnsentFacts::silent_far, actor_steps::proofs::SendingFacts::follows_none))]
 fn take_turn<R: Recorder, L: Link, G: Gate>(
     alloc: Global,
     number: u32,
@@ -253,7 +239,7 @@ fn take_turn<R: Recorder, L: Link, G: Gate>(
 
 /// A turn: takes the problem of this number, keeps what that changes, and sends the replies. A number that
 /// no problem has is dropped.
-#[tactic(auto, using(actor_steps::proofs::SendingFacts::follows_none, actor_steps::proofs::SendingFacts::follows_from, actor_steps::proofs::EndFacts::failures_stay, actor_steps::proofs::EndFacts::failures_on, crate::proofs::UnsentFacts::nothing_given, crate::proofs::UnsentFacts::none_left, crate::proofs::UnsentFacts::far_from, crate::proofs::KeepFacts::stands_own, crate::proofs::UnsentFacts::silent_whole))]
+#[tactic(auto, using(crate::proofs::TurnFacts::up_goes, crate::proofs::UnsentFacts::silent_far, crate::proofs::KeepFacts::stands_own))]
 fn switch_turn<R: Recorder, L: Link, G: Gate>(
     alloc: Global,
     number: u8,
@@ -267,7 +253,9 @@ fn switch_turn<R: Recorder, L: Link, G: Gate>(
     ensures turns { let before = moment core.old (R.own_log recorder.old) (finds stable.old) (stuck_of stable.old) (spent_of stable.old) (failures_of stable.old) (L.given link.old) in
         let after = moment core.new (R.own_log recorder.new) (finds stable.new) (stuck_of stable.new) (spent_of stable.new) (failures_of stable.new) (L.given link.new) in
         Turns result before after }
-    ensures dropped { ((problem : ProblemValue) → problem_number problem ≢ number) → IsOk result × (core.new ≡ core.old) × (R.own_log recorder.new ≡ R.own_log recorder.old) × (L.given link.new ≡ L.given link.old) }
+    ensures dropped { let before = moment core.old (R.own_log recorder.old) (finds stable.old) (stuck_of stable.old) (spent_of stable.old) (failures_of stable.old) (L.given link.old) in
+        let after = moment core.new (R.own_log recorder.new) (finds stable.new) (stuck_of stable.new) (spent_of stable.new) (failures_of stable.new) (L.given link.new) in
+        IsNoProblem number → Drops result before after }
 {
     let Some(problem) = problem_numbered(number) else {
         return Ok(());

@@ -1,16 +1,13 @@
 // A node's whole run.
 
-ghost use Rattle.std.specs.Prelude.{◌≡◌, [], IfOk, IfErr, OnOk, OnErr};
+ghost use Rattle.std.specs.Prelude.{◌≡◌, [], IfOk, IfErr, OnOk};
 ghost use Rattle.stable_record.specs.declared.node_records.NodeRecord.{NodeRecord};
-ghost use Rattle.event_recorders.specs.OwnLogs.{part_now, FindsItsOwn};
-ghost use Rattle.lossy_link.specs.Links.{all_more};
-ghost use Rattle.node_loop.specs.Endings.{EndsSomehow};
-ghost use Rattle.node_loop.specs.Replies.{sent_of, SentFollows};
-ghost use Rattle.node_loop.specs.Unsent.{SentAsFar, ToldAsFar, TellsGone, HasGone};
+ghost use Rattle.node_loop.specs.Endings.{EndsIdle, HasRun, EndsSomehow};
+ghost use Rattle.node_loop.specs.Replies.{sent_of};
+ghost use Rattle.node_loop.specs.Unsent.{ToldAsFar, TellsGone, HasGone};
 ghost use Rattle.node_loop.specs.Turns.{moment, Turns};
-ghost use Rattle.node_loop.specs.Standing.{as_opened, StandsIdle, IsReady, IsIdleNode, IsAtEnd, IsNodeFault};
-ghost use Rattle.actor_steps.specs.Steps.{HasFailed};
-ghost use Rattle.actor_steps.specs.Endings.{falls_of, FailuresFollow, EndsFrom, EndsBy};
+ghost use Rattle.node_loop.specs.Standing.{StandsIdle, IsReady, IsAtEnd, IsNodeFault, GoesOn, EndsWithCause};
+ghost use Rattle.actor_steps.specs.Endings.{falls_of, EndsBy};
 
 use crate::attending::attend;
 use actor_steps::rise_first;
@@ -36,11 +33,8 @@ fn rise<R: Recorder>(
     requires { (kept : NodeRecord) × IsReady (R.own_log recorder.old) node kept (finds stable.old) }
     ensures idle { IfOk result (λ core. StandsIdle (R.own_log recorder.new) core (finds stable.new) (stuck_of stable.new)) }
     ensures silent { sent_of (R.own_log recorder.new) ≡ [] }
-    ensures own { FindsItsOwn (part_now (R.own_log recorder.new)) (finds stable.new) }
-    ensures opened { as_opened (R.own_log recorder.new) ≡ as_opened (R.own_log recorder.old) }
-    ensures faults { IfErr result IsNodeFault }
-    ensures ended { IfErr result (λ fault. EndsFrom fault (falls_of (R.own_log recorder.old)) (R.own_log recorder.new) (stuck_of stable.new) (spent_of stable.new) (failures_of stable.old) (failures_of stable.new)) }
-    ensures falls { FailuresFollow (falls_of (R.own_log recorder.old)) (falls_of (R.own_log recorder.new)) (failures_of stable.old) (failures_of stable.new) }
+    ensures goes { GoesOn (falls_of (R.own_log recorder.old)) (R.own_log recorder.old) (R.own_log recorder.new) (finds stable.new) (failures_of stable.old) (failures_of stable.new) }
+    ensures ended { IfErr result (λ f. EndsWithCause f (falls_of (R.own_log recorder.old)) (R.own_log recorder.new) (stuck_of stable.new) (spent_of stable.new) (failures_of stable.old) (failures_of stable.new)) }
 {
     one_spelling();
     let found = rise_first(Actor::Node(node), stable, recorder)?;
@@ -52,7 +46,7 @@ fn rise<R: Recorder>(
 }
 
 /// Attends to one post after the other, until no more come.
-#[tactic(auto, using(actor_steps::proofs::SendingFacts::follows_on, actor_steps::proofs::SendingFacts::follows_none, actor_steps::proofs::EndFacts::failures_on, actor_steps::proofs::EndFacts::ends_on, crate::proofs::UnsentFacts::far_on, crate::proofs::KeepFacts::stands_own))]
+#[tactic(auto, using(crate::proofs::KeepFacts::stands_own))]
 fn serve<W: Wait, R: Recorder, L: Link, G: Gate>(
     rt: &W,
     alloc: Global,
@@ -90,15 +84,11 @@ fn live<W: Wait, R: Recorder, L: Link, G: Gate>(
     gate: &G,
 ) -> Result<(), RunFault>
     requires { (kept : NodeRecord) × IsReady (R.own_log recorder.old) node kept (finds stable.old) }
-    ensures idle { OnOk result (IsIdleNode (part_now (R.own_log recorder.new))) }
-    ensures sent { OnOk result (L.given link.new ≡ all_more (L.given link.old) (sent_of (R.own_log recorder.new))) }
+    ensures done { OnOk result (EndsIdle (R.own_log recorder.new) (L.given link.old) (L.given link.new) (L.coming link.new)) }
     ensures faulted { IfErr result (λ f. ToldAsFar f (R.own_log recorder.new) (L.given link.old) (L.given link.new)) }
-    ensures closed { OnOk result (IsAtEnd (L.coming link.new)) }
-    ensures own { FindsItsOwn (part_now (R.own_log recorder.new)) (finds stable.new) }
-    ensures opened { as_opened (R.own_log recorder.new) ≡ as_opened (R.own_log recorder.old) }
     ensures faults { IfErr result IsNodeFault }
-    ensures ended { IfErr result (λ fault. EndsBy fault (R.own_log recorder.new) (stuck_of stable.new) (spent_of stable.new) (failures_of stable.old) (failures_of stable.new)) }
-    ensures falls { HasFailed (falls_of (R.own_log recorder.new)) (failures_of stable.old) (failures_of stable.new) }
+    ensures ended { IfErr result (λ f. EndsBy f (R.own_log recorder.new) (stuck_of stable.new) (spent_of stable.new) (failures_of stable.old) (failures_of stable.new)) }
+    ensures run { HasRun (R.own_log recorder.old) (R.own_log recorder.new) (finds stable.new) (failures_of stable.old) (failures_of stable.new) }
 {
     let mut core = rise(alloc, node, stable, policies, recorder)?;
     serve(rt, alloc, &mut core, stable, recorder, link, gate)
@@ -128,25 +118,18 @@ pub fn run_node_over<W: Wait, R: Recorder, L: Link, G: Gate>(
     gate: &G,
 ) -> Result<(), RunFault>
     requires { (kept : NodeRecord) × IsReady (R.own_log recorder.old) node kept (finds stable.old) }
-    // All that it took since it last rose it has answered.
-    ensures idle { OnOk result (IsIdleNode (part_now (R.own_log recorder.new))) }
-    // What was sent is what its own log tells: its replies, and after each fall its nudge.
-    ensures sent { OnOk result (L.given link.new ≡ all_more (L.given link.old) (sent_of (R.own_log recorder.new))) }
-    // Where it ends by a fault, that is so but perhaps for an end of what the last event sends that sends
-    // anything, and for nothing unless memory was refused or it is down; and then every client was told that
-    // the node is gone, unless memory was refused.
+    // Without a fault it has answered all that it took, has sent what its log tells, and nothing more comes over its link.
+    ensures done { OnOk result (EndsIdle (R.own_log recorder.new) (L.given link.old) (L.given link.new) (L.coming link.new)) }
+    // With a fault it has sent what its log tells. Only if it ran out of memory or is down, an end of what the last event that
+    // sends anything sends may be missing. It has told every client that it is gone, unless memory ran out.
     ensures faulted { IfErr result (λ f. HasGone node f (R.own_log recorder.new) (L.given link.old) (L.given link.new) (L.refused link.new)) }
-    // It ends without a fault only where nothing comes any more.
-    ensures closed { OnOk result (IsAtEnd (L.coming link.new)) }
-    // Each fall that it logged has a failure of its record's device.
-    ensures falls { HasFailed (falls_of (R.own_log recorder.new)) (failures_of stable.old) (failures_of stable.new) }
-    // However it ends, a restart finds in its record nothing but what it has kept and what it tries to keep.
-    ensures own { FindsItsOwn (part_now (R.own_log recorder.new)) (finds stable.new) }
-    ensures opened { as_opened (R.own_log recorder.new) ≡ as_opened (R.own_log recorder.old) }
-    // 911, 914, 915 or 916,
+    // However it ends, its device failed for each fall that it logged, and a restart finds in its record nothing but what it has
+    // kept and what it tries to keep.
+    ensures run { HasRun (R.own_log recorder.old) (R.own_log recorder.new) (finds stable.new) (failures_of stable.old) (failures_of stable.new) }
+    // The fault is 911, 914, 915 or 916.
     ensures faults { IfErr result IsNodeFault }
-    // each only where its log and its record tell the cause.
-    ensures ended { IfErr result (λ fault. EndsBy fault (R.own_log recorder.new) (stuck_of stable.new) (spent_of stable.new) (failures_of stable.old) (failures_of stable.new)) }
+    // Its log and its record tell the cause.
+    ensures ended { IfErr result (λ f. EndsBy f (R.own_log recorder.new) (stuck_of stable.new) (spent_of stable.new) (failures_of stable.old) (failures_of stable.new)) }
 {
     let ended = live(rt, alloc, node, stable, policies, recorder, link, gate);
     if ended.is_err() {
@@ -188,20 +171,15 @@ pub fn run_node<W: Wait, R: Recorder, L: Link, G: Gate>(
     gate: &G,
 ) -> Result<(), RunFault>
     requires { (kept : NodeRecord) × IsReady (R.own_log recorder.old) node kept (finds stable) }
-    // All that it took since it last rose it has answered.
-    ensures idle { OnOk result (IsIdleNode (part_now (R.own_log recorder.new))) }
-    // What was sent is what its own log tells: its replies, and after each fall its nudge.
-    ensures sent { OnOk result (L.given link.new ≡ all_more (L.given link.old) (sent_of (R.own_log recorder.new))) }
-    // Where it ends by a fault, that is so but perhaps for an end of what the last event sends that sends
-    // anything, and for nothing unless memory was refused or it is down; and then every client was told that
-    // the node is gone, unless memory was refused.
+    // Without a fault it has answered all that it took, has sent what its log tells, and nothing more comes over its link.
+    ensures done { OnOk result (EndsIdle (R.own_log recorder.new) (L.given link.old) (L.given link.new) (L.coming link.new)) }
+    // With a fault it has sent what its log tells. Only if it ran out of memory or is down, an end of what the last event that
+    // sends anything sends may be missing. It has told every client that it is gone, unless memory ran out.
     ensures faulted { IfErr result (λ f. HasGone node f (R.own_log recorder.new) (L.given link.old) (L.given link.new) (L.refused link.new)) }
-    // It ends without a fault only where nothing comes any more.
-    ensures closed { OnOk result (IsAtEnd (L.coming link.new)) }
-    // 911, 914, 915 or 916,
+    // The fault is 911, 914, 915 or 916.
     ensures faults { IfErr result IsNodeFault }
-    // each only where its log, and what its record then answers, tell the cause.
-    ensures ended { IfErr result (λ fault. EndsSomehow fault (R.own_log recorder.new)) }
+    // Its log, and what its record then answers, tell the cause.
+    ensures ended { IfErr result (λ f. EndsSomehow f (R.own_log recorder.new)) }
 {
     let mut stable = stable;
     run_node_over(

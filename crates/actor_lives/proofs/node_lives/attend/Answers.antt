@@ -7,4 +7,4 @@ use Rattle.actor_lives.proofs.node_lives.attend.Goals as goal
 pub returns-clause-own : goal.returns-clause-own
 returns-clause-own g c =
     subst (λ (m : SessionFile). FindsItsOwn (part_now (g.R.Recorder.own_log c.run_node_over.new.recorder)) m.record.finds)
-    (the_row.coded.inj _ _ c.stable-1.given.2.codes ∙ sym (c.stable-2-1.given.1 refl)) c.run_node_over.ensures.own
+    (the_row.coded.inj _ _ c.stable-1.given.2.codes ∙ sym (c.stable-2-1.given.1 refl)) c.run_node_over.ensures.run.own
