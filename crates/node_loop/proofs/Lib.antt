@@ -1,7 +1,6 @@
 pub mod KeepFacts
 pub mod SentFacts
 pub mod SwitchFacts
-mod EndFacts
 pub mod UnsentFacts
 pub mod OpeningFacts
 pub mod TurnFacts

@@ -7,11 +7,11 @@ use Rattle.actor_steps.specs.declared.keeping.Keeping.{Keeping}
 use Rattle.actor_steps.specs.declared.keeping.Keeping.TheVariants as keeping
 pub use Rattle.actor_steps.specs.Sendings.{sendings, sent_for, sent_of, SentFollows}
 
--- what the log tells since sends nothing
+-- nothing is sent by what the log tells since
 abbrev pub SendsNothing : OwnLog → OwnLog → Type 0
 SendsNothing l l' = sent_of l' ≡ sent_of l
 
--- It sends the nudge of the node, to every client, and nothing else.
+-- only the nudge of the node is sent, to every client
 abbrev pub SendsNudge : ℕ → OwnLog → OwnLog → Type 0
 SendsNudge n l l' = sent_of l' ≡ sent_of l ++ sending.Told (post.Nudge n) ∷ []
 

@@ -81,15 +81,16 @@ pub record IsUnchanged (v v' : Voter) (l l' : OwnLog) : Type 0 where
   pub core : v' ≡ v
   pub log : l' ≡ l
 
--- The node stays up: its log goes on from the same opening and tells no fall, and a restart finds in the record nothing but what the
+-- The node stays up: its log goes on from the same opening and shows no new fall. A restart finds in the record nothing but what the
 -- node has kept and what it tries to keep.
 pub record StaysUp (l l' : OwnLog) (strings : List (List ℕ)) : Type 0 where
   pub opened : as_opened l' ≡ as_opened l
   pub falls : falls_of l' ≡ falls_of l
   pub own : FindsItsOwn (part_now l') strings
 
--- The node goes on: its log goes on from the same opening, and a restart finds in the record nothing but what the node has kept and
--- what it tries to keep. If its device had failed this often before, since whatever moment, it has failed for each fall since then.
+-- The node goes on, up or down: its log goes on from the same opening. A restart finds in the record nothing but what the node has kept
+-- and what it tries to keep. If the record's device had failed this often before, since any moment, it has failed now for each fall
+-- since that moment.
 pub record GoesOn (failed : ℕ) (l l' : OwnLog) (strings : List (List ℕ)) (before now : ℕ) : Type 0 where
   pub opened : as_opened l' ≡ as_opened l
   pub falls : FailuresFollow failed (falls_of l') before now
@@ -105,7 +106,7 @@ IsIdleNode (ClientPart k) = ⊥
 abbrev pub IsNodeFault : RunFault → Type 0
 IsNodeFault f = (f ≡ run.Spent) ⊎ IsRiseFault f
 
--- It ends by one of these faults, and its log and its record tell the cause.
+-- It ends by one of these faults, and its log and its record show the cause.
 pub record EndsWithCause (f : RunFault) (failed : ℕ) (l : OwnLog) (stuck spent : Bool) (before now : ℕ) : Type 0 where
   pub which : IsNodeFault f
   pub cause : EndsFrom f failed l stuck spent before now

@@ -24,7 +24,7 @@ pub record Moment : Type 0 where
 abbrev pub moment : Voter → OwnLog → List (List ℕ) → Bool → Bool → ℕ → Option (List Sending) → Moment
 moment core log finds stuck spent failures given = record { core = core; log = log; finds = finds; stuck = stuck; spent = spent; failures = failures; given = given }
 
--- However it did, the node went on.
+-- However its turns ended, the node went on.
 abbrev pub WentOn : Moment → Moment → Type 0
 WentOn v v' = GoesOn (falls_of v.log) v.log v'.log v'.finds v.failures v'.failures
 
@@ -44,7 +44,7 @@ pub record TakesTurns (v v' : Moment) : Type 0 where
   pub idle : StandsIdle v'.log v'.core v'.finds v'.stuck
   pub sent : Sends v v'
 
--- Its turns ended by this fault, and its log and its record tell the cause. What was sent is what the log tells, as far as such an
+-- Its turns ended by this fault, and its log and its record show the cause. What was sent is what the log tells, as far as such an
 -- end lets it.
 pub record EndsTurns (f : RunFault) (v v' : Moment) : Type 0 where
   pub which : IsNodeFault f

@@ -214,7 +214,7 @@ fn finish<R: Recorder, L: Link, G: Gate>(
 }
 
 /// A turn: takes the message that came under the number, keeps what it changes, and sends the replies.
-#[tactic(auto, using(crate::proofs::TurnFacts::up_goes, crate::proofs::UnsentFacts::silent_far, actor_steps::proofs::SendingFacts::follows_none))]
+#[tactic(auto, using(crate::proofs::TurnFacts::up_goes, crate::proofs::TurnFacts::turns_after, crate::proofs::UnsentFacts::silent_far, actor_steps::proofs::SendingFacts::follows_none))]
 fn take_turn<R: Recorder, L: Link, G: Gate>(
     alloc: Global,
     number: u32,
@@ -239,7 +239,7 @@ fn take_turn<R: Recorder, L: Link, G: Gate>(
 
 /// A turn: takes the problem of this number, keeps what that changes, and sends the replies. A number that
 /// no problem has is dropped.
-#[tactic(auto, using(crate::proofs::TurnFacts::up_goes, crate::proofs::UnsentFacts::silent_far, crate::proofs::KeepFacts::stands_own))]
+#[tactic(auto, using(crate::proofs::TurnFacts::up_goes, crate::proofs::TurnFacts::turns_after, crate::proofs::UnsentFacts::silent_far, actor_steps::proofs::SendingFacts::follows_none))]
 fn switch_turn<R: Recorder, L: Link, G: Gate>(
     alloc: Global,
     number: u8,

@@ -120,15 +120,15 @@ pub fn run_node_over<W: Wait, R: Recorder, L: Link, G: Gate>(
     requires { (kept : NodeRecord) × IsReady (R.own_log recorder.old) node kept (finds stable.old) }
     // Without a fault it has answered all that it took, has sent what its log tells, and nothing more comes over its link.
     ensures done { OnOk result (EndsIdle (R.own_log recorder.new) (L.given link.old) (L.given link.new) (L.coming link.new)) }
-    // With a fault it has sent what its log tells. Only if it ran out of memory or is down, an end of what the last event that
-    // sends anything sends may be missing. It has told every client that it is gone, unless memory ran out.
+    // With a fault it has sent what its log tells. Only if it ran out of memory or is down may an end of its last sending be
+    // missing. It has told every client that it is gone, unless memory ran out.
     ensures faulted { IfErr result (λ f. HasGone node f (R.own_log recorder.new) (L.given link.old) (L.given link.new) (L.refused link.new)) }
     // However it ends, its device failed for each fall that it logged, and a restart finds in its record nothing but what it has
     // kept and what it tries to keep.
     ensures run { HasRun (R.own_log recorder.old) (R.own_log recorder.new) (finds stable.new) (failures_of stable.old) (failures_of stable.new) }
     // The fault is 911, 914, 915 or 916.
     ensures faults { IfErr result IsNodeFault }
-    // Its log and its record tell the cause.
+    // Its log and its record show the cause.
     ensures ended { IfErr result (λ f. EndsBy f (R.own_log recorder.new) (stuck_of stable.new) (spent_of stable.new) (failures_of stable.old) (failures_of stable.new)) }
 {
     let ended = live(rt, alloc, node, stable, policies, recorder, link, gate);
@@ -159,7 +159,7 @@ pub fn run_node_over<W: Wait, R: Recorder, L: Link, G: Gate>(
 /// told that the node is gone, as far as there is memory for it. It waits where its link, its recorder or
 /// its gate does. The way of a turn, and what is dropped, are our own rules.
 /// Its loop has no end of its own, so it takes a Wait also over links and recorders that never wait.
-#[tactic(auto, using(crate::proofs::EndFacts::ends_somehow))]
+#[tactic(auto, using(crate::proofs::TurnFacts::ends_somehow))]
 pub fn run_node<W: Wait, R: Recorder, L: Link, G: Gate>(
     rt: &W,
     alloc: Global,
@@ -173,12 +173,12 @@ pub fn run_node<W: Wait, R: Recorder, L: Link, G: Gate>(
     requires { (kept : NodeRecord) × IsReady (R.own_log recorder.old) node kept (finds stable) }
     // Without a fault it has answered all that it took, has sent what its log tells, and nothing more comes over its link.
     ensures done { OnOk result (EndsIdle (R.own_log recorder.new) (L.given link.old) (L.given link.new) (L.coming link.new)) }
-    // With a fault it has sent what its log tells. Only if it ran out of memory or is down, an end of what the last event that
-    // sends anything sends may be missing. It has told every client that it is gone, unless memory ran out.
+    // With a fault it has sent what its log tells. Only if it ran out of memory or is down may an end of its last sending be
+    // missing. It has told every client that it is gone, unless memory ran out.
     ensures faulted { IfErr result (λ f. HasGone node f (R.own_log recorder.new) (L.given link.old) (L.given link.new) (L.refused link.new)) }
     // The fault is 911, 914, 915 or 916.
     ensures faults { IfErr result IsNodeFault }
-    // Its log, and what its record then answers, tell the cause.
+    // Its log, and what its record then answers, show the cause.
     ensures ended { IfErr result (λ f. EndsSomehow f (R.own_log recorder.new)) }
 {
     let mut stable = stable;

@@ -1,7 +1,5 @@
-use Rattle.std.proofs.Common.{rules, subst}
+use Rattle.std.proofs.Common.{rules}
 use Rattle.std.proofs.lemmas.Result.{on_ok_weaker}
-use Rattle.actor_steps.specs.declared.keeping.Keeping.{Keeping}
-use Rattle.node_loop.specs.Replies.{IsSentIn}
 use Rattle.node_loop.proofs.SentFacts.{nudge_follows}
 use Rattle.node_loop.proofs.UnsentFacts.{nothing_given, memory_whole}
 use Rattle.node_loop.proofs.attending.finish.Goals as goal
@@ -9,7 +7,7 @@ use Rattle.node_loop.proofs.attending.finish.Goals as goal
 pub returns-in-Failed : goal.returns-in-Failed
 returns-in-Failed g c =
     let node = c.keep.new.core.node in
-    let so = subst (λ (k : Keeping). IsSentIn k node (g.R.Recorder.own_log c.args.recorder.now) (g.R.Recorder.own_log c.keep.new.recorder)) c.in-Failed.is c.in_ok-keep.ensures.sent in
+    let so = rw c.in-Failed.is at c.in_ok-keep.ensures.sent in
     record {
       turns = record {
         goes = c.keep.ensures.goes;
