@@ -12,3 +12,6 @@ pub mod EndFacts
 pub mod BeginFacts
 pub mod SoftenedFacts
 pub mod TallyFacts
+pub mod TalkFacts
+pub mod AttemptFacts
+pub mod Steps

@@ -1,14 +1,12 @@
 -- How the calls of a client end, put together.
-use Rattle.std.proofs.Common.{◌≡◌, ◌++◌, ◌∷◌, [], Bool, true, false, List, Option, Some, Result, Ok, Err, IfErr, refl, ap, ◌∙◌}
+use Rattle.std.proofs.Common.{◌≡◌, ◌++◌, ◌∷◌, [], Bool, true, false, List, Option, Some, Result, Ok, Err, IfErr, ap, refl, ◌∙◌}
 use Rattle.event_recorders.specs.declared.faults.RunFault.{RunFault}
-use Rattle.event_recorders.specs.declared.faults.RunFault.TheVariants as fault
-use Rattle.actor_steps.specs.Endings.{falls_of}
-use Rattle.client_loop.specs.Endings.{ClientEndsFrom, EndsOneAttempt}
-use Rattle.client_loop.specs.Outcomes.{Moment, EntersNothing, SendsUnlessMemory, Rests, EndsAttempts}
-use Rattle.client_loop.specs.Remembering.{HasHadLast}
+use Rattle.client_loop.specs.Attempting.{EndsAskingOnce}
+use Rattle.client_loop.specs.Outcomes.{Moment, EntersNothing, SendsUnlessMemory, EndsAttempts}
 use Rattle.client_loop.specs.Visits.{Use, Visits, visits_entering}
+use Rattle.client_loop.proofs.EndFacts.{asking_ends}
 
--- What was begun last, and what was softened, is the same behind an Enter, and behind nothing.
+-- What was begun last, and what was softened, is the same after an Enter, and after nothing.
 pub same_behind : (r : Result Bool RunFault) (a b : Visits) → (r ≡ Ok true → b ≡ visits_entering a) → ((r ≡ Ok true → ⊥) → b ≡ a) → (b.begun ≡ a.begun) × (b.softened ≡ a.softened)
 same_behind (Ok true) a b entered outside = (ap (λ (v : Visits). v.begun) (entered refl), ap (λ (v : Visits). v.softened) (entered refl))
 same_behind (Ok false) a b entered outside = let same = outside (λ (is : Ok false ≡ Ok true). cc) in (ap (λ (v : Visits). v.begun) same, ap (λ (v : Visits). v.softened) same)
@@ -22,12 +20,13 @@ enters_use u o a b entered begun before =
     ∙ ap (λ (last : Option Use). o.entered ++ last ∷ []) begun
 
 -- how attempts ended, of what is known where they did not end well
-pub ends_attempts : (r : Result Bool RunFault) (v v' : Moment) → ((r ≡ Ok true → ⊥) → EntersNothing v v') → IfErr r (λ f. SendsUnlessMemory f v v') → IfErr r (λ f. ClientEndsFrom f (falls_of v.log) v'.log v'.stable.stuck v'.stable.spent v.stable.failures v'.stable.failures) → IfErr r (λ f. f ≡ fault.GaveUp → HasHadLast v'.progress) → IfErr r (λ f. EndsOneAttempt f → Rests v') → IfErr r (λ f. EndsAttempts f v v')
-ends_attempts (Ok entered) v v' outside sent cause last rests = tt
-ends_attempts (Err f) v v' outside sent cause last rests = record {
+pub ends_attempts : (r : Result Bool RunFault) (v v' : Moment) → ((r ≡ Ok true → ⊥) → EntersNothing v v') → IfErr r (λ f. SendsUnlessMemory f v v') → v'.stable.stuck ≡ false →
+    IfErr r (λ f. EndsAskingOnce f v'.log v'.stable.finds v'.progress) → IfErr r (λ f. EndsAttempts f v v')
+ends_attempts (Ok entered) v v' outside sent free ends = tt
+ends_attempts (Err f) v v' outside sent free ends = record {
   outside = outside (λ (is : Err f ≡ Ok true). cc);
   sent = sent;
-  cause = cause;
-  last = last;
-  rests = rests;
+  cause = asking_ends f _ _ _ _ _ _ ends.cause free;
+  last = ends.last;
+  rests = λ one. record { stands = (ends.rests one).stands; idle = (ends.rests one).idle; free = free };
 }

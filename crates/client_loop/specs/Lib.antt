@@ -7,3 +7,5 @@ pub mod Releasing
 pub mod Sendings
 pub mod Endings
 pub mod Outcomes
+pub mod Talking
+pub mod Attempting

@@ -12,6 +12,7 @@ ghost use Rattle.client_loop.specs.Endings.{IsAskFault};
 ghost use Rattle.client_loop.specs.Nodes.{CanSuffice};
 ghost use Rattle.actor_steps.specs.Steps.{IsBookFault};
 ghost use Rattle.actor_steps.specs.Endings.{falls_of};
+ghost use Rattle.client_loop.specs.Talking.{TalksBy, EndsAskingFor};
 
 use crate::posts::take_post;
 use crate::progress::Progress;
@@ -42,7 +43,7 @@ fn awaits_enough(wish: &Wish, progress: &Progress) -> bool {
 }
 
 /// Asks the node that is to be asked next, unless it was asked already, or those that were asked are enough.
-#[tactic(auto, using(actor_steps::proofs::SendingFacts::follows_none))]
+#[tactic(auto, using(crate::proofs::TalkFacts::talks_still))]
 fn ask_on<R: Recorder, L: Link>(
     alloc: Global,
     wish: &Wish,
@@ -52,10 +53,8 @@ fn ask_on<R: Recorder, L: Link>(
     link: &mut L,
 ) -> Result<(), RunFault>
     requires { Stands (R.own_log recorder.old) (finds stable.now) progress.old.core }
-    ensures sent { SendsBy result (R.own_log recorder.old) (R.own_log recorder.new) (L.given link.old) (L.given link.new) }
-    ensures stands { Stands (R.own_log recorder.new) (finds stable.now) progress.new.core }
+    ensures talks { TalksBy result (R.own_log recorder.old) (R.own_log recorder.new) (L.given link.old) (L.given link.new) (finds stable.now) progress.new.core }
     ensures keeps { KeepsAsking progress.old progress.new }
-    ensures quiet { GoesOnQuietly (R.own_log recorder.old) (R.own_log recorder.new) }
     ensures faults { IfErr result IsBookFault }
 {
     if awaits_enough(wish, progress) {
@@ -88,7 +87,7 @@ fn first_asked(resource: &ResourceName, nodes: u8) -> u8
 
 /// Asks at once as many nodes as the wish needs by its ballot, without those that are gone. It begins with the node that
 /// the resource's name picks, and goes on with the first node after the last.
-#[tactic(auto, using(actor_steps::proofs::SendingFacts::follows_none, actor_steps::proofs::SendingFacts::follows_on, crate::proofs::SentFacts::unless_on))]
+#[tactic(auto, using(crate::proofs::Steps::talking))]
 fn ask_together<R: Recorder, L: Link>(
     alloc: Global,
     wish: &Wish,
@@ -98,10 +97,8 @@ fn ask_together<R: Recorder, L: Link>(
     link: &mut L,
 ) -> Result<(), RunFault>
     requires { Stands (R.own_log recorder.old) (finds stable.now) progress.old.core }
-    ensures sent { SendsBy result (R.own_log recorder.old) (R.own_log recorder.new) (L.given link.old) (L.given link.new) }
-    ensures stands { Stands (R.own_log recorder.new) (finds stable.now) progress.new.core }
+    ensures talks { TalksBy result (R.own_log recorder.old) (R.own_log recorder.new) (L.given link.old) (L.given link.new) (finds stable.now) progress.new.core }
     ensures others { progress.new ≡ record progress.old { asked = progress.new.asked } }
-    ensures quiet { GoesOnQuietly (R.own_log recorder.old) (R.own_log recorder.new) }
     ensures faults { IfErr result IsBookFault }
 {
     let Some(ballot) = progress.core.ballots().ballot(wish.place) else {
@@ -127,7 +124,7 @@ fn ask_together<R: Recorder, L: Link>(
 /// node lets it wait; whether they are enough. Where it isn't to wait it begins with as many at once as the wish
 /// needs: two clients that ask so never wait for each other. 912: the nodes that granted and those that aren't gone are not
 /// enough.
-#[tactic(auto, using(actor_steps::proofs::SendingFacts::follows_none, actor_steps::proofs::SendingFacts::follows_on, crate::proofs::SentFacts::unless_on, crate::proofs::SentFacts::unless_follows, crate::proofs::NudgeFacts::book_has_none))]
+#[tactic(auto, using(crate::proofs::Steps::talking, crate::proofs::NudgeFacts::book_has_none))]
 pub(crate) fn ask<W: Wait, R: Recorder, L: Link>(
     rt: &W,
     alloc: Global,
@@ -141,17 +138,11 @@ pub(crate) fn ask<W: Wait, R: Recorder, L: Link>(
     requires stands { Stands (R.own_log recorder.old) (finds stable.now) progress.old.core }
     requires placed { HasPlace (R.own_log recorder.old).ballots wish.now.place }
     ensures may_enter { result ≡ Ok true → MayEnter progress.new.core }
-    // A wish is taken back only where it isn't to wait, and a node let it.
+    // A wish is taken back only if it is not to wait, and a node let it wait.
     ensures busy { result ≡ Ok false → (waits ≡ false) × (progress.new.busy ≡ true) }
-    ensures sent { SendsBy result (R.own_log recorder.old) (R.own_log recorder.new) (L.given link.old) (L.given link.new) }
-    ensures stands { Stands (R.own_log recorder.new) (finds stable.now) progress.new.core }
+    ensures talks { TalksBy result (R.own_log recorder.old) (R.own_log recorder.new) (L.given link.old) (L.given link.new) (finds stable.now) progress.new.core }
     ensures keeps { KeepsAsking progress.old progress.new }
-    ensures quiet { GoesOnQuietly (R.own_log recorder.old) (R.own_log recorder.new) }
-    ensures faults { IfErr result IsAskFault }
-    // 913: only where the wish had its last nudge.
-    ensures last { IfErr result (λ f. f ≡ RunFault.GaveUp → HasHadLast progress.new) }
-    // 912: only where the nodes that granted and those that aren't gone are not enough.
-    ensures too_few { result ≡ Err RunFault.TooFewNodes → CanSuffice progress.new.core.ballots wish.now.place wish.now.mode progress.new.granted progress.new.gone → ⊥ }
+    ensures ended { IfErr result (λ f. EndsAskingFor wish.now f progress.new) }
 {
     if !waits {
         ask_together(alloc, wish, progress, stable, recorder, link)?;

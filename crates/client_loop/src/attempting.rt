@@ -7,9 +7,10 @@ ghost use Rattle.client_core.specs.declared.phases.Phase.TheVariants as phase;
 ghost use Rattle.client_loop.specs.Sendings.{sent_of};
 ghost use Rattle.client_loop.specs.Standing.{Stands, HasChosen, HasTried};
 ghost use Rattle.actor_steps.specs.Endings.{falls_of, FailuresFollow};
-ghost use Rattle.client_loop.specs.Endings.{ClientEndsFrom, IsAttemptFault};
+ghost use Rattle.client_loop.specs.Endings.{ClientEndsFrom, IsAttemptFault, IsAtRest};
 ghost use Rattle.client_loop.specs.Visits.{visits_of, use_of, AsksFor, BeginsOnly, BeginsMore};
 ghost use Rattle.event_recorders.specs.OwnLogs.{FindsItsOwn, part_now};
+ghost use Rattle.client_loop.specs.Attempting.{BeginsSilently, HasBegunFor, GoesOnSilently, RecordAgrees, EndsAttempting, IsAsking};
 
 use crate::progress::Progress;
 use actor_steps::{Keeping, keep_next, log_plain, rise_again};
@@ -23,7 +24,7 @@ use std::sync::Wait;
 use world_model::Event;
 
 /// Chooses the next attempt, for the wish. 916: none is left.
-#[tactic(auto, using(crate::proofs::SentFacts::begin_sends_nothing, crate::proofs::EndFacts::book_ends, crate::proofs::BeginFacts::begins_none, actor_steps::proofs::FindingFacts::part_own, crate::proofs::FindingFacts::stands_own))]
+#[tactic(auto, using(crate::proofs::Steps::choosing))]
 fn begin<R: Recorder>(
     core: &mut ClientCore,
     wish: &Wish,
@@ -34,18 +35,12 @@ fn begin<R: Recorder>(
     requires idle { phase_of core.old ≡ phase.Idle }
     requires free { stuck_of stable.now ≡ false }
     requires placed { HasPlace (R.own_log recorder.old).ballots wish.now.place }
-    ensures silent { sent_of (R.own_log recorder.new) ≡ sent_of (R.own_log recorder.old) }
     ensures chosen { OnOk result (HasChosen (R.own_log recorder.new) (finds stable.now) core.new) }
-    ensures asks { OnOk result (IfSome (ticket_of core.new) (AsksFor (use_of wish.now))) }
-    ensures begun { OnOk result ((visits_of (R.own_log recorder.new)).begun ≡ Some (use_of wish.now)) }
-    ensures more { OnOk result (BeginsMore (visits_of (R.own_log recorder.old)) (visits_of (R.own_log recorder.new))) }
-    ensures entered { (visits_of (R.own_log recorder.new)).entered ≡ (visits_of (R.own_log recorder.old)).entered }
-    ensures softened { (visits_of (R.own_log recorder.new)).softened ≡ (visits_of (R.own_log recorder.old)).softened }
+    ensures begun { OnOk result (HasBegunFor (use_of wish.now) (R.own_log recorder.old) (R.own_log recorder.new) core.new) }
+    ensures silent { BeginsSilently (use_of wish.now) (R.own_log recorder.old) (R.own_log recorder.new) }
     ensures falls { falls_of (R.own_log recorder.new) ≡ falls_of (R.own_log recorder.old) }
     ensures own { FindsItsOwn (part_now (R.own_log recorder.new)) (finds stable.now) }
-    ensures ended { IfErr result (λ fault. ClientEndsFrom fault (falls_of (R.own_log recorder.old)) (R.own_log recorder.new) (stuck_of stable.now) (spent_of stable.now) (failures_of stable.now) (failures_of stable.now)) }
-    ensures faults { IfErr result IsAttemptFault }
-    ensures begins { BeginsOnly (use_of wish.now) (visits_of (R.own_log recorder.old)) (visits_of (R.own_log recorder.new)) }
+    ensures ended { IfErr result (λ f. EndsAttempting f (falls_of (R.own_log recorder.old)) (R.own_log recorder.new) (stuck_of stable.now) (spent_of stable.now) (failures_of stable.now) (failures_of stable.now)) }
 {
     let Wish {
         mode,
@@ -68,22 +63,17 @@ fn begin<R: Recorder>(
 }
 
 /// Rises again with the attempt that the record holds, after it failed to keep the chosen one.
-#[tactic(auto, using(crate::proofs::EndFacts::client_ends, actor_steps::proofs::EndFacts::failures_stay, actor_steps::proofs::FindingFacts::part_own))]
+#[tactic(auto, using(crate::proofs::Steps::rising))]
 fn rise_anew<R: Recorder>(
     core: &mut ClientCore,
     stable: &mut dyn StableRecord,
     recorder: &mut R,
 ) -> Result<(), RunFault>
     requires { HasTried (R.own_log recorder.old) (finds stable.old) core.old }
-    ensures stands { OnOk result (Stands (R.own_log recorder.new) (finds stable.new) core.new) }
-    ensures free { OnOk result (stuck_of stable.new ≡ false) }
-    ensures idle { OnOk result (phase_of core.new ≡ phase.Idle) }
-    ensures silent { sent_of (R.own_log recorder.new) ≡ sent_of (R.own_log recorder.old) }
-    ensures visits { visits_of (R.own_log recorder.new) ≡ visits_of (R.own_log recorder.old) }
-    ensures own { FindsItsOwn (part_now (R.own_log recorder.new)) (finds stable.new) }
-    ensures ended { IfErr result (λ fault. ClientEndsFrom fault (falls_of (R.own_log recorder.old) + 1) (R.own_log recorder.new) (stuck_of stable.new) (spent_of stable.new) (failures_of stable.old) (failures_of stable.new)) }
-    ensures faults { IfErr result IsAttemptFault }
-    ensures falls { FailuresFollow (falls_of (R.own_log recorder.old) + 1) (falls_of (R.own_log recorder.new)) (failures_of stable.old) (failures_of stable.new) }
+    ensures rests { OnOk result (IsAtRest (R.own_log recorder.new) (finds stable.new) (stuck_of stable.new) core.new) }
+    ensures silent { GoesOnSilently (R.own_log recorder.old) (R.own_log recorder.new) }
+    ensures agrees { RecordAgrees (falls_of (R.own_log recorder.old) + 1) (R.own_log recorder.new) (finds stable.new) (failures_of stable.old) (failures_of stable.new) }
+    ensures ended { IfErr result (λ f. EndsAttempting f (falls_of (R.own_log recorder.old) + 1) (R.own_log recorder.new) (stuck_of stable.new) (spent_of stable.new) (failures_of stable.old) (failures_of stable.new)) }
 {
     let bytes = client_bytes(core.attempt());
     let found = rise_again(Actor::Client(core.client()), &bytes, stable, recorder)?;
@@ -96,7 +86,7 @@ fn rise_anew<R: Recorder>(
 
 /// Keeps the chosen attempt, with which the client then asks. Whether it was kept; where the record
 /// failed, the client has risen again.
-#[tactic(auto, using(actor_steps::proofs::SendingFacts::keeping_sends_nothing, actor_steps::proofs::SendingFacts::trying_sends_nothing, actor_steps::proofs::SendingFacts::tried_sends_nothing, crate::proofs::EndFacts::client_ends, crate::proofs::EndFacts::client_ends_on, actor_steps::proofs::EndFacts::failures_stay, actor_steps::proofs::EndFacts::failures_rise, actor_steps::proofs::EndFacts::failures_on, actor_steps::proofs::FindingFacts::part_own))]
+#[tactic(auto, using(crate::proofs::Steps::keeping))]
 fn keep_chosen<R: Recorder, G: Gate>(
     core: &mut ClientCore,
     stable: &mut dyn StableRecord,
@@ -105,17 +95,12 @@ fn keep_chosen<R: Recorder, G: Gate>(
 ) -> Result<bool, RunFault>
     requires chosen { HasChosen (R.own_log recorder.old) (finds stable.old) core.old }
     requires free { stuck_of stable.old ≡ false }
-    ensures stands { OnOk result (Stands (R.own_log recorder.new) (finds stable.new) core.new) }
-    ensures free { OnOk result (stuck_of stable.new ≡ false) }
-    ensures again { result ≡ Ok false → phase_of core.new ≡ phase.Idle }
-    ensures silent { sent_of (R.own_log recorder.new) ≡ sent_of (R.own_log recorder.old) }
-    ensures visits { visits_of (R.own_log recorder.new) ≡ visits_of (R.own_log recorder.old) }
-    ensures asking { result ≡ Ok true → phase_of core.new ≡ phase.Asking }
+    ensures kept { result ≡ Ok true → IsAsking (R.own_log recorder.new) (finds stable.new) (stuck_of stable.new) core.new }
     ensures ticket { result ≡ Ok true → ticket_of core.new ≡ ticket_of core.old }
-    ensures own { FindsItsOwn (part_now (R.own_log recorder.new)) (finds stable.new) }
-    ensures ended { IfErr result (λ fault. ClientEndsFrom fault (falls_of (R.own_log recorder.old)) (R.own_log recorder.new) (stuck_of stable.new) (spent_of stable.new) (failures_of stable.old) (failures_of stable.new)) }
-    ensures faults { IfErr result IsAttemptFault }
-    ensures falls { FailuresFollow (falls_of (R.own_log recorder.old)) (falls_of (R.own_log recorder.new)) (failures_of stable.old) (failures_of stable.new) }
+    ensures failed { result ≡ Ok false → IsAtRest (R.own_log recorder.new) (finds stable.new) (stuck_of stable.new) core.new }
+    ensures silent { GoesOnSilently (R.own_log recorder.old) (R.own_log recorder.new) }
+    ensures agrees { RecordAgrees (falls_of (R.own_log recorder.old)) (R.own_log recorder.new) (finds stable.new) (failures_of stable.old) (failures_of stable.new) }
+    ensures ended { IfErr result (λ f. EndsAttempting f (falls_of (R.own_log recorder.old)) (R.own_log recorder.new) (stuck_of stable.new) (spent_of stable.new) (failures_of stable.old) (failures_of stable.new)) }
 {
     records_fit();
     let bytes = client_bytes(core.attempt());
@@ -134,7 +119,7 @@ fn keep_chosen<R: Recorder, G: Gate>(
 
 /// Makes the next attempt for the wish, and once more for as long as the record fails. The nodes that
 /// are gone are skipped in it.
-#[tactic(auto, using(crate::proofs::EndFacts::client_ends_on, actor_steps::proofs::EndFacts::failures_on, crate::proofs::EndFacts::failures_same, crate::proofs::BeginFacts::begins_none, crate::proofs::BeginFacts::begins_on))]
+#[tactic(auto, using(crate::proofs::Steps::attempting))]
 pub(crate) fn attempt<W: Wait, R: Recorder, G: Gate>(
     rt: &W,
     wish: &Wish,
@@ -147,21 +132,12 @@ pub(crate) fn attempt<W: Wait, R: Recorder, G: Gate>(
     requires free { stuck_of stable.old ≡ false }
     requires idle { phase_of progress.old.core ≡ phase.Idle }
     requires placed { HasPlace (R.own_log recorder.old).ballots wish.now.place }
-    ensures stands { OnOk result (Stands (R.own_log recorder.new) (finds stable.new) progress.new.core) }
-    ensures free { OnOk result (stuck_of stable.new ≡ false) }
-    ensures silent { sent_of (R.own_log recorder.new) ≡ sent_of (R.own_log recorder.old) }
-    ensures begun { OnOk result ((visits_of (R.own_log recorder.new)).begun ≡ Some (use_of wish.now)) }
-    ensures more { OnOk result (BeginsMore (visits_of (R.own_log recorder.old)) (visits_of (R.own_log recorder.new))) }
-    ensures entered { (visits_of (R.own_log recorder.new)).entered ≡ (visits_of (R.own_log recorder.old)).entered }
-    ensures softened { (visits_of (R.own_log recorder.new)).softened ≡ (visits_of (R.own_log recorder.old)).softened }
-    ensures asking { OnOk result (phase_of progress.new.core ≡ phase.Asking) }
+    ensures asks { OnOk result (IsAsking (R.own_log recorder.new) (finds stable.new) (stuck_of stable.new) progress.new.core) }
+    ensures begun { OnOk result (HasBegunFor (use_of wish.now) (R.own_log recorder.old) (R.own_log recorder.new) progress.new.core) }
+    ensures silent { BeginsSilently (use_of wish.now) (R.own_log recorder.old) (R.own_log recorder.new) }
     ensures most { progress.new.most_nudges ≡ progress.old.most_nudges }
-    ensures asks { OnOk result (IfSome (ticket_of progress.new.core) (AsksFor (use_of wish.now))) }
-    ensures own { FindsItsOwn (part_now (R.own_log recorder.new)) (finds stable.new) }
-    ensures ended { IfErr result (λ fault. ClientEndsFrom fault (falls_of (R.own_log recorder.old)) (R.own_log recorder.new) (stuck_of stable.new) (spent_of stable.new) (failures_of stable.old) (failures_of stable.new)) }
-    ensures faults { IfErr result IsAttemptFault }
-    ensures falls { FailuresFollow (falls_of (R.own_log recorder.old)) (falls_of (R.own_log recorder.new)) (failures_of stable.old) (failures_of stable.new) }
-    ensures begins { BeginsOnly (use_of wish.now) (visits_of (R.own_log recorder.old)) (visits_of (R.own_log recorder.new)) }
+    ensures agrees { RecordAgrees (falls_of (R.own_log recorder.old)) (R.own_log recorder.new) (finds stable.new) (failures_of stable.old) (failures_of stable.new) }
+    ensures ended { IfErr result (λ f. EndsAttempting f (falls_of (R.own_log recorder.old)) (R.own_log recorder.new) (stuck_of stable.new) (spent_of stable.new) (failures_of stable.old) (failures_of stable.new)) }
 {
     for _ in rt.forever() {
         begin(&mut progress.core, wish, &*stable, recorder)?;

@@ -11,6 +11,7 @@ ghost use Rattle.actor_steps.specs.Endings.{falls_of, FailuresFollow};
 ghost use Rattle.client_loop.specs.Endings.{ClientEndsFrom, ClientEndsBy, ClientEndsSomehow};
 ghost use Rattle.client_loop.specs.Outcomes.{FulfilsInOrder, FulfilsAll, TellsBy};
 ghost use Rattle.client_loop.specs.Visits.{visits_of, HasBegun, ArePlaced};
+ghost use Rattle.client_loop.specs.Attempting.{RecordAgrees};
 
 use crate::progress::Progress;
 use crate::rising::rise;
@@ -25,7 +26,7 @@ use std::sync::Wait;
 use vote_weights::BallotList;
 
 /// Fulfils the wishes in order.
-#[tactic(auto, using(actor_steps::proofs::SendingFacts::follows_on, crate::proofs::SentFacts::unless_on, crate::proofs::EndFacts::client_ends_on, crate::proofs::EndFacts::is_outside, actor_steps::proofs::EndFacts::failures_on, crate::proofs::FindingFacts::stands_own))]
+#[tactic(auto, using(crate::proofs::Steps::fulfilling_all))]
 fn fulfil_all<W: Wait, R: Recorder, L: Link, G: Gate>(
     rt: &W,
     alloc: Global,
@@ -48,9 +49,8 @@ fn fulfil_all<W: Wait, R: Recorder, L: Link, G: Gate>(
     ensures faulted { IfErr result (λ p. SentUnlessMemory p.1 (R.own_log recorder.old) (R.own_log recorder.new) (L.given link.old) (L.given link.new)) }
     ensures fulfils { FulfilsInOrder (R.own_log recorder.old).actor wishes.now result (R.own_log recorder.new) }
     ensures all { IfOk result (FulfilsAll wishes.now (R.own_log recorder.new)) }
-    ensures own { FindsItsOwn (part_now (R.own_log recorder.new)) (finds stable.new) }
+    ensures agrees { RecordAgrees (falls_of (R.own_log recorder.old)) (R.own_log recorder.new) (finds stable.new) (failures_of stable.old) (failures_of stable.new) }
     ensures ended { IfErr result (λ p. ClientEndsFrom p.1 (falls_of (R.own_log recorder.old)) (R.own_log recorder.new) (stuck_of stable.new) (spent_of stable.new) (failures_of stable.old) (failures_of stable.new)) }
-    ensures falls { FailuresFollow (falls_of (R.own_log recorder.old)) (falls_of (R.own_log recorder.new)) (failures_of stable.old) (failures_of stable.new) }
 {
     let mut progress = progress;
     let mut entered = 0;
@@ -77,7 +77,7 @@ fn fulfil_all<W: Wait, R: Recorder, L: Link, G: Gate>(
 /// and each fault, to what that record answers afterwards.
 ///
 /// The caller owes what it owes `run_client`, and gets its errors.
-#[tactic(auto, using(actor_steps::proofs::SendingFacts::all_told, crate::proofs::SentFacts::told_unless, crate::proofs::SentFacts::told_nothing, actor_steps::proofs::EndFacts::failures_on, crate::proofs::BeginFacts::none_begun))]
+#[tactic(auto, using(crate::proofs::Steps::running))]
 pub fn run_client_over<W: Wait, R: Recorder, L: Link, G: Gate>(
     rt: &W,
     alloc: Global,

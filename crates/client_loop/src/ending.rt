@@ -10,6 +10,7 @@ ghost use Rattle.event_recorders.specs.OwnLogs.{part_now, FindsItsOwn};
 ghost use Rattle.client_loop.specs.Endings.{IsAskFault, IsOutside, EndsAsking, EndsOneAttempt};
 ghost use Rattle.actor_steps.specs.Steps.{IsBookFault};
 ghost use Rattle.actor_steps.specs.Endings.{falls_of};
+ghost use Rattle.client_loop.specs.Attempting.{GivesUp, EndsInstead};
 
 use crate::leaving::log_leave;
 use crate::progress::Progress;
@@ -21,7 +22,7 @@ use stable_record::StableRecord;
 use std::alloc::Global;
 
 /// Leaves, where the client asks, and says the release once to each node that was asked and isn't gone.
-#[tactic(auto, using(actor_steps::proofs::SendingFacts::follows_from, crate::proofs::SentFacts::unless_none, crate::proofs::SentFacts::unless_from, crate::proofs::EndFacts::is_outside, crate::proofs::FindingFacts::stands_own, crate::proofs::FindingFacts::stands_still))]
+#[tactic(auto, using(crate::proofs::Steps::giving_up))]
 fn give_up<R: Recorder, L: Link>(
     alloc: Global,
     progress: &mut Progress,
@@ -32,14 +33,11 @@ fn give_up<R: Recorder, L: Link>(
     requires stands { Stands (R.own_log recorder.old) (finds stable.now) progress.old.core }
     requires phase { (phase_of progress.old.core ≡ phase.Asking) ⊎ (phase_of progress.old.core ≡ phase.Idle) }
     ensures sent { SendsBy result (R.own_log recorder.old) (R.own_log recorder.new) (L.given link.old) (L.given link.new) }
-    ensures quiet { GoesOnQuietly (R.own_log recorder.old) (R.own_log recorder.new) }
-    ensures own { FindsItsOwn (part_now (R.own_log recorder.new)) (finds stable.now) }
-    ensures faults { IfErr result IsBookFault }
-    ensures outside { OnOk result (IsOutside (part_now (R.own_log recorder.new))) }
+    ensures gives_up { GivesUp (R.own_log recorder.old) (R.own_log recorder.new) (finds stable.now) progress.old progress.new }
     ensures idle { phase_of progress.new.core ≡ phase.Idle }
-    ensures most { progress.new.most_nudges ≡ progress.old.most_nudges }
-    ensures nudges { progress.new.nudges ≡ progress.old.nudges }
     ensures rests { OnOk result (Stands (R.own_log recorder.new) (finds stable.now) progress.new.core) }
+    ensures outside { OnOk result (IsOutside (part_now (R.own_log recorder.new))) }
+    ensures faults { IfErr result IsBookFault }
 {
     if let Phase::Asking = progress.core.phase() {
         progress.core.leave();
@@ -64,14 +62,9 @@ pub(crate) fn end<R: Recorder, L: Link>(
     requires fault { IsAskFault fault }
     ensures faulted { SentUnlessMemory result (R.own_log recorder.old) (R.own_log recorder.new) (L.given link.old) (L.given link.new) }
     ensures memory { fault ≡ RunFault.Memory → EndsHere result (R.own_log recorder.old) (R.own_log recorder.new) (L.given link.old) (L.given link.new) }
-    ensures quiet { GoesOnQuietly (R.own_log recorder.old) (R.own_log recorder.new) }
-    ensures own { FindsItsOwn (part_now (R.own_log recorder.new)) (finds stable.now) }
-    ensures ended { EndsAsking result (R.own_log recorder.new) }
-    ensures told { (result ≡ fault) ⊎ IsBookFault result }
+    ensures gives_up { GivesUp (R.own_log recorder.old) (R.own_log recorder.new) (finds stable.now) progress.old progress.new }
+    ensures ended { EndsInstead fault result (R.own_log recorder.new) (finds stable.now) progress.new.core }
     ensures idle { phase_of progress.old.core ≡ phase.Idle → phase_of progress.new.core ≡ phase.Idle }
-    ensures most { progress.new.most_nudges ≡ progress.old.most_nudges }
-    ensures nudges { progress.new.nudges ≡ progress.old.nudges }
-    ensures again { EndsOneAttempt result → Stands (R.own_log recorder.new) (finds stable.now) progress.new.core × (phase_of progress.new.core ≡ phase.Idle) }
 {
     match fault {
         RunFault::TooFewNodes | RunFault::GaveUp => {

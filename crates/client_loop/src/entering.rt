@@ -14,6 +14,8 @@ ghost use Rattle.actor_steps.specs.Steps.{IsBookFault};
 ghost use Rattle.actor_steps.specs.Endings.{falls_of, FailuresFollow};
 ghost use Rattle.client_loop.specs.Visits.{visits_of, use_of, AsksFor, visits_entering, BeginsNothing, BeginsOnly, BeginsMore};
 ghost use Rattle.event_recorders.specs.OwnLogs.{FindsItsOwn, part_now};
+ghost use Rattle.client_loop.specs.Talking.{EndsUnlogged};
+ghost use Rattle.client_loop.specs.Attempting.{EntersAsking, StopsAsking, EndsAskingOnce, GoesOnAsking};
 
 use crate::asking::ask;
 use crate::attempting::attempt;
@@ -40,12 +42,11 @@ fn log_enter<R: Recorder>(
     requires may { MayEnter core.now }
     requires stands { Stands (R.own_log recorder.old) (finds stable.now) core.now }
     ensures inside { OnOk result (Stands (R.own_log recorder.new) (finds stable.now) (inside_of core.now)) }
-    ensures silent { sent_of (R.own_log recorder.new) ≡ sent_of (R.own_log recorder.old) }
     ensures entered { OnOk result (visits_of (R.own_log recorder.new) ≡ visits_entering (visits_of (R.own_log recorder.old))) }
-    ensures refused { OnErr result (R.own_log recorder.new ≡ R.own_log recorder.old) }
-    ensures falls { falls_of (R.own_log recorder.new) ≡ falls_of (R.own_log recorder.old) }
-    ensures faults { IfErr result IsBookFault }
+    ensures silent { sent_of (R.own_log recorder.new) ≡ sent_of (R.own_log recorder.old) }
     ensures begins { BeginsNothing (visits_of (R.own_log recorder.old)) (visits_of (R.own_log recorder.new)) }
+    ensures falls { falls_of (R.own_log recorder.new) ≡ falls_of (R.own_log recorder.old) }
+    ensures ended { IfErr result (λ f. EndsUnlogged f (R.own_log recorder.old) (R.own_log recorder.new)) }
 {
     log_plain(recorder, Event::Enter(core.client()), stable)?;
     Ok(())
@@ -73,7 +74,7 @@ fn take_back<W: Wait, R: Recorder, L: Link>(
 }
 
 /// Asks for what is wished and, once the votes are enough, logs the Enter; whether it did.
-#[tactic(auto, using(actor_steps::proofs::SendingFacts::follows_from, actor_steps::proofs::SendingFacts::follows_on, actor_steps::proofs::SendingFacts::follows_none, crate::proofs::SentFacts::unless_none, crate::proofs::SentFacts::unless_on, crate::proofs::BeginFacts::nothing_begun, crate::proofs::BeginFacts::nothing_after, crate::proofs::NudgeFacts::last_ended, crate::proofs::NudgeFacts::book_has_none, crate::proofs::FindingFacts::stands_own, crate::proofs::FindingFacts::stands_still))]
+#[tactic(auto, using(crate::proofs::Steps::entering))]
 fn ask_and_enter<W: Wait, R: Recorder, L: Link>(
     rt: &W,
     alloc: Global,
@@ -88,21 +89,11 @@ fn ask_and_enter<W: Wait, R: Recorder, L: Link>(
     requires asking { phase_of progress.old.core ≡ phase.Asking }
     requires placed { HasPlace (R.own_log recorder.old).ballots wish.now.place }
     ensures sent { SendsBy result (R.own_log recorder.old) (R.own_log recorder.new) (L.given link.old) (L.given link.new) }
-    ensures may_enter { result ≡ Ok true → MayEnter progress.new.core }
-    ensures ticket { result ≡ Ok true → ticket_of progress.new.core ≡ ticket_of progress.old.core }
-    ensures inside { result ≡ Ok true → Stands (R.own_log recorder.new) (finds stable.now) (inside_of progress.new.core) }
-    ensures entered { result ≡ Ok true → visits_of (R.own_log recorder.new) ≡ visits_entering (visits_of (R.own_log recorder.old)) }
+    ensures entered { result ≡ Ok true → EntersAsking (R.own_log recorder.old) (R.own_log recorder.new) (finds stable.now) progress.old.core progress.new.core }
+    ensures stopped { result ≡ Ok false → StopsAsking waits (R.own_log recorder.new) (finds stable.now) progress.new }
     ensures outside { (result ≡ Ok true → ⊥) → visits_of (R.own_log recorder.new) ≡ visits_of (R.own_log recorder.old) }
-    ensures waits { result ≡ Ok false → (waits ≡ false) × (progress.new.busy ≡ true) }
-    ensures most { progress.new.most_nudges ≡ progress.old.most_nudges }
-    ensures last { IfErr result (λ f. f ≡ RunFault.GaveUp → HasHadLast progress.new) }
-    ensures back { result ≡ Ok false → Stands (R.own_log recorder.new) (finds stable.now) progress.new.core × (phase_of progress.new.core ≡ phase.Idle) }
-    ensures released { result ≡ Ok false → HasReleased progress.new }
-    ensures again { IfErr result (λ f. EndsOneAttempt f → Stands (R.own_log recorder.new) (finds stable.now) progress.new.core × (phase_of progress.new.core ≡ phase.Idle)) }
-    ensures falls { falls_of (R.own_log recorder.new) ≡ falls_of (R.own_log recorder.old) }
-    ensures own { FindsItsOwn (part_now (R.own_log recorder.new)) (finds stable.now) }
-    ensures ended { IfErr result (λ f. EndsAsking f (R.own_log recorder.new)) }
-    ensures begins { BeginsNothing (visits_of (R.own_log recorder.old)) (visits_of (R.own_log recorder.new)) }
+    ensures ended { IfErr result (λ f. EndsAskingOnce f (R.own_log recorder.new) (finds stable.now) progress.new) }
+    ensures goes_on { GoesOnAsking (R.own_log recorder.old) (R.own_log recorder.new) (finds stable.now) progress.old progress.new }
 {
     match ask(rt, alloc, wish, waits, progress, stable, recorder, link) {
         Ok(true) => {
@@ -136,7 +127,6 @@ fn ask_and_enter<W: Wait, R: Recorder, L: Link>(
 /// release once to each asked node that isn't gone (that last is tested). Three reopens of the record failed in a row (911); memory
 /// was refused (914); the book is full or another's (915); no change of the record can be numbered any more,
 /// or no attempt is left (916).
-#[tactic(auto, using(actor_steps::proofs::SendingFacts::follows_from, actor_steps::proofs::SendingFacts::follows_on, actor_steps::proofs::SendingFacts::follows_none, crate::proofs::SentFacts::unless_none, crate::proofs::SentFacts::unless_on, crate::proofs::SentFacts::unless_from, crate::proofs::EndFacts::client_ends_on, crate::proofs::EndFacts::asking_ends, crate::proofs::EndFacts::book_ends, crate::proofs::EndFacts::failures_same, actor_steps::proofs::EndFacts::failures_on, crate::proofs::BeginFacts::begins_still, crate::proofs::BeginFacts::begins_no_more, crate::proofs::NudgeFacts::attempt_has_none))]
 pub fn enter<W: Wait, R: Recorder, L: Link, G: Gate>(
     rt: &W,
     alloc: Global,

@@ -12,6 +12,7 @@ ghost use Rattle.client_loop.specs.Visits.{GoesOnQuietly, visits_of};
 ghost use Rattle.actor_steps.specs.Steps.{IsBookFault};
 ghost use Rattle.actor_steps.specs.Endings.{falls_of};
 ghost use Rattle.event_recorders.specs.OwnLogs.{FindsItsOwn, part_now};
+ghost use Rattle.client_loop.specs.Talking.{EndsUnlogged};
 
 use crate::ending::end;
 use crate::progress::Progress;
@@ -36,8 +37,7 @@ pub(crate) fn log_leave<R: Recorder>(
     ensures outside { OnOk result (Stands (R.own_log recorder.new) (finds stable.now) core.now) }
     ensures silent { sent_of (R.own_log recorder.new) ≡ sent_of (R.own_log recorder.old) }
     ensures quiet { GoesOnQuietly (R.own_log recorder.old) (R.own_log recorder.new) }
-    ensures refused { OnErr result (R.own_log recorder.new ≡ R.own_log recorder.old) }
-    ensures faults { IfErr result IsBookFault }
+    ensures ended { IfErr result (λ f. EndsUnlogged f (R.own_log recorder.old) (R.own_log recorder.new)) }
 {
     log_plain(recorder, Event::Leave(core.client()), stable)?;
     Ok(())
@@ -53,7 +53,7 @@ pub(crate) fn log_leave<R: Recorder>(
 ///
 /// The attempt had its last nudge (913), and then the client rests, and has said its release once more to each
 /// asked node that isn't gone (that last is tested); memory was refused (914), or the book is full or another's (915).
-#[tactic(auto, using(actor_steps::proofs::SendingFacts::follows_from, crate::proofs::SentFacts::unless_none, crate::proofs::SentFacts::unless_from, crate::proofs::BeginFacts::still_client, crate::proofs::NudgeFacts::last_ended, crate::proofs::FindingFacts::stands_own, crate::proofs::FindingFacts::left_still))]
+#[tactic(auto, using(crate::proofs::Steps::leaving))]
 pub fn leave<W: Wait, R: Recorder, L: Link>(
     rt: &W,
     alloc: Global,

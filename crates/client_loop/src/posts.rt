@@ -11,6 +11,8 @@ ghost use Rattle.client_loop.specs.Endings.{IsPostFault};
 ghost use Rattle.vote_weights.specs.Sets.{has_node};
 ghost use Rattle.actor_steps.specs.Steps.{IsBookFault};
 ghost use Rattle.actor_steps.specs.Endings.{falls_of};
+ghost use Rattle.client_loop.specs.Talking.{TalksBy, Listens, EndsUntaken};
+ghost use Rattle.client_loop.specs.Releasing.{EndsWaiting};
 
 use crate::progress::Progress;
 use crate::talking::{hear, tell};
@@ -31,13 +33,10 @@ fn take_parcel<R: Recorder>(
     requires { Stands (R.own_log recorder.old) (finds stable.now) progress.old.core }
     ensures taken { OnOk result (TakesParcel parcel.now.number (R.own_log recorder.old) (R.own_log recorder.new) progress.old progress.new) }
     ensures foreign { (IsFrameFor parcel.now.frame progress.old.core.client → ⊥) → (progress.new ≡ progress.old) × (R.own_log recorder.new ≡ R.own_log recorder.old) }
-    ensures refused { OnErr result ((progress.new ≡ progress.old) × (R.own_log recorder.new ≡ R.own_log recorder.old)) }
-    ensures silent { sent_of (R.own_log recorder.new) ≡ sent_of (R.own_log recorder.old) }
-    ensures stands { Stands (R.own_log recorder.new) (finds stable.now) progress.new.core }
+    ensures ended { IfErr result (λ f. EndsUntaken f (R.own_log recorder.old) (R.own_log recorder.new) progress.old progress.new) }
+    ensures listens { Listens (R.own_log recorder.old) (R.own_log recorder.new) (finds stable.now) progress.old.core progress.new.core }
     ensures keeps { KeepsAsking progress.old progress.new }
     ensures asked { progress.new.asked ≡ progress.old.asked }
-    ensures quiet { GoesOnQuietly (R.own_log recorder.old) (R.own_log recorder.new) }
-    ensures faults { IfErr result IsBookFault }
 {
     let Some((node, heard)) = hear(&mut progress.core, parcel, stable, recorder)? else {
         return Ok(());
@@ -49,7 +48,7 @@ fn take_parcel<R: Recorder>(
 /// Sends again to a node that nudges. A nudge of a node to which nothing was sent in the present wish is
 /// dropped; the last nudge of those that one wish may have ends it, and what is sent to a node that is
 /// gone goes nowhere.
-#[tactic(auto, using(actor_steps::proofs::SendingFacts::follows_none, crate::proofs::SentFacts::unless_none, crate::proofs::NudgeFacts::book_has_none))]
+#[tactic(auto, using(crate::proofs::TalkFacts::talks_still, crate::proofs::NudgeFacts::book_has_none))]
 fn take_nudge<R: Recorder, L: Link>(
     alloc: Global,
     progress: &mut Progress,
@@ -59,12 +58,9 @@ fn take_nudge<R: Recorder, L: Link>(
     link: &mut L,
 ) -> Result<(), RunFault>
     requires { Stands (R.own_log recorder.old) (finds stable.now) progress.old.core }
-    ensures sent { SendsBy result (R.own_log recorder.old) (R.own_log recorder.new) (L.given link.old) (L.given link.new) }
-    ensures stands { Stands (R.own_log recorder.new) (finds stable.now) progress.new.core }
+    ensures talks { TalksBy result (R.own_log recorder.old) (R.own_log recorder.new) (L.given link.old) (L.given link.new) (finds stable.now) progress.new.core }
     ensures keeps { KeepsAsking progress.old progress.new }
-    ensures last { IfErr result (λ f. f ≡ RunFault.GaveUp → HasHadLast progress.new) }
-    ensures quiet { GoesOnQuietly (R.own_log recorder.old) (R.own_log recorder.new) }
-    ensures faults { IfErr result IsPostFault }
+    ensures ended { IfErr result (λ f. EndsWaiting f progress.new) }
     // A nudge of a node to which it has sent something is counted, and nothing else changes.
     ensures counted { progress.new ≡ (if has_node progress.old.asked node then record progress.old { nudges = min (progress.old.nudges + 1) (2 ^ 32 - 1) } else progress.old) }
     // 913: exactly at the last nudge that a wish may have, of a node to which it has sent something.
@@ -84,7 +80,7 @@ fn take_nudge<R: Recorder, L: Link>(
 }
 
 /// Takes the next post. A link over which nothing comes any more has lost every node.
-#[tactic(auto, using(actor_steps::proofs::SendingFacts::follows_none, crate::proofs::SentFacts::unless_none, crate::proofs::NudgeFacts::book_has_none))]
+#[tactic(auto, using(crate::proofs::TalkFacts::talks_still, crate::proofs::TalkFacts::talks_hearing, crate::proofs::NudgeFacts::book_has_none))]
 pub(crate) fn take_post<R: Recorder, L: Link>(
     alloc: Global,
     progress: &mut Progress,
@@ -93,13 +89,10 @@ pub(crate) fn take_post<R: Recorder, L: Link>(
     link: &mut L,
 ) -> Result<(), RunFault>
     requires { Stands (R.own_log recorder.old) (finds stable.now) progress.old.core }
-    ensures sent { SendsBy result (R.own_log recorder.old) (R.own_log recorder.new) (L.given link.old) (L.given link.new) }
-    ensures stands { Stands (R.own_log recorder.new) (finds stable.now) progress.new.core }
+    ensures talks { TalksBy result (R.own_log recorder.old) (R.own_log recorder.new) (L.given link.old) (L.given link.new) (finds stable.now) progress.new.core }
     ensures keeps { KeepsAsking progress.old progress.new }
     ensures asked { progress.new.asked ≡ progress.old.asked }
-    ensures last { IfErr result (λ f. f ≡ RunFault.GaveUp → HasHadLast progress.new) }
-    ensures quiet { GoesOnQuietly (R.own_log recorder.old) (R.own_log recorder.new) }
-    ensures faults { IfErr result IsPostFault }
+    ensures ended { IfErr result (λ f. EndsWaiting f progress.new) }
 {
     let Ok(post) = link.receive() else {
         progress.lose_all();

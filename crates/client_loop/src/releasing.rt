@@ -12,6 +12,7 @@ ghost use Rattle.client_loop.specs.Endings.{IsPostFault};
 ghost use Rattle.client_loop.specs.Nodes.{IsReleased};
 ghost use Rattle.actor_steps.specs.Steps.{IsBookFault};
 ghost use Rattle.actor_steps.specs.Endings.{falls_of};
+ghost use Rattle.client_loop.specs.Talking.{TalksBy};
 
 use crate::posts::take_post;
 use crate::progress::Progress;
@@ -25,7 +26,7 @@ use std::sync::Wait;
 use vote_weights::NodeSet;
 
 /// Says the release to each node that was asked and isn't gone.
-#[tactic(auto, using(actor_steps::proofs::SendingFacts::follows_none, actor_steps::proofs::SendingFacts::follows_on, crate::proofs::SentFacts::unless_on))]
+#[tactic(auto, using(crate::proofs::Steps::talking))]
 pub(crate) fn tell_releases<R: Recorder, L: Link>(
     alloc: Global,
     progress: &Progress,
@@ -34,9 +35,7 @@ pub(crate) fn tell_releases<R: Recorder, L: Link>(
     link: &mut L,
 ) -> Result<(), RunFault>
     requires { Stands (R.own_log recorder.old) (finds stable.now) progress.now.core }
-    ensures sent { SendsBy result (R.own_log recorder.old) (R.own_log recorder.new) (L.given link.old) (L.given link.new) }
-    ensures stands { Stands (R.own_log recorder.new) (finds stable.now) progress.now.core }
-    ensures quiet { GoesOnQuietly (R.own_log recorder.old) (R.own_log recorder.new) }
+    ensures talks { TalksBy result (R.own_log recorder.old) (R.own_log recorder.new) (L.given link.old) (L.given link.new) (finds stable.now) progress.now.core }
     ensures faults { IfErr result IsBookFault }
 {
     for number in 1..=progress.core.ballots().nodes() {
@@ -51,7 +50,7 @@ pub(crate) fn tell_releases<R: Recorder, L: Link>(
 }
 
 /// Says the release to each node that was asked, until each has answered or is gone.
-#[tactic(auto, using(actor_steps::proofs::SendingFacts::follows_on, crate::proofs::SentFacts::unless_on, crate::proofs::NudgeFacts::book_has_none))]
+#[tactic(auto, using(crate::proofs::Steps::talking, crate::proofs::NudgeFacts::book_has_none))]
 pub(crate) fn release<W: Wait, R: Recorder, L: Link>(
     rt: &W,
     alloc: Global,
@@ -61,13 +60,10 @@ pub(crate) fn release<W: Wait, R: Recorder, L: Link>(
     link: &mut L,
 ) -> Result<(), RunFault>
     requires { Stands (R.own_log recorder.old) (finds stable.now) progress.old.core }
-    ensures sent { SendsBy result (R.own_log recorder.old) (R.own_log recorder.new) (L.given link.old) (L.given link.new) }
-    ensures stands { Stands (R.own_log recorder.new) (finds stable.now) progress.new.core }
+    ensures talks { TalksBy result (R.own_log recorder.old) (R.own_log recorder.new) (L.given link.old) (L.given link.new) (finds stable.now) progress.new.core }
     ensures keeps { KeepsAsking progress.old progress.new }
     ensures asked { progress.new.asked ≡ progress.old.asked }
-    ensures last { IfErr result (λ f. f ≡ RunFault.GaveUp → HasHadLast progress.new) }
-    ensures quiet { GoesOnQuietly (R.own_log recorder.old) (R.own_log recorder.new) }
-    ensures faults { IfErr result IsPostFault }
+    ensures ended { IfErr result (λ f. EndsWaiting f progress.new) }
     // Each node of the ballots that was asked has answered, or is gone.
     ensures released { OnOk result (IsReleased progress.new.core.ballots progress.new.asked progress.new.released progress.new.gone) }
 {

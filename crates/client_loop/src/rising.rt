@@ -30,7 +30,7 @@ use vote_weights::BallotList;
 ///
 /// The client has not risen, and nothing is logged: three reopens of the record failed (911), memory was
 /// refused (914), or the book is full or another's (915).
-#[tactic(auto, using(actor_steps::proofs::SendingFacts::first_rise_sends_nothing, actor_steps::proofs::SendingFacts::unused_sends_nothing, crate::proofs::EndFacts::client_ends, actor_steps::proofs::EndFacts::failures_stay, crate::proofs::BeginFacts::risen_client))]
+#[tactic(auto, using(crate::proofs::Steps::rising_first))]
 pub fn rise<R: Recorder>(
     client: ClientId,
     ballots: BallotList,

@@ -15,6 +15,7 @@ ghost use Rattle.actor_steps.specs.Steps.{IsBookFault};
 ghost use Rattle.actor_steps.specs.Endings.{falls_of};
 ghost use Rattle.client_loop.specs.Visits.{GoesOnQuietly, visits_of, visits_softening};
 ghost use Rattle.event_recorders.specs.OwnLogs.{FindsItsOwn, part_now};
+ghost use Rattle.client_loop.specs.Talking.{TalksBy, EndsUnlogged, SoftensGuard, EndsSofteningGuard, HasNotFallen};
 
 use crate::progress::Progress;
 use crate::talking::tell;
@@ -30,7 +31,7 @@ use vote_weights::NodeSet;
 use world_model::Event;
 
 /// Says to the node what the client has to say to it, where it is of the set.
-#[tactic(auto, using(actor_steps::proofs::SendingFacts::follows_none))]
+#[tactic(auto, using(crate::proofs::TalkFacts::talks_still))]
 fn tell_if_granted<R: Recorder, L: Link>(
     alloc: Global,
     core: &ClientCore,
@@ -42,9 +43,7 @@ fn tell_if_granted<R: Recorder, L: Link>(
 ) -> Result<(), RunFault>
     requires { Stands (R.own_log recorder.old) (finds stable.now) core.now }
     ensures told { OnOk result (Tells (if has_node granted node then message_for core.now node else None) node (R.own_log recorder.old) (R.own_log recorder.new)) }
-    ensures sent { SendsBy result (R.own_log recorder.old) (R.own_log recorder.new) (L.given link.old) (L.given link.new) }
-    ensures stands { Stands (R.own_log recorder.new) (finds stable.now) core.now }
-    ensures quiet { GoesOnQuietly (R.own_log recorder.old) (R.own_log recorder.new) }
+    ensures talks { TalksBy result (R.own_log recorder.old) (R.own_log recorder.new) (L.given link.old) (L.given link.new) (finds stable.now) core.now }
     ensures faults { IfErr result IsBookFault }
 {
     if !granted.has(node) {
@@ -54,7 +53,7 @@ fn tell_if_granted<R: Recorder, L: Link>(
 }
 
 /// Says to each node of the set, once, that the client has softened.
-#[tactic(auto, using(actor_steps::proofs::SendingFacts::follows_none, actor_steps::proofs::SendingFacts::follows_on, crate::proofs::SentFacts::unless_on))]
+#[tactic(auto, using(crate::proofs::Steps::talking))]
 fn tell_granted<R: Recorder, L: Link>(
     alloc: Global,
     core: &ClientCore,
@@ -66,9 +65,7 @@ fn tell_granted<R: Recorder, L: Link>(
     requires stands { Stands (R.own_log recorder.old) (finds stable.now) core.now }
     requires softened { SoftensAll core.now core.now.attempt }
     ensures told { OnOk result (TellsSoftened core.now granted (R.own_log recorder.old) (R.own_log recorder.new)) }
-    ensures sent { SendsBy result (R.own_log recorder.old) (R.own_log recorder.new) (L.given link.old) (L.given link.new) }
-    ensures stands { Stands (R.own_log recorder.new) (finds stable.now) core.now }
-    ensures quiet { GoesOnQuietly (R.own_log recorder.old) (R.own_log recorder.new) }
+    ensures talks { TalksBy result (R.own_log recorder.old) (R.own_log recorder.new) (L.given link.old) (L.given link.new) (finds stable.now) core.now }
     ensures faults { IfErr result IsBookFault }
 {
     for number in 1..core.ballots().nodes() + 1 {
@@ -90,11 +87,10 @@ fn log_soften<R: Recorder>(
     requires may { MaySoften core.now }
     requires stands { Stands (R.own_log recorder.old) (finds stable.now) core.now }
     ensures softened { OnOk result (Stands (R.own_log recorder.new) (finds stable.now) (softened core.now)) }
-    ensures silent { sent_of (R.own_log recorder.new) ≡ sent_of (R.own_log recorder.old) }
     ensures visits { OnOk result (visits_of (R.own_log recorder.new) ≡ visits_softening (visits_of (R.own_log recorder.old))) }
-    ensures refused { OnErr result (R.own_log recorder.new ≡ R.own_log recorder.old) }
+    ensures silent { sent_of (R.own_log recorder.new) ≡ sent_of (R.own_log recorder.old) }
     ensures falls { falls_of (R.own_log recorder.new) ≡ falls_of (R.own_log recorder.old) }
-    ensures faults { IfErr result IsBookFault }
+    ensures ended { IfErr result (λ f. EndsUnlogged f (R.own_log recorder.old) (R.own_log recorder.new)) }
 {
     log_plain(recorder, Event::Soften(core.client()), stable)?;
     Ok(())
@@ -145,17 +141,11 @@ pub(crate) fn soften_guard<R: Recorder, L: Link>(
     requires writes { (guard_ticket guard.old).mode ≡ Write }
     requires stands { Stands (R.own_log recorder.old) (finds stable.now) (door_of guard.old) }
     ensures held { IsHeld is_client_inside ticket_of guard.new }
-    ensures told { OnOk result (TellsSoftened (door_of guard.old) granted (R.own_log recorder.old) (R.own_log recorder.new)) }
     ensures lender { lender_of guard.new ≡ lender_of guard.old }
-    ensures ticket { OnOk result (guard_ticket guard.new ≡ softened_ticket (guard_ticket guard.old)) }
-    ensures still { OnErr result ((guard_ticket guard.new ≡ guard_ticket guard.old) ⊎ (guard_ticket guard.new ≡ softened_ticket (guard_ticket guard.old))) }
-    ensures stands { OnOk result (Stands (R.own_log recorder.new) (finds stable.now) (door_of guard.new)) }
     ensures sent { SendsBy result (R.own_log recorder.old) (R.own_log recorder.new) (L.given link.old) (L.given link.new) }
-    ensures visits { OnOk result (visits_of (R.own_log recorder.new) ≡ visits_softening (visits_of (R.own_log recorder.old))) }
-    ensures fewer { OnErr result ((visits_of (R.own_log recorder.new) ≡ visits_of (R.own_log recorder.old)) ⊎ (visits_of (R.own_log recorder.new) ≡ visits_softening (visits_of (R.own_log recorder.old)))) }
-    ensures falls { falls_of (R.own_log recorder.new) ≡ falls_of (R.own_log recorder.old) }
-    ensures own { FindsItsOwn (part_now (R.own_log recorder.new)) (finds stable.now) }
-    ensures faults { IfErr result IsBookFault }
+    ensures softens { OnOk result (SoftensGuard granted (R.own_log recorder.old) (R.own_log recorder.new) (finds stable.now) (door_of guard.old) (door_of guard.new) (guard_ticket guard.old) (guard_ticket guard.new)) }
+    ensures ended { IfErr result (λ f. EndsSofteningGuard f (R.own_log recorder.old) (R.own_log recorder.new) (guard_ticket guard.old) (guard_ticket guard.new)) }
+    ensures up { HasNotFallen (R.own_log recorder.old) (R.own_log recorder.new) (finds stable.now) }
 {
     log_soften(guard.door(), stable, recorder)?;
     guard.soften();

@@ -9,6 +9,8 @@ ghost use Rattle.actor_steps.specs.Steps.{IsBookFault};
 ghost use Rattle.actor_steps.specs.Endings.{falls_of};
 ghost use Rattle.client_loop.specs.Visits.{visits_of, softens, use_of, AsksFor, visits_softening_if};
 ghost use Rattle.event_recorders.specs.OwnLogs.{FindsItsOwn, part_now};
+ghost use Rattle.client_loop.specs.Talking.{HasNotFallen};
+ghost use Rattle.client_loop.specs.Attempting.{HasStayed, EndsStaying};
 
 use crate::softening::soften_guard;
 use client_core::ClientCore;
@@ -48,14 +50,10 @@ pub(crate) fn stay<R: Recorder, L: Link, G: Gate>(
     requires may { MayEnter core.old }
     requires asked { IfSome (ticket_of core.old) (AsksFor (use_of wish.now)) }
     requires stands { Stands (R.own_log recorder.old) (finds stable.now) (inside_of core.old) }
-    ensures told { OnOk result (TellsSoftenedIf (softens wish.now) core.old granted (R.own_log recorder.old) (R.own_log recorder.new)) }
-    ensures left { OnOk result (HasLeft (R.own_log recorder.new) (finds stable.now) core.new) }
     ensures sent { SendsBy result (R.own_log recorder.old) (R.own_log recorder.new) (L.given link.old) (L.given link.new) }
-    ensures visits { OnOk result (visits_of (R.own_log recorder.new) ≡ visits_softening_if (softens wish.now) (visits_of (R.own_log recorder.old))) }
-    ensures fewer { OnErr result ((visits_of (R.own_log recorder.new) ≡ visits_of (R.own_log recorder.old)) ⊎ (visits_of (R.own_log recorder.new) ≡ visits_softening_if (softens wish.now) (visits_of (R.own_log recorder.old)))) }
-    ensures falls { falls_of (R.own_log recorder.new) ≡ falls_of (R.own_log recorder.old) }
-    ensures own { FindsItsOwn (part_now (R.own_log recorder.new)) (finds stable.now) }
-    ensures faults { IfErr result IsBookFault }
+    ensures stayed { OnOk result (HasStayed wish.now granted (R.own_log recorder.old) (R.own_log recorder.new) (finds stable.now) core.old core.new) }
+    ensures ended { IfErr result (λ f. EndsStaying f wish.now (R.own_log recorder.old) (R.own_log recorder.new)) }
+    ensures up { HasNotFallen (R.own_log recorder.old) (R.own_log recorder.new) (finds stable.now) }
 {
     let Some(mut guard) = enter_client(core) else {
         unreachable!()

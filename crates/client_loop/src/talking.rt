@@ -11,6 +11,7 @@ ghost use Rattle.client_loop.specs.Standing.{Stands};
 ghost use Rattle.client_loop.specs.Visits.{GoesOnQuietly, visits_of};
 ghost use Rattle.actor_steps.specs.Steps.{IsBookFault};
 ghost use Rattle.actor_steps.specs.Endings.{falls_of};
+ghost use Rattle.client_loop.specs.Talking.{EndsUnlogged, TalksBy, EndsUnheard, Listens};
 
 use actor_steps::{log_plain, log_reading};
 use client_core::ClientCore;
@@ -36,10 +37,9 @@ fn said<R: Recorder>(
     ensures said { IfOk result (λ o. IfSome o (λ p. sent_of (R.own_log recorder.new) ≡ sent_of (R.own_log recorder.old) ++ sending_to node p.0 p.1 ∷ [])) }
     ensures silent { IfOk result (λ o. IfNone o (R.own_log recorder.new ≡ R.own_log recorder.old)) }
     ensures message { IfOk result (λ o. option_map (λ p. p.1) o ≡ message_for core.now node) }
-    ensures refused { OnErr result (R.own_log recorder.new ≡ R.own_log recorder.old) }
+    ensures ended { IfErr result (λ f. EndsUnlogged f (R.own_log recorder.old) (R.own_log recorder.new)) }
     ensures stands { Stands (R.own_log recorder.new) (finds stable.now) core.now }
     ensures quiet { GoesOnQuietly (R.own_log recorder.old) (R.own_log recorder.new) }
-    ensures faults { IfErr result IsBookFault }
 {
     let Some(message) = core.message_for(node) else {
         return Ok(None);
@@ -49,7 +49,7 @@ fn said<R: Recorder>(
 }
 
 /// Says to the node what the client has to say to it, if there is anything, and sends it.
-#[tactic(auto, using(crate::proofs::SentFacts::tell_follows, actor_steps::proofs::SendingFacts::follows_none, crate::proofs::SentFacts::unless_none, crate::proofs::SentFacts::unless_memory))]
+#[tactic(auto, using(crate::proofs::SentFacts::tell_follows, crate::proofs::SentFacts::unless_memory, crate::proofs::TalkFacts::talks_still))]
 pub(crate) fn tell<R: Recorder, L: Link>(
     alloc: Global,
     core: &ClientCore,
@@ -60,9 +60,7 @@ pub(crate) fn tell<R: Recorder, L: Link>(
 ) -> Result<(), RunFault>
     requires { Stands (R.own_log recorder.old) (finds stable.now) core.now }
     ensures told { OnOk result (Tells (message_for core.now node) node (R.own_log recorder.old) (R.own_log recorder.new)) }
-    ensures sent { SendsBy result (R.own_log recorder.old) (R.own_log recorder.new) (L.given link.old) (L.given link.new) }
-    ensures stands { Stands (R.own_log recorder.new) (finds stable.now) core.now }
-    ensures quiet { GoesOnQuietly (R.own_log recorder.old) (R.own_log recorder.new) }
+    ensures talks { TalksBy result (R.own_log recorder.old) (R.own_log recorder.new) (L.given link.old) (L.given link.new) (finds stable.now) core.now }
     ensures faults { IfErr result IsBookFault }
 {
     let Some((number, message)) = said(core, node, stable, recorder)? else {
@@ -105,13 +103,8 @@ fn heard<R: Recorder>(
     requires addressed { is_for_client message.now core.old.client ≡ true }
     ensures heard { IfOk result (λ o. IfSome o (λ p. Hears number (R.own_log recorder.old) (R.own_log recorder.new) core.old core.new p.0 p.1)) }
     ensures dropped { IfOk result (λ o. IfNone o (HearsNothing (R.own_log recorder.old) (R.own_log recorder.new) core.old core.new)) }
-    ensures refused { OnErr result (HearsNothing (R.own_log recorder.old) (R.own_log recorder.new) core.old core.new) }
-    ensures silent { sent_of (R.own_log recorder.new) ≡ sent_of (R.own_log recorder.old) }
-    ensures stands { Stands (R.own_log recorder.new) (finds stable.now) core.new }
-    ensures phase { phase_of core.new ≡ phase_of core.old }
-    ensures ticket { ticket_of core.new ≡ ticket_of core.old }
-    ensures quiet { GoesOnQuietly (R.own_log recorder.old) (R.own_log recorder.new) }
-    ensures faults { IfErr result IsBookFault }
+    ensures ended { IfErr result (λ f. EndsUnheard f (R.own_log recorder.old) (R.own_log recorder.new) core.old core.new) }
+    ensures listens { Listens (R.own_log recorder.old) (R.own_log recorder.new) (finds stable.now) core.old core.new }
 {
     let event = Event::Hear(core.client(), number);
     let Some(message) = log_reading(recorder, event, message, stable)? else {
@@ -133,13 +126,8 @@ pub(crate) fn hear<R: Recorder>(
     ensures heard { IfOk result (λ o. IfSome o (λ p. HearsOf parcel.now.number (R.own_log recorder.old) (R.own_log recorder.new) core.old core.new p.0 p.1)) }
     ensures dropped { IfOk result (λ o. IfNone o (HearsNothing (R.own_log recorder.old) (R.own_log recorder.new) core.old core.new)) }
     ensures foreign { (IsFrameFor parcel.now.frame core.old.client → ⊥) → result ≡ Ok None }
-    ensures refused { OnErr result (HearsNothing (R.own_log recorder.old) (R.own_log recorder.new) core.old core.new) }
-    ensures silent { sent_of (R.own_log recorder.new) ≡ sent_of (R.own_log recorder.old) }
-    ensures stands { Stands (R.own_log recorder.new) (finds stable.now) core.new }
-    ensures phase { phase_of core.new ≡ phase_of core.old }
-    ensures ticket { ticket_of core.new ≡ ticket_of core.old }
-    ensures quiet { GoesOnQuietly (R.own_log recorder.old) (R.own_log recorder.new) }
-    ensures faults { IfErr result IsBookFault }
+    ensures ended { IfErr result (λ f. EndsUnheard f (R.own_log recorder.old) (R.own_log recorder.new) core.old core.new) }
+    ensures listens { Listens (R.own_log recorder.old) (R.own_log recorder.new) (finds stable.now) core.old core.new }
 {
     let Some(message) = message_to(&parcel.frame, core.client()) else {
         return Ok(None);

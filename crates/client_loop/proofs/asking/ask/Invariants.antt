@@ -1,18 +1,11 @@
-use Rattle.std.proofs.Common.{◌≡◌}
-use Rattle.actor_steps.specs.Endings.{falls_of}
-use Rattle.client_loop.specs.Sendings.{SentFollows}
 use Rattle.client_loop.specs.Remembering.{KeepsAsking}
-use Rattle.client_loop.specs.Standing.{Stands}
-use Rattle.client_loop.specs.Visits.{visits_of}
+use Rattle.client_loop.specs.Talking.{Talks}
 use Rattle.client_loop.proofs.asking.ask.Given as goal
 
 abbrev pub invariant-loop : goal.invariant-loop
 invariant-loop g l = record {
   next : (goal.iterator-loop g).can_next l.iterator';
   finite : (goal.iterator-loop g).is_finite l.iterator';
-  stands : Stands (g.R.Recorder.own_log l.recorder) ((goal.StableRecord-dyn g l.stable.now).finds l.stable.now.1) l.progress.core;
-  visits : visits_of (g.R.Recorder.own_log l.recorder) ≡ visits_of (g.R.Recorder.own_log l.fn.recorder);
-  sent : SentFollows (g.R.Recorder.own_log l.fn.recorder) (g.R.Recorder.own_log l.recorder) (g.L.Link.given l.fn.link) (g.L.Link.given l.link);
+  talks : Talks (g.R.Recorder.own_log l.fn.recorder) (g.R.Recorder.own_log l.recorder) (g.L.Link.given l.fn.link) (g.L.Link.given l.link) ((goal.StableRecord-dyn g l.stable.now).finds l.stable.now.1) l.progress.core;
   keeps : KeepsAsking l.fn.progress l.progress;
-  falls : falls_of (g.R.Recorder.own_log l.recorder) ≡ falls_of (g.R.Recorder.own_log l.fn.recorder);
 }

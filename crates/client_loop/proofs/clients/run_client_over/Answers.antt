@@ -12,7 +12,7 @@ returns-in-Err-clause-falls g c =
 pub returns-clause-falls : goal.returns-clause-falls
 returns-clause-falls g c =
     failed_since (g.R.Recorder.own_log c.args.recorder.now) (g.R.Recorder.own_log c.fulfil_all.new.recorder) _ _ _ c.requires.unused
-    (failures_on _ _ _ _ _ _ c.rise.ensures.begins.falls c.fulfil_all.ensures.falls)
+    (failures_on _ _ _ _ _ _ c.rise.ensures.begins.falls c.fulfil_all.ensures.agrees.falls)
 
 pub returns-clause-ended : goal.returns-clause-ended
 returns-clause-ended g c =
