@@ -16,8 +16,6 @@ use Rattle.world_model.specs.Parts.{Part, NoPart, NodePart, ClientPart, after_ow
 use Rattle.event_recorders.specs.OwnLogs.{OwnLog, IsAdded, IsDownAtRest, IsUnused, part_now, kept_in}
 use Rattle.actor_steps.specs.Steps.{HasFound, IsRisenAgain}
 use Rattle.client_loop.specs.Standing.{part_of, Stands, HasTried, KeepsAttempt}
-use Rattle.client_loop.specs.Visits.{visits_of}
-use Rattle.client_loop.proofs.Logs.{visits-adds}
 
 -- what was read is the one attempt of which the bytes are the record
 abbrev Reads : List ℕ → ℕ → Type 0
@@ -82,10 +80,6 @@ reads-again l l' finds finds' bytes tried slice stuck c who read range h (age, r
     let part = risen-part l l' finds c who age h risen in
     let bytes_are : bytes ≡ client_record_of (risen_attempt age h.before c.attempt) = found.kept ∙ ap (λ (p : Part). kept_in p) part in
     (risen_attempt age h.before c.attempt, only _ (risen-range age h.before c.attempt h.next range) (same ∙ bytes_are))
-
--- rising again leaves the visits
-pub risen-visits : (l l' : OwnLog) (who : ℕ) (bytes tried : List ℕ) → ((age : Age) × IsRisenAgain l (actor.Client who) age l' × ((age ≡ New) ↔ (bytes ≡ tried))) → visits_of l' ≡ visits_of l
-risen-visits l l' who bytes tried (age, risen, new) = visits-adds _ _ _ _ risen.risen ∙ visits-adds _ _ _ _ risen.fallen
 
 -- what a first rising makes of a part
 record FirstRisen (b : List Ballot) (who : ℕ) (p : Part) : Type 0 where

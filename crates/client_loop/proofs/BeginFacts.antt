@@ -15,16 +15,10 @@ use Rattle.client_loop.specs.Standing.{Stands, IsSameClient}
 use Rattle.client_loop.specs.Visits.{Use, Visits, AreWished, BeginsOnly, BeginsNothing, BeginsMore, HasBegun, ArePlaced, use_of, visits_after, visits_from, visits_of, visits_entering, visits_softening, visits_beginning}
 
 pub begins_none : (u : Use) (a b : Visits) → b ≡ a → BeginsOnly u a b
-begins_none u a b same = record {
-  whose = ap (λ (v : Visits). v.whose) same;
-  ballots = ap (λ (v : Visits). v.ballots) same;
-  opening = ap (λ (v : Visits). v.opening) same;
-  times = 0;
-  only = ap (λ (v : Visits). v.begins) same ∙ sym (append-nil a.begins);
-}
+begins_none u a b same = rw same (record { whose = refl; ballots = refl; opening = refl; times = 0; only = sym (append-nil a.begins) })
 
 pub begins_one : (u : Use) (a b : Visits) → b ≡ visits_beginning u a → BeginsOnly u a b
-begins_one u a b more = record { whose = ap (λ (v : Visits). v.whose) more; ballots = ap (λ (v : Visits). v.ballots) more; opening = ap (λ (v : Visits). v.opening) more; times = 1; only = ap (λ (v : Visits). v.begins) more }
+begins_one u a b more = rw more (record { whose = refl; ballots = refl; opening = refl; times = 1; only = refl })
 
 pub more_one : (u : Use) (a b : Visits) → b ≡ visits_beginning u a → BeginsMore a b
 more_one u a b more =
@@ -70,10 +64,10 @@ pub begins_no_more : (u : Use) (a b c : Visits) → BeginsOnly u a b → BeginsN
 begins_no_more u a b c first then = record { whose = then.whose ∙ first.whose; ballots = then.ballots ∙ first.ballots; opening = then.opening ∙ first.opening; times = first.times; only = then.none ∙ first.only }
 
 pub nothing_begun : (a b : Visits) → b ≡ a → BeginsNothing a b
-nothing_begun a b same = record { whose = ap (λ (v : Visits). v.whose) same; ballots = ap (λ (v : Visits). v.ballots) same; opening = ap (λ (v : Visits). v.opening) same; none = ap (λ (v : Visits). v.begins) same }
+nothing_begun a b same = rw same (record { whose = refl; ballots = refl; opening = refl; none = refl })
 
 pub entering_begins : (a b : Visits) → b ≡ visits_entering a → BeginsNothing a b
-entering_begins a b more = record { whose = ap (λ (v : Visits). v.whose) more; ballots = ap (λ (v : Visits). v.ballots) more; opening = ap (λ (v : Visits). v.opening) more; none = ap (λ (v : Visits). v.begins) more }
+entering_begins a b more = rw more (record { whose = refl; ballots = refl; opening = refl; none = refl })
 
 -- the ballots of a log stay
 ballots_after : (v : Visits) (e : Event) → (visits_after v e).ballots ≡ v.ballots
@@ -167,7 +161,7 @@ wish_begun who wishes i w other l l' few at only before = record {
 
 -- nothing, and then an Enter
 pub nothing_after : (a b c : Visits) → BeginsNothing b c → b ≡ a → BeginsNothing a c
-nothing_after a b c then same = record { whose = then.whose ∙ ap (λ (v : Visits). v.whose) same; ballots = then.ballots ∙ ap (λ (v : Visits). v.ballots) same; opening = then.opening ∙ ap (λ (v : Visits). v.opening) same; none = then.none ∙ ap (λ (v : Visits). v.begins) same }
+nothing_after a b c then same = rw same at then
 
 -- the part in which a log was opened
 opening_after : (v : Visits) (e : Event) → (visits_after v e).opening ≡ v.opening

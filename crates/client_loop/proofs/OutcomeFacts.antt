@@ -12,7 +12,7 @@ same_behind (Ok true) a b entered outside = (ap (λ (v : Visits). v.begun) (ente
 same_behind (Ok false) a b entered outside = let same = outside (λ (is : Ok false ≡ Ok true). cc) in (ap (λ (v : Visits). v.begun) same, ap (λ (v : Visits). v.softened) same)
 same_behind (Err f) a b entered outside = let same = outside (λ (is : Err f ≡ Ok true). cc) in (ap (λ (v : Visits). v.begun) same, ap (λ (v : Visits). v.softened) same)
 
--- Behind an Enter the use that was begun last was entered, once.
+-- After an Enter the use that was begun last was entered, once.
 pub enters_use : (u : Use) (o a b : Visits) → b ≡ visits_entering a → a.begun ≡ Some u → a.entered ≡ o.entered → b.entered ≡ o.entered ++ Some u ∷ []
 enters_use u o a b entered begun before =
     ap (λ (v : Visits). v.entered) entered

@@ -1,5 +1,5 @@
 -- What a client's own log tells of what it sends.
-use Rattle.std.proofs.Common.{◌≡◌, ◌↔◌, ◌⊎◌, inl, inr, ℕ, Bool, true, false, List, [], ◌∷◌, ◌++◌, Option, None, Some, refl, sym, ap, ◌∙◌, append-nil, if◌then◌else◌, map, ◌==◌, subst, arith}
+use Rattle.std.proofs.Common.{◌≡◌, ℕ, Bool, true, false, List, [], ◌∷◌, ◌++◌, Option, None, Some, refl, sym, ap, ◌∙◌, append-nil, if◌then◌else◌, map, ◌==◌, subst, arith}
 use Rattle.lock_messages.specs.declared.ids.Actor.TheVariants as actor
 use Rattle.lock_messages.specs.declared.messages.Message.{Message}
 use Rattle.lock_messages.specs.declared.tickets.Mode.{Mode}
@@ -14,17 +14,14 @@ use Rattle.client_core.specs.declared.phases.State.{State}
 use Rattle.client_core.specs.declared.phases.State.TheVariants.{Idle, Chosen, Asking, Inside}
 use Rattle.client_core.specs.Clients.{Client}
 use Rattle.client_core.specs.Calls.{message_for, message_in}
-use Rattle.world_model.specs.declared.events.Age.{Age}
-use Rattle.world_model.specs.declared.events.Age.TheVariants.{New}
 use Rattle.world_model.specs.declared.events.Effect.{Effect}
 use Rattle.world_model.specs.declared.events.Effect.TheVariants as effect
-use Rattle.world_model.specs.declared.events.Event.{Event}
 use Rattle.world_model.specs.declared.events.Event.TheVariants as event
 use Rattle.world_model.specs.Parts.{Part, ClientPart, said_by, number_of}
 use Rattle.event_recorders.specs.declared.faults.RunFault.{RunFault}
 use Rattle.event_recorders.specs.declared.faults.RunFault.TheVariants as fault
-use Rattle.event_recorders.specs.OwnLogs.{OwnLog, part_now, adds, IsAdded}
-use Rattle.actor_steps.specs.Steps.{HasRead, IsRisenAgain}
+use Rattle.event_recorders.specs.OwnLogs.{OwnLog, part_now, IsAdded}
+use Rattle.actor_steps.specs.Steps.{HasRead}
 use Rattle.client_loop.specs.Standing.{Stands, part_of}
 use Rattle.actor_steps.specs.Sendings.{sent_of, sending_to, SentFollows}
 use Rattle.actor_steps.proofs.SendingFacts.{sent_more, silent, follows_none}
@@ -44,17 +41,6 @@ leave_sends_nothing l l' c done added = silent l l' (event.Leave c) done added r
 
 pub soften_sends_nothing : (l l' : OwnLog) (c : ℕ) (done : Effect) → IsAdded l (event.Soften c) done l' → sent_of l' ≡ sent_of l
 soften_sends_nothing l l' c done added = silent l l' (event.Soften c) done added refl
-
--- at most a Fall was logged
-pub fallen_sends_nothing : (l l' : OwnLog) (c : ℕ) → (l' ≡ l) ⊎ IsAdded l (event.Fall (actor.Client c)) effect.Down l' → sent_of l' ≡ sent_of l
-fallen_sends_nothing l l' c (inl same) = ap sent_of same
-fallen_sends_nothing l l' c (inr added) = silent l l' (event.Fall (actor.Client c)) effect.Down added refl
-
-pub rising_sends_nothing : (l l' : OwnLog) (c : ℕ) (bytes tried : List ℕ) → ((age : Age) × IsRisenAgain l (actor.Client c) age l' × ((age ≡ New) ↔ (bytes ≡ tried))) → sent_of l' ≡ sent_of l
-rising_sends_nothing l l' c bytes tried (age, again, new) =
-    let who = actor.Client c in
-    let fallen = adds l (event.Fall who) effect.Down in
-    silent fallen l' (event.Rise who age) effect.Up again.risen refl ∙ silent l fallen (event.Fall who) effect.Down again.fallen refl
 
 -- what a client says to a node is the message that its core has for it
 says_in : (b : List Ballot) (c n attempt : ℕ) (s : State) (is_node none : Bool) (m : Message) → is_node_of (node_count b) n ≡ is_node → (attempt == 0) ≡ none →
@@ -134,17 +120,19 @@ ended-there f later l m l' given between given' memory here first =
     subst (λ g. SentUnlessMemory later l l' given g) (sym here.still)
     (subst (λ x. SentUnlessMemory later l x given between) (sym here.log) (subst (λ k. SentUnlessMemory k l m given between) (memory ∙ sym here.same) first))
 
--- A fault, and the one by which the thread ends behind it; behind want of memory nothing more is done.
+-- If the first fault is not of memory, all was sent before it.
+unless_then : (f later : RunFault) (l m l' : OwnLog) (given between given' : Option (List Sending)) → (f ≡ fault.Memory → ⊥) → SentUnlessMemory f l m given between → SentUnlessMemory later m l' between given' → SentUnlessMemory later l l' given given'
+unless_then f later l m l' given between given' other first second = unless_on later l m l' given between given' (none_left f l m given between other first) second
+
+-- The same of a fault and a later one by which the thread ends. After running out of memory nothing more is done.
 pub unless_both : (f later : RunFault) (l m l' : OwnLog) (given between given' : Option (List Sending)) → (f ≡ fault.Memory → EndsHere later m l' between given') →
     SentUnlessMemory f l m given between → SentUnlessMemory later m l' between given' → SentUnlessMemory later l l' given given'
 unless_both fault.Memory later l m l' given between given' memory first second = ended-there fault.Memory later l m l' given between given' refl (memory refl) first
-unless_both fault.NotReopened later l m l' given between given' memory first second =
-    unless_on later l m l' given between given' (none_left fault.NotReopened l m given between (λ is. absurd (cc is)) first) second
-unless_both fault.Book later l m l' given between given' memory first second = unless_on later l m l' given between given' (none_left fault.Book l m given between (λ is. absurd (cc is)) first) second
-unless_both fault.Spent later l m l' given between given' memory first second = unless_on later l m l' given between given' (none_left fault.Spent l m given between (λ is. absurd (cc is)) first) second
-unless_both fault.TooFewNodes later l m l' given between given' memory first second =
-    unless_on later l m l' given between given' (none_left fault.TooFewNodes l m given between (λ is. absurd (cc is)) first) second
-unless_both fault.GaveUp later l m l' given between given' memory first second = unless_on later l m l' given between given' (none_left fault.GaveUp l m given between (λ is. absurd (cc is)) first) second
+unless_both fault.NotReopened later l m l' given between given' memory first second = unless_then _ _ _ _ _ _ _ _ (λ is. absurd (cc is)) first second
+unless_both fault.Book later l m l' given between given' memory first second = unless_then _ _ _ _ _ _ _ _ (λ is. absurd (cc is)) first second
+unless_both fault.Spent later l m l' given between given' memory first second = unless_then _ _ _ _ _ _ _ _ (λ is. absurd (cc is)) first second
+unless_both fault.TooFewNodes later l m l' given between given' memory first second = unless_then _ _ _ _ _ _ _ _ (λ is. absurd (cc is)) first second
+unless_both fault.GaveUp later l m l' given between given' memory first second = unless_then _ _ _ _ _ _ _ _ (λ is. absurd (cc is)) first second
 
 -- on top of what was there before a log that sends nothing
 

@@ -1,4 +1,4 @@
--- What the steps come to by which a client makes an attempt, ends it, and fulfils a wish.
+-- The outcomes of the steps by which a client makes an attempt, ends it, and fulfils a wish.
 use Rattle.std.specs.Prelude.{◌≡◌, ◌⊎◌, ℕ, Bool, true, false, List, Some, IfSome}
 use Rattle.event_lines.specs.declared.wishes.Wish.{Wish}
 use Rattle.client_core.specs.declared.phases.Phase.TheVariants as phase
@@ -35,8 +35,8 @@ pub record HasBegunFor (u : Use) (l l' : OwnLog) (core : Client) : Type 0 where
   pub more : BeginsMore (visits_of l) (visits_of l')
   pub ticket : IfSome (ticket_of core) (AsksFor u)
 
--- However it ended, the record agrees with the log since the client had fallen so many times: it fell no more often than its record's
--- device failed, and a restart finds nothing but what the client has kept and what it tries to keep.
+-- However it ended, the record agrees with the log. Since it had fallen so many times, the client fell no more often than the device
+-- failed. A restart finds nothing but what the client has kept and what it tries to keep.
 pub record RecordAgrees (times : ℕ) (l : OwnLog) (finds : List (List ℕ)) (before now : ℕ) : Type 0 where
   pub falls : FailuresFollow times (falls_of l) before now
   pub own : FindsItsOwn (part_now l) finds
@@ -57,7 +57,7 @@ pub record IsIdle (l : OwnLog) (finds : List (List ℕ)) (core : Client) : Type 
   pub stands : Stands l finds core
   pub idle : phase_of core ≡ phase.Idle
 
--- However it ended, the client had as many nudges as before and may have as many, has begun, entered and softened nothing, and has not
+-- However it ended, the client had as many nudges as before and may have as many, and its log has nothing new begun, entered, softened or
 -- fallen. A restart finds in its record nothing but what it has kept and what it tries to keep.
 pub record GivesUp (l l' : OwnLog) (finds : List (List ℕ)) (p p' : Progress) : Type 0 where
   pub quiet : GoesOnQuietly l l'
@@ -65,8 +65,8 @@ pub record GivesUp (l l' : OwnLog) (finds : List (List ℕ)) (p p' : Progress) :
   pub most : p'.most_nudges ≡ p.most_nudges
   pub nudges : p'.nudges ≡ p.nudges
 
--- What was to end by the one fault ended by the other: the same, or one of the book. The log tells the cause, and the client rests if the
--- fault ends one attempt alone.
+-- An attempt that was to end by the one fault ended by the other, which is the same or one of the book. The log tells the cause, and the
+-- client rests if the fault ends one attempt alone.
 pub record EndsInstead (f f' : RunFault) (l : OwnLog) (finds : List (List ℕ)) (core : Client) : Type 0 where
   pub which : (f' ≡ f) ⊎ IsBookFault f'
   pub cause : EndsAsking f' l

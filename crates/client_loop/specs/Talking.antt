@@ -1,4 +1,4 @@
--- What the steps come to by which a client says and hears.
+-- The outcomes of the steps by which a client says and hears.
 use Rattle.std.specs.Prelude.{◌≡◌, ◌⊎◌, ℕ, List, Option, Result, Ok}
 use Rattle.lock_messages.specs.declared.tickets.Ticket.{Ticket}
 use Rattle.lossy_link.specs.declared.parcels.Sending.{Sending}
@@ -23,8 +23,8 @@ pub record EndsUnlogged (f : RunFault) (l l' : OwnLog) : Type 0 where
   pub which : IsBookFault f
   pub unlogged : l' ≡ l
 
--- However it ended, the client is as its core is by its own log, which has nothing new begun, entered or softened, and it has not
--- fallen. What was sent is what the log tells. If it ended by a fault, the last message may be missing if memory ran out.
+-- However it ended, the client is as its core is by its own log, which has nothing new begun, entered, softened or fallen. The link was
+-- given what the log tells. If it ended by a fault, the last message may be missing if memory ran out.
 pub record TalksBy {A : Type 0} (r : Result A RunFault) (l l' : OwnLog) (given given' : Option (List Sending)) (finds : List (List ℕ)) (core : Client) : Type 0 where
   pub sent : SendsBy r l l' given given'
   pub stands : Stands l' finds core
@@ -34,8 +34,8 @@ pub record TalksBy {A : Type 0} (r : Result A RunFault) (l l' : OwnLog) (given g
 abbrev pub Talks : OwnLog → OwnLog → Option (List Sending) → Option (List Sending) → List (List ℕ) → Client → Type 0
 Talks l l' given given' finds core = TalksBy {A = Unit {0}} (Ok tt) l l' given given' finds core
 
--- However it ended, the client is as its core is by its own log, in the same phase and with the same ticket. It has sent nothing, begun,
--- entered and softened nothing, and has not fallen.
+-- However it ended, the client is as its core is by its own log, in the same phase and with the same ticket. Its log has nothing new
+-- sent, begun, entered, softened or fallen.
 pub record Listens (l l' : OwnLog) (finds : List (List ℕ)) (core core' : Client) : Type 0 where
   pub silent : sent_of l' ≡ sent_of l
   pub stands : Stands l' finds core'
@@ -53,7 +53,7 @@ pub record EndsUntaken (f : RunFault) (l l' : OwnLog) (p p' : Progress) : Type 0
   pub which : IsBookFault f
   pub nothing : (p' ≡ p) × (l' ≡ l)
 
--- Asking for this wish ended by this fault: by 913 only at the last nudge, and by 912 only if the nodes that granted and those that are
+-- Asking for this wish ended by this fault. It is 913 only at the last nudge, and 912 only if the nodes that granted and those that are
 -- not gone are not enough.
 pub record EndsAskingFor (wish : Wish) (f : RunFault) (p : Progress) : Type 0 where
   pub which : IsAskFault f
@@ -65,7 +65,7 @@ pub record HasNotFallen (l l' : OwnLog) (finds : List (List ℕ)) : Type 0 where
   pub falls : falls_of l' ≡ falls_of l
   pub own : FindsItsOwn (part_now l') finds
 
--- The guard of a client was softened, by the log, by the core and by the ticket, and that was said once to each node of the set.
+-- The client softened, by its log, its core and the ticket of its guard, and said so once to each node of the set.
 pub record SoftensGuard (set : List ℕ) (l l' : OwnLog) (finds : List (List ℕ)) (core core' : Client) (t t' : Ticket) : Type 0 where
   pub told : TellsSoftened core set l l'
   pub ticket : t' ≡ softened_ticket t

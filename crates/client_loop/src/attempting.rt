@@ -10,6 +10,7 @@ ghost use Rattle.actor_steps.specs.Endings.{falls_of, FailuresFollow};
 ghost use Rattle.client_loop.specs.Endings.{ClientEndsFrom, IsAttemptFault, IsAtRest};
 ghost use Rattle.client_loop.specs.Visits.{visits_of, use_of, AsksFor, BeginsOnly, BeginsMore};
 ghost use Rattle.event_recorders.specs.OwnLogs.{FindsItsOwn, part_now};
+ghost use Rattle.client_loop.specs.Talking.{HasNotFallen};
 ghost use Rattle.client_loop.specs.Attempting.{BeginsSilently, HasBegunFor, GoesOnSilently, RecordAgrees, EndsAttempting, IsAsking};
 
 use crate::progress::Progress;
@@ -38,8 +39,7 @@ fn begin<R: Recorder>(
     ensures chosen { OnOk result (HasChosen (R.own_log recorder.new) (finds stable.now) core.new) }
     ensures begun { OnOk result (HasBegunFor (use_of wish.now) (R.own_log recorder.old) (R.own_log recorder.new) core.new) }
     ensures silent { BeginsSilently (use_of wish.now) (R.own_log recorder.old) (R.own_log recorder.new) }
-    ensures falls { falls_of (R.own_log recorder.new) ≡ falls_of (R.own_log recorder.old) }
-    ensures own { FindsItsOwn (part_now (R.own_log recorder.new)) (finds stable.now) }
+    ensures up { HasNotFallen (R.own_log recorder.old) (R.own_log recorder.new) (finds stable.now) }
     ensures ended { IfErr result (λ f. EndsAttempting f (falls_of (R.own_log recorder.old)) (R.own_log recorder.new) (stuck_of stable.now) (spent_of stable.now) (failures_of stable.now) (failures_of stable.now)) }
 {
     let Wish {

@@ -41,8 +41,7 @@ fn log_enter<R: Recorder>(
 ) -> Result<(), RunFault>
     requires may { MayEnter core.now }
     requires stands { Stands (R.own_log recorder.old) (finds stable.now) core.now }
-    ensures inside { OnOk result (Stands (R.own_log recorder.new) (finds stable.now) (inside_of core.now)) }
-    ensures entered { OnOk result (visits_of (R.own_log recorder.new) ≡ visits_entering (visits_of (R.own_log recorder.old))) }
+    ensures entered { OnOk result (EntersAsking (R.own_log recorder.old) (R.own_log recorder.new) (finds stable.now) core.now core.now) }
     ensures silent { sent_of (R.own_log recorder.new) ≡ sent_of (R.own_log recorder.old) }
     ensures begins { BeginsNothing (visits_of (R.own_log recorder.old)) (visits_of (R.own_log recorder.new)) }
     ensures falls { falls_of (R.own_log recorder.new) ≡ falls_of (R.own_log recorder.old) }

@@ -25,5 +25,5 @@ loop-preserved g c = record {
   silent = silently_then _ _ _ _ (silently_on _ _ _ _ c.loop.invariant.silent c.begin.ensures.silent) c.keep_chosen.ensures.silent;
   most = search rules;
   counted = at_least (visits_of (g.R.Recorder.own_log c.args.recorder.now)) (visits_of (g.R.Recorder.own_log c.keep_chosen.new.recorder)) (more_between _ _ _ _ c.loop.invariant.counted c.in_ok-begin.ensures.begun.more c.keep_chosen.ensures.silent.visits);
-  falls = failures_on _ _ _ _ _ _ c.loop.invariant.falls (failures_on _ _ _ _ _ _ (failures_same _ _ _ c.begin.ensures.falls) c.keep_chosen.ensures.agrees.falls);
+  falls = failures_on _ _ _ _ _ _ c.loop.invariant.falls (failures_on _ _ _ _ _ _ (failures_same _ _ _ c.begin.ensures.up.falls) c.keep_chosen.ensures.agrees.falls);
 }

@@ -1,7 +1,7 @@
-use Rattle.std.proofs.Common.{rules}
+use Rattle.std.proofs.Common.{rules, refl}
 use Rattle.actor_steps.proofs.EndFacts.{failures_stay}
 use Rattle.actor_steps.proofs.FindingFacts.{part_own}
-use Rattle.client_loop.proofs.AttemptFacts.{fallen_silently, risen_silently}
+use Rattle.client_loop.proofs.AttemptFacts.{most_silently, risen_silently}
 use Rattle.client_loop.proofs.Attempts.{rises-again, reads-again}
 use Rattle.client_loop.proofs.attempting.rise_anew.Goals as goal
 
@@ -22,7 +22,7 @@ returns-clause-rests g c =
     }
 
 pub returns-in_err-found-clause-silent : goal.returns-in_err-found-clause-silent
-returns-in_err-found-clause-silent g c = fallen_silently _ _ _ c.in_err-found.ensures.refused.1
+returns-in_err-found-clause-silent g c = most_silently _ _ _ _ c.in_err-found.ensures.refused.1 refl (λ v. refl)
 
 pub returns-clause-silent : goal.returns-clause-silent
 returns-clause-silent g c = risen_silently _ _ _ _ _ c.in_ok-found.ensures.risen
