@@ -1,5 +1,5 @@
 -- What a client's log has begun.
-use Rattle.std.proofs.Common.{◌≡◌, inl, inr, ℕ, zero, suc, ◌<◌, ◌≤◌, ◌+◌, get_or, List, [], ◌∷◌, ◌++◌, length, map, replicate, refl, sym, ap, subst, ◌∙◌, arith, append_assoc, append-nil}
+use Rattle.std.proofs.Common.{◌≡◌, inl, inr, ℕ, zero, suc, ◌<◌, ◌+◌, get_or, List, [], ◌∷◌, ◌++◌, length, map, replicate, refl, sym, ap, subst, ◌∙◌, arith, append_assoc, append-nil}
 use Rattle.std.proofs.lemmas.List.{length-append}
 use Rattle.std.proofs.lemmas.List.Elements.{All-nil, All-same, All-append, All-replicate}
 use Rattle.lock_messages.specs.declared.ids.Actor.{Actor}
@@ -25,15 +25,13 @@ more_one u a b more =
     let longer : length b.begins ≡ length a.begins + 1 = ap (λ (v : Visits). length v.begins) more ∙ length-append a.begins (u ∷ []) in
     record { more = omega (arith, longer) }
 
-pub at_least : (a b : Visits) → BeginsMore a b → length a.begins ≤ length b.begins
-at_least a b h = let more = h.more in omega (arith, more)
-
--- as many, then more, and then the same
-pub more_between : (a b c d : Visits) → length a.begins ≤ length b.begins → BeginsMore b c → d ≡ c → BeginsMore a d
-more_between a b c d before h same =
+-- this use alone, then more, and then the same
+pub more_between : (u : Use) (a b c d : Visits) → BeginsOnly u a b → BeginsMore b c → d ≡ c → BeginsMore a d
+more_between u a b c d before h same =
+    let longer : length b.begins ≡ length a.begins + length (replicate before.times u) = ap (λ (us : List Use). length us) before.only ∙ length-append a.begins (replicate before.times u) in
     let still : length d.begins ≡ length c.begins = ap (λ (v : Visits). length v.begins) same in
     let more = h.more in
-    record { more = omega (arith, before, more, still) }
+    record { more = omega (arith, longer, more, still) }
 
 pub more_then_none : (a b c : Visits) → BeginsMore a b → BeginsNothing b c → BeginsMore a c
 more_then_none a b c h then =
@@ -69,28 +67,40 @@ nothing_begun a b same = rw same (record { whose = refl; ballots = refl; opening
 pub entering_begins : (a b : Visits) → b ≡ visits_entering a → BeginsNothing a b
 entering_begins a b more = rw more (record { whose = refl; ballots = refl; opening = refl; none = refl })
 
--- the ballots of a log stay
-ballots_after : (v : Visits) (e : Event) → (visits_after v e).ballots ≡ v.ballots
-ballots_after v (event.Begin c m x place) = refl
-ballots_after v (event.Enter c) = refl
-ballots_after v (event.Try who) = refl
-ballots_after v (event.Kept who) = refl
-ballots_after v (event.SayTo c n) = refl
-ballots_after v (event.Say n) = refl
-ballots_after v (event.Take n k) = refl
-ballots_after v (event.Hear c k) = refl
-ballots_after v (event.Leave c) = refl
-ballots_after v (event.Soften c) = refl
-ballots_after v (event.Fall who) = refl
-ballots_after v (event.Rise who age) = refl
-ballots_after v (event.Switch n p) = refl
+-- Whose the visits of a log are, its ballots, and the part in which it was opened, stay.
+abbrev origin : Visits → OwnLog
+origin v = record { actor = v.whose; ballots = v.ballots; opening = v.opening; events = [] }
 
-ballots_from : (v : Visits) (events : List (Event × Effect)) → (visits_from v events).ballots ≡ v.ballots
-ballots_from v [] = refl
-ballots_from v (p ∷ events) = ballots_from (visits_after v p.0) events ∙ ballots_after v p.0
+origin_after : (v : Visits) (e : Event) → origin (visits_after v e) ≡ origin v
+origin_after v (event.Begin c m x place) = refl
+origin_after v (event.Enter c) = refl
+origin_after v (event.Try who) = refl
+origin_after v (event.Kept who) = refl
+origin_after v (event.SayTo c n) = refl
+origin_after v (event.Say n) = refl
+origin_after v (event.Take n k) = refl
+origin_after v (event.Hear c k) = refl
+origin_after v (event.Leave c) = refl
+origin_after v (event.Soften c) = refl
+origin_after v (event.Fall who) = refl
+origin_after v (event.Rise who age) = refl
+origin_after v (event.Switch n p) = refl
+
+origin_from : (v : Visits) (events : List (Event × Effect)) → origin (visits_from v events) ≡ origin v
+origin_from v [] = refl
+origin_from v (p ∷ events) = origin_from (visits_after v p.0) events ∙ origin_after v p.0
+
+origin_of : (l : OwnLog) → origin (visits_of l) ≡ record l { events = [] }
+origin_of l = origin_from _ l.events
+
+whose_of : (l : OwnLog) → (visits_of l).whose ≡ l.actor
+whose_of l = ap (λ (x : OwnLog). x.actor) (origin_of l)
 
 pub ballots_of : (l : OwnLog) → (visits_of l).ballots ≡ l.ballots
-ballots_of l = ballots_from _ l.events
+ballots_of l = ap (λ (x : OwnLog). x.ballots) (origin_of l)
+
+opening_of : (l : OwnLog) → (visits_of l).opening ≡ l.opening
+opening_of l = ap (λ (x : OwnLog). x.opening) (origin_of l)
 
 pub same_ballots : (l l' : OwnLog) → (visits_of l').ballots ≡ (visits_of l).ballots → l'.ballots ≡ l.ballots
 same_ballots l l' same = sym (ballots_of l') ∙ same ∙ ballots_of l
@@ -110,29 +120,6 @@ placed_since ballots l l' wishes same is placed = subst (λ (b : List Ballot). A
 pub wish_placed : (ballots now : List Ballot) (wishes : List Wish) (i : ℕ) (w other : Wish) → i < length wishes → w ≡ get_or wishes i other → ArePlaced ballots wishes → now ≡ ballots → HasPlace now w.place
 wish_placed ballots now wishes i w other few at placed same =
     subst (λ (b : List Ballot). HasPlace b w.place) (sym same) (subst (λ (v : Wish). HasPlace ballots v.place) (sym at) (placed i other few))
-
--- whose the visits of a log are
-whose_after : (v : Visits) (e : Event) → (visits_after v e).whose ≡ v.whose
-whose_after v (event.Begin c m x place) = refl
-whose_after v (event.Enter c) = refl
-whose_after v (event.Try who) = refl
-whose_after v (event.Kept who) = refl
-whose_after v (event.SayTo c n) = refl
-whose_after v (event.Say n) = refl
-whose_after v (event.Take n k) = refl
-whose_after v (event.Hear c k) = refl
-whose_after v (event.Leave c) = refl
-whose_after v (event.Soften c) = refl
-whose_after v (event.Fall who) = refl
-whose_after v (event.Rise who age) = refl
-whose_after v (event.Switch n p) = refl
-
-whose_from : (v : Visits) (events : List (Event × Effect)) → (visits_from v events).whose ≡ v.whose
-whose_from v [] = refl
-whose_from v (p ∷ events) = whose_from (visits_after v p.0) events ∙ whose_after v p.0
-
-whose_of : (l : OwnLog) → (visits_of l).whose ≡ l.actor
-whose_of l = whose_from _ l.events
 
 -- nothing was begun yet
 pub none_begun : (who : Actor) (wishes : List Wish) (l : OwnLog) → (visits_of l).whose ≡ who → (visits_of l).begins ≡ [] → HasBegun who wishes l
@@ -162,29 +149,6 @@ wish_begun who wishes i w other l l' few at only before = record {
 -- nothing, and then an Enter
 pub nothing_after : (a b c : Visits) → BeginsNothing b c → b ≡ a → BeginsNothing a c
 nothing_after a b c then same = rw same at then
-
--- the part in which a log was opened
-opening_after : (v : Visits) (e : Event) → (visits_after v e).opening ≡ v.opening
-opening_after v (event.Begin c m x place) = refl
-opening_after v (event.Enter c) = refl
-opening_after v (event.Try who) = refl
-opening_after v (event.Kept who) = refl
-opening_after v (event.SayTo c n) = refl
-opening_after v (event.Say n) = refl
-opening_after v (event.Take n k) = refl
-opening_after v (event.Hear c k) = refl
-opening_after v (event.Leave c) = refl
-opening_after v (event.Soften c) = refl
-opening_after v (event.Fall who) = refl
-opening_after v (event.Rise who age) = refl
-opening_after v (event.Switch n p) = refl
-
-opening_from : (v : Visits) (events : List (Event × Effect)) → (visits_from v events).opening ≡ v.opening
-opening_from v [] = refl
-opening_from v (p ∷ events) = opening_from (visits_after v p.0) events ∙ opening_after v p.0
-
-opening_of : (l : OwnLog) → (visits_of l).opening ≡ l.opening
-opening_of l = opening_from _ l.events
 
 -- so the client is the same
 same_client : (l l' : OwnLog) → (visits_of l').whose ≡ (visits_of l).whose → (visits_of l').ballots ≡ (visits_of l).ballots → (visits_of l').opening ≡ (visits_of l).opening → IsSameClient l l'

@@ -1,8 +1,8 @@
 use Rattle.std.proofs.Common.{rules}
 use Rattle.actor_steps.proofs.EndFacts.{failures_on}
-use Rattle.client_loop.specs.Visits.{use_of, visits_of}
+use Rattle.client_loop.specs.Visits.{use_of}
 use Rattle.client_loop.proofs.AttemptFacts.{silently_on, silently_then}
-use Rattle.client_loop.proofs.BeginFacts.{placed_on, more_between, at_least}
+use Rattle.client_loop.proofs.BeginFacts.{placed_on, more_between}
 use Rattle.client_loop.proofs.EndFacts.{failures_same}
 use Rattle.client_loop.proofs.attempting.attempt.Goals as goal
 
@@ -13,7 +13,7 @@ begin-requires-clause-placed g c =
 pub returns-then-branch-clause-begun : goal.returns-then-branch-clause-begun
 returns-then-branch-clause-begun g c = record {
   begun = search rules;
-  more = more_between _ _ _ _ c.loop.invariant.counted c.in_ok-begin.ensures.begun.more c.keep_chosen.ensures.silent.visits;
+  more = more_between _ _ _ _ _ c.loop.invariant.silent.begins c.in_ok-begin.ensures.begun.more c.keep_chosen.ensures.silent.visits;
   ticket = search rules;
 }
 
@@ -24,6 +24,5 @@ loop-preserved g c = record {
   rests = search rules;
   silent = silently_then _ _ _ _ (silently_on _ _ _ _ c.loop.invariant.silent c.begin.ensures.silent) c.keep_chosen.ensures.silent;
   most = search rules;
-  counted = at_least (visits_of (g.R.Recorder.own_log c.args.recorder.now)) (visits_of (g.R.Recorder.own_log c.keep_chosen.new.recorder)) (more_between _ _ _ _ c.loop.invariant.counted c.in_ok-begin.ensures.begun.more c.keep_chosen.ensures.silent.visits);
   falls = failures_on _ _ _ _ _ _ c.loop.invariant.falls (failures_on _ _ _ _ _ _ (failures_same _ _ _ c.begin.ensures.up.falls) c.keep_chosen.ensures.agrees.falls);
 }

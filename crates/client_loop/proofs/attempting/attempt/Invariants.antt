@@ -1,8 +1,8 @@
-use Rattle.std.proofs.Common.{◌≡◌, ◌≤◌, length}
+use Rattle.std.proofs.Common.{◌≡◌}
 use Rattle.actor_steps.specs.Endings.{falls_of, FailuresFollow}
 use Rattle.client_loop.specs.Attempting.{BeginsSilently}
 use Rattle.client_loop.specs.Endings.{IsAtRest}
-use Rattle.client_loop.specs.Visits.{visits_of, use_of}
+use Rattle.client_loop.specs.Visits.{use_of}
 use Rattle.client_loop.proofs.attempting.attempt.Given as goal
 
 abbrev pub invariant-loop : goal.invariant-loop
@@ -12,7 +12,6 @@ invariant-loop g l = record {
   rests : IsAtRest (g.R.Recorder.own_log l.recorder) ((goal.StableRecord-dyn g l.stable.now).finds l.stable.now.1) ((goal.StableRecord-dyn g l.stable.now).stuck_of l.stable.now.1) l.progress.core;
   silent : BeginsSilently (use_of l.wish) (g.R.Recorder.own_log l.fn.recorder) (g.R.Recorder.own_log l.recorder);
   most : l.progress.most_nudges ≡ l.fn.progress.most_nudges;
-  counted : length (visits_of (g.R.Recorder.own_log l.fn.recorder)).begins ≤ length (visits_of (g.R.Recorder.own_log l.recorder)).begins;
   falls : FailuresFollow (falls_of (g.R.Recorder.own_log l.fn.recorder)) (falls_of (g.R.Recorder.own_log l.recorder)) ((goal.StableRecord-dyn g l.fn.stable.now).failures_of l.fn.stable.now.1)
       ((goal.StableRecord-dyn g l.stable.now).failures_of l.stable.now.1);
 }
