@@ -31,8 +31,24 @@ fn looks<L: Link>(link: &mut L, alloc: Global, notes: &Notes) -> Result<u64, Fai
     Ok(notes.takes() - before)
 }
 
-/// At first the link sleeps for 0.05 ms, and each time longer by a 32nd: it looks more than 60 times until 10 ms are over.
-/// Once it has learned that the node takes 10 ms, it sleeps for some 7 ms, and then looks each half of a millisecond.
+/// At first the link looks more than 60 times for an answer after 10 ms, and in the end less than 10 times.
+fn looks_less<L: Link>(link: &mut L, alloc: Global, notes: &Notes) -> Outcome {
+    check_row(looks(link, alloc, notes)? > 60, 3)?;
+    for _ in 2..ANSWERS {
+        looks(link, alloc, notes)?;
+    }
+    check_row(looks(link, alloc, notes)? < 10, 4)?;
+    check_row(notes.millis() == ANSWERS * EACH, 5)
+}
+
+/// An answer that comes earlier than usual waits until the link looks for the first time.
+fn looks_late<L: Link>(link: &mut L, alloc: Global, notes: &Notes) -> Outcome {
+    check_row(looks(link, alloc, notes)? < 4, 6)?;
+    check_row(notes.millis() <= ANSWERS * EACH + 8, 7)
+}
+
+/// At first the link sleeps for 0.05 ms, and each time longer by a 32nd. Once it has learned that the node takes 10 ms, it
+/// sleeps for some 7 ms, and then looks each half of a millisecond.
 fn learns<W: Wait + Copy>(wait: W, alloc: Global) -> Outcome {
     let notes = Notes::new();
     let rt = Timed {
@@ -41,15 +57,8 @@ fn learns<W: Wait + Copy>(wait: W, alloc: Global) -> Outcome {
     };
     let desk = Desk::of(alloc, &notes, answers(alloc)?, 1_000);
     let mut link = link_at(rt, alloc, client(), desk, None);
-    check_row(looks(&mut link, alloc, &notes)? > 60, 3)?;
-    for _ in 2..ANSWERS {
-        looks(&mut link, alloc, &notes)?;
-    }
-    check_row(looks(&mut link, alloc, &notes)? < 10, 4)?;
-    check_row(notes.millis() == ANSWERS * EACH, 5)?;
-    // An answer that comes earlier than usual waits until the link looks for the first time.
-    check_row(looks(&mut link, alloc, &notes)? < 4, 6)?;
-    check_row(notes.millis() <= ANSWERS * EACH + 8, 7)
+    looks_less(&mut link, alloc, &notes)?;
+    looks_late(&mut link, alloc, &notes)
 }
 
 #[test]
