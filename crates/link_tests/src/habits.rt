@@ -28,7 +28,7 @@ fn looks<L: Link>(link: &mut L, alloc: Global, notes: &Notes) -> Result<u64, Fai
     let before = notes.takes();
     check_row(link.send(node(), parcel(alloc, b"ask")?).is_ok(), 1)?;
     check_row(matches!(link.receive(), Ok(Post::Parcel(_))), 2)?;
-    Ok(notes.takes() - before)
+    Ok(notes.takes().saturating_sub(before))
 }
 
 /// At first the link looks more than 60 times for an answer after 10 ms, and in the end less than 10 times.
