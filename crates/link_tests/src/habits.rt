@@ -3,6 +3,7 @@
 use crate::desks::{Coming, Desk, Notes, Timed, coming_answer, parcel};
 use crate::places::{client, node};
 use crate::repeats::link_at;
+use lock_messages::Actor;
 use lossy_link::{Link, Post};
 use std::alloc::Global;
 use std::sync::Wait;
@@ -23,12 +24,17 @@ fn answers(alloc: Global) -> Result<Vec<Coming>, Failure> {
     Ok(coming)
 }
 
-/// Sends something to the node and waits for its answer. Returns how often the link looked for it.
-fn looks<L: Link>(link: &mut L, alloc: Global, notes: &Notes) -> Result<u64, Failure> {
+/// Waits for an answer. Returns how often the link looked for it.
+fn looks_until<L: Link>(link: &mut L, notes: &Notes) -> Result<u64, Failure> {
     let before = notes.takes();
-    check_row(link.send(node(), parcel(alloc, b"ask")?).is_ok(), 1)?;
     check_row(matches!(link.receive(), Ok(Post::Parcel(_))), 2)?;
     Ok(notes.takes().saturating_sub(before))
+}
+
+/// Sends something to the node and waits for its answer. Returns how often the link looked for it.
+fn looks<L: Link>(link: &mut L, alloc: Global, notes: &Notes) -> Result<u64, Failure> {
+    check_row(link.send(node(), parcel(alloc, b"ask")?).is_ok(), 1)?;
+    looks_until(link, notes)
 }
 
 /// At first the link looks more than 60 times for an answer after 10 ms, and in the end less than 10 times.
@@ -64,4 +70,35 @@ fn learns<W: Wait + Copy>(wait: W, alloc: Global) -> Outcome {
 #[test]
 fn a_node_that_takes_as_long_each_time(rt: HostRuntime) -> Outcome {
     learns(rt, rt.alloc())
+}
+
+/// Asks two nodes. After the answer of the first the link looks less than 20 times for that of the second.
+fn looks_on<L: Link>(link: &mut L, alloc: Global, notes: &Notes) -> Outcome {
+    let other = Actor::Node(node_id(2));
+    check_row(link.send(node(), parcel(alloc, b"ask")?).is_ok(), 1)?;
+    check_row(link.send(other, parcel(alloc, b"ask")?).is_ok(), 1)?;
+    check_row(looks_until(link, notes)? > 60, 3)?;
+    check_row(looks_until(link, notes)? < 20, 4)?;
+    check_row(notes.millis() == 18, 5)
+}
+
+/// The second node answers 8 ms after the first, which answers after 10 ms. The link sleeps on for a 16th of the time that it
+/// has waited for the second node, and does not begin at 0.05 ms again.
+fn goes_on<W: Wait + Copy>(wait: W, alloc: Global) -> Outcome {
+    let notes = Notes::new();
+    let rt = Timed {
+        wait,
+        notes: &notes,
+    };
+    let mut coming = Vec::new(alloc);
+    coming.push(coming_answer(alloc, 10, node_id(1))?)?;
+    coming.push(coming_answer(alloc, 18, node_id(2))?)?;
+    let desk = Desk::of(alloc, &notes, coming, 1_000);
+    let mut link = link_at(rt, alloc, client(), desk, None);
+    looks_on(&mut link, alloc, &notes)
+}
+
+#[test]
+fn a_second_node_that_takes_longer(rt: HostRuntime) -> Outcome {
+    goes_on(rt, rt.alloc())
 }
