@@ -1,16 +1,20 @@
 -- How the calls of a session end by a fault.
-use Rattle.std.proofs.Common.{◌≡◌, ◌⊎◌, inl, inr, ℕ, Bool, true, false, List, Option, None, Some, refl, sym, ap, subst, ◌∙◌}
+use Rattle.std.proofs.Common.{◌≡◌, ◌⊎◌, inl, inr, ℕ, Bool, true, false, List, Option, None, Some, Result, Ok, Err, refl, sym, ap, subst, ◌∙◌}
+use Rattle.std.specs.Result.{OnOk}
 use Rattle.client_core.specs.declared.phases.Phase.TheVariants as phase
 use Rattle.client_core.specs.Clients.{Client, phase_of}
 use Rattle.event_recorders.specs.declared.faults.RunFault.{RunFault}
+use Rattle.event_recorders.specs.declared.faults.RunFault.TheVariants as fault
 use Rattle.event_recorders.specs.OwnLogs.{OwnLog, part_now}
 use Rattle.actor_steps.specs.Endings.{falls_of}
+use Rattle.actor_steps.proofs.SendingFacts.{follows_on}
 use Rattle.client_loop.specs.Endings.{ClientEndsFrom, EndsAsking, IsOutside, IsPostFault}
-use Rattle.client_loop.specs.Releasing.{told_of}
 use Rattle.client_loop.specs.Standing.{Stands}
 use Rattle.client_loop.specs.Visits.{Visits, BeginsMore}
 use Rattle.client_loop.proofs.EndFacts.{asking_ends, is_outside}
-use Rattle.lock_session.specs.Sessions.{SessionValue, UnlessOver, EndsLeaving, EndsBy, GivesUpAtLast, EndsSettling, EndsGuard, EndsSoftening, FailsToSoften, GoesOn, GoesOut, Settles, Releases, HasNothingLeft, HasReleased, HasReleasedAt, IsResting}
+use Rattle.client_loop.proofs.SentFacts.{unless_none, unless_on}
+use Rattle.lock_session.specs.Sessions.{SessionValue, UnlessOver, EndsLeaving, EndsBy, GivesUpAtLast, EndsSettling, EndsGuard, EndsSoftening, FailsToSoften, GoesOn, GoesOut, Settles, Releases, HasNothingLeft, HasReleasedAt, IsResting, StandsAfter, over_by}
+use Rattle.lock_session.specs.Outcomes.{Sends, SendsUnlessMemory, Saying, HasReleasedLast}
 
 pub over_before : (over : Option RunFault) (f : RunFault) (Still Ended : Type 0) → over ≡ Some f → Still → UnlessOver over f Still Ended
 over_before over f Still Ended is still = subst (λ (o : Option RunFault). UnlessOver o f Still Ended) (sym is) (refl, still)
@@ -48,7 +52,7 @@ Entering f falls failures v' = GivesUpAtLast f v' × ClientEndsFrom f falls v'.l
 pub entering_ends : (f : RunFault) (v v' : SessionValue) → v.over ≡ None → ClientEndsFrom f (falls_of v.log) v'.log v'.stuck v'.spent v.failures v'.failures → GivesUpAtLast f v' → EndsBy f v v'
 entering_ends f v v' on ends last = not_over v.over f (v' ≡ v) (Entering f (falls_of v.log) v.failures v') on (last, ends)
 
-pub settles_out : (f : RunFault) (v m v' : SessionValue) → v.over ≡ None → GoesOut v m → EndsSettling f m v' → EndsSettling f v v'
+settles_out : (f : RunFault) (v m v' : SessionValue) → v.over ≡ None → GoesOut v m → EndsSettling f m v' → EndsSettling f v v'
 settles_out f v m v' on out ends = not_over v.over f (v' ≡ v) (EndsLeaving f v') on (how_ended m.over f (v' ≡ m) (EndsLeaving f v') (over_still v m out ∙ on) ends)
 
 pub leaves_by : (f : RunFault) (v m v' : SessionValue) → GoesOut v m → EndsSettling f m v' → EndsGuard f v v'
@@ -90,7 +94,7 @@ releasing_ends f v v' core on is stands idle last free = leaving_ends f v v' on 
     asks f (inr book) outside = inl book
 
 -- saying it ended so after a settling that went well
-pub settling_then : (f : RunFault) (v m v' : SessionValue) → v.over ≡ None → m.over ≡ None → EndsSettling f m v' → EndsSettling f v v'
+settling_then : (f : RunFault) (v m v' : SessionValue) → v.over ≡ None → m.over ≡ None → EndsSettling f m v' → EndsSettling f v v'
 settling_then f v m v' on still ends = not_over v.over f (v' ≡ v) (EndsLeaving f v') on (how_ended m.over f (v' ≡ m) (EndsLeaving f v') still ends)
 
 -- what a session released after it settled
@@ -103,11 +107,57 @@ releases_then v m v' first then = record {
 }
 
 -- what was asked behind a settling, of the attempt that the session had if it had nothing left to say
-pub asked_at : (Quiet : Type 0) (nodes : List ℕ) (v m v' : SessionValue) → (HasNothingLeft v → Quiet × (m ≡ v)) → v'.asked ≡ told_of m.core.attempt nodes → HasReleased v' → IsResting v' → HasReleasedAt nodes v v'
-asked_at Quiet nodes v m v' nothing asked released rests = record {
+asked_at : (Quiet : Type 0) (nodes : List ℕ) (v m v' : SessionValue) → (HasNothingLeft v → Quiet × (m ≡ v)) → HasReleasedLast nodes m v' → IsResting v' → HasReleasedAt nodes v v'
+asked_at Quiet nodes v m v' nothing last rests = record {
   attempt = m.core.attempt;
-  asked = asked;
+  asked = last.asked;
   same = λ quiet. ap (λ (x : SessionValue). x.core.attempt) (nothing quiet).1;
-  released = released;
+  released = last.released;
   rests = rests;
+}
+
+pub released_at : (r : Result (Unit {0}) RunFault) (Quiet : Type 0) (nodes : List ℕ) (v m v' : SessionValue) → (HasNothingLeft v → Quiet × (m ≡ v)) → OnOk r (HasReleasedLast nodes m v') → Saying r m v' → OnOk r (HasReleasedAt nodes v v')
+released_at (Ok done) Quiet nodes v m v' nothing last says = asked_at Quiet nodes v m v' nothing last says.rests
+released_at (Err f) Quiet nodes v m v' nothing last says = tt
+
+-- what saying releases came to
+
+-- the session was over before, by this fault
+stands_over : (f : RunFault) (v : SessionValue) → v.over ≡ Some f → over_by f ≡ Some f → StandsAfter f v
+stands_over fault.TooFewNodes v is ends = absurd (let clash : None ≡ Some fault.TooFewNodes = ends in cc)
+stands_over fault.GaveUp v is ends = absurd (let clash : None ≡ Some fault.GaveUp = ends in cc)
+stands_over fault.NotReopened v is ends = is
+stands_over fault.Memory v is ends = is
+stands_over fault.Book v is ends = is
+stands_over fault.Spent v is ends = is
+
+pub says_over : (f : RunFault) (v : SessionValue) → v.over ≡ Some f → GoesOn v.over v.left v.log v.finds v.stuck v.core → Saying (Err f) v v
+says_over f v is goes = record {
+  sent = tt;
+  rests = tt;
+  faulted = unless_none f v.log v.log v.given v.given refl refl;
+  after = stands_over f v is (subst (λ (o : Option RunFault). GoesOn o v.left v.log v.finds v.stuck v.core) is goes);
+  ended = over_before v.over f (v ≡ v) (EndsLeaving f v) is refl;
+}
+
+-- the core had left before
+pub says_out : (r : Result (Unit {0}) RunFault) (v m v' : SessionValue) → v.over ≡ None → GoesOut v m → Saying r m v' → Saying r v v'
+says_out (Ok done) v m v' on out says = record { sent = subst (λ (x : SessionValue). Sends x v') out.others says.sent; rests = says.rests; faulted = tt; after = tt; ended = tt }
+says_out (Err f) v m v' on out says = record {
+  sent = tt;
+  rests = tt;
+  faulted = subst (λ (x : SessionValue). SendsUnlessMemory f x v') out.others says.faulted;
+  after = says.after;
+  ended = settles_out f v m v' on out says.ended;
+}
+
+-- the session had settled before
+pub says_then : (r : Result (Unit {0}) RunFault) (v m v' : SessionValue) → v.over ≡ None → m.over ≡ None → Sends v m → Saying r m v' → Saying r v v'
+says_then (Ok done) v m v' on still sends says = record { sent = follows_on v.log m.log v'.log v.given m.given v'.given sends says.sent; rests = says.rests; faulted = tt; after = tt; ended = tt }
+says_then (Err f) v m v' on still sends says = record {
+  sent = tt;
+  rests = tt;
+  faulted = unless_on f v.log m.log v'.log v.given m.given v'.given sends says.faulted;
+  after = says.after;
+  ended = settling_then f v m v' on still says.ended;
 }

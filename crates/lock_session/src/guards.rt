@@ -1,18 +1,17 @@
 // A guard of a session that is inside.
 
-ghost use Rattle.std.specs.Prelude.{◌≡◌, ◌⊎◌, true, None, Some, OnOk, OnErr, IfOk, IfErr};
+ghost use Rattle.std.specs.Prelude.{◌≡◌, ◌⊎◌, true, None, Some, OnOk, IfOk, IfErr};
 ghost use Rattle.std.specs.Borrow.{sem, RestsIfErr};
 ghost use Rattle.lock_messages.specs.declared.tickets.Mode.TheVariants.{Read, Write};
 ghost use Rattle.lock_messages.specs.declared.tickets.Ticket.{Ticket as TicketValue};
 ghost use Rattle.lock_model.specs.Ballots.{HasPlace};
 ghost use Rattle.world_model.specs.Company.{are_together};
-ghost use Rattle.client_core.specs.Clients.{phase_of, softened_ticket};
-ghost use Rattle.client_core.specs.declared.phases.Phase.TheVariants as phase;
-ghost use Rattle.client_loop.specs.Sendings.{SentFollows, SentUnlessMemory};
+ghost use Rattle.client_core.specs.Clients.{softened_ticket};
 ghost use Rattle.client_loop.specs.Visits.{AsksFor};
 ghost use Rattle.lock_session.specs.contracts.sessions.Session.{the_row};
 ghost use Rattle.lock_session.specs.Guards.{session_of, lender_of, guard_ticket, IsHeld};
-ghost use Rattle.lock_session.specs.Sessions.{IsResting, IsInside, GoesOut, StandsAfter, Settles, Softens, EndsSoftening, EndsGuard, Enters, EndsEntering, EndsTrying, HasReleased, use_by};
+ghost use Rattle.lock_session.specs.Outcomes.{SendsUnlessMemory, IsOutside, LeavesWell};
+ghost use Rattle.lock_session.specs.Sessions.{IsInside, GoesOut, StandsAfter, Settles, Softens, EndsSoftening, EndsGuard, Enters, EndsEntering, EndsTrying, use_by};
 
 use crate::{OwnRecord, Session, TryFault};
 use client_loop::Patience;
@@ -175,14 +174,11 @@ impl<S: OwnRecord, R: Recorder, L: Link> SessionGuard<'_, S, R, L> {
     /// before, by this fault: nothing is said.
     #[tactic(auto, using(crate::proofs::EndFacts::leaves_by))]
     pub fn leave<W: Wait>(self, rt: &W, alloc: Global) -> Result<(), RunFault>
-        ensures rests { OnOk result (IsResting self.exit.0.now) }
-        ensures released { OnOk result (IsHeld self.entry → HasReleased self.exit.0.now) }
         ensures settles { Settles (session_of self.entry) self.exit.0.now }
-        ensures sent { OnOk result (SentFollows (session_of self.entry).log self.exit.0.now.log (session_of self.entry).given self.exit.0.now.given) }
-        ensures faulted { IfErr result (λ f. SentUnlessMemory f (session_of self.entry).log self.exit.0.now.log (session_of self.entry).given self.exit.0.now.given) }
+        ensures outside { IsOutside self.exit.0.now }
+        ensures left { LeavesWell result (IsHeld self.entry) (session_of self.entry) self.exit.0.now }
+        ensures faulted { IfErr result (λ f. SendsUnlessMemory f (session_of self.entry) self.exit.0.now) }
         ensures after { IfErr result (λ f. StandsAfter f self.exit.0.now) }
-        ensures on { OnOk result ((session_of self.entry).over ≡ None) }
-        ensures outside { phase_of self.exit.0.now.core ≡ phase.Inside → ⊥ }
         ensures ended { IfErr result (λ f. EndsGuard f (session_of self.entry) self.exit.0.now) }
     {
         let SessionGuard { session, ticket: _ } = self;

@@ -1,20 +1,17 @@
 // A session.
 
-ghost use Rattle.std.specs.Prelude.{◌≡◌, ◌⊎◌, [], true, false, None, Some, Ok, OnOk, OnErr, IfOk, IfErr, IfSome};
+ghost use Rattle.std.specs.Prelude.{◌≡◌, ◌⊎◌, [], true, false, None, Ok, OnOk, IfOk, IfErr};
 ghost use Rattle.lock_model.specs.Ballots.{HasPlace};
 ghost use Rattle.lock_messages.specs.declared.tickets.Mode.TheVariants.{Write};
 ghost use Rattle.lock_messages.specs.declared.tickets.Ticket.{Ticket as TicketValue};
 ghost use Rattle.client_core.specs.Clients.{phase_of, ticket_of, softened_ticket};
 ghost use Rattle.client_core.specs.declared.phases.Phase.TheVariants as phase;
 ghost use Rattle.event_recorders.specs.OwnLogs.{IsUnused, FindsPart, FindsItsOwn, part_now};
-ghost use Rattle.actor_steps.specs.Endings.{falls_of, FailuresFollow};
 ghost use Rattle.event_recorders.specs.Sharing.{HaveMet, HasSeenInside};
-ghost use Rattle.client_loop.specs.Sendings.{sent_of, SentFollows, SentUnlessMemory};
 ghost use Rattle.client_loop.specs.Standing.{KeepsAttempt};
 ghost use Rattle.client_loop.specs.Endings.{ClientEndsFrom};
-ghost use Rattle.client_loop.specs.Releasing.{told_of};
-ghost use Rattle.client_loop.specs.Visits.{visits_of};
-ghost use Rattle.lock_session.specs.Sessions.{IsSessionOf, IsResting, IsInside, IsInsideStill, IsInsideFor, Softens, EndsSoftening, GoesOut, Settles, StandsAfter, EndsSettling, HasNothingLeft, Enters, TakesBack, EndsEntering, HasReleased, HasReleasedAt, Releases, use_by, over_by};
+ghost use Rattle.lock_session.specs.Outcomes.{HasRisen, Saying, HasSettled, StaysIfNothingLeft, IsOutside, IsOutsideUnlessOver, HasReleasedLast, AnswersAs};
+ghost use Rattle.lock_session.specs.Sessions.{IsResting, IsInside, IsInsideStill, IsInsideFor, Softens, EndsSoftening, GoesOut, Settles, Enters, TakesBack, EndsEntering, HasReleased, HasReleasedAt, Releases, use_by, over_by};
 
 use crate::OwnRecord;
 use crate::gates::OpenGate;
@@ -100,11 +97,7 @@ impl<S: OwnRecord, R: Recorder, L: Link> Session<S, R, L> {
         requires ballots { (R.own_log recorder).ballots ≡ ballots }
         requires found { FindsPart (R.own_log recorder).opening (S.StableRecord.finds stable) }
         requires kept { KeepsAttempt (R.own_log recorder).opening }
-        ensures whose { IfOk result (IsSessionOf client ballots (R.own_log recorder).opening) }
-        ensures rests { IfOk result IsResting }
-        ensures silent { IfOk result (λ s. (sent_of s.log ≡ []) × (s.given ≡ L.given link)) }
-        ensures visits { IfOk result (λ s. ((visits_of s.log).begins ≡ []) × ((visits_of s.log).entered ≡ []) × ((visits_of s.log).softened ≡ [])) }
-        ensures falls { IfOk result (λ s. FailuresFollow 0 (falls_of s.log) (S.StableRecord.failures_of stable) s.failures) }
+        ensures risen { IfOk result (HasRisen client ballots (R.own_log recorder).opening (S.StableRecord.failures_of stable) (L.given link)) }
         ensures ended { IfErr result (λ e. ClientEndsFrom e.fault 0 (R.own_log e.recorder) (S.StableRecord.stuck_of e.stable) (S.StableRecord.spent_of e.stable) (S.StableRecord.failures_of stable) (S.StableRecord.failures_of e.stable)) }
         ensures own { IfErr result (λ e. FindsItsOwn (part_now (R.own_log e.recorder)) (S.StableRecord.finds e.stable)) }
         ensures back { IfErr result (λ e. (R.own_log e.recorder ≡ R.own_log recorder) × (e.link ≡ link)) }
@@ -175,18 +168,14 @@ impl<S: OwnRecord, R: Recorder, L: Link> Session<S, R, L> {
     }
 
     /// Says that the core has left.
-    #[tactic(auto, using(crate::proofs::EndFacts::leaving_ends, crate::proofs::EndFacts::goes_free))]
+    #[tactic(auto, using(crate::proofs::Steps::leaving))]
     fn say_leave<W: Wait>(&mut self, rt: &W, alloc: Global) -> Result<(), RunFault>
         requires on { self.old.over ≡ None }
         requires left { self.old.left ≡ true }
         ensures settles { Settles self.old self.new }
-        ensures rests { OnOk result (IsResting self.new) }
+        ensures says { Saying result self.old self.new }
         ensures released { OnOk result (HasReleased self.new) }
-        ensures sent { OnOk result (SentFollows self.old.log self.new.log self.old.given self.new.given) }
-        ensures faulted { IfErr result (λ f. SentUnlessMemory f self.old.log self.new.log self.old.given self.new.given) }
-        ensures after { IfErr result (λ f. StandsAfter f self.new) }
-        ensures outside { phase_of self.new.core ≡ phase.Inside → ⊥ }
-        ensures ended { IfErr result (λ f. EndsSettling f self.old self.new) }
+        ensures outside { IsOutside self.new }
     {
         let told = self.stable.leave(
             rt,
@@ -211,19 +200,13 @@ impl<S: OwnRecord, R: Recorder, L: Link> Session<S, R, L> {
     /// The attempt had its last nudge (913), and then the session has left, and rests; the session was over by
     /// this fault, and nothing is done; memory was refused (914), or the book is full or another's (915), and
     /// then it is over.
-    #[tactic(auto, using(crate::proofs::EndFacts::over_before, crate::proofs::EndFacts::settles_out, crate::proofs::EndFacts::nothing_left, client_loop::proofs::SentFacts::unless_none))]
+    #[tactic(auto, using(crate::proofs::Steps::settling))]
     pub fn settle<W: Wait>(&mut self, rt: &W, alloc: Global) -> Result<(), RunFault>
         ensures settles { Settles self.old self.new }
-        ensures rests { OnOk result (IsResting self.new) }
-        ensures released { OnOk result ((self.old.left ≡ true) ⊎ (phase_of self.old.core ≡ phase.Inside) → HasReleased self.new) }
-        ensures sent { OnOk result (SentFollows self.old.log self.new.log self.old.given self.new.given) }
-        ensures faulted { IfErr result (λ f. SentUnlessMemory f self.old.log self.new.log self.old.given self.new.given) }
-        ensures after { IfErr result (λ f. StandsAfter f self.new) }
-        ensures on { OnOk result (self.old.over ≡ None) }
-        ensures nothing { HasNothingLeft self.old → OnErr result ⊥ × (self.new ≡ self.old) }
-        // It is outside then, unless it was over in the middle of being inside.
-        ensures outside { (phase_of self.old.core ≡ phase.Inside → self.old.over ≡ None) → phase_of self.new.core ≡ phase.Inside → ⊥ }
-        ensures ended { IfErr result (λ f. EndsSettling f self.old self.new) }
+        ensures says { Saying result self.old self.new }
+        ensures settled { OnOk result (HasSettled self.old self.new) }
+        ensures nothing { StaysIfNothingLeft result self.old self.new }
+        ensures outside { IsOutsideUnlessOver self.old self.new }
     {
         if let Some(fault) = self.ended {
             return Err(fault);
@@ -246,12 +229,8 @@ impl<S: OwnRecord, R: Recorder, L: Link> Session<S, R, L> {
     ) -> Result<(), RunFault>
         requires rests { IsResting self.old }
         ensures releases { Releases self.old self.new }
-        ensures rests { OnOk result (IsResting self.new) }
-        ensures released { OnOk result (HasReleased self.new × (self.new.asked ≡ told_of self.old.core.attempt nodes)) }
-        ensures sent { OnOk result (SentFollows self.old.log self.new.log self.old.given self.new.given) }
-        ensures faulted { IfErr result (λ f. SentUnlessMemory f self.old.log self.new.log self.old.given self.new.given) }
-        ensures after { IfErr result (λ f. StandsAfter f self.new) }
-        ensures ended { IfErr result (λ f. EndsSettling f self.old self.new) }
+        ensures says { Saying result self.old self.new }
+        ensures released { OnOk result (HasReleasedLast nodes self.old self.new) }
     {
         let told = self.stable.release_at(
             rt,
@@ -278,7 +257,7 @@ impl<S: OwnRecord, R: Recorder, L: Link> Session<S, R, L> {
     ///
     /// The call had its last nudge (913), and then the session rests. The session was over by this fault, and nothing is
     /// done. It ran out of memory (914), or the book is full or another's (915), and then it is over.
-    #[tactic(auto, using(crate::proofs::EndFacts::asked_at, crate::proofs::EndFacts::settling_then, crate::proofs::EndFacts::releases_then, crate::proofs::EndFacts::over_before, client_loop::proofs::SentFacts::unless_follows, actor_steps::proofs::SendingFacts::follows_on))]
+    #[tactic(auto, using(crate::proofs::Steps::releasing))]
     pub fn release_at<W: Wait>(
         &mut self,
         rt: &W,
@@ -287,11 +266,8 @@ impl<S: OwnRecord, R: Recorder, L: Link> Session<S, R, L> {
         nudges: u32,
     ) -> Result<(), RunFault>
         ensures releases { Releases self.old self.new }
+        ensures says { Saying result self.old self.new }
         ensures released { OnOk result (HasReleasedAt nodes self.old self.new) }
-        ensures sent { OnOk result (SentFollows self.old.log self.new.log self.old.given self.new.given) }
-        ensures faulted { IfErr result (λ f. SentUnlessMemory f self.old.log self.new.log self.old.given self.new.given) }
-        ensures after { IfErr result (λ f. StandsAfter f self.new) }
-        ensures ended { IfErr result (λ f. EndsSettling f self.old self.new) }
     {
         self.settle(rt, alloc)?;
         self.say_release(rt, alloc, nodes, nudges)
@@ -368,7 +344,7 @@ impl<S: OwnRecord, R: Recorder, L: Link> Session<S, R, L> {
     }
 
     /// Says what is left to say, asks for a use and is inside; whether it is.
-    #[tactic(auto, using(crate::proofs::EndFacts::settling_ends, crate::proofs::EndFacts::ends_later, crate::proofs::EndFacts::more_since, client_loop::proofs::BeginFacts::begins_none))]
+    #[tactic(auto, using(crate::proofs::Steps::entering))]
     pub(crate) fn come_in<W: Wait>(
         &mut self,
         rt: &W,
@@ -390,7 +366,7 @@ impl<S: OwnRecord, R: Recorder, L: Link> Session<S, R, L> {
     }
 
     /// Goes on inside as a reader, where it is inside as a writer.
-    #[tactic(auto, using(crate::proofs::EndFacts::over_before, crate::proofs::EndFacts::softening_ends, client_loop::proofs::FindingFacts::stands_own))]
+    #[tactic(auto, using(crate::proofs::Steps::softening))]
     pub(crate) fn soften(&mut self, alloc: Global) -> Result<(), RunFault>
         ensures still { (t : TicketValue) → IsInside self.old t → IsInsideStill t self.new }
         ensures softened { OnOk result ((t : TicketValue) → IsInside self.old t → t.mode ≡ Write → IsInside self.new (softened_ticket t) × Softens self.old self.new) }
@@ -423,11 +399,8 @@ impl<S: OwnRecord, R: Recorder, L: Link> Session<S, R, L> {
     pub fn into_parts(self) -> (S, R, L)
         ensures log { R.own_log result.1 ≡ self.log }
         ensures whose { ((R.own_log result.1).actor ≡ Actor.Client self.client) × ((R.own_log result.1).ballots ≡ self.ballots) }
-        ensures finds { S.StableRecord.finds result.0 ≡ self.finds }
         ensures own { FindsItsOwn (part_now (R.own_log result.1)) (S.StableRecord.finds result.0) }
-        ensures stuck { S.StableRecord.stuck_of result.0 ≡ self.stuck }
-        ensures spent { S.StableRecord.spent_of result.0 ≡ self.spent }
-        ensures failures { S.StableRecord.failures_of result.0 ≡ self.failures }
+        ensures stable { AnswersAs self (S.StableRecord.finds result.0) (S.StableRecord.stuck_of result.0) (S.StableRecord.spent_of result.0) (S.StableRecord.failures_of result.0) }
         ensures given { L.given result.2 ≡ self.given }
     {
         let Session {
