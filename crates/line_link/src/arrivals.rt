@@ -104,6 +104,11 @@ impl Arrivals {
         }
     }
 
+    /// Whether a post waits for its turn.
+    pub(crate) fn has_more(&self) -> bool {
+        self.backlog.has_more()
+    }
+
     /// The next post that waits for its turn, if one does.
     pub(crate) fn waiting(&mut self) -> Option<Post> {
         self.backlog.next()

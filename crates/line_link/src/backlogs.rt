@@ -103,6 +103,16 @@ impl Backlog {
         self.posts.len() >= MAX_AHEAD || self.looked >= MAX_AHEAD
     }
 
+    /// Whether a post waits for its turn.
+    pub(crate) fn has_more(&self) -> bool {
+        for post in &self.posts {
+            if !self.is_over(post) {
+                return true;
+            }
+        }
+        false
+    }
+
     /// The next post whose turn it is.
     pub(crate) fn next(&mut self) -> Option<Post> {
         self.looked = 0;

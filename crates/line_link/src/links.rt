@@ -217,4 +217,9 @@ impl<R: Wait + Clock + Copy, C: Carrier + Drop> Link for LineLink<R, C> {
         let rt = self.rt;
         next_post(&rt, &mut self.carrier, &self.letters, &mut self.arrivals)
     }
+
+    /// Whether a post waits for its turn. At a client none does.
+    fn has_more(&self) -> bool {
+        self.arrivals.has_more()
+    }
 }

@@ -19,8 +19,9 @@ struct Row {
     attempt: u64,
 }
 
-/// Two clients release attempts at once, the first one also an attempt that is over. It does so again when nothing waits.
-const ROWS: [Row; 6] = [
+/// Two clients release attempts at once, the first one also an attempt that is over, twice. It does so again when nothing
+/// waits.
+const ROWS: [Row; 7] = [
     Row {
         at: 0,
         client: 1,
@@ -47,14 +48,19 @@ const ROWS: [Row; 6] = [
         attempt: 2,
     },
     Row {
+        at: 0,
+        client: 1,
+        attempt: 1,
+    },
+    Row {
         at: 30,
         client: 1,
         attempt: 1,
     },
 ];
 
-/// What comes of them, by the places of the rows.
-const BROUGHT: [usize; 4] = [1, 2, 4, 5];
+/// What comes of them, by the places of the rows, and whether more has come then.
+const BROUGHT: [(usize, bool); 4] = [(1, true), (2, true), (4, false), (6, false)];
 
 /// The frame by which the client of a row releases its attempt at n1.
 fn frame_of(alloc: Global, row: &Row) -> Result<Bytes, Failure> {
@@ -93,8 +99,10 @@ fn brings_row<L: Link>(link: &mut L, alloc: Global, place: usize) -> Outcome {
 
 /// Whether the link brings what is to come of all rows, and nothing else.
 fn brings_all<L: Link>(link: &mut L, alloc: Global) -> Outcome {
-    for place in &BROUGHT {
+    check_row(!link.has_more(), 0)?;
+    for (place, has_more) in &BROUGHT {
         brings_row(link, alloc, *place)?;
+        check_row(link.has_more() == *has_more, *place)?;
     }
     ends(link, 9)
 }

@@ -41,3 +41,7 @@ abbrev pub Brings : Option (List Post) → Result Post LinkFault → Option (Lis
 Brings None answer after = after ≡ None
 Brings (Some []) answer after = (answer ≡ Err Closed) × (after ≡ Some [])
 Brings (Some (post ∷ posts)) answer after = (answer ≡ Ok post) × (after ≡ Some posts)
+
+-- a link that says that a post has come brings one, as far as it is known what comes
+abbrev pub HasMore : Bool → Option (List Post) → Type 0
+HasMore more coming = more ≡ true → coming ≡ Some [] → ⊥

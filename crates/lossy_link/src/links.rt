@@ -1,7 +1,7 @@
 // What it means to be a link.
 
 ghost use Rattle.std.specs.Prelude.{◌≡◌, Bool, List, Option, OnOk, OnErr, IsOkUnless};
-ghost use Rattle.lossy_link.specs.Links.{one_more, refused_after, Brings};
+ghost use Rattle.lossy_link.specs.Links.{one_more, refused_after, Brings, HasMore};
 ghost use Rattle.lossy_link.specs.declared.parcels.Post.{Post as PostValue};
 ghost use Rattle.lossy_link.specs.declared.parcels.Sending.{Sending as SendingValue};
 
@@ -46,4 +46,11 @@ pub trait Link {
         ensures closed { IsOkUnless result LinkFault.Closed }
         ensures given { given self.new ≡ given self.old }
         ensures refused { refused self.new ≡ refused self.old };
+
+    /// Whether a post has come, so that the next `receive` brings one and does not wait. A link that can't tell says no.
+    fn has_more(&self) -> bool
+        ensures more { HasMore result (coming self.now) }
+    {
+        false
+    }
 }

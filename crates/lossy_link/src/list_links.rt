@@ -95,4 +95,9 @@ impl Link for ListLink {
     fn receive(&mut self) -> Result<Post, LinkFault> {
         self.posts.next().ok_or(LinkFault::Closed)
     }
+
+    /// Whether a post is left.
+    fn has_more(&self) -> bool {
+        self.posts.len() > 0
+    }
 }

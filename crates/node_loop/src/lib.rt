@@ -4,6 +4,7 @@
 //! or another problem, decides, keeps what changes, logs that this is kept, and only then says its replies
 //! and sends them. It is generic in the recorder by which it logs, in the link over which it hears and
 //! sends, and in the gate that is called before a keep, so it holds no lock of its own between two events.
+//! `rise` and `serve` are its two parts, for a loop of another kind.
 //!
 //! The crate promises that a node logs only events that its own log allows, each while its record finds
 //! what the node has kept by then; that its core is always what its log tells of it; that over a link
@@ -23,4 +24,4 @@ mod attending;
 mod replies;
 mod running;
 
-pub use running::{run_node, run_node_over};
+pub use running::{rise, run_node, run_node_over, serve, tell_gone};

@@ -21,9 +21,12 @@ use std::alloc::Global;
 use std::sync::Wait;
 use voter_core::{NodeCore, VoterFault};
 
-/// The node rises with what its record is found to be.
+/// The node rises with what its record is found to be, and returns its core.
+///
+/// The caller owes what it owes `run_node`. The errors: three reopens of the record failed (911), out of memory (914), or
+/// the log takes no more (915).
 #[tactic(auto, using(crate::proofs::OpeningFacts::added_opening, actor_steps::proofs::SendingFacts::first_rise_sends_nothing, actor_steps::proofs::SendingFacts::unused_sends_nothing))]
-fn rise<R: Recorder>(
+pub fn rise<R: Recorder>(
     alloc: Global,
     node: NodeId,
     stable: &mut dyn StableRecord,
@@ -45,9 +48,12 @@ fn rise<R: Recorder>(
     }
 }
 
-/// Attends to one post after the other, until no more come.
+/// Attends to one post after the other, as `run_node` does, until no more come.
+///
+/// The caller owes a node that is up and has answered all that it took, with just its core's record kept. The errors are
+/// those of `run_node`.
 #[tactic(auto, using(crate::proofs::KeepFacts::stands_own))]
-fn serve<W: Wait, R: Recorder, L: Link, G: Gate>(
+pub fn serve<W: Wait, R: Recorder, L: Link, G: Gate>(
     rt: &W,
     alloc: Global,
     core: &mut NodeCore,
@@ -96,7 +102,7 @@ fn live<W: Wait, R: Recorder, L: Link, G: Gate>(
 
 /// Tells every client that the node is gone, as far as there is memory for it.
 #[tactic(auto, using(crate::proofs::UnsentFacts::gone_is_told))]
-fn tell_gone<L: Link>(node: NodeId, link: &mut L)
+pub fn tell_gone<L: Link>(node: NodeId, link: &mut L)
     ensures gone { TellsGone node (L.given link.old) (L.given link.new) (L.refused link.new) }
 {
     let _ = link.tell_all(Post::Gone(node));

@@ -13,12 +13,15 @@
 //! - The lines tell the log, in the words of the law of merging.
 //! - After a write has failed the recorder takes nothing more (812, with which a loop ends by 915).
 //!
+//! A `BatchJournal` may hold lines back until the actor keeps its record. Contracts count them as written.
+//!
 //! `OwnJournals` in `specs/` says which line an event has. The crate uses `event_recorders` for the trait,
 //! `world_actors` for nodes and clients, `own_journals` and `event_lines` for lines, `line_streams` for writing,
 //! `event_lists` for the log that no memory holds, `merge_model` for own runs, and `journal_merge` for what lines tell.
 #![tactic(auto)]
 
 mod actors;
+mod batch_journals;
 mod clients;
 mod lines;
 mod messages;
@@ -26,6 +29,7 @@ mod nodes;
 mod recorders;
 
 pub use actors::OwnActor;
+pub use batch_journals::BatchJournal;
 pub use clients::OwnClient;
 pub use nodes::OwnNode;
 pub use recorders::OwnRecorder;

@@ -9,9 +9,9 @@ ghost use Rattle.journal_merge.specs.LineMerges.{TellsLines};
 ghost use Rattle.own_recorders.specs.OwnTurns.{ComesWith, HasTurned};
 ghost use Rattle.own_recorders.specs.OwnJournals.{HoldsLog, IsAllowedSomewhere, IsLine, IsRead, Logs, event_line, log_lines, next_line};
 
-use crate::OwnActor;
 use crate::lines::{life_line, plain_line, reading_line};
 use crate::messages::is_message;
+use crate::{BatchJournal, OwnActor};
 use event_lists::EventList;
 use event_recorders::laws::own_logs_tell_parts;
 use event_recorders::{LogFault, Recorder};
@@ -19,7 +19,7 @@ use line_streams::write_text;
 use lock_messages::{Actor, Message};
 use stable_record::StableRecord;
 use std::alloc::{AllocError, Global};
-use std::io::Write;
+use std::io::{self, Write};
 use std::marker::Model;
 use vote_weights::BallotList;
 use world_model::{Effect, Event, StepFault};
@@ -208,6 +208,16 @@ impl<K: OwnActor, W: Write + Drop> OwnRecorder<K, W> {
     {
         is_message(message);
         self.add(event, Some(*message))
+    }
+}
+
+impl<K: OwnActor, W: BatchJournal + Drop> OwnRecorder<K, W> {
+    /// Lets out the lines that the journal holds back, before the actor keeps this record. After an error some of them may
+    /// be out.
+    pub fn let_out(&mut self, next: &[u8]) -> io::Result<()>
+        ensures { self.new ≡ self.old }
+    {
+        self.journal.let_out(next)
     }
 }
 

@@ -1,0 +1,2 @@
+pub mod BatchFacts
+pub mod RunFacts
