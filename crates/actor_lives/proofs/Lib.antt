@@ -1,2 +1,3 @@
 pub mod LifeFacts
 pub mod ServingFacts
+pub mod Steps

@@ -39,7 +39,7 @@ pub struct ClientEnd<W: Write + Drop, L: Link> {
 ///
 /// The end tells a fault that ended the session: the record's file failed (911), out of memory (914), the journal can't
 /// be written (915), or no attempt is left or no change of the record can be numbered (916).
-#[tactic(auto, using(crate::proofs::LifeFacts::log_is, crate::proofs::LifeFacts::risen_log, crate::proofs::LifeFacts::all_sent, crate::proofs::LifeFacts::sent_unless, client_loop::proofs::SentFacts::told_nothing))]
+#[tactic(auto, using(crate::proofs::Steps::living))]
 pub fn run_client_life<T: Wait, W: Write + Drop, L: Link, D: Desk>(
     rt: &T,
     alloc: Global,

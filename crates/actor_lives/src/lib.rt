@@ -6,15 +6,15 @@
 //! The crate promises of each life:
 //!
 //! - Its log is an own run from the part that the record told, and its journal has the lines of the log.
-//! - Each event is logged while a restart finds what the actor has kept by then. So no reply leaves before the record has
-//!   it.
+//! - A node sends nothing that its record does not have. It keeps the record once for all messages that have come.
+//! - A client logs and sends while a restart finds what it has kept by then.
 //! - What was sent is what the log tells.
 //! - A client says `inside` only while its own log has it inside, and `outside` only when it is outside.
 //!
 //! It promises nothing of what a link or a desk brings, and not that a life ends.
 //!
-//! It uses `node_loop` for nodes, `lock_session` and `session_files` for clients, `own_recorders` for logs and journals,
-//! `client_commands` for commands, and the crates of their types.
+//! It uses `node_batches` and `node_loop` for nodes, `lock_session` and `session_files` for clients, `own_recorders` for
+//! logs and journals, `client_commands` for commands, and the crates of their types.
 #![tactic(auto)]
 
 mod client_lives;

@@ -1,23 +1,21 @@
 // A node's life.
 
-ghost use Rattle.std.specs.Prelude.{◌≡◌, ◌∷◌, [], ℕ, List, OnOk, IfOk, IfErr};
+ghost use Rattle.std.specs.Prelude.{◌≡◌, ◌∷◌, [], ℕ, List, OnOk, OnErr, IfOk, IfErr};
 ghost use Rattle.lock_messages.specs.declared.ids.Actor.TheVariants as who;
 ghost use Rattle.stable_record.specs.declared.node_records.NodeRecord.{NodeRecord};
-ghost use Rattle.lossy_link.specs.Links.{all_more};
 ghost use Rattle.world_model.specs.Parts.{NodePart};
-ghost use Rattle.event_recorders.specs.OwnLogs.{FindsItsOwn, part_now};
-ghost use Rattle.node_loop.specs.Replies.{sent_of};
+ghost use Rattle.node_loop.specs.Endings.{EndsIdle};
 ghost use Rattle.node_loop.specs.Standing.{as_opened, IsReady, IsNodeFault};
-ghost use Rattle.node_loop.specs.Unsent.{HasGone};
+ghost use Rattle.node_batches.specs.Batches.{FindsLast, HasGone};
 ghost use Rattle.actor_lives.specs.Lives.{IsLogOf, IsOpened, KeepsJournal};
 
 use admission_policy::Pair;
-use event_recorders::{Recorder, RunFault};
+use event_recorders::RunFault;
 use lock_messages::NodeId;
 use lock_session::OpenGate;
 use lossy_link::Link;
-use node_loop::run_node_over;
-use own_recorders::{OwnActor, OwnNode, OwnRecorder};
+use node_batches::run_node_in_batches;
+use own_recorders::{BatchJournal, OwnActor, OwnNode, OwnRecorder};
 use session_files::SessionFile;
 use stable_record::{RecordFault, read_node};
 use std::alloc::Global;
@@ -64,22 +62,23 @@ pub fn open_node(
 }
 
 /// Runs the node's loop over its record's file.
-fn attend<T: Wait, R: Recorder, L: Link>(
+#[tactic(auto, using(node_batches::proofs::BatchFacts::cause_faults))]
+fn attend<T: Wait, K: OwnActor, W: BatchJournal + Drop, L: Link>(
     rt: &T,
     alloc: Global,
     node: NodeId,
     stable: &mut SessionFile,
-    recorder: &mut R,
+    recorder: &mut OwnRecorder<K, W>,
     link: &mut L,
 ) -> Result<(), RunFault>
-    requires { (kept : NodeRecord) × IsReady (R.own_log recorder.old) node kept stable.old.record.finds }
-    ensures sent { OnOk result (L.given link.new ≡ all_more (L.given link.old) (sent_of (R.own_log recorder.new))) }
-    ensures faulted { IfErr result (λ f. HasGone node f (R.own_log recorder.new) (L.given link.old) (L.given link.new) (L.refused link.new)) }
-    ensures own { FindsItsOwn (part_now (R.own_log recorder.new)) stable.new.record.finds }
-    ensures opened { as_opened (R.own_log recorder.new) ≡ as_opened (R.own_log recorder.old) }
+    requires { (kept : NodeRecord) × IsReady recorder.old.log node kept stable.old.record.finds }
+    ensures done { OnOk result (EndsIdle recorder.new.log (L.given link.old) (L.given link.new) (L.coming link.new)) }
+    ensures found { OnOk result (FindsLast recorder.new.log stable.new.record.finds) }
+    ensures faulted { OnErr result (HasGone node recorder.new.log stable.new.record.finds (L.given link.old) (L.given link.new) (L.refused link.new)) }
+    ensures opened { as_opened recorder.new.log ≡ as_opened recorder.old.log }
     ensures faults { IfErr result IsNodeFault }
 {
-    run_node_over(
+    run_node_in_batches(
         rt,
         alloc,
         node,
@@ -92,15 +91,15 @@ fn attend<T: Wait, R: Recorder, L: Link>(
 }
 
 /// Runs a node's life: it rises with what its record holds, takes messages and keeps what they change, and sends its
-/// replies, until nothing comes any more over its link.
+/// replies, until nothing comes any more over its link. It keeps its record once for all messages that have come.
 ///
 /// The caller owes the node with this number, down, with what it has kept; and a record in which a restart finds just
 /// that. The node decides by the plain rule of its problem.
 ///
 /// The end tells a fault of the node's loop: the record's file failed (911), out of memory (914), the journal can't be
-/// written (915), or no change of the record can be numbered (916).
+/// written (915), or no change of the record can be numbered (916). Then nothing was sent that is not kept.
 #[tactic(auto, using(crate::proofs::LifeFacts::node_ready, crate::proofs::LifeFacts::log_of))]
-pub fn run_node_life<T: Wait, K: OwnActor, W: Write + Drop, L: Link>(
+pub fn run_node_life<T: Wait, K: OwnActor, W: BatchJournal + Drop, L: Link>(
     rt: &T,
     alloc: Global,
     node: NodeId,
@@ -113,9 +112,9 @@ pub fn run_node_life<T: Wait, K: OwnActor, W: Write + Drop, L: Link>(
     requires opened { (found : List ℕ) × IsOpened found (K.part actor) × (stable.old.record.finds ≡ found ∷ []) }
     ensures whose { IsLogOf (who.Node node) (K.ballots actor) (K.part actor) result.recorder.log }
     ensures kept { KeepsJournal result.recorder }
-    ensures sent { OnOk result.ended (L.given link.new ≡ all_more (L.given link.old) (sent_of result.recorder.log)) }
-    ensures faulted { IfErr result.ended (λ f. HasGone node f result.recorder.log (L.given link.old) (L.given link.new) (L.refused link.new)) }
-    ensures own { FindsItsOwn (part_now result.recorder.log) stable.new.record.finds }
+    ensures done { OnOk result.ended (EndsIdle result.recorder.log (L.given link.old) (L.given link.new) (L.coming link.new)) }
+    ensures found { OnOk result.ended (FindsLast result.recorder.log stable.new.record.finds) }
+    ensures faulted { OnErr result.ended (HasGone node result.recorder.log stable.new.record.finds (L.given link.old) (L.given link.new) (L.refused link.new)) }
     ensures faults { IfErr result.ended IsNodeFault }
 {
     let mut recorder = OwnRecorder::over(alloc, actor, journal);
@@ -127,7 +126,7 @@ pub fn run_node_life<T: Wait, K: OwnActor, W: Write + Drop, L: Link>(
 /// Runs a node's life as `run_node_life` does, and keeps nothing of it but its end.
 ///
 /// The caller owes what `run_node_life` asks for.
-pub fn live_as_node<T: Wait, K: OwnActor, W: Write + Drop, L: Link>(
+pub fn live_as_node<T: Wait, K: OwnActor, W: BatchJournal + Drop, L: Link>(
     rt: &T,
     alloc: Global,
     node: NodeId,

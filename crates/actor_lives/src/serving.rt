@@ -124,7 +124,7 @@ fn ended_inside(
 
 /// Asks several nodes at once for the lock, and does not wait. If the client gets it, it is inside until a command lets
 /// it leave or the commands end.
-#[tactic(auto, using(crate::proofs::ServingFacts::inside_rests, crate::proofs::ServingFacts::inside_over, crate::proofs::ServingFacts::busy_rests, crate::proofs::ServingFacts::entering_rests, crate::proofs::ServingFacts::entering_over))]
+#[tactic(auto, using(crate::proofs::Steps::trying))]
 fn attempt_together<W: Wait, S: OwnRecord, R: Recorder, L: Link, D: Desk>(
     rt: &W,
     alloc: Global,
@@ -150,7 +150,7 @@ fn attempt_together<W: Wait, S: OwnRecord, R: Recorder, L: Link, D: Desk>(
 }
 
 /// Asks one node after another for the lock, and waits. Then it does what `attempt_together` does.
-#[tactic(auto, using(crate::proofs::ServingFacts::inside_rests, crate::proofs::ServingFacts::inside_over, crate::proofs::ServingFacts::entering_rests, crate::proofs::ServingFacts::entering_over))]
+#[tactic(auto, using(crate::proofs::Steps::entering))]
 fn attempt_in_turn<W: Wait, S: OwnRecord, R: Recorder, L: Link, D: Desk>(
     rt: &W,
     alloc: Global,
@@ -199,7 +199,7 @@ fn attempt<W: Wait, S: OwnRecord, R: Recorder, L: Link, D: Desk>(
 }
 
 /// Says the release of the last attempt to the nodes that have to answer it yet, and returns those that still have to.
-#[tactic(auto, using(crate::proofs::ServingFacts::rests_none, crate::proofs::ServingFacts::expecting_rests, crate::proofs::ServingFacts::releasing_rests, crate::proofs::ServingFacts::releasing_over, crate::proofs::ServingFacts::released_again, crate::proofs::ServingFacts::owing_to))]
+#[tactic(auto, using(crate::proofs::Steps::releasing))]
 fn release<W: Wait, S: OwnRecord, R: Recorder, L: Link, D: Desk>(
     rt: &W,
     alloc: Global,
@@ -405,7 +405,7 @@ fn take_next<W: Wait, S: OwnRecord, R: Recorder, L: Link, D: Desk>(
 /// # Errors
 ///
 /// The session is over by this fault: 911, 914, 915 or 916.
-#[tactic(auto, using(crate::proofs::ServingFacts::rests_none, crate::proofs::ServingFacts::rests_on, crate::proofs::ServingFacts::over_again, crate::proofs::ServingFacts::all_owe, crate::proofs::ServingFacts::none_owe))]
+#[tactic(auto, using(crate::proofs::Steps::serving))]
 pub fn serve_client<W: Wait, S: OwnRecord, R: Recorder, L: Link, D: Desk>(
     rt: &W,
     alloc: Global,

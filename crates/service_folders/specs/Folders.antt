@@ -32,6 +32,9 @@ record_end = codes ".record"
 abbrev pub journal_end : List ℕ
 journal_end = codes ".journal"
 
+abbrev pub batch_end : List ℕ
+batch_end = codes ".batch"
+
 -- the record of a node that has kept its problem and no entry
 abbrev pub new_node_record : Problem → List ℕ
 new_node_record p = node_record_of (record { problem = p; entries = [] })

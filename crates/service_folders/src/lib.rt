@@ -34,5 +34,5 @@ mod services;
 pub use faults::ServiceFault;
 pub use making::make_service;
 pub use parts::Part;
-pub use paths::{journal_path, record_path};
+pub use paths::{batch_path, journal_path, record_path};
 pub use services::{Service, open_service};

@@ -1,7 +1,7 @@
 // The paths of files in a service's directory.
 
 ghost use Rattle.std.specs.Prelude.{◌≡◌, IfOk, string_bytes};
-ghost use Rattle.service_folders.specs.Folders.{file_path, actor_path, record_end, journal_end};
+ghost use Rattle.service_folders.specs.Folders.{file_path, actor_path, record_end, journal_end, batch_end};
 
 use lock_messages::Actor;
 use std::alloc::{AllocError, Global};
@@ -20,6 +20,14 @@ pub fn journal_path(alloc: Global, folder: &str, actor: Actor) -> Result<String,
     ensures { IfOk result (λ path. string_bytes path ≡ actor_path folder.now actor journal_end) }
 {
     format!(in alloc; "{folder}/{actor}.journal")
+}
+
+/// The path of the mark beside a node's journal, as `locks/n1.batch`. It tells which lines belong to the batch that the node
+/// let out last. The only error is running out of memory.
+pub fn batch_path(alloc: Global, folder: &str, actor: Actor) -> Result<String, AllocError>
+    ensures { IfOk result (λ path. string_bytes path ≡ actor_path folder.now actor batch_end) }
+{
+    format!(in alloc; "{folder}/{actor}.batch")
 }
 
 /// The path of a file of this name in a directory. The only error is running out of memory.

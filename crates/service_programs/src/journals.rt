@@ -12,7 +12,7 @@ use std::os::unix::fs::OpenOptionsExt;
 pub enum Journaling {
     /// Each line is written before others can see the event. The end may be lost if the power goes.
     Written,
-    /// Each line is also synced.
+    /// What is written is also synced.
     Synced,
     /// There is no journal.
     Unwritten,
@@ -21,7 +21,31 @@ pub enum Journaling {
 /// The mode of a new journal's file.
 const JOURNAL_MODE: u32 = 0o660;
 
-/// The writer of a journal.
+/// Opens a journal that is there, to write at its end.
+pub(crate) fn add_to<F: Files<File = File>>(files: &F, path: &str) -> io::Result<File> {
+    OpenOptions::new().append(true).open(files, path)
+}
+
+/// Opens the journal of the actor, to write at its end. It makes the file if there is none. The faults are 968 (the file
+/// can't be opened) and 933 (out of memory).
+pub(crate) fn open_journal<F: Files<File = File>>(
+    files: &F,
+    alloc: Global,
+    folder: &str,
+    actor: Actor,
+) -> Result<File, ServiceFault> {
+    let Ok(path) = journal_path(alloc, folder, actor) else {
+        return Err(ServiceFault::Memory);
+    };
+    let opened = OpenOptions::new()
+        .append(true)
+        .create(true)
+        .mode(JOURNAL_MODE)
+        .open(files, path.as_str());
+    opened.map_err(|_| ServiceFault::NoJournal)
+}
+
+/// The writer of a client's journal.
 #[derive(Drop)]
 pub(crate) enum Journal {
     /// A file. If it is to be synced, each write is.
@@ -31,8 +55,7 @@ pub(crate) enum Journal {
 }
 
 impl Journal {
-    /// Opens the journal of the actor, to write at its end. It makes the file if there is none. The faults are 968 (the
-    /// file can't be opened) and 933 (out of memory).
+    /// Opens the journal of the client, as `open_journal` does.
     pub(crate) fn open<F: Files<File = File>>(
         files: &F,
         alloc: Global,
@@ -43,21 +66,10 @@ impl Journal {
         if how == Journaling::Unwritten {
             return Ok(Journal::Nowhere);
         }
-        let Ok(path) = journal_path(alloc, folder, actor) else {
-            return Err(ServiceFault::Memory);
-        };
-        let opened = OpenOptions::new()
-            .append(true)
-            .create(true)
-            .mode(JOURNAL_MODE)
-            .open(files, path.as_str());
-        match opened {
-            Ok(file) => Ok(Journal::File {
-                file,
-                is_synced: how == Journaling::Synced,
-            }),
-            Err(_) => Err(ServiceFault::NoJournal),
-        }
+        Ok(Journal::File {
+            file: open_journal(files, alloc, folder, actor)?,
+            is_synced: how == Journaling::Synced,
+        })
     }
 }
 

@@ -11,6 +11,10 @@
 //! runs the actor. That holds if all processes of the service are on one machine, or if the locks of the file system work
 //! between machines.
 //!
+//! A node keeps its record once for all messages that have come. It holds back the lines of its journal until then, and
+//! writes a mark before them. A later life of the node finds by the mark whether the record was kept. If not, it takes the
+//! lines out of the journal again: nothing was sent.
+//!
 //! `actor_lives` promises what a life logs and sends. Here is what no contract says, which tests show: files, threads,
 //! time, and what is printed.
 //!
@@ -24,6 +28,7 @@ mod command_lines;
 mod ends;
 mod journals;
 mod line_desks;
+mod node_journals;
 mod node_programs;
 mod reapers;
 mod starting;

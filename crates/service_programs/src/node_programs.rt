@@ -1,7 +1,8 @@
 // `rwvote node`.
 
 use crate::ends::{end_life, end_unreadable, end_unstarted};
-use crate::journals::{Journal, Journaling};
+use crate::journals::Journaling;
+use crate::node_journals::NodeJournal;
 use crate::starting::{folder_link, wait_for_own, wake_in_time};
 use actor_lives::{live_as_node, open_node};
 use line_link::{LineLink, Pauses, Streams, line_channel, read_lines};
@@ -98,13 +99,13 @@ fn run_linked<R: Wait + Clock + Files<File = File>, L: Link, E: Write>(
         Ok(opened) => opened,
         Err(fault) => return end_unstarted(alloc, work.folder, Some(own), fault, errors),
     };
-    let journal = match Journal::open(rt, alloc, work.folder, own, work.journaling) {
-        Ok(journal) => journal,
-        Err(fault) => return tell_service_fault(alloc, fault, errors),
-    };
     let actor = match open_node(alloc, work.node, service.ballots(), &found) {
         Ok(actor) => actor,
         Err(fault) => return end_unreadable(alloc, own, fault.number(), errors),
+    };
+    let journal = match NodeJournal::open(rt, alloc, work.folder, &own, work.journaling, &found) {
+        Ok(journal) => journal,
+        Err(fault) => return tell_service_fault(alloc, fault, errors),
     };
     tell_ready(alloc, work.node, errors);
     let mut stable = SessionFile { record };

@@ -3,7 +3,8 @@
 ghost use Rattle.std.specs.Prelude.{◌≡◌, ◌∷◌, []};
 
 use crate::ends::{end_life, end_unreadable};
-use crate::journals::{Journal, Journaling};
+use crate::journals::Journaling;
+use crate::node_journals::NodeJournal;
 use crate::node_programs::service_of;
 use crate::starting::wait_for_own;
 use actor_lives::{live_as_node, open_node};
@@ -74,13 +75,14 @@ fn live_to_switch<F: Wait + Clock + Files<File = File>, E: Write>(
 ) -> Ended
     requires { kept.finds ≡ found.now ∷ [] }
 {
-    let journal = match Journal::open(rt, alloc, service.path(), *own, Journaling::Written) {
-        Ok(journal) => journal,
-        Err(fault) => return tell_service_fault(alloc, fault, errors),
-    };
     let actor = match open_node(alloc, work.node, service.ballots(), found) {
         Ok(actor) => actor,
         Err(fault) => return end_unreadable(alloc, *own, fault.number(), errors),
+    };
+    let opened = NodeJournal::open(rt, alloc, service.path(), own, Journaling::Written, found);
+    let journal = match opened {
+        Ok(journal) => journal,
+        Err(fault) => return tell_service_fault(alloc, fault, errors),
     };
     let Ok(mut link) = link_to(alloc, work.problem) else {
         return tell_service_fault(alloc, ServiceFault::Memory, errors);

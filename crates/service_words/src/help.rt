@@ -39,6 +39,7 @@ FILES
   n1.record       The record of node 1: what it remembers after a restart. c1.record for client 1.
   n1.inbox        The lines for node 1. c1.inbox for client 1.
   n1.journal      The journal of node 1, which `rwvote node` makes. c1.journal for client 1.
+  n1.batch        Where the last lines of that journal begin. Keep it beside the journal.
   Never delete a record, and never restore an older copy of one. A node that forgets its votes can
   let a writer in beside others.
 
