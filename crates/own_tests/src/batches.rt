@@ -135,12 +135,7 @@ fn play<W: Wait>(
     journal_fails: bool,
 ) -> Result<Played, Failure> {
     let steps = Steps::none(alloc)?;
-    let journal = WatchedJournal {
-        bytes: Vec::new(alloc),
-        steps: steps.clone()?,
-        count: 0,
-        fails: journal_fails,
-    };
+    let journal = WatchedJournal::new(alloc, &steps, journal_fails)?;
     let actor = OwnNode {
         node: WorldNode::empty(alloc, node_id(1), Problem::First, plain_pair()),
         list: ballots()?,
@@ -151,7 +146,7 @@ fn play<W: Wait>(
     };
     let stable = new_record(alloc, &steps, record_fails)?;
     let (ended, journal) = work(rt, alloc, actor, journal, stable, &mut link);
-    if ended == Err(RunFault::Memory) {
+    if ended == Err(RunFault::Memory) || link.link.was_refused() {
         return Err(Failure::Memory);
     }
     Ok(Played {

@@ -56,15 +56,34 @@ impl Steps {
     }
 }
 
-/// A journal that notes when its lines are let out.
+/// How many bytes a journal has room for.
+const ROOM: usize = 16_384;
+
+/// A journal that notes when its lines are let out. It takes its memory at once, and no more later.
 #[derive(Drop)]
 pub(crate) struct WatchedJournal {
     pub(crate) bytes: Vec<u8>,
-    pub(crate) steps: Arc<Steps>,
-    /// How often lines were let out.
-    pub(crate) count: u32,
-    /// Whether letting them out fails, except the first time.
-    pub(crate) fails: bool,
+    steps: Arc<Steps>,
+    // How often lines were let out.
+    count: u32,
+    // Whether letting them out fails, except the first time.
+    fails: bool,
+}
+
+impl WatchedJournal {
+    /// An empty journal. Letting lines out may fail, except the first time.
+    pub(crate) fn new(
+        alloc: Global,
+        steps: &Arc<Steps>,
+        fails: bool,
+    ) -> Result<WatchedJournal, Failure> {
+        Ok(WatchedJournal {
+            bytes: Vec::with_capacity(alloc, ROOM)?,
+            steps: steps.clone()?,
+            count: 0,
+            fails,
+        })
+    }
 }
 
 impl Write for WatchedJournal {
