@@ -6,7 +6,7 @@ use Rattle.stable_record.specs.Finding.{FindsOnly}
 use Rattle.world_model.specs.Parts.{Part}
 use Rattle.event_recorders.specs.OwnLogs.{OwnLog, part_now, kept_in, tried_in, FindsKept, FindsPart, IsUnused, FindsItsOwn}
 use Rattle.actor_steps.specs.Steps.{HasFound, IsTrying, IsFallen}
-use Rattle.actor_steps.proofs.StepFacts.{is_one, tries_to}
+use Rattle.actor_steps.proofs.StepFacts.{is_one, tries_to, both_kept, still_added, failed_finds}
 
 -- what an actor may find in its record is its own
 
@@ -50,3 +50,6 @@ put_finds l l' who bytes before now is found same =
 pub fallen_finds : (l l' : OwnLog) (who : Actor) (bytes : List ℕ) (before now : List (List ℕ)) → IsFallen l who bytes before → FindsOnly before now → l' ≡ l → FindsPart (part_now l') now
 fallen_finds l l' who bytes before now is only same =
     still_finds l l' now (tries_to (part_now l) bytes now is.tries (λ x there. is.finds x (only x there))) same
+
+-- what keeping the next record comes to
+pub ruleset keeping = (both_kept, still_added, failed_finds, still_finds, trying_finds, put_finds)

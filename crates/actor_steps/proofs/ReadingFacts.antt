@@ -1,5 +1,5 @@
 -- What a log has of a message that was read, and of a problem that was switched to.
-use Rattle.std.proofs.Common.{◌≡◌, ◌⊎◌, inl, inr, ℕ, Bool, true, false, List, Option, Some, None, Result, Ok, Err, IfSome, refl, sym, ap, ◌∙◌, subst}
+use Rattle.std.proofs.Common.{◌≡◌, inl, inr, ℕ, Bool, true, Option, Some, None, Result, Ok, Err, IfSome, refl, sym, ap, ◌∙◌, subst}
 use Rattle.std.specs.Prelude.{IfOk, IfErr, IfNone}
 use Rattle.lock_messages.specs.declared.messages.Message.{Message}
 use Rattle.lock_model.specs.declared.hearing.Heard.{Heard}
@@ -13,7 +13,7 @@ use Rattle.world_model.specs.Parts.{message_of, changed_by}
 use Rattle.event_recorders.specs.declared.log_faults.LogFault.{LogFault}
 use Rattle.event_recorders.specs.declared.log_faults.LogFault.TheVariants as fault
 use Rattle.event_recorders.specs.OwnLogs.{OwnLog, IsAdded, IsRecorderFault, reads}
-use Rattle.actor_steps.specs.Steps.{HasRead, reading_of, run_fault_of, IsBookFault}
+use Rattle.actor_steps.specs.Steps.{HasRead, reading_of, IsBookFault}
 
 -- a Hear has the message that was read, and what was made of it
 pub read_heard : (l l' : OwnLog) (c k : ℕ) (m : Message) → HasRead l (event.Hear c k) m l' → (told : Heard) × IsAdded l (event.Hear c k) (effect.Heard m told) l'

@@ -4,8 +4,9 @@ ghost use Rattle.std.specs.Prelude.{◌≡◌, ◌≤◌, ◌⊎◌, ◌↔◌, 
 ghost use Rattle.world_model.specs.Parts.{own_refusal, after_own};
 ghost use Rattle.event_recorders.specs.OwnLogs.{part_now, FindsPart, IsAdded, tried_in};
 ghost use Rattle.stable_record.specs.declared.formats.TheConstants.{MAX_RECORD_LEN};
-ghost use Rattle.actor_steps.specs.Steps.{HasFound, HasFailed, IsKept, IsKeepingFault, IsBookFault, IsTrying, IsPut};
-ghost use Rattle.actor_steps.specs.Endings.{falls_of, EndsFrom};
+ghost use Rattle.actor_steps.specs.Steps.{HasFound, HasFailed, IsKept, IsBookFault, IsTrying, IsPut};
+ghost use Rattle.actor_steps.specs.Endings.{falls_of};
+ghost use Rattle.actor_steps.specs.Outcomes.{FailsNext, EndsKeeping};
 
 use crate::logging::log_own;
 use event_recorders::{Gate, Recorder, RunFault};
@@ -92,7 +93,7 @@ fn put(bytes: &[u8], stable: &mut dyn StableRecord) -> Result<Keeping, RunFault>
 /// no more: memory was refused (914), the book is full or another's (915), no change of the record can be
 /// numbered any more (916, which comes only where that is so). A failure of the device is told by none of
 /// them: the record isn't stuck then. However it ends, a restart finds what the log tells that it may.
-#[tactic(auto, using(crate::proofs::StepFacts::both_kept, crate::proofs::StepFacts::still_added, crate::proofs::StepFacts::failed_finds, crate::proofs::FindingFacts::still_finds, crate::proofs::FindingFacts::trying_finds, crate::proofs::FindingFacts::put_finds))]
+#[tactic(auto, using(crate::proofs::FindingFacts::keeping))]
 pub fn keep_next<R: Recorder, G: Gate>(
     actor: Actor,
     bytes: &[u8],
@@ -107,16 +108,11 @@ pub fn keep_next<R: Recorder, G: Gate>(
     requires found { FindsPart (part_now (R.own_log recorder.old)) (finds stable.old) }
     requires free { stuck_of stable.old ≡ false }
     ensures kept { result ≡ Ok Keeping.Kept → IsKept (R.own_log recorder.old) actor (R.own_log recorder.new) × HasFound bytes.now (R.own_log recorder.new) (finds stable.new) (stuck_of stable.new) }
-    ensures failed { result ≡ Ok Keeping.Failed → IsAdded (R.own_log recorder.old) (Event.Try actor) Effect.Tried (R.own_log recorder.new) }
+    ensures failed { result ≡ Ok Keeping.Failed → FailsNext actor (R.own_log recorder.old) (R.own_log recorder.new) (failures_of stable.old) (failures_of stable.new) }
+    ensures ended { IfErr result (λ fault. EndsKeeping fault actor (R.own_log recorder.old) (R.own_log recorder.new) (stuck_of stable.new) (spent_of stable.old) (spent_of stable.new) (failures_of stable.old) (failures_of stable.new)) }
     // However it ends, a restart finds what is kept or, while something is tried, nothing but that and what is
     // tried.
     ensures finds { FindsPart (part_now (R.own_log recorder.new)) (finds stable.new) }
-    ensures refused { IfErr result (λ fault. IsKeepingFault fault × ((R.own_log recorder.new ≡ R.own_log recorder.old) ⊎ IsAdded (R.own_log recorder.old) (Event.Try actor) Effect.Tried (R.own_log recorder.new))) }
-    ensures spent { result ≡ Err RunFault.Spent → spent_of stable.old ≡ true }
-    // The device failed in this call, or its count stands at the greatest.
-    ensures device { result ≡ Ok Keeping.Failed → HasFailed 1 (failures_of stable.old) (failures_of stable.new) }
-    ensures free { IfErr result (λ fault. stuck_of stable.new ≡ false) }
-    ensures ended { IfErr result (λ fault. EndsFrom fault (falls_of (R.own_log recorder.old)) (R.own_log recorder.new) (stuck_of stable.new) (spent_of stable.new) (failures_of stable.old) (failures_of stable.new)) }
     ensures falls { falls_of (R.own_log recorder.new) ≡ falls_of (R.own_log recorder.old) }
     ensures count { HasFailed 0 (failures_of stable.old) (failures_of stable.new) }
 {

@@ -4,8 +4,9 @@ ghost use Rattle.std.specs.Prelude.{◌≡◌, ◌+◌, ◌≤◌, ◌⊎◌, �
 ghost use Rattle.world_model.specs.Parts.{own_refusal};
 ghost use Rattle.world_model.specs.declared.events.Age.{Age as AgeValue};
 ghost use Rattle.event_recorders.specs.OwnLogs.{part_now, FindsPart, IsAdded, IsUnused, tried_in, FindsItsOwn};
-ghost use Rattle.actor_steps.specs.Steps.{HasFound, IsBookFault, IsRiseFault, IsRisenAgain, HasFailed, IsRising, IsFallen};
-ghost use Rattle.actor_steps.specs.Endings.{falls_of, EndsFrom};
+ghost use Rattle.actor_steps.specs.Steps.{HasFound, IsBookFault, IsRisenAgain, HasFailed, IsRising, IsFallen};
+ghost use Rattle.actor_steps.specs.Endings.{falls_of};
+ghost use Rattle.actor_steps.specs.Outcomes.{EndsRising, EndsRisingAgain};
 
 use crate::logging::log_own;
 use crate::reopening::{MAX_REOPENS, reopened};
@@ -74,9 +75,7 @@ pub fn rise_first<R: Recorder>(
     ensures found { IfOk result (λ bytes. HasFound bytes.items (R.own_log recorder.new) (finds stable.new) (stuck_of stable.new)) }
     // However it ends, a restart finds nothing but what is kept.
     ensures finds { FindsItsOwn (part_now (R.own_log recorder.new)) (finds stable.new) }
-    ensures refused { IfErr result (λ fault. IsRiseFault fault × (R.own_log recorder.new ≡ R.own_log recorder.old)) }
-    ensures failed { result ≡ Err RunFault.NotReopened → HasFailed MAX_REOPENS (failures_of stable.old) (failures_of stable.new) }
-    ensures ended { IfErr result (λ fault. EndsFrom fault (falls_of (R.own_log recorder.old)) (R.own_log recorder.new) (stuck_of stable.new) (spent_of stable.new) (failures_of stable.old) (failures_of stable.new)) }
+    ensures ended { IfErr result (λ fault. EndsRising fault (R.own_log recorder.old) (R.own_log recorder.new) (stuck_of stable.new) (spent_of stable.new) (failures_of stable.old) (failures_of stable.new)) }
     ensures falls { falls_of (R.own_log recorder.new) ≡ falls_of (R.own_log recorder.old) }
     ensures count { HasFailed 0 (failures_of stable.old) (failures_of stable.new) }
 {
@@ -117,9 +116,7 @@ pub fn rise_again<R: Recorder>(
     // However it ends, a restart finds what is kept or, while something is tried, nothing but that and what is
     // tried.
     ensures finds { FindsPart (part_now (R.own_log recorder.new)) (finds stable.new) }
-    ensures refused { IfErr result (λ fault. IsRiseFault fault × ((R.own_log recorder.new ≡ R.own_log recorder.old) ⊎ IsAdded (R.own_log recorder.old) (Event.Fall actor) Effect.Down (R.own_log recorder.new))) }
-    ensures failed { result ≡ Err RunFault.NotReopened → HasFailed MAX_REOPENS (failures_of stable.old) (failures_of stable.new) }
-    ensures ended { IfErr result (λ fault. EndsFrom fault (falls_of (R.own_log recorder.old) + 1) (R.own_log recorder.new) (stuck_of stable.new) (spent_of stable.new) (failures_of stable.old) (failures_of stable.new)) }
+    ensures ended { IfErr result (λ fault. EndsRisingAgain fault actor (R.own_log recorder.old) (R.own_log recorder.new) (stuck_of stable.new) (spent_of stable.new) (failures_of stable.old) (failures_of stable.new)) }
     ensures falls { falls_of (R.own_log recorder.new) ≤ falls_of (R.own_log recorder.old) + 1 }
     ensures count { HasFailed 0 (failures_of stable.old) (failures_of stable.new) }
 {

@@ -22,7 +22,7 @@ returns-clause-rests g c =
     }
 
 pub returns-in_err-found-clause-silent : goal.returns-in_err-found-clause-silent
-returns-in_err-found-clause-silent g c = most_silently _ _ _ _ c.in_err-found.ensures.refused.1 refl (λ v. refl)
+returns-in_err-found-clause-silent g c = most_silently _ _ _ _ c.in_err-found.ensures.ended.log refl (λ v. refl)
 
 pub returns-clause-silent : goal.returns-clause-silent
 returns-clause-silent g c = risen_silently _ _ _ _ _ c.in_ok-found.ensures.risen

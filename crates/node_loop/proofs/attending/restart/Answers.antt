@@ -2,6 +2,7 @@ use Rattle.std.proofs.Common.{sym, ap, ◌∙◌, rules}
 use Rattle.voter_core.specs.Voters.{Voter}
 use Rattle.node_loop.proofs.KeepFacts.{restarts, finds_record}
 use Rattle.node_loop.proofs.SentFacts.{rising_tells}
+use Rattle.node_loop.proofs.UnsentFacts.{failing_leaves}
 use Rattle.node_loop.proofs.attending.restart.Goals as goal
 
 pub returns-in-Ok-clause-idle : goal.returns-in-Ok-clause-idle
@@ -15,6 +16,9 @@ returns-in-Ok-clause-sent g c =
     let risen = c.in_ok-found.ensures.risen in
     let core = c.in-Ok.ensures.risen in
     rising_tells _ _ c.node.result c.restart.new.self.node risen.0 (c.node.ensures ∙ sym (ap (λ (v : Voter). v.node) core.2)) risen.1
+
+pub returns-in_err-found-clause-unsent : goal.returns-in_err-found-clause-unsent
+returns-in_err-found-clause-unsent g c = failing_leaves _ _ c.node.result c.in_err-found.ensures.ended.log
 
 pub unreachable-requires : goal.unreachable-requires
 unreachable-requires g c =
