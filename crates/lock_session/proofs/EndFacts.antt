@@ -19,10 +19,10 @@ use Rattle.lock_session.specs.Outcomes.{Sends, SendsUnlessMemory, Saying, HasRel
 pub over_before : (over : Option RunFault) (f : RunFault) (Still Ended : Type 0) → over ≡ Some f → Still → UnlessOver over f Still Ended
 over_before over f Still Ended is still = subst (λ (o : Option RunFault). UnlessOver o f Still Ended) (sym is) (refl, still)
 
-not_over : (over : Option RunFault) (f : RunFault) (Still Ended : Type 0) → over ≡ None → Ended → UnlessOver over f Still Ended
+pub not_over : (over : Option RunFault) (f : RunFault) (Still Ended : Type 0) → over ≡ None → Ended → UnlessOver over f Still Ended
 not_over over f Still Ended on ended = subst (λ (o : Option RunFault). UnlessOver o f Still Ended) (sym on) ended
 
-how_ended : (over : Option RunFault) (f : RunFault) (Still Ended : Type 0) → over ≡ None → UnlessOver over f Still Ended → Ended
+pub how_ended : (over : Option RunFault) (f : RunFault) (Still Ended : Type 0) → over ≡ None → UnlessOver over f Still Ended → Ended
 how_ended over f Still Ended on ended = subst (λ (o : Option RunFault). UnlessOver o f Still Ended) on ended
 
 weaker : (over : Option RunFault) (f : RunFault) (Still Still' Ended Ended' : Type 0) → (Still → Still') → (Ended → Ended') → UnlessOver over f Still Ended → UnlessOver over f Still' Ended'
@@ -46,7 +46,7 @@ pub softening_ends : (f : RunFault) (v v' : SessionValue) → v.over ≡ None �
 softening_ends f v v' on fails = not_over v.over f (v' ≡ v) (FailsToSoften f v v') on fails
 
 -- how entering ends, by what a log and a record have before and behind it
-abbrev Entering : RunFault → ℕ → ℕ → SessionValue → Type 0
+abbrev pub Entering : RunFault → ℕ → ℕ → SessionValue → Type 0
 Entering f falls failures v' = GivesUpAtLast f v' × ClientEndsFrom f falls v'.log v'.stuck v'.spent failures v'.failures
 
 pub entering_ends : (f : RunFault) (v v' : SessionValue) → v.over ≡ None → ClientEndsFrom f (falls_of v.log) v'.log v'.stuck v'.spent v.failures v'.failures → GivesUpAtLast f v' → EndsBy f v v'

@@ -1,3 +1,4 @@
 pub mod EndFacts
 pub mod InsideFacts
+pub mod SoonFacts
 pub mod Steps

@@ -1,5 +1,5 @@
 -- A session, as contracts see it.
-use Rattle.std.specs.Prelude.{◌≡◌, ◌⊎◌, ◌++◌, ◌∷◌, [], ℕ, Bool, true, false, List, Option, None, Some}
+use Rattle.std.specs.Prelude.{◌≡◌, ◌⊎◌, ◌-◌, ◌++◌, ◌∷◌, [], ℕ, Bool, true, false, List, Option, None, Some}
 use Rattle.lock_messages.specs.declared.ids.Actor.TheVariants as actor
 use Rattle.lock_messages.specs.declared.tickets.Mode.{Mode}
 use Rattle.lock_messages.specs.declared.tickets.Ticket.{Ticket}
@@ -23,6 +23,7 @@ use Rattle.client_loop.specs.Endings.{ClientEndsFrom, EndsAsking, IsPostFault, I
 use Rattle.client_loop.specs.Nodes.{IsReleased}
 use Rattle.client_loop.specs.Releasing.{told_of}
 use Rattle.client_loop.specs.Visits.{Use, AsksFor, BeginsOnly, BeginsMore, visits_of, visits_softening}
+use Rattle.lock_session.specs.declared.crowds.TheConstants.{LOCKS_IN_TURN}
 use Rattle.lock_session.specs.declared.faults.TryFault.{TryFault}
 use Rattle.lock_session.specs.declared.faults.TryFault.TheVariants as trying
 
@@ -295,3 +296,8 @@ pub record IsInsideStill (t : Ticket) (v : SessionValue) : Type 0 where
 abbrev pub EndsTrying : Use → ℕ → TryFault → SessionValue → SessionValue → Type 0
 EndsTrying u nudges trying.Busy v v' = TakesBack u nudges v v'
 EndsTrying u nudges (trying.Ended f) v v' = EndsEntering u nudges f v v'
+
+-- What a client notes of a lock, by the number of locks for which it asks one node after another: one less, unless it asked several
+-- nodes at once and one of them let it wait.
+abbrev pub Notes : ℕ → ℕ → Type 0
+Notes before now = (now ≡ before - 1) ⊎ ((before ≡ 0) × (now ≡ LOCKS_IN_TURN))

@@ -11,9 +11,9 @@ ghost use Rattle.client_loop.specs.Visits.{AsksFor};
 ghost use Rattle.lock_session.specs.contracts.sessions.Session.{the_row};
 ghost use Rattle.lock_session.specs.Guards.{session_of, lender_of, guard_ticket, IsHeld};
 ghost use Rattle.lock_session.specs.Outcomes.{SendsUnlessMemory, IsOutside, LeavesWell};
-ghost use Rattle.lock_session.specs.Sessions.{IsInside, GoesOut, StandsAfter, Settles, Softens, EndsSoftening, EndsGuard, Enters, EndsEntering, EndsTrying, use_by};
+ghost use Rattle.lock_session.specs.Sessions.{IsInside, GoesOut, StandsAfter, Settles, Softens, EndsSoftening, EndsGuard, Enters, EndsEntering, EndsTrying, Notes, use_by};
 
-use crate::{OwnRecord, Session, TryFault};
+use crate::{Crowd, OwnRecord, Session, TryFault};
 use client_loop::Patience;
 use event_recorders::{LogFault, Recorder, RunFault, SharedRecorder};
 use lock_messages::{Mode, ResourceName, Ticket};
@@ -84,6 +84,37 @@ impl<S: OwnRecord, R: Recorder, L: Link> Session<S, R, L> {
         if !self.come_in(rt, alloc, mode, resource, place, patience)? {
             unreachable!()
         }
+        Ok(self.guard())
+    }
+
+    /// Enters as `enter` does, and sooner if the resource is free: it first asks several nodes at once, as `try_enter` does. If
+    /// one of them lets it wait, it takes that back, and asks one node after another for this lock and the next
+    /// `LOCKS_IN_TURN`. `crowd` remembers that from lock to lock. So each of two attempts may have so many nudges.
+    ///
+    /// The caller owes a place that the session's ballots have.
+    ///
+    /// # Errors
+    ///
+    /// Those of `enter`.
+    pub fn enter_soon<W: Wait>(
+        &mut self,
+        rt: &W,
+        alloc: Global,
+        mode: Mode,
+        resource: ResourceName,
+        place: u8,
+        nudges: u32,
+        crowd: &mut Crowd,
+    ) -> Result<SessionGuard<'_, S, R, L>, RunFault>
+        requires placed { HasPlace self.old.ballots place }
+        ensures* ended { sem 𝓛 (RestsIfErr (the_row S.row R.row L.row S.StableRecord R.Recorder L.Link) self.entry (λ guard. guard.session.ghost_name) result (λ last. IfErr result (λ f. EndsEntering (use_by mode resource place) nudges f self.old last))) }
+        ensures same_session { IfOk result (λ guard. lender_of guard ≡ self.entry.ghost_name) }
+        ensures held { IfOk result IsHeld }
+        ensures asked { IfOk result (λ guard. AsksFor (use_by mode resource place) (guard_ticket guard)) }
+        ensures entered { IfOk result (λ guard. Enters (use_by mode resource place) nudges self.old (session_of guard)) }
+        ensures noted { Notes crowd.old crowd.new }
+    {
+        self.come_in_soon(rt, alloc, mode, resource, place, nudges, crowd)?;
         Ok(self.guard())
     }
 

@@ -13,6 +13,7 @@
 //! `world_actors`, `world_model`, `vote_weights`, `lock_messages`, `lock_model` and `thiserror`.
 #![tactic(auto)]
 
+mod crowds;
 mod faults;
 mod faulty_records;
 mod gates;
@@ -21,6 +22,7 @@ mod lent_records;
 mod records;
 mod sessions;
 
+pub use crowds::{Crowd, LOCKS_IN_TURN};
 pub use faults::TryFault;
 pub use gates::OpenGate;
 pub use guards::SessionGuard;

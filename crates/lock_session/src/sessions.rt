@@ -11,9 +11,10 @@ ghost use Rattle.event_recorders.specs.Sharing.{HaveMet, HasSeenInside};
 ghost use Rattle.client_loop.specs.Standing.{KeepsAttempt};
 ghost use Rattle.client_loop.specs.Endings.{ClientEndsFrom};
 ghost use Rattle.lock_session.specs.Outcomes.{HasRisen, Saying, HasSettled, StaysIfNothingLeft, IsOutside, IsOutsideUnlessOver, HasReleasedLast, AnswersAs};
-ghost use Rattle.lock_session.specs.Sessions.{IsResting, IsInside, IsInsideStill, IsInsideFor, Softens, EndsSoftening, GoesOut, Settles, Enters, TakesBack, EndsEntering, HasReleased, HasReleasedAt, Releases, use_by, over_by};
+ghost use Rattle.lock_session.specs.Sessions.{IsResting, IsInside, IsInsideStill, IsInsideFor, Softens, EndsSoftening, GoesOut, Settles, Enters, TakesBack, EndsEntering, Notes, HasReleased, HasReleasedAt, Releases, use_by, over_by};
 
 use crate::OwnRecord;
+use crate::crowds::Crowd;
 use crate::gates::OpenGate;
 use client_core::Phase;
 use client_loop::{Patience, Progress};
@@ -363,6 +364,48 @@ impl<S: OwnRecord, R: Recorder, L: Link> Session<S, R, L> {
     {
         self.settle(rt, alloc)?;
         self.ask(rt, alloc, mode, resource, place, patience)
+    }
+
+    /// Comes in. If nobody else is known to want a lock, it asks several nodes at once. If one of them lets it wait, it takes
+    /// that back, notes it, and asks one node after another.
+    #[tactic(auto, using(crate::proofs::SoonFacts::placed_still))]
+    pub(crate) fn come_in_soon<W: Wait>(
+        &mut self,
+        rt: &W,
+        alloc: Global,
+        mode: Mode,
+        resource: ResourceName,
+        place: u8,
+        nudges: u32,
+        crowd: &mut Crowd,
+    ) -> Result<(), RunFault>
+        requires placed { HasPlace self.old.ballots place }
+        ensures entered { OnOk result (Enters (use_by mode resource place) nudges self.old self.new) }
+        ensures inside { OnOk result (IsInsideFor (use_by mode resource place) self.new) }
+        ensures ended { IfErr result (λ f. EndsEntering (use_by mode resource place) nudges f self.old self.new) }
+        ensures noted { Notes crowd.old crowd.new }
+    {
+        let waits = !crowd.asks_at_once();
+        let resource = &resource;
+        if self.come_in(
+            rt,
+            alloc,
+            mode,
+            *resource,
+            place,
+            Patience { nudges, waits },
+        )? {
+            return Ok(());
+        }
+        crowd.note();
+        let patience = Patience {
+            nudges,
+            waits: true,
+        };
+        if !self.come_in(rt, alloc, mode, *resource, place, patience)? {
+            unreachable!()
+        }
+        Ok(())
     }
 
     /// Goes on inside as a reader, where it is inside as a writer.
