@@ -6,6 +6,8 @@
 #[cfg(test)]
 mod alone;
 #[cfg(test)]
+mod crowded;
+#[cfg(test)]
 mod dropped;
 #[cfg(test)]
 mod programs;

@@ -3,7 +3,7 @@
 use crate::rows::Row;
 use event_recorders::{Recorder, RunFault};
 use lock_messages::Mode;
-use lock_session::{OwnRecord, Session, SessionGuard, TryFault};
+use lock_session::{Crowd, OwnRecord, Session, SessionGuard, TryFault};
 use lossy_link::Link;
 use std::alloc::Global;
 use std::mem::drop;
@@ -29,11 +29,21 @@ impl Name {
     }
 }
 
-/// A use that is asked for: whether it waits for it, the mode, the resource, and the number of the nudge at
-/// which it gives up.
+/// How a session asks for a use.
+#[derive(Clone, Copy)]
+pub(crate) enum How {
+    /// One node after another, and it waits.
+    InTurn,
+    /// Several nodes at once, and it does not wait.
+    AtOnce,
+    /// Several nodes at once and then, if it has to wait, one after another.
+    Soon,
+}
+
+/// A use that is asked for: how, the mode, the resource, and the number of the nudge at which it gives up.
 #[derive(Clone, Copy)]
 pub(crate) struct Asked {
-    pub(crate) waits: bool,
+    pub(crate) how: How,
     pub(crate) mode: Mode,
     pub(crate) name: Name,
     pub(crate) nudges: u32,
@@ -54,7 +64,7 @@ pub(crate) enum Call {
 
 /// Enough nudges, and `a` to read.
 pub(crate) const ASKED: Asked = Asked {
-    waits: true,
+    how: How::InTurn,
     mode: Mode::Read,
     name: Name::A,
     nudges: 1_000,
@@ -73,13 +83,18 @@ pub(crate) const READ_B: Call = Call::Enter(Asked {
 });
 
 pub(crate) const TRY_A: Call = Call::Enter(Asked {
-    waits: false,
+    how: How::AtOnce,
     ..ASKED
 });
 
 pub(crate) const TRY_B: Call = Call::Enter(Asked {
-    waits: false,
+    how: How::AtOnce,
     name: Name::B,
+    ..ASKED
+});
+
+pub(crate) const SOON_A: Call = Call::Enter(Asked {
+    how: How::Soon,
     ..ASKED
 });
 
@@ -256,6 +271,37 @@ fn try_enter<W: Wait, S: OwnRecord, R: Recorder, L: Link>(
     }
 }
 
+/// The same where it asks several nodes at once first. It has noted a crowd just if it did not enter.
+fn enter_soon<W: Wait, S: OwnRecord, R: Recorder, L: Link>(
+    rt: &W,
+    alloc: Global,
+    session: &mut Session<S, R, L>,
+    asked: Asked,
+    row: &Row<'_>,
+    at: usize,
+    expected: Answer,
+) -> Result<usize, Failure> {
+    let name = resource(asked.name.bytes())?;
+    if session.ballots().count() < 1 {
+        return Err(Failure::Wrong(at));
+    }
+    let mut crowd = Crowd::none();
+    match session.enter_soon(rt, alloc, asked.mode, name, 1, asked.nudges, &mut crowd) {
+        Ok(guard) => {
+            let mut guard = guard;
+            check_row(crowd.asks_at_once(), at)?;
+            let next = soften_all(alloc, &mut guard, row, expect(Ok(()), expected, at));
+            let answer = spend(rt, alloc, guard, row, next);
+            is_spent(row, next?, answer)
+        }
+        Err(fault) => {
+            let next = expect(Err(TryFault::Ended(fault)), expected, at)?;
+            check_row(!crowd.asks_at_once(), at)?;
+            Ok(next)
+        }
+    }
+}
+
 /// Makes the call at a place, and those of the guard that it gives; the place behind them.
 fn step<W: Wait, S: OwnRecord, R: Recorder, L: Link>(
     rt: &W,
@@ -267,10 +313,10 @@ fn step<W: Wait, S: OwnRecord, R: Recorder, L: Link>(
     match row.call(at) {
         None => Ok(at),
         Some((Call::Enter(asked), expected)) => {
-            if asked.waits {
-                enter(rt, alloc, session, asked, row, at, expected)
-            } else {
-                try_enter(rt, alloc, session, asked, row, at, expected)
+            match asked.how {
+                How::InTurn => enter(rt, alloc, session, asked, row, at, expected),
+                How::AtOnce => try_enter(rt, alloc, session, asked, row, at, expected),
+                How::Soon => enter_soon(rt, alloc, session, asked, row, at, expected),
             }
         }
         Some((Call::Settle, expected)) => expect(told(session.settle(rt, alloc)), expected, at),

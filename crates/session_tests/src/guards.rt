@@ -1,7 +1,7 @@
 //! What a session logs: with guards that leave, that are dropped, that soften, and where it has to wait.
 
 use crate::calls::{
-    ASKED, Asked, Call, GAVE_UP, Name, READ_A, READ_B, Says, TOO_FEW, TRY_A, TRY_B, WRITE_A,
+    ASKED, Asked, Call, GAVE_UP, Name, READ_A, READ_B, SOON_A, Says, TOO_FEW, TRY_A, TRY_B, WRITE_A,
 };
 use crate::rows::{PLAIN, Row, goes};
 use lock_messages::Mode;
@@ -150,6 +150,52 @@ const TAKES_BACK_WHAT_IS_BUSY: Row<'static> = Row {
 #[test]
 fn takes_back_what_is_busy(rt: HostRuntime) -> Outcome {
     goes(rt, rt.alloc(), &TAKES_BACK_WHAT_IS_BUSY)
+}
+
+const ENTERS_SOON: Row<'static> = Row {
+    calls: &[(SOON_A, Says::Done), (Call::Leave, Says::Done)],
+    ..LEAVES
+};
+
+/// A resource that is free is entered in one attempt.
+#[test]
+fn enters_soon(rt: HostRuntime) -> Outcome {
+    goes(rt, rt.alloc(), &ENTERS_SOON)
+}
+
+const ASKED_AGAIN: &str = "\
+rise n1 old
+rise c2 old
+begin c2 write a, try c2, kept c2, sayto c2 n1
+take n1 1, try n1, kept n1, say n1
+hear c2 2, enter c2
+rise c1 old
+begin c1 read a, try c1, kept c1, sayto c1 n1
+take n1 3, try n1, kept n1, say n1
+hear c1 4
+leave c1, sayto c1 n1
+take n1 5, try n1, kept n1, say n1
+hear c1 6
+begin c1 read a, try c1, kept c1, sayto c1 n1
+take n1 7, try n1, kept n1, say n1
+hear c1 8
+leave c1
+";
+
+const ASKS_AGAIN_WHERE_IT_HAS_TO_WAIT: Row<'static> = Row {
+    beside: true,
+    calls: &[(SOON_A, TOO_FEW)],
+    inside: 1,
+    journal: ASKED_AGAIN,
+    found: Some(2),
+    ..PLAIN
+};
+
+/// Beside a writer a reader takes back what it asked for, and asks again and waits, until nothing comes any more. Then
+/// its node is gone.
+#[test]
+fn asks_again_where_it_has_to_wait(rt: HostRuntime) -> Outcome {
+    goes(rt, rt.alloc(), &ASKS_AGAIN_WHERE_IT_HAS_TO_WAIT)
 }
 
 const TOO_FEW_TWICE: &str = "\
