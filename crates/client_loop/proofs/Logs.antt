@@ -1,9 +1,7 @@
 -- What one event more makes of a client's visits.
 use Rattle.std.proofs.Common.{◌≡◌, List, [], ◌∷◌, ◌++◌, refl}
 use Rattle.world_model.specs.declared.events.Effect.{Effect}
-use Rattle.world_model.specs.declared.events.Effect.TheVariants as effect
 use Rattle.world_model.specs.declared.events.Event.{Event}
-use Rattle.world_model.specs.declared.events.Event.TheVariants as event
 use Rattle.event_recorders.specs.OwnLogs.{OwnLog, IsAdded}
 use Rattle.client_loop.specs.Visits.{Visits, visits_after, visits_from, visits_of}
 

@@ -15,7 +15,6 @@ use Rattle.client_core.specs.declared.phases.State.TheVariants.{Idle, Chosen, As
 use Rattle.client_core.specs.Clients.{Client}
 use Rattle.client_core.specs.Calls.{message_for, message_in}
 use Rattle.world_model.specs.declared.events.Effect.{Effect}
-use Rattle.world_model.specs.declared.events.Effect.TheVariants as effect
 use Rattle.world_model.specs.declared.events.Event.TheVariants as event
 use Rattle.world_model.specs.Parts.{Part, ClientPart, said_by, number_of}
 use Rattle.event_recorders.specs.declared.faults.RunFault.{RunFault}

@@ -1,5 +1,6 @@
 -- The outcomes of the steps by which a client makes an attempt, ends it, and fulfils a wish.
-use Rattle.std.specs.Prelude.{◌≡◌, ◌⊎◌, ℕ, Bool, true, false, List, Some, IfSome}
+use Rattle.std.specs.Prelude.{◌≡◌, ◌⊎◌, ℕ, Bool, true, false, List, Option, Some, IfSome}
+use Rattle.lock_messages.specs.declared.tickets.Ticket.{Ticket}
 use Rattle.event_lines.specs.declared.wishes.Wish.{Wish}
 use Rattle.client_core.specs.declared.phases.Phase.TheVariants as phase
 use Rattle.client_core.specs.Clients.{Client, phase_of, ticket_of}
@@ -11,10 +12,11 @@ use Rattle.actor_steps.specs.Steps.{IsBookFault}
 use Rattle.actor_steps.specs.Endings.{falls_of, FailuresFollow}
 use Rattle.client_loop.specs.declared.progress.Progress.{Progress}
 use Rattle.client_loop.specs.declared.progress.TheConstants.{MAX_NUDGES}
-use Rattle.client_loop.specs.Endings.{ClientEndsFrom, EndsAsking, EndsOneAttempt, IsAtRest, IsAttemptFault}
+use Rattle.client_loop.specs.Endings.{ClientEndsFrom, EndsAsking, EndsOneAttempt, IsAtRest, IsAttemptFault, IsOutside}
 use Rattle.client_loop.specs.Remembering.{most_of, HasHadLast, HasReleased}
 use Rattle.client_loop.specs.Sendings.{sent_of, TellsSoftenedIf}
-use Rattle.client_loop.specs.Standing.{Stands, HasLeft}
+use Rattle.client_loop.specs.Standing.{Stands, HasChosen, HasLeft}
+use Rattle.client_loop.specs.Talking.{HasNotFallen}
 use Rattle.client_loop.specs.Visits.{Use, AsksFor, visits_of, visits_entering, visits_softening_if, BeginsNothing, BeginsOnly, BeginsMore, GoesOnQuietly, Tally, AddsUse, AddsAtMost, softens, use_of}
 
 -- Nothing was sent since, and nothing begun, entered or softened.
@@ -41,6 +43,21 @@ pub record RecordAgrees (times : ℕ) (l : OwnLog) (finds : List (List ℕ)) (be
   pub falls : FailuresFollow times (falls_of l) before now
   pub own : FindsItsOwn (part_now l) finds
 
+-- The same, and nothing was sent since, begun, entered or softened.
+pub record AgreesSilently (times : ℕ) (l l' : OwnLog) (finds : List (List ℕ)) (before now : ℕ) : Type 0 where
+  pub silent : GoesOnSilently l l'
+  pub agrees : RecordAgrees times l' finds before now
+
+-- The same, but for this use attempts were begun.
+pub record AttemptsSilently (u : Use) (l l' : OwnLog) (finds : List (List ℕ)) (before now : ℕ) : Type 0 where
+  pub silent : BeginsSilently u l l'
+  pub agrees : RecordAgrees (falls_of l) l' finds before now
+
+-- Nothing but this use was begun since, and nothing sent, entered or softened, and the client has not fallen.
+pub record BeginsUpright (u : Use) (l l' : OwnLog) (finds : List (List ℕ)) : Type 0 where
+  pub silent : BeginsSilently u l l'
+  pub up : HasNotFallen l l' finds
+
 -- Making an attempt ended by this fault, of which the log and the record tell the cause.
 pub record EndsAttempting (f : RunFault) (times : ℕ) (l : OwnLog) (stuck spent : Bool) (before now : ℕ) : Type 0 where
   pub which : IsAttemptFault f
@@ -51,6 +68,21 @@ pub record IsAsking (l : OwnLog) (finds : List (List ℕ)) (stuck : Bool) (core 
   pub stands : Stands l finds core
   pub asking : phase_of core ≡ phase.Asking
   pub free : stuck ≡ false
+
+-- It asks with this ticket.
+pub record AsksWith (asked : Option Ticket) (l : OwnLog) (finds : List (List ℕ)) (stuck : Bool) (core : Client) : Type 0 where
+  pub asks : IsAsking l finds stuck core
+  pub ticket : ticket_of core ≡ asked
+
+-- It asks for this use, for which it has begun last.
+pub record AsksForUse (u : Use) (l l' : OwnLog) (finds : List (List ℕ)) (stuck : Bool) (core : Client) : Type 0 where
+  pub asks : IsAsking l' finds stuck core
+  pub begun : HasBegunFor u l l' core
+
+-- It has chosen an attempt for this use, for which it has begun last.
+pub record ChoosesFor (u : Use) (l l' : OwnLog) (finds : List (List ℕ)) (core : Client) : Type 0 where
+  pub chosen : HasChosen l' finds core
+  pub begun : HasBegunFor u l l' core
 
 -- The client rests by its own log, as its core does.
 pub record IsIdle (l : OwnLog) (finds : List (List ℕ)) (core : Client) : Type 0 where
@@ -64,6 +96,11 @@ pub record GivesUp (l l' : OwnLog) (finds : List (List ℕ)) (p p' : Progress) :
   pub own : FindsItsOwn (part_now l') finds
   pub most : p'.most_nudges ≡ p.most_nudges
   pub nudges : p'.nudges ≡ p.nudges
+
+-- The client is outside by its own log, and is as its core is.
+pub record StandsOutside (l : OwnLog) (finds : List (List ℕ)) (core : Client) : Type 0 where
+  pub stands : Stands l finds core
+  pub outside : IsOutside (part_now l)
 
 -- An attempt that was to end by the one fault ended by the other, which is the same or one of the book. The log tells the cause, and the
 -- client rests if the fault ends one attempt alone.

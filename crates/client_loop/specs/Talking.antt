@@ -1,8 +1,9 @@
 -- The outcomes of the steps by which a client says and hears.
-use Rattle.std.specs.Prelude.{◌≡◌, ◌⊎◌, ℕ, List, Option, Result, Ok}
+use Rattle.std.specs.Prelude.{◌≡◌, ◌⊎◌, ℕ, List, Option, Result, Ok, IfErr}
 use Rattle.lock_messages.specs.declared.tickets.Ticket.{Ticket}
 use Rattle.lossy_link.specs.declared.parcels.Sending.{Sending}
 use Rattle.event_lines.specs.declared.wishes.Wish.{Wish}
+use Rattle.client_core.specs.Calls.{softened}
 use Rattle.client_core.specs.Clients.{Client, phase_of, ticket_of, softened_ticket}
 use Rattle.event_recorders.specs.declared.faults.RunFault.{RunFault}
 use Rattle.event_recorders.specs.declared.faults.RunFault.TheVariants as fault
@@ -13,10 +14,11 @@ use Rattle.client_loop.specs.declared.progress.Progress.{Progress}
 use Rattle.client_loop.specs.Endings.{IsAskFault}
 use Rattle.client_loop.specs.Hearing.{HearsNothing}
 use Rattle.client_loop.specs.Nodes.{CanSuffice}
-use Rattle.client_loop.specs.Remembering.{HasHadLast}
+use Rattle.client_loop.specs.Remembering.{KeepsAsking, HasHadLast}
+use Rattle.client_loop.specs.Releasing.{EndsWaiting}
 use Rattle.client_loop.specs.Sendings.{sent_of, SendsBy, TellsSoftened}
 use Rattle.client_loop.specs.Standing.{Stands}
-use Rattle.client_loop.specs.Visits.{visits_of, visits_softening, GoesOnQuietly}
+use Rattle.client_loop.specs.Visits.{visits_of, visits_softening, BeginsNothing, GoesOnQuietly}
 
 -- It ended by this fault, of the book or of memory, and nothing was logged.
 pub record EndsUnlogged (f : RunFault) (l l' : OwnLog) : Type 0 where
@@ -30,7 +32,12 @@ pub record TalksBy {A : Type 0} (r : Result A RunFault) (l l' : OwnLog) (given g
   pub stands : Stands l' finds core
   pub quiet : GoesOnQuietly l l'
 
--- The same without a fault.
+-- The same, where it ends by no fault but one of the book or of memory.
+pub record Says (r : Result (Unit {0}) RunFault) (l l' : OwnLog) (given given' : Option (List Sending)) (finds : List (List ℕ)) (core : Client) : Type 0 where
+  pub talks : TalksBy r l l' given given' finds core
+  pub faults : IfErr r IsBookFault
+
+-- Without a fault.
 abbrev pub Talks : OwnLog → OwnLog → Option (List Sending) → Option (List Sending) → List (List ℕ) → Client → Type 0
 Talks l l' given given' finds core = TalksBy {A = Unit {0}} (Ok tt) l l' given given' finds core
 
@@ -77,3 +84,35 @@ pub record EndsSofteningGuard (f : RunFault) (l l' : OwnLog) (t t' : Ticket) : T
   pub which : IsBookFault f
   pub still : (t' ≡ t) ⊎ (t' ≡ softened_ticket t)
   pub fewer : (visits_of l' ≡ visits_of l) ⊎ (visits_of l' ≡ visits_softening (visits_of l))
+
+-- However it ended, nothing was sent, begun, entered or softened since, and the client has not fallen.
+pub record LeavesSilently (l l' : OwnLog) : Type 0 where
+  pub silent : sent_of l' ≡ sent_of l
+  pub quiet : GoesOnQuietly l l'
+
+-- However it ended, nothing was sent or begun since, and the client has not fallen.
+pub record EntersSilently (l l' : OwnLog) : Type 0 where
+  pub silent : sent_of l' ≡ sent_of l
+  pub begins : BeginsNothing (visits_of l) (visits_of l')
+  pub falls : falls_of l' ≡ falls_of l
+
+-- The log has the client softened, and its core may soften.
+pub record IsSoftened (l l' : OwnLog) (finds : List (List ℕ)) (core : Client) : Type 0 where
+  pub stands : Stands l' finds (softened core)
+  pub visits : visits_of l' ≡ visits_softening (visits_of l)
+
+-- However it ended, nothing was sent since, and the client has not fallen.
+pub record GoesOnSoftened (l l' : OwnLog) : Type 0 where
+  pub silent : sent_of l' ≡ sent_of l
+  pub falls : falls_of l' ≡ falls_of l
+
+-- However it ended, the client talked, went on asking as before, and if it ended by a fault, this was one that ends a wait.
+pub record WaitsBy (r : Result (Unit {0}) RunFault) (l l' : OwnLog) (given given' : Option (List Sending)) (finds : List (List ℕ)) (p p' : Progress) : Type 0 where
+  pub talks : TalksBy r l l' given given' finds p'.core
+  pub keeps : KeepsAsking p p'
+  pub ended : IfErr r (λ f. EndsWaiting f p')
+
+-- The client went on asking as before, and those to which something was sent in this attempt are the same.
+pub record KeepsAsked (p p' : Progress) : Type 0 where
+  pub keeps : KeepsAsking p p'
+  pub asked : p'.asked ≡ p.asked

@@ -12,7 +12,7 @@ ghost use Rattle.client_loop.specs.Endings.{IsAskFault};
 ghost use Rattle.client_loop.specs.Nodes.{CanSuffice};
 ghost use Rattle.actor_steps.specs.Steps.{IsBookFault};
 ghost use Rattle.actor_steps.specs.Endings.{falls_of};
-ghost use Rattle.client_loop.specs.Talking.{TalksBy, EndsAskingFor};
+ghost use Rattle.client_loop.specs.Talking.{TalksBy, Says, EndsAskingFor};
 
 use crate::posts::take_post;
 use crate::progress::Progress;
@@ -53,9 +53,8 @@ fn ask_on<R: Recorder, L: Link>(
     link: &mut L,
 ) -> Result<(), RunFault>
     requires { Stands (R.own_log recorder.old) (finds stable.now) progress.old.core }
-    ensures talks { TalksBy result (R.own_log recorder.old) (R.own_log recorder.new) (L.given link.old) (L.given link.new) (finds stable.now) progress.new.core }
+    ensures says { Says result (R.own_log recorder.old) (R.own_log recorder.new) (L.given link.old) (L.given link.new) (finds stable.now) progress.new.core }
     ensures keeps { KeepsAsking progress.old progress.new }
-    ensures faults { IfErr result IsBookFault }
 {
     if awaits_enough(wish, progress) {
         return Ok(());
@@ -97,9 +96,8 @@ fn ask_together<R: Recorder, L: Link>(
     link: &mut L,
 ) -> Result<(), RunFault>
     requires { Stands (R.own_log recorder.old) (finds stable.now) progress.old.core }
-    ensures talks { TalksBy result (R.own_log recorder.old) (R.own_log recorder.new) (L.given link.old) (L.given link.new) (finds stable.now) progress.new.core }
+    ensures says { Says result (R.own_log recorder.old) (R.own_log recorder.new) (L.given link.old) (L.given link.new) (finds stable.now) progress.new.core }
     ensures others { progress.new ≡ record progress.old { asked = progress.new.asked } }
-    ensures faults { IfErr result IsBookFault }
 {
     let Some(ballot) = progress.core.ballots().ballot(wish.place) else {
         return Ok(());

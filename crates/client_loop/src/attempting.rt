@@ -10,8 +10,7 @@ ghost use Rattle.actor_steps.specs.Endings.{falls_of, FailuresFollow};
 ghost use Rattle.client_loop.specs.Endings.{ClientEndsFrom, IsAttemptFault, IsAtRest};
 ghost use Rattle.client_loop.specs.Visits.{visits_of, use_of, AsksFor, BeginsOnly, BeginsMore};
 ghost use Rattle.event_recorders.specs.OwnLogs.{FindsItsOwn, part_now};
-ghost use Rattle.client_loop.specs.Talking.{HasNotFallen};
-ghost use Rattle.client_loop.specs.Attempting.{BeginsSilently, HasBegunFor, GoesOnSilently, RecordAgrees, EndsAttempting, IsAsking};
+ghost use Rattle.client_loop.specs.Attempting.{BeginsUpright, ChoosesFor, AgreesSilently, AttemptsSilently, EndsAttempting, AsksWith, AsksForUse};
 
 use crate::progress::Progress;
 use actor_steps::{Keeping, keep_next, log_plain, rise_again};
@@ -36,10 +35,8 @@ fn begin<R: Recorder>(
     requires idle { phase_of core.old ≡ phase.Idle }
     requires free { stuck_of stable.now ≡ false }
     requires placed { HasPlace (R.own_log recorder.old).ballots wish.now.place }
-    ensures chosen { OnOk result (HasChosen (R.own_log recorder.new) (finds stable.now) core.new) }
-    ensures begun { OnOk result (HasBegunFor (use_of wish.now) (R.own_log recorder.old) (R.own_log recorder.new) core.new) }
-    ensures silent { BeginsSilently (use_of wish.now) (R.own_log recorder.old) (R.own_log recorder.new) }
-    ensures up { HasNotFallen (R.own_log recorder.old) (R.own_log recorder.new) (finds stable.now) }
+    ensures chooses { OnOk result (ChoosesFor (use_of wish.now) (R.own_log recorder.old) (R.own_log recorder.new) (finds stable.now) core.new) }
+    ensures goes_on { BeginsUpright (use_of wish.now) (R.own_log recorder.old) (R.own_log recorder.new) (finds stable.now) }
     ensures ended { IfErr result (λ f. EndsAttempting f (falls_of (R.own_log recorder.old)) (R.own_log recorder.new) (stuck_of stable.now) (spent_of stable.now) (failures_of stable.now) (failures_of stable.now)) }
 {
     let Wish {
@@ -71,8 +68,7 @@ fn rise_anew<R: Recorder>(
 ) -> Result<(), RunFault>
     requires { HasTried (R.own_log recorder.old) (finds stable.old) core.old }
     ensures rests { OnOk result (IsAtRest (R.own_log recorder.new) (finds stable.new) (stuck_of stable.new) core.new) }
-    ensures silent { GoesOnSilently (R.own_log recorder.old) (R.own_log recorder.new) }
-    ensures agrees { RecordAgrees (falls_of (R.own_log recorder.old) + 1) (R.own_log recorder.new) (finds stable.new) (failures_of stable.old) (failures_of stable.new) }
+    ensures goes_on { AgreesSilently (falls_of (R.own_log recorder.old) + 1) (R.own_log recorder.old) (R.own_log recorder.new) (finds stable.new) (failures_of stable.old) (failures_of stable.new) }
     ensures ended { IfErr result (λ f. EndsAttempting f (falls_of (R.own_log recorder.old) + 1) (R.own_log recorder.new) (stuck_of stable.new) (spent_of stable.new) (failures_of stable.old) (failures_of stable.new)) }
 {
     let bytes = client_bytes(core.attempt());
@@ -95,11 +91,9 @@ fn keep_chosen<R: Recorder, G: Gate>(
 ) -> Result<bool, RunFault>
     requires chosen { HasChosen (R.own_log recorder.old) (finds stable.old) core.old }
     requires free { stuck_of stable.old ≡ false }
-    ensures kept { result ≡ Ok true → IsAsking (R.own_log recorder.new) (finds stable.new) (stuck_of stable.new) core.new }
-    ensures ticket { result ≡ Ok true → ticket_of core.new ≡ ticket_of core.old }
+    ensures kept { result ≡ Ok true → AsksWith (ticket_of core.old) (R.own_log recorder.new) (finds stable.new) (stuck_of stable.new) core.new }
     ensures failed { result ≡ Ok false → IsAtRest (R.own_log recorder.new) (finds stable.new) (stuck_of stable.new) core.new }
-    ensures silent { GoesOnSilently (R.own_log recorder.old) (R.own_log recorder.new) }
-    ensures agrees { RecordAgrees (falls_of (R.own_log recorder.old)) (R.own_log recorder.new) (finds stable.new) (failures_of stable.old) (failures_of stable.new) }
+    ensures goes_on { AgreesSilently (falls_of (R.own_log recorder.old)) (R.own_log recorder.old) (R.own_log recorder.new) (finds stable.new) (failures_of stable.old) (failures_of stable.new) }
     ensures ended { IfErr result (λ f. EndsAttempting f (falls_of (R.own_log recorder.old)) (R.own_log recorder.new) (stuck_of stable.new) (spent_of stable.new) (failures_of stable.old) (failures_of stable.new)) }
 {
     records_fit();
@@ -132,11 +126,9 @@ pub(crate) fn attempt<W: Wait, R: Recorder, G: Gate>(
     requires free { stuck_of stable.old ≡ false }
     requires idle { phase_of progress.old.core ≡ phase.Idle }
     requires placed { HasPlace (R.own_log recorder.old).ballots wish.now.place }
-    ensures asks { OnOk result (IsAsking (R.own_log recorder.new) (finds stable.new) (stuck_of stable.new) progress.new.core) }
-    ensures begun { OnOk result (HasBegunFor (use_of wish.now) (R.own_log recorder.old) (R.own_log recorder.new) progress.new.core) }
-    ensures silent { BeginsSilently (use_of wish.now) (R.own_log recorder.old) (R.own_log recorder.new) }
+    ensures asks { OnOk result (AsksForUse (use_of wish.now) (R.own_log recorder.old) (R.own_log recorder.new) (finds stable.new) (stuck_of stable.new) progress.new.core) }
+    ensures goes_on { AttemptsSilently (use_of wish.now) (R.own_log recorder.old) (R.own_log recorder.new) (finds stable.new) (failures_of stable.old) (failures_of stable.new) }
     ensures most { progress.new.most_nudges ≡ progress.old.most_nudges }
-    ensures agrees { RecordAgrees (falls_of (R.own_log recorder.old)) (R.own_log recorder.new) (finds stable.new) (failures_of stable.old) (failures_of stable.new) }
     ensures ended { IfErr result (λ f. EndsAttempting f (falls_of (R.own_log recorder.old)) (R.own_log recorder.new) (stuck_of stable.new) (spent_of stable.new) (failures_of stable.old) (failures_of stable.new)) }
 {
     for _ in rt.forever() {

@@ -7,10 +7,10 @@ ghost use Rattle.client_loop.specs.Visits.{GoesOnQuietly, visits_of};
 ghost use Rattle.client_core.specs.Clients.{phase_of};
 ghost use Rattle.client_core.specs.declared.phases.Phase.TheVariants as phase;
 ghost use Rattle.event_recorders.specs.OwnLogs.{part_now, FindsItsOwn};
-ghost use Rattle.client_loop.specs.Endings.{IsAskFault, IsOutside, EndsAsking, EndsOneAttempt};
+ghost use Rattle.client_loop.specs.Endings.{IsAskFault, EndsAsking, EndsOneAttempt};
 ghost use Rattle.actor_steps.specs.Steps.{IsBookFault};
 ghost use Rattle.actor_steps.specs.Endings.{falls_of};
-ghost use Rattle.client_loop.specs.Attempting.{GivesUp, EndsInstead};
+ghost use Rattle.client_loop.specs.Attempting.{GivesUp, StandsOutside, EndsInstead};
 
 use crate::leaving::log_leave;
 use crate::progress::Progress;
@@ -35,8 +35,7 @@ fn give_up<R: Recorder, L: Link>(
     ensures sent { SendsBy result (R.own_log recorder.old) (R.own_log recorder.new) (L.given link.old) (L.given link.new) }
     ensures gives_up { GivesUp (R.own_log recorder.old) (R.own_log recorder.new) (finds stable.now) progress.old progress.new }
     ensures idle { phase_of progress.new.core ≡ phase.Idle }
-    ensures rests { OnOk result (Stands (R.own_log recorder.new) (finds stable.now) progress.new.core) }
-    ensures outside { OnOk result (IsOutside (part_now (R.own_log recorder.new))) }
+    ensures rests { OnOk result (StandsOutside (R.own_log recorder.new) (finds stable.now) progress.new.core) }
     ensures faults { IfErr result IsBookFault }
 {
     if let Phase::Asking = progress.core.phase() {

@@ -14,7 +14,7 @@ ghost use Rattle.actor_steps.specs.Steps.{IsBookFault};
 ghost use Rattle.actor_steps.specs.Endings.{falls_of, FailuresFollow};
 ghost use Rattle.client_loop.specs.Visits.{visits_of, use_of, AsksFor, visits_entering, BeginsNothing, BeginsOnly, BeginsMore};
 ghost use Rattle.event_recorders.specs.OwnLogs.{FindsItsOwn, part_now};
-ghost use Rattle.client_loop.specs.Talking.{EndsUnlogged};
+ghost use Rattle.client_loop.specs.Talking.{EndsUnlogged, EntersSilently};
 ghost use Rattle.client_loop.specs.Attempting.{EntersAsking, StopsAsking, EndsAskingOnce, GoesOnAsking};
 
 use crate::asking::ask;
@@ -42,9 +42,7 @@ fn log_enter<R: Recorder>(
     requires may { MayEnter core.now }
     requires stands { Stands (R.own_log recorder.old) (finds stable.now) core.now }
     ensures entered { OnOk result (EntersAsking (R.own_log recorder.old) (R.own_log recorder.new) (finds stable.now) core.now core.now) }
-    ensures silent { sent_of (R.own_log recorder.new) ≡ sent_of (R.own_log recorder.old) }
-    ensures begins { BeginsNothing (visits_of (R.own_log recorder.old)) (visits_of (R.own_log recorder.new)) }
-    ensures falls { falls_of (R.own_log recorder.new) ≡ falls_of (R.own_log recorder.old) }
+    ensures still { EntersSilently (R.own_log recorder.old) (R.own_log recorder.new) }
     ensures ended { IfErr result (λ f. EndsUnlogged f (R.own_log recorder.old) (R.own_log recorder.new)) }
 {
     log_plain(recorder, Event::Enter(core.client()), stable)?;

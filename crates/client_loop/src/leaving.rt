@@ -12,7 +12,7 @@ ghost use Rattle.client_loop.specs.Visits.{GoesOnQuietly, visits_of};
 ghost use Rattle.actor_steps.specs.Steps.{IsBookFault};
 ghost use Rattle.actor_steps.specs.Endings.{falls_of};
 ghost use Rattle.event_recorders.specs.OwnLogs.{FindsItsOwn, part_now};
-ghost use Rattle.client_loop.specs.Talking.{EndsUnlogged};
+ghost use Rattle.client_loop.specs.Talking.{EndsUnlogged, LeavesSilently};
 
 use crate::ending::end;
 use crate::progress::Progress;
@@ -35,8 +35,7 @@ pub(crate) fn log_leave<R: Recorder>(
 ) -> Result<(), RunFault>
     requires { HasLeft (R.own_log recorder.old) (finds stable.now) core.now }
     ensures outside { OnOk result (Stands (R.own_log recorder.new) (finds stable.now) core.now) }
-    ensures silent { sent_of (R.own_log recorder.new) ≡ sent_of (R.own_log recorder.old) }
-    ensures quiet { GoesOnQuietly (R.own_log recorder.old) (R.own_log recorder.new) }
+    ensures still { LeavesSilently (R.own_log recorder.old) (R.own_log recorder.new) }
     ensures ended { IfErr result (λ f. EndsUnlogged f (R.own_log recorder.old) (R.own_log recorder.new)) }
 {
     log_plain(recorder, Event::Leave(core.client()), stable)?;

@@ -11,7 +11,7 @@ ghost use Rattle.client_loop.specs.Endings.{IsPostFault};
 ghost use Rattle.vote_weights.specs.Sets.{has_node};
 ghost use Rattle.actor_steps.specs.Steps.{IsBookFault};
 ghost use Rattle.actor_steps.specs.Endings.{falls_of};
-ghost use Rattle.client_loop.specs.Talking.{TalksBy, Listens, EndsUntaken};
+ghost use Rattle.client_loop.specs.Talking.{WaitsBy, KeepsAsked, Listens, EndsUntaken};
 ghost use Rattle.client_loop.specs.Releasing.{EndsWaiting};
 
 use crate::progress::Progress;
@@ -35,8 +35,7 @@ fn take_parcel<R: Recorder>(
     ensures foreign { (IsFrameFor parcel.now.frame progress.old.core.client → ⊥) → (progress.new ≡ progress.old) × (R.own_log recorder.new ≡ R.own_log recorder.old) }
     ensures ended { IfErr result (λ f. EndsUntaken f (R.own_log recorder.old) (R.own_log recorder.new) progress.old progress.new) }
     ensures listens { Listens (R.own_log recorder.old) (R.own_log recorder.new) (finds stable.now) progress.old.core progress.new.core }
-    ensures keeps { KeepsAsking progress.old progress.new }
-    ensures asked { progress.new.asked ≡ progress.old.asked }
+    ensures keeps { KeepsAsked progress.old progress.new }
 {
     let Some((node, heard)) = hear(&mut progress.core, parcel, stable, recorder)? else {
         return Ok(());
@@ -58,9 +57,7 @@ fn take_nudge<R: Recorder, L: Link>(
     link: &mut L,
 ) -> Result<(), RunFault>
     requires { Stands (R.own_log recorder.old) (finds stable.now) progress.old.core }
-    ensures talks { TalksBy result (R.own_log recorder.old) (R.own_log recorder.new) (L.given link.old) (L.given link.new) (finds stable.now) progress.new.core }
-    ensures keeps { KeepsAsking progress.old progress.new }
-    ensures ended { IfErr result (λ f. EndsWaiting f progress.new) }
+    ensures waits { WaitsBy result (R.own_log recorder.old) (R.own_log recorder.new) (L.given link.old) (L.given link.new) (finds stable.now) progress.old progress.new }
     // A nudge of a node to which it has sent something is counted, and nothing else changes.
     ensures counted { progress.new ≡ (if has_node progress.old.asked node then record progress.old { nudges = min (progress.old.nudges + 1) (2 ^ 32 - 1) } else progress.old) }
     // 913: exactly at the last nudge that a wish may have, of a node to which it has sent something.
@@ -89,10 +86,8 @@ pub(crate) fn take_post<R: Recorder, L: Link>(
     link: &mut L,
 ) -> Result<(), RunFault>
     requires { Stands (R.own_log recorder.old) (finds stable.now) progress.old.core }
-    ensures talks { TalksBy result (R.own_log recorder.old) (R.own_log recorder.new) (L.given link.old) (L.given link.new) (finds stable.now) progress.new.core }
-    ensures keeps { KeepsAsking progress.old progress.new }
+    ensures waits { WaitsBy result (R.own_log recorder.old) (R.own_log recorder.new) (L.given link.old) (L.given link.new) (finds stable.now) progress.old progress.new }
     ensures asked { progress.new.asked ≡ progress.old.asked }
-    ensures ended { IfErr result (λ f. EndsWaiting f progress.new) }
 {
     let Ok(post) = link.receive() else {
         progress.lose_all();

@@ -12,7 +12,7 @@ ghost use Rattle.client_loop.specs.Endings.{IsPostFault};
 ghost use Rattle.client_loop.specs.Nodes.{IsReleased};
 ghost use Rattle.actor_steps.specs.Steps.{IsBookFault};
 ghost use Rattle.actor_steps.specs.Endings.{falls_of};
-ghost use Rattle.client_loop.specs.Talking.{TalksBy};
+ghost use Rattle.client_loop.specs.Talking.{WaitsBy, Says};
 
 use crate::posts::take_post;
 use crate::progress::Progress;
@@ -35,8 +35,7 @@ pub(crate) fn tell_releases<R: Recorder, L: Link>(
     link: &mut L,
 ) -> Result<(), RunFault>
     requires { Stands (R.own_log recorder.old) (finds stable.now) progress.now.core }
-    ensures talks { TalksBy result (R.own_log recorder.old) (R.own_log recorder.new) (L.given link.old) (L.given link.new) (finds stable.now) progress.now.core }
-    ensures faults { IfErr result IsBookFault }
+    ensures says { Says result (R.own_log recorder.old) (R.own_log recorder.new) (L.given link.old) (L.given link.new) (finds stable.now) progress.now.core }
 {
     for number in 1..=progress.core.ballots().nodes() {
         let Some(node) = NodeId::of(number) else {
@@ -60,10 +59,8 @@ pub(crate) fn release<W: Wait, R: Recorder, L: Link>(
     link: &mut L,
 ) -> Result<(), RunFault>
     requires { Stands (R.own_log recorder.old) (finds stable.now) progress.old.core }
-    ensures talks { TalksBy result (R.own_log recorder.old) (R.own_log recorder.new) (L.given link.old) (L.given link.new) (finds stable.now) progress.new.core }
-    ensures keeps { KeepsAsking progress.old progress.new }
+    ensures waits { WaitsBy result (R.own_log recorder.old) (R.own_log recorder.new) (L.given link.old) (L.given link.new) (finds stable.now) progress.old progress.new }
     ensures asked { progress.new.asked ≡ progress.old.asked }
-    ensures ended { IfErr result (λ f. EndsWaiting f progress.new) }
     // Each node of the ballots that was asked has answered, or is gone.
     ensures released { OnOk result (IsReleased progress.new.core.ballots progress.new.asked progress.new.released progress.new.gone) }
 {

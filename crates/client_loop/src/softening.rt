@@ -15,7 +15,7 @@ ghost use Rattle.actor_steps.specs.Steps.{IsBookFault};
 ghost use Rattle.actor_steps.specs.Endings.{falls_of};
 ghost use Rattle.client_loop.specs.Visits.{GoesOnQuietly, visits_of, visits_softening};
 ghost use Rattle.event_recorders.specs.OwnLogs.{FindsItsOwn, part_now};
-ghost use Rattle.client_loop.specs.Talking.{TalksBy, EndsUnlogged, SoftensGuard, EndsSofteningGuard, HasNotFallen};
+ghost use Rattle.client_loop.specs.Talking.{Says, EndsUnlogged, GoesOnSoftened, IsSoftened, SoftensGuard, EndsSofteningGuard, HasNotFallen};
 
 use crate::progress::Progress;
 use crate::talking::tell;
@@ -43,8 +43,7 @@ fn tell_if_granted<R: Recorder, L: Link>(
 ) -> Result<(), RunFault>
     requires { Stands (R.own_log recorder.old) (finds stable.now) core.now }
     ensures told { OnOk result (Tells (if has_node granted node then message_for core.now node else None) node (R.own_log recorder.old) (R.own_log recorder.new)) }
-    ensures talks { TalksBy result (R.own_log recorder.old) (R.own_log recorder.new) (L.given link.old) (L.given link.new) (finds stable.now) core.now }
-    ensures faults { IfErr result IsBookFault }
+    ensures says { Says result (R.own_log recorder.old) (R.own_log recorder.new) (L.given link.old) (L.given link.new) (finds stable.now) core.now }
 {
     if !granted.has(node) {
         return Ok(());
@@ -65,8 +64,7 @@ fn tell_granted<R: Recorder, L: Link>(
     requires stands { Stands (R.own_log recorder.old) (finds stable.now) core.now }
     requires softened { SoftensAll core.now core.now.attempt }
     ensures told { OnOk result (TellsSoftened core.now granted (R.own_log recorder.old) (R.own_log recorder.new)) }
-    ensures talks { TalksBy result (R.own_log recorder.old) (R.own_log recorder.new) (L.given link.old) (L.given link.new) (finds stable.now) core.now }
-    ensures faults { IfErr result IsBookFault }
+    ensures says { Says result (R.own_log recorder.old) (R.own_log recorder.new) (L.given link.old) (L.given link.new) (finds stable.now) core.now }
 {
     for number in 1..core.ballots().nodes() + 1 {
         let Some(node) = NodeId::of(number) else {
@@ -86,10 +84,8 @@ fn log_soften<R: Recorder>(
 ) -> Result<(), RunFault>
     requires may { MaySoften core.now }
     requires stands { Stands (R.own_log recorder.old) (finds stable.now) core.now }
-    ensures softened { OnOk result (Stands (R.own_log recorder.new) (finds stable.now) (softened core.now)) }
-    ensures visits { OnOk result (visits_of (R.own_log recorder.new) ≡ visits_softening (visits_of (R.own_log recorder.old))) }
-    ensures silent { sent_of (R.own_log recorder.new) ≡ sent_of (R.own_log recorder.old) }
-    ensures falls { falls_of (R.own_log recorder.new) ≡ falls_of (R.own_log recorder.old) }
+    ensures softened { OnOk result (IsSoftened (R.own_log recorder.old) (R.own_log recorder.new) (finds stable.now) core.now) }
+    ensures silent { GoesOnSoftened (R.own_log recorder.old) (R.own_log recorder.new) }
     ensures ended { IfErr result (λ f. EndsUnlogged f (R.own_log recorder.old) (R.own_log recorder.new)) }
 {
     log_plain(recorder, Event::Soften(core.client()), stable)?;

@@ -11,7 +11,7 @@ ghost use Rattle.client_loop.specs.Standing.{Stands};
 ghost use Rattle.client_loop.specs.Visits.{GoesOnQuietly, visits_of};
 ghost use Rattle.actor_steps.specs.Steps.{IsBookFault};
 ghost use Rattle.actor_steps.specs.Endings.{falls_of};
-ghost use Rattle.client_loop.specs.Talking.{EndsUnlogged, TalksBy, EndsUnheard, Listens};
+ghost use Rattle.client_loop.specs.Talking.{EndsUnlogged, Says, EndsUnheard, Listens};
 
 use actor_steps::{log_plain, log_reading};
 use client_core::ClientCore;
@@ -60,8 +60,7 @@ pub(crate) fn tell<R: Recorder, L: Link>(
 ) -> Result<(), RunFault>
     requires { Stands (R.own_log recorder.old) (finds stable.now) core.now }
     ensures told { OnOk result (Tells (message_for core.now node) node (R.own_log recorder.old) (R.own_log recorder.new)) }
-    ensures talks { TalksBy result (R.own_log recorder.old) (R.own_log recorder.new) (L.given link.old) (L.given link.new) (finds stable.now) core.now }
-    ensures faults { IfErr result IsBookFault }
+    ensures says { Says result (R.own_log recorder.old) (R.own_log recorder.new) (L.given link.old) (L.given link.new) (finds stable.now) core.now }
 {
     let Some((number, message)) = said(core, node, stable, recorder)? else {
         return Ok(());

@@ -21,11 +21,11 @@ returns-clause-rests g c =
       free = search rules;
     }
 
-pub returns-in_err-found-clause-silent : goal.returns-in_err-found-clause-silent
-returns-in_err-found-clause-silent g c = most_silently _ _ _ _ c.in_err-found.ensures.ended.log refl (λ v. refl)
+pub returns-in_err-found-clause-goes_on : goal.returns-in_err-found-clause-goes_on
+returns-in_err-found-clause-goes_on g c = record { silent = most_silently _ _ _ _ c.in_err-found.ensures.ended.log refl (λ v. refl); agrees = search (rules, failures_stay, part_own) }
 
-pub returns-clause-silent : goal.returns-clause-silent
-returns-clause-silent g c = risen_silently _ _ _ _ _ c.in_ok-found.ensures.risen
-
-pub returns-clause-agrees : goal.returns-clause-agrees
-returns-clause-agrees g c = record { falls = failures_stay _ _ _ _ c.rise_again.ensures.falls c.rise_again.ensures.count; own = part_own _ _ c.rise_again.ensures.finds }
+pub returns-clause-goes_on : goal.returns-clause-goes_on
+returns-clause-goes_on g c = record {
+  silent = risen_silently _ _ _ _ _ c.in_ok-found.ensures.risen;
+  agrees = record { falls = failures_stay _ _ _ _ c.rise_again.ensures.falls c.rise_again.ensures.count; own = part_own _ _ c.rise_again.ensures.finds };
+}

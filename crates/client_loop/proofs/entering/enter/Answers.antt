@@ -15,7 +15,7 @@ returns-in_err-attempt g c =
     let p = err_from_is_err_and c.from_residual.result c.from_residual.ensures.1 in
     rw (p.1, p.2) (record {
       attempts = record {
-        client = beginning_client (use_of c.args.wish.now) _ _ c.attempt.ensures.silent.begins;
+        client = beginning_client (use_of c.args.wish.now) _ _ c.attempt.ensures.goes_on.silent.begins;
         most = search rules;
         begins = search rules;
         softened = search rules;
@@ -36,12 +36,12 @@ returns-in_err-attempt g c =
 
 pub ask_and_enter-requires-clause-placed : goal.ask_and_enter-requires-clause-placed
 ask_and_enter-requires-clause-placed g c =
-    placed_on (use_of c.args.wish.now) c.args.wish.now.place (g.R.Recorder.own_log c.args.recorder.now) (g.R.Recorder.own_log c.attempt.new.recorder) c.attempt.ensures.silent.begins c.requires.placed
+    placed_on (use_of c.args.wish.now) c.args.wish.now.place (g.R.Recorder.own_log c.args.recorder.now) (g.R.Recorder.own_log c.attempt.new.recorder) c.attempt.ensures.goes_on.silent.begins c.requires.placed
 
 pub returns : goal.returns
 returns g c =
-    let free = c.in_ok-attempt.ensures.asks.free in
-    let before = c.attempt.ensures.silent in
+    let free = c.in_ok-attempt.ensures.asks.asks.free in
+    let before = c.attempt.ensures.goes_on.silent in
     let asked = c.ask_and_enter.ensures in
     let behind = same_behind c.ask_and_enter.result _ _ (λ is. (asked.entered is).visits) asked.outside in
     record {
@@ -54,15 +54,15 @@ returns g c =
         own = search rules;
       };
       attempted = on_ok_weaker c.ask_and_enter.result (λ sent. record {
-        begun = behind.0 ∙ c.in_ok-attempt.ensures.begun.begun;
-        more = more_then_none _ _ _ c.in_ok-attempt.ensures.begun.more asked.goes_on.begins;
+        begun = behind.0 ∙ c.in_ok-attempt.ensures.asks.begun.begun;
+        more = more_then_none _ _ _ c.in_ok-attempt.ensures.asks.begun.more asked.goes_on.begins;
         free = free;
         sent = follows_from _ _ _ _ _ before.silent sent;
       }) asked.sent.all;
       entered = λ is. record {
-        entered = enters_use (use_of c.args.wish.now) (visits_of (g.R.Recorder.own_log c.args.recorder.now)) (visits_of (g.R.Recorder.own_log c.attempt.new.recorder)) (visits_of (g.R.Recorder.own_log c.ask_and_enter.new.recorder)) (asked.entered is).visits c.in_ok-attempt.ensures.begun.begun before.entered;
+        entered = enters_use (use_of c.args.wish.now) (visits_of (g.R.Recorder.own_log c.args.recorder.now)) (visits_of (g.R.Recorder.own_log c.attempt.new.recorder)) (visits_of (g.R.Recorder.own_log c.ask_and_enter.new.recorder)) (asked.entered is).visits c.in_ok-attempt.ensures.asks.begun.begun before.entered;
         may = (asked.entered is).may;
-        ticket = rw ((asked.entered is).ticket) c.in_ok-attempt.ensures.begun.ticket;
+        ticket = rw ((asked.entered is).ticket) c.in_ok-attempt.ensures.asks.begun.ticket;
         inside = (asked.entered is).inside;
       };
       taken_back = λ is. (
