@@ -96,7 +96,7 @@ pub record EntersSilently (l l' : OwnLog) : Type 0 where
   pub begins : BeginsNothing (visits_of l) (visits_of l')
   pub falls : falls_of l' ≡ falls_of l
 
--- The log has the client softened, and its core may soften.
+-- The log has one softening more, and the client is by it as its core is once that is softened.
 pub record IsSoftened (l l' : OwnLog) (finds : List (List ℕ)) (core : Client) : Type 0 where
   pub stands : Stands l' finds (softened core)
   pub visits : visits_of l' ≡ visits_softening (visits_of l)

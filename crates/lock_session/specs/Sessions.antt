@@ -297,7 +297,14 @@ abbrev pub EndsTrying : Use → ℕ → TryFault → SessionValue → SessionVal
 EndsTrying u nudges trying.Busy v v' = TakesBack u nudges v v'
 EndsTrying u nudges (trying.Ended f) v v' = EndsEntering u nudges f v v'
 
--- What a client notes of a lock, by the number of locks for which it asks one node after another: one less, unless it asked several
--- nodes at once and one of them let it wait.
-abbrev pub Notes : ℕ → ℕ → Type 0
-Notes before now = (now ≡ before - 1) ⊎ ((before ≡ 0) × (now ≡ LOCKS_IN_TURN))
+-- It asked several nodes at once for this use, and took that back since one of them let it wait: it asks one node after another for
+-- its next locks.
+pub record NotesCrowd (u : Use) (nudges : ℕ) (v : SessionValue) (before now : ℕ) : Type 0 where
+  pub between : SessionValue
+  pub alone : before ≡ 0
+  pub let_wait : TakesBack u nudges v between
+  pub in_turn : now ≡ LOCKS_IN_TURN
+
+-- What it notes of a lock for this use, by the number of locks for which it asks one node after another: a crowd, or one lock less.
+abbrev pub Notes : Use → ℕ → SessionValue → ℕ → ℕ → Type 0
+Notes u nudges v before now = NotesCrowd u nudges v before now ⊎ (now ≡ before - 1)

@@ -112,7 +112,7 @@ impl<S: OwnRecord, R: Recorder, L: Link> Session<S, R, L> {
         ensures held { IfOk result IsHeld }
         ensures asked { IfOk result (λ guard. AsksFor (use_by mode resource place) (guard_ticket guard)) }
         ensures entered { IfOk result (λ guard. Enters (use_by mode resource place) nudges self.old (session_of guard)) }
-        ensures noted { Notes crowd.old crowd.new }
+        ensures noted { Notes (use_by mode resource place) nudges self.old crowd.old crowd.new }
     {
         self.come_in_soon(rt, alloc, mode, resource, place, nudges, crowd)?;
         Ok(self.guard())

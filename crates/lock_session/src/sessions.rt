@@ -383,7 +383,7 @@ impl<S: OwnRecord, R: Recorder, L: Link> Session<S, R, L> {
         ensures entered { OnOk result (Enters (use_by mode resource place) nudges self.old self.new) }
         ensures inside { OnOk result (IsInsideFor (use_by mode resource place) self.new) }
         ensures ended { IfErr result (λ f. EndsEntering (use_by mode resource place) nudges f self.old self.new) }
-        ensures noted { Notes crowd.old crowd.new }
+        ensures noted { Notes (use_by mode resource place) nudges self.old crowd.old crowd.new }
     {
         let waits = !crowd.asks_at_once();
         let resource = &resource;
