@@ -8,14 +8,9 @@ use Rattle.lock_messages.specs.declared.ids.TheConstants.{MAX_CLIENTS}
 use Rattle.lock_messages.specs.Ids.{IsClient}
 use Rattle.lock_model.specs.declared.entries.Entry.{Entry}
 use Rattle.lock_model.specs.ExactStations.{is_of, knows, EachOnce}
-use Rattle.indexmap.specs.IndexMap.{insert_entry, move_index}
-use Rattle.stable_record.specs.declared.kept.Kept.{Kept}
-use Rattle.stable_record.specs.EntryLists.{AreOfClients, entries_in}
+use Rattle.stable_record.specs.EntryLists.{HasClient}
 use Rattle.stable_record.specs.Records.{IsEntry}
-use Rattle.stable_record.proofs.MapFacts.{same-turned}
-
-abbrev pub HasClient : Entry → Type 0
-HasClient e = IsClient e.client
+use Rattle.stable_record.proofs.ListFacts.{same-turned}
 
 abbrev pub clients : List Entry → List ℕ
 clients es = map (λ e. e.client) es
@@ -76,50 +71,3 @@ clients-of (e ∷ es) h = (h.0.client, clients-of es h.1)
 -- entries in range, each of another client, are at most as many as there are clients
 pub few : (es : List Entry) → EachOnce es → AllByRecursion IsEntry es → length es ≤ MAX_CLIENTS
 few es once good = few_clients es once (clients-of es good)
-
--- the clients of pairs are those of the entries
-pub clients-in : (pairs : List (ℕ × Kept)) → AreOfClients pairs → AllByRecursion HasClient (entries_in pairs)
-clients-in [] h = tt
-clients-in (p ∷ pairs) h = (h.0, clients-in pairs h.1)
-
--- ---- edits that bring in no other clients
-
-pub clients-inserted : (c : ℕ) (v : Kept) (pairs : List (ℕ × Kept)) → IsClient c → AreOfClients pairs → AreOfClients (insert_entry (λ a b. a == b) pairs c v)
-clients-inserted c v [] is h = (is, tt)
-clients-inserted c v (p ∷ pairs) is h = go (clients-inserted c v pairs is h.1) (c == p.0)
-  where
-    go : AreOfClients (insert_entry (λ a b. a == b) pairs c v) → (b : Bool) → AreOfClients (cond b ((p.0, v) ∷ pairs) (p ∷ insert_entry (λ a b. a == b) pairs c v))
-    go rest true = h
-    go rest false = (h.0, rest)
-
-clients-append : (ps qs : List (ℕ × Kept)) → AreOfClients ps → AreOfClients qs → AreOfClients (ps ++ qs)
-clients-append [] qs h k = k
-clients-append (p ∷ ps) qs h k = (h.0, clients-append ps qs h.1 k)
-
-clients-take : (n : ℕ) (ps : List (ℕ × Kept)) → AreOfClients ps → AreOfClients (take n ps)
-clients-take zero ps h = tt
-clients-take (suc n) [] h = tt
-clients-take (suc n) (p ∷ ps) h = (h.0, clients-take n ps h.1)
-
-clients-drop : (n : ℕ) (ps : List (ℕ × Kept)) → AreOfClients ps → AreOfClients (drop n ps)
-clients-drop zero ps h = h
-clients-drop (suc n) [] h = tt
-clients-drop (suc n) (p ∷ ps) h = clients-drop n ps h.1
-
-client-at : (n : ℕ) (ps : List (ℕ × Kept)) (p : ℕ × Kept) → slice_get ps n ≡ Some p → AreOfClients ps → IsClient p.0
-client-at n [] p is h = cc
-client-at zero (q ∷ ps) p is h = let same : q ≡ p = cc in subst (λ (r : ℕ × Kept). IsClient r.0) same h.0
-client-at (suc n) (q ∷ ps) p is h = client-at n ps p is h.1
-
-pub clients-moved : (ps : List (ℕ × Kept)) (from to : ℕ) → AreOfClients ps → AreOfClients (move_index ps from to)
-clients-moved ps from to h = go (slice_get ps from) refl
-  where
-    rest : List (ℕ × Kept)
-    rest = take from ps ++ drop (suc from) ps
-
-    few_left : AreOfClients rest
-    few_left = clients-append (take from ps) (drop (suc from) ps) (clients-take from ps h) (clients-drop (suc from) ps h)
-
-    go : (o : Option (ℕ × Kept)) → slice_get ps from ≡ o → AreOfClients (option_map_or (λ x. take to rest ++ x ∷ drop to rest) o ps)
-    go None is = h
-    go (Some p) is = clients-append (take to rest) (p ∷ drop to rest) (clients-take to rest few_left) (client-at from ps p is h, clients-drop to rest few_left)

@@ -10,7 +10,7 @@ use Rattle.stable_record.specs.EntryLists.{replaced}
 use Rattle.stable_record.specs.Lines.{is_for, waits_for, count_live, clients_of, tickets_for, line_of, one_if}
 use Rattle.stable_record.specs.Indexing.{without_first, without_ticket, with_holder}
 use Rattle.stable_record.proofs.LineFacts.{and-yes, off-live, holds-within, writer_holds-within, waits_for-within, writer_waits-within}
-use Rattle.stable_record.proofs.MapFacts.{replaced-unknown}
+use Rattle.stable_record.proofs.ListFacts.{replaced-unknown}
 
 -- ---- where a client's entry stands
 

@@ -24,7 +24,7 @@ use Rattle.stable_record.specs.EntryLists.{replaced}
 use Rattle.stable_record.specs.Lines.{Tickets, is_for, waits_for, count_live, clients_of, tickets_for, line_of, line_in, Indexes, or_none, one_if, with_ticket, Joins}
 use Rattle.stable_record.specs.Indexing.{announced_ticket, announced_entry, with_announced, IndexesWith, IsEntryAmong, HasNoTicket, without_live, with_holding, softened_holder, with_softened, without_ticket, with_holder, with_promoted, with_softened_holder, without_last, with_confirmed, is_no_tickets, unless_empty, Puts, AreCounted}
 use Rattle.stable_record.proofs.LineFacts.{line-in-updated, and-yes, any-snoc, or-no, count-few, tickets-none, line-other, line-here, indexes-joined, or-none-read}
-use Rattle.stable_record.proofs.MapFacts.{others, others-unknown}
+use Rattle.stable_record.proofs.ListFacts.{others, others-unknown}
 use Rattle.stable_record.proofs.EditFacts.{Stands, stands, replaced-there, any-within, line-without, tickets-ended, tickets-held}
 
 -- ---- lines that are put

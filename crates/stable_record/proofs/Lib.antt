@@ -1,4 +1,4 @@
-pub mod MapFacts
+pub mod ListFacts
 pub mod FieldFacts
 pub mod RecordFacts
 pub mod ClientFacts

@@ -22,7 +22,7 @@ use Rattle.stable_record.specs.Records.{problem_byte, entry_bytes, head_bytes, n
 use Rattle.lock_messages.specs.Fields.{◌>>=◌, AreBytes, FieldsAreExact}
 use Rattle.stable_record.specs.Reading.{IsOrRefused, IsGoodSoFar, AreGood, version_at, problem_at, count_at, entry_at, entries_at, head_at, record_at, judged, reading}
 use Rattle.stable_record.specs.Laws.{OneSpelling}
-use Rattle.stable_record.proofs.MapFacts.{same-turned}
+use Rattle.stable_record.proofs.ListFacts.{once-push, same-turned}
 use Rattle.lock_messages.specs.FieldSteps.{bind_ok, bind_again, went_on, ok_is, Takes, Takes-then}
 use Rattle.stable_record.proofs.FieldFacts.{is16, byte_takes, number_takes, policy_takes, problem_again, entry_takes, entry_again}
 
@@ -30,18 +30,6 @@ abbrev pub read : {A : Type 0} → A → Result A RecordFault
 read x = Ok x
 
 -- ---- each client once
-
-knows-push : (c : ℕ) (es : List Entry) (e : Entry) → knows c es ≡ false → (e.client == c) ≡ false → knows c (es ++ e ∷ []) ≡ false
-knows-push c [] e h k = or_from (e.client == c) false k refl
-knows-push c (x ∷ es) e h k =
-    let p = or_parts (is_of c x) (knows c es) h in
-    or_from (is_of c x) (knows c (es ++ e ∷ [])) p.0 (knows-push c es e p.1 k)
-
-once-push : (es : List Entry) (e : Entry) → EachOnce es → knows e.client es ≡ false → EachOnce (es ++ e ∷ [])
-once-push [] e o h = (refl, tt)
-once-push (x ∷ es) e o h =
-    let p = or_parts (is_of e.client x) (knows e.client es) h in
-    (knows-push x.client es e o.0 (same-turned e.client x.client ∙ p.0), once-push es e o.1 p.1)
 
 apart-from : (c : ℕ) (xs : List Entry) (e : Entry) (ys : List Entry) → knows c (xs ++ e ∷ ys) ≡ false → (e.client == c) ≡ false
 apart-from c [] e ys h = (or_parts (is_of c e) (knows c ys) h).0

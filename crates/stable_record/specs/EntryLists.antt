@@ -1,20 +1,22 @@
--- Entries as a map from clients in the order of arrival, seen as a list.
-use Rattle.std.specs.Prelude.{ℕ, List, map, if◌then◌else◌}
+-- Entries in the order of arrival, as a list.
+use Rattle.std.specs.Prelude.{◌≡◌, ℕ, List, Some, map, slice_get, if◌then◌else◌}
 use Rattle.std.specs.List.{AllByRecursion}
 use Rattle.lock_messages.specs.Ids.{IsClient}
 use Rattle.lock_model.specs.declared.entries.Entry.{Entry}
-use Rattle.lock_model.specs.ExactStations.{is_of}
-use Rattle.stable_record.specs.declared.kept.Kept.{Kept}
+use Rattle.lock_model.specs.ExactStations.{is_of, EachOnce}
 
-abbrev pub entry_of_pair : ℕ × Kept → Entry
-entry_of_pair p = record { client = p.0; floor = p.1.floor; live = p.1.live }
+-- the entry is of a client that there can be
+abbrev pub HasClient : Entry → Type 0
+HasClient e = IsClient e.client
 
-abbrev pub entries_in : List (ℕ × Kept) → List Entry
-entries_in pairs = map entry_of_pair pairs
+-- each entry is of a client that there can be, and no client has two
+pub record AreEntries (entries : List Entry) : Type 0 where
+  pub once : EachOnce entries
+  pub clients : AllByRecursion HasClient entries
 
--- each pair is of a client that there can be
-abbrev pub AreOfClients : List (ℕ × Kept) → Type 0
-AreOfClients pairs = AllByRecursion (λ p. IsClient p.0) pairs
+-- the client's entry is at this place, counted from 0
+abbrev pub IsPlaceOf : ℕ → List Entry → ℕ → Type 0
+IsPlaceOf c entries place = (e : Entry) × (slice_get entries place ≡ Some e) × (e.client ≡ c)
 
 -- the entries with this one in the place of its client's
 abbrev pub replaced : Entry → List Entry → List Entry

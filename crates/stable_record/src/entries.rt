@@ -1,42 +1,45 @@
 // Entries in the order of arrival, each client once.
 
-ghost use Rattle.std.specs.Prelude.{◌≡◌, ◌==◌, ◌||◌, ◌<◌, ◌≤◌, ◌↔◌, ◌++◌, ◌∷◌, [], length, true, false, Some, not, is_ok, IsOk, IfOk, IsTrue, ◌&&◌, slice_get, if◌then◌else◌};
+ghost use Rattle.std.specs.Prelude.{◌≡◌, ◌==◌, ◌||◌, ◌<◌, ◌≤◌, ◌↔◌, ◌++◌, ◌∷◌, [], length, true, false, Some, not, is_ok, is_some, IsOk, IfOk, IfSome, IsTrue, ◌&&◌, slice_get, position, if◌then◌else◌};
 ghost use Rattle.std.specs.List.{list_any, list_all};
 ghost use Rattle.lock_messages.specs.declared.ids.TheConstants.{MAX_CLIENTS};
 ghost use Rattle.lock_messages.specs.declared.tickets.Mode.{Mode};
-ghost use Rattle.lock_model.specs.ExactStations.{knows, entry_of, EachOnce, if_live, any_live, holds, writer_holds, writer_waits, admits};
+ghost use Rattle.lock_model.specs.ExactStations.{is_of, knows, entry_of, EachOnce, if_live, any_live, holds, writer_holds, writer_waits, admits};
 ghost use Rattle.lock_model.specs.ExactDecisions.{moved_last};
-ghost use Rattle.stable_record.specs.EntryLists.{entries_in, replaced};
+ghost use Rattle.stable_record.specs.EntryLists.{AreEntries, IsPlaceOf, replaced};
 ghost use Rattle.stable_record.specs.Lines.{Indexes, waits_by_line, alone_by_line};
-ghost use Rattle.lock_model.specs.Judgement.{leaves_alone, is_lawful, has_cause, is_caused};
+ghost use Rattle.lock_model.specs.Judgement.{is_only_holder, leaves_alone, is_lawful, has_cause, is_caused};
 
-use crate::kept::{Kept, is_writing};
+use crate::places::Places;
+use crate::tickets::{holds, is_writing, writer_holds, writer_waits};
 use crate::{Entry, ResourceIndex, judging};
-use indexmap::IndexMap;
 use lock_messages::{ClientId, Mode, ResourceName};
 use lock_model::Problem;
 use std::alloc::{AllocError, Global};
 use std::marker::Model;
 
-type Map = IndexMap<ClientId, Kept>;
-
 /// A node's entries, in the order in which tickets arrived, each client once. Contracts see them as
-/// the list of entries. Whether a client has one takes one look-up.
+/// the list of entries.
+///
+/// Beside the list stands where each client's entry was put last. A look-up tries that place, and goes
+/// over the list only where the entry isn't there, as of a client that has none.
 #[derive(Debug, Drop)]
 pub struct Entries {
-    map: Map,
+    alloc: Global,
+    list: Vec<Entry>,
+    places: Places,
 }
 
 impl Model for Entries {
     ghost use Rattle.std.specs.Prelude.{List};
     ghost use Rattle.lock_model.specs.declared.entries.Entry.{Entry};
-    ghost use Rattle.stable_record.specs.EntryLists.{entries_in, AreOfClients};
+    ghost use Rattle.stable_record.specs.EntryLists.{AreEntries};
 
     ghost Value = { List Entry };
 
-    ghost view = { λ s. entries_in s.map.entries };
+    ghost view = { λ s. s.list.items };
 
-    ghost invariant = { λ s. AreOfClients s.map.entries };
+    ghost invariant = { λ s. AreEntries s.list.items };
 }
 
 /// A copy is the same entries. The only error is want of memory.
@@ -47,95 +50,109 @@ impl Clone for Entries {
 
     fn clone(&self) -> Result<Entries, AllocError> {
         Ok(Entries {
-            map: self.map.clone()?,
+            alloc: self.alloc,
+            list: Vec::from_slice(self.alloc, &self.list)?,
+            places: self.places.copy(self.alloc)?,
         })
     }
 }
 
-fn any_holds(map: &Map, resource: &ResourceName) -> bool
-    ensures { result ≡ list_any (λ p. if_live (holds resource.now) p.1.live) map.now.entries }
+fn any_holds(list: &[Entry], resource: &ResourceName) -> bool
+    ensures { result ≡ any_live (holds resource.now) list.now }
 {
-    map.iter().any(|(_, kept)| kept.holds(resource))
+    list.iter().any(|entry| holds(entry, resource))
 }
 
-fn any_writer_holds(map: &Map, resource: &ResourceName) -> bool
-    ensures { result ≡ list_any (λ p. if_live (writer_holds resource.now) p.1.live) map.now.entries }
+fn any_writer_holds(list: &[Entry], resource: &ResourceName) -> bool
+    ensures { result ≡ any_live (writer_holds resource.now) list.now }
 {
-    map.iter().any(|(_, kept)| kept.writer_holds(resource))
+    list.iter().any(|entry| writer_holds(entry, resource))
 }
 
-fn any_writer_waits(map: &Map, resource: &ResourceName) -> bool
-    ensures { result ≡ list_any (λ p. if_live (writer_waits resource.now) p.1.live) map.now.entries }
+fn any_writer_waits(list: &[Entry], resource: &ResourceName) -> bool
+    ensures { result ≡ any_live (writer_waits resource.now) list.now }
 {
-    map.iter().any(|(_, kept)| kept.writer_waits(resource))
+    list.iter().any(|entry| writer_waits(entry, resource))
 }
 
-#[tactic(auto, using(crate::proofs::MapFacts::map_facts))]
-fn admits(map: &Map, problem: Problem, mode: Mode, resource: &ResourceName) -> bool
-    ensures { result ≡ admits problem mode resource.now (entries_in map.now.entries) }
+fn admits(list: &[Entry], problem: Problem, mode: Mode, resource: &ResourceName) -> bool
+    ensures { result ≡ admits problem mode resource.now list.now }
 {
     match mode {
-        Mode::Write => !any_holds(map, resource),
+        Mode::Write => !any_holds(list, resource),
         Mode::Read => {
             problem.admits_reader(
-                any_writer_holds(map, resource),
-                any_writer_waits(map, resource),
+                any_writer_holds(list, resource),
+                any_writer_waits(list, resource),
             )
         }
     }
 }
 
-fn is_only_holder(map: &Map, client: ClientId, resource: &ResourceName) -> bool
-    ensures { result ≡ list_all (λ p. (p.0 == client) || not (if_live (holds resource.now) p.1.live)) map.now.entries }
+fn is_only_holder(list: &[Entry], client: ClientId, resource: &ResourceName) -> bool
+    ensures { result ≡ is_only_holder list.now client resource.now }
 {
-    map.iter()
-        .all(|(other, kept)| *other == client || !kept.holds(resource))
+    list.iter()
+        .all(|entry| entry.client == client || !holds(entry, resource))
 }
 
-#[tactic(auto, using(crate::proofs::MapFacts::map_facts))]
-fn leaves_alone(map: &Map, client: ClientId, kept: &Kept) -> bool
-    ensures { result ≡ leaves_alone (entries_in map.now.entries) client kept.now.live }
+fn leaves_alone(list: &[Entry], entry: &Entry) -> bool
+    ensures { result ≡ leaves_alone list.now entry.now.client entry.now.live }
 {
-    match kept.live {
+    match entry.live {
         None => true,
-        Some(live) => !is_writing(&live) || is_only_holder(map, client, &live.resource),
+        Some(live) => !is_writing(&live) || is_only_holder(list, entry.client, &live.resource),
     }
 }
 
-fn is_lawful(map: &Map) -> bool
-    ensures { result ≡ list_all (λ p. leaves_alone (entries_in map.now.entries) p.0 p.1.live) map.now.entries }
+fn is_lawful(list: &[Entry]) -> bool
+    ensures { result ≡ is_lawful list.now }
 {
-    map.iter()
-        .all(|(client, kept)| leaves_alone(map, *client, kept))
+    list.iter().all(|entry| leaves_alone(list, entry))
 }
 
-fn has_cause(map: &Map, problem: Problem, kept: &Kept) -> bool
-    ensures { result ≡ has_cause problem (entries_in map.now.entries) kept.now.live }
+fn has_cause(list: &[Entry], problem: Problem, entry: &Entry) -> bool
+    ensures { result ≡ has_cause problem list.now entry.now.live }
 {
-    match kept.live {
+    match entry.live {
         None => true,
-        Some(live) => !live.waits() || !admits(map, problem, live.mode, &live.resource),
+        Some(live) => !live.waits() || !admits(list, problem, live.mode, &live.resource),
     }
 }
 
-fn is_caused(map: &Map, problem: Problem) -> bool
-    ensures { result ≡ list_all (λ p. has_cause problem (entries_in map.now.entries) p.1.live) map.now.entries }
+fn is_caused(list: &[Entry], problem: Problem) -> bool
+    ensures { result ≡ is_caused problem list.now }
 {
-    map.iter().all(|(_, kept)| has_cause(map, problem, kept))
+    list.iter().all(|entry| has_cause(list, problem, entry))
 }
 
-fn is_lawful_by(map: &Map, index: &ResourceIndex) -> bool
-    ensures { result ≡ list_all (λ p. alone_by_line index.now p.1.live) map.now.entries }
+fn is_lawful_by(list: &[Entry], index: &ResourceIndex) -> bool
+    ensures { result ≡ list_all (λ e. alone_by_line index.now e.live) list.now }
 {
-    map.iter()
-        .all(|(_, kept)| judging::leaves_alone(index, kept))
+    list.iter().all(|entry| judging::leaves_alone(index, entry))
 }
 
-fn is_caused_by(map: &Map, index: &ResourceIndex, problem: Problem) -> bool
-    ensures { result ≡ list_all (λ p. waits_by_line problem index.now p.1.live) map.now.entries }
+fn is_caused_by(list: &[Entry], index: &ResourceIndex, problem: Problem) -> bool
+    ensures { result ≡ list_all (λ e. waits_by_line problem index.now e.live) list.now }
 {
-    map.iter()
-        .all(|(_, kept)| judging::has_cause(index, problem, kept))
+    list.iter()
+        .all(|entry| judging::has_cause(index, problem, entry))
+}
+
+/// The first place of an entry of this client.
+fn first_of(list: &[Entry], client: ClientId) -> Option<usize>
+    ensures { result ≡ position (is_of client) list.now }
+{
+    list.iter().position(|entry| entry.client == client)
+}
+
+/// Where the client's entry is, counted from 0; `None` exactly where it has none. It goes over the entries
+/// up to there.
+fn scan(list: &[Entry], client: ClientId) -> Option<usize>
+    ensures place { IfSome result (IsPlaceOf client list.now) }
+    ensures known { is_some result ≡ knows client list.now }
+{
+    first_of(list, client)
 }
 
 impl Entries {
@@ -144,7 +161,9 @@ impl Entries {
         ensures { result ≡ [] }
     {
         Entries {
-            map: IndexMap::new(alloc),
+            alloc,
+            list: Vec::new(alloc),
+            places: Places::new(alloc),
         }
     }
 
@@ -154,14 +173,14 @@ impl Entries {
         ensures few { result ≤ MAX_CLIENTS }
         ensures once { EachOnce self.now }
     {
-        self.map.len()
+        self.list.len()
     }
 
     /// Whether there are none.
     pub fn is_empty(&self) -> bool
         ensures { IsTrue result ↔ (self.now ≡ []) }
     {
-        self.map.is_empty()
+        self.list.is_empty()
     }
 
     /// The entry at a place, counted from 0; `None` exactly where there is none.
@@ -169,32 +188,50 @@ impl Entries {
         ensures found { result ≡ slice_get self.now place }
         ensures once { EachOnce self.now }
     {
-        if place < self.len() {
-            Some(self.at(place))
+        self.list.get(place).copied()
+    }
+
+    /// Where the client's entry was put last, counted from 0, if it is there.
+    fn noted(&self, client: ClientId) -> Option<usize>
+        ensures { IfSome result (IsPlaceOf client self.now) }
+    {
+        let place = self.places.of(client)?;
+        let entry = self.list.get(place)?;
+        if entry.client == client {
+            Some(place)
         } else {
             None
         }
     }
 
-    /// Whether the client has an entry.
+    /// Where the client's entry is, counted from 0; `None` exactly where it has none.
+    fn place_of(&self, client: ClientId) -> Option<usize>
+        ensures place { IfSome result (IsPlaceOf client self.now) }
+        ensures known { is_some result ≡ knows client self.now }
+        ensures entries { AreEntries self.now }
+    {
+        match self.noted(client) {
+            Some(place) => Some(place),
+            None => scan(&self.list, client),
+        }
+    }
+
+    /// Whether the client has an entry. It takes one look-up, and of a client that has none one scan.
     pub fn knows(&self, client: ClientId) -> bool
         ensures { result ≡ knows client self.now }
     {
-        self.map.contains_key(&client)
+        self.place_of(client).is_some()
     }
 
-    /// The client's entry, if it has one. It takes one look-up.
+    /// The client's entry, if it has one. It takes one look-up, and of a client that has none one scan.
     pub fn entry_of(&self, client: ClientId) -> Option<Entry>
         ensures found { result ≡ entry_of self.now client }
         ensures once { EachOnce self.now }
     {
-        let _len = self.len();
-        let Kept { floor, live } = *self.map.get(&client)?;
-        Some(Entry {
-            client,
-            floor,
-            live,
-        })
+        match self.place_of(client) {
+            Some(place) => self.get(place),
+            None => None,
+        }
     }
 
     /// Puts an entry in the place of its client's; that of a client that has none is put nowhere. It
@@ -202,36 +239,8 @@ impl Entries {
     pub fn replace(&mut self, entry: Entry)
         ensures { self.new ≡ replaced entry self.old }
     {
-        let Entry {
-            client,
-            floor,
-            live,
-        } = entry;
-        if self.knows(client) {
-            self.put_in_place(Entry {
-                client,
-                floor,
-                live,
-            });
-        }
-    }
-
-    /// Puts an entry in the place of its client's, which there is.
-    fn put_in_place(&mut self, entry: Entry)
-        requires { knows entry.client self.old ≡ true }
-        ensures { self.new ≡ replaced entry self.old }
-    {
-        let _len = self.len();
-        let Entry {
-            client,
-            floor,
-            live,
-        } = entry;
-        client.get();
-        // Memory is asked for a new client alone.
-        match self.map.insert(client, Kept { floor, live }) {
-            Ok(_) => {}
-            Err(_) => {}
+        if let Some(place) = self.place_of(entry.client) {
+            self.list[place] = entry;
         }
     }
 
@@ -240,30 +249,11 @@ impl Entries {
     pub fn move_last(&mut self, entry: Entry)
         ensures { self.new ≡ (if knows entry.client self.old then moved_last entry self.old else self.old) }
     {
-        let Entry {
-            client,
-            floor,
-            live,
-        } = entry;
-        if self.knows(client) {
-            self.put_behind(Entry {
-                client,
-                floor,
-                live,
-            });
+        if let Some(place) = self.place_of(entry.client) {
+            self.list.remove(place);
+            self.list.push_reserved(entry);
+            self.places.note_from(place, &self.list);
         }
-    }
-
-    /// Puts an entry behind the others, in place of its client's, which there is.
-    fn put_behind(&mut self, entry: Entry)
-        requires { knows entry.client self.old ≡ true }
-        ensures { self.new ≡ moved_last entry self.old }
-    {
-        let client = entry.client;
-        let place = self.map.get_index_of(&client).unwrap();
-        let last = self.map.len() - 1;
-        self.map.move_index(place, last);
-        self.put_in_place(entry);
     }
 
     /// Puts an entry behind the others. Its client has none yet.
@@ -271,15 +261,21 @@ impl Entries {
         requires { knows entry.client self.old ≡ false }
         ensures { self.new ≡ (if is_ok result then self.old ++ entry ∷ [] else self.old) }
     {
-        let kept = Kept {
-            floor: entry.floor,
-            live: entry.live,
-        };
-        entry.client.get();
-        match self.map.insert(entry.client, kept) {
-            Ok(_) => Ok(()),
-            Err(_) => Err(AllocError),
-        }
+        let Entry {
+            client,
+            floor,
+            live,
+        } = entry;
+        client.get();
+        self.places.make_room(client)?;
+        self.list.reserve(1)?;
+        self.places.note(self.list.len(), client);
+        self.list.push_reserved(Entry {
+            client,
+            floor,
+            live,
+        });
+        Ok(())
     }
 
     /// The entry at a place where there is one.
@@ -287,12 +283,7 @@ impl Entries {
         requires { place < length self.now }
         ensures { slice_get self.now place ≡ Some result }
     {
-        let (client, kept) = self.map.get_index(place).unwrap();
-        Entry {
-            client: *client,
-            floor: kept.floor,
-            live: kept.live,
-        }
+        self.list[place]
     }
 
     /// Puts an entry behind the others, unless its client has one, and answers whether it did. The
@@ -325,21 +316,21 @@ impl Entries {
     pub fn has_holder(&self, resource: &ResourceName) -> bool
         ensures { result ≡ any_live (holds resource.now) self.now }
     {
-        any_holds(&self.map, resource)
+        any_holds(&self.list, resource)
     }
 
     /// Whether a writer's ticket holds the resource.
     pub fn has_writing_holder(&self, resource: &ResourceName) -> bool
         ensures { result ≡ any_live (writer_holds resource.now) self.now }
     {
-        any_writer_holds(&self.map, resource)
+        any_writer_holds(&self.list, resource)
     }
 
     /// Whether a writer's ticket waits for the resource.
     pub fn has_waiting_writer(&self, resource: &ResourceName) -> bool
         ensures { result ≡ any_live (writer_waits resource.now) self.now }
     {
-        any_writer_waits(&self.map, resource)
+        any_writer_waits(&self.list, resource)
     }
 
     /// Whether a ticket in this mode for this resource is admitted among the entries. It takes no
@@ -347,7 +338,7 @@ impl Entries {
     pub fn admits(&self, problem: Problem, mode: Mode, resource: &ResourceName) -> bool
         ensures { result ≡ admits problem mode resource.now self.now }
     {
-        admits(&self.map, problem, mode, resource)
+        admits(&self.list, problem, mode, resource)
     }
 
     pub(crate) fn is_lawful(&self) -> bool
@@ -355,7 +346,7 @@ impl Entries {
         ensures once { EachOnce self.now }
     {
         let _len = self.len();
-        is_lawful(&self.map)
+        is_lawful(&self.list)
     }
 
     pub(crate) fn is_caused(&self, problem: Problem) -> bool
@@ -363,7 +354,7 @@ impl Entries {
         ensures once { EachOnce self.now }
     {
         let _len = self.len();
-        is_caused(&self.map, problem)
+        is_caused(&self.list, problem)
     }
 
     /// Whether the entries are lawful, by their index.
@@ -372,7 +363,7 @@ impl Entries {
         ensures { result ≡ is_lawful self.now }
     {
         let _len = self.len();
-        is_lawful_by(&self.map, index)
+        is_lawful_by(&self.list, index)
     }
 
     /// Whether the entries are caused, by their index.
@@ -380,6 +371,6 @@ impl Entries {
         requires { Indexes index.now self.now }
         ensures { result ≡ is_caused problem self.now }
     {
-        is_caused_by(&self.map, index, problem)
+        is_caused_by(&self.list, index, problem)
     }
 }

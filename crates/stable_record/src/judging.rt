@@ -3,8 +3,8 @@
 ghost use Rattle.std.specs.Prelude.{◌≡◌};
 ghost use Rattle.stable_record.specs.Lines.{admitted_beside, waits_by_line, alone_by_line, line_in, or_none};
 
-use crate::kept::{Kept, is_writing};
-use crate::{Line, Live, ResourceIndex};
+use crate::tickets::is_writing;
+use crate::{Entry, Line, Live, ResourceIndex};
 use lock_messages::Mode;
 use lock_model::Problem;
 
@@ -31,10 +31,10 @@ fn is_admitted(index: &ResourceIndex, problem: Problem, live: &Live) -> bool
 }
 
 /// Whether the ticket doesn't wait, or has to.
-pub(crate) fn has_cause(index: &ResourceIndex, problem: Problem, kept: &Kept) -> bool
-    ensures { result ≡ waits_by_line problem index.now kept.now.live }
+pub(crate) fn has_cause(index: &ResourceIndex, problem: Problem, entry: &Entry) -> bool
+    ensures { result ≡ waits_by_line problem index.now entry.now.live }
 {
-    match &kept.live {
+    match &entry.live {
         None => true,
         Some(live) => !live.waits() || !is_admitted(index, problem, live),
     }
@@ -51,10 +51,10 @@ fn holders_beside(index: &ResourceIndex, live: &Live) -> usize
 }
 
 /// Whether the ticket isn't a writer's that holds, or is the only one that holds its resource.
-pub(crate) fn leaves_alone(index: &ResourceIndex, kept: &Kept) -> bool
-    ensures { result ≡ alone_by_line index.now kept.now.live }
+pub(crate) fn leaves_alone(index: &ResourceIndex, entry: &Entry) -> bool
+    ensures { result ≡ alone_by_line index.now entry.now.live }
 {
-    match &kept.live {
+    match &entry.live {
         None => true,
         Some(live) => !is_writing(live) || holders_beside(index, live) == 1,
     }

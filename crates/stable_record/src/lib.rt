@@ -15,7 +15,10 @@
 //! may find, whether the record is stuck, and how often its device has failed. Code above is generic
 //! in it. `MemoryRecord` never fails but for memory; `FaultyRecord` fails when a test wants it.
 //!
-//! The crate stands on `lock_messages`, `lock_model`, `indexmap` and `thiserror`.
+//! `Entries` is a list, with a note of where each client's entry was put. A copy of it costs as much as
+//! its memory is long.
+//!
+//! The crate stands on `lock_messages`, `lock_model` and `thiserror`.
 #![tactic(auto)]
 
 mod client_records;
@@ -25,16 +28,17 @@ mod faulty_records;
 mod formats;
 mod indexed_records;
 mod judging;
-mod kept;
 pub mod laws;
 mod leaves;
 mod lines;
 mod memory_records;
 mod node_records;
+mod places;
 mod questions;
 mod reading;
 mod resource_index;
 mod stable;
+mod tickets;
 mod writing;
 
 pub use client_records::{client_bytes, read_client};

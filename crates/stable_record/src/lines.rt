@@ -5,7 +5,7 @@ ghost use Rattle.std.specs.List.{position};
 ghost use Rattle.stable_record.specs.Indexing.{AreCounted, announced_ticket, is_no_tickets, with_confirmed, with_holder, with_promoted, with_softened_holder, without_first, without_last, without_ticket};
 ghost use Rattle.stable_record.specs.Lines.{no_tickets, with_ticket, AreFew};
 
-use crate::kept::is_writing;
+use crate::tickets::is_writing;
 use crate::{Live, Status};
 use lock_messages::{ClientId, Mode};
 use std::alloc::{AllocError, Global};

@@ -7,7 +7,7 @@ use Rattle.lock_model.specs.ExactStations.{is_of, knows, entry_of, EachOnce}
 use Rattle.lock_model.specs.ExactDecisions.{ended_entry, ended, moved_last}
 use Rattle.stable_record.specs.EntryLists.{replaced}
 use Rattle.stable_record.proofs.IndexFacts.{nowhere}
-use Rattle.stable_record.proofs.MapFacts.{known-last, replaced-unknown}
+use Rattle.stable_record.proofs.ListFacts.{known-last, replaced-unknown}
 use Rattle.voter_core.specs.Voters.{ends_something}
 
 pub none-entry : (o : Option Entry) → ((x : Entry) → o ≡ Some x → ⊥) → o ≡ None

@@ -7,7 +7,7 @@ use Rattle.lock_model.specs.declared.problems.Problem.{Problem}
 use Rattle.lock_model.specs.ExactStations.{is_of, knows, EachOnce, is_waiting, admits, promoted, settled_live, settled_entry}
 use Rattle.stable_record.specs.EntryLists.{replaced}
 use Rattle.stable_record.proofs.JudgingFacts.{knows-at}
-use Rattle.stable_record.proofs.MapFacts.{replaced-unknown}
+use Rattle.stable_record.proofs.ListFacts.{replaced-unknown}
 use Rattle.voter_core.specs.Voters.{admitted_now}
 
 -- the entry of a client, replaced, is the one at its place

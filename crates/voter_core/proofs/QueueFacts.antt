@@ -15,7 +15,7 @@ use Rattle.stable_record.specs.EntryLists.{replaced}
 use Rattle.stable_record.specs.Lines.{waits_for, clients_of, count_live}
 use Rattle.stable_record.specs.Indexing.{IsEntryAmong, with_holding}
 use Rattle.stable_record.proofs.JudgingFacts.{knows-at, seam}
-use Rattle.stable_record.proofs.MapFacts.{replaced-unknown}
+use Rattle.stable_record.proofs.ListFacts.{replaced-unknown}
 use Rattle.stable_record.proofs.QuestionFacts.{clients-count}
 use Rattle.voter_core.specs.Freed.{is_freed, OthersStay}
 use Rattle.voter_core.specs.Voters.{admitted_now}

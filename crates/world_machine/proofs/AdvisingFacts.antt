@@ -11,6 +11,7 @@ use Rattle.std.proofs.Math.Bool.{or-false}
 use Rattle.lock_messages.specs.declared.messages.Message.{Message}
 use Rattle.lock_messages.specs.declared.tickets.Ticket.{Ticket}
 use Rattle.lock_model.specs.Ballots.{Ballot, node_count}
+use Rattle.stable_record.proofs.ListFacts.{place-some}
 use Rattle.world_actors.specs.Acting.{ActingNode, ActingClient}
 use Rattle.world_actors.specs.Asking.{asked_in}
 use Rattle.world_model.specs.declared.exact.ExactClientPhase.{ExactClientPhase}
@@ -192,31 +193,7 @@ won-are b ns ks sent a h n = go (numbered ns n) refl ∙ ap (λ o. is_won_as (no
         ∙ wins-there a ks n v (h.order.nodes n v is)
         ∙ ap (λ c. is_up (node_of v.part).phase && not c) (held v)
 
--- a place is found exactly where a test passes, and what stands there passes it
-
-some-cond : (b : Bool) (i : ℕ) → is_some (cond b (Some i) None) ≡ b
-some-cond true i = refl
-some-cond false i = refl
-
-one-more-below : (a b : ℕ) → nat_lt (1 + a) (suc b) ≡ nat_lt a b
-one-more-below a b = elim (cases_lt a b) [
-  | inl below ↦ lt-ltb (1 + a) (suc b) (omega (arith, below)) ∙ sym (lt-ltb a b below)
-  | inr past ↦ le-ltb (1 + a) (suc b) (omega (arith, past)) ∙ sym (le-ltb a b past)
-]
-
-passes-below : {A : Type 0} (p : A → Bool) (xs : List A) → nat_lt (position_or_len p xs) (length xs) ≡ list_any p xs
-passes-below p [] = refl
-passes-below {A} p (x ∷ xs) = go (p x) (one-more-below (position_or_len p xs) (length xs) ∙ passes-below p xs)
-  where
-    here : ℕ
-    here = position_or_len p xs
-
-    go : (b : Bool) → nat_lt (1 + here) (suc (length xs)) ≡ list_any p xs → nat_lt (cond (not b) (1 + here) 0) (suc (length xs)) ≡ (b || list_any p xs)
-    go true below = lt-ltb 0 (suc (length xs)) (omega arith)
-    go false below = below
-
-pub place-some : {A : Type 0} (p : A → Bool) (xs : List A) → is_some (position p xs) ≡ list_any p xs
-place-some p xs = some-cond (nat_lt (position_or_len p xs) (length xs)) (position_or_len p xs) ∙ passes-below p xs
+-- what stands at the place that is found passes the test
 
 pub place-passes : {A : Type 0} (p : A → Bool) (xs : List A) (i : ℕ) → position p xs ≡ Some i → i < length xs → (x : A) × (numbered xs (i + 1) ≡ Some x) × (p x ≡ true)
 place-passes p xs i is within =

@@ -2,7 +2,8 @@ use Rattle.std.proofs.Common.{◌≡◌, None, Some, ◌∙◌, ap}
 use Rattle.std.specs.Prelude.{is_some}
 use Rattle.std.specs.List.{position}
 use Rattle.world_model.specs.Advice.{is_grant}
-use Rattle.world_machine.proofs.AdvisingFacts.{place-some, place-passes}
+use Rattle.stable_record.proofs.ListFacts.{place-some}
+use Rattle.world_machine.proofs.AdvisingFacts.{place-passes}
 use Rattle.world_machine.proofs.advising.first_number.Goals as goal
 
 pub returns-in-Some-clause-granted : goal.returns-in-Some-clause-granted

@@ -1,14 +1,13 @@
-use Rattle.std.proofs.Common.{ap, ◌∙◌}
-use Rattle.lock_model.specs.ExactStations.{entry_of}
-use Rattle.stable_record.proofs.MapFacts.{entry-found, found_as}
+use Rattle.std.proofs.Common.{◌≡◌, false, sym, ◌∙◌}
+use Rattle.lock_model.specs.ExactStations.{knows}
+use Rattle.lock_model.proofs.EntryEdits.{unknown-none}
+use Rattle.stable_record.proofs.ListFacts.{found-at}
 use Rattle.stable_record.proofs.entries.Entries.entry_of.Goals as goal
 
-pub returns-in_err-floor-clause-found : goal.returns-in_err-floor-clause-found
-returns-in_err-floor-clause-found c =
-    c.from_residual.ensures ∙ ap (found_as c.args.client) c.in_err-floor.ensures.value
-    ∙ entry-found c.args.client c.self.inside.map.entries ∙ ap (λ l. entry_of l c.args.client) c.self.view_is
+pub returns-in-Some-clause-found : goal.returns-in-Some-clause-found
+returns-in-Some-clause-found c =
+    let found = c.in-Some.ensures in
+    c.get.ensures.found ∙ found-at c.args.client c.args.self.now c.in-Some.place found.entries.once found.place
 
-pub returns-clause-found : goal.returns-clause-found
-returns-clause-found c =
-    ap (found_as c.args.client) c.in_ok-floor.ensures.value
-    ∙ entry-found c.args.client c.self.inside.map.entries ∙ ap (λ l. entry_of l c.args.client) c.self.view_is
+pub returns-in-None-clause-found : goal.returns-in-None-clause-found
+returns-in-None-clause-found c = sym (unknown-none c.args.self.now c.args.client (sym c.in-None.ensures.known))
