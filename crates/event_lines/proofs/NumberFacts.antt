@@ -1,16 +1,19 @@
 -- Numbers and the texts that spell them.
-use Rattle.std.proofs.Common.{◌≡◌, ℕ, ◌^◌, ◌<◌, ◌≤◌, Bool, true, false, List, [], ◌∷◌, length, get_or, Some, None, Ok, Err, refl, sym, ap, ◌∙◌, subst, arith, rules, ◌&&◌, ◌==◌, nat_le, if◌then◌else◌}
-use Rattle.std.specs.Str.{bytes_eq, IsUtf8}
-use Rattle.std.specs.Str.Parse.{digits_value, ParsesUnsigned}
+use Rattle.std.proofs.Common.{◌≡◌, ◌⊎◌, inl, inr, ℕ, ◌^◌, ◌+◌, ◌-◌, ◌*◌, ◌<◌, ◌≤◌, Bool, true, false, List, [], ◌∷◌, length, take, get_or, Some, None, refl, sym, ap, ◌∙◌, subst, arith, rules, ◌&&◌, ◌==◌, nat_le, if◌then◌else◌}
+use Rattle.std.specs.Int.{IsInRange}
+use Rattle.std.specs.Str.{bytes_eq}
+use Rattle.std.specs.Str.Parse.{digits_value}
 use Rattle.std.specs.Fmt.{decimal}
 use Rattle.std.specs.List.{list_all}
-use Rattle.std.specs.Char.{is_ascii_digit}
-use Rattle.std.proofs.lemmas.Str.Parse.{IsNumeralModel, IsDigitsTest, numerals_by_value, parse_digits}
-use Rattle.std.proofs.lemmas.Fmt.{decimal-digits_value, digits_decimal, first_decimal, IsAscii-from_digits}
-use Rattle.std.proofs.lemmas.Str.{IsUtf8-from_ascii}
+use Rattle.std.specs.Char.{digit_value, is_ascii_digit}
+use Rattle.std.proofs.lemmas.Str.Parse.{IsNumeralModel, IsDigitsTest, digits_value-take-le, numerals_by_value}
+use Rattle.std.proofs.lemmas.Fmt.{decimal-digits_value, digits_decimal, first_decimal}
+use Rattle.std.proofs.lemmas.Int.Digits.{digits_value_more}
+use Rattle.std.proofs.lemmas.List.Folds.{list_all_at}
+use Rattle.std.proofs.lemmas.Str.{digit_value_digit}
 use Rattle.std.proofs.lemmas.Slice.Eq.{bytes_eq-Decides}
 use Rattle.std.proofs.lemmas.Bool.Decides.{nat_tests}
-use Rattle.std.proofs.lemmas.Bool.{leb-true}
+use Rattle.std.proofs.lemmas.Bool.{and_parts, cases_Bool, leb-true}
 use Rattle.event_lines.specs.Lines.{spelled}
 
 -- has digits alone
@@ -22,9 +25,6 @@ tells_digits = search rules
 
 pub own : IsNumeralModel IsDigits (digits_value 10)
 own = numerals_by_value IsDigits tells_digits
-
-pub utf8 : (word : List ℕ) → IsDigits word → IsUtf8 word
-utf8 word h = IsUtf8-from_ascii word (IsAscii-from_digits word (own.to word h))
 
 in_range_or_none : (a b c : Bool) (n : ℕ) → ((a ≡ true) → (b ≡ true) → (c ≡ true) → ⊥) → None ≡ (if (a && b) && c then Some n else None)
 in_range_or_none false b c n never = refl
@@ -75,23 +75,29 @@ is_zero_digit b r e h = let t : (b == 48) ≡ true = sym e ∙ h in grind (arith
 pub is_no_zero_digit : (b : ℕ) (r : Bool) → r ≡ (b == 48) → r ≡ false → b ≡ 48 → ⊥
 is_no_zero_digit b r e h z = let t : (b == 48) ≡ false = sym e ∙ h in grind (arith, nat_tests)
 
-some_digit : (word : List ℕ) → 1 ≤ digits_value 10 word → 0 < length word
+pub some_digit : (word : List ℕ) → 1 ≤ digits_value 10 word → 0 < length word
 some_digit [] h = absurd (omega arith)
 some_digit (b ∷ bs) h = omega arith
 
--- what `parse` refuses, and what it reads; the error doesn't matter
-abbrev pub Refuses : List ℕ → Type 0
-Refuses text = ParsesUnsigned {E = Unit {0}} 32 10 text (Err tt)
+-- ---- reading digits one after the other
 
-abbrev pub Reads : List ℕ → ℕ → Type 0
-Reads text number = ParsesUnsigned {E = Unit {0}} 32 10 text (Ok number)
+pub digit-at : (word : List ℕ) (i : ℕ) → IsDigits word → i < length word → IsInRange 48 57 (get_or word i 0)
+digit-at word i digits within = go (cases_Bool (is_ascii_digit (get_or word i 0)))
+  where
+    go : (is_ascii_digit (get_or word i 0) ≡ true) ⊎ (is_ascii_digit (get_or word i 0) ≡ false) → IsInRange 48 57 (get_or word i 0)
+    go (inl p) =
+        let parts = and_parts (nat_le 48 (get_or word i 0)) (nat_le (get_or word i 0) 57) p in
+        (leb-true 48 (get_or word i 0) parts.0, leb-true (get_or word i 0) 57 parts.1)
+    go (inr p) = let clash : false ≡ true = sym (list_all_at is_ascii_digit word i 0 within p) ∙ digits in cc
 
-pub unparsed : (most : ℕ) (word text : List ℕ) → most < 2 ^ 32 → text ≡ word → IsDigits word → Refuses text → None ≡ spelled most word
-unparsed most word text small same digits h =
-    let refused = subst Refuses same h in
-    out_of_range most word (λ low high. parse_digits own {E = Unit {0}} 32 word (Err tt) refused digits (some_digit word low, omega arith))
+-- the number of a digit more
+pub digit-more : (word : List ℕ) (i : ℕ) → IsDigits word → i < length word →
+    digits_value 10 (take (i + 1) word) ≡ digits_value 10 (take i word) * 10 + (get_or word i 0 - 48)
+digit-more word i digits within =
+    let range = digit-at word i digits within in
+    let is : digit_value (get_or word i 0) ≡ get_or word i 0 - 48 = omega (arith, digit_value_digit (get_or word i 0) range) in
+    digits_value_more 10 word i within ∙ ap (λ d. digits_value 10 (take i word) * 10 + d) is
 
-pub parsed : (word text : List ℕ) (number : ℕ) → text ≡ word → IsDigits word → Reads text number → (0 < length word) × (number ≡ digits_value 10 word)
-parsed word text number same digits h =
-    let k = parse_digits own {E = Unit {0}} 32 word (Ok number) (subst (λ (t : List ℕ). Reads t number) same h) digits in
-    (k.0.0, k.1)
+-- a number that is too great already only grows
+pub too-great : (word : List ℕ) (i most : ℕ) → most < digits_value 10 (take i word) → most < digits_value 10 word
+too-great word i most h = let more = digits_value-take-le 10 word i (omega arith) in omega (arith, more)

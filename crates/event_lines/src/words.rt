@@ -1,15 +1,15 @@
 // The words of a line, each read as what it is.
 
-ghost use Rattle.std.specs.Prelude.{◌≡◌, [], ◌∷◌, ◌≤◌, ◌==◌, slice_index, IfSome};
+ghost use Rattle.std.specs.Prelude.{◌≡◌, [], ◌∷◌, ◌≤◌, ◌==◌, slice_index, IfSome, IfNone, ◌<◌, true};
 ghost use Rattle.std.specs.List.{position, list_all};
 ghost use Rattle.std.specs.Char.{is_ascii_digit};
+ghost use Rattle.std.specs.Str.Parse.{digits_value};
 ghost use Rattle.event_lines.specs.Lines.{is_space, words, spelled, lettered, node_word, client_word, actor_word, number_word, name_word, mode_word, wish_mode_word, age_word, problem_word, APlace, between, values_in};
 ghost use Rattle.event_lines.specs.Reading.{Gives, words_behind, word_there};
 
 use crate::LineFault;
 use lock_messages::{Actor, ClientId, MAX_CLIENTS, MAX_NODES, Mode, NodeId, ResourceName};
 use lock_model::Problem;
-use std::str;
 use vote_weights::MAX_BALLOTS;
 use world_model::{Age, MAX_MESSAGES};
 
@@ -47,6 +47,22 @@ fn begins_with_zero(word: &[u8]) -> bool
     matches!(word, [b'0', ..])
 }
 
+/// The number whose decimal text the digits are, where it is at most `most`.
+fn value_of(digits: &[u8], most: u32) -> Option<u32>
+    requires { list_all is_ascii_digit digits.now ≡ true }
+    ensures value { IfSome result (λ n. (n ≡ digits_value 10 digits.now) × (n ≤ most)) }
+    ensures none { IfNone result (most < digits_value 10 digits.now) }
+{
+    let mut number = 0u64;
+    for digit in digits {
+        number = number * 10 + u64::from(*digit - b'0');
+        if number > u64::from(most) {
+            return None;
+        }
+    }
+    Some(number as u32)
+}
+
 /// The number from 1 to `most` whose decimal text the word is.
 fn number_of(word: &[u8], most: u32) -> Option<u32>
     ensures number { result ≡ spelled most word.now }
@@ -55,13 +71,8 @@ fn number_of(word: &[u8], most: u32) -> Option<u32>
     if !has_digits(word) || begins_with_zero(word) {
         return None;
     }
-    let Ok(text) = str::from_utf8(word) else {
-        return None;
-    };
-    let Ok(number) = text.parse::<u32>() else {
-        return None;
-    };
-    if number < 1 || number > most {
+    let number = value_of(word, most)?;
+    if number < 1 {
         return None;
     }
     Some(number)

@@ -1,7 +1,7 @@
 use Rattle.std.proofs.Common.{◌∙◌, sym, arith, get_or}
-use Rattle.event_lines.proofs.NumberFacts.{IsDigits, utf8, no_other_byte, no_leading_zero, out_of_range, spelled_so, is_zero_digit, is_no_zero_digit, unparsed, parsed}
+use Rattle.event_lines.proofs.NumberFacts.{IsDigits, no_other_byte, no_leading_zero, out_of_range, spelled_so, is_zero_digit, is_no_zero_digit, some_digit}
 use Rattle.event_lines.proofs.words.number_of.Goals as goal
-use Rattle.event_lines.proofs.words.number_of.Goals.{then-not-has_digits-via-then-not-has_digits, then-not-has_digits-via-else-not-has_digits+then-begins_with_zero, then-number-lt1-via-then-number-lt1, then-number-lt1-via-else-number-lt1+then-number-most}
+use Rattle.event_lines.proofs.words.number_of.Goals.{then-not-has_digits-via-then-not-has_digits, then-not-has_digits-via-else-not-has_digits+then-begins_with_zero}
 
 pub returns-then-not-has_digits-clause-number : goal.returns-then-not-has_digits-clause-number
 returns-then-not-has_digits-clause-number c =
@@ -11,25 +11,20 @@ returns-then-not-has_digits-clause-number c =
           no_leading_zero c.args.most c.args.word.now (omega arith) (is_zero_digit (get_or c.args.word.now 0 0) w.begins_with_zero.result w.begins_with_zero.ensures w.if-begins_with_zero.true)
     ]
 
-pub returns-in_default-clause-number : goal.returns-in_default-clause-number
-returns-in_default-clause-number c =
-    absurd (c.in_default.ensures.cases.0 (utf8 c.args.word.now (sym c.has_digits.ensures ∙ c.if-not-has_digits.false)))
-
-pub returns-in_default-parse-clause-number : goal.returns-in_default-parse-clause-number
-returns-in_default-parse-clause-number c =
-    unparsed c.args.most c.args.word.now c.in-Ok.text.now (omega arith) c.in-Ok.ensures.cases.0 (sym c.has_digits.ensures ∙ c.if-not-has_digits.false) c.in_default-parse.ensures.value.0
+pub returns-in_err-number-clause-number : goal.returns-in_err-number-clause-number
+returns-in_err-number-clause-number c =
+    let above = c.in_err-number.ensures.none in
+    c.from_residual.ensures ∙ out_of_range c.args.most c.args.word.now (λ low high. omega (arith, above))
 
 pub returns-then-number-lt1-clause-number : goal.returns-then-number-lt1-clause-number
 returns-then-number-lt1-clause-number c =
-    let read = parsed c.args.word.now c.in-Ok.text.now c.in-Ok-parse.number c.in-Ok.ensures.cases.0 (sym c.has_digits.ensures ∙ c.if-not-has_digits.false) c.in-Ok-parse.ensures.value.0 in
-    elim c.then-number-lt1.branch [
-      | then-number-lt1-via-then-number-lt1 w ↦ out_of_range c.args.most c.args.word.now (λ low high. omega (arith, read.1, w.if-number-lt1.true))
-      | then-number-lt1-via-else-number-lt1+then-number-most w ↦ out_of_range c.args.most c.args.word.now (λ low high. omega (arith, read.1, w.if-number-most.true))
-    ]
+    let value = c.in_ok-number.ensures.value in
+    out_of_range c.args.most c.args.word.now (λ low high. omega (arith, value.0, c.if-number-lt1.true))
 
 pub returns-clause-number : goal.returns-clause-number
 returns-clause-number c =
+    let value = c.in_ok-number.ensures.value in
     let digits : IsDigits c.args.word.now = sym c.has_digits.ensures ∙ c.if-not-has_digits.false in
-    let read = parsed c.args.word.now c.in-Ok.text.now c.in-Ok-parse.number c.in-Ok.ensures.cases.0 digits c.in-Ok-parse.ensures.value.0 in
-    spelled_so c.args.most c.args.word.now c.in-Ok-parse.number (omega arith) read.1 (omega arith) (omega arith) digits read.0
+    spelled_so c.args.most c.args.word.now c.in_ok-number.number (omega arith) value.0 (omega (arith, c.if-number-lt1.false)) value.1 digits
+    (some_digit c.args.word.now (omega (arith, value.0, c.if-number-lt1.false)))
     (is_no_zero_digit (get_or c.args.word.now 0 0) c.begins_with_zero.result c.begins_with_zero.ensures c.if-begins_with_zero.false)
