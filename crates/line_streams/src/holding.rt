@@ -24,6 +24,8 @@ pub struct ReadAhead {
     room: [u8; MAX_AHEAD],
     at: usize,
     end: usize,
+    // Where the last line feed of the last read stands, if it has one.
+    last_feed: usize,
     reads_left: u32,
 }
 
@@ -48,6 +50,7 @@ impl ReadAhead {
             room: [0; MAX_AHEAD],
             at: 0,
             end: 0,
+            last_feed: 0,
             reads_left,
         }
     }
@@ -56,7 +59,8 @@ impl ReadAhead {
     pub(crate) fn has_feed(&self) -> bool
         ensures { result ≡ list_any is_line_feed self.now }
     {
-        has_feed(&self.room[self.at..self.end])
+        let likely = self.last_feed.saturating_sub(self.at);
+        has_feed(&self.room[self.at..self.end], likely)
     }
 
     /// Sees to it that bytes are held, by a read where there is none; answers `false` where none is
@@ -78,6 +82,7 @@ impl ReadAhead {
             return Err(StreamFault::Read);
         };
         self.end = count;
+        self.last_feed = last_feed(&self.room[..count]);
         if count == 0 {
             return Ok(false);
         }
@@ -124,11 +129,22 @@ fn add(line: &mut Vec<u8>, bytes: &[u8]) -> Result<(), StreamFault>
     Ok(())
 }
 
-/// Whether a line feed is among the bytes.
-fn has_feed(bytes: &[u8]) -> bool
+/// Whether a line feed is among the bytes. It looks first where one is likely.
+fn has_feed(bytes: &[u8], likely: usize) -> bool
     ensures { result ≡ list_any is_line_feed bytes.now }
 {
+    if likely < bytes.len() && bytes[likely] == b'\n' {
+        return true;
+    }
     bytes.iter().any(|byte| *byte == b'\n')
+}
+
+/// Where the last line feed stands; 0 where there is none.
+fn last_feed(bytes: &[u8]) -> usize {
+    match bytes.iter().rposition(|byte| *byte == b'\n') {
+        Some(at) => at,
+        None => 0,
+    }
 }
 
 /// How many bytes stand before the first line feed, `most` at most, and whether it was met.
