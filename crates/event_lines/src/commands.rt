@@ -54,11 +54,12 @@ impl Command {
     }
 }
 
-/// Whether it is the command's word.
+/// Whether it is the command's word. First bytes tell most words apart.
 fn is_word(word: &[u8], command: Command) -> bool
     ensures { result ≡ bytes_eq word.now (word_of command) }
 {
-    word == command.word().as_bytes()
+    let own = command.word().as_bytes();
+    word.first() == own.first() && word == own
 }
 
 /// The command whose word it is, if it is one of these.

@@ -6,7 +6,7 @@ use std::alloc::{AllocError, Global};
 
 /// Where each client's entry was put last, by the client's number. A place may be out of date: whoever
 /// asks looks whether the entry is there. So no clause speaks of places, and how fast a look-up is is
-/// measured (`bench/node`).
+/// measured (`bench/voter`).
 #[derive(Debug, Drop)]
 pub(crate) struct Places {
     places: Vec<u16>,
