@@ -1,5 +1,6 @@
 use Rattle.std.proofs.Common.{◌∙◌, sym, arith, get_or}
-use Rattle.service_folders.proofs.NumberFacts.{IsDigits, utf8, no_other_byte, no_leading_zero, out_of_range, spelled_so, is_zero_digit, is_no_zero_digit, unparsed, parsed}
+use Rattle.event_lines.proofs.NumberFacts.{IsDigits, no_other_byte, no_leading_zero, out_of_range, spelled_so, is_zero_digit, is_no_zero_digit}
+use Rattle.service_folders.proofs.NumberFacts.{utf8, unparsed, parsed}
 use Rattle.service_folders.proofs.actors.number_of.Goals as goal
 use Rattle.service_folders.proofs.actors.number_of.Goals.{then-not-has_digits-via-then-not-has_digits, then-not-has_digits-via-else-not-has_digits+then-begins_with_zero, then-number-lt1-via-then-number-lt1, then-number-lt1-via-else-number-lt1+then-number-most}
 
