@@ -1,3 +1,4 @@
+pub mod FeedFacts
 pub mod StreamFacts
 pub mod LineFacts
 pub mod WriteFacts

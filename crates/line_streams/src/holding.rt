@@ -8,6 +8,7 @@ ghost use Rattle.std.specs.IoError.{error_kind};
 ghost use Rattle.line_streams.specs.Streams.{is_line_feed, FindsFront, Fetches, TakesHeld};
 
 use crate::StreamFault;
+use memchr::{memchr, memrchr};
 use std::io::{Error, ErrorKind, Read};
 use std::marker::Model;
 
@@ -141,10 +142,7 @@ fn has_feed(bytes: &[u8], likely: usize) -> bool
 
 /// Where the last line feed stands; 0 where there is none.
 fn last_feed(bytes: &[u8]) -> usize {
-    match bytes.iter().rposition(|byte| *byte == b'\n') {
-        Some(at) => at,
-        None => 0,
-    }
+    memrchr(b'\n', bytes).unwrap_or(0)
 }
 
 /// How many bytes stand before the first line feed, `most` at most, and whether it was met.
@@ -152,7 +150,7 @@ fn plain_front(bytes: &[u8], most: usize) -> (usize, bool)
     ensures { FindsFront bytes.now most result.0 result.1 }
 {
     let upto = most.min(bytes.len());
-    match bytes[..upto].iter().position(|byte| *byte == b'\n') {
+    match memchr(b'\n', &bytes[..upto]) {
         Some(at) => (at, true),
         None => (upto, false),
     }
