@@ -1,5 +1,5 @@
 -- A line says something exactly where it is the one text of it.
-use Rattle.std.proofs.Common.{◌≡◌, inl, inr, ◌↔◌, ℕ, zero, suc, ◌+◌, ◌≤◌, Bool, true, false, cond, not, ◌&&◌, nat_le, nat_lt, List, [], ◌∷◌, ◌++◌, length, Option, Some, Result, Ok, Err, refl, sym, ap, subst, ◌∙◌, arith}
+use Rattle.std.proofs.Common.{◌≡◌, inl, inr, ◌↔◌, ℕ, zero, suc, ◌+◌, ◌≤◌, Bool, true, false, cond, not, ◌&&◌, nat_le, nat_lt, List, [], ◌∷◌, ◌++◌, length, Option, Some, None, slice_get, Result, Ok, Err, refl, sym, ap, subst, ◌∙◌, arith}
 use Rattle.std.specs.List.{All, join_with_byte}
 use Rattle.std.specs.Option.{is_some, ok_or}
 use Rattle.std.specs.Str.{bytes_eq}
@@ -90,6 +90,15 @@ found_at false c d ds e (inr there) more = more there
 finds : (cs : List Command) (c : Command) → IsAmong c cs → named cs (word_of c) ≡ Ok c
 finds [] c h = absurd h
 finds (d ∷ ds) c h = found_at (bytes_eq (word_of c) (word_of d)) c d ds refl h (finds ds c)
+
+among_at : (cs : List Command) (i : ℕ) (c : Command) → slice_get cs i ≡ Some c → IsAmong c cs
+among_at [] i c h = absurd (let none : None ≡ Some c = h in cc)
+among_at (d ∷ ds) zero c h = inl (let same : Some d ≡ Some c = h in cc)
+among_at (d ∷ ds) (suc i) c h = inr (among_at ds i c h)
+
+-- a command that stands among them, and whose word it is
+pub named_there : (cs : List Command) (i : ℕ) (w : List ℕ) (c : Command) → slice_get cs i ≡ Some c → bytes_eq w (word_of c) ≡ true → named cs w ≡ Ok c
+named_there cs i w c there same = subst (λ (u : List ℕ). named cs u ≡ Ok c) (sym ((bytes_eq-Decides w (word_of c)).0 same)) (finds cs c (among_at cs i c there))
 
 -- From words to arguments.
 one_more : (w : List ℕ) (ws us : List (List ℕ)) (r : Result (List (List ℕ)) LineFault) → ((vs : List (List ℕ)) → r ≡ Ok vs → ws ≡ vs) → (r >>= (λ (vs : List (List ℕ)). Ok (w ∷ vs))) ≡ Ok us → w ∷ ws ≡ us

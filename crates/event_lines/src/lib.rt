@@ -28,4 +28,4 @@ pub use events::{read_event, write_event};
 pub use faults::LineFault;
 pub use lines::{Line, Query, read_line, write_line};
 pub use wishes::{MAX_WISHES, Wish, read_wish, read_wish_among};
-pub use words::MAX_LINE_LEN;
+pub use words::{MAX_LINE_LEN, actor_of};

@@ -110,6 +110,11 @@ pub fn client_of(word: &[u8]) -> Result<ClientId, LineFault>
     ClientId::of(number).ok_or(LineFault::Actor)
 }
 
+/// The actor of this name, as `n1` or `c1024`.
+///
+/// # Errors
+///
+/// `Actor` (802) where the word names none.
 pub fn actor_of(word: &[u8]) -> Result<Actor, LineFault>
     ensures { result ≡ actor_word word.now }
 {

@@ -1,4 +1,3 @@
-pub mod NumberFacts
 pub mod SplitFacts
 pub mod PartFacts
 pub mod SettingsFacts

@@ -1,22 +1,17 @@
 -- The actors of one machine, as words name them.
 use Rattle.std.specs.Prelude.{◌≡◌, ℕ, Bool, false, ◌&&◌, nat_le, if◌then◌else◌, List, [], ◌∷◌, slice_index_or, Option, Some, None, IfSome, is_some}
 use Rattle.std.specs.List.{slice_split, list_any, list_all}
-use Rattle.lock_messages.specs.declared.ids.TheConstants.{MAX_NODES, MAX_CLIENTS}
+use Rattle.std.specs.Result.{result_ok}
 use Rattle.lock_messages.specs.declared.ids.Actor.{Actor}
 use Rattle.lock_messages.specs.declared.ids.Actor.TheVariants as actor
-use Rattle.event_lines.specs.Lines.{lettered}
+use Rattle.event_lines.specs.Lines.{actor_word}
 use Rattle.service_folders.specs.Cuts.{is_byte}
 use Rattle.service_folders.specs.declared.parts.Span.{Span}
 use Rattle.service_folders.specs.declared.parts.Span.TheVariants as span
 
 -- the actor of a name: `n` or `c`, and the decimal text of its number
-abbrev pub either_of : Option ℕ → Option ℕ → Option Actor
-either_of (Some n) found = Some (actor.Node n)
-either_of None (Some c) = Some (actor.Client c)
-either_of None None = None
-
 abbrev pub actor_named : List ℕ → Option Actor
-actor_named word = either_of (lettered 110 MAX_NODES word) (lettered 99 MAX_CLIENTS word)
+actor_named word = result_ok (actor_word word)
 
 -- the actors from one to another of the same kind, the lower one first
 abbrev pub span_between : Actor → Actor → Option Span

@@ -20,7 +20,6 @@
 //! `frame_lines` for secrets, `stable_record`, `vote_weights`, `lock_model`, `lock_messages`, `hex` and `thiserror`.
 #![tactic(auto)]
 
-mod actors;
 mod contents;
 mod cuts;
 mod faults;

@@ -4,8 +4,8 @@ ghost use Rattle.std.specs.Prelude.{◌≡◌, ℕ, ◌<◌, ◌||◌, ◌&&◌,
 ghost use Rattle.lock_messages.specs.declared.ids.Actor.{Actor as AnyActor};
 ghost use Rattle.service_folders.specs.Parts.{actor_named, span_between, span_over, span_of, covers, part_has, ReadsPart};
 
-use crate::actors::actor_named;
 use crate::cuts::cut;
+use event_lines::actor_of;
 use lock_messages::{Actor, ClientId, NodeId};
 use std::marker::Model;
 
@@ -83,8 +83,8 @@ fn span_between(first: &Actor, last: &Actor) -> Option<Span>
 fn span_over(first: &[u8], last: &[u8]) -> Option<Span>
     ensures { result ≡ span_over (actor_named first.now) (actor_named last.now) }
 {
-    let first = actor_named(first)?;
-    let last = actor_named(last)?;
+    let first = actor_of(first).ok()?;
+    let last = actor_of(last).ok()?;
     span_between(&first, &last)
 }
 
