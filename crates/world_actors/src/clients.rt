@@ -1,6 +1,6 @@
 // One client of the world.
 
-ghost use Rattle.std.specs.Prelude.{◌≡◌, ◌≤◌, ℕ, Err, false, IfOk, IfErr, OnOk, OnErr};
+ghost use Rattle.std.specs.Prelude.{◌≡◌, ◌≤◌, ℕ, Err, false, is_some, IfOk, IfErr, OnOk, OnErr};
 ghost use Rattle.lock_model.specs.Ballots.{node_count};
 ghost use Rattle.lock_model.specs.ExactHearing.{is_node_of};
 ghost use Rattle.client_core.specs.Clients.{ticket_of, place_of};
@@ -112,16 +112,21 @@ impl WorldClient {
         self.kept
     }
 
+    /// Whether the client is inside a resource.
+    pub fn is_inside(&self) -> bool
+        ensures { result ≡ is_some (ticket_in self.now.part.phase) }
+    {
+        self.up && matches!(self.core.phase(), Phase::Inside)
+    }
+
     /// The ticket with which the client is inside, if it is.
     pub fn inside(&self) -> Option<Ticket>
         ensures { result ≡ ticket_in self.now.part.phase }
     {
-        if !self.up {
-            return None;
-        }
-        match self.core.phase() {
-            Phase::Inside => self.core.ticket(),
-            Phase::Idle | Phase::Chosen | Phase::Asking => None,
+        if self.is_inside() {
+            self.core.ticket()
+        } else {
+            None
         }
     }
 

@@ -38,6 +38,21 @@ fn put(tickets: &mut Vec<Ticket>, ticket: Option<Ticket>) -> Result<(), AllocErr
     Ok(())
 }
 
+/// The ticket with which the client is inside the resource, if it is, as one more.
+fn put_inside(
+    tickets: &mut Vec<Ticket>,
+    client: &WorldClient,
+    resource: &ResourceName,
+) -> Result<(), AllocError>
+    ensures { OnOk result (tickets.new.items ≡ tickets.old.items ++ ticket_for resource.now (ticket_in client.now.part.phase)) }
+{
+    if client.is_inside() {
+        put(tickets, ticket_for(client, resource))
+    } else {
+        Ok(())
+    }
+}
+
 /// The tickets of the clients that are inside the resource, in order.
 pub(crate) fn tickets_inside(
     alloc: Global,
@@ -48,7 +63,7 @@ pub(crate) fn tickets_inside(
 {
     let mut tickets = Vec::new(alloc);
     for client in clients {
-        put(&mut tickets, ticket_for(client, resource))?;
+        put_inside(&mut tickets, client, resource)?;
     }
     Ok(tickets)
 }
