@@ -5,8 +5,8 @@ use lock_messages::ClientId;
 use std::alloc::{AllocError, Global};
 
 /// Where each client's entry was put last, by the client's number. A place may be out of date: whoever
-/// asks looks whether the entry is there. So no clause speaks of places, and how fast a look-up is is
-/// measured (`bench/voter`).
+/// asks looks whether the entry is there. So no clause speaks of places. `bench/voter` measures how fast
+/// look-ups are.
 #[derive(Debug, Drop)]
 pub(crate) struct Places {
     places: Vec<u16>,

@@ -185,8 +185,8 @@ impl NodeCore {
     /// else; the other is told nothing (tested: no clause sees policies). The only error
     /// is want of memory (503), and then nothing has changed. Where a ticket ends or is softened, those
     /// that wait for its resource are asked one after the other, each by look-ups; no others are, and the
-    /// replies take room for these alone. Only a new ticket's entry costs more, where entries stand behind
-    /// it: they move up by one place each.
+    /// replies take room for these alone. Two things cost more: where a new ticket's entry moves behind the
+    /// others, these move up by one place each, and a client without an entry is looked for among all of them.
     pub fn take(&mut self, message: &Message) -> Result<bool, VoterFault>
         requires idle { phase_in self.old.state ≡ Phase.Idle }
         requires for_node { is_for_node message.now self.old.node ≡ true }
