@@ -73,7 +73,8 @@ impl ClientCore {
         requires { attempt ≤ MAX_ATTEMPT }
         ensures { self.new ≡ at_rest self.old.client self.old.ballots attempt }
     {
-        *self = ClientCore::rise(self.client, attempt, self.ballots);
+        self.attempt = attempt;
+        self.state = State::Idle;
     }
 
     /// A copy of the client: the same in all that it is, and from then on each of both goes its own way. It
@@ -371,7 +372,7 @@ impl ClientCore {
         ensures same_attempt { self.new.attempt ≡ self.old.attempt }
         ensures releases { ReleasesAll self.new self.old.attempt }
     {
-        self.state = State::Idle;
+        self.restart(self.attempt);
     }
 
     /// The node to ask next: while the client asks, the lowest of its attempt's ballot whose Grant was
