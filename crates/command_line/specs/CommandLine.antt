@@ -12,8 +12,8 @@ use Rattle.record_view.specs.declared.reports.Report.{Report}
 use Rattle.record_view.specs.Texts.{IsReport}
 use Rattle.operator_cli.specs.declared.faults.ServeFault.TheVariants as fault
 use Rattle.operator_cli.specs.declared.faults.ServeFault.{ServeFault}
-use Rattle.operator_cli.specs.declared.orders.Command.{Command}
-use Rattle.operator_cli.specs.declared.orders.Command.TheVariants as command
+use Rattle.world_settings.specs.declared.commands.Command.{Command}
+use Rattle.world_settings.specs.declared.commands.Command.TheVariants as command
 use Rattle.operator_cli.specs.Outputs.{Serves}
 use Rattle.run_service.specs.Outputs.{ServesRun}
 use Rattle.merge_service.specs.Merging.{RunsMerge}

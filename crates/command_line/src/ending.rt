@@ -16,7 +16,7 @@ use crate::numbers::explain_number;
 use crate::records::show_record;
 use crate::versions::with_origin;
 use command_words::{Request, read_words};
-use operator_cli::{Command, Order, Policies, ServeFault, serve};
+use operator_cli::{Order, ServeFault, serve};
 use program_ends::{Ended, collected, end_unserved, tell_fault, tell_unread};
 use run_service::{Supplies, serve_run};
 use service_requests::{refuse_words, run_service_request};
@@ -28,6 +28,7 @@ use std::io::{ErrorKind, Read, Write};
 use std::sync::Wait;
 use std::thread::Threads;
 use std::time::Clock;
+use world_settings::{Command, Policies};
 
 /// Ends a run that was served.
 fn end_served<E: Write>(came: Result<u8, ServeFault>, errors: &mut E) -> Ended

@@ -12,13 +12,14 @@ use crate::following::Followed;
 use explanations::Explainer;
 use fault_numbers::meaning_of;
 use line_streams::write_text;
-use operator_cli::{Command, Order, Policies, ServeFault, serve};
+use operator_cli::{Order, ServeFault, serve};
 use program_ends::Ended;
 use run_service::{Supplies, serve_run};
 use std::alloc::Global;
 use std::io::{Read, Write};
 use std::sync::Wait;
 use std::thread::Threads;
+use world_settings::{Command, Policies};
 
 /// No policies: where no lines are played.
 fn no_policies(alloc: Global) -> Policies {

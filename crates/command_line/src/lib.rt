@@ -12,8 +12,9 @@
 //! `specs/CommandLine` says so.
 //!
 //! It stands on `command_words` for what the words ask for, `program_ends` for what is said of faults and of
-//! words, `fault_numbers` for what numbers mean, `operator_cli`, `run_service`, `merge_service`, `explanations` for what is said
-//! in words, `record_view` and `file_plate` for files of records, `line_streams`, `lock_messages`, `lock_model` and `clap`.
+//! words, `fault_numbers` for what numbers mean, `operator_cli`, `world_settings`, `run_service`, `merge_service`,
+//! `explanations` for what is said in words, `record_view` and `file_plate` for files of records, `line_streams`,
+//! `lock_messages`, `lock_model` and `clap`.
 #![tactic(auto)]
 
 mod ending;

@@ -5,11 +5,12 @@ ghost use Rattle.lock_messages.specs.declared.ids.TheConstants.{MAX_NODES};
 ghost use Rattle.command_line.specs.CommandLine.{MergesNamed};
 
 use merge_service::run_merge;
-use operator_cli::{Policies, ServeFault};
+use operator_cli::ServeFault;
 use program_ends::{Ended, tell_fault};
 use std::alloc::{AllocError, Global};
 use std::fs::{self, File, Files};
 use std::io::{self, ErrorKind, Read, Write};
+use world_settings::Policies;
 
 /// The line that follows settings if journals follow.
 const LINE: &[u8] = b"---\n";

@@ -8,8 +8,8 @@ use Rattle.clap_arguments.specs.Arguments.{IsFlag, IsWord, AreWords, flag_rule, 
 use Rattle.service_words.specs.Numbers.{number_value}
 use Rattle.service_words.specs.Readings.{IsServiceName, ServiceBehind, MisusedBehind}
 use Rattle.service_words.specs.Shapes.{with_services}
-use Rattle.operator_cli.specs.declared.orders.Command.{Command}
-use Rattle.operator_cli.specs.declared.orders.Command.TheVariants as command
+use Rattle.world_settings.specs.declared.commands.Command.{Command}
+use Rattle.world_settings.specs.declared.commands.Command.TheVariants as command
 use Rattle.program_ends.specs.declared.wording.Unserved.{Unserved}
 use Rattle.program_ends.specs.Wordings.{IsUnserved}
 use Rattle.command_words.specs.declared.reading.Asked.{Asked}

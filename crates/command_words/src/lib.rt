@@ -5,7 +5,7 @@
 //! (`service_words`). Else it returns what is to be said: help, the version, or what is wrong.
 //! It promises that just this is returned, by what `clap` finds in the words.
 //!
-//! It uses `program_ends` for what is said of words, `operator_cli` for the commands, `service_words` for those of
+//! It uses `program_ends` for what is said of words, `world_settings` for the commands, `service_words` for those of
 //! services, `clap_arguments` and `clap`.
 #![tactic(auto)]
 

@@ -16,10 +16,10 @@ use clap_arguments::{
     below, flag, has_flag, option_at, with_argument, word_argument, word_at, words_argument,
     words_at,
 };
-use operator_cli::Command;
 use program_ends::{Unserved, unserved_by};
 use service_words::{Misuse, ServiceRequest, is_service_name, service_of, with_services};
 use std::alloc::{AllocError, Global};
+use world_settings::Command;
 
 /// The program without its commands and its flag.
 fn bare_top<'a>(alloc: Global) -> clap::Command<'a>

@@ -2,10 +2,10 @@
 
 use explanations::Explainer;
 use lock_messages::MAX_NODES;
-use operator_cli::{Command, Policies};
 use std::alloc::Global;
 use test_outcomes::{Failure, Outcome, check_row};
 use test_support::{SETTINGS, plain_pairs};
+use world_settings::{Command, Policies};
 
 /// An explainer of an input of this command.
 pub(crate) fn explainer(alloc: Global, command: Command) -> Result<Explainer, Failure> {

@@ -1,8 +1,8 @@
 // What is said of a journal: its verdict.
 
 use crate::hearing::{says, says_of_lines};
-use operator_cli::Command;
 use test_outcomes::Outcome;
+use world_settings::Command;
 
 const ROWS: [(&str, &str); 13] = [
     (

@@ -1,9 +1,9 @@
 // What is said at limits that no short input reaches.
 
 use crate::hearing::explainer;
-use operator_cli::Command;
 use test_outcomes::{Failure, Outcome, check_row};
 use test_support::SETTINGS;
+use world_settings::Command;
 
 /// How often a client asks in a row, and how many such rows fill the list of messages.
 const ROW: usize = 4_096;

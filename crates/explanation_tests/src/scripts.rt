@@ -1,9 +1,9 @@
 // What is said of the lines of a script: each number by which one is refused or bad.
 
 use crate::hearing::says_of_lines;
-use operator_cli::Command;
 use std::alloc::Global;
 use test_outcomes::Outcome;
+use world_settings::Command;
 
 /// A client that asks the first node, and a node that decides.
 const ASKED: &str = "begin c1 read a\ntry c1\nkept c1\nsayto c1 n1\ntake n1 1\n";

@@ -1,9 +1,9 @@
 // What is said of settings that are refused: each number, and of which key, ballot or wish.
 
 use crate::hearing::says;
-use operator_cli::Command;
 use std::alloc::Global;
 use test_outcomes::{Failure, Outcome};
+use world_settings::Command;
 
 const GOOD: &str = "votes = [1, 1, 1]\nread = 2\nwrite = 2\nproblem = 1\nclients = 4\n";
 

@@ -2,8 +2,8 @@
 //! told by the last of several messages, and a node that has switched.
 
 use crate::hearing::{says, says_of_lines};
-use operator_cli::Command;
 use test_outcomes::Outcome;
+use world_settings::Command;
 
 /// c1 enters as a writer by the votes of n1 and n2, and then softens.
 const SOFTENED: &str = "\

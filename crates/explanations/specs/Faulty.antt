@@ -3,9 +3,9 @@ use Rattle.std.specs.Prelude.{ℕ, Bool, true, false, Option, Some, None, option
 use Rattle.toml.specs.Data.{Data, as_integer}
 use Rattle.event_lines.specs.declared.faults.LineFault.{LineFault}
 use Rattle.event_lines.specs.declared.wishes.Wish.{Wish}
-use Rattle.operator_cli.specs.declared.faults.SettingsFault.{SettingsFault}
-use Rattle.operator_cli.specs.declared.faults.SettingsFault.TheVariants as fault
-use Rattle.operator_cli.specs.Settings.{within}
+use Rattle.world_settings.specs.declared.faults.SettingsFault.{SettingsFault}
+use Rattle.world_settings.specs.declared.faults.SettingsFault.TheVariants as fault
+use Rattle.world_settings.specs.Settings.{within}
 use Rattle.explanations.specs.declared.faulty.Wrong.{Wrong}
 use Rattle.explanations.specs.declared.faulty.Wrong.TheVariants as wrong
 

@@ -1,7 +1,7 @@
 // Which ballot of the settings is refused, and which wish, and why.
 
 ghost use Rattle.std.specs.Prelude.{◌≡◌, Some};
-ghost use Rattle.operator_cli.specs.Settings.{wish_from};
+ghost use Rattle.world_settings.specs.Settings.{wish_from};
 ghost use Rattle.explanations.specs.Faulty.{wish_fault};
 
 use crate::wrong_words::push_wrong_wish_word;

@@ -7,10 +7,10 @@ use crate::plays::Play;
 use crate::remarks::Kind;
 use event_lines::MAX_LINE_LEN;
 use lock_messages::MAX_NODES;
-use operator_cli::{Command, Policies, SettingsFault, read_settings};
 use std::alloc::{AllocError, Global};
+use world_settings::{Command, Policies, SettingsFault, read_settings};
 
-/// The line of dashes begins within this many bytes, as `operator_cli` has it.
+/// The line of dashes begins within this many bytes, as `world_settings` has it.
 const HEAD_ROOM: usize = 65_536;
 
 /// Says in words what a command meets in an input, as the bytes come.

@@ -7,9 +7,9 @@ ghost use Rattle.explanations.specs.Faulty.{wrong_in, wrong_number};
 
 use event_lines::MAX_WISHES;
 use lock_messages::MAX_CLIENTS;
-use operator_cli::Command;
 use std::alloc::AllocError;
 use toml::{Table, Value};
+use world_settings::Command;
 
 /// What is wrong with the value at a key.
 #[derive(Clone, Copy)]

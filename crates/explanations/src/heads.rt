@@ -3,10 +3,10 @@
 use crate::ballots::{number_at, push_ballot_fault, push_wrong_wish};
 use crate::faulty::{push_unknown_key, push_wrong_value};
 use fault_numbers::meaning_of;
-use operator_cli::{Command, SettingsFault};
 use std::alloc::{AllocError, Global};
 use std::str;
 use toml::Table;
+use world_settings::{Command, SettingsFault};
 
 /// The number of the line in which the byte at this place stands.
 fn line_of(head: &[u8], place: usize) -> usize {

@@ -6,9 +6,9 @@
 //! prints. `Stages` follows the events to know what each actor does. `RunWords` sees the journal of a run, and adds
 //! who entered what, which wishes were not done, and in which wish an actor ended with a fault.
 //!
-//! It stands on `fault_numbers` for what numbers mean, `operator_cli` for settings, `event_lines` for lines and
-//! wishes, `journal_audit`, `event_recorders` for the faults of a run, `world_machine`, `world_model`,
-//! `vote_weights`, `lock_messages`, `lock_model` and `toml`.
+//! It stands on `fault_numbers` for what numbers mean, `world_settings` for settings, `operator_cli` for the lines of a
+//! script, `event_lines` for lines and wishes, `journal_audit`, `event_recorders` for the faults of a run,
+//! `world_machine`, `world_model`, `vote_weights`, `lock_messages`, `lock_model` and `toml`.
 #![tactic(auto)]
 
 mod ballots;

@@ -11,11 +11,12 @@ use event_lines::{Line, LineFault, write_line};
 use fault_numbers::meaning_of;
 use journal_audit::MAX_LINES;
 use lock_messages::{Actor, ClientId, NodeId};
-use operator_cli::{Policies, ServeFault, Settings, world_down};
+use operator_cli::ServeFault;
 use std::alloc::{AllocError, Global};
 use std::str;
 use world_machine::World;
 use world_model::{Age, Event, StepFault};
+use world_settings::{Policies, Settings, world_down};
 
 /// What is said if a line of a journal begins as a query does.
 const QUERY_HINT: &str =

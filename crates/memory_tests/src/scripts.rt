@@ -4,8 +4,9 @@ use crate::failures::{Failure, Outcome, check, refused};
 use crate::policies::for_nodes;
 use crate::rooms::Room;
 use lock_messages::MAX_NODES;
-use operator_cli::{Command, Order, Policies, serve};
+use operator_cli::{Order, serve};
 use std::alloc::Global;
+use world_settings::{Command, Policies};
 
 const SCRIPT: &str = "\
 votes = [1]\nread = 1\nwrite = 1\nproblem = 1\nclients = 2\n---\n\

@@ -15,15 +15,16 @@ use Rattle.journal_merger.specs.declared.merging.Outcome.TheVariants as outcome
 use Rattle.line_merger.specs.declared.offers.Refusal.{Refusal}
 use Rattle.line_streams.specs.Streams.{pieces, AppendsBeginning}
 use Rattle.operator_cli.specs.declared.faults.ServeFault.{ServeFault}
-use Rattle.operator_cli.specs.declared.faults.SettingsFault.{SettingsFault}
-use Rattle.operator_cli.specs.declared.faults.SettingsFault.TheVariants as settings
-use Rattle.operator_cli.specs.declared.heads.StartFault.{StartFault}
-use Rattle.operator_cli.specs.declared.heads.StartFault.TheVariants as start
-use Rattle.operator_cli.specs.declared.orders.Command.TheVariants as command
-use Rattle.operator_cli.specs.Openings.{all_down}
-use Rattle.operator_cli.specs.Settings.{Given, Refuses, settings_of}
-use Rattle.operator_cli.specs.Outputs.{head_of, refusal_output, Prints}
-use Rattle.operator_cli.specs.PartOutputs.{FindsHead, RefusesStart}
+use Rattle.world_settings.specs.declared.faults.SettingsFault.{SettingsFault}
+use Rattle.world_settings.specs.declared.faults.SettingsFault.TheVariants as settings
+use Rattle.world_settings.specs.declared.heads.StartFault.{StartFault}
+use Rattle.world_settings.specs.declared.heads.StartFault.TheVariants as start
+use Rattle.world_settings.specs.declared.commands.Command.TheVariants as command
+use Rattle.world_settings.specs.Openings.{all_down}
+use Rattle.world_settings.specs.Settings.{Given, Refuses, settings_of}
+use Rattle.operator_cli.specs.Outputs.{refusal_output, Prints}
+use Rattle.world_settings.specs.Heads.{head_of, FindsHead}
+use Rattle.operator_cli.specs.PartOutputs.{RefusesStart}
 use Rattle.merge_service.specs.declared.ends.MergeEnd.{MergeEnd}
 use Rattle.merge_service.specs.declared.ends.MergeEnd.TheVariants as end
 use Rattle.merge_service.specs.declared.ends.MergeFault.{MergeFault}

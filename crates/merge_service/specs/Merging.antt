@@ -22,12 +22,13 @@ use Rattle.own_journals.specs.declared.lines.OwnLine.{OwnLine}
 use Rattle.own_journals.specs.declared.lines.OwnLine.TheVariants as own
 use Rattle.operator_cli.specs.declared.faults.ServeFault.{ServeFault}
 use Rattle.operator_cli.specs.declared.faults.ServeFault.TheVariants as serving
-use Rattle.operator_cli.specs.declared.faults.SettingsFault.{SettingsFault}
-use Rattle.operator_cli.specs.declared.faults.SettingsFault.TheVariants as settings
-use Rattle.operator_cli.specs.declared.orders.Command.TheVariants as command
-use Rattle.operator_cli.specs.Openings.{all_down}
-use Rattle.operator_cli.specs.Settings.{Given, settings_of}
-use Rattle.operator_cli.specs.Outputs.{head_of, refusal_output, Prints}
+use Rattle.world_settings.specs.declared.faults.SettingsFault.{SettingsFault}
+use Rattle.world_settings.specs.declared.faults.SettingsFault.TheVariants as settings
+use Rattle.world_settings.specs.declared.commands.Command.TheVariants as command
+use Rattle.world_settings.specs.Openings.{all_down}
+use Rattle.world_settings.specs.Settings.{Given, settings_of}
+use Rattle.operator_cli.specs.Outputs.{refusal_output, Prints}
+use Rattle.world_settings.specs.Heads.{head_of}
 use Rattle.program_ends.specs.declared.ending.Ended.{Ended}
 use Rattle.program_ends.specs.Endings.{Writers}
 use Rattle.merge_service.specs.declared.ends.MergeEnd.{MergeEnd}

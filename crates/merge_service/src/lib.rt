@@ -7,9 +7,9 @@
 //! The crate promises, in the words of `journal_merger`: a merge is written exactly if the journals have one, after the
 //! settings as they were read. It promises the status too. Of the words on the second writer it promises nothing.
 //!
-//! It stands on `journal_merger`, `line_merger` and `own_journals` for journals, `operator_cli` for settings,
-//! `program_ends` for how a program ends, `event_lines` for the text of events, `line_streams`, `world_model`,
-//! `lock_messages` and `hex`.
+//! It stands on `journal_merger`, `line_merger` and `own_journals` for journals, `world_settings` for settings,
+//! `operator_cli` for faults, `program_ends` for how a program ends, `event_lines` for the text of events,
+//! `line_streams`, `world_model`, `lock_messages` and `hex`.
 #![tactic(auto)]
 
 mod ends;

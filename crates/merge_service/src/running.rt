@@ -7,11 +7,11 @@ ghost use Rattle.merge_service.specs.Merging.{RunsMerge};
 use crate::opening::open_journals;
 use crate::serving::serve_merge;
 use crate::telling::{tell_end, tell_failure};
-use operator_cli::Policies;
 use program_ends::Ended;
 use std::alloc::Global;
 use std::fs::{File, Files};
 use std::io::{Read, Write};
+use world_settings::Policies;
 
 /// Merges the journals in these files by the settings that the reader gives, as `serve_merge` does, and ends the
 /// program.

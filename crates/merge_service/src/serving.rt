@@ -9,13 +9,13 @@ use crate::ends::refused;
 use crate::{MergeEnd, MergeFault};
 use journal_merger::{Journals, Outcome, merge};
 use line_streams::{LineReader, MAX_READS, write_text};
-use operator_cli::{
-    Command, Policies, ServeFault, SettingsFault, StartFault, read_head, read_settings,
-    refuse_start, world_down,
-};
+use operator_cli::{ServeFault, refuse_start};
 use std::alloc::{AllocError, Global};
 use std::io::{Read, Write};
 use world_machine::World;
+use world_settings::{
+    Command, Policies, SettingsFault, StartFault, read_head, read_settings, world_down,
+};
 
 /// Writes a text.
 fn put<W: Write>(text: &[u8], writer: &mut W) -> Result<(), MergeFault>

@@ -14,7 +14,7 @@ use Rattle.world_model.specs.ExactNodes.{node_rises_in}
 use Rattle.world_model.specs.ExactClients.{client_rises_in}
 use Rattle.world_model.specs.ExactWorlds.{numbered, step, after, by_actor, world_after, with_node_at, with_client_at}
 use Rattle.world_model.specs.Openings.{down_node, down_client, empty_station, opening}
-use Rattle.operator_cli.specs.declared.settings.Settings.{Settings}
+use Rattle.world_settings.specs.declared.settings.Settings.{Settings}
 use Rattle.operator_cli.specs.Openings.{risen_node, risen_client}
 use Rattle.operator_cli.specs.PartOutputs.{rising}
 

@@ -1,80 +1,35 @@
 -- From the settings to the whole output.
-use Rattle.std.proofs.Common.{◌≡◌, ◌⊎◌, inl, inr, ℕ, ◌<◌, ◌≤◌, nat_le, Bool, true, false, cond, Vec, List, [], ◌++◌, Option, Some, None, Result, Ok, Err, refl, sym, ap, subst, ◌∙◌, append_assoc}
+use Rattle.std.proofs.Common.{◌≡◌, ◌⊎◌, inl, inr, ℕ, ◌<◌, ◌≤◌, nat_le, Bool, true, false, cond, List, [], ◌++◌, Option, Some, None, Result, Ok, Err, refl, sym, ap, subst, ◌∙◌, append_assoc}
 use Rattle.std.specs.Prelude.{IfErr}
-use Rattle.std.specs.Global.{Global}
 use Rattle.std.specs.Io.KnownBytes.{Appends}
 use Rattle.std.proofs.lemmas.Bool.{leb-true, leb-false}
 use Rattle.std.proofs.lemmas.List.{append-nil, append_cancel_left}
 use Rattle.std.proofs.KnownBytes.{Appends-nil}
 use Rattle.world_model.specs.declared.exact.ExactWorld.{ExactWorld}
-use Rattle.operator_cli.specs.Openings.{all_down}
+use Rattle.world_settings.specs.Openings.{all_down}
 use Rattle.operator_cli.specs.declared.faults.ServeFault.{ServeFault}
 use Rattle.operator_cli.specs.declared.faults.ServeFault.TheVariants as fault
-use Rattle.operator_cli.specs.declared.faults.SettingsFault.{SettingsFault}
-use Rattle.operator_cli.specs.declared.faults.SettingsFault.TheVariants as settings
+use Rattle.world_settings.specs.declared.faults.SettingsFault.{SettingsFault}
+use Rattle.world_settings.specs.declared.faults.SettingsFault.TheVariants as settings
 use Rattle.journal_audit.specs.declared.faults.AuditFault.{AuditFault}
 use Rattle.journal_audit.specs.declared.faults.AuditFault.TheVariants as audit
 use Rattle.journal_audit.specs.declared.verdicts.TheConstants.{MAX_LINES}
 use Rattle.journal_audit.specs.declared.verdicts.Verdict.{Verdict}
 use Rattle.journal_audit.specs.Audits.{Audits, found_in}
 use Rattle.journal_audit.specs.Verdicts.{verdict_of, verdict_text, reaches}
-use Rattle.operator_cli.specs.declared.orders.Command.{Command}
-use Rattle.operator_cli.specs.declared.orders.Command.TheVariants as command
-use Rattle.operator_cli.specs.declared.heads.StartFault.{StartFault}
-use Rattle.operator_cli.specs.declared.heads.StartFault.TheVariants as start
-use Rattle.operator_cli.specs.declared.settings.Settings.{Settings}
-use Rattle.operator_cli.specs.declared.settings.Start.{Start}
-use Rattle.operator_cli.specs.Settings.{Given, given, settings_of, Refuses}
+use Rattle.world_settings.specs.declared.commands.Command.{Command}
+use Rattle.world_settings.specs.declared.commands.Command.TheVariants as command
+use Rattle.world_settings.specs.declared.heads.StartFault.{StartFault}
+use Rattle.world_settings.specs.declared.heads.StartFault.TheVariants as start
+use Rattle.world_settings.specs.declared.settings.Settings.{Settings}
+use Rattle.world_settings.specs.declared.settings.Start.{Start}
+use Rattle.world_settings.specs.Settings.{Given, Refuses}
 use Rattle.event_lines.specs.declared.faults.LineFault.{LineFault}
 use Rattle.lossy_link.specs.declared.faults.WeatherFault.{WeatherFault}
 use Rattle.line_streams.specs.Streams.{pieces, lines_in, AppendsBeginning, Grows, with_gathered}
-use Rattle.operator_cli.specs.Outputs.{Output, output_of, opened, start_of, with_lines, head_of, lines_output, settings_output, command_output, verdict_output, verdict_status, refusal_output, refused_ballot_output, refused_output, KeepsLimit, IsLimited, IsLimitedIn, IsCommonFault, MayEndBy, Prints, Writes, Serves}
-use Rattle.operator_cli.specs.PartOutputs.{FindsHead, Starts, RefusesStart, WritesLines, WritesBehind, WritesVerdict, Finishes}
-
-no_head : (c : Command) (xs : List ℕ) (e : SettingsFault) → Refuses e (head_of (pieces xs)) → Refuses e (opened c xs)
-unfolding opened
-no_head c xs settings.NoEnd h = ap (start_of c) h
-no_head c xs settings.NoDocument h = ap (start_of c) h
-no_head c xs settings.UnknownKey h = ap (start_of c) h
-no_head c xs settings.Value h = ap (start_of c) h
-no_head c xs (settings.Ballot f) h = ap (start_of c) h
-no_head c xs (settings.Weather f) h = ap (start_of c) h
-no_head c xs (settings.Wish f) h = ap (start_of c) h
-no_head c xs settings.Memory h = tt
-
--- there is no head
-pub not_started : (c : Command) (old new : Option (List ℕ)) (f : StartFault) → FindsHead old new (Err f) → Starts c old new (Err f)
-not_started c None new f h = tt
-not_started c (Some xs) new start.Read h = tt
-not_started c (Some xs) new (start.Settings e) h = no_head c xs e h
-
-behind_head : (c : Command) (xs head : List ℕ) (lines : List (List ℕ)) → head_of (pieces xs) ≡ Ok (head, lines) → opened c xs ≡ with_lines lines (settings_of c head)
-unfolding opened
-behind_head c xs head lines h = ap (start_of c) h
-
--- the head gives settings
-pub started : (c : Command) (old new : Option (List ℕ)) (head : Vec ℕ Global) (text : List ℕ) (s : Start) → FindsHead old new (Ok head) → text ≡ head.items → settings_of c text ≡ Ok (given s) → Starts c old new (Ok s)
-started c None new head text s h same e = tt
-started c (Some xs) None head text s h same e = absurd h
-started c (Some xs) (Some ys) head text s h same e =
-    behind_head c xs head.items (lines_in (pieces ys)) h ∙ ap (λ q. with_lines (lines_in (pieces ys)) q) (ap (settings_of c) (sym same) ∙ e)
-
-bad_settings : (c : Command) (xs head : List ℕ) (lines : List (List ℕ)) (e : SettingsFault) → opened c xs ≡ with_lines lines (settings_of c head) → Refuses e (settings_of c head) → Refuses e (opened c xs)
-bad_settings c xs head lines settings.NoEnd o h = o ∙ ap (with_lines lines) h
-bad_settings c xs head lines settings.NoDocument o h = o ∙ ap (with_lines lines) h
-bad_settings c xs head lines settings.UnknownKey o h = o ∙ ap (with_lines lines) h
-bad_settings c xs head lines settings.Value o h = o ∙ ap (with_lines lines) h
-bad_settings c xs head lines (settings.Ballot f) o h = o ∙ ap (with_lines lines) h
-bad_settings c xs head lines (settings.Weather f) o h = o ∙ ap (with_lines lines) h
-bad_settings c xs head lines (settings.Wish f) o h = o ∙ ap (with_lines lines) h
-bad_settings c xs head lines settings.Memory o h = tt
-
--- the head gives none
-pub refused : (c : Command) (old new : Option (List ℕ)) (head : Vec ℕ Global) (text : List ℕ) (e : SettingsFault) → FindsHead old new (Ok head) → text ≡ head.items → Refuses e (settings_of c text) → Starts c old new (Err (start.Settings e))
-refused c None new head text e h same r = tt
-refused c (Some xs) None head text e h same r = absurd h
-refused c (Some xs) (Some ys) head text e h same r =
-    bad_settings c xs head.items (lines_in (pieces ys)) e (behind_head c xs head.items (lines_in (pieces ys)) h) (subst (λ (t : List ℕ). Refuses e (settings_of c t)) same r)
+use Rattle.operator_cli.specs.Outputs.{Output, output_of, lines_output, settings_output, command_output, verdict_output, verdict_status, refusal_output, refused_ballot_output, refused_output, KeepsLimit, IsLimited, IsLimitedIn, IsCommonFault, MayEndBy, Prints, Writes, Serves}
+use Rattle.world_settings.specs.Heads.{opened, Starts}
+use Rattle.operator_cli.specs.PartOutputs.{RefusesStart, WritesLines, WritesBehind, WritesVerdict, Finishes}
 
 -- nothing was written
 nothing_yet : (o : Output) (old new : Option (List ℕ)) → new ≡ old → AppendsBeginning old new o.text

@@ -1,6 +1,5 @@
 pub mod Faults
 pub mod Lines
-pub mod Settings
 pub mod Openings
 pub mod Texts
 pub mod Outputs

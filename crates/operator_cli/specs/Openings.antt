@@ -1,4 +1,4 @@
--- The worlds that a script and a journal begin with.
+-- The world that a script begins with.
 use Rattle.std.specs.Prelude.{[], replicate, None}
 use Rattle.lock_model.specs.Ballots.{node_count}
 use Rattle.lock_model.specs.declared.problems.Problem.{Problem}
@@ -7,8 +7,8 @@ use Rattle.world_model.specs.declared.exact.ExactNodePhase.TheVariants as node
 use Rattle.world_model.specs.declared.exact.ExactClient.{ExactClient}
 use Rattle.world_model.specs.declared.exact.ExactClientPhase.TheVariants as client
 use Rattle.world_model.specs.declared.exact.ExactWorld.{ExactWorld}
-use Rattle.world_model.specs.Openings.{empty_station, opening}
-use Rattle.operator_cli.specs.declared.settings.Settings.{Settings}
+use Rattle.world_model.specs.Openings.{empty_station}
+use Rattle.world_settings.specs.declared.settings.Settings.{Settings}
 
 -- an actor that rose and has kept nothing yet
 abbrev pub risen_node : Problem → ExactNode
@@ -21,7 +21,3 @@ risen_client = record { kept = 0; tried = None; phase = client.Idle }
 -- was sent yet.
 abbrev pub all_risen : Settings → ExactWorld
 all_risen s = record { ballots = s.ballots; nodes = replicate (node_count s.ballots) (risen_node s.problem); clients = replicate s.clients risen_client; sent = [] }
-
--- Every node and every client of the settings is down, and nothing is kept.
-abbrev pub all_down : Settings → ExactWorld
-all_down s = opening s.ballots (replicate (node_count s.ballots) s.problem) s.clients

@@ -1,6 +1,5 @@
 -- What the program writes for an input, and its status.
-use Rattle.std.specs.Prelude.{◌≡◌, ◌⊎◌, ℕ, ◌+◌, ◌<◌, ◌≤◌, nat_lt, Bool, true, false, if◌then◌else◌, List, [], ◌∷◌, ◌++◌, length, Option, Some, None, Result, Ok, Err, codes}
-use Rattle.std.specs.Str.{bytes_eq}
+use Rattle.std.specs.Prelude.{◌≡◌, ◌⊎◌, ℕ, ◌+◌, ◌<◌, ◌≤◌, Bool, true, false, if◌then◌else◌, List, [], ◌∷◌, ◌++◌, Option, Some, None, Result, Ok, Err}
 use Rattle.std.specs.Io.KnownBytes.{Appends}
 use Rattle.lock_messages.specs.declared.tickets.Ticket.{Ticket}
 use Rattle.world_model.specs.declared.events.StepFault.{StepFault}
@@ -13,27 +12,28 @@ use Rattle.world_model.specs.Views.{inside, waiting, holding}
 use Rattle.event_lines.specs.declared.faults.LineFault.{LineFault}
 use Rattle.operator_cli.specs.declared.faults.ServeFault.{ServeFault}
 use Rattle.operator_cli.specs.declared.faults.ServeFault.TheVariants as serving
-use Rattle.operator_cli.specs.declared.faults.SettingsFault.{SettingsFault}
-use Rattle.operator_cli.specs.declared.faults.SettingsFault.TheVariants as settings
-use Rattle.operator_cli.specs.declared.heads.TheConstants.{HEAD_ROOM}
+use Rattle.world_settings.specs.declared.faults.SettingsFault.{SettingsFault}
+use Rattle.world_settings.specs.declared.faults.SettingsFault.TheVariants as settings
 use Rattle.event_lines.specs.declared.lines.Line.{Line}
 use Rattle.event_lines.specs.declared.lines.Line.TheVariants as line
 use Rattle.event_lines.specs.declared.lines.Query.{Query}
 use Rattle.event_lines.specs.declared.lines.Query.TheVariants as query
-use Rattle.operator_cli.specs.declared.settings.Settings.{Settings}
+use Rattle.world_settings.specs.declared.settings.Settings.{Settings}
 use Rattle.event_lines.specs.Faults.{line_fault_number}
 use Rattle.journal_audit.specs.declared.faults.AuditFault.TheVariants as audit
 use Rattle.journal_audit.specs.declared.verdicts.TheConstants.{MAX_LINES}
 use Rattle.journal_audit.specs.declared.verdicts.Verdict.{Verdict}
 use Rattle.journal_audit.specs.declared.verdicts.Verdict.TheVariants.{Sound, Unsound}
 use Rattle.journal_audit.specs.Verdicts.{verdict_of, verdict_text, reaches}
-use Rattle.operator_cli.specs.declared.orders.Command.{Command}
-use Rattle.operator_cli.specs.declared.orders.Command.TheVariants as command
-use Rattle.operator_cli.specs.Faults.{settings_fault_number}
+use Rattle.world_settings.specs.declared.commands.Command.{Command}
+use Rattle.world_settings.specs.declared.commands.Command.TheVariants as command
+use Rattle.world_settings.specs.Faults.{settings_fault_number}
 use Rattle.operator_cli.specs.Lines.{line_of}
-use Rattle.operator_cli.specs.Openings.{all_risen, all_down}
-use Rattle.line_streams.specs.Streams.{pieces, lines_in, AppendsBeginning, AppendsPart}
-use Rattle.operator_cli.specs.Settings.{Given, settings_of}
+use Rattle.operator_cli.specs.Openings.{all_risen}
+use Rattle.world_settings.specs.Openings.{all_down}
+use Rattle.line_streams.specs.Streams.{AppendsBeginning, AppendsPart}
+use Rattle.world_settings.specs.Heads.{opened}
+use Rattle.world_settings.specs.Settings.{Given}
 use Rattle.operator_cli.specs.Texts.{effect_text, refused_text, answer_text, line_fault_text, settings_fault_text, ballots_text}
 
 -- What one event or query prints, whether it was refused, and the world after it.
@@ -84,40 +84,6 @@ line_output w number (Ok l) rest = let t = told w l in before t (rest t.world)
 abbrev pub lines_output : ExactWorld → ℕ → List (List ℕ) → Output
 lines_output w number [] = record { text = []; status = 0 }
 lines_output w number (l ∷ ls) = line_output w number (line_of l) (λ v. lines_output v (number + 1) ls)
-
--- the line that ends the settings
-abbrev pub dashes : List ℕ
-dashes = codes "---"
-
--- what stands before the first piece that is the line of dashes, with its line feeds, and the pieces behind it
-abbrev pub with_line : List ℕ → Option (List ℕ × List (List ℕ)) → Option (List ℕ × List (List ℕ))
-with_line p None = None
-with_line p (Some parts) = Some (p ++ codes "\n" ++ parts.0, parts.1)
-
-abbrev pub parts_at_dashes : List (List ℕ) → Option (List ℕ × List (List ℕ))
-parts_at_dashes [] = None
-parts_at_dashes (p ∷ ps) = if bytes_eq p dashes then Some ([], ps) else with_line p (parts_at_dashes ps)
-
--- The settings' text and the lines behind it. The line of dashes has to begin within the first `HEAD_ROOM` bytes.
-abbrev pub within_room : Option (List ℕ × List (List ℕ)) → Result (List ℕ × List (List ℕ)) SettingsFault
-within_room None = Err settings.NoEnd
-within_room (Some parts) = if nat_lt (length parts.0) HEAD_ROOM then Ok (parts.0, lines_in parts.1) else Err settings.NoEnd
-
-unfoldable pub head_of : List (List ℕ) → Result (List ℕ × List (List ℕ)) SettingsFault
-head_of ps = within_room (parts_at_dashes ps)
-
--- What the settings of an input give to a command, and the lines behind them, or what is wrong with the
--- settings.
-abbrev pub with_lines : List (List ℕ) → Result Given SettingsFault → Result (Given × List (List ℕ)) SettingsFault
-with_lines lines (Err e) = Err e
-with_lines lines (Ok s) = Ok (s, lines)
-
-abbrev pub start_of : Command → Result (List ℕ × List (List ℕ)) SettingsFault → Result (Given × List (List ℕ)) SettingsFault
-start_of c (Err e) = Err e
-start_of c (Ok parts) = with_lines parts.1 (settings_of c parts.0)
-
-unfoldable pub opened : Command → List ℕ → Result (Given × List (List ℕ)) SettingsFault
-opened c input = start_of c (head_of (pieces input))
 
 -- refused settings print their fault and nothing else
 abbrev pub refusal_output : SettingsFault → Output

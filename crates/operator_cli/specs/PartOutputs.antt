@@ -1,8 +1,8 @@
 -- Parts of an output: what the functions of a run owe one another, and who reads settings himself. Who reads
 -- what `serve` promises has no need of them.
-use Rattle.std.specs.Prelude.{◌≡◌, ◌⊎◌, ℕ, ◌≤◌, ◌-◌, Vec, Bool, true, if◌then◌else◌, List, [], ◌++◌, replicate, length, Option, Some, None, Result, Ok, Err}
+use Rattle.std.specs.Prelude.{◌≡◌, ◌⊎◌, ℕ, ◌-◌, Vec, Bool, true, if◌then◌else◌, List, [], ◌++◌, replicate, Option, Some, None, Result, Ok, Err}
 use Rattle.std.specs.Global.{Global}
-use Rattle.std.specs.Io.KnownBytes.{Appends, Consumes}
+use Rattle.std.specs.Io.KnownBytes.{Appends}
 use Rattle.lock_model.specs.Ballots.{node_count}
 use Rattle.lock_messages.specs.declared.tickets.Ticket.{Ticket}
 use Rattle.world_model.specs.declared.events.StepFault.{StepFault}
@@ -13,20 +13,15 @@ use Rattle.world_model.specs.Openings.{empty_station, down_node, down_client}
 use Rattle.operator_cli.specs.declared.faults.ServeFault.{ServeFault}
 use Rattle.operator_cli.specs.declared.faults.ServeFault.TheVariants.{Memory}
 use Rattle.operator_cli.specs.declared.faults.ServeFault.TheVariants as fault
-use Rattle.operator_cli.specs.declared.faults.SettingsFault.TheVariants as settings
-use Rattle.operator_cli.specs.declared.heads.TheConstants.{HEAD_ROOM}
-use Rattle.operator_cli.specs.declared.heads.StartFault.{StartFault}
-use Rattle.operator_cli.specs.declared.heads.StartFault.TheVariants as start
-use Rattle.line_streams.specs.declared.reading.End.{End}
+use Rattle.world_settings.specs.declared.heads.StartFault.{StartFault}
+use Rattle.world_settings.specs.declared.heads.StartFault.TheVariants as start
 use Rattle.journal_audit.specs.Verdicts.{verdict_of}
-use Rattle.operator_cli.specs.declared.orders.Command.{Command}
-use Rattle.operator_cli.specs.declared.settings.Settings.{Settings}
-use Rattle.operator_cli.specs.declared.settings.Start.{Start}
+use Rattle.world_settings.specs.declared.commands.Command.{Command}
+use Rattle.world_settings.specs.declared.settings.Settings.{Settings}
 use Rattle.operator_cli.specs.Openings.{risen_node, risen_client}
-use Rattle.line_streams.specs.Streams.{pieces, lines_in, KnownLeft, ReadsPiece, AppendsBeginning}
-use Rattle.operator_cli.specs.Settings.{Refuses, given}
+use Rattle.line_streams.specs.Streams.{pieces, lines_in, AppendsBeginning}
 use Rattle.operator_cli.specs.Texts.{refused_text}
-use Rattle.operator_cli.specs.Outputs.{Prints, Told, lines_output, settings_output, verdict_output, KeepsLimit, IsLimited, head_of, opened, refused_output, Writes}
+use Rattle.operator_cli.specs.Outputs.{Prints, Told, lines_output, settings_output, verdict_output, KeepsLimit, IsLimited, refused_output, Writes}
 
 -- The world of the settings in which so many nodes, and so many clients, have risen, the first ones
 -- first, and the others are down.
@@ -72,31 +67,6 @@ WritesLines w (Some xs) old new r = Writes (lines_output w 1 (lines_in (pieces x
 abbrev pub Finishes : Option (List ℕ) → Option (List ℕ) → List ℕ → Result ℕ ServeFault → Result ℕ ServeFault → Type 0
 Finishes old new gathered came (Ok status) = (came ≡ Ok status) × Appends old new gathered
 Finishes old new gathered came (Err e) = AppendsBeginning old new gathered
-
--- how the next piece of the head was read
-abbrev pub HeadPiece : Option (List ℕ) → Option (List ℕ) → List ℕ → Result End StartFault → Type 0
-HeadPiece old new piece (Ok end) = ReadsPiece HEAD_ROOM old new piece end
-HeadPiece old new piece (Err e) = (e ≡ start.Read) ⊎ (e ≡ start.Settings settings.Memory)
-
--- What a call read as the settings' text, of known bytes: what stands before the line of dashes, and
--- behind it the bytes that are left; or that there is none, unless reading failed or memory was refused.
-abbrev pub FindsHead : Option (List ℕ) → Option (List ℕ) → Result (Vec ℕ Global) StartFault → Type 0
-FindsHead None new r = Unit {0}
-FindsHead (Some xs) new (Ok head) = KnownLeft new (λ ys. head_of (pieces xs) ≡ Ok (head.items, lines_in (pieces ys)))
-FindsHead (Some xs) new (Err start.Read) = Unit {0}
-FindsHead (Some xs) new (Err (start.Settings e)) = Refuses e (head_of (pieces xs))
-
--- What a call read as the settings of a command, of known bytes: these, and behind them the bytes that
--- are left; or that they are refused.
-abbrev pub Starts : Command → Option (List ℕ) → Option (List ℕ) → Result Start StartFault → Type 0
-Starts c None new r = Unit {0}
-Starts c (Some xs) new (Ok s) = KnownLeft new (λ ys. opened c xs ≡ Ok (given s, lines_in (pieces ys)))
-Starts c (Some xs) new (Err start.Read) = Unit {0}
-Starts c (Some xs) new (Err (start.Settings e)) = Refuses e (opened c xs)
-
--- Of known bytes a front was taken, of at most so many.
-abbrev pub TakesAtMost : ℕ → Option (List ℕ) → Option (List ℕ) → Type 0
-TakesAtMost most old new = (front : List ℕ) × (length front ≤ most) × Consumes old new front
 
 -- How a run ends that has no settings. Refused ones are told without memory.
 abbrev pub RefusesStart : Command → StartFault → Option (List ℕ) → Option (List ℕ) → Result ℕ ServeFault → Type 0

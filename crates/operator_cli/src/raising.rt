@@ -12,10 +12,10 @@ ghost use Rattle.operator_cli.specs.Openings.{all_risen};
 ghost use Rattle.operator_cli.specs.PartOutputs.{rising};
 
 use crate::ServeFault;
-use crate::settings::Settings;
 use lock_messages::{Actor, ClientId, NodeId};
 use world_machine::World;
 use world_model::{Age, Event};
+use world_settings::Settings;
 
 /// Raises an actor with what it has kept.
 fn raise(world: &mut World, who: Actor) -> Result<(), ServeFault>

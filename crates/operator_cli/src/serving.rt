@@ -5,21 +5,18 @@ ghost use Rattle.lock_messages.specs.declared.ids.TheConstants.{MAX_NODES, MAX_C
 ghost use Rattle.vote_weights.specs.Faults.{fault_number};
 ghost use Rattle.event_lines.specs.Faults.{line_fault_number};
 ghost use Rattle.lossy_link.specs.Faults.{weather_fault_number};
-ghost use Rattle.operator_cli.specs.Faults.{settings_fault_number};
-ghost use Rattle.operator_cli.specs.Openings.{all_down};
+ghost use Rattle.world_settings.specs.Faults.{settings_fault_number};
+ghost use Rattle.world_settings.specs.Openings.{all_down};
 ghost use Rattle.operator_cli.specs.Outputs.{IsServed, IsCommonFault, MayEndBy, Prints, Serves, Writes, refusal_output, refused_ballot_output, refused_output, verdict_status};
 ghost use Rattle.operator_cli.specs.PartOutputs.{WritesLines, Finishes, RefusesStart, WritesBehind, WritesVerdict};
 ghost use Rattle.operator_cli.specs.Texts.{settings_fault_text, refused_text, ballots_text};
-ghost use Rattle.operator_cli.specs.declared.faults.SettingsFault.TheVariants as settings;
-ghost use Rattle.operator_cli.specs.declared.orders.Command.TheVariants as command;
+ghost use Rattle.world_settings.specs.declared.faults.SettingsFault.TheVariants as settings;
+ghost use Rattle.world_settings.specs.declared.commands.Command.TheVariants as command;
 
-use crate::heads::{StartFault, read_start};
-use crate::orders::chosen;
 use crate::raising::raise_all;
 use crate::script::tell_lines;
-use crate::settings::Settings;
 use crate::texts::push_ballots;
-use crate::{Command, LineFault, Order, Policies, ServeFault, SettingsFault};
+use crate::{LineFault, Order, ServeFault};
 use journal_audit::{Verdict, audit_lines};
 use line_streams::{Gathered, LineReader, MAX_READS, write_text};
 use lossy_link::WeatherFault;
@@ -27,6 +24,9 @@ use std::alloc::Global;
 use std::io::{Read, Write};
 use vote_weights::{BallotFault, BallotList};
 use world_machine::World;
+use world_settings::{
+    Command, Policies, Settings, SettingsFault, StartFault, read_start, world_down,
+};
 
 /// That numbers make no ballot, told as wrong settings.
 fn ballot_text(fault: BallotFault) -> &'static str
@@ -225,35 +225,6 @@ fn serve_lines<R: Read, W: Write>(
         return Err(ServeFault::Memory);
     };
     tell_gathered(alloc, world, source, &mut out, writer)
-}
-
-/// The world of the settings in which all actors are down and nothing is kept. The settings' problem is the
-/// first one of every node, and the nodes get the first of the pairs, in order.
-///
-/// The only fault is want of memory (`Memory`, 933). The caller owes settings in range and sixteen pairs of
-/// policies.
-pub fn world_down(
-    alloc: Global,
-    settings: &Settings,
-    policies: Policies,
-) -> Result<World, ServeFault>
-    requires some_client { 1 ≤ settings.now.clients }
-    requires few_clients { settings.now.clients ≤ MAX_CLIENTS }
-    requires policies { length policies.pairs.items ≡ MAX_NODES }
-    ensures world { IfOk result (λ w. w ≡ all_down settings.now) }
-    ensures memory { IfErr result (λ f. f ≡ ServeFault.Memory) }
-{
-    let pairs = chosen(policies, settings.ballots.nodes());
-    match World::start(
-        alloc,
-        settings.ballots,
-        settings.clients,
-        settings.problem,
-        pairs,
-    ) {
-        Ok(world) => Ok(world),
-        Err(_) => Err(ServeFault::Memory),
-    }
 }
 
 /// Runs a script.

@@ -16,14 +16,14 @@ use Rattle.journal_audit.specs.Audits.{found_in, IsFound}
 use Rattle.journal_audit.proofs.AuditFacts.{verdict_found, length_found}
 use Rattle.operator_cli.specs.declared.faults.ServeFault.{ServeFault}
 use Rattle.operator_cli.specs.declared.faults.ServeFault.TheVariants as serving
-use Rattle.operator_cli.specs.declared.faults.SettingsFault.{SettingsFault}
-use Rattle.operator_cli.specs.declared.faults.SettingsFault.TheVariants as settings
-use Rattle.operator_cli.specs.declared.orders.Command.TheVariants as command
-use Rattle.operator_cli.specs.declared.settings.Start.{Start}
-use Rattle.operator_cli.specs.Openings.{all_down}
-use Rattle.operator_cli.specs.Outputs.{opened, output_of, command_output, verdict_output}
-use Rattle.operator_cli.specs.PartOutputs.{Starts}
-use Rattle.operator_cli.specs.Settings.{Given, Refuses, given}
+use Rattle.world_settings.specs.declared.faults.SettingsFault.{SettingsFault}
+use Rattle.world_settings.specs.declared.faults.SettingsFault.TheVariants as settings
+use Rattle.world_settings.specs.declared.commands.Command.TheVariants as command
+use Rattle.world_settings.specs.declared.settings.Start.{Start}
+use Rattle.world_settings.specs.Openings.{all_down}
+use Rattle.operator_cli.specs.Outputs.{output_of, command_output, verdict_output}
+use Rattle.world_settings.specs.Heads.{opened, Starts}
+use Rattle.world_settings.specs.Settings.{Given, Refuses, given}
 use Rattle.operator_cli.proofs.ServeFacts.{is_verdict}
 use Rattle.run_picture.specs.declared.marks.Lasting.{Lasting}
 use Rattle.run_picture.specs.declared.marks.Part.{Part}

@@ -20,15 +20,16 @@ use Rattle.journal_picture.specs.Strokes.{Stroke, with_strokes}
 use Rattle.journal_picture.specs.Strokes as stroke
 use Rattle.operator_cli.specs.declared.faults.ServeFault.{ServeFault}
 use Rattle.operator_cli.specs.declared.faults.ServeFault.TheVariants as serving
-use Rattle.operator_cli.specs.declared.faults.SettingsFault.{SettingsFault}
-use Rattle.operator_cli.specs.declared.faults.SettingsFault.TheVariants as settings
-use Rattle.operator_cli.specs.declared.heads.StartFault.{StartFault}
-use Rattle.operator_cli.specs.declared.heads.StartFault.TheVariants as start
-use Rattle.operator_cli.specs.declared.orders.Command.TheVariants as command
-use Rattle.operator_cli.specs.Openings.{all_down}
-use Rattle.operator_cli.specs.Outputs.{Output, opened, output_of, refusal_output, verdict_output}
-use Rattle.operator_cli.specs.Settings.{Given, Refuses}
-use Rattle.operator_cli.specs.declared.settings.Settings.{Settings}
+use Rattle.world_settings.specs.declared.faults.SettingsFault.{SettingsFault}
+use Rattle.world_settings.specs.declared.faults.SettingsFault.TheVariants as settings
+use Rattle.world_settings.specs.declared.heads.StartFault.{StartFault}
+use Rattle.world_settings.specs.declared.heads.StartFault.TheVariants as start
+use Rattle.world_settings.specs.declared.commands.Command.TheVariants as command
+use Rattle.world_settings.specs.Openings.{all_down}
+use Rattle.operator_cli.specs.Outputs.{Output, output_of, refusal_output, verdict_output}
+use Rattle.world_settings.specs.Heads.{opened}
+use Rattle.world_settings.specs.Settings.{Given, Refuses}
+use Rattle.world_settings.specs.declared.settings.Settings.{Settings}
 use Rattle.run_picture.specs.declared.marks.Lasting.{Lasting}
 use Rattle.run_picture.specs.declared.marks.Lasting.TheVariants as lasting
 use Rattle.run_picture.specs.declared.marks.Part.{Part}

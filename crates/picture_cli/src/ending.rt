@@ -12,7 +12,7 @@ use crate::reading::{Undrawn, read_words};
 use crate::serving::{Shown, draw_journal};
 use journal_audit::{Verdict, tell_verdict};
 use journal_picture::Canvas;
-use operator_cli::{Command, Policies, SettingsFault, StartFault, refuse_start};
+use operator_cli::refuse_start;
 use program_ends::{
     Ended, collected, end_unserved, end_without_memory, say, tell_fault, tell_unread,
 };
@@ -21,6 +21,7 @@ use std::alloc::Global;
 use std::env::Args;
 use std::io;
 use std::io::{ErrorKind, Read, Write};
+use world_settings::{Command, Policies, SettingsFault, StartFault};
 
 /// Tells a verdict; a journal that is sound needs no word.
 fn tell_found<E: Write>(verdict: Verdict, errors: &mut E) -> Ended

@@ -12,8 +12,8 @@
 //! as it is, and so does want of memory for their world. `Drawing` and `Words` in `specs/` say so, for every page:
 //! how `SvgCanvas` spells what is drawn on it is tested.
 //!
-//! It stands on `operator_cli` for settings and the world that they open, `program_ends` for what is said of
-//! faults and of words, `journal_picture`, `picture_svg`, `run_picture`, `journal_audit`, `event_lines`,
+//! It stands on `world_settings` for settings and the world that they open, `operator_cli` for what is said where they
+//! are refused, `program_ends` for what is said of faults and of words, `journal_picture`, `picture_svg`, `run_picture`, `journal_audit`, `event_lines`,
 //! `line_streams`, `world_machine`, `world_model`, `lock_model`, `lock_messages` and `clap`.
 #![tactic(auto)]
 

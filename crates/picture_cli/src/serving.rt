@@ -14,13 +14,14 @@ use journal_audit::{AuditFault, Verdict};
 use journal_picture::{Canvas, CanvasFault, Drawing, draw_lines};
 use line_streams::{LineReader, MAX_READS};
 use lock_messages::{Actor, ClientId, NodeId};
-use operator_cli::{
-    Command, Policies, ServeFault, Settings, SettingsFault, StartFault, read_start, world_down,
-};
+use operator_cli::ServeFault;
 use run_picture::{Lasting, Part};
 use std::alloc::{AllocError, Global};
 use std::io::Read;
 use world_machine::World;
+use world_settings::{
+    Command, Policies, Settings, SettingsFault, StartFault, read_start, world_down,
+};
 
 /// What came of drawing a journal.
 #[derive(Clone, Copy, Debug, PartialEq, Eq)]

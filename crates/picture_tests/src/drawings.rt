@@ -7,7 +7,7 @@ use event_lines::LineFault;
 use journal_audit::{AuditFault, Cause, Verdict};
 use journal_picture::Canvas;
 use lock_messages::MAX_NODES;
-use operator_cli::{Policies, ServeFault, SettingsFault};
+use operator_cli::ServeFault;
 use picture_cli::{Shown, SvgCanvas, draw_journal};
 use run_picture::Part;
 use std::alloc::Global;
@@ -16,6 +16,7 @@ use std::str;
 use test_outcomes::{Failure, Outcome, check_row};
 use test_support::{Full, plain_pairs};
 use world_model::StepFault;
+use world_settings::{Policies, SettingsFault};
 
 /// What comes of drawing a part of what a reader gives on a canvas.
 fn draw_on<R: Read, C: Canvas>(

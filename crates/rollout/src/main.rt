@@ -6,7 +6,7 @@
 //! locks is audited, and the program says what each did.
 //!
 //! `docs/EMBEDDING.md` goes through it part by part. It stands on `run_service` and `node_threads` for the service,
-//! `lock_session` and `book_recorders` for its sessions, `operator_cli` for settings, `journal_audit`,
+//! `lock_session` and `book_recorders` for its sessions, `world_settings` for settings, `journal_audit`,
 //! `line_streams`, `event_recorders`, `lossy_link`, `lock_messages` and `lock_model`.
 #![tactic(auto)]
 
@@ -19,13 +19,13 @@ use event_recorders::RunFault;
 use journal_audit::Verdict;
 use line_streams::write_text;
 use lock_messages::Actor;
-use operator_cli::{Command, read_settings};
 use run_service::{audit_book, run_in_memory};
 use std::alloc::Global;
 use std::io;
 use std::process::ExitCode;
 use std::sync::{Mutex, Wait};
 use std::thread::Threads;
+use world_settings::{Command, read_settings};
 
 /// Three nodes with a vote each, any two of which are enough; writers first; three workers and two watchers.
 const SETTINGS: &[u8] = b"votes = [1, 1, 1]\nread = 2\nwrite = 2\nproblem = 2\nclients = 5\n";

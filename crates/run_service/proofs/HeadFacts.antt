@@ -6,10 +6,10 @@ use Rattle.std.proofs.lemmas.List.Elements.{All-nil, All-cons, All-head, All-tai
 use Rattle.std.proofs.lemmas.List.Splits.{slice_split_at}
 use Rattle.std.proofs.lemmas.Option.{same_Some}
 use Rattle.line_streams.specs.Streams.{is_line_feed, pieces, lines_in, IsPlain}
-use Rattle.operator_cli.specs.declared.faults.SettingsFault.{SettingsFault}
-use Rattle.operator_cli.specs.declared.faults.SettingsFault.TheVariants as settings
-use Rattle.operator_cli.specs.declared.heads.TheConstants.{HEAD_ROOM}
-use Rattle.operator_cli.specs.Outputs.{dashes, with_line, parts_at_dashes, within_room, head_of}
+use Rattle.world_settings.specs.declared.faults.SettingsFault.{SettingsFault}
+use Rattle.world_settings.specs.declared.faults.SettingsFault.TheVariants as settings
+use Rattle.world_settings.specs.declared.heads.TheConstants.{HEAD_ROOM}
+use Rattle.world_settings.specs.Heads.{dashes, with_line, parts_at_dashes, within_room, head_of}
 
 abbrev Feedless : ℕ → Type 0
 Feedless b = is_line_feed b ≡ false

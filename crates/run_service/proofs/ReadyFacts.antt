@@ -12,9 +12,9 @@ use Rattle.world_model.specs.declared.exact.ExactStation.{ExactStation}
 use Rattle.world_model.specs.declared.exact.ExactWorld.{ExactWorld}
 use Rattle.world_model.specs.Openings.{down_client, empty_station}
 use Rattle.world_machine.specs.Listing.{has_actor, station_bytes}
-use Rattle.operator_cli.specs.declared.settings.Settings.{Settings}
-use Rattle.operator_cli.specs.Openings.{all_down}
-use Rattle.operator_cli.specs.Settings.{AreAmong}
+use Rattle.world_settings.specs.declared.settings.Settings.{Settings}
+use Rattle.world_settings.specs.Openings.{all_down}
+use Rattle.world_settings.specs.Settings.{AreAmong}
 use Rattle.operator_cli.proofs.OpeningFacts.{map_same}
 use Rattle.node_threads.specs.Conditions.{MayRun}
 use Rattle.run_service.specs.Empty.{empty_node, empty_client}

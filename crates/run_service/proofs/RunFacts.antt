@@ -9,15 +9,16 @@ use Rattle.journal_laws.specs.Laws.{JournalsAreSound}
 use Rattle.line_streams.specs.Streams.{pieces, lines_in, AppendsPart, Puts}
 use Rattle.operator_cli.specs.declared.faults.ServeFault.{ServeFault}
 use Rattle.operator_cli.specs.declared.faults.ServeFault.TheVariants as fault
-use Rattle.operator_cli.specs.declared.faults.SettingsFault.{SettingsFault}
-use Rattle.operator_cli.specs.declared.faults.SettingsFault.TheVariants as settings
-use Rattle.operator_cli.specs.declared.heads.StartFault.{StartFault}
-use Rattle.operator_cli.specs.declared.heads.StartFault.TheVariants as start
-use Rattle.operator_cli.specs.declared.orders.Command.TheVariants as command
-use Rattle.operator_cli.specs.Openings.{all_down}
-use Rattle.operator_cli.specs.Settings.{Given, Refuses, settings_of, values_of, world_of}
-use Rattle.operator_cli.specs.Outputs.{head_of, opened, start_of, with_lines, output_of, command_output, verdict_output, refusal_output, Prints}
-use Rattle.operator_cli.specs.PartOutputs.{FindsHead, RefusesStart}
+use Rattle.world_settings.specs.declared.faults.SettingsFault.{SettingsFault}
+use Rattle.world_settings.specs.declared.faults.SettingsFault.TheVariants as settings
+use Rattle.world_settings.specs.declared.heads.StartFault.{StartFault}
+use Rattle.world_settings.specs.declared.heads.StartFault.TheVariants as start
+use Rattle.world_settings.specs.declared.commands.Command.TheVariants as command
+use Rattle.world_settings.specs.Openings.{all_down}
+use Rattle.world_settings.specs.Settings.{Given, Refuses, settings_of, values_of, world_of}
+use Rattle.operator_cli.specs.Outputs.{output_of, command_output, verdict_output, refusal_output, Prints}
+use Rattle.world_settings.specs.Heads.{head_of, opened, start_of, with_lines, FindsHead}
+use Rattle.operator_cli.specs.PartOutputs.{RefusesStart}
 use Rattle.run_service.specs.Ends.{End, run_text}
 use Rattle.run_service.specs.Outputs.{IsFoundSound, Tells, TellsBy, TellsBehind, ServesRun}
 use Rattle.run_service.specs.Parts.{TellsEnd, RunsBy, RunsHead}

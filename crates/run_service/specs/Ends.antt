@@ -17,8 +17,8 @@ use Rattle.history_book.specs.Books.{enters}
 use Rattle.journal_text.specs.Journals.{history_text}
 use Rattle.node_threads.specs.Faults.{AreFaults}
 use Rattle.node_threads.specs.Wishes.{AllDidAsWished}
-use Rattle.operator_cli.specs.declared.settings.Settings.{Settings}
-use Rattle.operator_cli.specs.Openings.{all_down}
+use Rattle.world_settings.specs.declared.settings.Settings.{Settings}
+use Rattle.world_settings.specs.Openings.{all_down}
 
 -- The history of a run, the world that this leaves, and the actors that ended by a fault, nodes first.
 pub record End : Type 0 where

@@ -5,13 +5,14 @@ use Rattle.event_lines.specs.declared.wishes.Wish.{Wish}
 use Rattle.journal_audit.specs.declared.verdicts.Verdict.TheVariants.{Sound}
 use Rattle.line_streams.specs.Streams.{pieces, AppendsPart}
 use Rattle.operator_cli.specs.declared.faults.ServeFault.{ServeFault}
-use Rattle.operator_cli.specs.declared.faults.SettingsFault.{SettingsFault}
-use Rattle.operator_cli.specs.declared.faults.SettingsFault.TheVariants as settings
-use Rattle.operator_cli.specs.declared.orders.Command.{Command}
-use Rattle.operator_cli.specs.declared.orders.Command.TheVariants as command
-use Rattle.operator_cli.specs.declared.settings.Settings.{Settings}
-use Rattle.operator_cli.specs.Settings.{Given, settings_of}
-use Rattle.operator_cli.specs.Outputs.{head_of, output_of, verdict_output, refusal_output, Prints, EndsRefused}
+use Rattle.world_settings.specs.declared.faults.SettingsFault.{SettingsFault}
+use Rattle.world_settings.specs.declared.faults.SettingsFault.TheVariants as settings
+use Rattle.world_settings.specs.declared.commands.Command.{Command}
+use Rattle.world_settings.specs.declared.commands.Command.TheVariants as command
+use Rattle.world_settings.specs.declared.settings.Settings.{Settings}
+use Rattle.world_settings.specs.Settings.{Given, settings_of}
+use Rattle.operator_cli.specs.Outputs.{output_of, verdict_output, refusal_output, Prints, EndsRefused}
+use Rattle.world_settings.specs.Heads.{head_of}
 use Rattle.run_service.specs.Ends.{End, IsEndOf, run_text, journal_behind, end_status}
 
 -- the command that `serve_run` takes, and whether it asks for the journal

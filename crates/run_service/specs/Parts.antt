@@ -6,12 +6,12 @@ use Rattle.event_lines.specs.declared.wishes.Wish.{Wish}
 use Rattle.journal_text.specs.Journals.{IsRecorded}
 use Rattle.line_streams.specs.Streams.{AppendsPart}
 use Rattle.operator_cli.specs.declared.faults.ServeFault.{ServeFault}
-use Rattle.operator_cli.specs.declared.faults.SettingsFault.{SettingsFault}
-use Rattle.operator_cli.specs.declared.faults.SettingsFault.TheVariants as settings
-use Rattle.operator_cli.specs.declared.orders.Command.TheVariants as command
-use Rattle.operator_cli.specs.declared.settings.Settings.{Settings}
-use Rattle.operator_cli.specs.Openings.{all_down}
-use Rattle.operator_cli.specs.Settings.{Given, settings_of}
+use Rattle.world_settings.specs.declared.faults.SettingsFault.{SettingsFault}
+use Rattle.world_settings.specs.declared.faults.SettingsFault.TheVariants as settings
+use Rattle.world_settings.specs.declared.commands.Command.TheVariants as command
+use Rattle.world_settings.specs.declared.settings.Settings.{Settings}
+use Rattle.world_settings.specs.Openings.{all_down}
+use Rattle.world_settings.specs.Settings.{Given, settings_of}
 use Rattle.operator_cli.specs.Outputs.{refusal_output, Prints}
 use Rattle.run_service.specs.Ends.{End, IsEndOf, run_text, end_status}
 

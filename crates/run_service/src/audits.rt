@@ -5,15 +5,15 @@ ghost use Rattle.journal_audit.specs.Verdicts.{IsVerdict, text_lines};
 ghost use Rattle.journal_audit.specs.declared.verdicts.Verdict.TheVariants.{Sound};
 ghost use Rattle.journal_text.specs.Journals.{history_text};
 ghost use Rattle.lock_messages.specs.declared.ids.TheConstants.{MAX_CLIENTS};
-ghost use Rattle.operator_cli.specs.Openings.{all_down};
+ghost use Rattle.world_settings.specs.Openings.{all_down};
 
 use crate::sessions::plain_policies;
 use history_book::Book;
 use journal_audit::{AuditFault, Verdict, audit};
 use journal_laws::laws::journals_are_sound;
-use operator_cli::{Settings, world_down};
 use std::alloc::{AllocError, Global};
 use std::io;
+use world_settings::{Settings, world_down};
 
 /// Audits the journal of a book, from the world of these settings in which all are down and nothing is kept.
 ///

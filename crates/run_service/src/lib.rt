@@ -15,10 +15,10 @@
 //! place of wishes; it promises what `node_threads::with_sessions` does. `run_in_memory` brings policies and records
 //! itself, and `audit_book` audits what is in the book in the end.
 //!
-//! It stands on `operator_cli` for settings, `node_threads` for the run, `explanations` for what is said of it
-//! in words, `journal_text`, `journal_audit` and `journal_laws` for the journal, `line_streams`, `event_recorders`,
-//! `history_book`, `event_lines`, `lock_session`, `lossy_link`, `stable_record`, `admission_policy`,
-//! `world_machine`, `world_model`, `lock_messages` and `lock_model`.
+//! It stands on `world_settings` for settings, `operator_cli` for faults, `node_threads` for the run, `explanations`
+//! for what is said of it in words, `journal_text`, `journal_audit` and `journal_laws` for the journal, `line_streams`,
+//! `event_recorders`, `history_book`, `event_lines`, `lock_session`, `lossy_link`, `stable_record`,
+//! `admission_policy`, `world_machine`, `world_model`, `lock_messages` and `lock_model`.
 #![tactic(auto)]
 
 mod audits;

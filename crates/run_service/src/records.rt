@@ -7,9 +7,9 @@ ghost use Rattle.stable_record.specs.Records.{node_record_of, client_record_of};
 ghost use Rattle.run_service.specs.Empty.{empty_record, empty_node, empty_client};
 
 use lock_model::Problem;
-use operator_cli::Policies;
 use stable_record::{Entries, MemoryRecord, NodeRecord, StableRecord, client_bytes, node_bytes};
 use std::alloc::{AllocError, Global};
+use world_settings::Policies;
 
 /// Records in which nothing was ever written, for as many actors as there may be: sixteen of nodes that
 /// solve problem 1, sixteen of nodes that solve problem 2, and 1,024 of clients.

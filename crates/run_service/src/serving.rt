@@ -7,9 +7,9 @@ ghost use Rattle.history_book.specs.Books.{enters};
 ghost use Rattle.journal_text.specs.Journals.{IsRecorded};
 ghost use Rattle.line_streams.specs.Streams.{Puts};
 ghost use Rattle.event_lines.specs.declared.wishes.Wish.{Wish as WishValue};
-ghost use Rattle.operator_cli.specs.Openings.{all_down};
+ghost use Rattle.world_settings.specs.Openings.{all_down};
 ghost use Rattle.operator_cli.specs.Outputs.{IsCommonFault};
-ghost use Rattle.operator_cli.specs.Settings.{AreAmong};
+ghost use Rattle.world_settings.specs.Settings.{AreAmong};
 ghost use Rattle.run_service.specs.Empty.{empty_node, empty_client};
 ghost use Rattle.run_service.specs.Ends.{IsEndOf, end_text, end_status, journal_behind};
 ghost use Rattle.run_service.specs.Outputs.{IsRun, ServesRun};
@@ -26,14 +26,15 @@ use line_streams::{LineReader, MAX_READS, write_text};
 use lock_session::OpenGate;
 use lossy_link::Weather;
 use node_threads::{RunEnd, run_all};
-use operator_cli::{
-    Command, Order, Policies, ServeFault, Settings, SettingsFault, Start, StartFault, chosen,
-    read_head, read_settings, refuse_start, world_down,
-};
+use operator_cli::{Order, ServeFault, refuse_start};
 use std::alloc::Global;
 use std::io::{Read, Write};
 use std::sync::Wait;
 use std::thread::Threads;
+use world_settings::{
+    Command, Policies, Settings, SettingsFault, Start, StartFault, chosen, read_head,
+    read_settings, world_down,
+};
 
 /// Writes a text.
 fn put<W: Write>(text: &[u8], writer: &mut W) -> Result<(), ServeFault>

@@ -5,7 +5,7 @@ ghost use Rattle.lock_messages.specs.declared.ids.TheConstants.{MAX_NODES, MAX_C
 ghost use Rattle.lock_model.specs.Ballots.{node_count};
 ghost use Rattle.history_book.specs.Books.{enters};
 ghost use Rattle.world_model.specs.Locality.{IsHistory};
-ghost use Rattle.operator_cli.specs.Openings.{all_down};
+ghost use Rattle.world_settings.specs.Openings.{all_down};
 ghost use Rattle.node_threads.specs.Faults.{AreFaults};
 ghost use Rattle.node_threads.specs.Sessions.{AreRecords};
 ghost use Rattle.run_service.specs.Empty.{empty_node, empty_client};
@@ -17,11 +17,11 @@ use lock_messages::MAX_NODES;
 use lock_session::OwnRecord;
 use lossy_link::Weather;
 use node_threads::{ServiceEnd, Work, with_sessions};
-use operator_cli::{Policies, Settings, chosen, world_down};
 use stable_record::{MemoryRecord, StableRecord};
 use std::alloc::{AllocError, Global};
 use std::sync::Wait;
 use std::thread::Threads;
+use world_settings::{Policies, Settings, chosen, world_down};
 
 /// Records in memory of so many clients that made no attempt yet. The only error is want of memory.
 pub fn empty_client_records(alloc: Global, clients: u16) -> Result<Vec<MemoryRecord>, AllocError>

@@ -11,12 +11,12 @@ use history_book::{Berth, Book};
 use journal_audit::{Cause, Verdict};
 use lock_messages::{Actor, ClientId, MAX_CLIENTS};
 use lock_model::Problem;
-use operator_cli::{Settings, world_down};
 use run_service::{audit_book, plain_policies};
 use std::alloc::Global;
 use test_outcomes::{Failure, Outcome, check};
 use test_support::ballots_of;
 use world_model::{Age, Event, StepFault};
+use world_settings::{Settings, world_down};
 
 /// Whether a world may have so many clients.
 fn are_clients(count: u16) -> bool

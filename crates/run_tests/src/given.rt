@@ -2,7 +2,7 @@
 
 ghost use Rattle.std.specs.Prelude.{◌≡◌, ◌≤◌, ◌++◌, length, map, replicate, IfOk};
 ghost use Rattle.lock_model.specs.Ballots.{HasPlace};
-ghost use Rattle.operator_cli.specs.Settings.{AreAmong};
+ghost use Rattle.world_settings.specs.Settings.{AreAmong};
 ghost use Rattle.run_service.specs.Empty.{empty_node, empty_client};
 
 use crate::boxed::record_on;

@@ -3,13 +3,14 @@
 use crate::given::{client_records, node_records};
 use crate::supplies::second_records;
 use lock_messages::MAX_NODES;
-use operator_cli::{Command, Order, Policies, ServeFault};
+use operator_cli::{Order, ServeFault};
 use run_service::{Records, Supplies, serve_run};
 use std::alloc::Global;
 use std::sync::Wait;
 use std::thread::Threads;
 use test_outcomes::{Failure, Outcome, check_row};
 use test_support::{Device, plain_pairs};
+use world_settings::{Command, Policies};
 
 /// Serves a run by these settings, which prints there; its status.
 fn served<R: Threads + Wait + Copy + Send>(

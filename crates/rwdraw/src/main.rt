@@ -1,6 +1,6 @@
 //! The program `rwdraw`: it makes the policies that nodes decide by, and a canvas over standard output, and is one
 //! call of `picture_cli`, whose root says what is drawn and said, and which status comes back. It stands on
-//! `picture_cli`, `operator_cli`, `admission_policy`, `lock_messages` and `lock_model`.
+//! `picture_cli`, `world_settings`, `admission_policy`, `lock_messages` and `lock_model`.
 #![tactic(auto)]
 
 mod supplies;

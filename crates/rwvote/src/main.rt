@@ -1,6 +1,6 @@
 //! The program `rwvote`: it makes the policies that nodes decide by and the records of a run, and is one
 //! call of `command_line`, whose contract says what is written, what is said on standard error, and which
-//! status comes back. It stands on `command_line`, `operator_cli`, `run_service`, `admission_policy`,
+//! status comes back. It stands on `command_line`, `world_settings`, `run_service`, `admission_policy`,
 //! `stable_record`, `lock_messages` and `lock_model`.
 #![tactic(auto)]
 

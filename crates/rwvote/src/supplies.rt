@@ -4,10 +4,10 @@ ghost use Rattle.std.specs.Prelude.{◌≡◌, [], ◌∷◌, ◌++◌, Some, On
 ghost use Rattle.lock_model.specs.declared.problems.Problem.TheVariants.{First, Second};
 
 use admission_policy::{Admission, Pair};
-use operator_cli::Policies;
 use run_service::Records;
 use stable_record::StableRecord;
 use std::alloc::{AllocError, Global};
+use world_settings::Policies;
 
 /// No policies yet.
 pub(crate) fn no_policies(alloc: Global) -> Policies

@@ -1,8 +1,8 @@
 -- What is said of the text of settings.
 use Rattle.std.proofs.Common.{◌≡◌, ◌⊎◌, inl, inr, Result, Err, refl}
-use Rattle.operator_cli.specs.declared.faults.SettingsFault.{SettingsFault}
-use Rattle.operator_cli.specs.declared.faults.SettingsFault.TheVariants as fault
-use Rattle.operator_cli.specs.Settings.{Refuses}
+use Rattle.world_settings.specs.declared.faults.SettingsFault.{SettingsFault}
+use Rattle.world_settings.specs.declared.faults.SettingsFault.TheVariants as fault
+use Rattle.world_settings.specs.Settings.{Refuses}
 
 -- a fault is that of what was judged, or there is no memory
 pub refused_so : {Y : Type 0} (f : SettingsFault) (judged : Result Y SettingsFault) → Refuses f judged → (f ≡ fault.Memory) ⊎ (judged ≡ Err f)

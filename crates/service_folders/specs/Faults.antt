@@ -1,7 +1,7 @@
 -- The numbers of faults.
 use Rattle.std.specs.Prelude.{ℕ}
 use Rattle.file_plate.specs.FileFaults.{file_fault_number}
-use Rattle.operator_cli.specs.Faults.{settings_fault_number}
+use Rattle.world_settings.specs.Faults.{settings_fault_number}
 use Rattle.service_folders.specs.declared.faults.ServiceFault.{ServiceFault}
 use Rattle.service_folders.specs.declared.faults.ServiceFault.TheVariants as faults
 

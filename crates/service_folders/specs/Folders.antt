@@ -9,11 +9,11 @@ use Rattle.lock_messages.specs.Texts.{actor_text}
 use Rattle.lock_model.specs.declared.problems.Problem.{Problem}
 use Rattle.lock_model.specs.Ballots.{node_count}
 use Rattle.stable_record.specs.Records.{node_record_of, client_record_of}
-use Rattle.operator_cli.specs.declared.orders.Command.TheVariants as command
-use Rattle.operator_cli.specs.declared.settings.Settings.{Settings}
-use Rattle.operator_cli.specs.declared.faults.SettingsFault.{SettingsFault}
-use Rattle.operator_cli.specs.declared.faults.SettingsFault.TheVariants as fault
-use Rattle.operator_cli.specs.Settings.{Given, settings_of}
+use Rattle.world_settings.specs.declared.commands.Command.TheVariants as command
+use Rattle.world_settings.specs.declared.settings.Settings.{Settings}
+use Rattle.world_settings.specs.declared.faults.SettingsFault.{SettingsFault}
+use Rattle.world_settings.specs.declared.faults.SettingsFault.TheVariants as fault
+use Rattle.world_settings.specs.Settings.{Given, settings_of}
 use Rattle.service_folders.specs.declared.keys.TheConstants.{MIN_KEY_LEN, RANDOM_LEN}
 use Rattle.service_folders.specs.declared.services.TheConstants.{MAX_SETTINGS_LEN}
 use Rattle.service_folders.specs.Cuts.{is_byte, first_of}

@@ -4,9 +4,9 @@ use Rattle.std.specs.Borrow.{Bor}
 use Rattle.lock_messages.specs.declared.ids.Actor.{Actor}
 use Rattle.lock_messages.specs.declared.ids.Actor.TheVariants as actor
 use Rattle.lock_messages.specs.Ids.{IsNode, IsClient}
-use Rattle.operator_cli.specs.declared.faults.SettingsFault.{SettingsFault}
-use Rattle.operator_cli.specs.declared.faults.SettingsFault.TheVariants as fault
-use Rattle.operator_cli.specs.declared.settings.Settings.{Settings}
+use Rattle.world_settings.specs.declared.faults.SettingsFault.{SettingsFault}
+use Rattle.world_settings.specs.declared.faults.SettingsFault.TheVariants as fault
+use Rattle.world_settings.specs.declared.settings.Settings.{Settings}
 use Rattle.service_folders.specs.declared.faults.ServiceFault.{ServiceFault}
 use Rattle.service_folders.specs.declared.faults.ServiceFault.TheVariants as service
 use Rattle.service_folders.specs.Folders.{service_has, text_says, HasClients}

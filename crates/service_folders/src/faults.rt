@@ -4,8 +4,8 @@ ghost use Rattle.std.specs.Prelude.{◌≡◌};
 ghost use Rattle.service_folders.specs.Faults.{service_fault_number};
 
 use file_plate::FileFault;
-use operator_cli::SettingsFault;
 use thiserror::Error;
+use world_settings::SettingsFault;
 
 /// Why a service's directory can't be made, opened or used. Programs print the number.
 #[derive(Clone, Copy, Debug, PartialEq, Eq, Error)]

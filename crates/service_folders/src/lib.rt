@@ -16,8 +16,9 @@
 //! its secret is that of the key. It promises which actors a `Part` has, the paths of files, and the bytes of a new
 //! record. Only tests show what is on the disk.
 //!
-//! It uses `operator_cli` for settings, `file_records` and `file_plate` for records, `line_link` for inboxes,
-//! `frame_lines` for secrets, `stable_record`, `vote_weights`, `lock_model`, `lock_messages`, `hex` and `thiserror`.
+//! It uses `world_settings` for settings, `event_lines` for the names of actors, `file_records` and `file_plate` for
+//! records, `line_link` for inboxes, `frame_lines` for secrets, `stable_record`, `vote_weights`, `lock_model`,
+//! `lock_messages`, `hex` and `thiserror`.
 #![tactic(auto)]
 
 mod contents;

@@ -12,10 +12,10 @@ use crate::records::make_actor;
 use crate::services::{SECRET_NAME, SETTINGS_NAME, has_actor, judge_settings};
 use crate::{Part, ServiceFault};
 use lock_messages::{Actor, ClientId, MAX_CLIENTS, MAX_NODES, NodeId};
-use operator_cli::Settings;
 use std::alloc::Global;
 use std::fs::{self, File, Files};
 use std::io::ErrorKind;
+use world_settings::Settings;
 
 /// The permissions of the settings, less what the process masks.
 const SETTINGS_MODE: u32 = 0o644;

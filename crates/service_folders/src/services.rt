@@ -14,11 +14,11 @@ use crate::paths::file_path;
 use frame_lines::Secret;
 use lock_messages::Actor;
 use lock_model::Problem;
-use operator_cli::{Command, Settings, SettingsFault, read_settings};
 use std::alloc::Global;
 use std::fs::{File, Files};
 use std::marker::Model;
 use vote_weights::BallotList;
+use world_settings::{Command, Settings, SettingsFault, read_settings};
 
 /// The name of the file of the settings.
 pub const SETTINGS_NAME: &str = "settings.toml";

@@ -1,9 +1,9 @@
 // Each fault of settings, and which of two comes first.
 
 use crate::playing::{answers, each_is_refused, plays, plays_bytes, repeated};
-use operator_cli::Command;
 use std::alloc::Global;
 use test_outcomes::Outcome;
+use world_settings::Command;
 
 const WITHOUT_END: [&str; 7] = [
     "",

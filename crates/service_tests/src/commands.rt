@@ -1,9 +1,9 @@
 // What `ballot` and `audit` print, through `serve`.
 
 use crate::playing::{answers, answers_each};
-use operator_cli::Command;
 use test_outcomes::Outcome;
 use test_support::SETTINGS;
+use world_settings::Command;
 
 /// Votes with what a read and a write need, what is printed of them, and the status.
 const BALLOTS: [(&str, &str, u8); 17] = [

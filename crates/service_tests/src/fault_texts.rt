@@ -1,12 +1,13 @@
 // The texts of all faults of events, lines, settings and runs, with their numbers.
 
 use lossy_link::WeatherFault;
-use operator_cli::{LineFault, ServeFault, SettingsFault};
+use operator_cli::{LineFault, ServeFault};
 use std::alloc::Global;
 use std::fmt::Display;
 use test_outcomes::{Outcome, check_row};
 use vote_weights::BallotFault;
 use world_model::StepFault;
+use world_settings::SettingsFault;
 
 /// Whether the number and the text of a fault are written so.
 fn tells<F: Display + Drop>(alloc: Global, number: u16, fault: F, text: &str) -> Outcome {

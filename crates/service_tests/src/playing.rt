@@ -6,11 +6,12 @@ ghost use Rattle.operator_cli.specs.Outputs.{IsServed};
 
 use journal_audit::AuditFault;
 use lock_messages::MAX_NODES;
-use operator_cli::{Command, Order, Policies, ServeFault, serve};
+use operator_cli::{Order, ServeFault, serve};
 use std::alloc::Global;
 use std::io::{Read, Write};
 use test_outcomes::{Failure, Outcome, check_row};
 use test_support::{SETTINGS, plain_pairs};
+use world_settings::{Command, Policies};
 
 /// The command, unless it is a run of all parts, which `serve` doesn't take.
 fn served_by(command: Command) -> Option<Command>

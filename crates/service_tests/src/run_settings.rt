@@ -1,9 +1,9 @@
 // The settings of a run, which every command reads and judges: the weather and the wishes.
 
 use crate::playing::{answers, answers_each, repeated};
-use operator_cli::Command;
 use std::alloc::Global;
 use test_outcomes::Outcome;
+use world_settings::Command;
 
 /// What the settings say of the world.
 const WORLD: &str = "votes = [1, 1, 1]\nread = 2\nwrite = 2\nproblem = 1\nclients = 4\n";

@@ -1,9 +1,9 @@
 // Scripts that show what the examples don't.
 
 use crate::playing::{answers_each, plays};
-use operator_cli::Command;
 use test_outcomes::Outcome;
 use test_support::SETTINGS;
+use world_settings::Command;
 
 /// Lines behind good settings, what they print, and the status.
 const LAST_LINES: [(&str, &str, u8); 5] = [

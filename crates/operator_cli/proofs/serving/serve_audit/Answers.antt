@@ -1,6 +1,6 @@
 use Rattle.std.proofs.Common.{refl}
 use Rattle.operator_cli.specs.declared.faults.ServeFault.TheVariants as fault
-use Rattle.operator_cli.specs.declared.orders.Command.TheVariants as command
+use Rattle.world_settings.specs.declared.commands.Command.TheVariants as command
 use Rattle.operator_cli.proofs.ServeFacts.{nothing_behind}
 use Rattle.operator_cli.proofs.serving.serve_audit.Goals as goal
 

@@ -1,7 +1,7 @@
 use Rattle.std.proofs.Common.{◌≡◌, ◌∙◌, codes, refl, sym, ap}
 use Rattle.std.specs.Fmt.{digits}
-use Rattle.operator_cli.specs.declared.faults.SettingsFault.{SettingsFault}
-use Rattle.operator_cli.specs.Faults.{settings_fault_number}
+use Rattle.world_settings.specs.declared.faults.SettingsFault.{SettingsFault}
+use Rattle.world_settings.specs.Faults.{settings_fault_number}
 use Rattle.operator_cli.specs.Texts.{settings_fault_text}
 use Rattle.operator_cli.proofs.serving.settings_text.Goals as goal
 

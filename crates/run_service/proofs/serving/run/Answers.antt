@@ -7,16 +7,16 @@ use Rattle.run_service.proofs.serving.run.Goals as goal
 
 pub run_all-requires-clause-may : goal.run_all-requires-clause-may
 run_all-requires-clause-may g c κs within =
-    may_run c.args.settings.now c.in-Ok.world c.nodes-nodes.result _ _ c.in-Ok.ensures.world c.nodes-nodes.ensures.nodes c.chosen-pairs.ensures.count c.in-Ok-chosen_records.ensures
+    may_run c.args.settings.now c.in-Ok.world c.nodes-nodes.result _ _ c.in-Ok.ensures c.nodes-nodes.ensures.nodes c.chosen-pairs.ensures.count c.in-Ok-chosen_records.ensures
 
 pub run_all-requires-clause-theirs : goal.run_all-requires-clause-theirs
-run_all-requires-clause-theirs g c κs within = theirs c.args.settings.now c.in-Ok.world c.args.wishes.now c.in-Ok.ensures.world c.requires.wishes
+run_all-requires-clause-theirs g c κs within = theirs c.args.settings.now c.in-Ok.world c.args.wishes.now c.in-Ok.ensures c.requires.wishes
 
 pub returns-clause-end : goal.returns-clause-end
 returns-clause-end g c = record {
   history = search rules;
   run = search rules;
   exclusive = search rules;
-  faults = subst (λ (w : ExactWorld). AreFaults w c.in-Ok-run_all.end.faults.items) c.in-Ok.ensures.world c.in-Ok-run_all.ensures.faults;
-  wished = subst (λ (w : ExactWorld). AllDidAsWished w c.in-Ok-run_all.end.book.history c.args.wishes.now c.in-Ok-run_all.end.faults.items) c.in-Ok.ensures.world c.in-Ok-run_all.ensures.wished;
+  faults = subst (λ (w : ExactWorld). AreFaults w c.in-Ok-run_all.end.faults.items) c.in-Ok.ensures c.in-Ok-run_all.ensures.faults;
+  wished = subst (λ (w : ExactWorld). AllDidAsWished w c.in-Ok-run_all.end.book.history c.args.wishes.now c.in-Ok-run_all.end.faults.items) c.in-Ok.ensures c.in-Ok-run_all.ensures.wished;
 }

@@ -1,6 +1,6 @@
 use Rattle.std.proofs.Common.{List, subst}
 use Rattle.event_lines.specs.declared.wishes.Wish.{Wish}
-use Rattle.operator_cli.specs.Settings.{given}
+use Rattle.world_settings.specs.Settings.{given}
 use Rattle.run_service.specs.Ends.{End, IsEndOf}
 use Rattle.run_service.proofs.RunFacts.{settings_refused, told_by}
 use Rattle.run_service.proofs.serving.run_head.Goals as goal

@@ -14,5 +14,5 @@ with_sessions-requires-clause-records g c κs within =
 pub with_sessions-requires-clause-may : goal.with_sessions-requires-clause-may
 with_sessions-requires-clause-may g c κs within =
     let s = c.args.settings.now in
-    may_run s c.in-Ok.world c.nodes-nodes.result _ _ c.in-Ok.ensures.world c.nodes-nodes.ensures.nodes c.chosen-pairs.ensures.count
+    may_run s c.in-Ok.world c.nodes-nodes.result _ _ c.in-Ok.ensures c.nodes-nodes.ensures.nodes c.chosen-pairs.ensures.count
     (found_both s c.nodes-nodes.result _ _ c.nodes-nodes.ensures.nodes c.requires.nodes c.requires.clients)

@@ -2,8 +2,8 @@ use Rattle.std.proofs.Common.{List, ◌++◌, replicate, refl, sym, ap, subst, �
 use Rattle.event_lines.specs.declared.wishes.Wish.{Wish}
 use Rattle.lock_model.specs.Ballots.{node_count}
 use Rattle.lock_model.specs.declared.problems.Problem.TheVariants.{First}
-use Rattle.operator_cli.specs.declared.settings.Settings.{Settings}
-use Rattle.operator_cli.specs.Settings.{AreAmong}
+use Rattle.world_settings.specs.declared.settings.Settings.{Settings}
+use Rattle.world_settings.specs.Settings.{AreAmong}
 use Rattle.run_service.specs.Empty.{empty_node, empty_client}
 use Rattle.run_service.proofs.ReadyFacts.{may_run, theirs}
 use Rattle.run_tests.proofs.rows.end_of.Goals as goal

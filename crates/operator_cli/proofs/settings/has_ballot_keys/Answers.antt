@@ -1,7 +1,0 @@
-use Rattle.std.proofs.Common.{◌∙◌}
-use Rattle.operator_cli.specs.Settings.{tells_ballot}
-use Rattle.operator_cli.proofs.SettingsFacts.{keys_view}
-use Rattle.operator_cli.proofs.settings.has_ballot_keys.Goals as goal
-
-pub returns : goal.returns
-returns c = c.each_key_tells_ballot.ensures ∙ keys_view tells_ballot c.args.table.now.entries

@@ -1,0 +1,4 @@
+pub mod Faults
+pub mod Settings
+pub mod Openings
+pub mod Heads
