@@ -1,7 +1,7 @@
 // The lines of a journal: events alone.
 
 ghost use Rattle.std.specs.Prelude.{◌≡◌, IfOk, string_bytes};
-ghost use Rattle.event_lines.specs.Events.{event_in, event_of, event_text};
+ghost use Rattle.event_lines.specs.Events.{event_of, event_text};
 
 use crate::LineFault;
 use crate::commands::Command;
@@ -26,16 +26,6 @@ const EVENTS: [Command; 13] = [
     Command::Switch,
 ];
 
-/// The event of a line. Where these commands are read no line is a query.
-fn event_in(line: Line) -> Result<Event, LineFault>
-    ensures { result ≡ event_in line }
-{
-    match line {
-        Line::Event(event) => Ok(event),
-        Line::Query(_) => Err(LineFault::Word),
-    }
-}
-
 /// Which event a line of a journal is, given without its line feed. It takes no memory.
 ///
 /// # Errors
@@ -51,7 +41,9 @@ pub fn read_event(line: &[u8]) -> Result<Event, LineFault>
 {
     // A match in place of ?: the checker can't build its plan for ? on a result that holds a line or an event.
     match read_line(&EVENTS, line) {
-        Ok(line) => event_in(line),
+        Ok(Line::Event(event)) => Ok(event),
+        // Where these commands are read no line is a query.
+        Ok(Line::Query(_)) => Err(LineFault::Word),
         Err(fault) => Err(fault),
     }
 }

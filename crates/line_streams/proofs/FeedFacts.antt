@@ -36,3 +36,17 @@ none_met bytes most upto few within all none = record {
   feed = λ h. absurd (false≢true h);
   all = λ h. all;
 }
+
+-- a line feed that is the first among the first bytes is the first of all
+pub near_feed : (bytes : List ℕ) (near i : ℕ) → near ≤ length bytes → IsFirstByte (is_byte 10) (take near bytes) (Some i) → IsFirstByte (is_byte 10) bytes (Some i)
+near_feed bytes near i within (first, passes) =
+    let low : i < near = omega (arith, first.high, length-take-le near bytes within) in (
+      record {
+        low = first.low;
+        high = omega arith;
+        before = λ k from high yes.
+            let short : k < near = omega arith in
+            first.before k from high (ap (λ (b : ℕ). b == 10) (get_or-take near bytes k 0 short) ∙ yes);
+      },
+      ap (λ (b : ℕ). b == 10) (sym (get_or-take near bytes i 0 low)) ∙ passes,
+    )

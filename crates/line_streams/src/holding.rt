@@ -5,6 +5,7 @@ ghost use Rattle.std.specs.List.{list_any};
 ghost use Rattle.std.specs.Io.{ReadsAtMost};
 ghost use Rattle.std.specs.Io.KnownBytes.{ReadConsumes, prepend_known};
 ghost use Rattle.std.specs.IoError.{error_kind};
+ghost use Rattle.memchr.specs.Find.{IsFirstByte, is_byte};
 ghost use Rattle.line_streams.specs.Streams.{is_line_feed, FindsFront, Fetches, TakesHeld};
 
 use crate::StreamFault;
@@ -14,6 +15,9 @@ use std::marker::Model;
 
 /// The most bytes that are read ahead: so many a read may give.
 pub const MAX_AHEAD: usize = 4_096;
+
+/// The bytes among which a line feed is looked for first: a vector's, which `memchr` looks at in one step.
+const NEAR: usize = 32;
 
 /// Bytes that were read and are still to be given, and how often the reader may be asked yet. The
 /// reader is passed beside them, the same one at each call.
@@ -145,12 +149,23 @@ fn last_feed(bytes: &[u8]) -> usize {
     memrchr(b'\n', bytes).unwrap_or(0)
 }
 
+/// Where the first line feed stands. It looks first among so many bytes as most lines have.
+fn first_feed(bytes: &[u8]) -> Option<usize>
+    ensures { IsFirstByte (is_byte 10) bytes.now result }
+{
+    let near = NEAR.min(bytes.len());
+    match memchr(b'\n', &bytes[..near]) {
+        Some(at) => Some(at),
+        None => memchr(b'\n', bytes),
+    }
+}
+
 /// How many bytes stand before the first line feed, `most` at most, and whether it was met.
 fn plain_front(bytes: &[u8], most: usize) -> (usize, bool)
     ensures { FindsFront bytes.now most result.0 result.1 }
 {
     let upto = most.min(bytes.len());
-    match memchr(b'\n', &bytes[..upto]) {
+    match first_feed(&bytes[..upto]) {
         Some(at) => (at, true),
         None => (upto, false),
     }

@@ -46,7 +46,7 @@ node_asks (node_act.Switch p) = true
 
 -- what a client does by itself; it asks for no memory
 abbrev pub client_event : ℕ → ClientAct → Event
-client_event c (client_act.Begin m x place) = event.Begin c m x place
+client_event c (client_act.Begin m x place) = event.Begin c m x.now place
 client_event c client_act.Try = event.Try (actor.Client c)
 client_event c client_act.Kept = event.Kept (actor.Client c)
 client_event c client_act.Enter = event.Enter c
@@ -56,7 +56,7 @@ client_event c client_act.Fall = event.Fall (actor.Client c)
 client_event c (client_act.Rise age) = event.Rise (actor.Client c) age
 
 abbrev pub client_turn : ClientAct → ℕ → List Ballot → ExactClient → Turns ExactClient
-client_turn (client_act.Begin m x place) c b k = begins_in b c m x place k k.phase
+client_turn (client_act.Begin m x place) c b k = begins_in b c m x.now place k k.phase
 client_turn client_act.Try c b k = tries_attempt_in k k.phase
 client_turn client_act.Kept c b k = keeps_attempt_in k k.phase
 client_turn client_act.Enter c b k = enters_in b k k.phase

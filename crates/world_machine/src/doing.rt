@@ -45,13 +45,13 @@ pub(crate) fn node_acts(node: &mut WorldNode, act: NodeAct) -> Result<Effect, St
 }
 
 /// What a client does by itself.
-pub(crate) fn client_acts(client: &mut WorldClient, act: ClientAct) -> Result<Effect, StepFault>
-    ensures turned { Turned false client_part (client_turn act client.old.number client.old.ballots client.old.part) client.old result client.new }
+pub(crate) fn client_acts(client: &mut WorldClient, act: ClientAct<'_>) -> Result<Effect, StepFault>
+    ensures turned { Turned false client_part (client_turn act.entry client.old.number client.old.ballots client.old.part) client.old result client.new }
     ensures number { client.new.number ≡ client.old.number }
     ensures ballots { client.new.ballots ≡ client.old.ballots }
 {
     match act {
-        ClientAct::Begin(mode, resource, place) => match client.begin(mode, resource, place) {
+        ClientAct::Begin(mode, resource, place) => match client.begin(mode, *resource, place) {
             Ok(attempt) => Ok(Effect::Chose(attempt)),
             Err(fault) => Err(fault),
         },

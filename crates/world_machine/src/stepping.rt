@@ -50,10 +50,10 @@ fn act_node(nodes: &mut Vec<WorldNode>, id: NodeId, act: NodeAct) -> Result<Effe
 fn act_client(
     clients: &mut Vec<WorldClient>,
     id: ClientId,
-    act: ClientAct,
+    act: ClientAct<'_>,
 ) -> Result<Effect, StepFault>
     ensures does { (w : ExactWorld) → w.clients ≡ map client_part clients.old.items → AreClients w.ballots clients.old.items →
-        Does (client_event id act) (step w (client_event id act)) w result (with_clients w (map client_part clients.new.items)) }
+        Does (client_event id act.entry) (step w (client_event id act.entry)) w result (with_clients w (map client_part clients.new.items)) }
     ensures order { (b : List BallotValue) → AreClients b clients.old.items → AreClients b clients.new.items }
 {
     let index = id.get() as usize - 1;
