@@ -5,35 +5,24 @@ ghost use Rattle.lock_messages.specs.declared.ids.TheConstants.{MAX_NODES, MAX_C
 ghost use Rattle.lock_model.specs.declared.problems.Problem.TheVariants.{First, Second};
 ghost use Rattle.operator_cli.specs.Outputs.{IsServed, Serves};
 ghost use Rattle.run_service.specs.Empty.{empty_node, empty_client};
-ghost use Rattle.run_service.specs.Outputs.{IsRun, ServesRun};
 ghost use Rattle.command_line.specs.CommandLine.{ServesFor, ExplainsCommand, status_of};
 
-use crate::following::Followed;
 use explanations::Explainer;
 use fault_numbers::meaning_of;
 use line_streams::write_text;
-use operator_cli::{Order, ServeFault, serve};
+use operator_cli::{Order, ServeFault, serve_watched};
 use program_ends::Ended;
 use run_service::{Supplies, serve_run};
 use std::alloc::Global;
 use std::io::{Read, Write};
 use std::sync::Wait;
 use std::thread::Threads;
-use world_settings::{Command, Policies};
+use world_settings::Command;
 
-/// No policies: where no lines are played.
-fn no_policies(alloc: Global) -> Policies {
-    Policies {
-        pairs: Vec::new(alloc),
-    }
-}
-
-/// Serves a script, a journal or ballots, and says what there is to say of them as they are read. The lines
-/// are played once more by the other policies.
-fn serve_followed<R: Read, W: Write, E: Write>(
+/// Serves a script, a journal or ballots, and says what there is to say of what they meet.
+fn serve_explained<R: Read, W: Write, E: Write>(
     alloc: Global,
     order: Order,
-    others: Policies,
     reader: R,
     output: &mut W,
     errors: &mut E,
@@ -44,36 +33,8 @@ where
     requires served { IsServed order.command }
     ensures { Serves order.command (R.remaining reader) (W.contents output.old) (W.contents output.new) result }
 {
-    let explainer = Explainer::new(alloc, order.command, others);
-    let followed = Followed::new(alloc, reader, explainer, errors);
-    serve(alloc, order, followed, output)
-}
-
-/// Runs the service, and says what there is to say of its settings as they are read. What is said of its end
-/// is added to the words.
-fn run_followed<T: Threads + Wait + Copy + Send, R: Read, W: Write, E: Write>(
-    rt: T,
-    alloc: Global,
-    order: Order,
-    supplies: Supplies,
-    reader: R,
-    output: &mut W,
-    errors: &mut E,
-    words: &mut Option<String>,
-) -> Result<u8, ServeFault>
-where
-    R: Drop,
-    requires run { IsRun order.command }
-    requires policies { length order.policies.pairs.items ≡ MAX_NODES }
-    requires threads { length supplies.policies.pairs.items ≡ MAX_NODES }
-    requires records_first { map (λ r. finds (r.vtable, r.value)) supplies.records.first.items ≡ replicate MAX_NODES (empty_node First) }
-    requires records_second { map (λ r. finds (r.vtable, r.value)) supplies.records.second.items ≡ replicate MAX_NODES (empty_node Second) }
-    requires records_clients { map (λ r. finds (r.vtable, r.value)) supplies.records.clients.items ≡ replicate MAX_CLIENTS empty_client }
-    ensures { ServesRun order.command (R.remaining reader) (W.contents output.old) (W.contents output.new) result }
-{
-    let explainer = Explainer::new(alloc, order.command, no_policies(alloc));
-    let followed = Followed::new(alloc, reader, explainer, errors);
-    serve_run(rt, alloc, order, followed, output, supplies, words)
+    let mut explainer = Explainer::new(alloc, order.command, errors);
+    serve_watched(alloc, order, reader, output, &mut explainer)
 }
 
 /// Serves a command, and says what there is to say of it.
@@ -97,12 +58,10 @@ where
     ensures { ServesFor order.command (R.remaining reader) (W.contents output.old) (W.contents output.new) result }
 {
     match order.command {
-        Command::Script => serve_followed(alloc, order, supplies.policies, reader, output, errors),
-        Command::Audit => serve_followed(alloc, order, supplies.policies, reader, output, errors),
-        Command::Ballot => serve_followed(alloc, order, supplies.policies, reader, output, errors),
-        Command::Run { .. } => run_followed(
-            rt, alloc, order, supplies, reader, output, errors, words,
-        ),
+        Command::Script => serve_explained(alloc, order, reader, output, errors),
+        Command::Audit => serve_explained(alloc, order, reader, output, errors),
+        Command::Ballot => serve_explained(alloc, order, reader, output, errors),
+        Command::Run { .. } => serve_run(rt, alloc, order, reader, output, supplies, words),
     }
 }
 

@@ -19,7 +19,6 @@
 
 mod ending;
 mod explaining;
-mod following;
 mod merging;
 mod numbers;
 mod records;

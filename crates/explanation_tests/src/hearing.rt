@@ -1,34 +1,93 @@
 // Hearing what is said of an input.
 
+ghost use Rattle.std.specs.Prelude.{IfSome};
+ghost use Rattle.operator_cli.specs.Outputs.{IsServed};
+
 use explanations::Explainer;
+use line_streams::{LineReader, MAX_READS};
 use lock_messages::MAX_NODES;
+use operator_cli::{AuditFault, Onlooker, Order, ServeFault, serve_watched};
 use std::alloc::Global;
+use std::io;
 use test_outcomes::{Failure, Outcome, check_row};
 use test_support::{SETTINGS, plain_pairs};
-use world_settings::{Command, Policies};
+use world_settings::{Command, Policies, SettingsFault, StartFault, read_start};
 
-/// An explainer of an input of this command.
-pub(crate) fn explainer(alloc: Global, command: Command) -> Result<Explainer, Failure> {
-    let pairs = plain_pairs(alloc, MAX_NODES)?;
-    Ok(Explainer::new(alloc, command, Policies { pairs }))
+/// The command, unless it is a run of all parts, which `serve_watched` doesn't take.
+fn served_by(command: Command) -> Option<Command>
+    ensures { IfSome result (λ c. IsServed c) }
+{
+    match command {
+        Command::Script => Some(Command::Script),
+        Command::Audit => Some(Command::Audit),
+        Command::Ballot => Some(Command::Ballot),
+        Command::Run { .. } => None,
+    }
 }
 
-/// What is said of an input of a command, which comes in pieces of this size.
-fn heard(alloc: Global, command: Command, input: &str, size: usize) -> Result<String, Failure> {
-    if size == 0 {
-        return Err(Failure::Wrong(0));
+/// Whether a command that answered so lacked memory.
+fn lacked_memory(came: Result<u8, ServeFault>) -> bool {
+    match came {
+        Ok(_) => false,
+        Err(ServeFault::Memory | ServeFault::Write) => true,
+        Err(ServeFault::Audit(AuditFault::Memory | AuditFault::Write)) => true,
+        Err(ServeFault::Read | ServeFault::Audit(_)) => false,
     }
-    let mut explainer = explainer(alloc, command)?;
-    let mut text = String::new(alloc);
-    for piece in input.as_bytes().chunks(size) {
-        explainer.see(&mut text, piece);
+}
+
+/// Shows why the settings of a run are refused, if they are: a run's lines are none.
+fn see_start<V: Onlooker>(
+    alloc: Global,
+    command: Command,
+    input: &str,
+    onlooker: &mut V,
+) -> Outcome {
+    let mut source = LineReader::new(input.as_bytes(), MAX_READS);
+    let mut head = Vec::new(alloc);
+    match read_start(alloc, command, &mut source, &mut head) {
+        Ok(start) => onlooker.see_settings(head.as_slice(), &start.settings),
+        Err(StartFault::Settings(SettingsFault::Memory)) => return Err(Failure::Memory),
+        Err(StartFault::Settings(fault)) => onlooker.see_refused(head.as_slice(), fault),
+        Err(StartFault::Read) => return Err(Failure::Wrong(0)),
     }
-    explainer.see_end(&mut text);
-    explainer.see_end(&mut text);
-    if explainer.fell_short() {
+    Ok(())
+}
+
+/// Serves a command with an input, and shows what is met.
+fn see_input<V: Onlooker>(
+    alloc: Global,
+    command: Command,
+    input: &str,
+    onlooker: &mut V,
+) -> Outcome {
+    let Some(command) = served_by(command) else {
+        return see_start(alloc, command, input, onlooker);
+    };
+    let pairs = plain_pairs(alloc, MAX_NODES)?;
+    let order = Order {
+        command,
+        policies: Policies { pairs },
+    };
+    let came = serve_watched(alloc, order, input.as_bytes(), &mut io::sink(), onlooker);
+    if lacked_memory(came) {
         return Err(Failure::Memory);
     }
-    Ok(text)
+    Ok(())
+}
+
+/// Room for all that is said of an input, since a writer that fails hears less.
+const ROOM: usize = 65_536;
+
+/// What is said of an input of a command.
+fn heard(alloc: Global, command: Command, input: &str) -> Result<Vec<u8>, Failure> {
+    let mut words = Vec::with_capacity(alloc, ROOM)?;
+    let mut explainer = Explainer::new(alloc, command, &mut words);
+    see_input(alloc, command, input, &mut explainer)?;
+    let fell_short = explainer.fell_short();
+    if fell_short || words.starts_with(b"settings fault 925".as_slice()) {
+        return Err(Failure::Memory);
+    }
+    Ok(words)
 }
 
 /// Hears what is said of an input, and compares it.
@@ -39,11 +98,8 @@ pub(crate) fn says(
     input: &str,
     words: &str,
 ) -> Outcome {
-    for size in [1, 7, 4_096] {
-        let text = heard(alloc, command, input, size)?;
-        check_row(text.as_str() == words, row)?;
-    }
-    Ok(())
+    let said = heard(alloc, command, input)?;
+    check_row(said.as_slice() == words.as_bytes(), row)
 }
 
 /// Hears what is said of lines behind good settings.

@@ -1,8 +1,7 @@
 // What is said at limits that no short input reaches.
 
-use crate::hearing::explainer;
-use test_outcomes::{Failure, Outcome, check_row};
-use test_support::SETTINGS;
+use crate::hearing::says_of_lines;
+use test_outcomes::Outcome;
 use world_settings::Command;
 
 /// How often a client asks in a row, and how many such rows fill the list of messages.
@@ -20,17 +19,10 @@ fn full_list(rt: HostRuntime) -> Outcome {
     for _ in 0..ROW {
         asks.push_str("sayto c1 n1\n")?;
     }
-    let mut explainer = explainer(rt.alloc(), Command::Script)?;
-    let mut text = String::new(rt.alloc());
-    explainer.see(&mut text, SETTINGS.as_bytes());
-    explainer.see(&mut text, b"begin c1 read a\ntry c1\nkept c1\n".as_slice());
+    let mut lines = String::from_str(rt.alloc(), "begin c1 read a\ntry c1\nkept c1\n")?;
     for _ in 0..ROWS {
-        explainer.see(&mut text, asks.as_bytes());
+        lines.push_str(asks.as_str())?;
     }
-    check_row(text.is_empty(), 0)?;
-    explainer.see(&mut text, b"sayto c1 n1\n".as_slice());
-    if explainer.fell_short() {
-        return Err(Failure::Memory);
-    }
-    check_row(text.as_str() == FULL_WORDS, 1)
+    lines.push_str("sayto c1 n1\n")?;
+    says_of_lines(rt.alloc(), 0, Command::Script, lines.as_str(), FULL_WORDS)
 }

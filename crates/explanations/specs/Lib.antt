@@ -1,3 +1,1 @@
 pub mod Faulty
-pub mod Remarks
-pub mod Laws

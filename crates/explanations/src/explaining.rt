@@ -1,181 +1,57 @@
-// What is said of an input, byte by byte.
+// What is said of an input, as a command meets it.
 
-ghost use Rattle.std.specs.Prelude.{◌≡◌};
+ghost use Rattle.std.specs.Prelude.{None};
 
 use crate::heads::push_settings_fault;
-use crate::plays::Play;
-use crate::remarks::Kind;
-use event_lines::MAX_LINE_LEN;
-use lock_messages::MAX_NODES;
+use crate::plays::{Kind, Play};
+use event_lines::{LineFault, Query};
+use line_streams::write_text;
+use operator_cli::{Onlooker, Watcher};
 use std::alloc::{AllocError, Global};
-use world_settings::{Command, Policies, SettingsFault, read_settings};
+use std::io::Write;
+use world_machine::World;
+use world_model::{Effect, Event, StepFault};
+use world_settings::{Command, Settings, SettingsFault};
 
-/// The line of dashes begins within this many bytes, as `world_settings` has it.
-const HEAD_ROOM: usize = 65_536;
-
-/// Says in words what a command meets in an input, as the bytes come.
+/// Says in words on a writer what a command meets in its input, as it meets it. A writer that fails hears less.
 #[derive(Drop)]
-pub struct Explainer {
+pub struct Explainer<'a, E> {
     alloc: Global,
     command: Command,
-    /// The settings so far, with their line feeds, and how many lines they have.
-    head: Vec<u8>,
-    head_lines: u64,
-    /// The line that has begun.
-    piece: Vec<u8>,
-    policies: Option<Policies>,
+    errors: &'a mut E,
+    /// What is to be said next.
+    text: String,
     /// The lines behind the settings, once these are read.
     play: Option<Play>,
-    is_over: bool,
     fell_short: bool,
 }
 
-impl Explainer {
-    /// An explainer of an input of this command. `script` and `audit` take sixteen pairs of policies; with
-    /// fewer nothing is said of lines.
-    pub fn new(alloc: Global, command: Command, policies: Policies) -> Explainer
-        requires { Unit {0} }
-    {
+/// What the lines of a command are, where it has any.
+fn kind_of(command: Command) -> Option<Kind> {
+    match command {
+        Command::Script => Some(Kind::Script),
+        Command::Audit => Some(Kind::Journal),
+        Command::Ballot | Command::Run { .. } => None,
+    }
+}
+
+/// How many lines the settings take, the line of dashes too.
+fn lines_of(head: &[u8]) -> u64 {
+    let feeds = head.iter().filter(|byte| **byte == b'\n').count();
+    (feeds as u64).saturating_add(1)
+}
+
+impl<'a, E: Write> Explainer<'a, E> {
+    /// An explainer of the input of this command, which says what there is to say on this writer.
+    pub fn new(alloc: Global, command: Command, errors: &'a mut E) -> Explainer<'a, E> {
         Explainer {
             alloc,
             command,
-            head: Vec::new(alloc),
-            head_lines: 0,
-            piece: Vec::new(alloc),
-            policies: Some(policies),
+            errors,
+            text: String::new(alloc),
             play: None,
-            is_over: false,
             fell_short: false,
         }
-    }
-
-    /// Says that there is no line of dashes where it has to be.
-    fn tell_no_end(&self, text: &mut String) -> Result<bool, AllocError> {
-        let head = self.head.as_slice();
-        push_settings_fault(self.alloc, text, self.command, head, SettingsFault::NoEnd)?;
-        Ok(false)
-    }
-
-    /// Begins with the lines behind the settings; answers whether anything is said of them.
-    fn begin(&mut self, text: &mut String) -> Result<bool, AllocError>
-        requires { Unit {0} }
-    {
-        let head = self.head.as_slice();
-        let start = match read_settings(self.alloc, self.command, head) {
-            Ok(start) => start,
-            Err(SettingsFault::Memory) => return Err(AllocError),
-            Err(fault) => {
-                push_settings_fault(self.alloc, text, self.command, head, fault)?;
-                return Ok(false);
-            }
-        };
-        let kind = match self.command {
-            Command::Script => Kind::Script,
-            Command::Audit => Kind::Journal,
-            Command::Ballot | Command::Run { .. } => return Ok(false),
-        };
-        let Some(policies) = self.policies.take() else {
-            return Ok(false);
-        };
-        if policies.pairs.len() != MAX_NODES as usize {
-            return Ok(false);
-        }
-        let before = self.head_lines;
-        let settings = start.settings;
-        self.play = Some(Play::new(self.alloc, kind, settings, policies, before)?);
-        Ok(true)
-    }
-
-    /// Takes a line of the settings.
-    fn end_head_line(&mut self, text: &mut String) -> Result<bool, AllocError>
-        requires { Unit {0} }
-    {
-        self.head_lines = self.head_lines.saturating_add(1);
-        if self.piece.as_slice() == b"---".as_slice() {
-            return self.begin(text);
-        }
-        self.head.extend_from_slice(self.piece.as_slice())?;
-        self.head.push(b'\n')?;
-        if self.head.len() < HEAD_ROOM {
-            return Ok(true);
-        }
-        self.tell_no_end(text)
-    }
-
-    /// Takes the line that has come to its end.
-    fn end_line(&mut self, text: &mut String) -> Result<bool, AllocError>
-        requires { Unit {0} }
-    {
-        match &mut self.play {
-            Some(play) => play.take_line(text, self.piece.as_slice()),
-            None => self.end_head_line(text),
-        }
-    }
-
-    /// The most bytes of a line that are of any account.
-    fn limit(&self) -> usize {
-        match self.play {
-            Some(_) => MAX_LINE_LEN,
-            None => HEAD_ROOM,
-        }
-    }
-
-    /// Takes a byte; answers whether anything is to be said of those behind it.
-    fn take(&mut self, text: &mut String, byte: u8) -> Result<bool, AllocError>
-        requires { Unit {0} }
-    {
-        if byte == b'\n' {
-            let goes_on = self.end_line(text)?;
-            self.piece.clear();
-            return Ok(goes_on);
-        }
-        self.piece.push(byte)?;
-        if self.piece.len() <= self.limit() {
-            return Ok(true);
-        }
-        match self.play {
-            Some(_) => self.end_line(text),
-            None => self.tell_no_end(text),
-        }
-    }
-
-    /// Takes the end of the input: a last line has no line feed.
-    fn take_end(&mut self, text: &mut String) -> Result<(), AllocError>
-        requires { Unit {0} }
-    {
-        let is_head = self.play.is_none();
-        if is_head && self.piece.as_slice() != b"---".as_slice() {
-            self.head.extend_from_slice(self.piece.as_slice())?;
-            self.tell_no_end(text)?;
-            return Ok(());
-        }
-        let goes_on = self.piece.is_empty() || self.end_line(text)?;
-        match &self.play {
-            Some(play) if goes_on => play.end(text),
-            _ => Ok(()),
-        }
-    }
-
-    /// Takes the next bytes of the input, and adds what is to be said of the lines that they end. Where
-    /// memory is refused nothing more is said.
-    pub fn see(&mut self, text: &mut String, bytes: &[u8])
-        requires { Unit {0} }
-    {
-        for byte in bytes {
-            if self.is_over {
-                return;
-            }
-            match self.take(text, *byte) {
-                Ok(goes_on) => self.is_over = !goes_on,
-                Err(_) => self.fall_short(),
-            }
-        }
-    }
-
-    /// Says nothing more, for want of memory.
-    fn fall_short(&mut self) {
-        self.is_over = true;
-        self.fell_short = true;
     }
 
     /// Whether memory was refused, so that words may be missing.
@@ -183,17 +59,65 @@ impl Explainer {
         self.fell_short
     }
 
-    /// Takes the end of the input, and adds what is to be said of its last line and of the whole. A second
-    /// end says nothing.
-    pub fn see_end(&mut self, text: &mut String)
-        requires { Unit {0} }
-    {
-        if self.is_over {
-            return;
+    /// Says what was added to the text, and after want of memory nothing more of lines.
+    fn say(&mut self, added: Result<(), AllocError>) {
+        let _unheard = write_text(self.errors, self.text.as_bytes());
+        self.text.clear();
+        if added.is_err() {
+            self.play = None;
+            self.fell_short = true;
         }
-        self.is_over = true;
-        if self.take_end(text).is_err() {
-            self.fall_short();
+    }
+}
+
+impl<E: Write> Watcher for Explainer<'_, E> {
+    ghost heard = { λ _. None };
+
+    fn see_event(&mut self, world: &World, event: &Event, came: &Result<Effect, StepFault>) {
+        if let Some(play) = &mut self.play {
+            let added = play.take_event(&mut self.text, world, event, came);
+            self.say(added);
+        }
+    }
+
+    fn see_query(&mut self, query: &Query, came: Result<(), StepFault>) {
+        if let Some(play) = &mut self.play {
+            let added = play.take_query(&mut self.text, query, came);
+            self.say(added);
+        }
+    }
+
+    fn see_bad(&mut self, line: &[u8], fault: LineFault) {
+        if let Some(play) = &mut self.play {
+            let added = play.take_bad(&mut self.text, line, fault);
+            self.say(added);
+        }
+    }
+
+    fn see_end(&mut self, lines: u32) {
+        if self.play.is_some() {
+            let added = writeln!(
+                self.text,
+                "sound {lines}: all lines are events that can follow each other"
+            );
+            self.say(added);
+        }
+    }
+}
+
+impl<E: Write> Onlooker for Explainer<'_, E> {
+    fn see_refused(&mut self, head: &[u8], fault: SettingsFault) {
+        let added = push_settings_fault(self.alloc, &mut self.text, self.command, head, fault);
+        self.say(added);
+    }
+
+    fn see_settings(&mut self, head: &[u8], settings: &Settings) {
+        let Some(kind) = kind_of(self.command) else {
+            return;
+        };
+        match Play::new(self.alloc, kind, settings, lines_of(head)) {
+            Ok(play) => self.play = Some(play),
+            Err(_) => self.fell_short = true,
         }
     }
 }

@@ -1,22 +1,16 @@
 // The lines behind the settings, and what is said of each.
 
-ghost use Rattle.std.specs.Prelude.{◌≡◌, ◌≤◌, length};
-ghost use Rattle.lock_messages.specs.declared.ids.TheConstants.{MAX_NODES, MAX_CLIENTS};
-
 use crate::refusals::{Scene, push_no_node, push_refusal};
-use crate::remarks::{Kind, Remark, begins_query, goes_on, remark_on};
 use crate::stages::Stages;
 use crate::wrong_words::push_wrong_line;
-use event_lines::{Line, LineFault, write_line};
+use event_lines::{Line, LineFault, Query, write_line};
 use fault_numbers::meaning_of;
-use journal_audit::MAX_LINES;
-use lock_messages::{Actor, ClientId, NodeId};
-use operator_cli::ServeFault;
 use std::alloc::{AllocError, Global};
 use std::str;
+use vote_weights::BallotList;
 use world_machine::World;
-use world_model::{Age, Event, StepFault};
-use world_settings::{Policies, Settings, world_down};
+use world_model::{Effect, Event, StepFault};
+use world_settings::Settings;
 
 /// What is said if a line of a journal begins as a query does.
 const QUERY_HINT: &str =
@@ -25,52 +19,37 @@ const QUERY_HINT: &str =
 /// What is said if the words of a line have more than one space between them.
 const SPACE_HINT: &str = "hint: words are separated by exactly one space\n";
 
-/// Lines that are played once more, beside the command that serves them: they have a world of their own.
+/// What the lines behind the settings are.
+#[derive(Clone, Copy, PartialEq, Eq)]
+pub(crate) enum Kind {
+    /// A script: all are up at first, and a refused line is not the last.
+    Script,
+    /// A journal: all are down at first, and the first line that doesn't go on is the last.
+    Journal,
+}
+
+/// What is known of lines as they are judged or done, so that it can be said why one is refused.
 #[derive(Drop)]
 pub(crate) struct Play {
     alloc: Global,
     kind: Kind,
-    settings: Settings,
-    world: World,
+    ballots: BallotList,
     stages: Stages,
     /// How many lines of the input stand before the first of these.
     before: u64,
-    /// How many of these were read.
+    /// How many of these have come.
     read: u64,
 }
 
-/// Raises an actor.
-fn raise(world: &mut World, actor: Actor) -> Result<(), AllocError>
-    requires { Unit {0} }
-{
-    match world.step(&Event::Rise(actor, Age::Old)) {
-        Err(StepFault::Memory) => Err(AllocError),
-        _ => Ok(()),
+/// Whether the line begins with the word of a query.
+fn begins_query(line: &[u8]) -> bool {
+    let Ok(text) = str::from_utf8(line) else {
+        return false;
+    };
+    match text.split(' ').next() {
+        Some(word) => word == "inside" || word == "waiting" || word == "holding",
+        None => false,
     }
-}
-
-/// Raises all nodes.
-fn raise_nodes(world: &mut World, nodes: u8) -> Result<(), AllocError>
-    requires { Unit {0} }
-{
-    for number in 1..nodes.saturating_add(1) {
-        if let Some(id) = NodeId::of(number) {
-            raise(world, Actor::Node(id))?;
-        }
-    }
-    Ok(())
-}
-
-/// Raises all clients.
-fn raise_clients(world: &mut World, clients: u16) -> Result<(), AllocError>
-    requires { Unit {0} }
-{
-    for number in 1..u32::from(clients) + 1 {
-        if let Some(id) = ClientId::of(number) {
-            raise(world, Actor::Client(id))?;
-        }
-    }
-    Ok(())
 }
 
 /// Adds that a line of this kind is blank.
@@ -130,69 +109,46 @@ fn push_line_hint(text: &mut String, kind: Kind, line: &[u8]) -> Result<(), Allo
 }
 
 impl Play {
-    /// Lines of this kind, behind so many lines of the input. The caller owes settings in range and sixteen
-    /// pairs of policies.
+    /// Lines of this kind from the world of these settings, behind so many lines of the input.
     pub(crate) fn new(
         alloc: Global,
         kind: Kind,
-        settings: Settings,
-        policies: Policies,
+        settings: &Settings,
         before: u64,
-    ) -> Result<Play, AllocError>
-        requires some_client { 1 ≤ settings.clients }
-        requires few_clients { settings.clients ≤ MAX_CLIENTS }
-        requires policies { length policies.pairs.items ≡ MAX_NODES }
-    {
-        let Ok(mut world) = world_down(alloc, &settings, policies) else {
-            return Err(AllocError);
-        };
-        let nodes = settings.ballots.nodes();
-        if kind == Kind::Script {
-            raise_nodes(&mut world, nodes)?;
-            raise_clients(&mut world, settings.clients)?;
-        }
-        let stages = Stages::of(alloc, nodes, settings.clients, kind == Kind::Script)?;
+    ) -> Result<Play, AllocError> {
+        let ballots = settings.ballots;
+        let are_up = kind == Kind::Script;
+        let stages = Stages::of(alloc, ballots.nodes(), settings.clients, are_up)?;
         Ok(Play {
             alloc,
             kind,
-            settings,
-            world,
+            ballots,
             stages,
             before,
             read: 0,
         })
     }
 
-    /// The number of the last line that was read, among all lines of the input.
+    /// Counts a line that has come.
+    fn count(&mut self) {
+        self.read = self.read.saturating_add(1);
+    }
+
+    /// The number of the last line that has come, among all lines of the input.
     fn line_of_input(&self) -> u64 {
         self.before.saturating_add(self.read)
     }
 
-    /// Adds that a line is refused, and why.
-    fn push_refused(
-        &self,
-        text: &mut String,
-        line: &Line,
-        fault: StepFault,
-    ) -> Result<(), AllocError> {
+    /// Begins to say that a line is refused.
+    fn push_front(&self, text: &mut String, fault: StepFault) -> Result<(), AllocError> {
         let (number, place) = (fault.number(), self.line_of_input());
-        let said = write_line(self.alloc, line)?;
-        write!(text, "input line {place}: refused {number}: ")?;
-        self.push_why(text, line, fault)?;
-        writeln!(text, " ({said})")
+        write!(text, "input line {place}: refused {number}: ")
     }
 
-    /// Adds why a line is refused.
-    fn push_why(&self, text: &mut String, line: &Line, fault: StepFault) -> Result<(), AllocError> {
-        let scene = Scene {
-            world: &self.world,
-            stages: &self.stages,
-            ballots: &self.settings.ballots,
-        };
-        match line {
-            Line::Event(event) => push_refusal(text, scene, event, fault),
-            Line::Query(_) => push_no_node(text, &self.stages),
-        }
+    /// Ends what is said of a line that is refused: with the line.
+    fn push_back(&self, text: &mut String, line: &Line) -> Result<(), AllocError> {
+        let said = write_line(self.alloc, line)?;
+        writeln!(text, " ({said})")
     }
 
     /// Adds a hint where the first line shows that the other command is meant.
@@ -208,13 +164,73 @@ impl Play {
         }
     }
 
-    /// Says that a line is no event and, in a script, no query.
-    fn tell_fault(
+    /// Says that an event is refused in this world, and why.
+    fn tell_refused(
         &self,
+        text: &mut String,
+        world: &World,
+        event: &Event,
+        fault: StepFault,
+    ) -> Result<(), AllocError> {
+        let scene = Scene {
+            world,
+            stages: &self.stages,
+            ballots: &self.ballots,
+        };
+        self.push_front(text, fault)?;
+        push_refusal(text, scene, event, fault)?;
+        self.push_back(text, &Line::Event(*event))?;
+        self.push_other_command(text, fault)
+    }
+
+    /// Takes what came of an event, and says why where it is refused. The only error is want of memory, the
+    /// event's own too.
+    pub(crate) fn take_event(
+        &mut self,
+        text: &mut String,
+        world: &World,
+        event: &Event,
+        came: &Result<Effect, StepFault>,
+    ) -> Result<(), AllocError> {
+        self.count();
+        match came {
+            Ok(effect) => {
+                self.stages.follow(event, effect);
+                Ok(())
+            }
+            Err(StepFault::Memory) => Err(AllocError),
+            Err(fault) => self.tell_refused(text, world, event, *fault),
+        }
+    }
+
+    /// Takes what came of a query, and says why where it is refused. The only error is want of memory, the
+    /// query's own too.
+    pub(crate) fn take_query(
+        &mut self,
+        text: &mut String,
+        query: &Query,
+        came: Result<(), StepFault>,
+    ) -> Result<(), AllocError> {
+        self.count();
+        match came {
+            Ok(()) => Ok(()),
+            Err(StepFault::Memory) => Err(AllocError),
+            Err(fault) => {
+                self.push_front(text, fault)?;
+                push_no_node(text, &self.stages)?;
+                self.push_back(text, &Line::Query(*query))
+            }
+        }
+    }
+
+    /// Takes a line that is no event and, in a script, no query, and says what is wrong with it.
+    pub(crate) fn take_bad(
+        &mut self,
         text: &mut String,
         line: &[u8],
         fault: LineFault,
     ) -> Result<(), AllocError> {
+        self.count();
         let (number, place) = (fault.number(), self.line_of_input());
         write!(text, "input line {place}: fault {number}: ")?;
         push_line_fault(self.alloc, text, self.kind, line, fault)?;
@@ -223,58 +239,5 @@ impl Play {
             return text.push_str(QUERY_HINT);
         }
         push_line_hint(text, self.kind, line)
-    }
-
-    /// Says that a line is refused.
-    fn tell_refused(
-        &self,
-        text: &mut String,
-        line: &Line,
-        fault: StepFault,
-    ) -> Result<(), AllocError> {
-        self.push_refused(text, line, fault)?;
-        self.push_other_command(text, fault)
-    }
-
-    /// Says what there is to say of a line.
-    fn tell(&self, text: &mut String, line: &[u8], remark: &Remark) -> Result<(), AllocError> {
-        match remark {
-            Remark::Nothing => Ok(()),
-            Remark::Refused(said, fault) => self.tell_refused(text, said, *fault),
-            Remark::Bad(fault) => self.tell_fault(text, line, *fault),
-        }
-    }
-
-    /// Says what there is to say of a line, and answers whether the lines go on.
-    fn answer(&self, text: &mut String, line: &[u8], remark: &Remark) -> Result<bool, AllocError> {
-        self.tell(text, line, remark)?;
-        Ok(goes_on(self.kind, remark))
-    }
-
-    /// Takes a line, given without its line feed, and says what is wrong with it; answers whether the lines
-    /// go on.
-    pub(crate) fn take_line(&mut self, text: &mut String, line: &[u8]) -> Result<bool, AllocError>
-        requires { Unit {0} }
-    {
-        if self.kind == Kind::Journal && self.read >= u64::from(MAX_LINES) {
-            return Ok(false);
-        }
-        self.read = self.read.saturating_add(1);
-        match remark_on(self.kind, &mut self.world, &mut self.stages, line) {
-            Ok(remark) => self.answer(text, line, &remark),
-            Err(error) => Err(error),
-        }
-    }
-
-    /// Says the verdict on a journal whose lines have all been taken.
-    pub(crate) fn end(&self, text: &mut String) -> Result<(), AllocError> {
-        let read = self.read;
-        match self.kind {
-            Kind::Script => Ok(()),
-            Kind::Journal => writeln!(
-                text,
-                "sound {read}: all lines are events that can follow each other"
-            ),
-        }
     }
 }

@@ -4,3 +4,4 @@ pub mod LineFacts
 pub mod JudgeFacts
 pub mod LeftFacts
 pub mod AuditFacts
+pub mod HearFacts

@@ -3,3 +3,4 @@ pub mod Verdicts
 pub mod Audits
 pub mod Leavings
 pub mod Judging
+pub mod Hearing

@@ -2,17 +2,28 @@
 
 ghost use Rattle.std.specs.Prelude.{◌≡◌};
 ghost use Rattle.journal_audit.specs.Audits.{Audits};
+ghost use Rattle.journal_audit.specs.Hearing.{Hears, end_words, with_words};
 ghost use Rattle.journal_audit.specs.Leavings.{Leaves};
 ghost use Rattle.journal_audit.specs.Verdicts.{Finds};
 
 use crate::judging::judge_lines;
 use crate::telling::tell_verdict;
-use crate::{AuditFault, Verdict};
+use crate::{AuditFault, Unwatched, Verdict, Watcher};
 use event_lines::laws::events_are_spelled_once;
 use line_streams::{LineReader, MAX_READS};
 use std::alloc::Global;
 use std::io::{Read, Write};
 use world_machine::World;
+
+/// Shows the end of a sound journal.
+fn show_end<V: Watcher>(verdict: Verdict, watcher: &mut V)
+    ensures { V.heard watcher.new ≡ with_words (end_words verdict) (V.heard watcher.old) }
+{
+    match verdict {
+        Verdict::Sound(lines) => watcher.see_end(lines),
+        Verdict::Unsound(_, _) => {}
+    }
+}
 
 /// Judges the lines that are left of an input, as `audit` does; the reads that were made before count
 /// with those that it makes. Of the input it takes the lines up to the one that its verdict speaks of, and
@@ -22,6 +33,40 @@ use world_machine::World;
 /// all; or this is so, and more of the input is left; or one more line was taken whole, and it goes on with the
 /// run: it is an event that asks for memory, and its step would be taken. So no line that was taken whole is
 /// unsound then.
+///
+/// The watcher hears what each line came to, in order, and of a sound journal how many they are. What is answered,
+/// written and left doesn't depend on it.
+///
+/// # Errors
+///
+/// Those of `audit`.
+pub fn audit_watched<R: Read, W: Write, V: Watcher>(
+    alloc: Global,
+    world: World,
+    source: &mut LineReader<R>,
+    writer: &mut W,
+    watcher: &mut V,
+) -> Result<Verdict, AuditFault>
+    requires { Unit {0} }
+    ensures verdict { Finds world source.old result }
+    ensures told { Audits world source.old (W.contents writer.old) (W.contents writer.new) result }
+    ensures left { Leaves world source.old source.new result }
+    ensures heard { Hears world source.old (V.heard watcher.old) (V.heard watcher.new) result }
+{
+    events_are_spelled_once();
+    let mut world = world;
+    let verdict = match judge_lines(alloc, &mut world, source, watcher) {
+        Ok(verdict) => verdict,
+        Err(fault) => return Err(fault),
+    };
+    show_end(verdict, watcher);
+    match tell_verdict(verdict, writer) {
+        Ok(()) => Ok(verdict),
+        Err(fault) => Err(fault),
+    }
+}
+
+/// Judges the lines that are left of an input, as `audit_watched` does where nobody looks on.
 ///
 /// # Errors
 ///
@@ -37,16 +82,7 @@ pub fn audit_lines<R: Read, W: Write>(
     ensures told { Audits world source.old (W.contents writer.old) (W.contents writer.new) result }
     ensures left { Leaves world source.old source.new result }
 {
-    events_are_spelled_once();
-    let mut world = world;
-    let verdict = match judge_lines(alloc, &mut world, source) {
-        Ok(verdict) => verdict,
-        Err(fault) => return Err(fault),
-    };
-    match tell_verdict(verdict, writer) {
-        Ok(()) => Ok(verdict),
-        Err(fault) => Err(fault),
-    }
+    audit_watched(alloc, world, source, writer, &mut Unwatched)
 }
 
 /// Judges a journal: whether its lines are events that are a run from the world.

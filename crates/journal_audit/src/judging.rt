@@ -3,11 +3,12 @@
 ghost use Rattle.std.specs.Prelude.{◌≡◌, ◌≢◌, [], IfOk, IfErr, OnErr};
 ghost use Rattle.event_lines.specs.declared.words.TheConstants.{MAX_LINE_LEN};
 ghost use Rattle.line_streams.specs.Streams.{ReadsPiece, TakesLine, FitsLimit, HasMore};
+ghost use Rattle.journal_audit.specs.Hearing.{HearsLines};
 ghost use Rattle.journal_audit.specs.Judging.{CutsShort, EndsLines, TakesLast};
 ghost use Rattle.journal_audit.specs.Leavings.{Leaves};
 ghost use Rattle.journal_audit.specs.Verdicts.{Finds};
 
-use crate::{AuditFault, Cause, MAX_LINES, Verdict};
+use crate::{AuditFault, Cause, MAX_LINES, Verdict, Watcher};
 use event_lines::laws::events_are_spelled_once;
 use event_lines::{MAX_LINE_LEN, read_event};
 use line_streams::{End, LineReader, StreamFault};
@@ -84,16 +85,19 @@ pub fn end_lines<R: Read>(
 
 /// Takes the lines in the world, up to the end or to the first that is no event or is refused. A fault
 /// is `Read`, `Memory` or `TooManyLines`, and comes before an unsound line: `Read` while a line is read,
-/// `Memory` before the first one, while one is read, or for a step that would be taken.
-pub fn judge_lines<R: Read>(
+/// `Memory` before the first one, while one is read, or for a step that would be taken. The watcher hears what
+/// each line came to.
+pub fn judge_lines<R: Read, V: Watcher>(
     alloc: Global,
     world: &mut World,
     source: &mut LineReader<R>,
+    watcher: &mut V,
 ) -> Result<Verdict, AuditFault>
     requires { Unit {0} }
     ensures found { Finds world.old source.old result }
     ensures fault { IfErr result (λ e. e ≢ AuditFault.Write) }
     ensures left { Leaves world.old source.old source.new result }
+    ensures heard { HearsLines world.old source.old (V.heard watcher.old) (V.heard watcher.new) result }
 {
     events_are_spelled_once();
     steps_change_one_part();
@@ -111,10 +115,17 @@ pub fn judge_lines<R: Read>(
         }
         let event = match read_event(line) {
             Ok(event) => event,
-            Err(fault) => return Ok(Verdict::Unsound(taken + 1, Cause::Line(fault))),
+            Err(fault) => {
+                watcher.see_bad(line, fault);
+                return Ok(Verdict::Unsound(taken + 1, Cause::Line(fault)));
+            }
         };
-        if let Err(fault) = world.step(&event) {
-            return refused(taken + 1, fault);
+        match world.step(&event) {
+            Ok(effect) => watcher.see_event(world, &event, &Ok(effect)),
+            Err(fault) => {
+                watcher.see_event(world, &event, &Err(fault));
+                return refused(taken + 1, fault);
+            }
         }
         if end.is_last() {
             return Ok(Verdict::Sound(taken + 1));

@@ -13,7 +13,8 @@
 //!
 //! Whoever takes a journal's lines on its own way has the pieces: `read_piece` reads a line as an audit
 //! does, `refused` says what is found where the world refuses it, `end_lines` where there may be no more,
-//! and `tell_verdict` writes the verdict's line. `Judging` in `specs/` has their words.
+//! and `tell_verdict` writes the verdict's line. `Judging` in `specs/` has their words. Whoever wants to know what
+//! each line came to is a `Watcher`.
 //!
 //! It stands on `event_lines` for lines, `line_streams`, `world_machine`, `world_model`, `itoa`,
 //! `arrayvec` and `thiserror`.
@@ -25,9 +26,11 @@ mod judging;
 pub mod laws;
 mod telling;
 mod verdicts;
+mod watching;
 
-pub use auditing::{audit, audit_lines};
+pub use auditing::{audit, audit_lines, audit_watched};
 pub use faults::AuditFault;
 pub use judging::{end_lines, read_piece, refused};
 pub use telling::tell_verdict;
 pub use verdicts::{Cause, MAX_LINES, Verdict};
+pub use watching::{Unwatched, Watcher};

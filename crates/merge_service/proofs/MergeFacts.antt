@@ -1,6 +1,5 @@
 -- From what is found of journals to what is written.
-use Rattle.std.proofs.Common.{◌≡◌, inl, inr, ℕ, Bool, true, false, Vec, List, ◌++◌, Option, Some, None, Result, Ok, Err, codes, ap, sym, subst, ◌∙◌, append_assoc}
-use Rattle.std.specs.Global.{Global}
+use Rattle.std.proofs.Common.{◌≡◌, inl, inr, ℕ, Bool, true, false, List, ◌++◌, Option, Some, None, Result, Ok, Err, codes, ap, sym, subst, ◌∙◌, append_assoc}
 use Rattle.std.specs.Io.KnownBytes.{Appends}
 use Rattle.std.proofs.KnownBytes.{Appends-trans}
 use Rattle.world_model.specs.declared.exact.ExactWorld.{ExactWorld}
@@ -89,11 +88,11 @@ settings_refused judged head settings.Memory pending old new r h p = inr p
 abbrev Parts : Type 0
 Parts = Result (List ℕ × List (List ℕ)) SettingsFault
 
-pub serves : (judged : Bool) (input left old new : Out) (pending : List Pending) (head : Vec ℕ Global) (text : List ℕ) (r : Came) → FindsHead input left (Ok head) → text ≡ head.items → MergesHead judged text pending old new r → ServesMerge judged input pending old new r
-serves judged None left old new pending head text r h same p = tt
-serves judged (Some xs) None old new pending head text r h same p = absurd h
-serves judged (Some xs) (Some ys) old new pending head text r h same p =
-    let q : MergesHead judged head.items pending old new r = subst (λ (t : List ℕ). MergesHead judged t pending old new r) same p in
+pub serves : (judged : Bool) (input left old new : Out) (pending : List Pending) (head text : List ℕ) (a : Unit {0}) (r : Came) → FindsHead input left head (Ok a) → text ≡ head → MergesHead judged text pending old new r → ServesMerge judged input pending old new r
+serves judged None left old new pending head text a r h same p = tt
+serves judged (Some xs) None old new pending head text a r h same p = absurd h
+serves judged (Some xs) (Some ys) old new pending head text a r h same p =
+    let q : MergesHead judged head pending old new r = subst (λ (t : List ℕ). MergesHead judged t pending old new r) same p in
     inl (subst (λ (o : Parts). MergesBehind judged o pending old new r) (sym h) q)
 
 head_refused : (judged : Bool) (xs : List ℕ) (e : SettingsFault) (pending : List Pending) (old new : Out) (r : Came) → Refuses e (head_of (pieces xs)) → RefusesSettings e old new r → ServesMerge judged (Some xs) pending old new r
@@ -106,11 +105,11 @@ head_refused judged xs (settings.Weather f) pending old new r h p = inl (subst (
 head_refused judged xs (settings.Wish f) pending old new r h p = inl (subst (λ (o : Parts). MergesBehind judged o pending old new r) (sym h) p)
 head_refused judged xs settings.Memory pending old new r h p = inr (inl p)
 
-pub not_started : (judged : Bool) (input left old new : Out) (pending : List Pending) (f : StartFault) (came : Result ℕ ServeFault) (r : Came) → FindsHead input left (Err f) → RefusesStart command.Audit f old new came → r ≡ refused_of came
+pub not_started : (judged : Bool) (input left old new : Out) (pending : List Pending) (head : List ℕ) (f : StartFault) (came : Result ℕ ServeFault) (r : Came) → FindsHead {A = Unit {0}} input left head (Err f) → RefusesStart command.Audit f old new came → r ≡ refused_of came
     → ServesMerge judged input pending old new r
-not_started judged None left old new pending f came r h p is = tt
-not_started judged (Some xs) left old new pending start.Read came r h p is = inr (inr (subst (λ (c : Result ℕ ServeFault). r ≡ refused_of c) p.0 is, p.1))
-not_started judged (Some xs) left old new pending (start.Settings e) came r h p is = head_refused judged xs e pending old new r h (came, is, p)
+not_started judged None left old new pending head f came r h p is = tt
+not_started judged (Some xs) left old new pending head start.Read came r h p is = inr (inr (subst (λ (c : Result ℕ ServeFault). r ≡ refused_of c) p.0 is, p.1))
+not_started judged (Some xs) left old new pending head (start.Settings e) came r h p is = head_refused judged xs e pending old new r h (came, is, p)
 
 -- no memory to begin with
 pub no_room : (judged : Bool) (input old new : Out) (pending : List Pending) (came : Result ℕ ServeFault) (r : Came) → Prints (refusal_output settings.Memory) old new came → r ≡ refused_of came → ServesMerge judged input pending old new r

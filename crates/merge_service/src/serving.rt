@@ -158,10 +158,11 @@ fn merge_source<J: Read, R: Read, W: Write>(
     requires { length policies.pairs.items ≡ MAX_NODES }
     ensures { ServesMerge judged source.old journals.old (W.contents writer.old) (W.contents writer.new) result }
 {
-    let head = match read_head(alloc, source) {
-        Ok(head) => head,
+    let mut head = Vec::new(alloc);
+    match read_head(alloc, source, &mut head) {
+        Ok(()) => {}
         Err(fault) => return refused(refuse_start(Command::Audit, fault, writer)),
-    };
+    }
     merge_head(alloc, judged, head.as_slice(), policies, journals, writer)
 }
 

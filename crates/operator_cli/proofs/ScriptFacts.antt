@@ -55,17 +55,17 @@ says_kept piece line Input k = ap line_of k
 says_kept piece line Limit k = too_long line k.1 ∙ sym (too_long piece k.0)
 
 -- a line comes that says this, and what is behind it
-abbrev LineComes : List (List ℕ) → Result Line LineFault → End → Option (List ℕ) → Type 0
+abbrev pub LineComes : List (List ℕ) → Result Line LineFault → End → Option (List ℕ) → Type 0
 LineComes lines says end new = (l : List ℕ) × (more : List (List ℕ)) × (lines ≡ l ∷ more) × (line_of l ≡ says) × Behind end new more
 
-line_comes : (ys : List ℕ) (new : Option (List ℕ)) (piece : List ℕ) (end : End) (says : Result Line LineFault)
+pub line_comes : (ys : List ℕ) (new : Option (List ℕ)) (piece : List ℕ) (end : End) (says : Result Line LineFault)
     → EndsPiece MAX_LINE_LEN ys new piece end → ends_no_line end piece ≡ false → line_of piece ≡ says → LineComes (lines_in (pieces ys)) says end new
 line_comes ys new piece end says r some e =
     let (l, more, cut, kept, behind) = next_line MAX_LINE_LEN ys new piece end r some in
     (l, more, cut, says_kept piece l end kept ∙ e, behind)
 
 -- a line that is too long is bad
-never_long : (ys : List ℕ) (new : Option (List ℕ)) (piece : List ℕ) (x : Line) → EndsPiece MAX_LINE_LEN ys new piece Limit → line_of piece ≡ Ok x → ⊥
+pub never_long : (ys : List ℕ) (new : Option (List ℕ)) (piece : List ℕ) (x : Line) → EndsPiece MAX_LINE_LEN ys new piece Limit → line_of piece ≡ Ok x → ⊥
 never_long ys new piece x r e = let (rest, more, cut, long) = r in let clash : Err bad.Words ≡ Ok x = sym (too_long piece long) ∙ e in cc
 
 -- Putting outputs together.

@@ -4,3 +4,4 @@ pub mod Openings
 pub mod Texts
 pub mod Outputs
 pub mod PartOutputs
+pub mod Hearing

@@ -21,6 +21,7 @@
 mod answers;
 mod faults;
 mod lines;
+mod looking;
 mod orders;
 mod raising;
 mod script;
@@ -29,7 +30,8 @@ mod texts;
 
 pub use event_lines::LineFault;
 pub use faults::ServeFault;
-pub use journal_audit::AuditFault;
+pub use journal_audit::{AuditFault, Unwatched, Watcher};
 pub use lines::read_line;
+pub use looking::Onlooker;
 pub use orders::Order;
-pub use serving::{refuse_start, serve};
+pub use serving::{refuse_start, serve, serve_watched};

@@ -1,10 +1,12 @@
 // The lines of a script, one after another.
 
-ghost use Rattle.std.specs.Prelude.{◌≡◌, ◌||◌, IfOk, IfErr};
+ghost use Rattle.std.specs.Prelude.{◌≡◌, ◌∷◌, [], ◌||◌, IfOk, IfErr, OnOk};
 ghost use Rattle.std.specs.Io.KnownBytes.{Keeps};
 ghost use Rattle.line_streams.specs.Streams.{ReadsPiece, Grows, with_gathered, Puts};
 ghost use Rattle.event_lines.specs.Faults.{line_fault_number};
 ghost use Rattle.event_lines.specs.declared.words.TheConstants.{MAX_LINE_LEN};
+ghost use Rattle.journal_audit.specs.Hearing.{with_words};
+ghost use Rattle.operator_cli.specs.Hearing.{word_of, script_words, HearsAs};
 ghost use Rattle.operator_cli.specs.Outputs.{Writes, IsCommonFault, told};
 ghost use Rattle.operator_cli.specs.PartOutputs.{WritesAnswer, WritesLines, status_of};
 ghost use Rattle.operator_cli.specs.Texts.{line_fault_text};
@@ -14,6 +16,7 @@ use crate::lines::read_line;
 use crate::texts::push_line_fault;
 use crate::{LineFault, ServeFault};
 use event_lines::{Line, MAX_LINE_LEN};
+use journal_audit::Watcher;
 use line_streams::{End, Gathered, LineReader, StreamFault};
 use std::alloc::Global;
 use std::io::{Read, Write};
@@ -46,20 +49,22 @@ fn put<W: Write>(out: &mut Gathered, writer: &mut W, text: &[u8]) -> Result<(), 
 }
 
 /// Does what a line says and prints it; answers whether it was refused.
-fn tell<W: Write>(
+fn tell<W: Write, V: Watcher>(
     alloc: Global,
     world: &mut World,
     line: &Line,
     text: &mut String,
     out: &mut Gathered,
     writer: &mut W,
+    watcher: &mut V,
 ) -> Result<bool, ServeFault>
     ensures told { WritesAnswer (told world.old line.now) (with_gathered (W.contents writer.old) out.old) (with_gathered (W.contents writer.new) out.new) result world.new }
+    ensures heard { OnOk result (V.heard watcher.new ≡ with_words (word_of world.old line.now ∷ []) (V.heard watcher.old)) }
     ensures grows { Grows (W.contents writer.old) (W.contents writer.new) }
     ensures common { IfErr result IsCommonFault }
 {
     text.clear();
-    let refused = answer_line(alloc, world, line, text)?;
+    let refused = answer_line(alloc, world, line, text, watcher)?;
     put(out, writer, text.as_bytes())?;
     Ok(refused)
 }
@@ -134,15 +139,18 @@ fn next_line<R: Read, W: Write>(
     }
 }
 
-/// Does what the lines say and prints it, up to the end or to a bad line; answers the status.
-pub fn tell_lines<R: Read, W: Write>(
+/// Does what the lines say and prints it, up to the end or to a bad line; answers the status. The watcher hears
+/// what each line came to.
+pub fn tell_lines<R: Read, W: Write, V: Watcher>(
     alloc: Global,
     world: &mut World,
     source: &mut LineReader<R>,
     out: &mut Gathered,
     writer: &mut W,
+    watcher: &mut V,
 ) -> Result<u8, ServeFault>
     ensures told { WritesLines world.old source.old (with_gathered (W.contents writer.old) out.old) (with_gathered (W.contents writer.new) out.new) result }
+    ensures heard { HearsAs (script_words world.old) source.old (V.heard watcher.old) (V.heard watcher.new) result }
     ensures grows { Grows (W.contents writer.old) (W.contents writer.new) }
     ensures common { IfErr result IsCommonFault }
 {
@@ -160,9 +168,12 @@ pub fn tell_lines<R: Read, W: Write>(
         }
         let line = match read_line(bytes) {
             Ok(line) => line,
-            Err(fault) => return tell_fault(number, fault, &mut text, out, writer),
+            Err(fault) => {
+                watcher.see_bad(bytes, fault);
+                return tell_fault(number, fault, &mut text, out, writer);
+            }
         };
-        let now_refused = match tell(alloc, world, &line, &mut text, out, writer) {
+        let now_refused = match tell(alloc, world, &line, &mut text, out, writer, watcher) {
             Ok(now_refused) => now_refused,
             Err(fault) => return Err(fault),
         };

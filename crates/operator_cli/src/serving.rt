@@ -7,6 +7,7 @@ ghost use Rattle.event_lines.specs.Faults.{line_fault_number};
 ghost use Rattle.lossy_link.specs.Faults.{weather_fault_number};
 ghost use Rattle.world_settings.specs.Faults.{settings_fault_number};
 ghost use Rattle.world_settings.specs.Openings.{all_down};
+ghost use Rattle.operator_cli.specs.Hearing.{script_words, journal_words, behind_words, HearsAs, HearsInput};
 ghost use Rattle.operator_cli.specs.Outputs.{IsServed, IsCommonFault, MayEndBy, Prints, Serves, Writes, refusal_output, refused_ballot_output, refused_output, verdict_status};
 ghost use Rattle.operator_cli.specs.PartOutputs.{WritesLines, Finishes, RefusesStart, WritesBehind, WritesVerdict};
 ghost use Rattle.operator_cli.specs.Texts.{settings_fault_text, refused_text, ballots_text};
@@ -16,8 +17,8 @@ ghost use Rattle.world_settings.specs.declared.commands.Command.TheVariants as c
 use crate::raising::raise_all;
 use crate::script::tell_lines;
 use crate::texts::push_ballots;
-use crate::{LineFault, Order, ServeFault};
-use journal_audit::{Verdict, audit_lines};
+use crate::{LineFault, Onlooker, Order, ServeFault};
+use journal_audit::{Unwatched, Verdict, Watcher, audit_watched};
 use line_streams::{Gathered, LineReader, MAX_READS, write_text};
 use lossy_link::WeatherFault;
 use std::alloc::Global;
@@ -196,49 +197,55 @@ fn finish<W: Write>(
 }
 
 /// Does what the lines say and prints it, by way of what is gathered, which is nothing yet.
-fn tell_gathered<R: Read, W: Write>(
+fn tell_gathered<R: Read, W: Write, V: Watcher>(
     alloc: Global,
     world: &mut World,
     source: &mut LineReader<R>,
     out: &mut Gathered,
     writer: &mut W,
+    watcher: &mut V,
 ) -> Result<u8, ServeFault>
     requires { out.old ≡ [] }
     ensures told { WritesLines world.old source.old (W.contents writer.old) (W.contents writer.new) result }
+    ensures heard { HearsAs (script_words world.old) source.old (V.heard watcher.old) (V.heard watcher.new) result }
     ensures common { IfErr result IsCommonFault }
 {
-    let came = tell_lines(alloc, world, source, out, writer);
+    let came = tell_lines(alloc, world, source, out, writer, watcher);
     finish(came, out, writer)
 }
 
 /// Does what the lines say and prints it.
-fn serve_lines<R: Read, W: Write>(
+fn serve_lines<R: Read, W: Write, V: Watcher>(
     alloc: Global,
     world: &mut World,
     source: &mut LineReader<R>,
     writer: &mut W,
+    watcher: &mut V,
 ) -> Result<u8, ServeFault>
     ensures told { WritesLines world.old source.old (W.contents writer.old) (W.contents writer.new) result }
+    ensures heard { HearsAs (script_words world.old) source.old (V.heard watcher.old) (V.heard watcher.new) result }
     ensures common { IfErr result IsCommonFault }
 {
     let Ok(mut out) = Box::new(alloc, Gathered::new()) else {
         return Err(ServeFault::Memory);
     };
-    tell_gathered(alloc, world, source, &mut out, writer)
+    tell_gathered(alloc, world, source, &mut out, writer, watcher)
 }
 
 /// Runs a script.
-fn serve_script<R: Read, W: Write>(
+fn serve_script<R: Read, W: Write, V: Watcher>(
     alloc: Global,
     settings: &Settings,
     policies: Policies,
     source: &mut LineReader<R>,
     writer: &mut W,
+    watcher: &mut V,
 ) -> Result<u8, ServeFault>
     requires some_client { 1 ≤ settings.now.clients }
     requires few_clients { settings.now.clients ≤ MAX_CLIENTS }
     requires policies { length policies.pairs.items ≡ MAX_NODES }
     ensures told { WritesBehind command.Script settings.now source.old (W.contents writer.old) (W.contents writer.new) result }
+    ensures heard { HearsAs (behind_words command.Script settings.now) source.old (V.heard watcher.old) (V.heard watcher.new) result }
     ensures common { IfErr result IsCommonFault }
 {
     let Ok(mut world) = world_down(alloc, settings, policies) else {
@@ -247,7 +254,7 @@ fn serve_script<R: Read, W: Write>(
     if raise_all(&mut world, settings).is_err() {
         return Err(ServeFault::Memory);
     }
-    serve_lines(alloc, &mut world, source, writer)
+    serve_lines(alloc, &mut world, source, writer, watcher)
 }
 
 /// The status of a verdict.
@@ -261,38 +268,42 @@ fn verdict_status(verdict: Verdict) -> u8
 }
 
 /// Judges the lines that are left, and prints the verdict.
-fn judge<R: Read, W: Write>(
+fn judge<R: Read, W: Write, V: Watcher>(
     alloc: Global,
     world: World,
     source: &mut LineReader<R>,
     writer: &mut W,
+    watcher: &mut V,
 ) -> Result<u8, ServeFault>
     requires { Unit {0} }
-    ensures { WritesVerdict world source.old (W.contents writer.old) (W.contents writer.new) result }
+    ensures told { WritesVerdict world source.old (W.contents writer.old) (W.contents writer.new) result }
+    ensures heard { HearsAs (journal_words world) source.old (V.heard watcher.old) (V.heard watcher.new) result }
 {
-    match audit_lines(alloc, world, source, writer) {
+    match audit_watched(alloc, world, source, writer, watcher) {
         Ok(verdict) => Ok(verdict_status(verdict)),
         Err(fault) => Err(ServeFault::Audit(fault)),
     }
 }
 
 /// Judges a journal.
-fn serve_audit<R: Read, W: Write>(
+fn serve_audit<R: Read, W: Write, V: Watcher>(
     alloc: Global,
     settings: &Settings,
     policies: Policies,
     source: &mut LineReader<R>,
     writer: &mut W,
+    watcher: &mut V,
 ) -> Result<u8, ServeFault>
     requires some_client { 1 ≤ settings.now.clients }
     requires few_clients { settings.now.clients ≤ MAX_CLIENTS }
     requires policies { length policies.pairs.items ≡ MAX_NODES }
-    ensures { WritesBehind command.Audit settings.now source.old (W.contents writer.old) (W.contents writer.new) result }
+    ensures told { WritesBehind command.Audit settings.now source.old (W.contents writer.old) (W.contents writer.new) result }
+    ensures heard { HearsAs (behind_words command.Audit settings.now) source.old (V.heard watcher.old) (V.heard watcher.new) result }
 {
     let Ok(world) = world_down(alloc, settings, policies) else {
         return Err(ServeFault::Memory);
     };
-    judge(alloc, world, source, writer)
+    judge(alloc, world, source, writer, watcher)
 }
 
 /// Prints what each ballot is.
@@ -314,46 +325,96 @@ fn serve_ballots<W: Write>(
 
 /// Does what the order says with the lines that are left behind the settings.
 #[tactic(auto, using(crate::proofs::ServeFacts::any_fault))]
-fn serve_behind<R: Read, W: Write>(
+fn serve_behind<R: Read, W: Write, V: Onlooker>(
     alloc: Global,
     order: Order,
     settings: &Settings,
     source: &mut LineReader<R>,
     writer: &mut W,
+    watcher: &mut V,
 ) -> Result<u8, ServeFault>
     requires some_client { 1 ≤ settings.now.clients }
     requires few_clients { settings.now.clients ≤ MAX_CLIENTS }
     requires policies { length order.policies.pairs.items ≡ MAX_NODES }
     requires served { IsServed order.command }
     ensures told { WritesBehind order.command settings.now source.old (W.contents writer.old) (W.contents writer.new) result }
+    ensures heard { HearsAs (behind_words order.command settings.now) source.old (V.heard watcher.old) (V.heard watcher.new) result }
     ensures faults { IfErr result (MayEndBy order.command) }
 {
     let Order { command, policies } = order;
     match command {
-        Command::Script => serve_script(alloc, settings, policies, source, writer),
-        Command::Audit => serve_audit(alloc, settings, policies, source, writer),
+        Command::Script => serve_script(alloc, settings, policies, source, writer, watcher),
+        Command::Audit => serve_audit(alloc, settings, policies, source, writer, watcher),
         Command::Ballot => serve_ballots(alloc, &settings.ballots, writer),
         Command::Run { .. } => unreachable!(),
     }
 }
 
+/// Shows that there are no settings, where it is they that are at fault.
+fn show_fault<V: Onlooker>(head: &[u8], fault: StartFault, onlooker: &mut V)
+    ensures { V.heard onlooker.new ≡ V.heard onlooker.old }
+{
+    if let StartFault::Settings(fault) = fault {
+        onlooker.see_refused(head, fault);
+    }
+}
+
 /// Does what the order says with the bytes of the source.
-fn serve_source<R: Read, W: Write>(
+fn serve_source<R: Read, W: Write, V: Onlooker>(
     alloc: Global,
     order: Order,
     source: &mut LineReader<R>,
     writer: &mut W,
+    watcher: &mut V,
 ) -> Result<u8, ServeFault>
     requires policies { length order.policies.pairs.items ≡ MAX_NODES }
     requires served { IsServed order.command }
     ensures output { Serves order.command source.old (W.contents writer.old) (W.contents writer.new) result }
+    ensures heard { HearsInput order.command source.old (V.heard watcher.old) (V.heard watcher.new) result }
     ensures faults { IfErr result (MayEndBy order.command) }
 {
-    let start = match read_start(alloc, order.command, source) {
+    let mut head = Vec::new(alloc);
+    let start = match read_start(alloc, order.command, source, &mut head) {
         Ok(start) => start,
-        Err(fault) => return refuse_start(order.command, fault, writer),
+        Err(fault) => {
+            show_fault(head.as_slice(), fault, watcher);
+            return refuse_start(order.command, fault, writer);
+        }
     };
-    serve_behind(alloc, order, &start.settings, source, writer)
+    watcher.see_settings(head.as_slice(), &start.settings);
+    serve_behind(alloc, order, &start.settings, source, writer, watcher)
+}
+
+/// Serves an order as `serve` does, and shows an onlooker what is met: why settings are refused, or the settings, and
+/// then what each line came to. What is answered and written doesn't depend on it.
+///
+/// # Errors
+///
+/// Those of `serve`.
+pub fn serve_watched<R: Read, W: Write, V: Onlooker>(
+    alloc: Global,
+    order: Order,
+    reader: R,
+    writer: &mut W,
+    watcher: &mut V,
+) -> Result<u8, ServeFault>
+where
+    R: Drop,
+    requires policies { length order.policies.pairs.items ≡ MAX_NODES }
+    requires served { IsServed order.command }
+    ensures output { Serves order.command (R.remaining reader) (W.contents writer.old) (W.contents writer.new) result }
+    ensures heard { HearsInput order.command (R.remaining reader) (V.heard watcher.old) (V.heard watcher.new) result }
+    ensures faults { IfErr result (MayEndBy order.command) }
+{
+    // Room for what is read ahead is made on the heap: the stack may be small.
+    let Ok(mut source) = Box::new(alloc, LineReader::new(reader, MAX_READS)) else {
+        return refuse_start(
+            order.command,
+            StartFault::Settings(SettingsFault::Memory),
+            writer,
+        );
+    };
+    serve_source(alloc, order, &mut source, writer, watcher)
 }
 
 /// Does what the order says with the bytes of the reader, and answers the status of the program.
@@ -405,13 +466,5 @@ where
     ensures output { Serves order.command (R.remaining reader) (W.contents writer.old) (W.contents writer.new) result }
     ensures faults { IfErr result (MayEndBy order.command) }
 {
-    // Room for what is read ahead is made on the heap: the stack may be small.
-    let Ok(mut source) = Box::new(alloc, LineReader::new(reader, MAX_READS)) else {
-        return refuse_start(
-            order.command,
-            StartFault::Settings(SettingsFault::Memory),
-            writer,
-        );
-    };
-    serve_source(alloc, order, &mut source, writer)
+    serve_watched(alloc, order, reader, writer, &mut Unwatched)
 }

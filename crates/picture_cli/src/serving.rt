@@ -177,7 +177,8 @@ where
 {
     events_are_spelled_once();
     let mut source = LineReader::new(reader, MAX_READS);
-    let settings = match read_start(alloc, Command::Audit, &mut source) {
+    let mut head = Vec::new(alloc);
+    let settings = match read_start(alloc, Command::Audit, &mut source, &mut head) {
         Ok(start) => start.settings,
         Err(fault) => return refused(fault),
     };

@@ -1,6 +1,5 @@
 -- From the end of a run to what is told of it.
-use Rattle.std.proofs.Common.{◌≡◌, inl, inr, ℕ, Bool, true, false, Vec, List, ◌++◌, length, Option, Some, None, Result, Ok, Err, codes, refl, sym, ap, subst, ◌∙◌}
-use Rattle.std.specs.Global.{Global}
+use Rattle.std.proofs.Common.{◌≡◌, inl, inr, ℕ, Bool, true, false, List, ◌++◌, length, Option, Some, None, Result, Ok, Err, codes, refl, sym, ap, subst, ◌∙◌}
 use Rattle.std.proofs.KnownBytes.{Keeps-refl}
 use Rattle.journal_text.specs.Journals.{history_text, IsRecorded}
 use Rattle.journal_audit.specs.declared.verdicts.Verdict.TheVariants.{Sound}
@@ -88,12 +87,12 @@ behind_head journal xs head lines old new r are_sound are_exact h (inl p) =
     (tells_by journal xs head lines (settings_of (command.Run journal) head) old new r are_sound are_exact h refl p))
 behind_head journal xs head lines old new r are_sound are_exact h (inr p) = inr p
 
-pub serves : (journal : Bool) (input left old new : Option (List ℕ)) (head : Vec ℕ Global) (text : List ℕ) (r : Result ℕ ServeFault) → JournalsAreSound → VerdictsAreExact
-    → FindsHead input left (Ok head) → text ≡ head.items → RunsHead journal text old new r → ServesRun (command.Run journal) input old new r
-serves journal None left old new head text r are_sound are_exact h same p = tt
-serves journal (Some xs) None old new head text r are_sound are_exact h same p = absurd h
-serves journal (Some xs) (Some ys) old new head text r are_sound are_exact h same p =
-    behind_head journal xs head.items (lines_in (pieces ys)) old new r are_sound are_exact h (subst (λ (t : List ℕ). RunsHead journal t old new r) same p)
+pub serves : (journal : Bool) (input left old new : Option (List ℕ)) (head text : List ℕ) (a : Unit {0}) (r : Result ℕ ServeFault) → JournalsAreSound → VerdictsAreExact
+    → FindsHead input left head (Ok a) → text ≡ head → RunsHead journal text old new r → ServesRun (command.Run journal) input old new r
+serves journal None left old new head text a r are_sound are_exact h same p = tt
+serves journal (Some xs) None old new head text a r are_sound are_exact h same p = absurd h
+serves journal (Some xs) (Some ys) old new head text a r are_sound are_exact h same p =
+    behind_head journal xs head (lines_in (pieces ys)) old new r are_sound are_exact h (subst (λ (t : List ℕ). RunsHead journal t old new r) same p)
 
 -- Settings that are refused, or a head that isn't there.
 
@@ -134,8 +133,8 @@ read_failed journal xs old new r e same =
     subst (λ (q : Result ℕ ServeFault). ServesRun (command.Run journal) (Some xs) old new q) (sym e)
     (subst (λ (n : Option (List ℕ)). ServesRun (command.Run journal) (Some xs) old n (Err fault.Read)) (sym same) (inl (nothing_behind journal (head_of (pieces xs)) old)))
 
-pub not_started : (journal : Bool) (input left old new : Option (List ℕ)) (f : StartFault) (r : Result ℕ ServeFault) → FindsHead input left (Err f) → RefusesStart (command.Run journal) f old new r
+pub not_started : (journal : Bool) (input left old new : Option (List ℕ)) (head : List ℕ) (f : StartFault) (r : Result ℕ ServeFault) → FindsHead {A = Unit {0}} input left head (Err f) → RefusesStart (command.Run journal) f old new r
     → ServesRun (command.Run journal) input old new r
-not_started journal None left old new f r h p = tt
-not_started journal (Some xs) left old new start.Read r h p = read_failed journal xs old new r p.0 p.1
-not_started journal (Some xs) left old new (start.Settings e) r h p = head_refused journal xs e old new r h p
+not_started journal None left old new head f r h p = tt
+not_started journal (Some xs) left old new head start.Read r h p = read_failed journal xs old new r p.0 p.1
+not_started journal (Some xs) left old new head (start.Settings e) r h p = head_refused journal xs e old new r h p

@@ -18,7 +18,7 @@ ghost use Rattle.run_service.specs.Parts.{TellsEnd, RunsHead};
 use crate::ends::{push_end, status_of};
 use crate::records::{Supplies, chosen_records};
 use event_lines::Wish;
-use explanations::RunWords;
+use explanations::{RunWords, push_settings_fault};
 use journal_audit::laws::verdicts_are_exact;
 use journal_laws::laws::journals_are_sound;
 use journal_text::JournalFault;
@@ -184,6 +184,20 @@ fn push_words(
     let _left_short = told.push(alloc, text, wishes.as_slice(), end.faults.as_slice());
 }
 
+/// Adds in words why there are no settings, where that is wanted. Want of memory leaves a part of it.
+fn push_refusal(
+    alloc: Global,
+    command: Command,
+    head: &[u8],
+    fault: StartFault,
+    words: &mut Option<String>,
+) {
+    let (Some(text), StartFault::Settings(fault)) = (words, fault) else {
+        return;
+    };
+    let _left_short = push_settings_fault(alloc, text, command, head, fault);
+}
+
 /// Runs the service by what the head says, and tells what it came to.
 fn run_head<T: Threads + Wait + Copy + Send, W: Write>(
     rt: T,
@@ -206,7 +220,11 @@ fn run_head<T: Threads + Wait + Copy + Send, W: Write>(
     let command = Command::Run { journal };
     let start = match read_settings(alloc, command, head) {
         Ok(start) => start,
-        Err(fault) => return refuse_start(command, StartFault::Settings(fault), writer),
+        Err(fault) => {
+            let fault = StartFault::Settings(fault);
+            push_refusal(alloc, command, head, fault, words);
+            return refuse_start(command, fault, writer);
+        }
     };
     let Start {
         settings,
@@ -247,10 +265,15 @@ fn run_source<T: Threads + Wait + Copy + Send, R: Read, W: Write>(
     ensures output { ServesRun (Command.Run journal) source.old (W.contents writer.old) (W.contents writer.new) result }
     ensures faults { IfErr result IsCommonFault }
 {
-    let head = match read_head(alloc, source) {
-        Ok(head) => head,
-        Err(fault) => return refuse_start(Command::Run { journal }, fault, writer),
-    };
+    let command = Command::Run { journal };
+    let mut head = Vec::new(alloc);
+    match read_head(alloc, source, &mut head) {
+        Ok(()) => {}
+        Err(fault) => {
+            push_refusal(alloc, command, head.as_slice(), fault, words);
+            return refuse_start(command, fault, writer);
+        }
+    }
     journals_are_sound();
     verdicts_are_exact();
     run_head(
@@ -277,8 +300,8 @@ fn run_source<T: Threads + Wait + Copy + Send, R: Read, W: Write>(
 /// is 1 where an actor ended by a fault, else 0.
 ///
 /// Where `words` has a text, what the run came to is added to it in words (`explanations`): who entered what
-/// and how often, who ended by a fault and in which wish, which wishes were left. What is printed and answered
-/// is the same with it and without.
+/// and how often, who ended by a fault and in which wish, which wishes were left; or why the settings are refused.
+/// What is printed and answered is the same with it and without.
 ///
 /// Contracts speak of what the reader has left and of what the writer holds, where these are known. The
 /// caller owes an order for `Run`; sixteen pairs of policies for the world, with the order, and as many for

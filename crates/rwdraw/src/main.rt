@@ -3,14 +3,12 @@
 //! `picture_cli`, `world_settings`, `admission_policy`, `lock_messages` and `lock_model`.
 #![tactic(auto)]
 
-mod supplies;
-
-use crate::supplies::{add_pair, no_policies};
 use admission_policy::{FirstProblem, SecondProblem};
 use lock_messages::MAX_NODES;
 use picture_cli::SvgCanvas;
 use std::process::ExitCode;
 use std::{env, io};
+use world_settings::{add_pair, no_policies};
 
 /// Ends the program where there is no memory for policies.
 fn end_without_memory(rt: &HostRuntime) -> ExitCode {

@@ -6,13 +6,14 @@
 
 mod supplies;
 
-use crate::supplies::{add_client, add_nodes, add_pair, no_policies, no_records};
+use crate::supplies::{add_client, add_nodes, no_records};
 use admission_policy::{FirstProblem, SecondProblem};
 use lock_messages::{MAX_CLIENTS, MAX_NODES};
 use lock_model::Problem;
 use run_service::{Supplies, empty_client_record, empty_node_record};
 use std::process::ExitCode;
 use std::{env, io};
+use world_settings::{add_pair, no_policies};
 
 /// Ends the program where there is no memory for policies and records.
 fn end_without_memory(rt: &HostRuntime) -> ExitCode {

@@ -1,22 +1,10 @@
-// The lists that the program fills with policies and records.
+// The lists that the program fills with records.
 
-ghost use Rattle.std.specs.Prelude.{◌≡◌, [], ◌∷◌, ◌++◌, Some, OnOk};
-ghost use Rattle.lock_model.specs.declared.problems.Problem.TheVariants.{First, Second};
+ghost use Rattle.std.specs.Prelude.{◌≡◌, [], ◌∷◌, ◌++◌, OnOk};
 
-use admission_policy::{Admission, Pair};
 use run_service::Records;
 use stable_record::StableRecord;
 use std::alloc::{AllocError, Global};
-use world_settings::Policies;
-
-/// No policies yet.
-pub(crate) fn no_policies(alloc: Global) -> Policies
-    ensures { result.pairs.items ≡ [] }
-{
-    Policies {
-        pairs: Vec::new(alloc),
-    }
-}
 
 /// No records yet.
 pub(crate) fn no_records(alloc: Global) -> Records
@@ -29,22 +17,6 @@ pub(crate) fn no_records(alloc: Global) -> Records
         second: Vec::new(alloc),
         clients: Vec::new(alloc),
     }
-}
-
-/// Adds the pair of a policy of problem 1 and one of problem 2.
-pub(crate) fn add_pair(
-    policies: &mut Policies,
-    first: Box<dyn Admission + Send>,
-    second: Box<dyn Admission + Send>,
-) -> Result<(), AllocError>
-    requires first { problem_of first ≡ First }
-    requires second { problem_of second ≡ Second }
-    ensures { OnOk result (policies.new.pairs.items ≡ policies.old.pairs.items ++ record { first = Some first; second = Some second } ∷ []) }
-{
-    if policies.pairs.push(Pair::of(first, second)).is_err() {
-        return Err(AllocError);
-    }
-    Ok(())
 }
 
 /// Adds a node's record of each problem.

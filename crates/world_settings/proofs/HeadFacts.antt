@@ -1,5 +1,5 @@
 -- Reading the head, piece by piece.
-use Rattle.std.proofs.Common.{◌≡◌, ℕ, ◌*◌, ◌<◌, ◌≤◌, Bool, true, false, cond, nat_lt, Vec, List, [], ◌++◌, length, Option, Some, None, Result, Ok, Err, codes, refl, sym, ap, subst, ◌∙◌, arith, append_assoc, length-append}
+use Rattle.std.proofs.Common.{◌≡◌, ℕ, ◌*◌, ◌<◌, ◌≤◌, Bool, true, false, cond, nat_lt, List, [], ◌++◌, length, Option, Some, None, Result, Ok, Err, codes, refl, sym, ap, subst, ◌∙◌, arith, append_assoc, length-append}
 use Rattle.std.specs.Str.{bytes_eq}
 use Rattle.std.specs.Io.KnownBytes.{Consumes}
 use Rattle.std.proofs.KnownBytes.{Consumes-trans}
@@ -15,7 +15,6 @@ use Rattle.line_streams.specs.Streams.{lines_in, pieces, feed_of, KnownLeft, Rea
 use Rattle.world_settings.specs.Heads.{dashes, with_line, parts_at_dashes, within_room, head_of, FindsHead, TakesAtMost}
 use Rattle.world_settings.specs.declared.heads.StartFault.{StartFault}
 use Rattle.world_settings.specs.declared.heads.StartFault.TheVariants as start
-use Rattle.std.specs.Global.{Global}
 
 abbrev pub Parts : Type 0
 Parts = Option (List ℕ × List (List ℕ))
@@ -68,42 +67,42 @@ long_line : (whole : List ℕ) → HEAD_ROOM < length whole → bytes_eq whole d
 long_line whole h = false_from_ne_true (bytes_eq whole dashes) (λ e. let three : length whole ≡ 3 = ap length ((bytes_eq-Decides whole dashes).0 e) in omega arith)
 
 -- the line of dashes, with a line feed behind it or at the end
-pub dashes_then_feed : (old mid new : Option (List ℕ)) (head : Vec ℕ Global) (piece : List ℕ) → HeadSoFar old mid head.items → ReadsPiece HEAD_ROOM mid new piece LineFeed → bytes_eq piece dashes ≡ true
-    → length head.items < HEAD_ROOM → FindsHead old new (Ok head)
+pub dashes_then_feed : {A : Type 0} (old mid new : Option (List ℕ)) (head piece : List ℕ) (a : A) → HeadSoFar old mid head → ReadsPiece HEAD_ROOM mid new piece LineFeed → bytes_eq piece dashes ≡ true
+    → length head < HEAD_ROOM → FindsHead old new head (Ok a)
 unfolding head_of
-dashes_then_feed None mid new head piece h r e few = tt
-dashes_then_feed (Some xs) None new head piece h r e few = absurd h
-dashes_then_feed (Some xs) (Some ys) None head piece h r e few = absurd r
-dashes_then_feed (Some xs) (Some ys) (Some zs) head piece h r e few =
-    ap within_room (h ∙ ap (λ ps. behind head.items (parts_at_dashes ps)) r ∙ ap (λ (b : Bool). behind head.items (cond b (Some ([], pieces zs)) (with_line piece (parts_at_dashes (pieces zs))))) e)
-    ∙ room_found head.items (pieces zs) few
+dashes_then_feed None mid new head piece a h r e few = tt
+dashes_then_feed (Some xs) None new head piece a h r e few = absurd h
+dashes_then_feed (Some xs) (Some ys) None head piece a h r e few = absurd r
+dashes_then_feed (Some xs) (Some ys) (Some zs) head piece a h r e few =
+    ap within_room (h ∙ ap (λ ps. behind head (parts_at_dashes ps)) r ∙ ap (λ (b : Bool). behind head (cond b (Some ([], pieces zs)) (with_line piece (parts_at_dashes (pieces zs))))) e)
+    ∙ room_found head (pieces zs) few
 
-pub dashes_at_end : (old mid new : Option (List ℕ)) (head : Vec ℕ Global) (piece : List ℕ) → HeadSoFar old mid head.items → ReadsPiece HEAD_ROOM mid new piece Input → bytes_eq piece dashes ≡ true
-    → length head.items < HEAD_ROOM → FindsHead old new (Ok head)
+pub dashes_at_end : {A : Type 0} (old mid new : Option (List ℕ)) (head piece : List ℕ) (a : A) → HeadSoFar old mid head → ReadsPiece HEAD_ROOM mid new piece Input → bytes_eq piece dashes ≡ true
+    → length head < HEAD_ROOM → FindsHead old new head (Ok a)
 unfolding head_of
-dashes_at_end None mid new head piece h r e few = tt
-dashes_at_end (Some xs) None new head piece h r e few = absurd h
-dashes_at_end (Some xs) (Some ys) None head piece h r e few = absurd r.1
-dashes_at_end (Some xs) (Some ys) (Some zs) head piece h r e few =
-    ap within_room (h ∙ ap (λ ps. behind head.items (parts_at_dashes ps)) r.0 ∙ ap (λ (b : Bool). behind head.items (cond b (Some ([], [])) (with_line piece None))) e)
-    ∙ room_found head.items [] few ∙ ap (λ (bs : List ℕ). Ok (head.items, lines_in (pieces bs))) (sym r.1)
+dashes_at_end None mid new head piece a h r e few = tt
+dashes_at_end (Some xs) None new head piece a h r e few = absurd h
+dashes_at_end (Some xs) (Some ys) None head piece a h r e few = absurd r.1
+dashes_at_end (Some xs) (Some ys) (Some zs) head piece a h r e few =
+    ap within_room (h ∙ ap (λ ps. behind head (parts_at_dashes ps)) r.0 ∙ ap (λ (b : Bool). behind head (cond b (Some ([], [])) (with_line piece None))) e)
+    ∙ room_found head [] few ∙ ap (λ (bs : List ℕ). Ok (head, lines_in (pieces bs))) (sym r.1)
 
 -- the input ends before such a line
-pub never_dashes : (old mid new : Option (List ℕ)) (head piece : List ℕ) → HeadSoFar old mid head → ReadsPiece HEAD_ROOM mid new piece Input → bytes_eq piece dashes ≡ false
-    → FindsHead old new (Err (start.Settings settings.NoEnd))
+pub never_dashes : (old mid new : Option (List ℕ)) (head piece after : List ℕ) → HeadSoFar old mid head → ReadsPiece HEAD_ROOM mid new piece Input → bytes_eq piece dashes ≡ false
+    → FindsHead {A = Unit {0}} old new after (Err (start.Settings settings.NoEnd))
 unfolding head_of
-never_dashes None mid new head piece h r e = tt
-never_dashes (Some xs) None new head piece h r e = absurd h
-never_dashes (Some xs) (Some ys) new head piece h r e =
+never_dashes None mid new head piece after h r e = tt
+never_dashes (Some xs) None new head piece after h r e = absurd h
+never_dashes (Some xs) (Some ys) new head piece after h r e =
     ap within_room (h ∙ ap (λ ps. behind head (parts_at_dashes ps)) r.0 ∙ ap (λ (b : Bool). behind head (cond b (Some ([], [])) None)) e)
 
 -- a line is longer than the room
-pub line_too_long : (old mid new : Option (List ℕ)) (head piece : List ℕ) → HeadSoFar old mid head → ReadsPiece HEAD_ROOM mid new piece Limit
-    → FindsHead old new (Err (start.Settings settings.NoEnd))
+pub line_too_long : (old mid new : Option (List ℕ)) (head piece after : List ℕ) → HeadSoFar old mid head → ReadsPiece HEAD_ROOM mid new piece Limit
+    → FindsHead {A = Unit {0}} old new after (Err (start.Settings settings.NoEnd))
 unfolding head_of
-line_too_long None mid new head piece h r = tt
-line_too_long (Some xs) None new head piece h r = absurd h
-line_too_long (Some xs) (Some ys) new head piece h r =
+line_too_long None mid new head piece after h r = tt
+line_too_long (Some xs) None new head piece after h r = absurd h
+line_too_long (Some xs) (Some ys) new head piece after h r =
     let (rest, more, e, kept) = r in
     let whole = piece ++ rest in
     let long : HEAD_ROOM < length whole = simp length-append (omega arith) in
@@ -111,7 +110,7 @@ line_too_long (Some xs) (Some ys) new head piece h r =
     ∙ no_room head whole (parts_at_dashes more) long
 
 -- the room is full
-pub head_too_long : (old left : Option (List ℕ)) (head : List ℕ) → HeadSoFar old left head → HEAD_ROOM ≤ length head → FindsHead old left (Err (start.Settings settings.NoEnd))
+pub head_too_long : (old left : Option (List ℕ)) (head : List ℕ) → HeadSoFar old left head → HEAD_ROOM ≤ length head → FindsHead {A = Unit {0}} old left head (Err (start.Settings settings.NoEnd))
 unfolding head_of
 head_too_long None left head h f = tt
 head_too_long (Some xs) None head h f = absurd h

@@ -1,6 +1,5 @@
 -- The head of an input: which bytes its settings are, and what they give to a command.
-use Rattle.std.specs.Prelude.{◌≡◌, ◌⊎◌, ℕ, ◌≤◌, nat_lt, Vec, if◌then◌else◌, List, [], ◌∷◌, ◌++◌, length, Option, Some, None, Result, Ok, Err, codes}
-use Rattle.std.specs.Global.{Global}
+use Rattle.std.specs.Prelude.{◌≡◌, ◌⊎◌, ℕ, ◌≤◌, nat_lt, if◌then◌else◌, List, [], ◌∷◌, ◌++◌, length, Option, Some, None, Result, Ok, Err, codes}
 use Rattle.std.specs.Str.{bytes_eq}
 use Rattle.std.specs.Io.KnownBytes.{Consumes}
 use Rattle.line_streams.specs.declared.reading.End.{End}
@@ -55,11 +54,11 @@ HeadPiece old new piece (Err e) = (e ≡ start.Read) ⊎ (e ≡ start.Settings s
 
 -- What a call read as the settings' text, of known bytes: what stands before the line of dashes, and
 -- behind it the bytes that are left; or that there is none, unless reading failed or memory was refused.
-abbrev pub FindsHead : Option (List ℕ) → Option (List ℕ) → Result (Vec ℕ Global) StartFault → Type 0
-FindsHead None new r = Unit {0}
-FindsHead (Some xs) new (Ok head) = KnownLeft new (λ ys. head_of (pieces xs) ≡ Ok (head.items, lines_in (pieces ys)))
-FindsHead (Some xs) new (Err start.Read) = Unit {0}
-FindsHead (Some xs) new (Err (start.Settings e)) = Refuses e (head_of (pieces xs))
+abbrev pub FindsHead : {A : Type 0} → Option (List ℕ) → Option (List ℕ) → List ℕ → Result A StartFault → Type 0
+FindsHead None new head r = Unit {0}
+FindsHead (Some xs) new head (Ok a) = KnownLeft new (λ ys. head_of (pieces xs) ≡ Ok (head, lines_in (pieces ys)))
+FindsHead (Some xs) new head (Err start.Read) = Unit {0}
+FindsHead (Some xs) new head (Err (start.Settings e)) = Refuses e (head_of (pieces xs))
 
 -- What a call read as the settings of a command, of known bytes: these, and behind them the bytes that
 -- are left; or that they are refused.

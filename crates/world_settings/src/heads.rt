@@ -56,18 +56,28 @@ fn is_dashes(piece: &[u8]) -> bool
     piece == b"---".as_slice()
 }
 
-/// Reads up to the line of dashes and over it, and answers what stands before it, with its line feeds. Of
-/// bytes that are known no more than 131,072 are taken, whatever is answered.
+/// Adds the line that is the last, of settings that have no end, so that who says why sees it. Where memory is
+/// refused it is left out.
+fn keep_last(head: &mut Vec<u8>, piece: &[u8]) {
+    let _left_out = push_line(head, piece);
+}
+
+/// Reads up to the line of dashes and over it, and leaves in `head` what stands before it, with its line feeds, in
+/// place of what stood there. Of bytes that are known no more than 131,072 are taken, whatever is answered.
 ///
 /// # Errors
 ///
 /// `Read` where the reader fails or was asked as often as it may be; no such line begins within the first
-/// `HEAD_ROOM` bytes (`NoEnd`, 924); or memory was refused (`Memory`, 925).
-pub fn read_head<R: Read>(alloc: Global, source: &mut LineReader<R>) -> Result<Vec<u8>, StartFault>
-    ensures head { FindsHead source.old source.new result }
+/// `HEAD_ROOM` bytes (`NoEnd`, 924); or memory was refused (`Memory`, 925). Then `head` has lines that were read.
+pub fn read_head<R: Read>(
+    alloc: Global,
+    source: &mut LineReader<R>,
+    head: &mut Vec<u8>,
+) -> Result<(), StartFault>
+    ensures head { FindsHead source.old source.new head.new.items result }
     ensures few { TakesAtMost (2 * HEAD_ROOM) source.old source.new }
 {
-    let mut head = Vec::new(alloc);
+    head.clear();
     let mut piece = Vec::new(alloc);
     while head.len() < HEAD_ROOM {
         let end = match next_piece(source, &mut piece) {
@@ -75,18 +85,22 @@ pub fn read_head<R: Read>(alloc: Global, source: &mut LineReader<R>) -> Result<V
             Err(fault) => return Err(fault),
         };
         match end {
-            End::Limit => return Err(StartFault::Settings(SettingsFault::NoEnd)),
+            End::Limit => {
+                keep_last(head, piece.as_slice());
+                return Err(StartFault::Settings(SettingsFault::NoEnd));
+            }
             End::Input => {
                 if is_dashes(piece.as_slice()) {
-                    return Ok(head);
+                    return Ok(());
                 }
+                keep_last(head, piece.as_slice());
                 return Err(StartFault::Settings(SettingsFault::NoEnd));
             }
             End::LineFeed => {
                 if is_dashes(piece.as_slice()) {
-                    return Ok(head);
+                    return Ok(());
                 }
-                if push_line(&mut head, piece.as_slice()).is_err() {
+                if push_line(head, piece.as_slice()).is_err() {
                     return Err(StartFault::Settings(SettingsFault::Memory));
                 }
             }
@@ -96,24 +110,27 @@ pub fn read_head<R: Read>(alloc: Global, source: &mut LineReader<R>) -> Result<V
 }
 
 /// Reads the settings that an input of this command begins with, up to the line of dashes and over it, and
-/// judges them. Of bytes that are known no more than 131,072 are taken, whatever is answered.
+/// judges them. It leaves their text in `head`, as `read_head` does. Of bytes that are known no more than 131,072 are
+/// taken, whatever is answered.
 ///
 /// # Errors
 ///
-/// Those of `read_head`, and what is wrong with the settings, as `serve` tells it for the command.
+/// Those of `read_head`, and what is wrong with the settings, as `read_settings` tells it for the command.
 pub fn read_start<R: Read>(
     alloc: Global,
     command: Command,
     source: &mut LineReader<R>,
+    head: &mut Vec<u8>,
 ) -> Result<Start, StartFault>
     ensures start { Starts command source.old source.new result }
     ensures in_range { IfOk result (λ s. (1 ≤ s.settings.clients) × (s.settings.clients ≤ MAX_CLIENTS)) }
+    ensures head { OnOk result (FindsHead source.old source.new head.new.items result) }
     ensures few { TakesAtMost (2 * HEAD_ROOM) source.old source.new }
 {
-    let head = match read_head(alloc, source) {
-        Ok(head) => head,
+    match read_head(alloc, source, head) {
+        Ok(()) => {}
         Err(fault) => return Err(fault),
-    };
+    }
     match read_settings(alloc, command, head.as_slice()) {
         Ok(start) => Ok(start),
         Err(fault) => Err(StartFault::Settings(fault)),

@@ -25,5 +25,5 @@ mod settings;
 pub use commands::Command;
 pub use faults::SettingsFault;
 pub use heads::{StartFault, read_head, read_start};
-pub use openings::{Policies, chosen, world_down};
+pub use openings::{Policies, add_pair, chosen, no_policies, world_down};
 pub use settings::{Settings, Start, read_settings};

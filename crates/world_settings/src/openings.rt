@@ -1,11 +1,12 @@
 // The world that settings open, and the policies that its nodes decide by.
 
-ghost use Rattle.std.specs.Prelude.{◌≡◌, ◌≤◌, length, take, IfOk};
+ghost use Rattle.std.specs.Prelude.{◌≡◌, ◌≤◌, [], ◌∷◌, ◌++◌, Some, length, take, IfOk, OnOk};
 ghost use Rattle.lock_messages.specs.declared.ids.TheConstants.{MAX_CLIENTS, MAX_NODES};
+ghost use Rattle.lock_model.specs.declared.problems.Problem.TheVariants.{First, Second};
 ghost use Rattle.world_settings.specs.Openings.{all_down};
 
 use crate::Settings;
-use admission_policy::Pair;
+use admission_policy::{Admission, Pair};
 use std::alloc::{AllocError, Global};
 use world_machine::World;
 
@@ -14,6 +15,31 @@ use world_machine::World;
 #[derive(Drop)]
 pub struct Policies {
     pub pairs: Vec<Pair>,
+}
+
+/// No policies yet.
+pub fn no_policies(alloc: Global) -> Policies
+    ensures { result.pairs.items ≡ [] }
+{
+    Policies {
+        pairs: Vec::new(alloc),
+    }
+}
+
+/// Adds the pair of a policy of problem 1 and one of problem 2. The only error is want of memory, and drops both.
+pub fn add_pair(
+    policies: &mut Policies,
+    first: Box<dyn Admission + Send>,
+    second: Box<dyn Admission + Send>,
+) -> Result<(), AllocError>
+    requires first { problem_of first ≡ First }
+    requires second { problem_of second ≡ Second }
+    ensures { OnOk result (policies.new.pairs.items ≡ policies.old.pairs.items ++ record { first = Some first; second = Some second } ∷ []) }
+{
+    if policies.pairs.push(Pair::of(first, second)).is_err() {
+        return Err(AllocError);
+    }
+    Ok(())
 }
 
 /// The pairs of so many nodes, the first ones first; the others are dropped. The caller owes sixteen pairs,

@@ -6,24 +6,24 @@ use Rattle.world_settings.proofs.heads.read_head.Goals as goal
 
 pub returns-in-Limit-clause-head : goal.returns-in-Limit-clause-head
 returns-in-Limit-clause-head g c =
-    line_too_long c.args.source.now c.loop-source.source c.next_piece.new.source c.loop-source.head.items c.next_piece.new.piece.items c.loop-source.invariant.head
+    line_too_long c.args.source.now c.loop-source.source c.next_piece.new.source c.loop-source.head.items c.next_piece.new.piece.items c.keep_last.new.head.items c.loop-source.invariant.head
     (at_piece _ _ _ _ _ c.in-Ok.ensures.piece c.in-Limit.is)
 
 pub returns-then-is_dashes-clause-head : goal.returns-then-is_dashes-clause-head
 returns-then-is_dashes-clause-head g c =
-    dashes_at_end c.args.source.now c.loop-source.source c.next_piece.new.source c.loop-source.head c.next_piece.new.piece.items c.loop-source.invariant.head
+    dashes_at_end c.args.source.now c.loop-source.source c.next_piece.new.source c.loop-source.head.items c.next_piece.new.piece.items tt c.loop-source.invariant.head
     (at_piece _ _ _ _ _ c.in-Ok.ensures.piece c.in-Input.is)
-    (ap (λ (p : List ℕ). bytes_eq p dashes) (sym c.as_slice.ensures.value) ∙ sym c.is_dashes.ensures ∙ c.if-is_dashes.true) (omega (arith, c.loop-source.head.ok.0))
+    (ap (λ (p : List ℕ). bytes_eq p dashes) (sym c.as_slice-in-Input.ensures.value) ∙ sym c.is_dashes.ensures ∙ c.if-is_dashes.true) (omega (arith, c.loop-source.head.ok.0))
 
 pub returns-in-Input-clause-head : goal.returns-in-Input-clause-head
 returns-in-Input-clause-head g c =
-    never_dashes c.args.source.now c.loop-source.source c.next_piece.new.source c.loop-source.head.items c.next_piece.new.piece.items c.loop-source.invariant.head
+    never_dashes c.args.source.now c.loop-source.source c.next_piece.new.source c.loop-source.head.items c.next_piece.new.piece.items c.keep_last-in-Input.new.head.items c.loop-source.invariant.head
     (at_piece _ _ _ _ _ c.in-Ok.ensures.piece c.in-Input.is)
-    (ap (λ (p : List ℕ). bytes_eq p dashes) (sym c.as_slice.ensures.value) ∙ sym c.is_dashes.ensures ∙ c.if-is_dashes.false)
+    (ap (λ (p : List ℕ). bytes_eq p dashes) (sym c.as_slice-in-Input.ensures.value) ∙ sym c.is_dashes.ensures ∙ c.if-is_dashes.false)
 
 pub returns-then-is_dashes-2-clause-head : goal.returns-then-is_dashes-2-clause-head
 returns-then-is_dashes-2-clause-head g c =
-    dashes_then_feed c.args.source.now c.loop-source.source c.next_piece.new.source c.loop-source.head c.next_piece.new.piece.items c.loop-source.invariant.head
+    dashes_then_feed c.args.source.now c.loop-source.source c.next_piece.new.source c.loop-source.head.items c.next_piece.new.piece.items tt c.loop-source.invariant.head
     (at_piece _ _ _ _ _ c.in-Ok.ensures.piece c.in-LineFeed.is)
     (ap (λ (p : List ℕ). bytes_eq p dashes) (sym c.as_slice-in-LineFeed.ensures.value) ∙ sym c.is_dashes-in-LineFeed.ensures ∙ c.if-is_dashes-2.true) (omega (arith, c.loop-source.head.ok.0))
 
