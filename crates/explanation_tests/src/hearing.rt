@@ -25,13 +25,13 @@ fn served_by(command: Command) -> Option<Command>
     }
 }
 
-/// Whether a command that answered so lacked memory.
-fn lacked_memory(came: Result<u8, ServeFault>) -> bool {
+/// The status of a command.
+fn status_of(came: Result<u8, ServeFault>) -> Result<u8, Failure> {
     match came {
-        Ok(_) => false,
-        Err(ServeFault::Memory | ServeFault::Write) => true,
-        Err(ServeFault::Audit(AuditFault::Memory | AuditFault::Write)) => true,
-        Err(ServeFault::Read | ServeFault::Audit(_)) => false,
+        Ok(status) => Ok(status),
+        Err(ServeFault::Memory | ServeFault::Write) => Err(Failure::Memory),
+        Err(ServeFault::Audit(AuditFault::Memory | AuditFault::Write)) => Err(Failure::Memory),
+        Err(ServeFault::Read | ServeFault::Audit(_)) => Err(Failure::Wrong(0)),
     }
 }
 
@@ -41,7 +41,7 @@ fn see_start<V: Onlooker>(
     command: Command,
     input: &str,
     onlooker: &mut V,
-) -> Outcome {
+) -> Result<u8, Failure> {
     let mut source = LineReader::new(input.as_bytes(), MAX_READS);
     let mut head = Vec::new(alloc);
     match read_start(alloc, command, &mut source, &mut head) {
@@ -50,16 +50,16 @@ fn see_start<V: Onlooker>(
         Err(StartFault::Settings(fault)) => onlooker.see_refused(head.as_slice(), fault),
         Err(StartFault::Read) => return Err(Failure::Wrong(0)),
     }
-    Ok(())
+    Ok(0)
 }
 
-/// Serves a command with an input, and shows what is met.
+/// Serves a command with an input, and shows what is met; answers the status.
 fn see_input<V: Onlooker>(
     alloc: Global,
     command: Command,
     input: &str,
     onlooker: &mut V,
-) -> Outcome {
+) -> Result<u8, Failure> {
     let Some(command) = served_by(command) else {
         return see_start(alloc, command, input, onlooker);
     };
@@ -69,22 +69,32 @@ fn see_input<V: Onlooker>(
         policies: Policies { pairs },
     };
     let came = serve_watched(alloc, order, input.as_bytes(), &mut io::sink(), onlooker);
-    if lacked_memory(came) {
-        return Err(Failure::Memory);
-    }
-    Ok(())
+    status_of(came)
 }
 
 /// Room for all that is said of an input, since a writer that fails hears less.
 const ROOM: usize = 65_536;
 
+/// Hears what is said of an input of a command; answers the status.
+fn hear(alloc: Global, command: Command, input: &str, words: &mut Vec<u8>) -> Result<u8, Failure> {
+    let mut explainer = Explainer::new(alloc, command, words);
+    let status = see_input(alloc, command, input, &mut explainer)?;
+    if explainer.fell_short() {
+        return Err(Failure::Memory);
+    }
+    Ok(status)
+}
+
+/// Whether memory was refused for the settings: then this is said of them, or nothing where the input wasn't read.
+fn is_without_settings(status: u8, words: &[u8]) -> bool {
+    status == 2 && (words.is_empty() || words.starts_with(b"settings fault 925".as_slice()))
+}
+
 /// What is said of an input of a command.
 fn heard(alloc: Global, command: Command, input: &str) -> Result<Vec<u8>, Failure> {
     let mut words = Vec::with_capacity(alloc, ROOM)?;
-    let mut explainer = Explainer::new(alloc, command, &mut words);
-    see_input(alloc, command, input, &mut explainer)?;
-    let fell_short = explainer.fell_short();
-    if fell_short || words.starts_with(b"settings fault 925".as_slice()) {
+    let status = hear(alloc, command, input, &mut words)?;
+    if is_without_settings(status, words.as_slice()) {
         return Err(Failure::Memory);
     }
     Ok(words)
