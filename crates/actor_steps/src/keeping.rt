@@ -9,7 +9,7 @@ ghost use Rattle.actor_steps.specs.Endings.{falls_of};
 ghost use Rattle.actor_steps.specs.Outcomes.{FailsNext, EndsKeeping};
 
 use crate::logging::log_own;
-use event_recorders::{Gate, Recorder, RunFault};
+use event_recorders::{Gate, OwnRecord, Recorder, RunFault};
 use lock_messages::Actor;
 use stable_record::{RecordFault, StableRecord};
 use world_model::{Effect, Event};
@@ -25,18 +25,18 @@ pub enum Keeping {
 
 /// Logs that the actor tries to keep these bytes.
 #[tactic(auto, using(crate::proofs::StepFacts::try_own, crate::proofs::StepFacts::try_found, crate::proofs::StepFacts::try_added, crate::proofs::StepFacts::trying))]
-fn log_try<R: Recorder>(
+fn log_try<S: OwnRecord, R: Recorder>(
     actor: Actor,
     bytes: &[u8],
-    stable: &dyn StableRecord,
+    stable: &S,
     recorder: &mut R,
 ) -> Result<(), RunFault>
     requires actor { (R.own_log recorder.old).actor ≡ actor }
     requires allowed { own_refusal (R.own_log recorder.old).ballots (Event.Try actor) (part_now (R.own_log recorder.old)) ≡ None }
     requires tries { tried_in (after_own (R.own_log recorder.old).ballots (Event.Try actor) Effect.Tried (part_now (R.own_log recorder.old))) ≡ Some bytes.now }
-    requires found { FindsPart (part_now (R.own_log recorder.old)) (finds stable.now) }
+    requires found { FindsPart (part_now (R.own_log recorder.old)) (S.StableRecord.finds stable.now) }
     ensures tried { OnOk result (IsAdded (R.own_log recorder.old) (Event.Try actor) Effect.Tried (R.own_log recorder.new)) }
-    ensures trying { OnOk result (IsTrying (R.own_log recorder.new) actor bytes.now (finds stable.now)) }
+    ensures trying { OnOk result (IsTrying (R.own_log recorder.new) actor bytes.now (S.StableRecord.finds stable.now)) }
     ensures refused { IfErr result (λ fault. IsBookFault fault × (R.own_log recorder.new ≡ R.own_log recorder.old)) }
 {
     let _ = bytes;
@@ -46,17 +46,17 @@ fn log_try<R: Recorder>(
 
 /// Logs that the actor has kept these bytes, which its record has.
 #[tactic(auto, using(crate::proofs::StepFacts::kept_own, crate::proofs::StepFacts::kept_found, crate::proofs::StepFacts::kept_added, crate::proofs::StepFacts::kept_then))]
-fn log_kept<R: Recorder>(
+fn log_kept<S: OwnRecord, R: Recorder>(
     actor: Actor,
     bytes: &[u8],
-    stable: &dyn StableRecord,
+    stable: &S,
     recorder: &mut R,
 ) -> Result<(), RunFault>
     requires trying { (strings : List (List ℕ)) × IsTrying (R.own_log recorder.old) actor bytes.now strings }
-    requires found { finds stable.now ≡ bytes.now ∷ [] }
-    requires free { stuck_of stable.now ≡ false }
+    requires found { S.StableRecord.finds stable.now ≡ bytes.now ∷ [] }
+    requires free { S.StableRecord.stuck_of stable.now ≡ false }
     ensures kept { OnOk result (IsAdded (R.own_log recorder.old) (Event.Kept actor) Effect.Kept (R.own_log recorder.new)) }
-    ensures found { OnOk result (HasFound bytes.now (R.own_log recorder.new) (finds stable.now) (stuck_of stable.now)) }
+    ensures found { OnOk result (HasFound bytes.now (R.own_log recorder.new) (S.StableRecord.finds stable.now) (S.StableRecord.stuck_of stable.now)) }
     ensures refused { IfErr result (λ fault. IsBookFault fault × (R.own_log recorder.new ≡ R.own_log recorder.old)) }
 {
     let _ = bytes;
@@ -66,14 +66,14 @@ fn log_kept<R: Recorder>(
 
 /// Keeps the bytes in a record that isn't stuck. The errors, which leave the record as it was: no change of
 /// it can be numbered any more (916), exactly where it is so, or memory was refused (914).
-fn put(bytes: &[u8], stable: &mut dyn StableRecord) -> Result<Keeping, RunFault>
+fn put<S: OwnRecord>(bytes: &[u8], stable: &mut S) -> Result<Keeping, RunFault>
     requires fits { length bytes.now ≤ MAX_RECORD_LEN }
-    requires free { stuck_of stable.old ≡ false }
-    ensures put { IfOk result (λ keeping. IsPut keeping bytes.now (finds stable.old) (finds stable.new) (stuck_of stable.new) (failures_of stable.old) (failures_of stable.new)) }
+    requires free { S.StableRecord.stuck_of stable.old ≡ false }
+    ensures put { IfOk result (λ keeping. IsPut keeping bytes.now (S.StableRecord.finds stable.old) (S.StableRecord.finds stable.new) (S.StableRecord.stuck_of stable.new) (S.StableRecord.failures_of stable.old) (S.StableRecord.failures_of stable.new)) }
     ensures refused { IfErr result (λ fault. (fault ≡ RunFault.Spent) ⊎ (fault ≡ RunFault.Memory)) }
-    ensures spent { (result ≡ Err RunFault.Spent) ↔ (spent_of stable.old ≡ true) }
-    ensures unchanged { IfErr result (λ fault. (finds stable.new ≡ finds stable.old) × (stuck_of stable.new ≡ false) × (spent_of stable.new ≡ spent_of stable.old) × (failures_of stable.new ≡ failures_of stable.old)) }
-    ensures count { HasFailed 0 (failures_of stable.old) (failures_of stable.new) }
+    ensures spent { (result ≡ Err RunFault.Spent) ↔ (S.StableRecord.spent_of stable.old ≡ true) }
+    ensures unchanged { IfErr result (λ fault. (S.StableRecord.finds stable.new ≡ S.StableRecord.finds stable.old) × (S.StableRecord.stuck_of stable.new ≡ false) × (S.StableRecord.spent_of stable.new ≡ S.StableRecord.spent_of stable.old) × (S.StableRecord.failures_of stable.new ≡ S.StableRecord.failures_of stable.old)) }
+    ensures count { HasFailed 0 (S.StableRecord.failures_of stable.old) (S.StableRecord.failures_of stable.new) }
 {
     match stable.keep(bytes) {
         Ok(()) => Ok(Keeping::Kept),
@@ -94,10 +94,10 @@ fn put(bytes: &[u8], stable: &mut dyn StableRecord) -> Result<Keeping, RunFault>
 /// numbered any more (916, which comes only where that is so). A failure of the device is told by none of
 /// them: the record isn't stuck then. However it ends, a restart finds what the log tells that it may.
 #[tactic(auto, using(crate::proofs::FindingFacts::keeping))]
-pub fn keep_next<R: Recorder, G: Gate>(
+pub fn keep_next<S: OwnRecord, R: Recorder, G: Gate>(
     actor: Actor,
     bytes: &[u8],
-    stable: &mut dyn StableRecord,
+    stable: &mut S,
     recorder: &mut R,
     gate: &G,
 ) -> Result<Keeping, RunFault>
@@ -105,16 +105,16 @@ pub fn keep_next<R: Recorder, G: Gate>(
     requires allowed { own_refusal (R.own_log recorder.old).ballots (Event.Try actor) (part_now (R.own_log recorder.old)) ≡ None }
     requires tries { tried_in (after_own (R.own_log recorder.old).ballots (Event.Try actor) Effect.Tried (part_now (R.own_log recorder.old))) ≡ Some bytes.now }
     requires fits { length bytes.now ≤ MAX_RECORD_LEN }
-    requires found { FindsPart (part_now (R.own_log recorder.old)) (finds stable.old) }
-    requires free { stuck_of stable.old ≡ false }
-    ensures kept { result ≡ Ok Keeping.Kept → IsKept (R.own_log recorder.old) actor (R.own_log recorder.new) × HasFound bytes.now (R.own_log recorder.new) (finds stable.new) (stuck_of stable.new) }
-    ensures failed { result ≡ Ok Keeping.Failed → FailsNext actor (R.own_log recorder.old) (R.own_log recorder.new) (failures_of stable.old) (failures_of stable.new) }
-    ensures ended { IfErr result (λ fault. EndsKeeping fault actor (R.own_log recorder.old) (R.own_log recorder.new) (stuck_of stable.new) (spent_of stable.old) (spent_of stable.new) (failures_of stable.old) (failures_of stable.new)) }
+    requires found { FindsPart (part_now (R.own_log recorder.old)) (S.StableRecord.finds stable.old) }
+    requires free { S.StableRecord.stuck_of stable.old ≡ false }
+    ensures kept { result ≡ Ok Keeping.Kept → IsKept (R.own_log recorder.old) actor (R.own_log recorder.new) × HasFound bytes.now (R.own_log recorder.new) (S.StableRecord.finds stable.new) (S.StableRecord.stuck_of stable.new) }
+    ensures failed { result ≡ Ok Keeping.Failed → FailsNext actor (R.own_log recorder.old) (R.own_log recorder.new) (S.StableRecord.failures_of stable.old) (S.StableRecord.failures_of stable.new) }
+    ensures ended { IfErr result (λ fault. EndsKeeping fault actor (R.own_log recorder.old) (R.own_log recorder.new) (S.StableRecord.stuck_of stable.new) (S.StableRecord.spent_of stable.old) (S.StableRecord.spent_of stable.new) (S.StableRecord.failures_of stable.old) (S.StableRecord.failures_of stable.new)) }
     // However it ends, a restart finds what is kept or, while something is tried, nothing but that and what is
     // tried.
-    ensures finds { FindsPart (part_now (R.own_log recorder.new)) (finds stable.new) }
+    ensures finds { FindsPart (part_now (R.own_log recorder.new)) (S.StableRecord.finds stable.new) }
     ensures falls { falls_of (R.own_log recorder.new) ≡ falls_of (R.own_log recorder.old) }
-    ensures count { HasFailed 0 (failures_of stable.old) (failures_of stable.new) }
+    ensures count { HasFailed 0 (S.StableRecord.failures_of stable.old) (S.StableRecord.failures_of stable.new) }
 {
     let actor = &actor;
     log_try(*actor, bytes, &*stable, recorder)?;

@@ -8,10 +8,9 @@ ghost use Rattle.actor_steps.specs.Steps.{run_fault_of, effect_of, reading_of, H
 ghost use Rattle.actor_steps.specs.Endings.{is_fall, falls_of};
 
 use event_recorders::laws::own_logs_tell_parts;
-use event_recorders::{LogFault, Recorder, RunFault};
+use event_recorders::{LogFault, OwnRecord, Recorder, RunFault};
 use lock_messages::{Actor, Message, NodeId};
 use lock_model::Problem;
-use stable_record::StableRecord;
 use world_model::{Effect, Event};
 
 /// The fault by which a thread ends where its book refuses an event that may happen: want of memory
@@ -37,19 +36,19 @@ fn effect_of(logged: Result<Effect, LogFault>) -> Result<Effect, RunFault>
 }
 
 /// Logs an event that reads no message.
-pub(crate) fn log_own<R: Recorder>(
+pub(crate) fn log_own<S: OwnRecord, R: Recorder>(
     recorder: &mut R,
     event: Event,
-    stable: &dyn StableRecord,
+    stable: &S,
 ) -> Result<Effect, RunFault>
     requires own { is_own (R.own_log recorder.old).actor event ≡ true }
     requires allowed { own_refusal (R.own_log recorder.old).ballots event (part_now (R.own_log recorder.old)) ≡ None }
     requires plain { reads event ≡ false }
-    requires found { FindsAfter (R.own_log recorder.old) event (finds stable.now) }
+    requires found { FindsAfter (R.own_log recorder.old) event (S.StableRecord.finds stable.now) }
     ensures logged { IfOk result (λ done. IsAdded (R.own_log recorder.old) event done (R.own_log recorder.new)) }
     ensures refused { IfErr result (λ fault. IsBookFault fault × (R.own_log recorder.new ≡ R.own_log recorder.old)) }
 {
-    effect_of(recorder.log(event, stable))
+    effect_of(stable.log(recorder, event))
 }
 
 /// Logs an event that neither reads a message nor changes what the actor keeps or tries to keep: a
@@ -58,18 +57,18 @@ pub(crate) fn log_own<R: Recorder>(
 /// The caller owes that the event is the actor's, that the actor's own log allows it, and that a
 /// restart finds in the record what the actor keeps. The errors leave the log as it was: memory was
 /// refused (914), or the book is full or another's (915).
-pub fn log_plain<R: Recorder>(
+pub fn log_plain<S: OwnRecord, R: Recorder>(
     recorder: &mut R,
     event: Event,
-    stable: &dyn StableRecord,
+    stable: &S,
 ) -> Result<Effect, RunFault>
     requires own { is_own (R.own_log recorder.old).actor event ≡ true }
     requires allowed { own_refusal (R.own_log recorder.old).ballots event (part_now (R.own_log recorder.old)) ≡ None }
     requires plain { reads event ≡ false }
     requires stays { changes_record event ≡ false }
-    requires found { FindsPart (part_now (R.own_log recorder.old)) (finds stable.now) }
+    requires found { FindsPart (part_now (R.own_log recorder.old)) (S.StableRecord.finds stable.now) }
     ensures logged { IfOk result (λ done. IsAdded (R.own_log recorder.old) event done (R.own_log recorder.new)) }
-    ensures found { FindsPart (part_now (R.own_log recorder.new)) (finds stable.now) }
+    ensures found { FindsPart (part_now (R.own_log recorder.new)) (S.StableRecord.finds stable.now) }
     ensures refused { IfErr result (λ fault. IsBookFault fault × (R.own_log recorder.new ≡ R.own_log recorder.old)) }
     ensures falls { is_fall event ≡ false → falls_of (R.own_log recorder.new) ≡ falls_of (R.own_log recorder.old) }
 {
@@ -85,17 +84,17 @@ pub fn log_plain<R: Recorder>(
 /// refused (914), or the book is full or another's (915).
 /// A call of its own: by log_plain a loop would have any effect to look at.
 #[tactic(auto, using(crate::proofs::ReadingFacts::switch_added))]
-pub fn log_switch<R: Recorder>(
+pub fn log_switch<S: OwnRecord, R: Recorder>(
     recorder: &mut R,
     node: NodeId,
     problem: Problem,
-    stable: &dyn StableRecord,
+    stable: &S,
 ) -> Result<bool, RunFault>
     requires actor { (R.own_log recorder.old).actor ≡ Actor.Node node }
     requires allowed { own_refusal (R.own_log recorder.old).ballots (Event.Switch node problem) (part_now (R.own_log recorder.old)) ≡ None }
-    requires found { FindsPart (part_now (R.own_log recorder.old)) (finds stable.now) }
+    requires found { FindsPart (part_now (R.own_log recorder.old)) (S.StableRecord.finds stable.now) }
     ensures logged { IfOk result (λ changed. IsAdded (R.own_log recorder.old) (Event.Switch node problem) (Effect.Switched changed) (R.own_log recorder.new)) }
-    ensures found { FindsPart (part_now (R.own_log recorder.new)) (finds stable.now) }
+    ensures found { FindsPart (part_now (R.own_log recorder.new)) (S.StableRecord.finds stable.now) }
     ensures refused { IfErr result (λ fault. IsBookFault fault × (R.own_log recorder.new ≡ R.own_log recorder.old)) }
     ensures falls { falls_of (R.own_log recorder.new) ≡ falls_of (R.own_log recorder.old) }
 {
@@ -121,23 +120,23 @@ fn reading_of(logged: Result<Effect, LogFault>) -> Result<Option<Message>, RunFa
 /// The caller owes what `log_plain` asks for, and a message for the actor. The errors leave the log as it was: it ran
 /// out of memory (914), or the log takes nothing more or is another book's (915).
 #[tactic(auto, using(crate::proofs::ReadingFacts::has_read, crate::proofs::ReadingFacts::has_dropped, crate::proofs::ReadingFacts::has_refused))]
-pub fn log_reading<R: Recorder>(
+pub fn log_reading<S: OwnRecord, R: Recorder>(
     recorder: &mut R,
     event: Event,
     message: &Message,
-    stable: &dyn StableRecord,
+    stable: &S,
 ) -> Result<Option<Message>, RunFault>
     requires own { is_own (R.own_log recorder.old).actor event ≡ true }
     requires allowed { own_refusal (R.own_log recorder.old).ballots event (part_now (R.own_log recorder.old)) ≡ None }
     requires reading { reads event ≡ true }
     requires addressed { is_for (R.own_log recorder.old).actor message.now ≡ true }
-    requires found { FindsPart (part_now (R.own_log recorder.old)) (finds stable.now) }
+    requires found { FindsPart (part_now (R.own_log recorder.old)) (S.StableRecord.finds stable.now) }
     ensures read { IfOk result (λ o. IfSome o (λ m. HasRead (R.own_log recorder.old) event m (R.own_log recorder.new))) }
     ensures dropped { IfOk result (λ o. IfNone o (R.own_log recorder.new ≡ R.own_log recorder.old)) }
-    ensures found { FindsPart (part_now (R.own_log recorder.new)) (finds stable.now) }
+    ensures found { FindsPart (part_now (R.own_log recorder.new)) (S.StableRecord.finds stable.now) }
     ensures refused { IfErr result (λ fault. IsBookFault fault × (R.own_log recorder.new ≡ R.own_log recorder.old)) }
     ensures falls { falls_of (R.own_log recorder.new) ≡ falls_of (R.own_log recorder.old) }
 {
     own_logs_tell_parts();
-    reading_of(recorder.log_reading(event, message, stable))
+    reading_of(stable.log_reading(recorder, event, message))
 }

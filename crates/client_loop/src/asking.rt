@@ -18,10 +18,9 @@ use crate::posts::take_post;
 use crate::progress::Progress;
 use crate::talking::tell;
 use event_lines::Wish;
-use event_recorders::{Recorder, RunFault};
+use event_recorders::{OwnRecord, Recorder, RunFault};
 use lock_messages::{NodeId, ResourceName};
 use lossy_link::Link;
-use stable_record::StableRecord;
 use std::alloc::Global;
 use std::sync::Wait;
 
@@ -44,16 +43,16 @@ fn awaits_enough(wish: &Wish, progress: &Progress) -> bool {
 
 /// Asks the node that is to be asked next, unless it was asked already, or those that were asked are enough.
 #[tactic(auto, using(crate::proofs::TalkFacts::talks_still))]
-fn ask_on<R: Recorder, L: Link>(
+fn ask_on<S: OwnRecord, R: Recorder, L: Link>(
     alloc: Global,
     wish: &Wish,
     progress: &mut Progress,
-    stable: &dyn StableRecord,
+    stable: &S,
     recorder: &mut R,
     link: &mut L,
 ) -> Result<(), RunFault>
-    requires { Stands (R.own_log recorder.old) (finds stable.now) progress.old.core }
-    ensures says { Says result (R.own_log recorder.old) (R.own_log recorder.new) (L.given link.old) (L.given link.new) (finds stable.now) progress.new.core }
+    requires { Stands (R.own_log recorder.old) (S.StableRecord.finds stable.now) progress.old.core }
+    ensures says { Says result (R.own_log recorder.old) (R.own_log recorder.new) (L.given link.old) (L.given link.new) (S.StableRecord.finds stable.now) progress.new.core }
     ensures keeps { KeepsAsking progress.old progress.new }
 {
     if awaits_enough(wish, progress) {
@@ -87,16 +86,16 @@ fn first_asked(resource: &ResourceName, nodes: u8) -> u8
 /// Asks at once as many nodes as the wish needs by its ballot, without those that are gone. It begins with the node that
 /// the resource's name picks, and goes on with the first node after the last.
 #[tactic(auto, using(crate::proofs::Steps::talking))]
-fn ask_together<R: Recorder, L: Link>(
+fn ask_together<S: OwnRecord, R: Recorder, L: Link>(
     alloc: Global,
     wish: &Wish,
     progress: &mut Progress,
-    stable: &dyn StableRecord,
+    stable: &S,
     recorder: &mut R,
     link: &mut L,
 ) -> Result<(), RunFault>
-    requires { Stands (R.own_log recorder.old) (finds stable.now) progress.old.core }
-    ensures says { Says result (R.own_log recorder.old) (R.own_log recorder.new) (L.given link.old) (L.given link.new) (finds stable.now) progress.new.core }
+    requires { Stands (R.own_log recorder.old) (S.StableRecord.finds stable.now) progress.old.core }
+    ensures says { Says result (R.own_log recorder.old) (R.own_log recorder.new) (L.given link.old) (L.given link.new) (S.StableRecord.finds stable.now) progress.new.core }
     ensures others { progress.new ≡ record progress.old { asked = progress.new.asked } }
 {
     let Some(ballot) = progress.core.ballots().ballot(wish.place) else {
@@ -123,22 +122,22 @@ fn ask_together<R: Recorder, L: Link>(
 /// needs: two clients that ask so never wait for each other. 912: the nodes that granted and those that aren't gone are not
 /// enough.
 #[tactic(auto, using(crate::proofs::Steps::talking, crate::proofs::NudgeFacts::book_has_none))]
-pub(crate) fn ask<W: Wait, R: Recorder, L: Link>(
+pub(crate) fn ask<W: Wait, S: OwnRecord, R: Recorder, L: Link>(
     rt: &W,
     alloc: Global,
     wish: &Wish,
     waits: bool,
     progress: &mut Progress,
-    stable: &dyn StableRecord,
+    stable: &S,
     recorder: &mut R,
     link: &mut L,
 ) -> Result<bool, RunFault>
-    requires stands { Stands (R.own_log recorder.old) (finds stable.now) progress.old.core }
+    requires stands { Stands (R.own_log recorder.old) (S.StableRecord.finds stable.now) progress.old.core }
     requires placed { HasPlace (R.own_log recorder.old).ballots wish.now.place }
     ensures may_enter { result ≡ Ok true → MayEnter progress.new.core }
     // A wish is taken back only if it is not to wait, and a node let it wait.
     ensures busy { result ≡ Ok false → (waits ≡ false) × (progress.new.busy ≡ true) }
-    ensures talks { TalksBy result (R.own_log recorder.old) (R.own_log recorder.new) (L.given link.old) (L.given link.new) (finds stable.now) progress.new.core }
+    ensures talks { TalksBy result (R.own_log recorder.old) (R.own_log recorder.new) (L.given link.old) (L.given link.new) (S.StableRecord.finds stable.now) progress.new.core }
     ensures keeps { KeepsAsking progress.old progress.new }
     ensures ended { IfErr result (λ f. EndsAskingFor wish.now f progress.new) }
 {

@@ -17,7 +17,7 @@ use crate::progress::Progress;
 use crate::rising::rise;
 use crate::wishing::fulfil;
 use event_lines::{MAX_WISHES, Wish};
-use event_recorders::{Gate, Recorder, RunFault};
+use event_recorders::{BoxedRecord, Gate, OwnRecord, Recorder, RunFault};
 use lock_messages::{Actor, ClientId};
 use lossy_link::Link;
 use stable_record::StableRecord;
@@ -27,18 +27,18 @@ use vote_weights::BallotList;
 
 /// Fulfils the wishes in order.
 #[tactic(auto, using(crate::proofs::Steps::fulfilling_all))]
-fn fulfil_all<W: Wait, R: Recorder, L: Link, G: Gate>(
+fn fulfil_all<W: Wait, S: OwnRecord, R: Recorder, L: Link, G: Gate>(
     rt: &W,
     alloc: Global,
     progress: Progress,
     wishes: &[Wish],
-    stable: &mut dyn StableRecord,
+    stable: &mut S,
     recorder: &mut R,
     link: &mut L,
     gate: &G,
 ) -> Result<u32, (u32, RunFault)>
-    requires stands { Stands (R.own_log recorder.old) (finds stable.old) progress.core }
-    requires free { stuck_of stable.old ≡ false }
+    requires stands { Stands (R.own_log recorder.old) (S.StableRecord.finds stable.old) progress.core }
+    requires free { S.StableRecord.stuck_of stable.old ≡ false }
     requires idle { phase_of progress.core ≡ phase.Idle }
     requires few { length wishes.now ≤ MAX_WISHES }
     requires placed { ArePlaced (R.own_log recorder.old).ballots wishes.now }
@@ -49,8 +49,8 @@ fn fulfil_all<W: Wait, R: Recorder, L: Link, G: Gate>(
     ensures faulted { IfErr result (λ p. SentUnlessMemory p.1 (R.own_log recorder.old) (R.own_log recorder.new) (L.given link.old) (L.given link.new)) }
     ensures fulfils { FulfilsInOrder (R.own_log recorder.old).actor wishes.now result (R.own_log recorder.new) }
     ensures all { IfOk result (FulfilsAll wishes.now (R.own_log recorder.new)) }
-    ensures agrees { RecordAgrees (falls_of (R.own_log recorder.old)) (R.own_log recorder.new) (finds stable.new) (failures_of stable.old) (failures_of stable.new) }
-    ensures ended { IfErr result (λ p. ClientEndsFrom p.1 (falls_of (R.own_log recorder.old)) (R.own_log recorder.new) (stuck_of stable.new) (spent_of stable.new) (failures_of stable.old) (failures_of stable.new)) }
+    ensures agrees { RecordAgrees (falls_of (R.own_log recorder.old)) (R.own_log recorder.new) (S.StableRecord.finds stable.new) (S.StableRecord.failures_of stable.old) (S.StableRecord.failures_of stable.new) }
+    ensures ended { IfErr result (λ p. ClientEndsFrom p.1 (falls_of (R.own_log recorder.old)) (R.own_log recorder.new) (S.StableRecord.stuck_of stable.new) (S.StableRecord.spent_of stable.new) (S.StableRecord.failures_of stable.old) (S.StableRecord.failures_of stable.new)) }
 {
     let mut progress = progress;
     let mut entered = 0;
@@ -78,20 +78,20 @@ fn fulfil_all<W: Wait, R: Recorder, L: Link, G: Gate>(
 ///
 /// The caller owes what it owes `run_client`, and gets its errors.
 #[tactic(auto, using(crate::proofs::Steps::running))]
-pub fn run_client_over<W: Wait, R: Recorder, L: Link, G: Gate>(
+pub fn run_client_over<W: Wait, S: OwnRecord, R: Recorder, L: Link, G: Gate>(
     rt: &W,
     alloc: Global,
     client: ClientId,
     ballots: BallotList,
     wishes: &[Wish],
-    stable: &mut dyn StableRecord,
+    stable: &mut S,
     recorder: &mut R,
     link: &mut L,
     gate: &G,
 ) -> Result<u32, (u32, RunFault)>
     requires unused { IsUnused (R.own_log recorder.old) (Actor.Client client) }
     requires ballots { (R.own_log recorder.old).ballots ≡ ballots }
-    requires found { FindsPart (R.own_log recorder.old).opening (finds stable.old) }
+    requires found { FindsPart (R.own_log recorder.old).opening (S.StableRecord.finds stable.old) }
     requires kept { KeepsAttempt (R.own_log recorder.old).opening }
     requires own { All (λ wish. wish.client ≡ client) wishes.now }
     requires few { length wishes.now ≤ MAX_WISHES }
@@ -100,9 +100,9 @@ pub fn run_client_over<W: Wait, R: Recorder, L: Link, G: Gate>(
     ensures fulfils { FulfilsInOrder (R.own_log recorder.old).actor wishes.now result (R.own_log recorder.new) }
     ensures all { IfOk result (FulfilsAll wishes.now (R.own_log recorder.new)) }
     // However it ends, a restart finds in its record nothing but what it has kept and what it tries to keep.
-    ensures own { FindsItsOwn (part_now (R.own_log recorder.new)) (finds stable.new) }
-    ensures ended { IfErr result (λ p. ClientEndsBy p.1 (R.own_log recorder.new) (stuck_of stable.new) (spent_of stable.new) (failures_of stable.old) (failures_of stable.new)) }
-    ensures falls { HasFailed (falls_of (R.own_log recorder.new)) (failures_of stable.old) (failures_of stable.new) }
+    ensures own { FindsItsOwn (part_now (R.own_log recorder.new)) (S.StableRecord.finds stable.new) }
+    ensures ended { IfErr result (λ p. ClientEndsBy p.1 (R.own_log recorder.new) (S.StableRecord.stuck_of stable.new) (S.StableRecord.spent_of stable.new) (S.StableRecord.failures_of stable.old) (S.StableRecord.failures_of stable.new)) }
+    ensures falls { HasFailed (falls_of (R.own_log recorder.new)) (S.StableRecord.failures_of stable.old) (S.StableRecord.failures_of stable.new) }
 {
     let progress = match rise(client, ballots, stable, recorder) {
         Ok(progress) => progress,
@@ -164,14 +164,14 @@ pub fn run_client<W: Wait, R: Recorder, L: Link, G: Gate>(
     ensures all { IfOk result (FulfilsAll wishes.now (R.own_log recorder.new)) }
     ensures ended { IfErr result (λ p. ClientEndsSomehow p.1 (R.own_log recorder.new)) }
 {
-    let mut stable = stable;
+    let mut stable = BoxedRecord::of(stable);
     run_client_over(
         rt,
         alloc,
         client,
         ballots,
         wishes,
-        &mut *stable,
+        &mut stable,
         recorder,
         link,
         gate,

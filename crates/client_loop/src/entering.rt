@@ -25,23 +25,22 @@ use crate::progress::{Patience, Progress};
 use actor_steps::log_plain;
 use client_core::ClientCore;
 use event_lines::Wish;
-use event_recorders::{Gate, Recorder, RunFault};
+use event_recorders::{Gate, OwnRecord, Recorder, RunFault};
 use lossy_link::Link;
-use stable_record::StableRecord;
 use std::alloc::Global;
 use std::sync::Wait;
 use world_model::Event;
 
 /// Logs that the client enters.
 #[tactic(auto, using(crate::proofs::SentFacts::enter_sends_nothing, crate::proofs::BeginFacts::nothing_begun))]
-fn log_enter<R: Recorder>(
+fn log_enter<S: OwnRecord, R: Recorder>(
     core: &ClientCore,
-    stable: &dyn StableRecord,
+    stable: &S,
     recorder: &mut R,
 ) -> Result<(), RunFault>
     requires may { MayEnter core.now }
-    requires stands { Stands (R.own_log recorder.old) (finds stable.now) core.now }
-    ensures entered { OnOk result (EntersAsking (R.own_log recorder.old) (R.own_log recorder.new) (finds stable.now) core.now core.now) }
+    requires stands { Stands (R.own_log recorder.old) (S.StableRecord.finds stable.now) core.now }
+    ensures entered { OnOk result (EntersAsking (R.own_log recorder.old) (R.own_log recorder.new) (S.StableRecord.finds stable.now) core.now core.now) }
     ensures still { EntersSilently (R.own_log recorder.old) (R.own_log recorder.new) }
     ensures ended { IfErr result (λ f. EndsUnlogged f (R.own_log recorder.old) (R.own_log recorder.new)) }
 {
@@ -51,17 +50,17 @@ fn log_enter<R: Recorder>(
 
 /// Takes back what the client asks for: it leaves, and each node that it asked has answered its release or is
 /// gone.
-fn take_back<W: Wait, R: Recorder, L: Link>(
+fn take_back<W: Wait, S: OwnRecord, R: Recorder, L: Link>(
     rt: &W,
     alloc: Global,
     progress: &mut Progress,
-    stable: &dyn StableRecord,
+    stable: &S,
     recorder: &mut R,
     link: &mut L,
 ) -> Result<(), RunFault>
-    requires stands { Stands (R.own_log recorder.old) (finds stable.now) progress.old.core }
+    requires stands { Stands (R.own_log recorder.old) (S.StableRecord.finds stable.now) progress.old.core }
     requires asking { phase_of progress.old.core ≡ phase.Asking }
-    ensures { let kept = answers (finds stable.now) (stuck_of stable.now) (spent_of stable.now) (failures_of stable.now) in
+    ensures { let kept = answers (S.StableRecord.finds stable.now) (S.StableRecord.stuck_of stable.now) (S.StableRecord.spent_of stable.now) (S.StableRecord.failures_of stable.now) in
         let before = moment progress.old (R.own_log recorder.old) kept (L.given link.old) in
         let after = moment progress.new (R.own_log recorder.new) kept (L.given link.new) in
         Leaving result before after }
@@ -72,25 +71,25 @@ fn take_back<W: Wait, R: Recorder, L: Link>(
 
 /// Asks for what is wished and, once the votes are enough, logs the Enter; whether it did.
 #[tactic(auto, using(crate::proofs::Steps::entering))]
-fn ask_and_enter<W: Wait, R: Recorder, L: Link>(
+fn ask_and_enter<W: Wait, S: OwnRecord, R: Recorder, L: Link>(
     rt: &W,
     alloc: Global,
     wish: &Wish,
     waits: bool,
     progress: &mut Progress,
-    stable: &dyn StableRecord,
+    stable: &S,
     recorder: &mut R,
     link: &mut L,
 ) -> Result<bool, RunFault>
-    requires stands { Stands (R.own_log recorder.old) (finds stable.now) progress.old.core }
+    requires stands { Stands (R.own_log recorder.old) (S.StableRecord.finds stable.now) progress.old.core }
     requires asking { phase_of progress.old.core ≡ phase.Asking }
     requires placed { HasPlace (R.own_log recorder.old).ballots wish.now.place }
     ensures sent { SendsBy result (R.own_log recorder.old) (R.own_log recorder.new) (L.given link.old) (L.given link.new) }
-    ensures entered { result ≡ Ok true → EntersAsking (R.own_log recorder.old) (R.own_log recorder.new) (finds stable.now) progress.old.core progress.new.core }
-    ensures stopped { result ≡ Ok false → StopsAsking waits (R.own_log recorder.new) (finds stable.now) progress.new }
+    ensures entered { result ≡ Ok true → EntersAsking (R.own_log recorder.old) (R.own_log recorder.new) (S.StableRecord.finds stable.now) progress.old.core progress.new.core }
+    ensures stopped { result ≡ Ok false → StopsAsking waits (R.own_log recorder.new) (S.StableRecord.finds stable.now) progress.new }
     ensures outside { (result ≡ Ok true → ⊥) → visits_of (R.own_log recorder.new) ≡ visits_of (R.own_log recorder.old) }
-    ensures ended { IfErr result (λ f. EndsAskingOnce f (R.own_log recorder.new) (finds stable.now) progress.new) }
-    ensures goes_on { GoesOnAsking (R.own_log recorder.old) (R.own_log recorder.new) (finds stable.now) progress.old progress.new }
+    ensures ended { IfErr result (λ f. EndsAskingOnce f (R.own_log recorder.new) (S.StableRecord.finds stable.now) progress.new) }
+    ensures goes_on { GoesOnAsking (R.own_log recorder.old) (R.own_log recorder.new) (S.StableRecord.finds stable.now) progress.old progress.new }
 {
     match ask(rt, alloc, wish, waits, progress, stable, recorder, link) {
         Ok(true) => {
@@ -124,23 +123,23 @@ fn ask_and_enter<W: Wait, R: Recorder, L: Link>(
 /// release once to each asked node that isn't gone (that last is tested). Three reopens of the record failed in a row (911); memory
 /// was refused (914); the book is full or another's (915); no change of the record can be numbered any more,
 /// or no attempt is left (916).
-pub fn enter<W: Wait, R: Recorder, L: Link, G: Gate>(
+pub fn enter<W: Wait, S: OwnRecord, R: Recorder, L: Link, G: Gate>(
     rt: &W,
     alloc: Global,
     wish: &Wish,
     patience: Patience,
     progress: &mut Progress,
-    stable: &mut dyn StableRecord,
+    stable: &mut S,
     recorder: &mut R,
     link: &mut L,
     gate: &G,
 ) -> Result<bool, RunFault>
-    requires stands { Stands (R.own_log recorder.old) (finds stable.old) (core_of progress.old) }
-    requires free { stuck_of stable.old ≡ false }
+    requires stands { Stands (R.own_log recorder.old) (S.StableRecord.finds stable.old) (core_of progress.old) }
+    requires free { S.StableRecord.stuck_of stable.old ≡ false }
     requires idle { phase_of (core_of progress.old) ≡ phase.Idle }
     requires placed { HasPlace (R.own_log recorder.old).ballots wish.now.place }
-    ensures { let before = moment progress.old (R.own_log recorder.old) (answers (finds stable.old) (stuck_of stable.old) (spent_of stable.old) (failures_of stable.old)) (L.given link.old) in
-        let after = moment progress.new (R.own_log recorder.new) (answers (finds stable.new) (stuck_of stable.new) (spent_of stable.new) (failures_of stable.new)) (L.given link.new) in
+    ensures { let before = moment progress.old (R.own_log recorder.old) (answers (S.StableRecord.finds stable.old) (S.StableRecord.stuck_of stable.old) (S.StableRecord.spent_of stable.old) (S.StableRecord.failures_of stable.old)) (L.given link.old) in
+        let after = moment progress.new (R.own_log recorder.new) (answers (S.StableRecord.finds stable.new) (S.StableRecord.stuck_of stable.new) (S.StableRecord.spent_of stable.new) (S.StableRecord.failures_of stable.new)) (L.given link.new) in
         Entering (use_of wish.now) patience.nudges patience.waits result before after }
 {
     progress.begin_wish(patience.nudges);

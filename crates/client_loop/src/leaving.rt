@@ -19,22 +19,21 @@ use crate::progress::Progress;
 use crate::releasing::release;
 use actor_steps::log_plain;
 use client_core::ClientCore;
-use event_recorders::{Recorder, RunFault};
+use event_recorders::{OwnRecord, Recorder, RunFault};
 use lossy_link::Link;
-use stable_record::StableRecord;
 use std::alloc::Global;
 use std::sync::Wait;
 use world_model::Event;
 
 /// Logs that the client has left, or has given up asking.
 #[tactic(auto, using(crate::proofs::SentFacts::leave_sends_nothing))]
-pub(crate) fn log_leave<R: Recorder>(
+pub(crate) fn log_leave<S: OwnRecord, R: Recorder>(
     core: &ClientCore,
-    stable: &dyn StableRecord,
+    stable: &S,
     recorder: &mut R,
 ) -> Result<(), RunFault>
-    requires { HasLeft (R.own_log recorder.old) (finds stable.now) core.now }
-    ensures outside { OnOk result (Stands (R.own_log recorder.new) (finds stable.now) core.now) }
+    requires { HasLeft (R.own_log recorder.old) (S.StableRecord.finds stable.now) core.now }
+    ensures outside { OnOk result (Stands (R.own_log recorder.new) (S.StableRecord.finds stable.now) core.now) }
     ensures still { LeavesSilently (R.own_log recorder.old) (R.own_log recorder.new) }
     ensures ended { IfErr result (λ f. EndsUnlogged f (R.own_log recorder.old) (R.own_log recorder.new)) }
 {
@@ -53,16 +52,16 @@ pub(crate) fn log_leave<R: Recorder>(
 /// The attempt had its last nudge (913), and then the client rests, and has said its release once more to each
 /// asked node that isn't gone (that last is tested); memory was refused (914), or the book is full or another's (915).
 #[tactic(auto, using(crate::proofs::Steps::leaving))]
-pub fn leave<W: Wait, R: Recorder, L: Link>(
+pub fn leave<W: Wait, S: OwnRecord, R: Recorder, L: Link>(
     rt: &W,
     alloc: Global,
     progress: &mut Progress,
-    stable: &dyn StableRecord,
+    stable: &S,
     recorder: &mut R,
     link: &mut L,
 ) -> Result<(), RunFault>
-    requires { HasLeft (R.own_log recorder.old) (finds stable.now) (core_of progress.old) }
-    ensures { let kept = answers (finds stable.now) (stuck_of stable.now) (spent_of stable.now) (failures_of stable.now) in
+    requires { HasLeft (R.own_log recorder.old) (S.StableRecord.finds stable.now) (core_of progress.old) }
+    ensures { let kept = answers (S.StableRecord.finds stable.now) (S.StableRecord.stuck_of stable.now) (S.StableRecord.spent_of stable.now) (S.StableRecord.failures_of stable.now) in
         let before = moment progress.old (R.own_log recorder.old) kept (L.given link.old) in
         let after = moment progress.new (R.own_log recorder.new) kept (L.given link.new) in
         Leaving result before after }

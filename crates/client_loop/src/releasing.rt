@@ -17,25 +17,24 @@ ghost use Rattle.client_loop.specs.Talking.{WaitsBy, Says};
 use crate::posts::take_post;
 use crate::progress::Progress;
 use crate::talking::tell;
-use event_recorders::{Recorder, RunFault};
+use event_recorders::{OwnRecord, Recorder, RunFault};
 use lock_messages::NodeId;
 use lossy_link::Link;
-use stable_record::StableRecord;
 use std::alloc::Global;
 use std::sync::Wait;
 use vote_weights::NodeSet;
 
 /// Says the release to each node that was asked and isn't gone.
 #[tactic(auto, using(crate::proofs::Steps::talking))]
-pub(crate) fn tell_releases<R: Recorder, L: Link>(
+pub(crate) fn tell_releases<S: OwnRecord, R: Recorder, L: Link>(
     alloc: Global,
     progress: &Progress,
-    stable: &dyn StableRecord,
+    stable: &S,
     recorder: &mut R,
     link: &mut L,
 ) -> Result<(), RunFault>
-    requires { Stands (R.own_log recorder.old) (finds stable.now) progress.now.core }
-    ensures says { Says result (R.own_log recorder.old) (R.own_log recorder.new) (L.given link.old) (L.given link.new) (finds stable.now) progress.now.core }
+    requires { Stands (R.own_log recorder.old) (S.StableRecord.finds stable.now) progress.now.core }
+    ensures says { Says result (R.own_log recorder.old) (R.own_log recorder.new) (L.given link.old) (L.given link.new) (S.StableRecord.finds stable.now) progress.now.core }
 {
     for number in 1..=progress.core.ballots().nodes() {
         let Some(node) = NodeId::of(number) else {
@@ -50,16 +49,16 @@ pub(crate) fn tell_releases<R: Recorder, L: Link>(
 
 /// Says the release to each node that was asked, until each has answered or is gone.
 #[tactic(auto, using(crate::proofs::Steps::talking, crate::proofs::NudgeFacts::book_has_none))]
-pub(crate) fn release<W: Wait, R: Recorder, L: Link>(
+pub(crate) fn release<W: Wait, S: OwnRecord, R: Recorder, L: Link>(
     rt: &W,
     alloc: Global,
     progress: &mut Progress,
-    stable: &dyn StableRecord,
+    stable: &S,
     recorder: &mut R,
     link: &mut L,
 ) -> Result<(), RunFault>
-    requires { Stands (R.own_log recorder.old) (finds stable.now) progress.old.core }
-    ensures waits { WaitsBy result (R.own_log recorder.old) (R.own_log recorder.new) (L.given link.old) (L.given link.new) (finds stable.now) progress.old progress.new }
+    requires { Stands (R.own_log recorder.old) (S.StableRecord.finds stable.now) progress.old.core }
+    ensures waits { WaitsBy result (R.own_log recorder.old) (R.own_log recorder.new) (L.given link.old) (L.given link.new) (S.StableRecord.finds stable.now) progress.old progress.new }
     ensures asked { progress.new.asked ≡ progress.old.asked }
     // Each node of the ballots that was asked has answered, or is gone.
     ensures released { OnOk result (IsReleased progress.new.core.ballots progress.new.asked progress.new.released progress.new.gone) }
@@ -88,20 +87,20 @@ pub(crate) fn release<W: Wait, R: Recorder, L: Link>(
 /// The call had its last nudge (913); it ran out of memory (914), or the book is full or another's (915). The client
 /// rests in each case.
 #[tactic(auto, using(crate::proofs::BeginFacts::still_client))]
-pub fn release_at<W: Wait, R: Recorder, L: Link>(
+pub fn release_at<W: Wait, S: OwnRecord, R: Recorder, L: Link>(
     rt: &W,
     alloc: Global,
     nodes: NodeSet,
     nudges: u32,
     progress: &mut Progress,
-    stable: &dyn StableRecord,
+    stable: &S,
     recorder: &mut R,
     link: &mut L,
 ) -> Result<(), RunFault>
-    requires stands { Stands (R.own_log recorder.old) (finds stable.now) (core_of progress.old) }
+    requires stands { Stands (R.own_log recorder.old) (S.StableRecord.finds stable.now) (core_of progress.old) }
     requires idle { phase_of (core_of progress.old) ≡ phase.Idle }
     ensures sent { SendsBy result (R.own_log recorder.old) (R.own_log recorder.new) (L.given link.old) (L.given link.new) }
-    ensures rests { RestsStill (R.own_log recorder.old) (R.own_log recorder.new) (finds stable.now) (core_of progress.new) }
+    ensures rests { RestsStill (R.own_log recorder.old) (R.own_log recorder.new) (S.StableRecord.finds stable.now) (core_of progress.new) }
     ensures asks { AsksAt (core_of progress.old).attempt nodes nudges progress.new }
     ensures released { OnOk result (HasReleased progress.new) }
     ensures ended { IfErr result (λ f. EndsWaiting f progress.new) }

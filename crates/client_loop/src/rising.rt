@@ -15,9 +15,9 @@ ghost use Rattle.client_loop.specs.Visits.{visits_of};
 use crate::progress::Progress;
 use actor_steps::rise_first;
 use client_core::ClientCore;
-use event_recorders::{Recorder, RunFault};
+use event_recorders::{OwnRecord, Recorder, RunFault};
 use lock_messages::{Actor, ClientId};
-use stable_record::{StableRecord, read_client};
+use stable_record::read_client;
 use vote_weights::BallotList;
 
 /// The client rises, once, with the attempt that its record holds, and rests.
@@ -31,18 +31,18 @@ use vote_weights::BallotList;
 /// The client has not risen, and nothing is logged: three reopens of the record failed (911), memory was
 /// refused (914), or the book is full or another's (915).
 #[tactic(auto, using(crate::proofs::Steps::rising_first))]
-pub fn rise<R: Recorder>(
+pub fn rise<S: OwnRecord, R: Recorder>(
     client: ClientId,
     ballots: BallotList,
-    stable: &mut dyn StableRecord,
+    stable: &mut S,
     recorder: &mut R,
 ) -> Result<Progress, RunFault>
     requires unused { IsUnused (R.own_log recorder.old) (Actor.Client client) }
     requires ballots { (R.own_log recorder.old).ballots ≡ ballots }
-    requires found { FindsPart (R.own_log recorder.old).opening (finds stable.old) }
+    requires found { FindsPart (R.own_log recorder.old).opening (S.StableRecord.finds stable.old) }
     requires kept { KeepsAttempt (R.own_log recorder.old).opening }
-    ensures { let before = answers (finds stable.old) (stuck_of stable.old) (spent_of stable.old) (failures_of stable.old) in
-        let after = answers (finds stable.new) (stuck_of stable.new) (spent_of stable.new) (failures_of stable.new) in
+    ensures { let before = answers (S.StableRecord.finds stable.old) (S.StableRecord.stuck_of stable.old) (S.StableRecord.spent_of stable.old) (S.StableRecord.failures_of stable.old) in
+        let after = answers (S.StableRecord.finds stable.new) (S.StableRecord.stuck_of stable.new) (S.StableRecord.spent_of stable.new) (S.StableRecord.failures_of stable.new) in
         Rising result (R.own_log recorder.old) (R.own_log recorder.new) before after }
 {
     let bytes = rise_first(Actor::Client(client), stable, recorder)?;

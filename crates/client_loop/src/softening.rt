@@ -22,28 +22,27 @@ use crate::talking::tell;
 use actor_steps::log_plain;
 use client_core::ClientCore;
 use entry_guard::EntryGuard;
-use event_recorders::{Recorder, RunFault};
+use event_recorders::{OwnRecord, Recorder, RunFault};
 use lock_messages::NodeId;
 use lossy_link::Link;
-use stable_record::StableRecord;
 use std::alloc::Global;
 use vote_weights::NodeSet;
 use world_model::Event;
 
 /// Says to the node what the client has to say to it, where it is of the set.
 #[tactic(auto, using(crate::proofs::TalkFacts::talks_still))]
-fn tell_if_granted<R: Recorder, L: Link>(
+fn tell_if_granted<S: OwnRecord, R: Recorder, L: Link>(
     alloc: Global,
     core: &ClientCore,
     granted: NodeSet,
     node: NodeId,
-    stable: &dyn StableRecord,
+    stable: &S,
     recorder: &mut R,
     link: &mut L,
 ) -> Result<(), RunFault>
-    requires { Stands (R.own_log recorder.old) (finds stable.now) core.now }
+    requires { Stands (R.own_log recorder.old) (S.StableRecord.finds stable.now) core.now }
     ensures told { OnOk result (Tells (if has_node granted node then message_for core.now node else None) node (R.own_log recorder.old) (R.own_log recorder.new)) }
-    ensures says { Says result (R.own_log recorder.old) (R.own_log recorder.new) (L.given link.old) (L.given link.new) (finds stable.now) core.now }
+    ensures says { Says result (R.own_log recorder.old) (R.own_log recorder.new) (L.given link.old) (L.given link.new) (S.StableRecord.finds stable.now) core.now }
 {
     if !granted.has(node) {
         return Ok(());
@@ -53,18 +52,18 @@ fn tell_if_granted<R: Recorder, L: Link>(
 
 /// Says to each node of the set, once, that the client has softened.
 #[tactic(auto, using(crate::proofs::Steps::talking))]
-fn tell_granted<R: Recorder, L: Link>(
+fn tell_granted<S: OwnRecord, R: Recorder, L: Link>(
     alloc: Global,
     core: &ClientCore,
     granted: NodeSet,
-    stable: &dyn StableRecord,
+    stable: &S,
     recorder: &mut R,
     link: &mut L,
 ) -> Result<(), RunFault>
-    requires stands { Stands (R.own_log recorder.old) (finds stable.now) core.now }
+    requires stands { Stands (R.own_log recorder.old) (S.StableRecord.finds stable.now) core.now }
     requires softened { SoftensAll core.now core.now.attempt }
     ensures told { OnOk result (TellsSoftened core.now granted (R.own_log recorder.old) (R.own_log recorder.new)) }
-    ensures says { Says result (R.own_log recorder.old) (R.own_log recorder.new) (L.given link.old) (L.given link.new) (finds stable.now) core.now }
+    ensures says { Says result (R.own_log recorder.old) (R.own_log recorder.new) (L.given link.old) (L.given link.new) (S.StableRecord.finds stable.now) core.now }
 {
     for number in 1..core.ballots().nodes() + 1 {
         let Some(node) = NodeId::of(number) else {
@@ -77,14 +76,14 @@ fn tell_granted<R: Recorder, L: Link>(
 
 /// Logs that the client that is inside as a writer is a reader from now on.
 #[tactic(auto, using(crate::proofs::SentFacts::soften_sends_nothing))]
-fn log_soften<R: Recorder>(
+fn log_soften<S: OwnRecord, R: Recorder>(
     core: &ClientCore,
-    stable: &dyn StableRecord,
+    stable: &S,
     recorder: &mut R,
 ) -> Result<(), RunFault>
     requires may { MaySoften core.now }
-    requires stands { Stands (R.own_log recorder.old) (finds stable.now) core.now }
-    ensures softened { OnOk result (IsSoftened (R.own_log recorder.old) (R.own_log recorder.new) (finds stable.now) core.now) }
+    requires stands { Stands (R.own_log recorder.old) (S.StableRecord.finds stable.now) core.now }
+    ensures softened { OnOk result (IsSoftened (R.own_log recorder.old) (R.own_log recorder.new) (S.StableRecord.finds stable.now) core.now) }
     ensures silent { GoesOnSoftened (R.own_log recorder.old) (R.own_log recorder.new) }
     ensures ended { IfErr result (λ f. EndsUnlogged f (R.own_log recorder.old) (R.own_log recorder.new)) }
 {
@@ -103,16 +102,16 @@ fn log_soften<R: Recorder>(
 /// Memory was refused (914), or the book is full or another's (915). The client is still inside then, as its
 /// core is: as a reader where the Soften was logged, else as a writer.
 #[tactic(auto, using(crate::proofs::BeginFacts::still_client, crate::proofs::BeginFacts::softening_client, crate::proofs::SentFacts::unless_none, crate::proofs::SentFacts::unless_from))]
-pub fn soften<R: Recorder, L: Link>(
+pub fn soften<S: OwnRecord, R: Recorder, L: Link>(
     alloc: Global,
     progress: &mut Progress,
-    stable: &dyn StableRecord,
+    stable: &S,
     recorder: &mut R,
     link: &mut L,
 ) -> Result<(), RunFault>
     requires may { MaySoften (core_of progress.old) }
-    requires stands { Stands (R.own_log recorder.old) (finds stable.now) (core_of progress.old) }
-    ensures { let kept = answers (finds stable.now) (stuck_of stable.now) (spent_of stable.now) (failures_of stable.now) in
+    requires stands { Stands (R.own_log recorder.old) (S.StableRecord.finds stable.now) (core_of progress.old) }
+    ensures { let kept = answers (S.StableRecord.finds stable.now) (S.StableRecord.stuck_of stable.now) (S.StableRecord.spent_of stable.now) (S.StableRecord.failures_of stable.now) in
         let before = moment progress.old (R.own_log recorder.old) kept (L.given link.old) in
         let after = moment progress.new (R.own_log recorder.new) kept (L.given link.new) in
         Softening result before after }
@@ -125,23 +124,23 @@ pub fn soften<R: Recorder, L: Link>(
 
 /// Softens what the guard has entered: logs it, softens the guard, and says it to each node of the set.
 #[tactic(auto, using(crate::proofs::FindingFacts::stands_own, crate::proofs::FindingFacts::stands_still, crate::proofs::SentFacts::unless_none, crate::proofs::SentFacts::unless_from))]
-pub(crate) fn soften_guard<R: Recorder, L: Link>(
+pub(crate) fn soften_guard<S: OwnRecord, R: Recorder, L: Link>(
     alloc: Global,
     granted: NodeSet,
     guard: &mut EntryGuard<'_, ClientCore>,
-    stable: &dyn StableRecord,
+    stable: &S,
     recorder: &mut R,
     link: &mut L,
 ) -> Result<(), RunFault>
     requires held { IsHeld is_client_inside ticket_of guard.old }
     requires writes { (guard_ticket guard.old).mode ≡ Write }
-    requires stands { Stands (R.own_log recorder.old) (finds stable.now) (door_of guard.old) }
+    requires stands { Stands (R.own_log recorder.old) (S.StableRecord.finds stable.now) (door_of guard.old) }
     ensures held { IsHeld is_client_inside ticket_of guard.new }
     ensures lender { lender_of guard.new ≡ lender_of guard.old }
     ensures sent { SendsBy result (R.own_log recorder.old) (R.own_log recorder.new) (L.given link.old) (L.given link.new) }
-    ensures softens { OnOk result (SoftensGuard granted (R.own_log recorder.old) (R.own_log recorder.new) (finds stable.now) (door_of guard.old) (door_of guard.new) (guard_ticket guard.old) (guard_ticket guard.new)) }
+    ensures softens { OnOk result (SoftensGuard granted (R.own_log recorder.old) (R.own_log recorder.new) (S.StableRecord.finds stable.now) (door_of guard.old) (door_of guard.new) (guard_ticket guard.old) (guard_ticket guard.new)) }
     ensures ended { IfErr result (λ f. EndsSofteningGuard f (R.own_log recorder.old) (R.own_log recorder.new) (guard_ticket guard.old) (guard_ticket guard.new)) }
-    ensures up { HasNotFallen (R.own_log recorder.old) (R.own_log recorder.new) (finds stable.now) }
+    ensures up { HasNotFallen (R.own_log recorder.old) (R.own_log recorder.new) (S.StableRecord.finds stable.now) }
 {
     log_soften(guard.door(), stable, recorder)?;
     guard.soften();

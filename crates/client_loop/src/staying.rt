@@ -16,10 +16,9 @@ use crate::softening::soften_guard;
 use client_core::ClientCore;
 use entry_guard::enter_client;
 use event_lines::Wish;
-use event_recorders::{Gate, Recorder, RunFault};
+use event_recorders::{Gate, OwnRecord, Recorder, RunFault};
 use lock_messages::Mode;
 use lossy_link::Link;
-use stable_record::StableRecord;
 use std::alloc::Global;
 use std::mem::drop;
 use vote_weights::NodeSet;
@@ -37,23 +36,23 @@ fn does_soften(wish: &Wish) -> bool
 /// Is inside by a guard for as long as the gate keeps it. Where the wish softens, it then does, and is inside
 /// as a reader for as long as the gate keeps it again. The entering is logged already.
 #[tactic(auto, using(crate::proofs::FindingFacts::stands_own))]
-pub(crate) fn stay<R: Recorder, L: Link, G: Gate>(
+pub(crate) fn stay<S: OwnRecord, R: Recorder, L: Link, G: Gate>(
     alloc: Global,
     wish: &Wish,
     granted: NodeSet,
     core: &mut ClientCore,
-    stable: &dyn StableRecord,
+    stable: &S,
     recorder: &mut R,
     link: &mut L,
     gate: &G,
 ) -> Result<(), RunFault>
     requires may { MayEnter core.old }
     requires asked { IfSome (ticket_of core.old) (AsksFor (use_of wish.now)) }
-    requires stands { Stands (R.own_log recorder.old) (finds stable.now) (inside_of core.old) }
+    requires stands { Stands (R.own_log recorder.old) (S.StableRecord.finds stable.now) (inside_of core.old) }
     ensures sent { SendsBy result (R.own_log recorder.old) (R.own_log recorder.new) (L.given link.old) (L.given link.new) }
-    ensures stayed { OnOk result (HasStayed wish.now granted (R.own_log recorder.old) (R.own_log recorder.new) (finds stable.now) core.old core.new) }
+    ensures stayed { OnOk result (HasStayed wish.now granted (R.own_log recorder.old) (R.own_log recorder.new) (S.StableRecord.finds stable.now) core.old core.new) }
     ensures ended { IfErr result (λ f. EndsStaying f wish.now (R.own_log recorder.old) (R.own_log recorder.new)) }
-    ensures up { HasNotFallen (R.own_log recorder.old) (R.own_log recorder.new) (finds stable.now) }
+    ensures up { HasNotFallen (R.own_log recorder.old) (R.own_log recorder.new) (S.StableRecord.finds stable.now) }
 {
     let Some(mut guard) = enter_client(core) else {
         unreachable!()

@@ -13,9 +13,9 @@ ghost use Rattle.lock_session.specs.Guards.{session_of, lender_of, guard_ticket,
 ghost use Rattle.lock_session.specs.Outcomes.{SendsUnlessMemory, IsOutside, LeavesWell};
 ghost use Rattle.lock_session.specs.Sessions.{IsInside, GoesOut, StandsAfter, Settles, Softens, EndsSoftening, EndsGuard, Enters, EndsEntering, EndsTrying, Notes, use_by};
 
-use crate::{Crowd, OwnRecord, Session, TryFault};
+use crate::{Crowd, Session, TryFault};
 use client_loop::Patience;
-use event_recorders::{LogFault, Recorder, RunFault, SharedRecorder};
+use event_recorders::{LogFault, OwnRecord, Recorder, RunFault, SharedRecorder};
 use lock_messages::{Mode, ResourceName, Ticket};
 use lossy_link::Link;
 use std::alloc::Global;

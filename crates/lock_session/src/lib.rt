@@ -15,17 +15,13 @@
 
 mod crowds;
 mod faults;
-mod faulty_records;
 mod gates;
 mod guards;
-mod lent_records;
-mod records;
 mod sessions;
 
 pub use crowds::{Crowd, LOCKS_IN_TURN};
+pub use event_recorders::{LentRecord, OwnRecord};
 pub use faults::TryFault;
 pub use gates::OpenGate;
 pub use guards::SessionGuard;
-pub use lent_records::LentRecord;
-pub use records::OwnRecord;
 pub use sessions::{NotRisen, Session};

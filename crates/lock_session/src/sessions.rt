@@ -13,13 +13,12 @@ ghost use Rattle.client_loop.specs.Endings.{ClientEndsFrom};
 ghost use Rattle.lock_session.specs.Outcomes.{HasRisen, Saying, HasSettled, StaysIfNothingLeft, IsOutside, IsOutsideUnlessOver, HasReleasedLast, AnswersAs};
 ghost use Rattle.lock_session.specs.Sessions.{IsResting, IsInside, IsInsideStill, IsInsideFor, Softens, EndsSoftening, GoesOut, Settles, Enters, TakesBack, EndsEntering, Notes, HasReleased, HasReleasedAt, Releases, use_by, over_by};
 
-use crate::OwnRecord;
 use crate::crowds::Crowd;
 use crate::gates::OpenGate;
 use client_core::Phase;
-use client_loop::{Patience, Progress};
+use client_loop::{Patience, Progress, enter, leave, release_at, rise, soften};
 use event_lines::Wish;
-use event_recorders::{LogFault, Recorder, RunFault, SharedRecorder};
+use event_recorders::{LogFault, OwnRecord, Recorder, RunFault, SharedRecorder};
 use lock_messages::{Actor, ClientId, Mode, ResourceName, Ticket};
 use lossy_link::Link;
 use std::alloc::Global;
@@ -104,7 +103,7 @@ impl<S: OwnRecord, R: Recorder, L: Link> Session<S, R, L> {
         ensures back { IfErr result (λ e. (R.own_log e.recorder ≡ R.own_log recorder) × (e.link ≡ link)) }
     {
         let (mut stable, mut recorder) = (stable, recorder);
-        match stable.rise(client, ballots, &mut recorder) {
+        match rise(client, ballots, &mut stable, &mut recorder) {
             Ok(progress) => Ok(Session {
                 client,
                 ballots,
@@ -178,10 +177,11 @@ impl<S: OwnRecord, R: Recorder, L: Link> Session<S, R, L> {
         ensures released { OnOk result (HasReleased self.new) }
         ensures outside { IsOutside self.new }
     {
-        let told = self.stable.leave(
+        let told = leave(
             rt,
             alloc,
             &mut self.progress,
+            &self.stable,
             &mut self.recorder,
             &mut self.link,
         );
@@ -233,12 +233,13 @@ impl<S: OwnRecord, R: Recorder, L: Link> Session<S, R, L> {
         ensures says { Saying result self.old self.new }
         ensures released { OnOk result (HasReleasedLast nodes self.old self.new) }
     {
-        let told = self.stable.release_at(
+        let told = release_at(
             rt,
             alloc,
             nodes,
             nudges,
             &mut self.progress,
+            &self.stable,
             &mut self.recorder,
             &mut self.link,
         );
@@ -321,12 +322,13 @@ impl<S: OwnRecord, R: Recorder, L: Link> Session<S, R, L> {
             place,
             soften: false,
         };
-        let asked = self.stable.enter(
+        let asked = enter(
             rt,
             alloc,
             &wish,
             patience,
             &mut self.progress,
+            &mut self.stable,
             &mut self.recorder,
             &mut self.link,
             &OpenGate,
@@ -422,9 +424,10 @@ impl<S: OwnRecord, R: Recorder, L: Link> Session<S, R, L> {
         if self.is_left || !self.progress.core().may_soften() {
             return Ok(());
         }
-        let told = self.stable.soften(
+        let told = soften(
             alloc,
             &mut self.progress,
+            &self.stable,
             &mut self.recorder,
             &mut self.link,
         );

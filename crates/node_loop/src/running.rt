@@ -12,7 +12,7 @@ ghost use Rattle.actor_steps.specs.Endings.{falls_of, EndsBy};
 use crate::attending::attend;
 use actor_steps::rise_first;
 use admission_policy::Pair;
-use event_recorders::{Gate, Recorder, RunFault};
+use event_recorders::{BoxedRecord, Gate, OwnRecord, Recorder, RunFault};
 use lock_messages::{Actor, NodeId};
 use lossy_link::{Link, Post};
 use stable_record::StableRecord;
@@ -26,18 +26,18 @@ use voter_core::{NodeCore, VoterFault};
 /// The caller owes what it owes `run_node`. The errors: three reopens of the record failed (911), out of memory (914), or
 /// the log takes no more (915).
 #[tactic(auto, using(crate::proofs::OpeningFacts::added_opening, actor_steps::proofs::SendingFacts::first_rise_sends_nothing, actor_steps::proofs::SendingFacts::unused_sends_nothing))]
-pub fn rise<R: Recorder>(
+pub fn rise<S: OwnRecord, R: Recorder>(
     alloc: Global,
     node: NodeId,
-    stable: &mut dyn StableRecord,
+    stable: &mut S,
     policies: Pair,
     recorder: &mut R,
 ) -> Result<NodeCore, RunFault>
-    requires { (kept : NodeRecord) × IsReady (R.own_log recorder.old) node kept (finds stable.old) }
-    ensures idle { IfOk result (λ core. StandsIdle (R.own_log recorder.new) core (finds stable.new) (stuck_of stable.new)) }
+    requires { (kept : NodeRecord) × IsReady (R.own_log recorder.old) node kept (S.StableRecord.finds stable.old) }
+    ensures idle { IfOk result (λ core. StandsIdle (R.own_log recorder.new) core (S.StableRecord.finds stable.new) (S.StableRecord.stuck_of stable.new)) }
     ensures silent { sent_of (R.own_log recorder.new) ≡ [] }
-    ensures goes { GoesOn (falls_of (R.own_log recorder.old)) (R.own_log recorder.old) (R.own_log recorder.new) (finds stable.new) (failures_of stable.old) (failures_of stable.new) }
-    ensures ended { IfErr result (λ f. EndsWithCause f (falls_of (R.own_log recorder.old)) (R.own_log recorder.new) (stuck_of stable.new) (spent_of stable.new) (failures_of stable.old) (failures_of stable.new)) }
+    ensures goes { GoesOn (falls_of (R.own_log recorder.old)) (R.own_log recorder.old) (R.own_log recorder.new) (S.StableRecord.finds stable.new) (S.StableRecord.failures_of stable.old) (S.StableRecord.failures_of stable.new) }
+    ensures ended { IfErr result (λ f. EndsWithCause f (falls_of (R.own_log recorder.old)) (R.own_log recorder.new) (S.StableRecord.stuck_of stable.new) (S.StableRecord.spent_of stable.new) (S.StableRecord.failures_of stable.old) (S.StableRecord.failures_of stable.new)) }
 {
     one_spelling();
     let found = rise_first(Actor::Node(node), stable, recorder)?;
@@ -53,18 +53,18 @@ pub fn rise<R: Recorder>(
 /// The caller owes a node that is up and has answered all that it took, with just its core's record kept. The errors are
 /// those of `run_node`.
 #[tactic(auto, using(crate::proofs::KeepFacts::stands_own))]
-pub fn serve<W: Wait, R: Recorder, L: Link, G: Gate>(
+pub fn serve<W: Wait, S: OwnRecord, R: Recorder, L: Link, G: Gate>(
     rt: &W,
     alloc: Global,
     core: &mut NodeCore,
-    stable: &mut dyn StableRecord,
+    stable: &mut S,
     recorder: &mut R,
     link: &mut L,
     gate: &G,
 ) -> Result<(), RunFault>
-    requires { StandsIdle (R.own_log recorder.old) core.old (finds stable.old) (stuck_of stable.old) }
-    ensures turns { let before = moment core.old (R.own_log recorder.old) (finds stable.old) (stuck_of stable.old) (spent_of stable.old) (failures_of stable.old) (L.given link.old) in
-        let after = moment core.new (R.own_log recorder.new) (finds stable.new) (stuck_of stable.new) (spent_of stable.new) (failures_of stable.new) (L.given link.new) in
+    requires { StandsIdle (R.own_log recorder.old) core.old (S.StableRecord.finds stable.old) (S.StableRecord.stuck_of stable.old) }
+    ensures turns { let before = moment core.old (R.own_log recorder.old) (S.StableRecord.finds stable.old) (S.StableRecord.stuck_of stable.old) (S.StableRecord.spent_of stable.old) (S.StableRecord.failures_of stable.old) (L.given link.old) in
+        let after = moment core.new (R.own_log recorder.new) (S.StableRecord.finds stable.new) (S.StableRecord.stuck_of stable.new) (S.StableRecord.spent_of stable.new) (S.StableRecord.failures_of stable.new) (L.given link.new) in
         Turns result before after }
     ensures closed { OnOk result (IsAtEnd (L.coming link.new)) }
 {
@@ -79,22 +79,22 @@ pub fn serve<W: Wait, R: Recorder, L: Link, G: Gate>(
 
 /// The node rises, and attends to its posts until no more come.
 #[tactic(auto, using(actor_steps::proofs::SendingFacts::all_told, crate::proofs::UnsentFacts::none_told))]
-fn live<W: Wait, R: Recorder, L: Link, G: Gate>(
+fn live<W: Wait, S: OwnRecord, R: Recorder, L: Link, G: Gate>(
     rt: &W,
     alloc: Global,
     node: NodeId,
-    stable: &mut dyn StableRecord,
+    stable: &mut S,
     policies: Pair,
     recorder: &mut R,
     link: &mut L,
     gate: &G,
 ) -> Result<(), RunFault>
-    requires { (kept : NodeRecord) × IsReady (R.own_log recorder.old) node kept (finds stable.old) }
+    requires { (kept : NodeRecord) × IsReady (R.own_log recorder.old) node kept (S.StableRecord.finds stable.old) }
     ensures done { OnOk result (EndsIdle (R.own_log recorder.new) (L.given link.old) (L.given link.new) (L.coming link.new)) }
     ensures faulted { IfErr result (λ f. ToldAsFar f (R.own_log recorder.new) (L.given link.old) (L.given link.new)) }
     ensures faults { IfErr result IsNodeFault }
-    ensures ended { IfErr result (λ f. EndsBy f (R.own_log recorder.new) (stuck_of stable.new) (spent_of stable.new) (failures_of stable.old) (failures_of stable.new)) }
-    ensures run { HasRun (R.own_log recorder.old) (R.own_log recorder.new) (finds stable.new) (failures_of stable.old) (failures_of stable.new) }
+    ensures ended { IfErr result (λ f. EndsBy f (R.own_log recorder.new) (S.StableRecord.stuck_of stable.new) (S.StableRecord.spent_of stable.new) (S.StableRecord.failures_of stable.old) (S.StableRecord.failures_of stable.new)) }
+    ensures run { HasRun (R.own_log recorder.old) (R.own_log recorder.new) (S.StableRecord.finds stable.new) (S.StableRecord.failures_of stable.old) (S.StableRecord.failures_of stable.new) }
 {
     let mut core = rise(alloc, node, stable, policies, recorder)?;
     serve(rt, alloc, &mut core, stable, recorder, link, gate)
@@ -113,17 +113,17 @@ pub fn tell_gone<L: Link>(node: NodeId, link: &mut L)
 ///
 /// The caller owes what it owes `run_node`, and gets its errors.
 #[tactic(auto, using(crate::proofs::UnsentFacts::has_gone))]
-pub fn run_node_over<W: Wait, R: Recorder, L: Link, G: Gate>(
+pub fn run_node_over<W: Wait, S: OwnRecord, R: Recorder, L: Link, G: Gate>(
     rt: &W,
     alloc: Global,
     node: NodeId,
-    stable: &mut dyn StableRecord,
+    stable: &mut S,
     policies: Pair,
     recorder: &mut R,
     link: &mut L,
     gate: &G,
 ) -> Result<(), RunFault>
-    requires { (kept : NodeRecord) × IsReady (R.own_log recorder.old) node kept (finds stable.old) }
+    requires { (kept : NodeRecord) × IsReady (R.own_log recorder.old) node kept (S.StableRecord.finds stable.old) }
     // Without a fault it has answered all that it took, has sent what its log tells, and nothing more comes over its link.
     ensures done { OnOk result (EndsIdle (R.own_log recorder.new) (L.given link.old) (L.given link.new) (L.coming link.new)) }
     // With a fault it has sent what its log tells. Only if it ran out of memory or is down may an end of its last sending be
@@ -131,11 +131,11 @@ pub fn run_node_over<W: Wait, R: Recorder, L: Link, G: Gate>(
     ensures faulted { IfErr result (λ f. HasGone node f (R.own_log recorder.new) (L.given link.old) (L.given link.new) (L.refused link.new)) }
     // However it ends, its device failed for each fall that it logged, and a restart finds in its record nothing but what it has
     // kept and what it tries to keep.
-    ensures run { HasRun (R.own_log recorder.old) (R.own_log recorder.new) (finds stable.new) (failures_of stable.old) (failures_of stable.new) }
+    ensures run { HasRun (R.own_log recorder.old) (R.own_log recorder.new) (S.StableRecord.finds stable.new) (S.StableRecord.failures_of stable.old) (S.StableRecord.failures_of stable.new) }
     // The fault is 911, 914, 915 or 916.
     ensures faults { IfErr result IsNodeFault }
     // Its log and its record show the cause.
-    ensures ended { IfErr result (λ f. EndsBy f (R.own_log recorder.new) (stuck_of stable.new) (spent_of stable.new) (failures_of stable.old) (failures_of stable.new)) }
+    ensures ended { IfErr result (λ f. EndsBy f (R.own_log recorder.new) (S.StableRecord.stuck_of stable.new) (S.StableRecord.spent_of stable.new) (S.StableRecord.failures_of stable.old) (S.StableRecord.failures_of stable.new)) }
 {
     let ended = live(rt, alloc, node, stable, policies, recorder, link, gate);
     if ended.is_err() {
@@ -187,15 +187,6 @@ pub fn run_node<W: Wait, R: Recorder, L: Link, G: Gate>(
     // Its log, and what its record then answers, show the cause.
     ensures ended { IfErr result (λ f. EndsSomehow f (R.own_log recorder.new)) }
 {
-    let mut stable = stable;
-    run_node_over(
-        rt,
-        alloc,
-        node,
-        &mut *stable,
-        policies,
-        recorder,
-        link,
-        gate,
-    )
+    let mut stable = BoxedRecord::of(stable);
+    run_node_over(rt, alloc, node, &mut stable, policies, recorder, link, gate)
 }

@@ -2,18 +2,13 @@
 
 ghost use Rattle.std.specs.Prelude.{◌≡◌, ◌∷◌, [], IfOk};
 
-use client_loop::{Patience, Progress, enter, leave, release_at, rise, soften};
-use event_lines::Wish;
-use event_recorders::{Gate, Recorder, RunFault};
-use lock_messages::ClientId;
-use lock_session::OwnRecord;
-use lossy_link::Link;
+use event_recorders::{LogFault, OwnRecord, Recorder};
+use lock_messages::Message;
 use slot_record::{MemoryPlate, SlotRecord};
 use stable_record::{RecordFault, StableRecord};
 use std::alloc::Global;
-use std::sync::Wait;
 use test_outcomes::Failure;
-use vote_weights::{BallotList, NodeSet};
+use world_model::{Effect, Event};
 
 /// A record on a plate in memory. No session can own a `SlotRecord` of any plate, so this one's type has a name
 /// of its own, and hands each call on.
@@ -61,62 +56,16 @@ impl StableRecord for PlateRecord {
 }
 
 impl OwnRecord for PlateRecord {
-    fn rise<R: Recorder>(
-        &mut self,
-        client: ClientId,
-        ballots: BallotList,
-        recorder: &mut R,
-    ) -> Result<Progress, RunFault> {
-        rise(client, ballots, self, recorder)
+    fn log<R: Recorder>(&self, recorder: &mut R, event: Event) -> Result<Effect, LogFault> {
+        recorder.log(event, self)
     }
 
-    fn enter<W: Wait, R: Recorder, L: Link, G: Gate>(
-        &mut self,
-        rt: &W,
-        alloc: Global,
-        wish: &Wish,
-        patience: Patience,
-        progress: &mut Progress,
-        recorder: &mut R,
-        link: &mut L,
-        gate: &G,
-    ) -> Result<bool, RunFault> {
-        enter(
-            rt, alloc, wish, patience, progress, self, recorder, link, gate,
-        )
-    }
-
-    fn soften<R: Recorder, L: Link>(
+    fn log_reading<R: Recorder>(
         &self,
-        alloc: Global,
-        progress: &mut Progress,
         recorder: &mut R,
-        link: &mut L,
-    ) -> Result<(), RunFault> {
-        soften(alloc, progress, self, recorder, link)
-    }
-
-    fn leave<W: Wait, R: Recorder, L: Link>(
-        &self,
-        rt: &W,
-        alloc: Global,
-        progress: &mut Progress,
-        recorder: &mut R,
-        link: &mut L,
-    ) -> Result<(), RunFault> {
-        leave(rt, alloc, progress, self, recorder, link)
-    }
-
-    fn release_at<W: Wait, R: Recorder, L: Link>(
-        &self,
-        rt: &W,
-        alloc: Global,
-        nodes: NodeSet,
-        nudges: u32,
-        progress: &mut Progress,
-        recorder: &mut R,
-        link: &mut L,
-    ) -> Result<(), RunFault> {
-        release_at(rt, alloc, nodes, nudges, progress, self, recorder, link)
+        event: Event,
+        message: &Message,
+    ) -> Result<Effect, LogFault> {
+        recorder.log_reading(event, message, self)
     }
 }

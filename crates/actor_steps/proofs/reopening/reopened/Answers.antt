@@ -6,21 +6,21 @@ use Rattle.actor_steps.proofs.reopening.reopened.Goals as goal
 
 pub returns-in-Some-clause-found : goal.returns-in-Some-clause-found
 returns-in-Some-clause-found g c =
-    let before = (goal.StableRecord-dyn g c.loop-failed.stable.now).finds c.loop-failed.stable.now.1 in
-    let now = (goal.StableRecord-dyn g (c.loop-failed.stable.now.0, c.reopen_once.new.stable)).finds c.reopen_once.new.stable in
-    let stuck = (goal.StableRecord-dyn g (c.loop-failed.stable.now.0, c.reopen_once.new.stable)).stuck_of c.reopen_once.new.stable in
+    let before = g.S.StableRecord.finds c.loop-failed.stable in
+    let now = g.S.StableRecord.finds c.reopen_once.new.stable in
+    let stuck = g.S.StableRecord.stuck_of c.reopen_once.new.stable in
     let once = if_some (λ v. IsReopened v.items before now stuck × (c.reopen_once.new.failed ≡ c.loop-failed.failed)) c.in_ok-found.found c.in-Some.bytes c.in-Some.is c.in_ok-found.ensures.found in
     found_since c.loop-failed.failed c.in-Some.bytes.items _ before now _ _ stuck c.loop-failed.invariant.so once.0
 
 pub loop-failed-preserved : goal.loop-failed-preserved
 loop-failed-preserved g c =
-    let before = (goal.StableRecord-dyn g c.loop-failed.stable.now).finds c.loop-failed.stable.now.1 in
-    let now = (goal.StableRecord-dyn g (c.loop-failed.stable.now.0, c.reopen_once.new.stable)).finds c.reopen_once.new.stable in
-    let counted = (goal.StableRecord-dyn g c.loop-failed.stable.now).failures_of c.loop-failed.stable.now.1 in
-    let counts = (goal.StableRecord-dyn g (c.loop-failed.stable.now.0, c.reopen_once.new.stable)).failures_of c.reopen_once.new.stable in
+    let before = g.S.StableRecord.finds c.loop-failed.stable in
+    let now = g.S.StableRecord.finds c.reopen_once.new.stable in
+    let counted = g.S.StableRecord.failures_of c.loop-failed.stable in
+    let counts = g.S.StableRecord.failures_of c.reopen_once.new.stable in
     let once = if_none (HasNotReopened 1 before now counted counts × (c.reopen_once.new.failed ≡ c.loop-failed.failed + 1)) c.in_ok-found.found c.in-None.is c.in_ok-found.ensures.failed in
-    let first = (goal.StableRecord-dyn g c.args.stable.now).finds c.args.stable.now.1 in
-    let since = (goal.StableRecord-dyn g c.args.stable.now).failures_of c.args.stable.now.1 in
+    let first = g.S.StableRecord.finds c.args.stable.now in
+    let since = g.S.StableRecord.failures_of c.args.stable.now in
     let more = once_more c.loop-failed.failed first before now since counted counts c.loop-failed.invariant.so once.0 in
     record {
       few = omega (arith, once.1);

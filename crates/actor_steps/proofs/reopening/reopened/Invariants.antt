@@ -7,8 +7,8 @@ use Rattle.actor_steps.proofs.reopening.reopened.Given as goal
 abbrev pub invariant-loop-failed : goal.invariant-loop-failed
 invariant-loop-failed g l = record {
   few : l.failed ≤ MAX_REOPENS;
-  so : HasNotReopened l.failed ((goal.StableRecord-dyn g l.fn.stable.now).finds l.fn.stable.now.1) ((goal.StableRecord-dyn g l.stable.now).finds l.stable.now.1)
-      ((goal.StableRecord-dyn g l.fn.stable.now).failures_of l.fn.stable.now.1) ((goal.StableRecord-dyn g l.stable.now).failures_of l.stable.now.1);
+  so : HasNotReopened l.failed (g.S.StableRecord.finds l.fn.stable) (g.S.StableRecord.finds l.stable)
+      (g.S.StableRecord.failures_of l.fn.stable) (g.S.StableRecord.failures_of l.stable);
 }
 
 abbrev pub decreases-loop-failed : goal.decreases-loop-failed

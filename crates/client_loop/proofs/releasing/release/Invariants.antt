@@ -5,7 +5,7 @@ use Rattle.client_loop.proofs.releasing.release.Given as goal
 
 abbrev pub invariant-loop : goal.invariant-loop
 invariant-loop g l = record {
-  talks : Talks (g.R.Recorder.own_log l.fn.recorder) (g.R.Recorder.own_log l.recorder) (g.L.Link.given l.fn.link) (g.L.Link.given l.link) ((goal.StableRecord-dyn g l.stable.now).finds l.stable.now.1) l.progress.core;
+  talks : Talks (g.R.Recorder.own_log l.fn.recorder) (g.R.Recorder.own_log l.recorder) (g.L.Link.given l.fn.link) (g.L.Link.given l.link) (g.S.StableRecord.finds l.stable) l.progress.core;
   keeps : KeepsAsking l.fn.progress l.progress;
   asked : l.progress.asked ≡ l.fn.progress.asked;
 }
