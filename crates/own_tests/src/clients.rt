@@ -9,10 +9,10 @@ use crate::worlds::{ballots, post_of, ticket};
 use crate::writers::{Room, without_memory};
 use event_recorders::{Recorder, RunFault};
 use lock_messages::{Message, Mode};
-use lock_session::{OwnRecord, Session};
+use lock_session::{LentRecord, OwnRecord, Session};
 use lossy_link::{Link, ListLink, Post};
 use own_recorders::{OwnActor, OwnClient, OwnRecorder};
-use stable_record::{MemoryRecord, client_bytes};
+use stable_record::{FaultyRecord, Leaves, client_bytes};
 use std::alloc::Global;
 use std::io::Write;
 use std::sync::Wait;
@@ -53,7 +53,10 @@ fn use_it<W: Wait, S: OwnRecord, R: Recorder, L: Link>(
     Ok(guard.leave(rt, alloc))
 }
 
-/// Plays the session of c1 over this journal. Returns how it ended, and the journal.
+/// Its device fails at the keep of this number, which is never made.
+const NEVER: u32 = 1000;
+
+/// Plays the session of c1 over this journal, with a record that is lent. Returns how it ended, and the journal.
 fn play<W: Wait, K: OwnActor, J: Write + Drop>(
     rt: &W,
     alloc: Global,
@@ -66,11 +69,12 @@ fn play<W: Wait, K: OwnActor, J: Write + Drop>(
     requires ballots { K.ballots actor ≡ list }
     requires part { K.part actor ≡ ClientPart (down_client 0) }
 {
-    let Ok(record) = MemoryRecord::holding(alloc, &client_bytes(0)) else {
+    let Ok(mut record) = FaultyRecord::of(alloc, &client_bytes(0), NEVER, Leaves::Old) else {
         return Err(Failure::Memory);
     };
     let recorder = OwnRecorder::over(alloc, actor, journal);
-    let risen = Session::rise(client_id(1), list, record, recorder, ListLink::of(posts));
+    let lent = LentRecord::of(&mut record);
+    let risen = Session::rise(client_id(1), list, lent, recorder, ListLink::of(posts));
     let mut session = match risen {
         Ok(session) => session,
         Err(back) => return Ok((Err(back.fault), back.recorder.into_journal())),
